@@ -1,0 +1,24 @@
+//! The types, values and definitions that every other crate of the bench speaks in.
+#![tactic(auto)]
+
+mod category;
+mod decomposition;
+mod files;
+mod list;
+mod memory;
+mod point;
+mod property;
+mod row;
+mod span;
+
+pub use category::Category;
+pub use decomposition::{Kind, Tag};
+pub use files::{DerivedFile, SourceFile};
+pub use list::{Copied, ListOf, Points, Spans, Text, Texts};
+pub use memory::Memory;
+pub use point::Point;
+pub use property::{Core, Flag};
+pub use row::{
+    AliasRow, CasingRow, DataRow, ExclusionRow, FoldRow, FoldStatus, Kept, Row, Rows, ValueRow,
+};
+pub use span::Span;

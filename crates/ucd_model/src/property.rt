@@ -1,0 +1,45 @@
+//! Properties.
+
+/// A core property: a section of DerivedCoreProperties.txt, in the order of the file.
+/// UAX #44, section 5.3.
+#[derive(Clone, Copy, Debug, PartialEq, Eq)]
+pub enum Core {
+    Math,
+    Alphabetic,
+    Lowercase,
+    Uppercase,
+    Cased,
+    CaseIgnorable,
+    ChangesWhenLowercased,
+    ChangesWhenUppercased,
+    ChangesWhenTitlecased,
+    ChangesWhenCasefolded,
+    ChangesWhenCasemapped,
+    IdStart,
+    IdContinue,
+    XidStart,
+    XidContinue,
+    DefaultIgnorableCodePoint,
+    GraphemeExtend,
+    GraphemeBase,
+    GraphemeLink,
+}
+
+/// A property of PropList.txt from which others are derived. UAX #44, section 5.3.
+#[derive(Clone, Copy, Debug, PartialEq, Eq)]
+pub enum Flag {
+    WhiteSpace,
+    OtherMath,
+    OtherLowercase,
+    OtherUppercase,
+    OtherAlphabetic,
+    OtherIdStart,
+    OtherIdContinue,
+    PatternSyntax,
+    PatternWhiteSpace,
+    OtherDefaultIgnorableCodePoint,
+    VariationSelector,
+    PrependedConcatenationMark,
+    OtherGraphemeExtend,
+    NoncharacterCodePoint,
+}

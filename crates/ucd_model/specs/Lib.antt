@@ -1,1 +1,10 @@
+pub mod Limits
 pub mod Bounds
+pub mod Names
+pub mod Lines
+pub mod Fields
+pub mod Grammar
+pub mod Facts
+pub mod Predicates
+pub mod Labels
+pub mod DerivedText

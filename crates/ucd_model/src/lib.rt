@@ -13,10 +13,10 @@ mod span;
 
 pub use category::Category;
 pub use decomposition::{Kind, Tag};
-pub use files::{DerivedFile, SourceFile};
+pub use files::{DerivedFile, FILE_LIMIT, SourceFile, file_limit};
 pub use list::{Copied, ListOf, Points, Spans, Text, Texts};
 pub use memory::Memory;
-pub use point::Point;
+pub use point::{Point, point_count};
 pub use property::{Core, Flag};
 pub use row::{
     AliasRow, CasingRow, DataRow, ExclusionRow, FoldRow, FoldStatus, Kept, Row, Rows, ValueRow,

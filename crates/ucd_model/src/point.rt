@@ -2,6 +2,7 @@
 
 ghost use Rattle.std.specs.Prelude.{◌≡◌, ℕ, ◌<◌, ◌≤◌};
 ghost use Rattle.std.specs.Option.{SomeIff};
+ghost use Rattle.ucd_model.specs.Limits.{point_count};
 
 use std::marker::Model;
 
@@ -13,6 +14,8 @@ pub struct Point {
 }
 
 impl Model for Point {
+    ghost use Rattle.std.specs.Prelude.{ℕ, ◌<◌};
+
     ghost Value = { ℕ };
 
     ghost view = { λ p. p.number };
@@ -44,4 +47,13 @@ impl Point {
     {
         self.number
     }
+}
+
+/// The number of code points, as clauses name it.
+#[tactic(auto, unfolding(crate::specs::Limits::point_count))]
+pub fn point_count() -> u32
+    ensures value { result ≡ point_count }
+    ensures number { result ≡ 1114112 }
+{
+    Point::COUNT
 }

@@ -1,0 +1,48 @@
+-- The text of the derived files. The files are those of UAX #44, section 5.3; their text is this project's own.
+--
+-- hex_text c        the hexadecimal digits of a code point in upper case: four, from 10000 on five, from 100000 on six
+-- span_text s       one code point, or the first and the last joined by `..`
+-- section name n f  `# NAME`, a line for each span with its label behind it, `# total N`, and an empty line
+-- core_text n F     DerivedCoreProperties.txt: a section for each core property, over the facts F of the points below n
+use Rattle.std.specs.Prelude.{ℕ, ◌+◌, ◌/◌, ◌%◌, ◌^◌, Bool, List, [], ◌∷◌, ◌++◌, Some, None, ◌==◌, nat_lt, if◌then◌else◌, codes}
+use Rattle.std.specs.List.{flat_map}
+use Rattle.std.specs.Fmt.{decimal}
+use Rattle.ucd_model.specs.Bounds.{Bounds}
+use Rattle.ucd_model.specs.Names.{core_name}
+use Rattle.ucd_model.specs.Facts.{Facts}
+use Rattle.ucd_model.specs.Predicates.{has, core_sections}
+use Rattle.ucd_model.specs.Labels.{Label, LabelSpan, label_spans, labelled}
+use Rattle.ucd_model.specs.declared.property.Core.{Core}
+
+abbrev pub hex_digit : ℕ → ℕ
+hex_digit d = if nat_lt d 10 then 48 + d else 55 + d
+
+-- the digit that is worth 16 ^ k
+abbrev pub hex_digit_at : ℕ → ℕ → ℕ
+hex_digit_at k c = hex_digit (c / 16 ^ k % 16)
+
+abbrev pub four_digits : ℕ → List ℕ
+four_digits c = hex_digit_at 3 c ∷ hex_digit_at 2 c ∷ hex_digit_at 1 c ∷ hex_digit_at 0 c ∷ []
+
+unfoldable pub hex_text : ℕ → List ℕ
+hex_text c = if nat_lt c 65536 then four_digits c else (if nat_lt c 1048576 then hex_digit_at 4 c ∷ four_digits c else hex_digit_at 5 c ∷ hex_digit_at 4 c ∷ four_digits c)
+
+unfoldable pub span_text : Bounds → List ℕ
+span_text s = if s.lo == s.hi then hex_text s.lo else hex_text s.lo ++ codes ".." ++ hex_text s.hi
+
+abbrev pub line_end : List ℕ
+line_end = 10 ∷ []
+
+-- a line for each span
+abbrev pub span_line : LabelSpan → List ℕ
+span_line s = span_text s.bounds ++ s.label ++ line_end
+
+unfoldable pub section_text : List ℕ → ℕ → (ℕ → Label) → List ℕ
+section_text name n f = codes "# " ++ name ++ line_end ++ flat_map span_line (label_spans n f) ++ codes "# total " ++ decimal (labelled n f) ++ line_end ++ line_end
+
+-- the points that have the property are listed with its name
+abbrev pub core_label : Core → Facts → Label
+core_label core F = if has core F then Some (codes " ; " ++ core_name core) else None
+
+unfoldable pub core_text : ℕ → (ℕ → Facts) → List ℕ
+core_text n F = flat_map (λ core. section_text (core_name core) n (λ c. core_label core (F c))) core_sections

@@ -1,0 +1,120 @@
+-- What the fields of a line spell. UAX #44, section 4.2.
+--
+-- fields file content   the fields of a line, each without white space around it; outside of UnicodeData.txt
+--                       a comment, from the first `#` on, is no part of them
+-- point_of bs           the code point that 4 to 6 hexadecimal digits spell, in either case;
+--                       None for all other bytes, and above 10FFFF
+-- SpellsSpan bs s       bs is one code point, or two joined by `..`, the first at most the second
+-- span_of bs            that span, None where there is none
+-- is_name bs            one or more bytes from 20 to 7E, without `;`
+-- is_range_name bs      `<Label, First>` or `<Label, Last>`, with a label that is a name
+use Rattle.std.specs.Prelude.{◌≡◌, ◌⊎◌, ℕ, ◌+◌, ◌-◌, ◌*◌, ◌≤◌, Bool, true, false, ◌&&◌, ◌||◌, not, List, [], ◌∷◌, ◌++◌, length, take, drop, map, Option, Some, None, ◌==◌, nat_lt, nat_le, nat_eq, if◌then◌else◌, codes, fold, slice_index}
+use Rattle.std.specs.List.{slice_split, prefix_len, suffix_len, before_first, after_first, position_or_len, list_all}
+use Rattle.std.specs.Str.{bytes_eq}
+use Rattle.ucd_model.specs.Bounds.{Bounds}
+use Rattle.ucd_model.specs.Lines.{is_blank}
+use Rattle.ucd_model.specs.declared.files.SourceFile.{SourceFile}
+use Rattle.ucd_model.specs.declared.files.SourceFile.TheVariants.{UnicodeData}
+
+-- ---- fields
+
+abbrev pub trim_start : List ℕ → List ℕ
+trim_start bs = drop (prefix_len is_blank bs) bs
+
+abbrev pub trim_end : List ℕ → List ℕ
+trim_end bs = take (length bs - suffix_len is_blank bs) bs
+
+abbrev pub trim : List ℕ → List ℕ
+trim bs = trim_end (trim_start bs)
+
+abbrev pub is_semicolon : ℕ → Bool
+is_semicolon b = b == 59
+
+abbrev pub is_hash : ℕ → Bool
+is_hash b = b == 35
+
+abbrev pub uncommented : SourceFile → List ℕ → List ℕ
+uncommented UnicodeData content = content
+uncommented _ content = before_first is_hash content
+
+unfoldable pub fields : SourceFile → List ℕ → List (List ℕ)
+fields file content = map trim (slice_split is_semicolon (uncommented file content))
+
+-- the field at a place, counted from 0; no bytes past the last
+abbrev pub field : List (List ℕ) → ℕ → List ℕ
+field [] n = []
+field (f ∷ fs) n = if n == 0 then f else field fs (n - 1)
+
+-- ---- code points
+
+-- 0 to 9, A to F, a to f
+abbrev pub digit_of : ℕ → Option ℕ
+digit_of b = if nat_le 48 b && nat_le b 57 then Some (b - 48) else (if nat_le 65 b && nat_le b 70 then Some (b - 55) else (if nat_le 97 b && nat_le b 102 then Some (b - 87) else None))
+
+-- with one more digit behind it
+abbrev pub with_digit : Option ℕ → Option ℕ → Option ℕ
+with_digit (Some n) (Some d) = Some (16 * n + d)
+with_digit _ _ = None
+
+-- what hexadecimal digits write, from the left
+abbrev pub hex_number : List ℕ → Option ℕ
+hex_number bs = fold (λ n b. with_digit n (digit_of b)) (Some 0) bs
+
+abbrev pub if_point : Option ℕ → Option ℕ
+if_point (Some n) = if nat_lt n 1114112 then Some n else None
+if_point None = None
+
+unfoldable pub point_of : List ℕ → Option ℕ
+point_of bs = if nat_le 4 (length bs) && nat_le (length bs) 6 then if_point (hex_number bs) else None
+
+-- ---- spans
+
+abbrev pub is_dot : ℕ → Bool
+is_dot b = b == 46
+
+pub record SpellsTwo (bs : List ℕ) (s : Bounds) : Type 0 where
+  pub first : List ℕ
+  pub second : List ℕ
+  pub parts : bs ≡ first ++ 46 ∷ 46 ∷ second
+  pub lo : point_of first ≡ Some s.lo
+  pub hi : point_of second ≡ Some s.hi
+  pub ordered : s.lo ≤ s.hi
+
+pub record SpellsOne (bs : List ℕ) (s : Bounds) : Type 0 where
+  pub lo : point_of bs ≡ Some s.lo
+  pub hi : s.hi ≡ s.lo
+
+abbrev pub SpellsSpan : List ℕ → Bounds → Type 0
+SpellsSpan bs s = SpellsOne bs s ⊎ SpellsTwo bs s
+
+abbrev pub one_point : Option ℕ → Option Bounds
+one_point (Some c) = Some (record { lo = c; hi = c })
+one_point None = None
+
+abbrev pub two_points : Option ℕ → Option ℕ → Option Bounds
+two_points (Some lo) (Some hi) = if nat_le lo hi then Some (record { lo = lo; hi = hi }) else None
+two_points _ _ = None
+
+-- the code point behind a second dot
+abbrev pub behind_dot : List ℕ → Option ℕ
+behind_dot [] = None
+behind_dot (b ∷ bs) = if b == 46 then point_of bs else None
+
+unfoldable pub span_of : List ℕ → Option Bounds
+span_of bs = if nat_lt (position_or_len is_dot bs) (length bs) then two_points (point_of (before_first is_dot bs)) (behind_dot (after_first is_dot bs)) else one_point (point_of bs)
+
+-- ---- names
+
+abbrev pub is_name_byte : ℕ → Bool
+is_name_byte b = (nat_le 32 b && nat_le b 126) && not (b == 59)
+
+abbrev pub is_name : List ℕ → Bool
+is_name [] = false
+is_name (b ∷ bs) = list_all is_name_byte (b ∷ bs)
+
+-- `<`, a label that is a name, and the closing
+unfoldable pub is_label_closed_by : List ℕ → List ℕ → Bool
+is_label_closed_by closing bs = (bytes_eq (take 1 bs) (codes "<") && bytes_eq (drop (length bs - length closing) bs) closing) && is_name (drop 1 (take (length bs - length closing) bs))
+
+abbrev pub is_range_name : List ℕ → Bool
+is_range_name bs = is_label_closed_by (codes ", First>") bs || is_label_closed_by (codes ", Last>") bs

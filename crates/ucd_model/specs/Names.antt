@@ -1,0 +1,146 @@
+-- The names by which the files of the database speak of values, properties and files.
+--
+-- category_of bs    the General_Category that two bytes name; None for all other bytes, `Cn` among them.
+--                   UAX #44, section 5.7.1, table 12
+-- category_code k   the two bytes that name k
+-- flag_name f       the name of the property in PropList.txt. UAX #44, section 5.3
+-- core_name p       the name of the property in DerivedCoreProperties.txt. UAX #44, section 5.3
+-- source_path f     where a source file lies below the folder of a release
+-- derived_path f    where a derived file lies below the folder of the output
+use Rattle.std.specs.Prelude.{ℕ, List, [], ◌∷◌, Option, Some, None, ◌==◌, if◌then◌else◌, codes}
+use Rattle.ucd_model.specs.declared.category.Category.{Category}
+use Rattle.ucd_model.specs.declared.category.Category.TheVariants.{Lu, Ll, Lt, Lm, Lo, Mn, Mc, Me, Nd, Nl, No, Pc, Pd, Ps, Pe, Pi, Pf, Po, Sm, Sc, Sk, So, Zs, Zl, Zp, Cc, Cf, Cs, Co, Cn}
+use Rattle.ucd_model.specs.declared.property.Flag.{Flag}
+use Rattle.ucd_model.specs.declared.property.Flag.TheVariants.{WhiteSpace, OtherMath, OtherLowercase, OtherUppercase, OtherAlphabetic, OtherIdStart, OtherIdContinue, PatternSyntax, PatternWhiteSpace, OtherDefaultIgnorableCodePoint, VariationSelector, PrependedConcatenationMark, OtherGraphemeExtend, NoncharacterCodePoint}
+use Rattle.ucd_model.specs.declared.property.Core.{Core}
+use Rattle.ucd_model.specs.declared.property.Core.TheVariants.{Math, Alphabetic, Lowercase, Uppercase, Cased, CaseIgnorable, ChangesWhenLowercased, ChangesWhenUppercased, ChangesWhenTitlecased, ChangesWhenCasefolded, ChangesWhenCasemapped, IdStart, IdContinue, XidStart, XidContinue, DefaultIgnorableCodePoint, GraphemeExtend, GraphemeBase, GraphemeLink}
+use Rattle.ucd_model.specs.declared.files.SourceFile.{SourceFile}
+use Rattle.ucd_model.specs.declared.files.SourceFile.TheVariants.{UnicodeData, PropList, Scripts, WordBreakProperty, CompositionExclusions, CaseFolding, SpecialCasing, PropertyAliases, PropertyValueAliases}
+use Rattle.ucd_model.specs.declared.files.DerivedFile.{DerivedFile}
+use Rattle.ucd_model.specs.declared.files.DerivedFile.TheVariants.{CoreProperties, NormalizationProps, GeneralCategory, CombiningClass, DecompositionType}
+
+-- ---- categories: a first letter for the group, a second one for the category in it
+
+-- u l t m o
+abbrev letter_of : ℕ → Option Category
+letter_of b = if b == 117 then Some Lu else (if b == 108 then Some Ll else (if b == 116 then Some Lt else (if b == 109 then Some Lm else (if b == 111 then Some Lo else None))))
+
+-- n c e
+abbrev mark_of : ℕ → Option Category
+mark_of b = if b == 110 then Some Mn else (if b == 99 then Some Mc else (if b == 101 then Some Me else None))
+
+-- d l o
+abbrev number_of : ℕ → Option Category
+number_of b = if b == 100 then Some Nd else (if b == 108 then Some Nl else (if b == 111 then Some No else None))
+
+-- c d s e i f o
+abbrev punctuation_of : ℕ → Option Category
+punctuation_of b = if b == 99 then Some Pc else (if b == 100 then Some Pd else (if b == 115 then Some Ps else (if b == 101 then Some Pe else (if b == 105 then Some Pi else (if b == 102 then Some Pf else (if b == 111 then Some Po else None))))))
+
+-- m c k o
+abbrev symbol_of : ℕ → Option Category
+symbol_of b = if b == 109 then Some Sm else (if b == 99 then Some Sc else (if b == 107 then Some Sk else (if b == 111 then Some So else None)))
+
+-- s l p
+abbrev separator_of : ℕ → Option Category
+separator_of b = if b == 115 then Some Zs else (if b == 108 then Some Zl else (if b == 112 then Some Zp else None))
+
+-- c f s o
+abbrev other_of : ℕ → Option Category
+other_of b = if b == 99 then Some Cc else (if b == 102 then Some Cf else (if b == 115 then Some Cs else (if b == 111 then Some Co else None)))
+
+-- L M N P S Z C
+abbrev pub category_of : List ℕ → Option Category
+category_of (a ∷ b ∷ []) = if a == 76 then letter_of b else (if a == 77 then mark_of b else (if a == 78 then number_of b else (if a == 80 then punctuation_of b else (if a == 83 then symbol_of b else (if a == 90 then separator_of b else (if a == 67 then other_of b else None))))))
+category_of _ = None
+
+abbrev pub category_code : Category → List ℕ
+category_code Lu = codes "Lu"
+category_code Ll = codes "Ll"
+category_code Lt = codes "Lt"
+category_code Lm = codes "Lm"
+category_code Lo = codes "Lo"
+category_code Mn = codes "Mn"
+category_code Mc = codes "Mc"
+category_code Me = codes "Me"
+category_code Nd = codes "Nd"
+category_code Nl = codes "Nl"
+category_code No = codes "No"
+category_code Pc = codes "Pc"
+category_code Pd = codes "Pd"
+category_code Ps = codes "Ps"
+category_code Pe = codes "Pe"
+category_code Pi = codes "Pi"
+category_code Pf = codes "Pf"
+category_code Po = codes "Po"
+category_code Sm = codes "Sm"
+category_code Sc = codes "Sc"
+category_code Sk = codes "Sk"
+category_code So = codes "So"
+category_code Zs = codes "Zs"
+category_code Zl = codes "Zl"
+category_code Zp = codes "Zp"
+category_code Cc = codes "Cc"
+category_code Cf = codes "Cf"
+category_code Cs = codes "Cs"
+category_code Co = codes "Co"
+category_code Cn = codes "Cn"
+
+-- ---- properties
+
+abbrev pub flag_name : Flag → List ℕ
+flag_name WhiteSpace = codes "White_Space"
+flag_name OtherMath = codes "Other_Math"
+flag_name OtherLowercase = codes "Other_Lowercase"
+flag_name OtherUppercase = codes "Other_Uppercase"
+flag_name OtherAlphabetic = codes "Other_Alphabetic"
+flag_name OtherIdStart = codes "Other_ID_Start"
+flag_name OtherIdContinue = codes "Other_ID_Continue"
+flag_name PatternSyntax = codes "Pattern_Syntax"
+flag_name PatternWhiteSpace = codes "Pattern_White_Space"
+flag_name OtherDefaultIgnorableCodePoint = codes "Other_Default_Ignorable_Code_Point"
+flag_name VariationSelector = codes "Variation_Selector"
+flag_name PrependedConcatenationMark = codes "Prepended_Concatenation_Mark"
+flag_name OtherGraphemeExtend = codes "Other_Grapheme_Extend"
+flag_name NoncharacterCodePoint = codes "Noncharacter_Code_Point"
+
+abbrev pub core_name : Core → List ℕ
+core_name Math = codes "Math"
+core_name Alphabetic = codes "Alphabetic"
+core_name Lowercase = codes "Lowercase"
+core_name Uppercase = codes "Uppercase"
+core_name Cased = codes "Cased"
+core_name CaseIgnorable = codes "Case_Ignorable"
+core_name ChangesWhenLowercased = codes "Changes_When_Lowercased"
+core_name ChangesWhenUppercased = codes "Changes_When_Uppercased"
+core_name ChangesWhenTitlecased = codes "Changes_When_Titlecased"
+core_name ChangesWhenCasefolded = codes "Changes_When_Casefolded"
+core_name ChangesWhenCasemapped = codes "Changes_When_Casemapped"
+core_name IdStart = codes "ID_Start"
+core_name IdContinue = codes "ID_Continue"
+core_name XidStart = codes "XID_Start"
+core_name XidContinue = codes "XID_Continue"
+core_name DefaultIgnorableCodePoint = codes "Default_Ignorable_Code_Point"
+core_name GraphemeExtend = codes "Grapheme_Extend"
+core_name GraphemeBase = codes "Grapheme_Base"
+core_name GraphemeLink = codes "Grapheme_Link"
+
+-- ---- files
+
+abbrev pub source_path : SourceFile → List ℕ
+source_path UnicodeData = codes "UnicodeData.txt"
+source_path PropList = codes "PropList.txt"
+source_path Scripts = codes "Scripts.txt"
+source_path WordBreakProperty = codes "auxiliary/WordBreakProperty.txt"
+source_path CompositionExclusions = codes "CompositionExclusions.txt"
+source_path CaseFolding = codes "CaseFolding.txt"
+source_path SpecialCasing = codes "SpecialCasing.txt"
+source_path PropertyAliases = codes "PropertyAliases.txt"
+source_path PropertyValueAliases = codes "PropertyValueAliases.txt"
+
+abbrev pub derived_path : DerivedFile → List ℕ
+derived_path CoreProperties = codes "DerivedCoreProperties.txt"
+derived_path NormalizationProps = codes "DerivedNormalizationProps.txt"
+derived_path GeneralCategory = codes "extracted/DerivedGeneralCategory.txt"
+derived_path CombiningClass = codes "extracted/DerivedCombiningClass.txt"
+derived_path DecompositionType = codes "extracted/DerivedDecompositionType.txt"

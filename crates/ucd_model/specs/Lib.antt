@@ -8,3 +8,4 @@ pub mod Facts
 pub mod Predicates
 pub mod Labels
 pub mod DerivedText
+pub mod LabelLemmas

@@ -53,6 +53,7 @@ impl Span {
     pub fn first(self) -> u32
         ensures value { result ≡ self.lo }
         ensures ordered { result ≤ self.hi }
+        ensures bound { result < 1114112 }
     {
         self.lo.number()
     }

@@ -3,8 +3,9 @@
 -- hex_text c        the hexadecimal digits of a code point in upper case: four, from 10000 on five, from 100000 on six
 -- span_text s       one code point, or the first and the last joined by `..`
 -- section name n f  `# NAME`, a line for each span with its label behind it, `# total N`, and an empty line
--- core_text n F     DerivedCoreProperties.txt: a section for each core property, over the facts F of the points below n
-use Rattle.std.specs.Prelude.{ℕ, ◌+◌, ◌/◌, ◌%◌, ◌^◌, Bool, List, [], ◌∷◌, ◌++◌, Some, None, ◌==◌, nat_lt, if◌then◌else◌, codes}
+-- core_section n F p  the section of a core property, over the facts F of the points below n
+-- core_text n F     DerivedCoreProperties.txt: the section of each core property
+use Rattle.std.specs.Prelude.{ℕ, ◌+◌, ◌/◌, ◌%◌, Bool, List, [], ◌∷◌, ◌++◌, Some, None, ◌==◌, nat_lt, if◌then◌else◌, codes}
 use Rattle.std.specs.List.{flat_map}
 use Rattle.std.specs.Fmt.{decimal}
 use Rattle.ucd_model.specs.Bounds.{Bounds}
@@ -17,15 +18,12 @@ use Rattle.ucd_model.specs.declared.property.Core.{Core}
 abbrev pub hex_digit : ℕ → ℕ
 hex_digit d = if nat_lt d 10 then 48 + d else 55 + d
 
--- the digit that is worth 16 ^ k
-abbrev pub hex_digit_at : ℕ → ℕ → ℕ
-hex_digit_at k c = hex_digit (c / 16 ^ k % 16)
-
+-- the digits that are worth 4096, 256, 16 and 1
 abbrev pub four_digits : ℕ → List ℕ
-four_digits c = hex_digit_at 3 c ∷ hex_digit_at 2 c ∷ hex_digit_at 1 c ∷ hex_digit_at 0 c ∷ []
+four_digits c = hex_digit (c / 4096 % 16) ∷ hex_digit (c / 256 % 16) ∷ hex_digit (c / 16 % 16) ∷ hex_digit (c % 16) ∷ []
 
 unfoldable pub hex_text : ℕ → List ℕ
-hex_text c = if nat_lt c 65536 then four_digits c else (if nat_lt c 1048576 then hex_digit_at 4 c ∷ four_digits c else hex_digit_at 5 c ∷ hex_digit_at 4 c ∷ four_digits c)
+hex_text c = if nat_lt c 65536 then four_digits c else (if nat_lt c 1048576 then hex_digit (c / 65536 % 16) ∷ four_digits c else hex_digit (c / 1048576 % 16) ∷ hex_digit (c / 65536 % 16) ∷ four_digits c)
 
 unfoldable pub span_text : Bounds → List ℕ
 span_text s = if s.lo == s.hi then hex_text s.lo else hex_text s.lo ++ codes ".." ++ hex_text s.hi
@@ -44,5 +42,9 @@ section_text name n f = codes "# " ++ name ++ line_end ++ flat_map span_line (la
 abbrev pub core_label : Core → Facts → Label
 core_label core F = if has core F then Some (codes " ; " ++ core_name core) else None
 
+-- the section of a property
+abbrev pub core_section : ℕ → (ℕ → Facts) → Core → List ℕ
+core_section n F core = section_text (core_name core) n (λ c. core_label core (F c))
+
 unfoldable pub core_text : ℕ → (ℕ → Facts) → List ℕ
-core_text n F = flat_map (λ core. section_text (core_name core) n (λ c. core_label core (F c))) core_sections
+core_text n F = flat_map (core_section n F) core_sections

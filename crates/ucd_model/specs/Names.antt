@@ -2,6 +2,7 @@
 --
 -- category_of bs    the General_Category that two bytes name; None for all other bytes, `Cn` among them.
 --                   UAX #44, section 5.7.1, table 12
+-- letter_of to other_of   by the second byte, behind L M N P S Z C as the first
 -- category_code k   the two bytes that name k
 -- flag_name f       the name of the property in PropList.txt. UAX #44, section 5.3
 -- core_name p       the name of the property in DerivedCoreProperties.txt. UAX #44, section 5.3
@@ -22,31 +23,31 @@ use Rattle.ucd_model.specs.declared.files.DerivedFile.TheVariants.{CorePropertie
 -- ---- categories: a first letter for the group, a second one for the category in it
 
 -- u l t m o
-abbrev letter_of : ℕ → Option Category
+abbrev pub letter_of : ℕ → Option Category
 letter_of b = if b == 117 then Some Lu else (if b == 108 then Some Ll else (if b == 116 then Some Lt else (if b == 109 then Some Lm else (if b == 111 then Some Lo else None))))
 
 -- n c e
-abbrev mark_of : ℕ → Option Category
+abbrev pub mark_of : ℕ → Option Category
 mark_of b = if b == 110 then Some Mn else (if b == 99 then Some Mc else (if b == 101 then Some Me else None))
 
 -- d l o
-abbrev number_of : ℕ → Option Category
+abbrev pub number_of : ℕ → Option Category
 number_of b = if b == 100 then Some Nd else (if b == 108 then Some Nl else (if b == 111 then Some No else None))
 
 -- c d s e i f o
-abbrev punctuation_of : ℕ → Option Category
+abbrev pub punctuation_of : ℕ → Option Category
 punctuation_of b = if b == 99 then Some Pc else (if b == 100 then Some Pd else (if b == 115 then Some Ps else (if b == 101 then Some Pe else (if b == 105 then Some Pi else (if b == 102 then Some Pf else (if b == 111 then Some Po else None))))))
 
 -- m c k o
-abbrev symbol_of : ℕ → Option Category
+abbrev pub symbol_of : ℕ → Option Category
 symbol_of b = if b == 109 then Some Sm else (if b == 99 then Some Sc else (if b == 107 then Some Sk else (if b == 111 then Some So else None)))
 
 -- s l p
-abbrev separator_of : ℕ → Option Category
+abbrev pub separator_of : ℕ → Option Category
 separator_of b = if b == 115 then Some Zs else (if b == 108 then Some Zl else (if b == 112 then Some Zp else None))
 
 -- c f s o
-abbrev other_of : ℕ → Option Category
+abbrev pub other_of : ℕ → Option Category
 other_of b = if b == 99 then Some Cc else (if b == 102 then Some Cf else (if b == 115 then Some Cs else (if b == 111 then Some Co else None)))
 
 -- L M N P S Z C

@@ -1,0 +1,5 @@
+pub mod Counts
+pub mod Contents
+pub mod Answers
+pub mod Folders
+pub mod Sinks

@@ -1,0 +1,23 @@
+//! The outside of the program: shelves that hold files, and sinks that take what is printed.
+#![tactic(auto)]
+
+mod calls;
+mod disk_shelf;
+mod memory_files;
+mod memory_shelf;
+mod memory_sink;
+mod out_sink;
+mod perfect_shelf;
+mod shelf;
+mod sink;
+#[cfg(test)]
+mod tests;
+mod transfer;
+
+pub use disk_shelf::DiskShelf;
+pub use memory_shelf::MemoryShelf;
+pub use memory_sink::MemorySink;
+pub use out_sink::OutSink;
+pub use perfect_shelf::PerfectShelf;
+pub use shelf::{Failed, Found, ReadStop, Shelf};
+pub use sink::Sink;

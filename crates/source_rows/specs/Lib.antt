@@ -1,0 +1,5 @@
+pub mod Lines
+pub mod Fields
+pub mod Faults
+pub mod Files
+pub mod Laws

@@ -1,0 +1,84 @@
+//! Cuts a line into its fields, each a part of the line. UAX #44, section 4.2.
+
+ghost use Rattle.std.specs.Prelude.{◌≡◌, ℕ, ◌+◌, length, count_by};
+ghost use Rattle.ucd_model.specs.Fields.{trim_start, trim_end, trim, field, is_hash, is_semicolon};
+ghost use Rattle.std.specs.List.{before_first};
+ghost use Rattle.source_rows.specs.Fields.{fields_of};
+
+use crate::lines::{cut, is_blank, leading_blanks};
+
+/// What stands before the first `#`.
+pub fn without_comment(content: &[u8]) -> &[u8]
+    ensures { result.now ≡ before_first is_hash content.now }
+{
+    cut(content, b'#').0
+}
+
+/// The text without white space at its beginning.
+fn trim_start(text: &[u8]) -> &[u8]
+    ensures { result.now ≡ trim_start text.now }
+{
+    &text[leading_blanks(text)..]
+}
+
+/// The text without white space at its end.
+fn trim_end(text: &[u8]) -> &[u8]
+    ensures { result.now ≡ trim_end text.now }
+{
+    let mut end = text.len();
+    'blanks: while end > 0 && is_blank(text[end - 1]) {
+        end -= 1;
+    }
+    &text[..end]
+}
+
+/// The text without white space at both ends.
+fn trim(text: &[u8]) -> &[u8]
+    ensures { result.now ≡ trim text.now }
+{
+    trim_end(trim_start(text))
+}
+
+/// How many `;` there are.
+fn semicolon_count(text: &[u8]) -> usize
+    ensures { result ≡ count_by is_semicolon text.now }
+{
+    text.iter().filter(|b| **b == b';').count()
+}
+
+/// How many fields there are.
+pub fn field_count(text: &[u8]) -> usize
+    ensures { result ≡ length (fields_of text.now) }
+{
+    semicolon_count(text) + 1
+}
+
+/// The first field, and the text of the fields behind it.
+pub fn first_field(text: &[u8]) -> (&[u8], &[u8])
+    ensures first { result.0.now ≡ field (fields_of text.now) 0 }
+    ensures others { (n : ℕ) → field (fields_of text.now) (n + 1) ≡ field (fields_of result.1.now) n }
+{
+    let (first, others) = cut(text, b';');
+    (trim(first), others)
+}
+
+/// The first two fields. A field that is not there is empty.
+pub fn two_fields(text: &[u8]) -> (&[u8], &[u8])
+    ensures first { result.0.now ≡ field (fields_of text.now) 0 }
+    ensures second { result.1.now ≡ field (fields_of text.now) 1 }
+{
+    let (first, others) = first_field(text);
+    let (second, _) = first_field(others);
+    (first, second)
+}
+
+/// The first three fields. A field that is not there is empty.
+pub fn three_fields(text: &[u8]) -> (&[u8], &[u8], &[u8])
+    ensures first { result.0.now ≡ field (fields_of text.now) 0 }
+    ensures second { result.1.now ≡ field (fields_of text.now) 1 }
+    ensures third { result.2.now ≡ field (fields_of text.now) 2 }
+{
+    let (first, others) = first_field(text);
+    let (second, third) = two_fields(others);
+    (first, second, third)
+}

@@ -1,0 +1,91 @@
+//! Cuts a text into its lines. UAX #44, section 4.2.
+
+ghost use Rattle.std.specs.Prelude.{◌≡◌, ◌<◌, ◌≤◌, ◌∷◌, ◌==◌, length};
+ghost use Rattle.std.specs.List.{position_or_len, before_first, after_first, prefix_len};
+ghost use Rattle.ucd_model.specs.Lines.{contents, is_blank, is_trivia, without_return};
+ghost use Rattle.source_rows.specs.Lines.{holds_line_feed};
+
+/// The place of the first such byte, and the length of the text where there is none.
+pub fn first_at(text: &[u8], byte: u8) -> usize
+    ensures place { result ≡ position_or_len (λ b. b == byte) text.now }
+    ensures within { result ≤ length text.now }
+{
+    for (i, b) in text.iter().enumerate() {
+        if *b == byte {
+            return i;
+        }
+    }
+    text.len()
+}
+
+/// What stands before the first such byte, and what stands behind it. Where there is none, the whole text and nothing.
+pub fn cut(text: &[u8], byte: u8) -> (&[u8], &[u8])
+    ensures before { result.0.now ≡ before_first (λ b. b == byte) text.now }
+    ensures after { result.1.now ≡ after_first (λ b. b == byte) text.now }
+{
+    let at = first_at(text, byte);
+    if at == text.len() {
+        return (text, &[]);
+    }
+    (&text[..at], &text[at + 1..])
+}
+
+/// Whether a LF is among the bytes.
+pub fn holds_line_feed(bytes: &[u8]) -> bool
+    ensures { result ≡ holds_line_feed bytes.now }
+{
+    bytes.iter().any(|b| *b == b'\n')
+}
+
+/// Whether a byte is white space: space or tab.
+pub fn is_blank(byte: u8) -> bool
+    ensures { result ≡ is_blank byte }
+{
+    byte == b' ' || byte == b'\t'
+}
+
+/// How many bytes of white space the text begins with.
+pub fn leading_blanks(text: &[u8]) -> usize
+    ensures count { result ≡ prefix_len is_blank text.now }
+    ensures within { result ≤ length text.now }
+{
+    for (i, b) in text.iter().enumerate() {
+        if !is_blank(*b) {
+            return i;
+        }
+    }
+    text.len()
+}
+
+/// Whether a line is blank, or its first byte other than white space is `#`.
+pub fn is_trivia(content: &[u8]) -> bool
+    ensures { result ≡ is_trivia content.now }
+{
+    match &content[leading_blanks(content)..] {
+        [] => true,
+        [first, ..] => *first == b'#',
+    }
+}
+
+/// The text without one CR at its end.
+fn without_return(text: &[u8]) -> &[u8]
+    ensures { result.now ≡ without_return text.now }
+{
+    match text {
+        [content @ .., b'\r'] => content,
+        _ => text,
+    }
+}
+
+/// The content of the first line, without what ends it, and the text behind that line.
+pub fn first_line(text: &[u8]) -> (&[u8], &[u8])
+    requires { 0 < length text.now }
+    ensures lines { contents text.now ≡ result.0.now ∷ contents result.1.now }
+    ensures shorter { length result.1.now < length text.now }
+{
+    let (line, rest) = cut(text, b'\n');
+    if line.len() == text.len() {
+        return (line, rest);
+    }
+    (without_return(line), rest)
+}

@@ -1,0 +1,4 @@
+pub mod Lookups
+pub mod Splices
+pub mod Spans
+pub mod RunCounts

@@ -1,0 +1,4 @@
+pub mod Values
+pub mod Layout
+pub mod Edit
+pub mod RunTable

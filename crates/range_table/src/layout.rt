@@ -1,0 +1,139 @@
+//! The values of all code points, kept as the places where they change.
+
+ghost use Rattle.std.specs.Prelude.{◌≡◌, ◌+◌, ◌<◌, ◌≤◌, ℕ, true, [], ◌++◌, take, drop, length, vec_len, IfOk, OnOk, OnErr};
+ghost use Rattle.range_table.specs.Values.{SameValues, with_span, run_count, point_count};
+ghost use Rattle.range_table.specs.Layout.{Layout as Runs, values, count_before, value_of_run};
+ghost use Rattle.range_table.specs.Edit.{SetsSpan, edited};
+
+use crate::change::Change;
+use crate::edit::{Edit, change_to, splice};
+use std::alloc::Global;
+use std::marker::Model;
+use ucd_model::{Memory, Point, Span};
+
+/// The value of the first code point, and the places where the value changes, in ascending order.
+#[derive(Drop)]
+pub struct Layout<V: Copy + Eq> {
+    first: V,
+    changes: Vec<Change<V>>,
+}
+
+impl<V: Copy + Eq> Model for Layout<V> {
+    ghost use Rattle.range_table.specs.Layout.{Layout as Runs, IsLayout};
+
+    ghost Value = { Runs V };
+
+    ghost view = { λ l. record { first = l.first; changes = l.changes.items } };
+
+    ghost invariant = { λ l. IsLayout V.eq l.first l.changes.items };
+}
+
+impl<V: Copy + Eq> Layout<V> {
+    /// The layout of one value. It takes no memory.
+    pub fn filled(alloc: Global, value: V) -> Layout<V>
+        requires { (a b : V) → V.eq a b ≡ true → a ≡ b }
+        ensures { result ≡ record { first = value; changes = [] } }
+    {
+        Layout {
+            first: value,
+            changes: Vec::new(alloc),
+        }
+    }
+
+    /// The same layout again.
+    pub fn copy(&self) -> Result<Layout<V>, Memory>
+        ensures { IfOk result (λ copy. copy ≡ self.now) }
+    {
+        let alloc = *self.changes.allocator();
+        let changes = Vec::from_slice(alloc, self.changes.as_slice())?;
+        Ok(Layout {
+            first: self.first,
+            changes,
+        })
+    }
+
+    /// The value of a code point.
+    pub fn get(&self, c: Point) -> V
+        ensures { result ≡ values self.now c }
+    {
+        self.value_of_run(self.count_before(c.number() + 1))
+    }
+
+    /// The number of maximal runs of equal values.
+    pub fn runs(&self) -> usize
+        ensures { result ≡ run_count V.eq (values self.now) point_count }
+    {
+        self.changes.len() + 1
+    }
+
+    /// Gives the points of a span the value. For want of memory the layout stays as it was.
+    ///
+    /// It takes time by the number of changes behind the span, so each of many spans in ascending order costs the same.
+    pub fn set(&mut self, span: Span, value: V) -> Result<(), Memory>
+        ensures ok { OnOk result (SameValues (values self.new) (with_span (values self.old) span.lo span.hi value)) }
+        ensures err { OnErr result (SameValues (values self.new) (values self.old)) }
+    {
+        let edit = self.edit(span, value);
+        splice(&mut self.changes, &edit)?;
+        self.first = edit.first;
+        Ok(())
+    }
+
+    /// What is to be done to give the points of a span the value.
+    fn edit(&self, span: Span, value: V) -> Edit<V>
+        ensures ordered { result.from ≤ result.behind }
+        ensures within { result.behind ≤ length self.now.changes }
+        ensures set { SetsSpan V.eq self.now.first self.now.changes span.lo span.hi value result.first (edited result self.now.changes) }
+    {
+        let lo = span.first();
+        let hi = span.last();
+        let from = self.count_before(lo);
+        let behind = self.count_before(hi + 2);
+        // at 0 there is no value before, and the first value itself is set
+        let (first, before) = if lo == 0 {
+            (value, value)
+        } else {
+            (self.first, self.value_of_run(from))
+        };
+        let ends = if hi + 1 == Point::COUNT {
+            None
+        } else {
+            change_to(value, hi + 1, self.value_of_run(behind))
+        };
+        Edit {
+            first,
+            from,
+            behind,
+            begins: change_to(before, lo, value),
+            ends,
+        }
+    }
+
+    /// How many changes come before `start`.
+    /// The last two are looked at first: where spans come in ascending order, no search is needed.
+    fn count_before(&self, start: u32) -> usize
+        ensures { result ≡ count_before start self.now.changes }
+    {
+        let changes = self.changes.as_slice();
+        let len = changes.len();
+        if len == 0 || changes[len - 1].start < start {
+            return len;
+        }
+        if len == 1 || changes[len - 2].start < start {
+            return len - 1;
+        }
+        changes.partition_point(|change| change.start < start)
+    }
+
+    /// The value of a run: of the first one, or of the one that a change begins.
+    fn value_of_run(&self, run: usize) -> V
+        requires { run ≤ length self.now.changes }
+        ensures { result ≡ value_of_run self.now.first self.now.changes run }
+    {
+        if run == 0 {
+            self.first
+        } else {
+            self.changes[run - 1].value
+        }
+    }
+}

@@ -1,0 +1,76 @@
+//! Tables that keep runs of equal values.
+
+ghost use Rattle.std.specs.Prelude.{◌≡◌, ℕ};
+ghost use Rattle.range_table.specs.Values.{run_count, point_count};
+
+use crate::layout::Layout;
+use crate::table::Table;
+use std::alloc::Global;
+use ucd_model::{Memory, Point, Span};
+
+/// A table that keeps each maximal run of equal values once.
+///
+/// To look a value up takes time by the logarithm of the number of runs.
+/// The first `prepare` after a `commit` or a `discard` copies the runs. Each takes time by the runs that lie behind its span:
+/// spans in ascending order cost the same each, however many runs there are.
+#[derive(Drop)]
+pub struct RunTable<V: Copy + Eq> {
+    committed: Layout<V>,
+    // what is next, where something was prepared since the last `commit` or `discard`
+    prepared: Option<Layout<V>>,
+}
+
+impl<V: Copy + Eq> RunTable<V> {
+    /// The number of maximal runs of equal values now.
+    pub fn runs(&self) -> usize
+        ensures { result ≡ run_count V.eq (⟦<RunTable<V> as Table<V>>⟧.now self.now) point_count }
+    {
+        self.committed.runs()
+    }
+}
+
+impl<V: Copy + Eq> Table<V> for RunTable<V> {
+    ghost use Rattle.range_table.specs.RunTable.{values_now, values_next};
+
+    ghost now = { values_now };
+
+    ghost next = { values_next };
+
+    fn filled(alloc: Global, value: V) -> Result<RunTable<V>, Memory> {
+        Ok(RunTable {
+            committed: Layout::filled(alloc, value),
+            prepared: None,
+        })
+    }
+
+    fn get(&self, c: Point) -> V {
+        self.committed.get(c)
+    }
+
+    fn get_next(&self, c: Point) -> V {
+        match &self.prepared {
+            Some(next) => next.get(c),
+            None => self.committed.get(c),
+        }
+    }
+
+    fn prepare(&mut self, span: Span, value: V) -> Result<(), Memory> {
+        let mut next = match self.prepared.take() {
+            Some(next) => next,
+            None => self.committed.copy()?,
+        };
+        let done = next.set(span, value);
+        self.prepared = Some(next);
+        done
+    }
+
+    fn commit(&mut self) {
+        if let Some(next) = self.prepared.take() {
+            self.committed = next;
+        }
+    }
+
+    fn discard(&mut self) {
+        self.prepared = None;
+    }
+}

@@ -1,0 +1,116 @@
+-- What each status says, from what a run leaves.
+use Rattle.std.proofs.Common.{◌≡◌, ◌≢◌, ◌⊎◌, ◌↔◌, ℕ, IsTrue, List, ◌++◌, Option, Some, None, refl, sym, ap, subst, ◌∙◌, inl, inr}
+use Rattle.shelf_io.specs.Counts.{Rose}
+use Rattle.shelf_io.specs.Contents.{SameContents}
+use Rattle.ucdshop_core.specs.Printed.{usage, read_failed, write_failed, out_of_memory, summary, no_counts}
+use Rattle.ucdshop_core.specs.Run.{Contents, Job, form, NewFile, Expected, NoForm, Refuses, Writes, expected, expected_of, Replaced}
+use Rattle.ucdshop_core.specs.Outcome.{ShelfSeen, SinkSeen, Told, GrewInPart, IsClean, Outcome, IsNeeded, IsOutput, WritesNothing, WrittenUpTo, WrittenWhole}
+use Rattle.ucdshop_core.specs.declared.status.Status.{Status}
+use Rattle.ucdshop_core.specs.declared.status.Status.TheVariants.{Clean, Done, BadWords, LoadRefused, ReadFault, WriteFault, Memory}
+
+-- words without a form expect nothing
+no_form : (words : List (List ℕ)) (holds : Contents) → form words ≡ None → expected words holds ≡ NoForm
+no_form words holds unformed = ap (λ (f : Option Job). expected_of f holds) unformed
+
+no_form_writes : (e : Expected) (files : List NewFile) → e ≡ NoForm → e ≡ Writes files → ⊥
+no_form_writes e files p q = cc
+
+no_form_refuses : (e : Expected) (line : List ℕ) → e ≡ NoForm → e ≡ Refuses line → ⊥
+no_form_refuses e line p q = cc
+
+refuses_writes : (e : Expected) (line : List ℕ) (files : List NewFile) → e ≡ Refuses line → e ≡ Writes files → ⊥
+refuses_writes e line files p q = cc
+
+same_files : (e : Expected) (files others : List NewFile) → e ≡ Writes files → e ≡ Writes others → files ≡ others
+same_files e files others p q = cc
+
+some_none : {A : Type 0} (o : Option A) (x : A) → o ≡ Some x → o ≡ None → ⊥
+some_none o x p q = cc
+
+pub complete : (words : List (List ℕ)) (shelf : ShelfSeen) (sink : SinkSeen) (status : Status) → Outcome words shelf sink status
+    → IsTrue shelf.tells → (files : List NewFile) → expected words shelf.old ≡ Writes files → ¬ Rose shelf.reads_old shelf.reads_new → ¬ Rose shelf.writes_old shelf.writes_new → ¬ Rose sink.faults_old sink.faults_new
+    → (status ≡ Clean) ⊎ (status ≡ Memory)
+complete words shelf sink Clean o tells files e r w f = inl refl
+complete words shelf sink Done o tells files e r w f = absurd o
+complete words shelf sink BadWords o tells files e r w f = absurd (no_form_writes _ files (no_form words shelf.old o.unformed) e)
+complete words shelf sink LoadRefused o tells files e r w f = absurd (refuses_writes _ o.line files (o.refused tells) e)
+complete words shelf sink ReadFault o tells files e r w f = absurd (r o.rose)
+complete words shelf sink WriteFault o tells files e r w f = elim o.cause [ inl stopped ↦ absurd (w stopped.rose) | inr untold ↦ absurd (f untold.told.0) ]
+complete words shelf sink Memory o tells files e r w f = inr refl
+
+clean_replaced : (words : List (List ℕ)) (shelf : ShelfSeen) (sink : SinkSeen) → IsClean words shelf sink → IsTrue shelf.tells → (files : List NewFile) → expected words shelf.old ≡ Writes files → Replaced files shelf.old shelf.new
+clean_replaced words shelf sink o tells files e =
+    let w = o.written tells in
+    subst (λ (fs : List NewFile). Replaced fs shelf.old shelf.new) (same_files _ w.0 files w.1 e) w.2
+
+pub headline : (words : List (List ℕ)) (shelf : ShelfSeen) (sink : SinkSeen) (status : Status) → Outcome words shelf sink status
+    → IsTrue shelf.tells → (files : List NewFile) → expected words shelf.old ≡ Writes files → ¬ Rose shelf.reads_old shelf.reads_new → ¬ Rose shelf.writes_old shelf.writes_new → ¬ Rose sink.faults_old sink.faults_new → status ≢ Memory
+    → (status ≡ Clean) × Replaced files shelf.old shelf.new
+headline words shelf sink status o tells files e r w f m = elim (complete words shelf sink status o tells files e r w f) [
+  | inl clean ↦ (clean, clean_replaced words shelf sink (subst (Outcome words shelf sink) clean o) tells files e)
+  | inr memory ↦ absurd (m memory)
+]
+
+pub clean : (words : List (List ℕ)) (shelf : ShelfSeen) (sink : SinkSeen) (status : Status) → Outcome words shelf sink status → IsTrue shelf.tells → status ≡ Clean → WrittenWhole words shelf.old shelf.new
+clean words shelf sink status o tells e = let c : IsClean words shelf sink = subst (Outcome words shelf sink) e o in c.written tells
+
+pub clean_told : (words : List (List ℕ)) (shelf : ShelfSeen) (sink : SinkSeen) (status : Status) → Outcome words shelf sink status → IsTrue sink.tells → status ≡ Clean → sink.new ≡ sink.old ++ summary no_counts
+clean_told words shelf sink status o tells e = let c : IsClean words shelf sink = subst (Outcome words shelf sink) e o in c.told tells
+
+pub never_done : (words : List (List ℕ)) (shelf : ShelfSeen) (sink : SinkSeen) (status : Status) → Outcome words shelf sink status → status ≢ Done
+never_done words shelf sink status o e = let c : Outcome words shelf sink Done = subst (Outcome words shelf sink) e o in c
+
+pub bad_words : (words : List (List ℕ)) (shelf : ShelfSeen) (sink : SinkSeen) (status : Status) → Outcome words shelf sink status → (status ≡ BadWords) ↔ (form words ≡ None)
+bad_words words shelf sink Clean o = (λ e. absurd cc, λ n. absurd (some_none (form words) o.job o.formed n))
+bad_words words shelf sink Done o = absurd o
+bad_words words shelf sink BadWords o = (λ e. o.unformed, λ n. refl)
+bad_words words shelf sink LoadRefused o = (λ e. absurd cc, λ n. absurd (some_none (form words) o.job o.formed n))
+bad_words words shelf sink ReadFault o = (λ e. absurd cc, λ n. absurd (some_none (form words) o.job o.formed n))
+bad_words words shelf sink WriteFault o = (λ e. absurd cc, λ n. absurd (some_none (form words) o.job o.formed n))
+bad_words words shelf sink Memory o = (λ e. absurd cc, λ n. absurd (some_none (form words) o.job o.formed n))
+
+pub bad_words_told : (words : List (List ℕ)) (shelf : ShelfSeen) (sink : SinkSeen) (status : Status) → Outcome words shelf sink status → status ≡ BadWords → Told usage sink
+bad_words_told words shelf sink status o e = let c : Outcome words shelf sink BadWords = subst (Outcome words shelf sink) e o in c.told
+
+pub refused_only : (words : List (List ℕ)) (shelf : ShelfSeen) (sink : SinkSeen) (status : Status) → Outcome words shelf sink status → IsTrue shelf.tells → status ≡ LoadRefused → (line : List ℕ) × (expected words shelf.old ≡ Refuses line) × Told line sink
+refused_only words shelf sink status o tells e = let c : Outcome words shelf sink LoadRefused = subst (Outcome words shelf sink) e o in (c.line, c.refused tells, c.told)
+
+pub refused : (words : List (List ℕ)) (shelf : ShelfSeen) (sink : SinkSeen) (status : Status) → Outcome words shelf sink status
+    → IsTrue shelf.tells → (line : List ℕ) → expected words shelf.old ≡ Refuses line → ¬ Rose shelf.reads_old shelf.reads_new → (status ≡ LoadRefused) ⊎ (status ≡ Memory)
+refused words shelf sink Clean o tells line e r = absurd (refuses_writes _ line (o.written tells).0 e (o.written tells).1)
+refused words shelf sink Done o tells line e r = absurd o
+refused words shelf sink BadWords o tells line e r = absurd (no_form_refuses _ line (no_form words shelf.old o.unformed) e)
+refused words shelf sink LoadRefused o tells line e r = inl refl
+refused words shelf sink ReadFault o tells line e r = absurd (r o.rose)
+refused words shelf sink WriteFault o tells line e r = elim o.cause [
+  | inl stopped ↦ absurd (refuses_writes _ line (stopped.written tells).0 e (stopped.written tells).1)
+  | inr untold ↦ absurd (refuses_writes _ line (untold.written tells).0 e (untold.written tells).1)
+]
+refused words shelf sink Memory o tells line e r = inr refl
+
+pub read_fault_only : (words : List (List ℕ)) (shelf : ShelfSeen) (sink : SinkSeen) (status : Status) → Outcome words shelf sink status → status ≡ ReadFault → Rose shelf.reads_old shelf.reads_new
+read_fault_only words shelf sink status o e = let c : Outcome words shelf sink ReadFault = subst (Outcome words shelf sink) e o in c.rose
+
+pub read_fault_told : (words : List (List ℕ)) (shelf : ShelfSeen) (sink : SinkSeen) (status : Status) → Outcome words shelf sink status → status ≡ ReadFault
+    → (path : List ℕ) × IsNeeded words path × (IsTrue shelf.tells_failed → path ≡ shelf.failed) × Told (read_failed path) sink
+read_fault_told words shelf sink status o e = let c : Outcome words shelf sink ReadFault = subst (Outcome words shelf sink) e o in (c.path, (c.job, c.formed, c.place, c.needed), c.last, c.told)
+
+pub write_fault : (words : List (List ℕ)) (shelf : ShelfSeen) (sink : SinkSeen) (status : Status) → Outcome words shelf sink status → status ≡ WriteFault
+    → (Rose shelf.writes_old shelf.writes_new × ((place : ℕ) × (path : List ℕ) × IsOutput words place path × (IsTrue shelf.tells → WrittenUpTo words place path shelf.old shelf.new) × Told (write_failed path) sink))
+    ⊎ ((IsTrue shelf.tells → WrittenWhole words shelf.old shelf.new) × GrewInPart (summary no_counts) sink)
+write_fault words shelf sink status o e = let c : Outcome words shelf sink WriteFault = subst (Outcome words shelf sink) e o in elim c.cause [
+  | inl stopped ↦ inl (stopped.rose, (stopped.place, stopped.path, (c.job, c.formed, stopped.output), stopped.written, stopped.told))
+  | inr untold ↦ inr (untold.written, untold.told)
+]
+
+pub memory_told : (words : List (List ℕ)) (shelf : ShelfSeen) (sink : SinkSeen) (status : Status) → Outcome words shelf sink status → status ≡ Memory → Told out_of_memory sink
+memory_told words shelf sink status o e = let c : Outcome words shelf sink Memory = subst (Outcome words shelf sink) e o in c.told
+
+pub unchanged : (words : List (List ℕ)) (shelf : ShelfSeen) (sink : SinkSeen) (status : Status) → Outcome words shelf sink status → IsTrue shelf.tells → WritesNothing status → SameContents shelf.old shelf.new
+unchanged words shelf sink Clean o tells w = absurd w
+unchanged words shelf sink Done o tells w = absurd w
+unchanged words shelf sink BadWords o tells w = o.unchanged tells
+unchanged words shelf sink LoadRefused o tells w = o.unchanged tells
+unchanged words shelf sink ReadFault o tells w = o.unchanged tells
+unchanged words shelf sink WriteFault o tells w = absurd w
+unchanged words shelf sink Memory o tells w = o.unchanged tells

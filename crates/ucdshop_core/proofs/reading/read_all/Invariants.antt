@@ -1,0 +1,16 @@
+use Rattle.std.proofs.Common.{◌≡◌, ◌≤◌, IsTrue, length, map, take}
+use Rattle.shelf_io.specs.Contents.{SameContents}
+use Rattle.ucdshop_core.specs.Reading.{cut}
+use Rattle.ucdshop_core.proofs.reading.read_all.Given as goal
+
+-- what was read so far is what the shelf held, and holds
+abbrev pub invariant-paths : goal.invariant-paths
+invariant-paths g l =
+    let shelf = g.S.Shelf in
+    record {
+      len : length l.held.items ≡ l.at;
+      contents : IsTrue shelf.tells → l.held.items ≡ map (λ path. cut (shelf.holds l.initial.shelf path)) (take l.at l.paths);
+      stays : IsTrue shelf.tells → SameContents (shelf.holds l.initial.shelf) (shelf.holds l.shelf);
+      reads : shelf.read_faults l.initial.shelf ≤ shelf.read_faults l.shelf;
+      writes : shelf.write_faults l.shelf ≡ shelf.write_faults l.initial.shelf;
+    }

@@ -1,0 +1,39 @@
+use Rattle.std.proofs.Common.{◌≡◌, ◌-◌, ◌∷◌, suc, ℕ, IsTrue, List, length, ap, subst, ◌∙◌, arith}
+use Rattle.ucdshop_core.specs.Run.{Contents, after}
+use Rattle.ucdshop_core.proofs.WritingLemmas.{IsLeft, done_of, left_next, contents_next, stops_here}
+use Rattle.ucdshop_core.specs.declared.writing.Output.{Output}
+use Rattle.ucdshop_core.proofs.writing.write_all.Goals as goal
+
+pub outputs-preserved : goal.outputs-preserved
+outputs-preserved g c =
+    let shelf = g.S.Shelf in
+    let outputs = c.args.outputs.items in
+    let output = c.take_first-path.result in
+    let rest = c.take_first-path.new.outputs.items in
+    let old = shelf.holds c.args.shelf.now in
+    let now = shelf.holds c.outputs.shelf in
+    let taken : c.outputs.rest.items ≡ output ∷ rest = c.take_first-path.ensures in
+    let left : IsLeft outputs (output ∷ rest) = subst (λ (r : List Output). IsLeft outputs r) taken c.outputs.invariant.left in
+    record {
+      left = left_next outputs rest output left;
+      contents = λ tells. contents_next outputs rest output old now (shelf.holds c.write.new.self) left
+          (subst (λ (r : List Output). (path : List ℕ) → now path ≡ after (done_of outputs r) old path) taken (c.outputs.invariant.contents tells))
+          (c.in-Ok.ensures.ok tells) (c.in-Ok.ensures.others tells);
+      room = omega (arith, c.outputs.invariant.room, ap length taken, c.in-Ok.ensures.spare_for_one);
+      reads = c.in-Ok.ensures.read_faults_stay ∙ c.outputs.invariant.reads;
+      writes = omega (arith, c.outputs.invariant.writes, c.in-Ok.ensures.write_faults_never_fall);
+    }
+
+pub returns-in_default-clause-stopped : goal.returns-in_default-clause-stopped
+returns-in_default-clause-stopped g c =
+    let shelf = g.S.Shelf in
+    let outputs = c.args.outputs.items in
+    let output = c.take_first-path.result in
+    let rest = c.take_first-path.new.outputs.items in
+    let old = shelf.holds c.args.shelf.now in
+    let now = shelf.holds c.outputs.shelf in
+    let taken : c.outputs.rest.items ≡ output ∷ rest = c.take_first-path.ensures in
+    let left : IsLeft outputs (output ∷ rest) = subst (λ (r : List Output). IsLeft outputs r) taken c.outputs.invariant.left in
+    stops_here outputs rest output shelf.tells old now (shelf.holds c.write.new.self) left
+    (subst (λ (r : List Output). IsTrue shelf.tells → (path : List ℕ) → now path ≡ after (done_of outputs r) old path) taken c.outputs.invariant.contents)
+    c.write.ensures.others

@@ -1,0 +1,12 @@
+pub mod Sweep
+pub mod Section
+pub mod PointFacts
+pub mod Printed
+pub mod Run
+pub mod Outcome
+pub mod Codes
+pub mod Commands
+pub mod Reading
+pub mod Judging
+pub mod Writing
+pub mod Planning

@@ -1,0 +1,174 @@
+-- What a run leaves, by its status.
+--
+-- ShelfSeen, SinkSeen      what is seen of the shelf and the sink before and after the run
+-- sink_seen ..             of a sink: whether it tells, what was written and its count of faults, each before and after
+-- Unchanged shelf          every path holds what it held
+-- Grew line sink           what was written grew by exactly the line
+-- GrewInPart line sink     the sink's count of faults rose, and what was written grew by a prefix of the line
+-- Told line sink           one of the two
+-- Outcome words shelf sink status   what the status says of the run, by cases
+use Rattle.std.specs.Prelude.{◌≡◌, ◌≢◌, ◌⊎◌, ℕ, ◌<◌, Bool, IsTrue, List, [], ◌∷◌, ◌++◌, length, take, Option, Some, None, slice_get}
+use Rattle.shelf_io.specs.Counts.{Rose}
+use Rattle.shelf_io.specs.Contents.{SameContents, AddsPrefix}
+use Rattle.ucdshop_core.specs.Printed.{usage, read_failed, write_failed, out_of_memory, summary, no_counts}
+use Rattle.ucdshop_core.specs.Run.{Contents, Job, form, needed, NewFile, output_paths, Expected, NoForm, Refuses, Writes, expected, after, Replaced}
+use Rattle.ucdshop_core.specs.Writing.{files_of, StoppedAt}
+use Rattle.ucdshop_core.specs.declared.planning.Plan.{Plan}
+use Rattle.ucdshop_core.specs.declared.stop.Stop.{Stop}
+use Rattle.ucdshop_core.specs.declared.stop.Stop.TheVariants.{Refused, ReadFailed}
+use Rattle.ucdshop_core.specs.declared.stop.Stop.TheVariants as stops
+use Rattle.ucdshop_core.specs.declared.status.Status.{Status}
+use Rattle.ucdshop_core.specs.declared.status.Status.TheVariants.{Clean, Done, BadWords, LoadRefused, ReadFault, WriteFault, Memory}
+
+pub record ShelfSeen : Type 0 where
+  pub tells : Bool
+  pub tells_failed : Bool
+  pub old : Contents
+  pub new : Contents
+  pub reads_old : ℕ
+  pub reads_new : ℕ
+  pub writes_old : ℕ
+  pub writes_new : ℕ
+  pub failed : List ℕ
+
+pub record SinkSeen : Type 0 where
+  pub tells : Bool
+  pub old : List ℕ
+  pub new : List ℕ
+  pub faults_old : ℕ
+  pub faults_new : ℕ
+
+abbrev pub sink_seen : Bool → List ℕ → List ℕ → ℕ → ℕ → SinkSeen
+sink_seen tells old new faults_old faults_new = record { tells = tells; old = old; new = new; faults_old = faults_old; faults_new = faults_new }
+
+abbrev pub Unchanged : ShelfSeen → Type 0
+Unchanged shelf = IsTrue shelf.tells → SameContents shelf.old shelf.new
+
+abbrev pub Grew : List ℕ → SinkSeen → Type 0
+Grew line sink = IsTrue sink.tells → sink.new ≡ sink.old ++ line
+
+abbrev pub GrewInPart : List ℕ → SinkSeen → Type 0
+GrewInPart line sink = Rose sink.faults_old sink.faults_new × (IsTrue sink.tells → AddsPrefix line sink.old sink.new)
+
+abbrev pub Told : List ℕ → SinkSeen → Type 0
+Told line sink = Grew line sink ⊎ GrewInPart line sink
+
+-- ---- the words have a form, and everything was written and told
+pub record IsClean (words : List (List ℕ)) (shelf : ShelfSeen) (sink : SinkSeen) : Type 0 where
+  pub job : Job
+  pub formed : form words ≡ Some job
+  pub written : IsTrue shelf.tells → (files : List NewFile) × (expected words shelf.old ≡ Writes files) × Replaced files shelf.old shelf.new
+  pub told : Grew (summary no_counts) sink
+
+-- ---- the words have no form
+pub record IsBadWords (words : List (List ℕ)) (shelf : ShelfSeen) (sink : SinkSeen) : Type 0 where
+  pub unformed : form words ≡ None
+  pub unchanged : Unchanged shelf
+  pub told : Told usage sink
+
+-- ---- a file is refused
+pub record IsRefused (words : List (List ℕ)) (shelf : ShelfSeen) (sink : SinkSeen) : Type 0 where
+  pub job : Job
+  pub formed : form words ≡ Some job
+  pub line : List ℕ
+  pub refused : IsTrue shelf.tells → expected words shelf.old ≡ Refuses line
+  pub unchanged : Unchanged shelf
+  pub told : Told line sink
+
+-- ---- a file could not be read: one that is needed, and the last failed one where that is told
+pub record IsReadFault (words : List (List ℕ)) (shelf : ShelfSeen) (sink : SinkSeen) : Type 0 where
+  pub job : Job
+  pub formed : form words ≡ Some job
+  pub rose : Rose shelf.reads_old shelf.reads_new
+  pub path : List ℕ
+  pub place : ℕ
+  pub needed : slice_get (needed job) place ≡ Some path
+  pub last : IsTrue shelf.tells_failed → path ≡ shelf.failed
+  pub unchanged : Unchanged shelf
+  pub told : Told (read_failed path) sink
+
+-- ---- a file could not be written: the files before it are written, it holds anything or is absent, all else is as before
+pub record IsWriteStopped (words : List (List ℕ)) (job : Job) (shelf : ShelfSeen) (sink : SinkSeen) : Type 0 where
+  pub rose : Rose shelf.writes_old shelf.writes_new
+  pub path : List ℕ
+  pub place : ℕ
+  pub output : slice_get (output_paths job) place ≡ Some path
+  pub written : IsTrue shelf.tells → (files : List NewFile) × (expected words shelf.old ≡ Writes files)
+      × ((other : List ℕ) → other ≢ path → shelf.new other ≡ after (take place files) shelf.old other)
+  pub told : Told (write_failed path) sink
+
+-- ---- all files are written, and the summary could not be told
+pub record IsUntold (words : List (List ℕ)) (shelf : ShelfSeen) (sink : SinkSeen) : Type 0 where
+  pub written : IsTrue shelf.tells → (files : List NewFile) × (expected words shelf.old ≡ Writes files) × Replaced files shelf.old shelf.new
+  pub told : GrewInPart (summary no_counts) sink
+
+pub record IsWriteFault (words : List (List ℕ)) (shelf : ShelfSeen) (sink : SinkSeen) : Type 0 where
+  pub job : Job
+  pub formed : form words ≡ Some job
+  pub cause : IsWriteStopped words job shelf sink ⊎ IsUntold words shelf sink
+
+-- ---- memory was wanted before the first write
+pub record IsMemory (words : List (List ℕ)) (shelf : ShelfSeen) (sink : SinkSeen) : Type 0 where
+  pub job : Job
+  pub formed : form words ≡ Some job
+  pub unchanged : Unchanged shelf
+  pub told : Told out_of_memory sink
+
+abbrev pub Outcome : List (List ℕ) → ShelfSeen → SinkSeen → Status → Type 0
+Outcome words shelf sink Clean = IsClean words shelf sink
+Outcome words shelf sink Done = ⊥
+Outcome words shelf sink BadWords = IsBadWords words shelf sink
+Outcome words shelf sink LoadRefused = IsRefused words shelf sink
+Outcome words shelf sink ReadFault = IsReadFault words shelf sink
+Outcome words shelf sink WriteFault = IsWriteFault words shelf sink
+Outcome words shelf sink Memory = IsMemory words shelf sink
+
+-- ---- parts of a run
+
+-- a run that stopped before it wrote has told its line
+abbrev pub StoppedWith : Stop → SinkSeen → Status → Type 0
+StoppedWith (Refused line) sink status = (status ≡ LoadRefused) × Told line sink
+StoppedWith (ReadFailed line) sink status = (status ≡ ReadFault) × Told line sink
+StoppedWith stops.Memory sink status = (status ≡ Memory) × Told out_of_memory sink
+
+-- the files of the plan are written, or up to the one that failed
+pub record StopsWriting (plan : Plan) (shelf : ShelfSeen) (sink : SinkSeen) : Type 0 where
+  pub rose : Rose shelf.writes_old shelf.writes_new
+  pub line : List ℕ
+  pub written : StoppedAt line plan.outputs.items shelf.tells shelf.old shelf.new
+  pub told : Told line sink
+
+pub record WritesAll (plan : Plan) (shelf : ShelfSeen) : Type 0 where
+  pub written : IsTrue shelf.tells → Replaced (files_of plan.outputs.items) shelf.old shelf.new
+
+abbrev pub Finished : Plan → ShelfSeen → SinkSeen → Status → Type 0
+Finished plan shelf sink Clean = WritesAll plan shelf × Grew plan.summary sink
+Finished plan shelf sink WriteFault = StopsWriting plan shelf sink ⊎ (WritesAll plan shelf × GrewInPart plan.summary sink)
+Finished plan shelf sink _ = ⊥
+
+-- ---- what a caller reads of a status
+
+-- a path that the words need
+abbrev pub IsNeeded : List (List ℕ) → List ℕ → Type 0
+IsNeeded words path = (job : Job) × (form words ≡ Some job) × (place : ℕ) × (slice_get (needed job) place ≡ Some path)
+
+-- a path that the words have written, at this place
+abbrev pub IsOutput : List (List ℕ) → ℕ → List ℕ → Type 0
+IsOutput words place path = (job : Job) × (form words ≡ Some job) × (slice_get (output_paths job) place ≡ Some path)
+
+-- the statuses with which nothing was written
+abbrev pub WritesNothing : Status → Type 0
+WritesNothing BadWords = Unit {0}
+WritesNothing LoadRefused = Unit {0}
+WritesNothing ReadFault = Unit {0}
+WritesNothing Memory = Unit {0}
+WritesNothing _ = ⊥
+
+-- the files before the place are written, its path holds anything or is absent, and every other path holds what it held
+abbrev pub WrittenUpTo : List (List ℕ) → ℕ → List ℕ → Contents → Contents → Type 0
+WrittenUpTo words place path old new = (files : List NewFile) × (expected words old ≡ Writes files)
+    × ((other : List ℕ) → other ≢ path → new other ≡ after (take place files) old other)
+
+-- every file is written, and every other path holds what it held
+abbrev pub WrittenWhole : List (List ℕ) → Contents → Contents → Type 0
+WrittenWhole words old new = (files : List NewFile) × (expected words old ≡ Writes files) × Replaced files old new

@@ -1,0 +1,52 @@
+-- All that a run does before it writes.
+--
+-- LoadedAs view result expected  a result, seen by view, is what was expected; a failed read and want of memory say nothing
+-- OnRefused result P           P of the line, where a file was refused
+-- OnUnread result P            P of the line, where a file could not be read
+-- NamesUnread paths tells failed line  the line names one of the paths, and the last failed one where that is told
+-- HasPlan job rows plan        the plan writes the outputs of the job on these rows, each with the line that names its
+--                              path, and tells the summary
+use Rattle.std.specs.Prelude.{◌≡◌, ◌≤◌, ℕ, List, length, map, IsTrue, Bool, Option, Some, Result, Ok, Err, ⊤, slice_get}
+use Rattle.ucd_model.specs.Facts.{Sources}
+use Rattle.ucdshop_core.specs.Printed.{read_failed, write_failed, summary, no_counts}
+use Rattle.ucdshop_core.specs.Run.{Contents, Job, NewFile, outputs}
+use Rattle.ucdshop_core.specs.Writing.{files_of}
+use Rattle.ucdshop_core.specs.declared.planning.Plan.{Plan}
+use Rattle.ucdshop_core.specs.declared.stop.Stop.{Stop}
+use Rattle.ucdshop_core.specs.declared.stop.Stop.TheVariants.{Refused, ReadFailed, Memory}
+use Rattle.ucdshop_core.specs.declared.writing.Output.{Output}
+
+-- each file has the line that names its path
+abbrev pub HaveLines : List Output → Type 0
+HaveLines outputs = map (λ output. output.fault_line) outputs ≡ map (λ output. write_failed output.path) outputs
+
+pub record HasPlan (job : Job) (rows : Sources) (plan : Plan) : Type 0 where
+  pub files : files_of plan.outputs.items ≡ outputs job rows
+  pub lines : HaveLines plan.outputs.items
+  pub summary : plan.summary ≡ summary no_counts
+
+abbrev pub LoadedAs : {A B : Type 0} → (A → B) → Result A Stop → Result B (List ℕ) → Type 0
+LoadedAs view (Ok rows) expected = expected ≡ Ok (view rows)
+LoadedAs view (Err (Refused line)) expected = expected ≡ Err line
+LoadedAs view (Err (ReadFailed line)) expected = ⊤
+LoadedAs view (Err Memory) expected = ⊤
+
+abbrev pub OnRefused : {A : Type 0} → Result A Stop → (List ℕ → Type 0) → Type 0
+OnRefused (Ok _) P = ⊤
+OnRefused (Err (Refused line)) P = P line
+OnRefused (Err (ReadFailed line)) P = ⊤
+OnRefused (Err Memory) P = ⊤
+
+abbrev pub OnUnread : {A : Type 0} → Result A Stop → (List ℕ → Type 0) → Type 0
+OnUnread (Ok _) P = ⊤
+OnUnread (Err (Refused line)) P = ⊤
+OnUnread (Err (ReadFailed line)) P = P line
+OnUnread (Err Memory) P = ⊤
+
+-- a path that is needed; it is that of the last failed read, where the shelf tells it
+pub record NamesUnread (paths : List (List ℕ)) (tells : Bool) (failed line : List ℕ) : Type 0 where
+  pub path : List ℕ
+  pub place : ℕ
+  pub needed : slice_get paths place ≡ Some path
+  pub told : line ≡ read_failed path
+  pub last : IsTrue tells → path ≡ failed

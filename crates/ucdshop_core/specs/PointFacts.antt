@@ -1,0 +1,43 @@
+-- What is kept of the facts of each code point.
+--
+-- rows_of rows         the rows, file by file; a file that is not read has none
+-- facts_at table c     the facts that the table keeps at a place
+-- ShowsFacts table F   they are those of F, as far as the core properties read them
+use Rattle.std.specs.Prelude.{◌≡◌, ℕ, ◌<◌, Bool, false, List, [], length, slice_index_or}
+use Rattle.ucd_model.specs.Facts.{Sources, Facts}
+use Rattle.ucd_model.specs.Predicates.{has}
+use Rattle.ucd_model.specs.declared.category.Category.TheVariants.{Cn}
+use Rattle.ucd_model.specs.declared.property.Core.{Core}
+use Rattle.ucd_model.specs.declared.property.Flag.{Flag}
+use Rattle.ucd_model.specs.declared.property.Flag.TheVariants.{OtherMath, OtherLowercase, OtherUppercase, OtherAlphabetic}
+use Rattle.ucd_model.specs.declared.files.SourceFile.{SourceFile}
+use Rattle.ucd_model.specs.declared.files.SourceFile.TheVariants.{UnicodeData, PropList}
+use Rattle.ucdshop_core.specs.declared.core_properties.SourceRows.{SourceRows}
+use Rattle.ucdshop_core.specs.declared.core_properties.PointFacts.{PointFacts}
+
+abbrev pub rows_of : SourceRows → Sources
+rows_of rows UnicodeData = rows.data
+rows_of rows PropList = rows.properties
+rows_of rows _ = []
+
+abbrev pub flag_in : PointFacts → ℕ → Flag → Bool
+flag_in table c OtherMath = slice_index_or table.other_math.items c false
+flag_in table c OtherLowercase = slice_index_or table.other_lowercase.items c false
+flag_in table c OtherUppercase = slice_index_or table.other_uppercase.items c false
+flag_in table c OtherAlphabetic = slice_index_or table.other_alphabetic.items c false
+flag_in table c _ = false
+
+abbrev pub facts_at : PointFacts → ℕ → Facts
+facts_at table c = record { category = slice_index_or table.categories.items c Cn; flag = flag_in table c }
+
+-- the place is within each of the lists
+pub record IsInside (table : PointFacts) (place : ℕ) : Type 0 where
+  pub categories : place < length table.categories.items
+  pub other_math : place < length table.other_math.items
+  pub other_alphabetic : place < length table.other_alphabetic.items
+  pub other_lowercase : place < length table.other_lowercase.items
+  pub other_uppercase : place < length table.other_uppercase.items
+
+pub record ShowsFacts (table : PointFacts) (F : ℕ → Facts) (count : ℕ) : Type 0 where
+  pub inside : (c : ℕ) → c < count → IsInside table c
+  pub same : (core : Core) (c : ℕ) → c < count → has core (facts_at table c) ≡ has core (F c)

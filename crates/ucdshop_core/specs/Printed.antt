@@ -1,0 +1,55 @@
+-- The lines that a run prints, each ended by LF.
+--
+-- usage                     of words that have no listed form
+-- refused path line rule    a file is refused: the number of the line, 0 for the file as a whole, and the rule's code
+-- read_failed path          a file could not be read
+-- write_failed path         a file could not be written
+-- out_of_memory             memory was wanted, and there was none
+-- summary counts            how many groups were accepted, commands refused and sets answered, and policies broken
+-- rule_code fault           the code of a rule that a line breaks
+use Rattle.std.specs.Prelude.{ℕ, List, [], ◌∷◌, ◌++◌, codes}
+use Rattle.std.specs.Fmt.{decimal}
+use Rattle.source_rows.specs.declared.fault.RowFault.{RowFault}
+use Rattle.source_rows.specs.declared.fault.RowFault.TheVariants.{G03, G04, G05, G06, G07, G08, G09, G10, G11}
+
+abbrev pub line_end : List ℕ
+line_end = 10 ∷ []
+
+abbrev pub usage : List ℕ
+usage = codes "usage: ucdshop derive DATA OUT" ++ line_end
+
+abbrev pub refused : List ℕ → ℕ → List ℕ → List ℕ
+refused path line rule = codes "refused: " ++ path ++ codes " line " ++ decimal line ++ codes " " ++ rule ++ line_end
+
+abbrev pub read_failed : List ℕ → List ℕ
+read_failed path = codes "read failed: " ++ path ++ line_end
+
+abbrev pub write_failed : List ℕ → List ℕ
+write_failed path = codes "write failed: " ++ path ++ line_end
+
+abbrev pub out_of_memory : List ℕ
+out_of_memory = codes "out of memory" ++ line_end
+
+pub record Counts : Type 0 where
+  pub accepted : ℕ
+  pub refused : ℕ
+  pub answered : ℕ
+  pub broken : ℕ
+
+-- no script was carried out, and no earlier release compared
+abbrev pub no_counts : Counts
+no_counts = record { accepted = 0; refused = 0; answered = 0; broken = 0 }
+
+abbrev pub summary : Counts → List ℕ
+summary counts = codes "ucdshop: " ++ decimal counts.accepted ++ codes " groups accepted, " ++ decimal counts.refused ++ codes " commands refused, " ++ decimal counts.answered ++ codes " sets answered, " ++ decimal counts.broken ++ codes " policy breaks" ++ line_end
+
+abbrev pub rule_code : RowFault → List ℕ
+rule_code G03 = codes "G03"
+rule_code G04 = codes "G04"
+rule_code G05 = codes "G05"
+rule_code G06 = codes "G06"
+rule_code G07 = codes "G07"
+rule_code G08 = codes "G08"
+rule_code G09 = codes "G09"
+rule_code G10 = codes "G10"
+rule_code G11 = codes "G11"

@@ -1,0 +1,126 @@
+-- What a run is to do, by its words and by what the shelf holds.
+--
+-- form words             what the words ask for; None where they have no listed form
+-- needed job             the paths that are read, in order
+-- verdict folder holds   the rows of a release's files, or the line that refuses the first file, in order, that is
+--                        absent, too long or not in the grammar
+-- job_verdict job holds  the verdict on the files that the job reads
+-- outputs job rows       the files that are written, in order: each path with its bytes
+-- expected words holds   NoForm; Refuses line; or Writes files
+-- after files holds      the contents with these files replaced, one after the other
+-- Replaced files old new the new contents are the old ones with these files replaced
+use Rattle.std.specs.Prelude.{◌≡◌, ℕ, Bool, List, [], ◌∷◌, ◌++◌, map, length, Option, Some, None, Result, Ok, Err, if◌then◌else◌, nat_lt, codes}
+use Rattle.std.specs.Str.{bytes_eq}
+use Rattle.ucd_model.specs.Limits.{point_count, file_limit}
+use Rattle.ucd_model.specs.Names.{source_path, derived_path}
+use Rattle.ucd_model.specs.Facts.{Sources, facts}
+use Rattle.ucd_model.specs.DerivedText.{core_text}
+use Rattle.ucd_model.specs.declared.files.SourceFile.{SourceFile}
+use Rattle.ucd_model.specs.declared.files.SourceFile.TheVariants.{UnicodeData, PropList}
+use Rattle.ucd_model.specs.declared.files.DerivedFile.TheVariants.{CoreProperties}
+use Rattle.ucd_model.specs.declared.row.Row.{Row}
+use Rattle.source_rows.specs.Files.{FileFault, rows_or_fault}
+use Rattle.ucdshop_core.specs.Printed.{refused, rule_code}
+
+-- what a shelf holds at each path
+abbrev pub Contents : Type 0
+Contents = List ℕ → Option (List ℕ)
+
+-- ---- the words
+
+-- derive the files of one folder into another
+pub data Job : Type 0 where
+  Derive : (input output : List ℕ) → Job
+
+abbrev pub form : List (List ℕ) → Option Job
+form (word ∷ input ∷ output ∷ []) = if bytes_eq word (codes "derive") then Some (Derive input output) else None
+form _ = None
+
+-- ---- what is read
+
+abbrev pub path_in : List ℕ → List ℕ → List ℕ
+path_in folder path = folder ++ codes "/" ++ path
+
+-- the source files that are read, in their order
+abbrev pub read_files : List SourceFile
+read_files = UnicodeData ∷ PropList ∷ []
+
+abbrev pub source_in : List ℕ → SourceFile → List ℕ
+source_in folder file = path_in folder (source_path file)
+
+abbrev pub needed : Job → List (List ℕ)
+needed (Derive input output) = map (source_in input) read_files
+
+-- ---- the verdict
+
+-- the rows, or the line that names the path, the line and the rule
+abbrev pub told_rows : List ℕ → Result (List Row) FileFault → Result (List Row) (List ℕ)
+told_rows path (Ok rows) = Ok rows
+told_rows path (Err fault) = Err (refused path fault.line (rule_code fault.fault))
+
+-- absent is G01, too long is G02
+unfoldable pub file_rows : List ℕ → SourceFile → Option (List ℕ) → Result (List Row) (List ℕ)
+file_rows path file None = Err (refused path 0 (codes "G01"))
+file_rows path file (Some bytes) = if nat_lt file_limit (length bytes) then Err (refused path 0 (codes "G02")) else told_rows path (rows_or_fault file bytes)
+
+-- the rows of two files; no other file is read
+abbrev pub sources_of : List Row → List Row → Sources
+sources_of units properties UnicodeData = units
+sources_of units properties PropList = properties
+sources_of units properties _ = []
+
+infixl 10 ◌>>=◌
+abbrev pub ◌>>=◌ : {A B : Type 0} → Result A (List ℕ) → (A → Result B (List ℕ)) → Result B (List ℕ)
+(Ok x) >>= f = f x
+(Err e) >>= f = Err e
+
+abbrev pub verdict : List ℕ → Contents → Result Sources (List ℕ)
+verdict folder holds = do
+  units ← file_rows (source_in folder UnicodeData) UnicodeData (holds (source_in folder UnicodeData))
+  properties ← file_rows (source_in folder PropList) PropList (holds (source_in folder PropList))
+  Ok (sources_of units properties)
+
+abbrev pub job_verdict : Job → Contents → Result Sources (List ℕ)
+job_verdict (Derive input output) holds = verdict input holds
+
+-- ---- what is written
+
+pub record NewFile : Type 0 where
+  pub path : List ℕ
+  pub bytes : List ℕ
+
+abbrev pub outputs : Job → Sources → List NewFile
+outputs (Derive input output) rows = (record { path = path_in output (derived_path CoreProperties); bytes = core_text point_count (facts rows) }) ∷ []
+
+-- the paths of the outputs, which the words alone give
+abbrev pub output_paths : Job → List (List ℕ)
+output_paths (Derive input output) = path_in output (derived_path CoreProperties) ∷ []
+
+pub data Expected : Type 0 where
+  NoForm : Expected
+  Refuses : (line : List ℕ) → Expected
+  Writes : (files : List NewFile) → Expected
+
+abbrev pub judged : Job → Result Sources (List ℕ) → Expected
+judged job (Ok rows) = Writes (outputs job rows)
+judged job (Err line) = Refuses line
+
+abbrev pub expected_of : Option Job → Contents → Expected
+expected_of None holds = NoForm
+expected_of (Some job) holds = judged job (job_verdict job holds)
+
+abbrev pub expected : List (List ℕ) → Contents → Expected
+expected words holds = expected_of (form words) holds
+
+-- ---- contents
+
+-- with one file put in its place
+abbrev pub put : NewFile → Contents → Contents
+put file holds path = if bytes_eq file.path path then Some file.bytes else holds path
+
+abbrev pub after : List NewFile → Contents → Contents
+after [] holds = holds
+after (file ∷ files) holds = after files (put file holds)
+
+abbrev pub Replaced : List NewFile → Contents → Contents → Type 0
+Replaced files old new = (path : List ℕ) → new path ≡ after files old path

@@ -1,0 +1,23 @@
+-- Writing the files that a run makes.
+--
+-- files_of outputs                     the files, without their lines
+-- StoppedAt line outputs tells old new at one place, whose line it is; where contents are told, the files before are put in
+--                                      order, the path of that place holds anything or is absent, and every other path
+--                                      holds what it held
+use Rattle.std.specs.Prelude.{◌≡◌, ◌≢◌, ℕ, Bool, IsTrue, List, length, take, map, slice_get, Option, Some}
+use Rattle.ucdshop_core.specs.Run.{Contents, NewFile, after}
+use Rattle.ucdshop_core.specs.declared.writing.Output.{Output}
+
+abbrev pub file_of : Output → NewFile
+file_of output = record { path = output.path; bytes = output.bytes }
+
+abbrev pub files_of : List Output → List NewFile
+files_of outputs = map file_of outputs
+
+pub record StopsAt (place : ℕ) (output : Output) (line : List ℕ) (outputs : List Output) (tells : Bool) (old new : Contents) : Type 0 where
+  pub here : slice_get outputs place ≡ Some output
+  pub told : line ≡ output.fault_line
+  pub others : IsTrue tells → (path : List ℕ) → path ≢ output.path → new path ≡ after (take place (files_of outputs)) old path
+
+abbrev pub StoppedAt : List ℕ → List Output → Bool → Contents → Contents → Type 0
+StoppedAt line outputs tells old new = (place : ℕ) × (output : Output) × StopsAt place output line outputs tells old new

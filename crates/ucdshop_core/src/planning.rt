@@ -1,0 +1,159 @@
+//! All that a run does before it writes.
+
+ghost use Rattle.std.specs.Prelude.{◌≡◌, ◌≤◌, IsTrue, IfOk, length, map, ℕ, List, [], ◌∷◌};
+ghost use Rattle.shelf_io.specs.Contents.{SameContents};
+ghost use Rattle.ucdshop_core.specs.Commands.{job_of};
+ghost use Rattle.ucdshop_core.specs.PointFacts.{rows_of};
+ghost use Rattle.ucdshop_core.specs.Planning.{HasPlan, LoadedAs, OnRefused, OnUnread, NamesUnread};
+ghost use Rattle.ucdshop_core.specs.Reading.{cut};
+ghost use Rattle.shelf_io.specs.Counts.{Rose};
+ghost use Rattle.ucd_model.specs.Facts.{Sources};
+ghost use Rattle.ucdshop_core.specs.Run.{Derive, job_verdict, verdict, needed, path_in, source_in, outputs};
+ghost use Rattle.ucd_model.specs.Names.{source_path, derived_path};
+ghost use Rattle.ucd_model.specs.declared.files.SourceFile.TheVariants.{UnicodeData, PropList};
+
+use crate::command::Command;
+use crate::core_properties::{SourceRows, core_properties};
+use crate::judging::judge;
+use crate::printed::{RunCounts, read_failed, summary, write_failed};
+use crate::reading::{ReadingStop, read_all};
+use crate::stop::Stop;
+use crate::writing::Output;
+use shelf_io::Shelf;
+use std::alloc::Global;
+use ucd_model::{Memory, Text, Texts};
+
+/// What is left to be done: the files to be written, and the summary to be told.
+#[derive(Drop)]
+pub struct Plan {
+    pub outputs: Vec<Output>,
+    pub summary: Text,
+}
+
+/// A path below a folder.
+fn path_in(alloc: Global, folder: &[u8], path: &[u8]) -> Result<Text, Memory>
+    ensures { IfOk result (λ text. text ≡ path_in folder.now path.now) }
+{
+    let mut text = Text::new(alloc);
+    text.append(folder)?;
+    text.append(b"/")?;
+    text.append(path)?;
+    Ok(text)
+}
+
+/// The paths of the source files that are read, in their order.
+fn source_paths(alloc: Global, folder: &[u8]) -> Result<Texts, Memory>
+    ensures { IfOk result (λ paths. paths ≡ source_in folder.now UnicodeData ∷ source_in folder.now PropList ∷ []) }
+{
+    let mut paths = Texts::new(alloc);
+    paths.push(path_in(alloc, folder, b"UnicodeData.txt")?)?;
+    paths.push(path_in(alloc, folder, b"PropList.txt")?)?;
+    Ok(paths)
+}
+
+/// The files that `derive` writes, and its summary.
+fn derive_plan(alloc: Global, output: &[u8], rows: &SourceRows) -> Result<Plan, Memory>
+    ensures { IfOk result (λ plan. (input : List ℕ) → HasPlan (Derive input output.now) (rows_of rows.now) plan) }
+{
+    let path = path_in(alloc, output, b"DerivedCoreProperties.txt")?;
+    let fault_line = write_failed(alloc, path.as_slice())?;
+    let bytes = core_properties(alloc, rows)?;
+    let summary = summary(alloc, NO_COUNTS)?;
+    let mut outputs = Vec::new(alloc);
+    outputs.push(Output {
+        path,
+        bytes,
+        fault_line,
+    })?;
+    Ok(Plan { outputs, summary })
+}
+
+/// The counts of a run without a script and without an earlier release.
+const NO_COUNTS: RunCounts = RunCounts {
+    accepted: 0,
+    refused: 0,
+    answered: 0,
+    broken: 0,
+};
+
+/// What the source files of a folder hold.
+#[derive(Drop)]
+struct Gathered {
+    paths: Texts,
+    held: Vec<Option<Text>>,
+}
+
+/// Reads the source files of a folder.
+fn gather<S: Shelf>(alloc: Global, shelf: &mut S, folder: &[u8]) -> Result<Gathered, Stop>
+    ensures paths { IfOk result (λ gathered. gathered.paths ≡ source_in folder.now UnicodeData ∷ source_in folder.now PropList ∷ []) }
+    ensures len { IfOk result (λ gathered. length gathered.held.items ≡ 2) }
+    ensures held { IsTrue S.tells → IfOk result (λ gathered.
+        gathered.held.items ≡ map (λ path. cut (S.holds shelf.old path)) gathered.paths) }
+    ensures refused { OnRefused result (λ _. ⊥) }
+    ensures unread { OnUnread result (NamesUnread (source_in folder.now UnicodeData ∷ source_in folder.now PropList ∷ [])
+        S.tells_failed (S.last_failed shelf.new)) }
+    ensures unread_only { OnUnread result (λ _. Rose (S.read_faults shelf.old) (S.read_faults shelf.new)) }
+    ensures held_stays { IsTrue S.tells → SameContents (S.holds shelf.old) (S.holds shelf.new) }
+    ensures read_faults_never_fall { S.read_faults shelf.old ≤ S.read_faults shelf.new }
+    ensures write_faults_stay { S.write_faults shelf.new ≡ S.write_faults shelf.old }
+{
+    let paths = source_paths(alloc, folder)?;
+    match read_all(alloc, shelf, paths.as_slice()) {
+        Ok(held) => Ok(Gathered { paths, held }),
+        Err(ReadingStop::FailedAt(at)) => {
+            let line = read_failed(alloc, paths.as_slice()[at].as_slice())?;
+            Err(Stop::ReadFailed(line))
+        }
+        Err(ReadingStop::Memory) => Err(Stop::Memory),
+    }
+}
+
+/// Reads and judges the source files of a folder.
+fn load<S: Shelf>(alloc: Global, shelf: &mut S, folder: &[u8]) -> Result<SourceRows, Stop>
+    ensures rows { IsTrue S.tells → LoadedAs rows_of result (verdict folder.now (S.holds shelf.old)) }
+    ensures unread { OnUnread result (NamesUnread (source_in folder.now UnicodeData ∷ source_in folder.now PropList ∷ [])
+        S.tells_failed (S.last_failed shelf.new)) }
+    ensures unread_only { OnUnread result (λ _. Rose (S.read_faults shelf.old) (S.read_faults shelf.new)) }
+    ensures held_stays { IsTrue S.tells → SameContents (S.holds shelf.old) (S.holds shelf.new) }
+    ensures read_faults_never_fall { S.read_faults shelf.old ≤ S.read_faults shelf.new }
+    ensures write_faults_stay { S.write_faults shelf.new ≡ S.write_faults shelf.old }
+{
+    let gathered = gather(alloc, shelf, folder)?;
+    judge(alloc, gathered.paths.as_slice(), gathered.held.as_slice())
+}
+
+/// Reads and judges the source files of a folder, and makes the files that are derived from them, and the summary.
+fn derive<S: Shelf>(alloc: Global, input: &[u8], output: &[u8], shelf: &mut S) -> Result<Plan, Stop>
+    ensures planned { IfOk result (λ plan. (rows : Sources) × HasPlan (Derive input.now output.now) rows plan
+        × (IsTrue S.tells → verdict input.now (S.holds shelf.old) ≡ Ok rows)) }
+    ensures room { IfOk result (λ plan. length plan.outputs.items ≤ S.spare shelf.new) }
+    ensures refused { IsTrue S.tells → OnRefused result (λ line. verdict input.now (S.holds shelf.old) ≡ Err line) }
+    ensures unread { OnUnread result (NamesUnread (needed (Derive input.now output.now)) S.tells_failed (S.last_failed shelf.new)) }
+    ensures unread_only { OnUnread result (λ _. Rose (S.read_faults shelf.old) (S.read_faults shelf.new)) }
+    ensures held_stays { IsTrue S.tells → SameContents (S.holds shelf.old) (S.holds shelf.new) }
+    ensures read_faults_never_fall { S.read_faults shelf.old ≤ S.read_faults shelf.new }
+    ensures write_faults_stay { S.write_faults shelf.new ≡ S.write_faults shelf.old }
+{
+    let rows = load(alloc, shelf, input)?;
+    let plan = derive_plan(alloc, output, &rows)?;
+    shelf.room(plan.outputs.len())?;
+    Ok(plan)
+}
+
+/// Does all of a command that comes before the first write.
+pub fn prepare<S: Shelf>(alloc: Global, command: Command<'_>, shelf: &mut S) -> Result<Plan, Stop>
+    ensures planned { IfOk result (λ plan. (rows : Sources) × HasPlan (job_of command.entry) rows plan
+        × (IsTrue S.tells → job_verdict (job_of command.entry) (S.holds shelf.old) ≡ Ok rows)) }
+    ensures room { IfOk result (λ plan. length plan.outputs.items ≤ S.spare shelf.new) }
+    ensures refused { IsTrue S.tells →
+        OnRefused result (λ line. job_verdict (job_of command.entry) (S.holds shelf.old) ≡ Err line) }
+    ensures unread { OnUnread result (NamesUnread (needed (job_of command.entry)) S.tells_failed (S.last_failed shelf.new)) }
+    ensures unread_only { OnUnread result (λ _. Rose (S.read_faults shelf.old) (S.read_faults shelf.new)) }
+    ensures held_stays { IsTrue S.tells → SameContents (S.holds shelf.old) (S.holds shelf.new) }
+    ensures read_faults_never_fall { S.read_faults shelf.old ≤ S.read_faults shelf.new }
+    ensures write_faults_stay { S.write_faults shelf.new ≡ S.write_faults shelf.old }
+{
+    match command {
+        Command::Derive { input, output } => derive(alloc, input, output, shelf),
+    }
+}

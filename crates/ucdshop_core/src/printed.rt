@@ -1,0 +1,107 @@
+//! The lines that a run prints.
+
+ghost use Rattle.std.specs.Prelude.{◌≡◌, ◌++◌, IfOk, OnOk, codes};
+ghost use Rattle.ucdshop_core.specs.Printed.{Counts, line_end, refused, read_failed, write_failed, rule_code, summary};
+ghost use Rattle.std.specs.Fmt.{decimal};
+
+use crate::section::put_decimal;
+use source_rows::RowFault;
+use std::alloc::Global;
+use ucd_model::{Memory, Text};
+
+/// The line for words that have no listed form.
+pub const USAGE: &[u8] = b"usage: ucdshop derive DATA OUT\n";
+
+/// The line for want of memory.
+pub const OUT_OF_MEMORY: &[u8] = b"out of memory\n";
+
+/// What a run counts for its summary.
+#[derive(Clone, Copy, Debug, PartialEq, Eq)]
+pub struct RunCounts {
+    pub accepted: usize,
+    pub refused: usize,
+    pub answered: usize,
+    pub broken: usize,
+}
+
+/// The line that refuses a file: its path, the number of the line, and the rule's code.
+pub fn refused(alloc: Global, path: &[u8], line: usize, rule: &[u8]) -> Result<Text, Memory>
+    ensures { IfOk result (λ text. text ≡ refused path.now line rule.now) }
+{
+    let mut text = Text::new(alloc);
+    text.append(b"refused: ")?;
+    text.append(path)?;
+    text.append(b" line ")?;
+    put_decimal(alloc, &mut text, line)?;
+    put_rule(&mut text, rule)?;
+    Ok(text)
+}
+
+/// Puts a rule's code and the end of the line.
+fn put_rule(text: &mut Text, rule: &[u8]) -> Result<(), Memory>
+    ensures { OnOk result (text.new ≡ text.old ++ codes " " ++ rule.now ++ line_end) }
+{
+    text.append(b" ")?;
+    text.append(rule)?;
+    text.append(b"\n")
+}
+
+/// The line for a file that could not be read.
+pub fn read_failed(alloc: Global, path: &[u8]) -> Result<Text, Memory>
+    ensures { IfOk result (λ text. text ≡ read_failed path.now) }
+{
+    let mut text = Text::new(alloc);
+    text.append(b"read failed: ")?;
+    text.append(path)?;
+    text.append(b"\n")?;
+    Ok(text)
+}
+
+/// The line for a file that could not be written.
+pub fn write_failed(alloc: Global, path: &[u8]) -> Result<Text, Memory>
+    ensures { IfOk result (λ text. text ≡ write_failed path.now) }
+{
+    let mut text = Text::new(alloc);
+    text.append(b"write failed: ")?;
+    text.append(path)?;
+    text.append(b"\n")?;
+    Ok(text)
+}
+
+/// The line of a run that wrote all files.
+pub fn summary(alloc: Global, counts: RunCounts) -> Result<Text, Memory>
+    ensures { IfOk result (λ text. text ≡ summary (record { accepted = counts.accepted; refused = counts.refused; answered = counts.answered; broken = counts.broken })) }
+{
+    let mut text = Text::new(alloc);
+    text.append(b"ucdshop: ")?;
+    put_count(alloc, &mut text, counts.accepted, b" groups accepted, ")?;
+    put_count(alloc, &mut text, counts.refused, b" commands refused, ")?;
+    put_count(alloc, &mut text, counts.answered, b" sets answered, ")?;
+    put_count(alloc, &mut text, counts.broken, b" policy breaks\n")?;
+    Ok(text)
+}
+
+/// Puts a number and what it counts.
+fn put_count(alloc: Global, text: &mut Text, count: usize, what: &[u8]) -> Result<(), Memory>
+    ensures { OnOk result (text.new ≡ text.old ++ decimal count ++ what.now) }
+{
+    put_decimal(alloc, text, count)?;
+    text.append(what)
+}
+
+/// The code of a rule that a line breaks.
+pub fn rule_code(fault: RowFault) -> &'static [u8]
+    ensures { result.now ≡ rule_code fault }
+{
+    match fault {
+        RowFault::G03 => b"G03",
+        RowFault::G04 => b"G04",
+        RowFault::G05 => b"G05",
+        RowFault::G06 => b"G06",
+        RowFault::G07 => b"G07",
+        RowFault::G08 => b"G08",
+        RowFault::G09 => b"G09",
+        RowFault::G10 => b"G10",
+        RowFault::G11 => b"G11",
+    }
+}

@@ -1,0 +1,26 @@
+//! Why a run stops before it writes.
+
+ghost use Rattle.std.specs.Prelude.{◌≡◌};
+
+use ucd_model::{Memory, Text};
+
+/// Why a run stops before it writes anything, with the line that it then prints.
+#[derive(Debug, Drop)]
+pub enum Stop {
+    /// A file is absent, too long, or breaks a rule.
+    Refused(Text),
+    /// A file could not be read.
+    ReadFailed(Text),
+    /// Memory was wanted, and there was none.
+    Memory,
+}
+
+impl From<Memory> for Stop {
+    ghost use Rattle.ucdshop_core.specs.declared.stop.Stop.TheVariants.{Memory};
+
+    ghost from_gives = { λ _ e. e ≡ Memory };
+
+    fn from(_e: Memory) -> Stop {
+        Stop::Memory
+    }
+}

@@ -9,3 +9,7 @@ pub mod Predicates
 pub mod Labels
 pub mod DerivedText
 pub mod LabelLemmas
+pub mod LabelLaws
+pub mod LabelLawProofs
+pub mod HexTextLaws
+pub mod HexTextProofs

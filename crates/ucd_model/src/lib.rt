@@ -4,6 +4,7 @@
 mod category;
 mod decomposition;
 mod files;
+pub mod laws;
 mod list;
 mod memory;
 mod point;

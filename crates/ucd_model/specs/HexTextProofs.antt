@@ -1,0 +1,125 @@
+-- Proofs of the laws of the text of code points.
+use Rattle.std.proofs.Common.{◌≡◌, ◌≢◌, ℕ, zero, suc, ◌+◌, ◌-◌, ◌*◌, ◌/◌, ◌%◌, ◌^◌, ◌<◌, ◌≤◌, Bool, true, false, cond, ◌&&◌, List, [], ◌∷◌, ◌++◌, length, get_or, Option, Some, None, refl, sym, ap, subst, ◌∙◌, arith, ◌⊎◌, inl, inr, slice_get, nat_lt, nat_le, if◌then◌else◌, fold}
+use Rattle.std.specs.List.{All, AllByRecursion}
+use Rattle.std.proofs.lemmas.List.Elements.{All-from_recursion}
+use Rattle.std.proofs.lemmas.Option.{same_Some}
+use Rattle.std.proofs.lemmas.Bool.{cases_lt, lt-ltb, le-ltb, le-leb, lt-leb}
+use Rattle.std.proofs.lemmas.Nat.{mod_below}
+use Rattle.ucd_model.specs.Fields.{digit_of, with_digit, hex_number, if_point, point_of}
+use Rattle.ucd_model.specs.DerivedText.{hex_digit, four_digits, hex_text}
+use Rattle.ucd_model.specs.HexTextLaws.{HexTextHasFourToSixDigits, HexTextHasNoSpareDigit, HexTextIsUpperCase, HexTextSpellsItsNumber, HexTextSpellsItsPoint}
+
+-- ---- one digit
+
+abbrev pub IsUpperHex : ℕ → Type 0
+IsUpperHex b = ((48 ≤ b) × (b ≤ 57)) ⊎ ((65 ≤ b) × (b ≤ 70))
+
+hex_digit-low : (d : ℕ) → d < 10 → hex_digit d ≡ 48 + d
+hex_digit-low d h = rw (lt-ltb d 10 h) refl
+
+hex_digit-high : (d : ℕ) → 10 ≤ d → hex_digit d ≡ 55 + d
+hex_digit-high d h = rw (le-ltb d 10 h) refl
+
+hex_digit-upper : (d : ℕ) → d < 16 → IsUpperHex (hex_digit d)
+hex_digit-upper d h = elim (cases_lt d 10) [
+  | inl lt ↦ let e = hex_digit-low d lt in inl ((omega arith), (omega arith))
+  | inr ge ↦ let e = hex_digit-high d ge in inr ((omega arith), (omega arith))
+]
+
+hex_digit-zero : (d : ℕ) → hex_digit d ≡ 48 → d ≡ 0
+hex_digit-zero d h = elim (cases_lt d 10) [
+  | inl lt ↦ let e = hex_digit-low d lt in omega arith
+  | inr ge ↦ let e = hex_digit-high d ge in omega arith
+]
+
+digit_of-low : (b : ℕ) → 48 ≤ b → b ≤ 57 → digit_of b ≡ Some (b - 48)
+digit_of-low b low high = rw (le-leb 48 b low, le-leb b 57 high) refl
+
+digit_of-high : (b : ℕ) → 65 ≤ b → b ≤ 70 → digit_of b ≡ Some (b - 55)
+digit_of-high b low high =
+    let a : nat_le 48 b ≡ true = le-leb 48 b (omega arith) in
+    let c : nat_le b 57 ≡ false = lt-leb b 57 (omega arith) in
+    rw (a, c, le-leb 65 b low, le-leb b 70 high) refl
+
+digit_read : (d : ℕ) → d < 16 → digit_of (hex_digit d) ≡ Some d
+digit_read d h = elim (cases_lt d 10) [
+  | inl lt ↦ let e = hex_digit-low d lt in digit_of-low (hex_digit d) (omega arith) (omega arith) ∙ ap Some (omega arith)
+  | inr ge ↦ let e = hex_digit-high d ge in digit_of-high (hex_digit d) (omega arith) (omega arith) ∙ ap Some (omega arith)
+]
+
+below_16 : (n : ℕ) → n % 16 < 16
+below_16 n = mod_below n 16 (omega arith)
+
+-- ---- the texts by length
+
+four_of : (c : ℕ) → c < 65536 → hex_text c ≡ four_digits c
+unfolding hex_text
+four_of c h = rw (lt-ltb c 65536 h) refl
+
+five_of : (c : ℕ) → 65536 ≤ c → c < 1048576 → hex_text c ≡ hex_digit (c / 65536 % 16) ∷ four_digits c
+unfolding hex_text
+five_of c low h = rw (le-ltb c 65536 low, lt-ltb c 1048576 h) refl
+
+six_of : (c : ℕ) → 1048576 ≤ c → hex_text c ≡ hex_digit (c / 1048576 % 16) ∷ hex_digit (c / 65536 % 16) ∷ four_digits c
+unfolding hex_text
+six_of c low =
+    let more : 65536 ≤ c = omega arith in
+    rw (le-ltb c 65536 more, le-ltb c 1048576 low) refl
+
+-- a fact of the three forms is one of the text
+by_length : (P : List ℕ → Type 0) (c : ℕ) → (c < 65536 → P (four_digits c)) → (65536 ≤ c → c < 1048576 → P (hex_digit (c / 65536 % 16) ∷ four_digits c))
+    → (1048576 ≤ c → P (hex_digit (c / 1048576 % 16) ∷ hex_digit (c / 65536 % 16) ∷ four_digits c)) → P (hex_text c)
+by_length P c four five six = elim (cases_lt c 65536) [
+  | inl lt ↦ subst P (sym (four_of c lt)) (four lt)
+  | inr ge ↦ elim (cases_lt c 1048576) [
+    | inl lt ↦ subst P (sym (five_of c ge lt)) (five ge lt)
+    | inr more ↦ subst P (sym (six_of c more)) (six more)
+  ]
+]
+
+-- ---- the laws
+
+pub hex_text_has_four_to_six_digits : HexTextHasFourToSixDigits
+hex_text_has_four_to_six_digits c = by_length (λ bs. (4 ≤ length bs) × (length bs ≤ 6)) c (λ _. ((omega arith), (omega arith))) (λ _ _. ((omega arith), (omega arith))) (λ _. ((omega arith), (omega arith)))
+
+pub hex_text_has_no_spare_digit : HexTextHasNoSpareDigit
+hex_text_has_no_spare_digit c h = by_length (λ bs. 4 < length bs → slice_get bs 0 ≢ Some 48) c
+    (λ _ long. absurd (omega arith))
+    (λ low high long same. let none : c / 65536 % 16 ≡ 0 = hex_digit-zero (c / 65536 % 16) (same_Some (hex_digit (c / 65536 % 16)) 48 same) in absurd (omega arith))
+    (λ low long same. let none : c / 1048576 % 16 ≡ 0 = hex_digit-zero (c / 1048576 % 16) (same_Some (hex_digit (c / 1048576 % 16)) 48 same) in absurd (omega arith))
+
+digit_upper : (k : ℕ) → IsUpperHex (hex_digit (k % 16))
+digit_upper k = hex_digit-upper (k % 16) (below_16 k)
+
+four_upper : (c : ℕ) → AllByRecursion IsUpperHex (four_digits c)
+four_upper c = (digit_upper (c / 4096), (digit_upper (c / 256), (digit_upper (c / 16), (digit_upper c, tt))))
+
+pub hex_text_is_upper_case : HexTextIsUpperCase
+hex_text_is_upper_case c = All-from_recursion IsUpperHex (hex_text c) (by_length (λ bs. AllByRecursion IsUpperHex bs) c (λ _. four_upper c) (λ _ _. (digit_upper (c / 65536), four_upper c))
+    (λ _. (digit_upper (c / 1048576), (digit_upper (c / 65536), four_upper c))))
+
+-- the number that is written on by one more digit
+one_more : (n d : ℕ) → d < 16 → with_digit (Some n) (digit_of (hex_digit d)) ≡ Some (16 * n + d)
+one_more n d h = rw (digit_read d h) refl
+
+four_more : (n c : ℕ) → fold (λ n b. with_digit n (digit_of b)) (Some n) (four_digits c) ≡ Some (16 * (16 * (16 * (16 * n + c / 4096 % 16) + c / 256 % 16) + c / 16 % 16) + c % 16)
+four_more n c = rw (one_more n (c / 4096 % 16) (below_16 (c / 4096)), one_more (16 * n + c / 4096 % 16) (c / 256 % 16) (below_16 (c / 256)), one_more (16 * (16 * n + c / 4096 % 16) + c / 256 % 16) (c / 16 % 16) (below_16 (c / 16)), one_more (16 * (16 * (16 * n + c / 4096 % 16) + c / 256 % 16) + c / 16 % 16) (c % 16) (below_16 c)) refl
+
+four_worth : (n c : ℕ) → n ≡ c / 65536 → 16 * (16 * (16 * (16 * n + c / 4096 % 16) + c / 256 % 16) + c / 16 % 16) + c % 16 ≡ c
+four_worth n c h = omega arith
+
+pub hex_text_spells_its_number : HexTextSpellsItsNumber
+hex_text_spells_its_number c h = by_length (λ bs. hex_number bs ≡ Some c) c
+    (λ lt. four_more 0 c ∙ ap Some (four_worth 0 c (omega arith)))
+    (λ low lt. ap (λ o. fold (λ n b. with_digit n (digit_of b)) o (four_digits c)) (one_more 0 (c / 65536 % 16) (below_16 (c / 65536)))
+    ∙ four_more (16 * 0 + c / 65536 % 16) c ∙ ap Some (four_worth (16 * 0 + c / 65536 % 16) c (omega arith)))
+    (λ low. ap (λ o. fold (λ n b. with_digit n (digit_of b)) (with_digit o (digit_of (hex_digit (c / 65536 % 16)))) (four_digits c)) (one_more 0 (c / 1048576 % 16) (below_16 (c / 1048576)))
+    ∙ ap (λ o. fold (λ n b. with_digit n (digit_of b)) o (four_digits c)) (one_more (16 * 0 + c / 1048576 % 16) (c / 65536 % 16) (below_16 (c / 65536)))
+    ∙ four_more (16 * (16 * 0 + c / 1048576 % 16) + c / 65536 % 16) c ∙ ap Some (four_worth (16 * (16 * 0 + c / 1048576 % 16) + c / 65536 % 16) c (omega arith)))
+
+pub hex_text_spells_its_point : HexTextSpellsItsPoint
+unfolding point_of
+hex_text_spells_its_point c h =
+    let number : hex_number (hex_text c) ≡ Some c = hex_text_spells_its_number c (omega arith) in
+    let (least, most) = hex_text_has_four_to_six_digits c in
+    rw (le-leb 4 (length (hex_text c)) least, le-leb (length (hex_text c)) 6 most, number, lt-ltb c 1114112 h) refl

@@ -1,11 +1,11 @@
 -- Proofs of the laws of the text of code points.
-use Rattle.std.proofs.Common.{◌≡◌, ◌≢◌, ℕ, zero, suc, ◌+◌, ◌-◌, ◌*◌, ◌/◌, ◌%◌, ◌^◌, ◌<◌, ◌≤◌, Bool, true, false, cond, ◌&&◌, List, [], ◌∷◌, ◌++◌, length, get_or, Option, Some, None, refl, sym, ap, subst, ◌∙◌, arith, ◌⊎◌, inl, inr, slice_get, nat_lt, nat_le, if◌then◌else◌, fold}
-use Rattle.std.specs.List.{All, AllByRecursion}
+use Rattle.std.proofs.Common.{◌≡◌, ◌≢◌, ℕ, ◌+◌, ◌-◌, ◌*◌, ◌/◌, ◌%◌, ◌<◌, ◌≤◌, true, false, List, ◌∷◌, length, Some, refl, sym, ap, subst, ◌∙◌, arith, ◌⊎◌, inl, inr, slice_get, nat_le, fold}
+use Rattle.std.specs.List.{AllByRecursion}
 use Rattle.std.proofs.lemmas.List.Elements.{All-from_recursion}
 use Rattle.std.proofs.lemmas.Option.{same_Some}
 use Rattle.std.proofs.lemmas.Bool.{cases_lt, lt-ltb, le-ltb, le-leb, lt-leb}
 use Rattle.std.proofs.lemmas.Nat.{mod_below}
-use Rattle.ucd_model.specs.Fields.{digit_of, with_digit, hex_number, if_point, point_of}
+use Rattle.ucd_model.specs.Fields.{digit_of, with_digit, hex_number, point_of}
 use Rattle.ucd_model.specs.DerivedText.{hex_digit, four_digits, hex_text}
 use Rattle.ucd_model.specs.HexTextLaws.{HexTextHasFourToSixDigits, HexTextHasNoSpareDigit, HexTextIsUpperCase, HexTextSpellsItsNumber, HexTextSpellsItsPoint}
 

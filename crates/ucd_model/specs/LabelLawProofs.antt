@@ -2,7 +2,7 @@
 --
 -- starts n f        the numbers below n at which a span begins
 -- IsStart n f i c   the span at place i begins at c
-use Rattle.std.proofs.Common.{◌≡◌, ◌≢◌, ℕ, zero, suc, ◌+◌, ◌-◌, ◌<◌, ◌≤◌, Bool, true, false, cond, ◌&&◌, not, List, [], ◌∷◌, ◌++◌, length, get_or, map, filter, Option, Some, None, is_some, IsSome, unwrap_or, sum_by, refl, sym, ap, subst, ◌∙◌, arith, ◌⊎◌, inl, inr, slice_get}
+use Rattle.std.proofs.Common.{◌≡◌, ◌≢◌, ℕ, zero, suc, ◌+◌, ◌-◌, ◌<◌, ◌≤◌, Bool, true, false, cond, not, List, [], ◌∷◌, ◌++◌, length, get_or, filter, Option, Some, None, is_some, IsSome, unwrap_or, sum_by, refl, sym, ap, subst, ◌∙◌, arith, inl, inr, slice_get}
 use Rattle.std.specs.List.{range_with_len, prefix_len, All, AllPairs}
 use Rattle.std.specs.List.Sorted.{IsStrictlyIncreasing}
 use Rattle.std.specs.Option.{option_map}
@@ -11,10 +11,9 @@ use Rattle.std.proofs.lemmas.List.Sums.{prefix_len-le-length, prefix_len_passes,
 use Rattle.std.proofs.lemmas.List.Elements.{All-filter, filter_passes, All-from_get_or}
 use Rattle.std.proofs.lemmas.List.Kept.{AllPairs-from_increasing, AllPairs-filter}
 use Rattle.std.proofs.lemmas.Option.{slice_get-map, slice_get-get_or, slice_get_within, get_or_from_slice_get, same_Some}
-use Rattle.std.proofs.lemmas.Bool.{cases_lt, cases_order, cases_Bool, and_parts, not-true, and_from, true≢false, both_ways}
+use Rattle.std.proofs.lemmas.Bool.{cases_lt, cases_order, cases_Bool, and_parts, not-true, and_from, both_ways}
 use Rattle.std.proofs.lemmas.Slice.Eq.{bytes_eq-Decides}
-use Rattle.ucd_model.specs.Bounds.{Bounds}
-use Rattle.ucd_model.specs.Labels.{Label, same_label, begins, span_end, LabelSpan, span_from, label_spans, labelled}
+use Rattle.ucd_model.specs.Labels.{Label, same_label, begins, span_end, LabelSpan, span_from}
 use Rattle.ucd_model.specs.LabelLemmas.{same_label-true, IsRun, spans_before, labelled_before, run_plain, run_labelled}
 use Rattle.ucd_model.specs.LabelLaws.{IsSpanAt, Covers, span_length, SpansLieBelow, SpansHaveOneLabel, SpansAreMaximal, SpansAscend, SpansDoNotTouch, SpansAreDisjoint, LabelledLieInASpan, OthersLieInNoSpan, LabelledIsTheirLength}
 

@@ -13,3 +13,4 @@ pub mod LabelLaws
 pub mod LabelLawProofs
 pub mod HexTextLaws
 pub mod HexTextProofs
+pub mod Examples

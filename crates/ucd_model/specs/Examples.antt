@@ -1,0 +1,180 @@
+-- What the definitions give at small examples. The lines and properties are those of the Unicode Character Database,
+-- the others are worked out by hand.
+--
+-- between lo hi      the span from lo to hi
+-- properties k flag  the core properties of a point with the category k and these flags
+-- none               no flag; is_other_math and so on: that flag alone
+-- two_rows           a release of two rows: 002B has the category Sm, and 002B..10FFFF are Other_Math
+-- sample             a label function: 1 and 2 have the label ` ; x`, and 3 and 5 have ` ; y`
+use Rattle.std.proofs.Common.{◌≡◌, ℕ, Bool, true, false, List, [], ◌∷◌, Some, None, get_or, filter, refl, codes}
+use Rattle.std.specs.Fmt.{digits}
+use Rattle.ucd_model.specs.Bounds.{Bounds}
+use Rattle.ucd_model.specs.Limits.{point_count}
+use Rattle.ucd_model.specs.Names.{category_of}
+use Rattle.ucd_model.specs.Lines.{contents, is_trivia}
+use Rattle.ucd_model.specs.Fields.{fields, point_of, span_of, is_name, is_label_closed_by, is_range_name}
+use Rattle.ucd_model.specs.Grammar.{unread}
+use Rattle.ucd_model.specs.Facts.{Sources, facts, unassigned}
+use Rattle.ucd_model.specs.Predicates.{has, core_sections}
+use Rattle.ucd_model.specs.Labels.{Label, LabelSpan, label_spans, labelled}
+use Rattle.ucd_model.specs.DerivedText.{hex_text, span_text, section_text, core_section}
+use Rattle.ucd_model.specs.declared.category.Category.{Category}
+use Rattle.ucd_model.specs.declared.category.Category.TheVariants.{Lu, Lt, Lm, Nl, Mn, Sm, Cn}
+use Rattle.ucd_model.specs.declared.property.Flag.{Flag}
+use Rattle.ucd_model.specs.declared.property.Flag.TheVariants.{OtherMath, OtherLowercase, OtherUppercase, OtherAlphabetic}
+use Rattle.ucd_model.specs.declared.property.Core.{Core}
+use Rattle.ucd_model.specs.declared.property.Core.TheVariants.{Math, Alphabetic, Lowercase, Uppercase}
+use Rattle.ucd_model.specs.declared.files.SourceFile.TheVariants.{UnicodeData, PropList}
+use Rattle.ucd_model.specs.declared.row.Row.TheVariants.{Unit as DataLine, Value as ValueLine}
+
+abbrev between : ℕ → ℕ → Bounds
+between lo hi = record { lo = lo; hi = hi }
+
+-- ---- lines
+
+contents_examples : (contents (codes "a\r\nb\rc\n\nd") ≡ codes "a" ∷ codes "b\rc" ∷ [] ∷ codes "d" ∷ [])
+    × (contents [] ≡ [])
+    × (contents (codes "a\n") ≡ codes "a" ∷ [])
+    × (contents (codes "\r\n\r") ≡ [] ∷ codes "\r" ∷ [])
+unfolding contents
+contents_examples = (refl, refl, refl, refl)
+
+trivia_examples : (is_trivia [] ≡ true)
+    × (is_trivia (codes "  # x") ≡ true)
+    × (is_trivia (codes "\t ") ≡ true)
+    × (is_trivia (codes "x #") ≡ false)
+trivia_examples = (refl, refl, refl, refl)
+
+-- ---- fields
+
+fields_examples : (fields PropList (codes "005E          ; Other_Math # Sk       CIRCUMFLEX ACCENT") ≡ codes "005E" ∷ codes "Other_Math" ∷ [])
+    × (fields UnicodeData (codes "0023;a # b; Po ;0") ≡ codes "0023" ∷ codes "a # b" ∷ codes "Po" ∷ codes "0" ∷ [])
+    × (fields UnicodeData (codes ";") ≡ [] ∷ [] ∷ [])
+unfolding fields
+fields_examples = (refl, refl, refl)
+
+point_examples : (point_of (codes "0041") ≡ Some 0x41)
+    × (point_of (codes "00e9") ≡ Some 0xE9)
+    × (point_of (codes "10FFFF") ≡ Some 0x10FFFF)
+    × (point_of (codes "110000") ≡ None)
+    × (point_of (codes "041") ≡ None)
+    × (point_of (codes "0000041") ≡ None)
+    × (point_of (codes "00g1") ≡ None)
+unfolding point_of
+point_examples = (refl, refl, refl, refl, refl, refl, refl)
+
+span_examples : (span_of (codes "0041..005A") ≡ Some (between 0x41 0x5A))
+    × (span_of (codes "0041") ≡ Some (between 0x41 0x41))
+    × (span_of (codes "005A..0041") ≡ None)
+    × (span_of (codes "0041.") ≡ None)
+    × (span_of (codes "0041..") ≡ None)
+    × (span_of (codes "0041...0042") ≡ None)
+unfolding span_of point_of
+span_examples = (refl, refl, refl, refl, refl, refl)
+
+name_examples : (is_name (codes "LATIN CAPITAL LETTER A") ≡ true)
+    × (is_name [] ≡ false)
+    × (is_name (codes "a;b") ≡ false)
+    × (is_name (195 ∷ 169 ∷ []) ≡ false)
+name_examples = (refl, refl, refl, refl)
+
+range_name_examples : (is_range_name (codes "<CJK Ideograph, First>") ≡ true)
+    × (is_range_name (codes "<CJK Ideograph, Last>") ≡ true)
+    × (is_range_name (codes "<, First>") ≡ false)
+    × (is_range_name (codes "<control>") ≡ false)
+unfolding is_label_closed_by
+range_name_examples = (refl, refl, refl, refl)
+
+category_examples : (category_of (codes "Lu") ≡ Some Lu)
+    × (category_of (codes "Cn") ≡ None)
+    × (category_of (codes "lu") ≡ None)
+    × (category_of (codes "L") ≡ None)
+category_examples = (refl, refl, refl, refl)
+
+-- ---- facts and properties
+
+abbrev is_other_math : Flag → Bool
+is_other_math OtherMath = true
+is_other_math _ = false
+
+abbrev is_other_lowercase : Flag → Bool
+is_other_lowercase OtherLowercase = true
+is_other_lowercase _ = false
+
+abbrev is_other_uppercase : Flag → Bool
+is_other_uppercase OtherUppercase = true
+is_other_uppercase _ = false
+
+abbrev is_other_alphabetic : Flag → Bool
+is_other_alphabetic OtherAlphabetic = true
+is_other_alphabetic _ = false
+
+abbrev none : Flag → Bool
+none _ = false
+
+abbrev properties : Category → (Flag → Bool) → List Core
+properties category flag = filter (λ core. has core (record { category = category; flag = flag })) core_sections
+
+-- in this order: 002B, 0041, 01C5, 02B0, 2160, 0300, 05B0, and a point without a row
+property_examples : (properties Sm none ≡ Math ∷ [])
+    × (properties Lu none ≡ Alphabetic ∷ Uppercase ∷ [])
+    × (properties Lt none ≡ Alphabetic ∷ [])
+    × (properties Lm is_other_lowercase ≡ Alphabetic ∷ Lowercase ∷ [])
+    × (properties Nl is_other_uppercase ≡ Alphabetic ∷ Uppercase ∷ [])
+    × (properties Mn none ≡ [])
+    × (properties Mn is_other_alphabetic ≡ Alphabetic ∷ [])
+    × (properties Cn none ≡ [])
+property_examples = (refl, refl, refl, refl, refl, refl, refl, refl)
+
+abbrev two_rows : Sources
+two_rows UnicodeData = DataLine (unread (between 0x2B 0x2B) Sm) ∷ []
+two_rows PropList = ValueLine (record { span = between 0x2B 0x10FFFF; value = codes "Other_Math" }) ∷ []
+two_rows _ = []
+
+facts_examples : ((facts two_rows 0x2B).category ≡ Sm)
+    × ((facts two_rows 0x2B).flag OtherMath ≡ true)
+    × ((facts two_rows 0x2B).flag OtherLowercase ≡ false)
+    × ((facts two_rows 0x2A).category ≡ Cn)
+    × ((facts two_rows 0x2A).flag OtherMath ≡ false)
+    × ((facts two_rows 0x2C).category ≡ Cn)
+    × ((facts two_rows 0x10FFFF).flag OtherMath ≡ true)
+    × (facts two_rows 0x110000 ≡ unassigned)
+unfolding facts point_count
+facts_examples = (refl, refl, refl, refl, refl, refl, refl, refl)
+
+-- ---- spans and their text
+
+abbrev sample : ℕ → Label
+sample c = get_or (None ∷ Some (codes " ; x") ∷ Some (codes " ; x") ∷ Some (codes " ; y") ∷ None ∷ Some (codes " ; y") ∷ []) c None
+
+abbrev labelled_by : List ℕ → ℕ → ℕ → LabelSpan
+labelled_by label lo hi = record { bounds = between lo hi; label = label }
+
+label_examples : (label_spans 6 sample ≡ labelled_by (codes " ; x") 1 2 ∷ labelled_by (codes " ; y") 3 3 ∷ labelled_by (codes " ; y") 5 5 ∷ [])
+    × (label_spans 2 sample ≡ labelled_by (codes " ; x") 1 1 ∷ [])
+    × (labelled 6 sample ≡ 4)
+label_examples = (refl, refl, refl)
+
+hex_examples : (hex_text 0 ≡ codes "0000")
+    × (hex_text 0xE9 ≡ codes "00E9")
+    × (hex_text 0xFFFF ≡ codes "FFFF")
+    × (hex_text 0x10000 ≡ codes "10000")
+    × (hex_text 0xABCDE ≡ codes "ABCDE")
+    × (hex_text 0x10FFFF ≡ codes "10FFFF")
+unfolding hex_text
+hex_examples = (refl, refl, refl, refl, refl, refl)
+
+span_text_examples : (span_text (between 0x41 0x41) ≡ codes "0041")
+    × (span_text (between 0x41 0x5A) ≡ codes "0041..005A")
+unfolding span_text hex_text
+span_text_examples = (refl, refl)
+
+section_examples : (section_text (codes "Sample") 6 sample ≡ codes "# Sample\n0001..0002 ; x\n0003 ; y\n0005 ; y\n# total 4\n\n")
+    × (section_text (codes "Sample") 1 sample ≡ codes "# Sample\n# total 0\n\n")
+unfolding section_text span_text hex_text digits
+section_examples = (refl, refl)
+
+-- 002B is the one point with the category Sm, and from it on the points are Other_Math
+core_example : core_section 0x2E (facts two_rows) Math ≡ codes "# Math\n002B..002D ; Math\n# total 3\n\n"
+unfolding section_text span_text hex_text digits facts point_count
+core_example = refl

@@ -5,7 +5,7 @@
 -- section name n f  `# NAME`, a line for each span with its label behind it, `# total N`, and an empty line
 -- core_section n F p  the section of a core property, over the facts F of the points below n
 -- core_text n F     DerivedCoreProperties.txt: the section of each core property
-use Rattle.std.specs.Prelude.{ℕ, ◌+◌, ◌/◌, ◌%◌, Bool, List, [], ◌∷◌, ◌++◌, Some, None, ◌==◌, nat_lt, if◌then◌else◌, codes}
+use Rattle.std.specs.Prelude.{ℕ, ◌+◌, ◌/◌, ◌%◌, List, [], ◌∷◌, ◌++◌, Some, None, ◌==◌, nat_lt, if◌then◌else◌, codes}
 use Rattle.std.specs.List.{flat_map}
 use Rattle.std.specs.Fmt.{decimal}
 use Rattle.ucd_model.specs.Bounds.{Bounds}

@@ -4,7 +4,7 @@
 -- facts rows c      category: that of the first row of UnicodeData.txt that covers c, else Cn;
 --                   flag f: whether a row of PropList.txt with exactly that name covers c.
 --                   A number past 10FFFF has the facts of a code point without a row
-use Rattle.std.specs.Prelude.{ℕ, Bool, true, false, ◌&&◌, List, Option, Some, None, nat_lt, nat_le, if◌then◌else◌, find}
+use Rattle.std.specs.Prelude.{ℕ, Bool, false, ◌&&◌, List, Option, Some, nat_lt, nat_le, if◌then◌else◌, find}
 use Rattle.std.specs.List.{list_any}
 use Rattle.std.specs.Str.{bytes_eq}
 use Rattle.ucd_model.specs.Bounds.{Bounds}

@@ -8,7 +8,7 @@
 -- span_of bs            that span, None where there is none
 -- is_name bs            one or more bytes from 20 to 7E, without `;`
 -- is_range_name bs      `<Label, First>` or `<Label, Last>`, with a label that is a name
-use Rattle.std.specs.Prelude.{◌≡◌, ◌⊎◌, ℕ, ◌+◌, ◌-◌, ◌*◌, ◌≤◌, Bool, true, false, ◌&&◌, ◌||◌, not, List, [], ◌∷◌, ◌++◌, length, take, drop, map, Option, Some, None, ◌==◌, nat_lt, nat_le, nat_eq, if◌then◌else◌, codes, fold, slice_index}
+use Rattle.std.specs.Prelude.{◌≡◌, ◌⊎◌, ℕ, ◌+◌, ◌-◌, ◌*◌, ◌≤◌, Bool, false, ◌&&◌, ◌||◌, not, List, [], ◌∷◌, ◌++◌, length, take, drop, map, Option, Some, None, ◌==◌, nat_lt, nat_le, if◌then◌else◌, codes, fold}
 use Rattle.std.specs.List.{slice_split, prefix_len, suffix_len, before_first, after_first, position_or_len, list_all}
 use Rattle.std.specs.Str.{bytes_eq}
 use Rattle.ucd_model.specs.Bounds.{Bounds}

@@ -2,7 +2,7 @@
 --
 -- Reads file content row   the content is a line of the file that stands for the row: a relation, by the fields
 -- unread s k               a row of UnicodeData.txt of which span and category alone are read
-use Rattle.std.specs.Prelude.{◌≡◌, ℕ, Bool, true, false, List, [], ◌∷◌, length, Option, Some, None}
+use Rattle.std.specs.Prelude.{◌≡◌, ℕ, true, false, List, [], length, Some, None}
 use Rattle.ucd_model.specs.Bounds.{Bounds}
 use Rattle.ucd_model.specs.Names.{category_of}
 use Rattle.ucd_model.specs.Fields.{fields, field, point_of, SpellsSpan, is_name, is_range_name}

@@ -5,7 +5,7 @@
 -- span_end n f c    the last number of the span that begins at c
 -- label_spans n f   the spans in ascending order, each with its label
 -- labelled n f      how many of the numbers have a label
-use Rattle.std.specs.Prelude.{ℕ, zero, suc, ◌+◌, ◌-◌, Bool, true, false, ◌&&◌, not, List, map, filter, Option, Some, None, is_some, unwrap_or, [], count_by}
+use Rattle.std.specs.Prelude.{ℕ, zero, suc, ◌+◌, ◌-◌, Bool, ◌&&◌, not, List, map, filter, Option, is_some, unwrap_or, [], count_by}
 use Rattle.std.specs.List.{range_with_len, prefix_len}
 use Rattle.std.specs.Option.{option_eq}
 use Rattle.std.specs.Str.{bytes_eq}

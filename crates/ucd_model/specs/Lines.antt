@@ -4,7 +4,7 @@
 --                   is not part of its content; the last line may lack it; no bytes have no line.
 --                   A CR that no LF follows belongs to the content
 -- is_trivia content the line is blank, or its first byte other than white space is `#`
-use Rattle.std.specs.Prelude.{ℕ, ◌-◌, Bool, true, false, List, [], ◌∷◌, length, take, drop, ◌==◌, if◌then◌else◌, slice_get, Some, None, Option, nat_eq, ◌||◌}
+use Rattle.std.specs.Prelude.{ℕ, ◌-◌, Bool, true, List, [], ◌∷◌, length, take, drop, ◌==◌, if◌then◌else◌, slice_get, Some, nat_eq, ◌||◌}
 use Rattle.std.specs.Option.{option_eq}
 use Rattle.std.specs.List.{slice_split, prefix_len}
 

@@ -4,7 +4,7 @@
 -- math, alphabetic, lowercase, uppercase   as DerivedCoreProperties.txt generates them
 -- has core F       whether a point with these facts has the property; absent for a property not derived here
 -- core_sections    the properties that are derived, in the order of DerivedCoreProperties.txt
-use Rattle.std.specs.Prelude.{ℕ, Bool, true, false, ◌||◌, List, [], ◌∷◌, ◌==◌}
+use Rattle.std.specs.Prelude.{ℕ, Bool, false, ◌||◌, List, [], ◌∷◌, ◌==◌}
 use Rattle.std.specs.List.{list_any}
 use Rattle.ucd_model.specs.Facts.{Facts}
 use Rattle.ucd_model.specs.declared.category.Category.{Category}

@@ -1,18 +1,18 @@
 -- Proofs of the laws of the text of code points.
-use Rattle.std.proofs.Common.{◌≡◌, ◌≢◌, ℕ, ◌+◌, ◌-◌, ◌*◌, ◌/◌, ◌%◌, ◌<◌, ◌≤◌, true, false, List, ◌∷◌, length, Some, refl, sym, ap, subst, ◌∙◌, arith, ◌⊎◌, inl, inr, slice_get, nat_le, fold}
-use Rattle.std.specs.List.{AllByRecursion}
+use Rattle.std.proofs.Common.{◌≡◌, ◌≢◌, ℕ, ◌+◌, ◌-◌, ◌*◌, ◌/◌, ◌%◌, ◌<◌, ◌≤◌, true, false, cond, List, [], ◌∷◌, ◌++◌, length, get_or, drop, Some, nat_lt, refl, sym, ap, subst, ◌∙◌, arith, ◌⊎◌, inl, inr, slice_get, nat_le, fold}
+use Rattle.std.specs.List.{AllByRecursion, position_or_len, before_first, after_first}
 use Rattle.std.proofs.lemmas.List.Elements.{All-from_recursion}
 use Rattle.std.proofs.lemmas.Option.{same_Some}
-use Rattle.std.proofs.lemmas.Bool.{cases_lt, lt-ltb, le-ltb, le-leb, lt-leb}
+use Rattle.std.proofs.lemmas.Bool.{cases_lt, cases_eq, eq-eqb, ne_eqb, lt-ltb, le-ltb, le-leb, lt-leb}
 use Rattle.std.proofs.lemmas.Nat.{mod_below}
-use Rattle.ucd_model.specs.Fields.{digit_of, with_digit, hex_number, point_of}
-use Rattle.ucd_model.specs.DerivedText.{hex_digit, four_digits, hex_text}
-use Rattle.ucd_model.specs.HexTextLaws.{HexTextHasFourToSixDigits, HexTextHasNoSpareDigit, HexTextIsUpperCase, HexTextSpellsItsNumber, HexTextSpellsItsPoint}
+use Rattle.std.proofs.lemmas.List.{length-append, get_or_append_left, get_or_at, take_at, drop_at, append_assoc}
+use Rattle.std.proofs.lemmas.List.Sums.{position_or_len_is}
+use Rattle.ucd_model.specs.Bounds.{Bounds}
+use Rattle.ucd_model.specs.Fields.{digit_of, with_digit, hex_number, point_of, is_dot, one_point, two_points, behind_dot, span_of}
+use Rattle.ucd_model.specs.DerivedText.{hex_digit, four_digits, hex_text, span_text}
+use Rattle.ucd_model.specs.HexTextLaws.{IsUpperHex, SpanTextSpellsItsSpan, HexTextHasFourToSixDigits, HexTextHasNoSpareDigit, HexTextIsUpperCase, HexTextSpellsItsNumber, HexTextSpellsItsPoint}
 
 -- ---- one digit
-
-abbrev pub IsUpperHex : ℕ → Type 0
-IsUpperHex b = ((48 ≤ b) × (b ≤ 57)) ⊎ ((65 ≤ b) × (b ≤ 70))
 
 hex_digit-low : (d : ℕ) → d < 10 → hex_digit d ≡ 48 + d
 hex_digit-low d h = rw (lt-ltb d 10 h) refl
@@ -123,3 +123,50 @@ hex_text_spells_its_point c h =
     let number : hex_number (hex_text c) ≡ Some c = hex_text_spells_its_number c (omega arith) in
     let (least, most) = hex_text_has_four_to_six_digits c in
     rw (le-leb 4 (length (hex_text c)) least, le-leb (length (hex_text c)) 6 most, number, lt-ltb c 1114112 h) refl
+
+-- ---- the text of a span
+
+upper_no_dot : (b : ℕ) → IsUpperHex b → is_dot b ≡ false
+upper_no_dot b (inl digit) = ne_eqb b 46 (λ e. absurd (omega (arith, digit.0)))
+upper_no_dot b (inr letter) = ne_eqb b 46 (λ e. absurd (omega (arith, letter.0)))
+
+hex_text_no_dot : (c k : ℕ) → k < length (hex_text c) → is_dot (get_or (hex_text c) k 0) ≡ false
+hex_text_no_dot c k lt = upper_no_dot (get_or (hex_text c) k 0) (hex_text_is_upper_case c k 0 lt)
+
+one_dotless : (c : ℕ) → position_or_len is_dot (hex_text c) ≡ length (hex_text c)
+one_dotless c = position_or_len_is is_dot (hex_text c) (length (hex_text c)) 0 (omega arith) (hex_text_no_dot c) (λ lt. absurd (omega arith))
+
+-- the first dot stands behind the text of a code point
+two_dots : (c : ℕ) (rest : List ℕ) → position_or_len is_dot (hex_text c ++ 46 ∷ rest) ≡ length (hex_text c)
+two_dots c rest = position_or_len_is is_dot (hex_text c ++ 46 ∷ rest) (length (hex_text c)) 0 (omega (arith, length-append (hex_text c) (46 ∷ rest)))
+    (λ k lt. rw (get_or_append_left (hex_text c) (46 ∷ rest) 0 k lt) (hex_text_no_dot c k lt))
+    (λ lt. rw (get_or_at (hex_text c) 46 rest 0 (length (hex_text c)) refl) refl)
+
+span_of-one : (c : ℕ) → c < 1114112 → span_of (hex_text c) ≡ Some (record { lo = c; hi = c })
+unfolding span_of
+span_of-one c h =
+    let last : nat_lt (position_or_len is_dot (hex_text c)) (length (hex_text c)) ≡ false = le-ltb (position_or_len is_dot (hex_text c)) (length (hex_text c)) (omega (arith, one_dotless c)) in
+    rw (last, hex_text_spells_its_point c h) refl
+
+span_of-two : (a b : ℕ) → a ≤ b → b < 1114112 → span_of (hex_text a ++ 46 ∷ 46 ∷ hex_text b) ≡ Some (record { lo = a; hi = b })
+unfolding span_of
+span_of-two a b le h =
+    let text : List ℕ = hex_text a ++ 46 ∷ 46 ∷ hex_text b in
+    let first : position_or_len is_dot text ≡ length (hex_text a) = two_dots a (46 ∷ hex_text b) in
+    let here : nat_lt (position_or_len is_dot text) (length text) ≡ true = lt-ltb (position_or_len is_dot text) (length text) (omega (arith, first, length-append (hex_text a) (46 ∷ 46 ∷ hex_text b))) in
+    let before : before_first is_dot text ≡ hex_text a = take_at (hex_text a) (46 ∷ 46 ∷ hex_text b) (position_or_len is_dot text) (sym first) in
+    let split : text ≡ (hex_text a ++ 46 ∷ []) ++ 46 ∷ hex_text b = sym (append_assoc (hex_text a) (46 ∷ []) (46 ∷ hex_text b)) in
+    let long : length (hex_text a ++ 46 ∷ []) ≡ position_or_len is_dot text + 1 = omega (arith, first, length-append (hex_text a) (46 ∷ [])) in
+    let behind : after_first is_dot text ≡ 46 ∷ hex_text b = ap (λ (bs : List ℕ). drop (position_or_len is_dot text + 1) bs) split ∙ drop_at (hex_text a ++ 46 ∷ []) (46 ∷ hex_text b) (position_or_len is_dot text + 1) long in
+    let lo : point_of (before_first is_dot text) ≡ Some a = ap point_of before ∙ hex_text_spells_its_point a (omega arith) in
+    let hi : behind_dot (after_first is_dot text) ≡ Some b = ap behind_dot behind ∙ hex_text_spells_its_point b h in
+    let two : two_points (Some a) (Some b) ≡ Some (record { lo = a; hi = b }) = rw (le-leb a b le) refl in
+    ap (λ t. cond t (two_points (point_of (before_first is_dot text)) (behind_dot (after_first is_dot text))) (one_point (point_of text))) here
+    ∙ ap (λ o. two_points o (behind_dot (after_first is_dot text))) lo ∙ ap (λ o. two_points (Some a) o) hi ∙ two
+
+pub span_text_spells_its_span : SpanTextSpellsItsSpan
+unfolding span_text
+span_text_spells_its_span s le h = elim (cases_eq s.lo s.hi) [
+  | inl same ↦ rw (eq-eqb s.lo s.hi same) (span_of-one s.lo (omega arith) ∙ ap (λ (k : ℕ). let b : Bounds = record { lo = s.lo; hi = k } in Some b) same)
+  | inr differ ↦ rw (ne_eqb s.lo s.hi differ) (ap span_of (append_assoc (hex_text s.lo) (46 ∷ 46 ∷ []) (hex_text s.hi)) ∙ span_of-two s.lo s.hi le h)
+]

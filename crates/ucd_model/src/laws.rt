@@ -1,6 +1,6 @@
 //! The laws of maximal spans and of the text of code points: each function here does nothing, and its contract is a law.
 
-ghost use Rattle.ucd_model.specs.HexTextLaws.{HexTextHasFourToSixDigits, HexTextHasNoSpareDigit, HexTextIsUpperCase, HexTextSpellsItsNumber, HexTextSpellsItsPoint};
+ghost use Rattle.ucd_model.specs.HexTextLaws.{HexTextHasFourToSixDigits, HexTextHasNoSpareDigit, HexTextIsUpperCase, HexTextSpellsItsNumber, HexTextSpellsItsPoint, SpanTextSpellsItsSpan};
 ghost use Rattle.ucd_model.specs.LabelLaws.{SpansLieBelow, SpansHaveOneLabel, SpansAreMaximal, SpansAscend, SpansDoNotTouch, SpansAreDisjoint, LabelledLieInASpan, OthersLieInNoSpan, LabelledIsTheirLength};
 
 /// Every span has a number in it, and all its numbers are below the bound.
@@ -72,3 +72,9 @@ pub fn hex_text_spells_its_number()
 pub fn hex_text_spells_its_point()
     ensures { HexTextSpellsItsPoint }
 {}
+
+/// Read as a span, the text of a span is that span.
+pub fn span_text_spells_its_span()
+    ensures { SpanTextSpellsItsSpan }
+{
+}

@@ -4,22 +4,24 @@
 -- between lo hi      the span from lo to hi
 -- properties k flag  the core properties of a point with the category k and these flags
 -- none               no flag; is_other_math and so on: that flag alone
+-- assigned           the categories that UnicodeData.txt names
 -- two_rows           a release of two rows: 002B has the category Sm, and 002B..10FFFF are Other_Math
 -- sample             a label function: 1 and 2 have the label ` ; x`, and 3 and 5 have ` ; y`
-use Rattle.std.proofs.Common.{◌≡◌, ℕ, Bool, true, false, List, [], ◌∷◌, Some, None, get_or, filter, refl, codes}
+use Rattle.std.proofs.Common.{◌≡◌, ℕ, Bool, true, false, List, [], ◌∷◌, ◌++◌, Some, None, get_or, map, filter, refl, codes}
+use Rattle.std.specs.List.{range_with_len}
 use Rattle.std.specs.Fmt.{digits}
 use Rattle.ucd_model.specs.Bounds.{Bounds}
 use Rattle.ucd_model.specs.Limits.{point_count}
-use Rattle.ucd_model.specs.Names.{category_of}
+use Rattle.ucd_model.specs.Names.{category_of, category_code}
 use Rattle.ucd_model.specs.Lines.{contents, is_trivia}
 use Rattle.ucd_model.specs.Fields.{fields, point_of, span_of, is_name, is_label_closed_by, is_range_name}
 use Rattle.ucd_model.specs.Grammar.{unread}
 use Rattle.ucd_model.specs.Facts.{Sources, facts, unassigned}
-use Rattle.ucd_model.specs.Predicates.{has, core_sections}
+use Rattle.ucd_model.specs.Predicates.{place_of, has, core_sections}
 use Rattle.ucd_model.specs.Labels.{Label, LabelSpan, label_spans, labelled}
 use Rattle.ucd_model.specs.DerivedText.{hex_text, span_text, section_text, core_section}
 use Rattle.ucd_model.specs.declared.category.Category.{Category}
-use Rattle.ucd_model.specs.declared.category.Category.TheVariants.{Lu, Lt, Lm, Nl, Mn, Sm, Cn}
+use Rattle.ucd_model.specs.declared.category.Category.TheVariants.{Lu, Ll, Lt, Lm, Lo, Mn, Mc, Me, Nd, Nl, No, Pc, Pd, Ps, Pe, Pi, Pf, Po, Sm, Sc, Sk, So, Zs, Zl, Zp, Cc, Cf, Cs, Co, Cn}
 use Rattle.ucd_model.specs.declared.property.Flag.{Flag}
 use Rattle.ucd_model.specs.declared.property.Flag.TheVariants.{OtherMath, OtherLowercase, OtherUppercase, OtherAlphabetic}
 use Rattle.ucd_model.specs.declared.property.Core.{Core}
@@ -90,6 +92,14 @@ category_examples : (category_of (codes "Lu") ≡ Some Lu)
     × (category_of (codes "lu") ≡ None)
     × (category_of (codes "L") ≡ None)
 category_examples = (refl, refl, refl, refl)
+
+abbrev assigned : List Category
+assigned = Lu ∷ Ll ∷ Lt ∷ Lm ∷ Lo ∷ Mn ∷ Mc ∷ Me ∷ Nd ∷ Nl ∷ No ∷ Pc ∷ Pd ∷ Ps ∷ Pe ∷ Pi ∷ Pf ∷ Po ∷ Sm ∷ Sc ∷ Sk ∷ So ∷ Zs ∷ Zl ∷ Zp ∷ Cc ∷ Cf ∷ Cs ∷ Co ∷ []
+
+-- two letters name the category that has them, and each category has its own place
+every_category : (map category_of (map category_code assigned) ≡ map Some assigned)
+    × (map place_of (assigned ++ Cn ∷ []) ≡ range_with_len 0 30)
+every_category = (refl, refl)
 
 -- ---- facts and properties
 

@@ -14,8 +14,8 @@ use Rattle.std.proofs.lemmas.Option.{slice_get-map, slice_get-get_or, slice_get_
 use Rattle.std.proofs.lemmas.Bool.{cases_lt, cases_order, cases_Bool, and_parts, not-true, and_from, both_ways}
 use Rattle.std.proofs.lemmas.Slice.Eq.{bytes_eq-Decides}
 use Rattle.ucd_model.specs.Labels.{Label, same_label, begins, span_end, LabelSpan, span_from}
-use Rattle.ucd_model.specs.LabelLemmas.{same_label-true, IsRun, spans_before, labelled_before, run_plain, run_labelled}
-use Rattle.ucd_model.specs.LabelLaws.{IsSpanAt, Covers, span_length, SpansLieBelow, SpansHaveOneLabel, SpansAreMaximal, SpansAscend, SpansDoNotTouch, SpansAreDisjoint, LabelledLieInASpan, OthersLieInNoSpan, LabelledIsTheirLength}
+use Rattle.ucd_model.specs.LabelLemmas.{span_end_run, same_label-true, IsRun, spans_before, labelled_before, run_plain, run_labelled}
+use Rattle.ucd_model.specs.LabelLaws.{IsSpanAt, Covers, span_length, StretchesAreSpans, SpansLieBelow, SpansHaveOneLabel, SpansAreMaximal, SpansAscend, SpansDoNotTouch, SpansAreDisjoint, LabelledLieInASpan, OthersLieInNoSpan, LabelledIsTheirLength}
 
 -- ---- labels
 
@@ -191,6 +191,38 @@ spans_are_maximal n f i s at =
       λ c before same. same_label-from_false (f c) (f b) (begins_other f b c start.here before) (same ∙ sym label),
       λ inside same. same_label-from_false (f b) (f (span_end n f b + 1)) (span_end-other n f b inside) (label ∙ sym same),
     )
+
+same_label-differs : (a b : Label) → a ≢ b → same_label a b ≡ false
+same_label-differs a b h = elim (cases_Bool (same_label a b)) [
+  | inl same ↦ absurd (h (same_label-from_true a b same))
+  | inr differ ↦ differ
+]
+
+begins_after : (f : ℕ → Label) (c : ℕ) → is_some (f c) ≡ true → ((k : ℕ) → k + 1 ≡ c → f k ≢ f c) → begins f c ≡ true
+begins_after f zero some other = some
+begins_after f (suc c) some other = and_from (is_some (f (suc c))) (not (same_label (f c) (f (suc c)))) some (ap not (same_label-differs (f c) (f (suc c)) (other c (omega arith))))
+
+pub stretches_are_spans : StretchesAreSpans
+stretches_are_spans n f s stretch =
+    let lo : ℕ = s.bounds.lo in
+    let hi : ℕ = s.bounds.hi in
+    let ordered : lo ≤ hi = stretch.ordered in
+    let inside : hi < n = stretch.below in
+    let label : f lo ≡ Some s.label = stretch.alike lo ((omega arith), ordered) in
+    let other : (k : ℕ) → k + 1 ≡ lo → f k ≢ f lo = λ k here same. stretch.before k here (same ∙ label) in
+    let run : IsRun n f lo (hi + 1) = record {
+      some = omega arith;
+      inside = omega arith;
+      alike = λ k low high. stretch.alike k (low, (omega arith)) ∙ sym label;
+      other = λ lt. same_label-differs (f lo) (f (hi + 1)) (λ same. stretch.after lt (sym same ∙ label));
+      starts = λ k here. same_label-differs (f k) (f lo) (other k here);
+    } in
+    let end : span_end n f lo ≡ hi = span_end_run n f lo (hi + 1) run ∙ (omega arith) in
+    let (i, place) = start_place n f lo (omega arith) (begins_after f lo (ap is_some label) other) in
+    let same : span_from n f lo ≡ s =
+    ap (λ (h : ℕ). let t : LabelSpan = record { bounds = record { lo = lo; hi = h }; label = unwrap_or (f lo) [] } in t) end
+    ∙ ap (λ (l : Label). let t : LabelSpan = record { bounds = s.bounds; label = unwrap_or l [] } in t) label in
+    (i, slice_get-map (span_from n f) (starts n f) i ∙ ap (option_map (span_from n f)) place ∙ ap Some same)
 
 pub spans_ascend : SpansAscend
 spans_ascend n f i a b at_a at_b =

@@ -1,7 +1,7 @@
 //! The laws of maximal spans and of the text of code points: each function here does nothing, and its contract is a law.
 
 ghost use Rattle.ucd_model.specs.HexTextLaws.{HexTextHasFourToSixDigits, HexTextHasNoSpareDigit, HexTextIsUpperCase, HexTextSpellsItsNumber, HexTextSpellsItsPoint, SpanTextSpellsItsSpan};
-ghost use Rattle.ucd_model.specs.LabelLaws.{SpansLieBelow, SpansHaveOneLabel, SpansAreMaximal, SpansAscend, SpansDoNotTouch, SpansAreDisjoint, LabelledLieInASpan, OthersLieInNoSpan, LabelledIsTheirLength};
+ghost use Rattle.ucd_model.specs.LabelLaws.{SpansLieBelow, SpansHaveOneLabel, SpansAreMaximal, StretchesAreSpans, SpansAscend, SpansDoNotTouch, SpansAreDisjoint, LabelledLieInASpan, OthersLieInNoSpan, LabelledIsTheirLength};
 
 /// Every span has a number in it, and all its numbers are below the bound.
 pub fn spans_lie_below()
@@ -16,6 +16,11 @@ pub fn spans_have_one_label()
 /// Neither the number before a span nor the one after it has the span's label.
 pub fn spans_are_maximal()
     ensures { SpansAreMaximal }
+{}
+
+/// Every maximal stretch of numbers with one label is one of the spans.
+pub fn stretches_are_spans()
+    ensures { StretchesAreSpans }
 {}
 
 /// A span ends before the next begins.
@@ -76,5 +81,4 @@ pub fn hex_text_spells_its_point()
 /// Read as a span, the text of a span is that span.
 pub fn span_text_spells_its_span()
     ensures { SpanTextSpellsItsSpan }
-{
-}
+{}

@@ -5,7 +5,8 @@
 -- properties k flag  the core properties of a point with the category k and these flags
 -- none               no flag; is_other_math and so on: that flag alone
 -- assigned           the categories that UnicodeData.txt names
--- two_rows           a release of two rows: 002B has the category Sm, and 002B..10FFFF are Other_Math
+-- sample_rows        a release of three rows: 002B is Sm, 002B..002C are Lu, and 002B..10FFFF are Other_Math; an earlier
+--                    row of UnicodeData.txt counts before a later one, and a file without a row here has none
 -- sample             a label function: 1 and 2 have the label ` ; x`, and 3 and 5 have ` ; y`
 use Rattle.std.proofs.Common.{◌≡◌, ℕ, Bool, true, false, List, [], ◌∷◌, ◌++◌, Some, None, get_or, map, filter, refl, codes}
 use Rattle.std.specs.List.{range_with_len}
@@ -14,12 +15,12 @@ use Rattle.ucd_model.specs.Bounds.{Bounds}
 use Rattle.ucd_model.specs.Limits.{point_count}
 use Rattle.ucd_model.specs.Names.{category_of, category_code}
 use Rattle.ucd_model.specs.Lines.{contents, is_trivia}
-use Rattle.ucd_model.specs.Fields.{fields, point_of, span_of, is_name, is_label_closed_by, is_range_name}
+use Rattle.ucd_model.specs.Fields.{fields, digit_of, point_of, span_of, is_name, is_label_closed_by, is_range_name}
 use Rattle.ucd_model.specs.Grammar.{unread}
 use Rattle.ucd_model.specs.Facts.{Sources, facts, unassigned}
 use Rattle.ucd_model.specs.Predicates.{place_of, has, core_sections}
 use Rattle.ucd_model.specs.Labels.{Label, LabelSpan, label_spans, labelled}
-use Rattle.ucd_model.specs.DerivedText.{hex_text, span_text, section_text, core_section}
+use Rattle.ucd_model.specs.DerivedText.{hex_text, span_text, section_text, core_text}
 use Rattle.ucd_model.specs.declared.category.Category.{Category}
 use Rattle.ucd_model.specs.declared.category.Category.TheVariants.{Lu, Ll, Lt, Lm, Lo, Mn, Mc, Me, Nd, Nl, No, Pc, Pd, Ps, Pe, Pi, Pf, Po, Sm, Sc, Sk, So, Zs, Zl, Zp, Cc, Cf, Cs, Co, Cn}
 use Rattle.ucd_model.specs.declared.property.Flag.{Flag}
@@ -55,6 +56,9 @@ fields_examples : (fields PropList (codes "005E          ; Other_Math # Sk      
 unfolding fields
 fields_examples = (refl, refl, refl)
 
+digit_examples : map digit_of (codes "/09:@AFG`afg") ≡ None ∷ Some 0 ∷ Some 9 ∷ None ∷ None ∷ Some 10 ∷ Some 15 ∷ None ∷ None ∷ Some 10 ∷ Some 15 ∷ None ∷ []
+digit_examples = refl
+
 point_examples : (point_of (codes "0041") ≡ Some 0x41)
     × (point_of (codes "00e9") ≡ Some 0xE9)
     × (point_of (codes "10FFFF") ≡ Some 0x10FFFF)
@@ -71,21 +75,25 @@ span_examples : (span_of (codes "0041..005A") ≡ Some (between 0x41 0x5A))
     × (span_of (codes "0041.") ≡ None)
     × (span_of (codes "0041..") ≡ None)
     × (span_of (codes "0041...0042") ≡ None)
+    × (span_of (codes "0041.-0042") ≡ None)
 unfolding span_of point_of
-span_examples = (refl, refl, refl, refl, refl, refl)
+span_examples = (refl, refl, refl, refl, refl, refl, refl)
 
 name_examples : (is_name (codes "LATIN CAPITAL LETTER A") ≡ true)
     × (is_name [] ≡ false)
     × (is_name (codes "a;b") ≡ false)
-    × (is_name (195 ∷ 169 ∷ []) ≡ false)
-name_examples = (refl, refl, refl, refl)
+    × (is_name (codes " ~") ≡ true)
+    × (is_name (codes "\u{1f}") ≡ false)
+    × (is_name (codes "\u{7f}") ≡ false)
+name_examples = (refl, refl, refl, refl, refl, refl)
 
 range_name_examples : (is_range_name (codes "<CJK Ideograph, First>") ≡ true)
     × (is_range_name (codes "<CJK Ideograph, Last>") ≡ true)
     × (is_range_name (codes "<, First>") ≡ false)
+    × (is_range_name (codes "CJK Ideograph, First>") ≡ false)
     × (is_range_name (codes "<control>") ≡ false)
 unfolding is_label_closed_by
-range_name_examples = (refl, refl, refl, refl)
+range_name_examples = (refl, refl, refl, refl, refl)
 
 category_examples : (category_of (codes "Lu") ≡ Some Lu)
     × (category_of (codes "Cn") ≡ None)
@@ -125,32 +133,39 @@ none _ = false
 abbrev properties : Category → (Flag → Bool) → List Core
 properties category flag = filter (λ core. has core (record { category = category; flag = flag })) core_sections
 
--- in this order: 002B, 0041, 01C5, 02B0, 2160, 0300, 05B0, and a point without a row
+-- in this order: 002B, 2016, 0041, 0061, 01C5, 02EC, 02B0, 05D0, 3007, 2160, 0300, 05B0, 0030, and a point without a row
 property_examples : (properties Sm none ≡ Math ∷ [])
+    × (properties Po is_other_math ≡ Math ∷ [])
     × (properties Lu none ≡ Alphabetic ∷ Uppercase ∷ [])
+    × (properties Ll none ≡ Alphabetic ∷ Lowercase ∷ [])
     × (properties Lt none ≡ Alphabetic ∷ [])
+    × (properties Lm none ≡ Alphabetic ∷ [])
     × (properties Lm is_other_lowercase ≡ Alphabetic ∷ Lowercase ∷ [])
+    × (properties Lo none ≡ Alphabetic ∷ [])
+    × (properties Nl none ≡ Alphabetic ∷ [])
     × (properties Nl is_other_uppercase ≡ Alphabetic ∷ Uppercase ∷ [])
     × (properties Mn none ≡ [])
     × (properties Mn is_other_alphabetic ≡ Alphabetic ∷ [])
+    × (properties Nd none ≡ [])
     × (properties Cn none ≡ [])
-property_examples = (refl, refl, refl, refl, refl, refl, refl, refl)
+property_examples = (refl, refl, refl, refl, refl, refl, refl, refl, refl, refl, refl, refl, refl, refl)
 
-abbrev two_rows : Sources
-two_rows UnicodeData = DataLine (unread (between 0x2B 0x2B) Sm) ∷ []
-two_rows PropList = ValueLine (record { span = between 0x2B 0x10FFFF; value = codes "Other_Math" }) ∷ []
-two_rows _ = []
+abbrev sample_rows : Sources
+sample_rows UnicodeData = DataLine (unread (between 0x2B 0x2B) Sm) ∷ DataLine (unread (between 0x2B 0x2C) Lu) ∷ []
+sample_rows PropList = ValueLine (record { span = between 0x2B 0x10FFFF; value = codes "Other_Math" }) ∷ []
+sample_rows _ = []
 
-facts_examples : ((facts two_rows 0x2B).category ≡ Sm)
-    × ((facts two_rows 0x2B).flag OtherMath ≡ true)
-    × ((facts two_rows 0x2B).flag OtherLowercase ≡ false)
-    × ((facts two_rows 0x2A).category ≡ Cn)
-    × ((facts two_rows 0x2A).flag OtherMath ≡ false)
-    × ((facts two_rows 0x2C).category ≡ Cn)
-    × ((facts two_rows 0x10FFFF).flag OtherMath ≡ true)
-    × (facts two_rows 0x110000 ≡ unassigned)
+facts_examples : ((facts sample_rows 0x2A).category ≡ Cn)
+    × ((facts sample_rows 0x2B).category ≡ Sm)
+    × ((facts sample_rows 0x2C).category ≡ Lu)
+    × ((facts sample_rows 0x2D).category ≡ Cn)
+    × ((facts sample_rows 0x2A).flag OtherMath ≡ false)
+    × ((facts sample_rows 0x2B).flag OtherMath ≡ true)
+    × ((facts sample_rows 0x10FFFF).flag OtherMath ≡ true)
+    × ((facts sample_rows 0x10FFFF).flag OtherLowercase ≡ false)
+    × (facts sample_rows 0x110000 ≡ unassigned)
 unfolding facts point_count
-facts_examples = (refl, refl, refl, refl, refl, refl, refl, refl)
+facts_examples = (refl, refl, refl, refl, refl, refl, refl, refl, refl)
 
 -- ---- spans and their text
 
@@ -184,7 +199,7 @@ section_examples : (section_text (codes "Sample") 6 sample ≡ codes "# Sample\n
 unfolding section_text span_text hex_text digits
 section_examples = (refl, refl)
 
--- 002B is the one point with the category Sm, and from it on the points are Other_Math
-core_example : core_section 0x2E (facts two_rows) Math ≡ codes "# Math\n002B..002D ; Math\n# total 3\n\n"
-unfolding section_text span_text hex_text digits facts point_count
+-- every section, over the facts of 0 to 2E: 2B to 2E are Other_Math, and 2C has the category Lu
+core_example : core_text 0x2F (facts sample_rows) ≡ codes "# Math\n002B..002E ; Math\n# total 4\n\n# Alphabetic\n002C ; Alphabetic\n# total 1\n\n# Lowercase\n# total 0\n\n# Uppercase\n002C ; Uppercase\n# total 1\n\n"
+unfolding core_text section_text span_text hex_text digits facts point_count
 core_example = refl

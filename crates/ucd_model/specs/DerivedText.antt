@@ -2,7 +2,7 @@
 --
 -- hex_text c        the hexadecimal digits of a code point in upper case: four, from 10000 on five, from 100000 on six
 -- span_text s       one code point, or the first and the last joined by `..`
--- section name n f  `# NAME`, a line for each span with its label behind it, `# total N`, and an empty line
+-- section_text name n f  `# NAME`, a line for each span with its label behind it, `# total N`, and an empty line
 -- core_section n F p  the section of a core property, over the facts F of the points below n
 -- core_text n F     DerivedCoreProperties.txt: the section of each core property
 use Rattle.std.specs.Prelude.{ℕ, ◌+◌, ◌/◌, ◌%◌, List, [], ◌∷◌, ◌++◌, Some, None, ◌==◌, nat_lt, if◌then◌else◌, codes}

@@ -17,3 +17,6 @@ mod writing;
 pub use printed::OUT_OF_MEMORY;
 pub use program::run;
 pub use status::Status;
+
+#[cfg(test)]
+mod tests;

@@ -16,7 +16,8 @@ use Rattle.ucd_model.specs.Limits.{point_count}
 use Rattle.ucd_model.specs.Names.{category_of, category_code}
 use Rattle.ucd_model.specs.Lines.{contents, is_trivia}
 use Rattle.ucd_model.specs.Fields.{fields, digit_of, point_of, span_of, is_name, is_label_closed_by, is_range_name}
-use Rattle.ucd_model.specs.Grammar.{unread}
+use Rattle.ucd_model.specs.declared.row.DataRow.{DataRow}
+use Rattle.ucd_model.specs.declared.decomposition.Kind.TheVariants.{Plain}
 use Rattle.ucd_model.specs.Facts.{Sources, facts, unassigned}
 use Rattle.ucd_model.specs.Predicates.{place_of, has, core_sections}
 use Rattle.ucd_model.specs.Labels.{Label, LabelSpan, label_spans, labelled}
@@ -131,7 +132,7 @@ abbrev none : Flag → Bool
 none _ = false
 
 abbrev properties : Category → (Flag → Bool) → List Core
-properties category flag = filter (λ core. has core (record { category = category; flag = flag })) core_sections
+properties category flag = filter (λ core. has core (record (unassigned 0) { category = category; flag = flag })) core_sections
 
 -- in this order: 002B, 2016, 0041, 0061, 01C5, 02EC, 02B0, 05D0, 3007, 2160, 0300, 05B0, 0030, and a point without a row
 property_examples : (properties Sm none ≡ Math ∷ [])
@@ -150,8 +151,12 @@ property_examples : (properties Sm none ≡ Math ∷ [])
     × (properties Cn none ≡ [])
 property_examples = (refl, refl, refl, refl, refl, refl, refl, refl, refl, refl, refl, refl, refl, refl)
 
+-- a row with this span and category, and nothing else
+abbrev plain_row : Bounds → Category → DataRow
+plain_row s k = record { span = s; range = false; name = []; category = k; class = 0; kind = Plain; mapping = []; upper = None; lower = None; title = None; kept = record { f4 = []; f6 = []; f7 = []; f8 = []; f9 = []; f10 = []; f11 = [] } }
+
 abbrev sample_rows : Sources
-sample_rows UnicodeData = DataLine (unread (between 0x2B 0x2B) Sm) ∷ DataLine (unread (between 0x2B 0x2C) Lu) ∷ []
+sample_rows UnicodeData = DataLine (plain_row (between 0x2B 0x2B) Sm) ∷ DataLine (plain_row (between 0x2B 0x2C) Lu) ∷ []
 sample_rows PropList = ValueLine (record { span = between 0x2B 0x10FFFF; value = codes "Other_Math" }) ∷ []
 sample_rows _ = []
 
@@ -163,7 +168,7 @@ facts_examples : ((facts sample_rows 0x2A).category ≡ Cn)
     × ((facts sample_rows 0x2B).flag OtherMath ≡ true)
     × ((facts sample_rows 0x10FFFF).flag OtherMath ≡ true)
     × ((facts sample_rows 0x10FFFF).flag OtherLowercase ≡ false)
-    × (facts sample_rows 0x110000 ≡ unassigned)
+    × (facts sample_rows 0x110000 ≡ unassigned 0x110000)
 unfolding facts point_count
 facts_examples = (refl, refl, refl, refl, refl, refl, refl, refl, refl)
 

@@ -1,10 +1,34 @@
--- The facts of a code point, found by looking through the plain list of rows. UAX #44, sections 5.3 and 5.7.
+-- The facts of a code point, found by looking through the plain list of rows. UAX #44, sections 5.3, 5.6 and 5.7;
+-- The Unicode Standard, sections 3.12 (Hangul) and 5.18 (case mappings).
 --
--- Sources           the rows of a release, file by file
--- facts rows c      category: that of the first row of UnicodeData.txt that covers c, else Cn;
---                   flag f: whether a row of PropList.txt with exactly that name covers c.
---                   A number past 10FFFF has the facts of a code point without a row
-use Rattle.std.specs.Prelude.{ℕ, Bool, false, ◌&&◌, List, Option, Some, nat_lt, nat_le, if◌then◌else◌, find}
+-- Sources                  the rows of a release, file by file
+-- facts rows c             the facts of c: those that the rows give, and past 10FFFF those of an unassigned point
+-- given rows c             what the rows give; given_by: what the row that covers c and the casing row give, with the other files
+-- unassigned c             no row: Cn, class 0, no mapping, and every image the point itself
+--
+-- UnicodeData.txt
+-- data_row rows c          the first row that covers c
+-- category_in row          its category, else Cn; class_in: its class, else 0
+-- kind_in c row            its kind, else Plain; a Hangul syllable without a mapping of its own is Canonical
+-- mapping_in c row         its mapping, else none; a Hangul syllable without a mapping of its own has hangul_mapping
+-- hangul_mapping c         LV and T, or L and V where there is no T. The Unicode Standard, section 3.12
+-- upper_in lower_in c row  its simple mapping, else c; title_in: its simple title mapping, else upper_in
+--
+-- SpecialCasing.txt
+-- casing_row rows c        the first row of c without conditions
+-- image c points           the image of c: Same where points is c alone
+-- full_upper c simple row  the image under the row's mapping, else under the simple mapping; so full_lower, full_title
+--
+-- CaseFolding.txt
+-- folding rows status c    the mapping of the first row of c with that status
+-- full_folding rows c      that of F, else that of C, else c alone
+-- simple_folding rows c    the one point of S, else that of C, else c
+--
+-- Other files
+-- flag_at rows f c         whether a row of PropList.txt with exactly the name of f covers c
+-- mid_word_at rows c       whether the Word_Break value of c is one of mid_word_values
+-- excluded_at rows c       whether a row of CompositionExclusions.txt covers c
+use Rattle.std.specs.Prelude.{ℕ, ◌+◌, ◌-◌, ◌/◌, ◌%◌, Bool, true, false, ◌&&◌, List, [], ◌∷◌, Option, Some, None, is_some, unwrap_or, nat_lt, nat_le, ◌==◌, if◌then◌else◌, find, codes}
 use Rattle.std.specs.List.{list_any}
 use Rattle.std.specs.Str.{bytes_eq}
 use Rattle.ucd_model.specs.Bounds.{Bounds}
@@ -12,44 +36,256 @@ use Rattle.ucd_model.specs.Limits.{point_count}
 use Rattle.ucd_model.specs.Names.{flag_name}
 use Rattle.ucd_model.specs.declared.category.Category.{Category}
 use Rattle.ucd_model.specs.declared.category.Category.TheVariants.{Cn}
+use Rattle.ucd_model.specs.declared.decomposition.Kind.{Kind}
+use Rattle.ucd_model.specs.declared.decomposition.Kind.TheVariants.{Plain, Canonical}
 use Rattle.ucd_model.specs.declared.property.Flag.{Flag}
+use Rattle.ucd_model.specs.declared.image.Image.{Image}
+use Rattle.ucd_model.specs.declared.image.Image.TheVariants.{Same, To}
 use Rattle.ucd_model.specs.declared.files.SourceFile.{SourceFile}
-use Rattle.ucd_model.specs.declared.files.SourceFile.TheVariants.{UnicodeData, PropList}
+use Rattle.ucd_model.specs.declared.files.SourceFile.TheVariants.{UnicodeData, PropList, WordBreakProperty, CompositionExclusions, CaseFolding, SpecialCasing}
+use Rattle.ucd_model.specs.declared.row.DataRow.{DataRow}
+use Rattle.ucd_model.specs.declared.row.CasingRow.{CasingRow}
+use Rattle.ucd_model.specs.declared.row.FoldStatus.{FoldStatus}
+use Rattle.ucd_model.specs.declared.row.FoldStatus.TheVariants as status
 use Rattle.ucd_model.specs.declared.row.Row.{Row}
-use Rattle.ucd_model.specs.declared.row.Row.TheVariants.{Unit as DataLine, Value as ValueLine}
+use Rattle.ucd_model.specs.declared.row.Row.TheVariants.{Unit as DataLine, Value as ValueLine, Exclusion as ExclusionLine, Fold as FoldLine, Casing as CasingLine}
 
 abbrev pub Sources : Type 0
 Sources = SourceFile → List Row
 
+pub record Facts : Type 0 where
+  pub assigned : Bool
+  pub category : Category
+  pub class : ℕ
+  pub kind : Kind
+  pub mapping : List ℕ
+  pub simple_upper : ℕ
+  pub simple_lower : ℕ
+  pub simple_title : ℕ
+  pub simple_fold : ℕ
+  pub upper : Image
+  pub lower : Image
+  pub title : Image
+  pub fold : Image
+  pub flag : Flag → Bool
+  pub mid_word : Bool
+  pub excluded : Bool
+
 abbrev pub within : ℕ → Bounds → Bool
 within c s = nat_le s.lo c && nat_le c s.hi
+
+-- ---- UnicodeData.txt
 
 -- a row of UnicodeData.txt that covers c
 abbrev pub is_data_of : ℕ → Row → Bool
 is_data_of c (DataLine row) = within c row.span
 is_data_of c _ = false
 
+abbrev pub data_in : Option Row → Option DataRow
+data_in (Some (DataLine row)) = Some row
+data_in _ = None
+
+abbrev pub data_row : List Row → ℕ → Option DataRow
+data_row rows c = data_in (find (is_data_of c) rows)
+
+abbrev pub category_in : Option DataRow → Category
+category_in (Some row) = row.category
+category_in None = Cn
+
+abbrev pub category_at : List Row → ℕ → Category
+category_at rows c = category_in (data_row rows c)
+
+abbrev pub class_in : Option DataRow → ℕ
+class_in (Some row) = row.class
+class_in None = 0
+
+-- the syllables: 19 leading consonants, 21 vowels each, and 28 endings each, of which the first is none
+abbrev pub s_base : ℕ
+s_base = 0xAC00
+
+abbrev pub l_base : ℕ
+l_base = 0x1100
+
+abbrev pub v_base : ℕ
+v_base = 0x1161
+
+abbrev pub t_base : ℕ
+t_base = 0x11A7
+
+abbrev pub t_count : ℕ
+t_count = 28
+
+abbrev pub n_count : ℕ
+n_count = 588
+
+abbrev pub is_hangul_syllable : ℕ → Bool
+is_hangul_syllable c = nat_le s_base c && nat_le c 0xD7A3
+
+abbrev pub hangul_mapping : ℕ → List ℕ
+hangul_mapping c =
+    let index : ℕ = c - s_base in
+    let ending : ℕ = index % t_count in
+    if ending == 0
+    then (l_base + index / n_count) ∷ (v_base + index % n_count / t_count) ∷ []
+    else (c - ending) ∷ (t_base + ending) ∷ []
+
+abbrev pub is_plain : Kind → Bool
+is_plain Plain = true
+is_plain _ = false
+
+-- a Hangul syllable whose row has an empty field 5
+abbrev pub maps_by_rule : ℕ → DataRow → Bool
+maps_by_rule c row = is_hangul_syllable c && is_plain row.kind
+
+abbrev pub kind_in : ℕ → Option DataRow → Kind
+kind_in c (Some row) = if maps_by_rule c row then Canonical else row.kind
+kind_in c None = Plain
+
+abbrev pub mapping_in : ℕ → Option DataRow → List ℕ
+mapping_in c (Some row) = if maps_by_rule c row then hangul_mapping c else row.mapping
+mapping_in c None = []
+
+abbrev pub upper_in : ℕ → Option DataRow → ℕ
+upper_in c (Some row) = unwrap_or row.upper c
+upper_in c None = c
+
+abbrev pub lower_in : ℕ → Option DataRow → ℕ
+lower_in c (Some row) = unwrap_or row.lower c
+lower_in c None = c
+
+abbrev pub title_in : ℕ → Option DataRow → ℕ
+title_in c (Some row) = unwrap_or row.title (upper_in c (Some row))
+title_in c None = c
+
+-- ---- SpecialCasing.txt
+
+abbrev pub image : ℕ → List ℕ → Image
+image c points = if bytes_eq points (c ∷ []) then Same else To points
+
+-- a row of SpecialCasing.txt of c without conditions
+abbrev pub is_casing_of : ℕ → Row → Bool
+is_casing_of c (CasingLine row) = (row.code == c) && bytes_eq row.conditions []
+is_casing_of c _ = false
+
+abbrev pub casing_in : Option Row → Option CasingRow
+casing_in (Some (CasingLine row)) = Some row
+casing_in _ = None
+
+abbrev pub casing_row : List Row → ℕ → Option CasingRow
+casing_row rows c = casing_in (find (is_casing_of c) rows)
+
+abbrev pub full_upper : ℕ → ℕ → Option CasingRow → Image
+full_upper c simple (Some row) = image c row.upper
+full_upper c simple None = image c (simple ∷ [])
+
+abbrev pub full_lower : ℕ → ℕ → Option CasingRow → Image
+full_lower c simple (Some row) = image c row.lower
+full_lower c simple None = image c (simple ∷ [])
+
+abbrev pub full_title : ℕ → ℕ → Option CasingRow → Image
+full_title c simple (Some row) = image c row.title
+full_title c simple None = image c (simple ∷ [])
+
+-- ---- CaseFolding.txt
+
+-- the place of a status in the order C F S T
+abbrev pub status_place : FoldStatus → ℕ
+status_place status.C = 0
+status_place status.F = 1
+status_place status.S = 2
+status_place status.T = 3
+
+-- a row of CaseFolding.txt of c with this status
+abbrev pub is_folding_of : FoldStatus → ℕ → Row → Bool
+is_folding_of s c (FoldLine row) = (row.code == c) && (status_place row.status == status_place s)
+is_folding_of s c _ = false
+
+abbrev pub folding_in : Option Row → Option (List ℕ)
+folding_in (Some (FoldLine row)) = Some row.mapping
+folding_in _ = None
+
+abbrev pub folding : List Row → FoldStatus → ℕ → Option (List ℕ)
+folding rows s c = folding_in (find (is_folding_of s c) rows)
+
+abbrev pub full_folding : List Row → ℕ → List ℕ
+full_folding rows c = unwrap_or (folding rows status.F c) (unwrap_or (folding rows status.C c) (c ∷ []))
+
+-- the one point of a mapping of status C or S
+abbrev pub only_or : ℕ → List ℕ → ℕ
+only_or c (d ∷ _) = d
+only_or c [] = c
+
+abbrev pub simple_folding : List Row → ℕ → ℕ
+simple_folding rows c = only_or c (unwrap_or (folding rows status.S c) (unwrap_or (folding rows status.C c) []))
+
+-- ---- PropList.txt, WordBreakProperty.txt, CompositionExclusions.txt
+
 -- a row with this value that covers c
 abbrev pub gives_value : List ℕ → ℕ → Row → Bool
 gives_value value c (ValueLine row) = bytes_eq row.value value && within c row.span
 gives_value value c _ = false
 
-abbrev pub category_in : Option Row → Category
-category_in (Some (DataLine row)) = row.category
-category_in _ = Cn
-
-abbrev pub category_at : List Row → ℕ → Category
-category_at rows c = category_in (find (is_data_of c) rows)
-
 abbrev pub flag_at : List Row → Flag → ℕ → Bool
 flag_at rows flag c = list_any (gives_value (flag_name flag) c) rows
 
-pub record Facts : Type 0 where
-  pub category : Category
-  pub flag : Flag → Bool
+abbrev pub mid_word_values : List (List ℕ)
+mid_word_values = codes "MidLetter" ∷ codes "MidNumLet" ∷ codes "Single_Quote" ∷ []
 
-abbrev pub unassigned : Facts
-unassigned = record { category = Cn; flag = λ _. false }
+abbrev pub mid_word_at : List Row → ℕ → Bool
+mid_word_at rows c = list_any (λ value. list_any (gives_value value c) rows) mid_word_values
+
+-- a row of CompositionExclusions.txt that covers c
+abbrev pub excludes : ℕ → Row → Bool
+excludes c (ExclusionLine row) = within c row.span
+excludes c _ = false
+
+abbrev pub excluded_at : List Row → ℕ → Bool
+excluded_at rows c = list_any (excludes c) rows
+
+-- ---- all facts
+
+abbrev pub unassigned : ℕ → Facts
+unassigned c = record {
+  assigned = false;
+  category = Cn;
+  class = 0;
+  kind = Plain;
+  mapping = [];
+  simple_upper = c;
+  simple_lower = c;
+  simple_title = c;
+  simple_fold = c;
+  upper = Same;
+  lower = Same;
+  title = Same;
+  fold = Same;
+  flag = λ _. false;
+  mid_word = false;
+  excluded = false;
+}
+
+abbrev pub given_by : ℕ → Option DataRow → Option CasingRow → Sources → Facts
+given_by c row casing rows = record {
+  assigned = is_some row;
+  category = category_in row;
+  class = class_in row;
+  kind = kind_in c row;
+  mapping = mapping_in c row;
+  simple_upper = upper_in c row;
+  simple_lower = lower_in c row;
+  simple_title = title_in c row;
+  simple_fold = simple_folding (rows CaseFolding) c;
+  upper = full_upper c (upper_in c row) casing;
+  lower = full_lower c (lower_in c row) casing;
+  title = full_title c (title_in c row) casing;
+  fold = image c (full_folding (rows CaseFolding) c);
+  flag = λ flag. flag_at (rows PropList) flag c;
+  mid_word = mid_word_at (rows WordBreakProperty) c;
+  excluded = excluded_at (rows CompositionExclusions) c;
+}
+
+abbrev pub given : Sources → ℕ → Facts
+given rows c = given_by c (data_row (rows UnicodeData) c) (casing_row (rows SpecialCasing) c) rows
 
 unfoldable pub facts : Sources → ℕ → Facts
-facts rows c = if nat_lt c point_count then record { category = category_at (rows UnicodeData) c; flag = λ flag. flag_at (rows PropList) flag c } else unassigned
+facts rows c = if nat_lt c point_count then given rows c else unassigned c

@@ -7,8 +7,11 @@
 -- SpellsSpan bs s       bs is one code point, or two joined by `..`, the first at most the second
 -- span_of bs            that span, None where there is none
 -- is_name bs            one or more bytes from 20 to 7E, without `;`
+-- is_label_closed_by closing bs   `<`, a label that is a name, and the closing; label_of closing bs is that label
 -- is_range_name bs      `<Label, First>` or `<Label, Last>`, with a label that is a name
-use Rattle.std.specs.Prelude.{◌≡◌, ◌⊎◌, ℕ, ◌+◌, ◌-◌, ◌*◌, ◌≤◌, Bool, false, ◌&&◌, ◌||◌, not, List, [], ◌∷◌, ◌++◌, length, take, drop, map, Option, Some, None, ◌==◌, nat_lt, nat_le, if◌then◌else◌, codes, fold}
+-- class_of bs           the decimal number from 0 to 254 that one to three digits write; None for all other bytes
+-- case_of bs            no bytes: there is none; a code point: that one; None for all other bytes
+use Rattle.std.specs.Prelude.{◌≡◌, ◌⊎◌, ℕ, ◌+◌, ◌-◌, ◌*◌, ◌≤◌, Bool, true, false, ◌&&◌, ◌||◌, not, List, [], ◌∷◌, ◌++◌, length, take, drop, map, Option, Some, None, ◌==◌, nat_lt, nat_le, nat_eq, if◌then◌else◌, codes, fold, slice_index}
 use Rattle.std.specs.List.{slice_split, prefix_len, suffix_len, before_first, after_first, position_or_len, list_all}
 use Rattle.std.specs.Str.{bytes_eq}
 use Rattle.ucd_model.specs.Bounds.{Bounds}
@@ -116,5 +119,33 @@ is_name (b ∷ bs) = list_all is_name_byte (b ∷ bs)
 unfoldable pub is_label_closed_by : List ℕ → List ℕ → Bool
 is_label_closed_by closing bs = (bytes_eq (take 1 bs) (codes "<") && bytes_eq (drop (length bs - length closing) bs) closing) && is_name (drop 1 (take (length bs - length closing) bs))
 
+abbrev pub label_of : List ℕ → List ℕ → List ℕ
+label_of closing bs = drop 1 (take (length bs - length closing) bs)
+
 abbrev pub is_range_name : List ℕ → Bool
 is_range_name bs = is_label_closed_by (codes ", First>") bs || is_label_closed_by (codes ", Last>") bs
+
+-- ---- numbers
+
+abbrev pub is_digit : ℕ → Bool
+is_digit b = nat_le 48 b && nat_le b 57
+
+-- what decimal digits write, from the left
+abbrev pub decimal_number : List ℕ → ℕ
+decimal_number bs = fold (λ n b. 10 * n + (b - 48)) 0 bs
+
+abbrev pub is_class : List ℕ → Bool
+is_class bs = ((nat_le 1 (length bs) && nat_le (length bs) 3) && list_all is_digit bs) && nat_le (decimal_number bs) 254
+
+unfoldable pub class_of : List ℕ → Option ℕ
+class_of bs = if is_class bs then Some (decimal_number bs) else None
+
+-- ---- simple case mappings
+
+abbrev pub some_point : Option ℕ → Option (Option ℕ)
+some_point (Some c) = Some (Some c)
+some_point None = None
+
+abbrev pub case_of : List ℕ → Option (Option ℕ)
+case_of [] = Some None
+case_of (b ∷ bs) = some_point (point_of (b ∷ bs))

@@ -1,41 +1,43 @@
--- Which lines stand for which rows. UAX #44, sections 4.2 and 5.7.
+-- Which bytes stand for which rows. UAX #44, sections 4.2 and 5.3.
 --
--- Reads file content row   the content is a line of the file that stands for the row: a relation, by the fields
--- unread s k               a row of UnicodeData.txt of which span and category alone are read
-use Rattle.std.specs.Prelude.{◌≡◌, ℕ, true, false, List, [], length, Some, None}
-use Rattle.ucd_model.specs.Bounds.{Bounds}
-use Rattle.ucd_model.specs.Names.{category_of}
-use Rattle.ucd_model.specs.Fields.{fields, field, point_of, SpellsSpan, is_name, is_range_name}
-use Rattle.ucd_model.specs.declared.category.Category.{Category}
-use Rattle.ucd_model.specs.declared.decomposition.Kind.TheVariants.{Plain}
+-- ReadsLine file content row   a line's content stands for the row, by the fields of the line
+-- ReadsRange bytes row         two lines of UnicodeData.txt, LF or CR LF between them, stand for a range
+-- Reads file bytes row         the bytes are such a line, without a LF, or such two lines
+use Rattle.std.specs.Prelude.{◌≡◌, ◌⊎◌, ℕ, false, List, ◌∷◌, ◌++◌}
+use Rattle.ucd_model.specs.Lines.{holds_line_feed, without_return}
+use Rattle.ucd_model.specs.Fields.{fields}
+use Rattle.ucd_model.specs.DataLines.{ReadsSingle, ReadsPair}
+use Rattle.ucd_model.specs.OtherLines.{ReadsValue, ReadsExclusion, ReadsFold, ReadsCasing, ReadsAlias}
 use Rattle.ucd_model.specs.declared.files.SourceFile.{SourceFile}
-use Rattle.ucd_model.specs.declared.files.SourceFile.TheVariants.{UnicodeData, PropList}
+use Rattle.ucd_model.specs.declared.files.SourceFile.TheVariants.{UnicodeData, PropList, Scripts, WordBreakProperty, CompositionExclusions, CaseFolding, SpecialCasing, PropertyAliases, PropertyValueAliases}
 use Rattle.ucd_model.specs.declared.row.DataRow.{DataRow}
-use Rattle.ucd_model.specs.declared.row.ValueRow.{ValueRow}
 use Rattle.ucd_model.specs.declared.row.Row.{Row}
-use Rattle.ucd_model.specs.declared.row.Row.TheVariants.{Unit as DataLine, Value as ValueLine}
+use Rattle.ucd_model.specs.declared.row.Row.TheVariants.{Unit as DataLine, Value as ValueLine, Exclusion as ExclusionLine, Fold as FoldLine, Casing as CasingLine, Alias as AliasLine}
 
--- class 0, no decomposition, no case mappings, and no text
-abbrev pub unread : Bounds → Category → DataRow
-unread s k = record { span = s; range = false; name = []; category = k; class = 0; kind = Plain; mapping = []; upper = None; lower = None; title = None; kept = record { f4 = []; f6 = []; f7 = []; f8 = []; f9 = []; f10 = []; f11 = [] } }
+abbrev pub ReadsLine : SourceFile → List ℕ → Row → Type 0
+ReadsLine UnicodeData content (DataLine row) = ReadsSingle (fields UnicodeData content) row
+ReadsLine PropList content (ValueLine row) = ReadsValue (fields PropList content) row
+ReadsLine Scripts content (ValueLine row) = ReadsValue (fields Scripts content) row
+ReadsLine WordBreakProperty content (ValueLine row) = ReadsValue (fields WordBreakProperty content) row
+ReadsLine CompositionExclusions content (ExclusionLine row) = ReadsExclusion (fields CompositionExclusions content) row
+ReadsLine CaseFolding content (FoldLine row) = ReadsFold (fields CaseFolding content) row
+ReadsLine SpecialCasing content (CasingLine row) = ReadsCasing (fields SpecialCasing content) row
+ReadsLine PropertyAliases content (AliasLine row) = ReadsAlias 2 (fields PropertyAliases content) row
+ReadsLine PropertyValueAliases content (AliasLine row) = ReadsAlias 3 (fields PropertyValueAliases content) row
+ReadsLine _ _ _ = ⊥
 
--- 15 fields: a code point in field 0, a name in field 1 that is not that of a range, a category in field 2
-pub record ReadsData (fs : List (List ℕ)) (row : DataRow) : Type 0 where
-  pub count : length fs ≡ 15
-  pub code : point_of (field fs 0) ≡ Some row.span.lo
-  pub single : row.span.hi ≡ row.span.lo
-  pub category : category_of (field fs 2) ≡ Some row.category
-  pub no_range : is_range_name (field fs 1) ≡ false
-  pub others : row ≡ unread row.span row.category
+-- what stands before the LF is the first line, with a CR at its end or without
+pub record ReadsRange (bytes : List ℕ) (row : DataRow) : Type 0 where
+  pub front : List ℕ
+  pub last : List ℕ
+  pub lines : bytes ≡ front ++ 10 ∷ last
+  pub one_line : holds_line_feed front ≡ false
+  pub other_line : holds_line_feed last ≡ false
+  pub pair : ReadsPair (fields UnicodeData (without_return front)) (fields UnicodeData last) row
 
--- two fields: a span, and a name as the value
-pub record ReadsValue (fs : List (List ℕ)) (row : ValueRow) : Type 0 where
-  pub count : length fs ≡ 2
-  pub span : SpellsSpan (field fs 0) row.span
-  pub name : is_name (field fs 1) ≡ true
-  pub value : row.value ≡ field fs 1
+abbrev pub IsRange : SourceFile → List ℕ → Row → Type 0
+IsRange UnicodeData bytes (DataLine row) = ReadsRange bytes row
+IsRange _ _ _ = ⊥
 
 abbrev pub Reads : SourceFile → List ℕ → Row → Type 0
-Reads UnicodeData content (DataLine row) = ReadsData (fields UnicodeData content) row
-Reads PropList content (ValueLine row) = ReadsValue (fields PropList content) row
-Reads _ _ _ = ⊥
+Reads file bytes row = (holds_line_feed bytes ≡ false) × ReadsLine file bytes row ⊎ IsRange file bytes row

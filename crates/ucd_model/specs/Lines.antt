@@ -3,10 +3,14 @@
 -- contents bytes    the contents of the lines in order: a line ends after LF, and what ends it, LF or CR LF,
 --                   is not part of its content; the last line may lack it; no bytes have no line.
 --                   A CR that no LF follows belongs to the content
+-- holds_line_feed bs   a LF is among the bytes, so that they are no line's content
+-- items_of bytes    the same lines, each with what ends it: a LineItem is a content and its LineEnding
+-- item_bytes item   a line's content and the bytes of its ending: none, LF, or CR LF
+-- joined items      contents and endings put together again
 -- is_trivia content the line is blank, or its first byte other than white space is `#`
-use Rattle.std.specs.Prelude.{ℕ, ◌-◌, Bool, true, List, [], ◌∷◌, length, take, drop, ◌==◌, if◌then◌else◌, slice_get, Some, nat_eq, ◌||◌}
+use Rattle.std.specs.Prelude.{ℕ, ◌-◌, Bool, true, false, List, [], ◌∷◌, ◌++◌, length, take, drop, ◌==◌, if◌then◌else◌, slice_get, Some, None, Option, nat_eq, ◌||◌}
 use Rattle.std.specs.Option.{option_eq}
-use Rattle.std.specs.List.{slice_split, prefix_len}
+use Rattle.std.specs.List.{slice_split, prefix_len, list_any, flat_map}
 
 -- space and tab
 abbrev pub is_blank : ℕ → Bool
@@ -14,6 +18,9 @@ is_blank b = (b == 32) || (b == 9)
 
 abbrev pub is_lf : ℕ → Bool
 is_lf b = b == 10
+
+abbrev pub holds_line_feed : List ℕ → Bool
+holds_line_feed bs = list_any is_lf bs
 
 -- without one CR at the end
 abbrev pub without_return : List ℕ → List ℕ
@@ -28,6 +35,44 @@ contents_of_pieces (piece ∷ next ∷ pieces) = without_return piece ∷ conten
 
 unfoldable pub contents : List ℕ → List (List ℕ)
 contents bytes = contents_of_pieces (slice_split is_lf bytes)
+
+-- what ends a line: nothing at the end of the file, LF, or CR LF
+pub data LineEnding : Type 0 where
+  unended : LineEnding
+  lf : LineEnding
+  cr_lf : LineEnding
+
+pub record LineItem : Type 0 where
+  pub content : List ℕ
+  pub ending : LineEnding
+
+abbrev pub ends_in_return : List ℕ → Bool
+ends_in_return bs = option_eq nat_eq (slice_get bs (length bs - 1)) (Some 13)
+
+-- the line of what stands before a LF
+abbrev pub ended_item : List ℕ → LineItem
+ended_item piece = record { content = without_return piece; ending = if ends_in_return piece then cr_lf else lf }
+
+-- of what stands between line feeds: all but the last piece ended by one
+abbrev pub items_of_pieces : List (List ℕ) → List LineItem
+items_of_pieces [] = []
+items_of_pieces ([] ∷ []) = []
+items_of_pieces ((b ∷ bs) ∷ []) = record { content = b ∷ bs; ending = unended } ∷ []
+items_of_pieces (piece ∷ next ∷ pieces) = ended_item piece ∷ items_of_pieces (next ∷ pieces)
+
+unfoldable pub items_of : List ℕ → List LineItem
+items_of bytes = items_of_pieces (slice_split is_lf bytes)
+
+abbrev pub ending_bytes : LineEnding → List ℕ
+ending_bytes unended = []
+ending_bytes lf = 10 ∷ []
+ending_bytes cr_lf = 13 ∷ 10 ∷ []
+
+abbrev pub item_bytes : LineItem → List ℕ
+item_bytes item = item.content ++ ending_bytes item.ending
+
+abbrev pub joined : List LineItem → List ℕ
+joined items = flat_map item_bytes items
 
 abbrev begins_comment : List ℕ → Bool
 begins_comment [] = true

@@ -4,6 +4,10 @@
 --                   UAX #44, section 5.7.1, table 12
 -- letter_of to other_of   by the second byte, behind L M N P S Z C as the first
 -- category_code k   the two bytes that name k
+-- status_of bs      the status of a folding that one byte names; None for all other bytes; status_code s is that byte
+-- tag_of bs         the tag that bytes name, `<` before its name and no `>` behind it; None for all other bytes.
+--                   UAX #44, section 5.7.3, table 14
+-- tag_text t        the tag between `<` and `>`
 -- flag_name f       the name of the property in PropList.txt. UAX #44, section 5.3
 -- core_name p       the name of the property in DerivedCoreProperties.txt. UAX #44, section 5.3
 -- source_path f     where a source file lies below the folder of a release
@@ -11,6 +15,11 @@
 use Rattle.std.specs.Prelude.{ℕ, List, [], ◌∷◌, Option, Some, None, ◌==◌, if◌then◌else◌, codes}
 use Rattle.ucd_model.specs.declared.category.Category.{Category}
 use Rattle.ucd_model.specs.declared.category.Category.TheVariants.{Lu, Ll, Lt, Lm, Lo, Mn, Mc, Me, Nd, Nl, No, Pc, Pd, Ps, Pe, Pi, Pf, Po, Sm, Sc, Sk, So, Zs, Zl, Zp, Cc, Cf, Cs, Co, Cn}
+use Rattle.std.specs.Str.{bytes_eq}
+use Rattle.ucd_model.specs.declared.decomposition.Tag.{Tag}
+use Rattle.ucd_model.specs.declared.decomposition.Tag.TheVariants.{Font, NoBreak, Initial, Medial, Final, Isolated, Circle, Super, Sub, Vertical, Wide, Narrow, Small, Square, Fraction, Compat}
+use Rattle.ucd_model.specs.declared.row.FoldStatus.{FoldStatus}
+use Rattle.ucd_model.specs.declared.row.FoldStatus.TheVariants.{C, F, S, T}
 use Rattle.ucd_model.specs.declared.property.Flag.{Flag}
 use Rattle.ucd_model.specs.declared.property.Flag.TheVariants.{WhiteSpace, OtherMath, OtherLowercase, OtherUppercase, OtherAlphabetic, OtherIdStart, OtherIdContinue, PatternSyntax, PatternWhiteSpace, OtherDefaultIgnorableCodePoint, VariationSelector, PrependedConcatenationMark, OtherGraphemeExtend, NoncharacterCodePoint}
 use Rattle.ucd_model.specs.declared.property.Core.{Core}
@@ -86,6 +95,61 @@ category_code Cf = codes "Cf"
 category_code Cs = codes "Cs"
 category_code Co = codes "Co"
 category_code Cn = codes "Cn"
+
+-- ---- statuses of foldings
+
+abbrev pub status_of : List ℕ → Option FoldStatus
+status_of (b ∷ []) = if b == 67 then Some C else (if b == 70 then Some F else (if b == 83 then Some S else (if b == 84 then Some T else None)))
+status_of _ = None
+
+abbrev pub status_code : FoldStatus → ℕ
+status_code C = 67
+status_code F = 70
+status_code S = 83
+status_code T = 84
+
+-- ---- tags of compatibility mappings
+
+-- initial medial final isolated
+unfoldable pub positional_tag_of : List ℕ → Option Tag
+positional_tag_of bs = if bytes_eq bs (codes "<initial") then Some Initial else (if bytes_eq bs (codes "<medial") then Some Medial else (if bytes_eq bs (codes "<final") then Some Final else (if bytes_eq bs (codes "<isolated") then Some Isolated else None)))
+
+-- circle super sub vertical
+unfoldable pub shaped_tag_of : List ℕ → Option Tag
+shaped_tag_of bs = if bytes_eq bs (codes "<circle") then Some Circle else (if bytes_eq bs (codes "<super") then Some Super else (if bytes_eq bs (codes "<sub") then Some Sub else (if bytes_eq bs (codes "<vertical") then Some Vertical else None)))
+
+-- wide narrow small square
+unfoldable pub sized_tag_of : List ℕ → Option Tag
+sized_tag_of bs = if bytes_eq bs (codes "<wide") then Some Wide else (if bytes_eq bs (codes "<narrow") then Some Narrow else (if bytes_eq bs (codes "<small") then Some Small else (if bytes_eq bs (codes "<square") then Some Square else None)))
+
+-- font noBreak fraction compat
+unfoldable pub other_tag_of : List ℕ → Option Tag
+other_tag_of bs = if bytes_eq bs (codes "<font") then Some Font else (if bytes_eq bs (codes "<noBreak") then Some NoBreak else (if bytes_eq bs (codes "<fraction") then Some Fraction else (if bytes_eq bs (codes "<compat") then Some Compat else None)))
+
+abbrev pub or_else : Option Tag → Option Tag → Option Tag
+or_else (Some t) other = Some t
+or_else None other = other
+
+abbrev pub tag_of : List ℕ → Option Tag
+tag_of bs = or_else (positional_tag_of bs) (or_else (shaped_tag_of bs) (or_else (sized_tag_of bs) (other_tag_of bs)))
+
+abbrev pub tag_text : Tag → List ℕ
+tag_text Font = codes "<font>"
+tag_text NoBreak = codes "<noBreak>"
+tag_text Initial = codes "<initial>"
+tag_text Medial = codes "<medial>"
+tag_text Final = codes "<final>"
+tag_text Isolated = codes "<isolated>"
+tag_text Circle = codes "<circle>"
+tag_text Super = codes "<super>"
+tag_text Sub = codes "<sub>"
+tag_text Vertical = codes "<vertical>"
+tag_text Wide = codes "<wide>"
+tag_text Narrow = codes "<narrow>"
+tag_text Small = codes "<small>"
+tag_text Square = codes "<square>"
+tag_text Fraction = codes "<fraction>"
+tag_text Compat = codes "<compat>"
 
 -- ---- properties
 

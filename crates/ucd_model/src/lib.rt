@@ -1,20 +1,33 @@
 //! The types, values and definitions that every other crate of the bench speaks in.
 #![tactic(auto)]
 
+mod bits;
 mod category;
+pub mod composite_laws;
 mod decomposition;
+mod fact_list;
+mod facts;
+pub mod facts_laws;
 mod files;
+mod form;
+mod image;
 pub mod laws;
 mod list;
 mod memory;
 mod point;
 mod property;
 mod row;
+mod sets;
 mod span;
+mod view;
 
 pub use category::Category;
 pub use decomposition::{Kind, Tag};
+pub use fact_list::FactList;
+pub use facts::Facts;
 pub use files::{DerivedFile, FILE_LIMIT, SourceFile, file_limit};
+pub use form::{Bad, Form, FormStop, Quick};
+pub use image::Image;
 pub use list::{Copied, ListOf, Points, Spans, Text, Texts};
 pub use memory::Memory;
 pub use point::{Point, point_count};
@@ -22,4 +35,6 @@ pub use property::{Core, Flag};
 pub use row::{
     AliasRow, CasingRow, DataRow, ExclusionRow, FoldRow, FoldStatus, Kept, Row, Rows, ValueRow,
 };
+pub use sets::{CoreSet, Flags};
 pub use span::Span;
+pub use view::{FactView, FactsRef};

@@ -18,7 +18,7 @@ pub struct Kept {
     pub f11: Text,
 }
 
-/// A row of UnicodeData.txt. UAX #44, section 5.7, table 9.
+/// A row of UnicodeData.txt. UAX #44, section 5.3, table 9.
 #[derive(Debug, Drop)]
 pub struct DataRow {
     pub span: Span,

@@ -1,0 +1,38 @@
+//! Images of code points under case mappings.
+
+ghost use Rattle.std.specs.Prelude.{◌≡◌};
+ghost use Rattle.ucd_model.specs.Facts.{image};
+ghost use Rattle.ucd_model.specs.View.{image_shown};
+
+use crate::list::Points;
+use crate::point::Point;
+
+/// What a code point is mapped to. `Same` stands exactly where that is the point itself alone.
+#[derive(Debug, Drop)]
+pub enum Image {
+    Same,
+    To(Points),
+}
+
+impl Image {
+    /// The image of a code point that is mapped to these.
+    pub fn of(c: Point, points: Points) -> Image
+        ensures { result ≡ image c points }
+    {
+        if matches!(points.as_slice(), [only] if *only == c) {
+            Image::Same
+        } else {
+            Image::To(points)
+        }
+    }
+
+    /// The code points as a view shows them; `None` for the point itself alone.
+    pub fn shown(&self) -> Option<&[Point]>
+        ensures { image_shown result ≡ self.now }
+    {
+        match self {
+            Image::Same => None,
+            Image::To(points) => Some(points.as_slice()),
+        }
+    }
+}

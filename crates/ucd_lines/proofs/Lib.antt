@@ -1,0 +1,8 @@
+pub mod Cuts
+pub mod Places
+pub mod ItemCuts
+pub mod FieldCuts
+pub mod Digits
+pub mod HexTexts
+pub mod Endings
+pub mod Lines

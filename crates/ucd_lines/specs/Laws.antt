@@ -1,0 +1,54 @@
+-- Laws of lines and code points.
+--
+-- ItemsJoin              contents and endings put together give the text, for every text
+-- EmptyTextHasNoLine     the empty text has no line
+-- NoLineFeedInside       no content holds a LF
+-- OnlyTheLastIsUnended   a line that another one follows has an ending; a content without an ending is not empty
+-- EndingsAreToldApart    a content that LF alone ends does not end in CR
+-- AreLines items         each line keeps the three laws above, with the lines behind it
+-- LinesAreUnique         lines that keep these laws are the lines of what they give put together, so that a text has no others
+-- ContentsAreItems       the contents of the lines are `contents`
+-- HexReadsPutHex         what a code point is written in spells that code point
+use Rattle.std.specs.Prelude.{◌≡◌, ◌≢◌, ℕ, ◌<◌, false, List, [], ◌∷◌, ◌++◌, map, Some}
+use Rattle.std.specs.List.{list_any}
+use Rattle.ucd_model.specs.Lines.{LineItem, unended, lf, is_lf, ends_in_return, contents, items_of, joined}
+use Rattle.ucd_model.specs.Fields.{point_of}
+use Rattle.ucd_model.specs.DerivedText.{hex_text}
+
+-- the text has this line, behind the lines of front and before those of rest
+abbrev pub HasItem : List ℕ → List LineItem → LineItem → List LineItem → Type 0
+HasItem bytes front item rest = items_of bytes ≡ front ++ item ∷ rest
+
+abbrev pub ItemsJoin : Type 0
+ItemsJoin = (bytes : List ℕ) → joined (items_of bytes) ≡ bytes
+
+abbrev pub EmptyTextHasNoLine : Type 0
+EmptyTextHasNoLine = items_of [] ≡ []
+
+abbrev pub NoLineFeedInside : Type 0
+NoLineFeedInside = (bytes : List ℕ) (front : List LineItem) (item : LineItem) (rest : List LineItem) → HasItem bytes front item rest → list_any is_lf item.content ≡ false
+
+abbrev pub OnlyTheLastIsUnended : Type 0
+OnlyTheLastIsUnended = (bytes : List ℕ) (front : List LineItem) (item : LineItem) (rest : List LineItem) → HasItem bytes front item rest → item.ending ≡ unended → (rest ≡ []) × (item.content ≢ [])
+
+abbrev pub EndingsAreToldApart : Type 0
+EndingsAreToldApart = (bytes : List ℕ) (front : List LineItem) (item : LineItem) (rest : List LineItem) → HasItem bytes front item rest → item.ending ≡ lf → ends_in_return item.content ≡ false
+
+-- a line, and the lines behind it
+pub record IsLine (item : LineItem) (rest : List LineItem) : Type 0 where
+  pub no_line_feed : list_any is_lf item.content ≡ false
+  pub last : item.ending ≡ unended → (rest ≡ []) × (item.content ≢ [])
+  pub no_return : item.ending ≡ lf → ends_in_return item.content ≡ false
+
+abbrev pub AreLines : List LineItem → Type 0
+AreLines [] = Unit
+AreLines (item ∷ rest) = IsLine item rest × AreLines rest
+
+abbrev pub LinesAreUnique : Type 0
+LinesAreUnique = (items : List LineItem) → AreLines items → items_of (joined items) ≡ items
+
+abbrev pub ContentsAreItems : Type 0
+ContentsAreItems = (bytes : List ℕ) → contents bytes ≡ map (λ item. item.content) (items_of bytes)
+
+abbrev pub HexReadsPutHex : Type 0
+HexReadsPutHex = (c : ℕ) → c < 1114112 → point_of (hex_text c) ≡ Some c

@@ -1,0 +1,4 @@
+pub mod Items
+pub mod Fields
+pub mod Laws
+pub mod Digits

@@ -1,0 +1,57 @@
+//! Writes code points in hexadecimal digits.
+
+ghost use Rattle.std.specs.Prelude.{◌≡◌, ◌≤◌, ◌<◌, ◌++◌, drop, OnOk, OnErr};
+ghost use Rattle.ucd_model.specs.DerivedText.{hex_digit, hex_text};
+ghost use Rattle.ucd_lines.specs.Digits.{six_digits};
+
+use ucd_model::{Memory, Point, Text};
+
+/// Appends the hexadecimal digits of a code point in upper case: at least four, and no more than it needs. For want
+/// of memory the text stays as it was. UAX #44, section 4.2.
+pub fn put_hex(c: Point, into: &mut Text) -> Result<(), Memory>
+    ensures ok { OnOk result (into.new ≡ into.old ++ hex_text c) }
+    ensures err { OnErr result (into.new ≡ into.old) }
+{
+    let digits = six_digits(c.number());
+    into.append(&digits[spare_digits(c.number())..])
+}
+
+/// How many of six digits a number does not need, of which at least four are written.
+#[tactic(auto, unfolding(ucd_model::specs::DerivedText::hex_text))]
+fn spare_digits(number: u32) -> usize
+    requires { number < 1114112 }
+    ensures within { result ≤ 2 }
+    ensures text { hex_text number ≡ drop result (six_digits number) }
+{
+    match number {
+        ..0x1_0000 => 2,
+        ..0x10_0000 => 1,
+        _ => 0,
+    }
+}
+
+/// The last six hexadecimal digits of a number.
+fn six_digits(number: u32) -> [u8; 6]
+    ensures { result ≡ six_digits number }
+{
+    [
+        digit(number / 0x10_0000 % 16),
+        digit(number / 0x1_0000 % 16),
+        digit(number / 0x1000 % 16),
+        digit(number / 0x100 % 16),
+        digit(number / 0x10 % 16),
+        digit(number % 16),
+    ]
+}
+
+/// The hexadecimal digit of a value below 16, in upper case.
+fn digit(value: u32) -> u8
+    requires { value < 16 }
+    ensures { result ≡ hex_digit value }
+{
+    if value < 10 {
+        b'0' + value as u8
+    } else {
+        b'A' + (value - 10) as u8
+    }
+}

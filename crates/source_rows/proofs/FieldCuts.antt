@@ -1,10 +1,10 @@
 -- The first field and the fields behind it.
-use Rattle.std.proofs.Common.{◌≡◌, ℕ, ◌+◌, List, [], ◌∷◌, length, refl, arith, inl, inr}
-use Rattle.std.specs.List.{position_or_len, before_first, after_first}
+use Rattle.std.proofs.Common.{◌≡◌, ℕ, ◌+◌, List, [], ◌∷◌, length, ◌<◌, refl, ap, arith, inl, inr}
+use Rattle.std.specs.List.{slice_split, position_or_len, before_first, after_first}
 use Rattle.std.proofs.lemmas.Bool.{cases_lt}
 use Rattle.std.proofs.lemmas.Bool.Decides.{nat_tests}
-use Rattle.std.proofs.lemmas.List.{take_all, drop_all}
-use Rattle.std.proofs.lemmas.List.Splits.{slice_split_first}
+use Rattle.std.proofs.lemmas.List.{take_all, drop_all, length-map}
+use Rattle.std.proofs.lemmas.List.Splits.{slice_split_first, length-slice_split}
 use Rattle.ucd_model.specs.Fields.{trim, field, is_semicolon}
 use Rattle.source_rows.specs.Fields.{fields_of}
 use Rattle.source_rows.proofs.Cuts.{split_whole}
@@ -29,4 +29,21 @@ others_are text n =
       | inr le ↦
           let none : after_first is_semicolon text ≡ [] = drop_all (position_or_len is_semicolon text + 1) text (omega arith) in
           rw (split_whole is_semicolon text le, none, field_empty n) (field_next (trim text) [] n)
+    ]
+
+length-fields : (text : List ℕ) → length (fields_of text) ≡ length (slice_split is_semicolon text)
+length-fields text = length-map (slice_split is_semicolon text) trim
+
+pub one_is : (text : List ℕ) → length (fields_of text) ≡ 1 → fields_of text ≡ trim (before_first is_semicolon text) ∷ []
+one_is text h =
+    elim (cases_lt (position_or_len is_semicolon text) (length text)) [
+      | inl lt ↦ absurd (omega (arith, h, length-fields text, ap length (slice_split_first is_semicolon text 0 lt), length-slice_split is_semicolon text, length-slice_split is_semicolon (after_first is_semicolon text)))
+      | inr le ↦ rw (split_whole is_semicolon text le, take_all (position_or_len is_semicolon text) text le) refl
+    ]
+
+pub more_is : (text : List ℕ) → 1 < length (fields_of text) → fields_of text ≡ trim (before_first is_semicolon text) ∷ fields_of (after_first is_semicolon text)
+more_is text h =
+    elim (cases_lt (position_or_len is_semicolon text) (length text)) [
+      | inl lt ↦ rw (slice_split_first is_semicolon text 0 lt) refl
+      | inr le ↦ absurd (omega (arith, h, length-fields text, ap length (split_whole is_semicolon text le)))
     ]

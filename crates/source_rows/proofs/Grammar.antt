@@ -1,111 +1,143 @@
 -- Rows are given exactly where the grammar reads them.
-use Rattle.std.proofs.Common.{◌≡◌, ℕ, Bool, true, false, cond, eqb, List, length, Option, Some, None, Result, Ok, Err, refl, sym, ap, subst, ◌∙◌}
-use Rattle.std.proofs.lemmas.Bool.{eqb-true}
-use Rattle.ucd_model.specs.Bounds.{Bounds}
-use Rattle.ucd_model.specs.Names.{category_of}
-use Rattle.ucd_model.specs.Fields.{fields, field, point_of, span_of, is_name, is_range_name}
-use Rattle.ucd_model.specs.Grammar.{unread, ReadsData, ReadsValue, Reads}
-use Rattle.ucd_model.specs.declared.category.Category.{Category}
+use Rattle.std.proofs.Common.{◌≡◌, ℕ, Bool, true, false, cond, List, ◌∷◌, ◌++◌, get_or, Ok, refl, ap, ◌∙◌, inl, inr}
+use Rattle.std.specs.List.{position_or_len, before_first, after_first}
+use Rattle.std.proofs.lemmas.Bool.{eqb-true, or_right}
+use Rattle.std.proofs.lemmas.List.Folds.{list_any-append}
+use Rattle.std.proofs.lemmas.List.Sums.{split_at_first, passes_at_first}
+use Rattle.ucd_model.specs.Lines.{is_lf, holds_line_feed, without_return}
+use Rattle.ucd_model.specs.Fields.{fields}
+use Rattle.ucd_model.specs.Grammar.{ReadsLine, ReadsRange, IsRange, Reads}
 use Rattle.ucd_model.specs.declared.files.SourceFile.{SourceFile}
-use Rattle.ucd_model.specs.declared.files.SourceFile.TheVariants.{UnicodeData, PropList}
+use Rattle.ucd_model.specs.declared.files.SourceFile.TheVariants.{UnicodeData, PropList, Scripts, WordBreakProperty, CompositionExclusions, CaseFolding, SpecialCasing, PropertyAliases, PropertyValueAliases}
 use Rattle.ucd_model.specs.declared.row.DataRow.{DataRow}
-use Rattle.ucd_model.specs.declared.row.ValueRow.{ValueRow}
 use Rattle.ucd_model.specs.declared.row.Row.{Row}
-use Rattle.ucd_model.specs.declared.row.Row.TheVariants.{Unit as DataLine, Value as ValueLine}
-use Rattle.source_rows.specs.Lines.{holds_line_feed}
-use Rattle.source_rows.specs.Faults.{IsRead, or_fault, data_or_fault, value_or_fault, line_or_fault, row_or_fault}
+use Rattle.ucd_model.specs.declared.row.Row.TheVariants.{Unit as DataLine, Value as ValueLine, Exclusion as ExclusionLine, Fold as FoldLine, Casing as CasingLine, Alias as AliasLine}
+use Rattle.source_rows.specs.Faults.{line_or_fault, lines_or_fault, row_or_fault}
+use Rattle.source_rows.specs.DataFaults.{pair_or_fault}
 use Rattle.source_rows.specs.Laws.{RowsAreRead}
-use Rattle.source_rows.specs.declared.fault.RowFault.{RowFault}
-use Rattle.source_rows.specs.declared.fault.RowFault.TheVariants.{G03, G04, G05, G09, G11}
-use Rattle.source_rows.proofs.Spans.{spelled, given}
+use Rattle.source_rows.specs.declared.fault.RowFault.TheVariants.{G03}
+use Rattle.source_rows.proofs.Seams.{before_seam, after_seam, first_within, lacks_before}
+use Rattle.source_rows.proofs.OtherGrammar.{IsValueOf, value_read, value_given, IsExclusionOf, exclusion_read, exclusion_given, IsFoldOf, fold_read, fold_given, IsCasingOf, casing_read, casing_given, IsAliasOf, alias_read, alias_given}
+use Rattle.source_rows.proofs.LineGrammar.{IsSingleOf, single_read, single_given, IsPairOf, pair_read, pair_given}
+use Rattle.source_rows.proofs.Found.{failed}
 
--- a test that was passed
-passed : (b : Bool) (r : Result Row RowFault) (f : RowFault) (row : Row) → cond b r (Err f) ≡ Ok row → (b ≡ true) × (r ≡ Ok row)
-passed true r f row h = (refl, h)
-passed false r f row h = absurd cc
+-- ---- one line
 
-failed : (b : Bool) (r : Result Row RowFault) (f : RowFault) (row : Row) → cond b (Err f) r ≡ Ok row → (b ≡ false) × (r ≡ Ok row)
-failed true r f row h = absurd cc
-failed false r f row h = (refl, h)
+line_read : (file : SourceFile) (bytes : List ℕ) (row : Row) → line_or_fault file bytes ≡ Ok row → ReadsLine file bytes row
+line_read UnicodeData bytes row h = its bytes row (single_read (fields UnicodeData bytes) row h)
+  where
+    its : (bytes : List ℕ) (row : Row) → IsSingleOf (fields UnicodeData bytes) row → ReadsLine UnicodeData bytes row
+    its bytes (DataLine row) r = r
+    its bytes _ r = absurd r
+line_read PropList bytes row h = its bytes row (value_read (fields PropList bytes) row h)
+  where
+    its : (bytes : List ℕ) (row : Row) → IsValueOf (fields PropList bytes) row → ReadsLine PropList bytes row
+    its bytes (ValueLine row) r = r
+    its bytes _ r = absurd r
+line_read Scripts bytes row h = its bytes row (value_read (fields Scripts bytes) row h)
+  where
+    its : (bytes : List ℕ) (row : Row) → IsValueOf (fields Scripts bytes) row → ReadsLine Scripts bytes row
+    its bytes (ValueLine row) r = r
+    its bytes _ r = absurd r
+line_read WordBreakProperty bytes row h = its bytes row (value_read (fields WordBreakProperty bytes) row h)
+  where
+    its : (bytes : List ℕ) (row : Row) → IsValueOf (fields WordBreakProperty bytes) row → ReadsLine WordBreakProperty bytes row
+    its bytes (ValueLine row) r = r
+    its bytes _ r = absurd r
+line_read CompositionExclusions bytes row h = its bytes row (exclusion_read (fields CompositionExclusions bytes) row h)
+  where
+    its : (bytes : List ℕ) (row : Row) → IsExclusionOf (fields CompositionExclusions bytes) row → ReadsLine CompositionExclusions bytes row
+    its bytes (ExclusionLine row) r = r
+    its bytes _ r = absurd r
+line_read CaseFolding bytes row h = its bytes row (fold_read (fields CaseFolding bytes) row h)
+  where
+    its : (bytes : List ℕ) (row : Row) → IsFoldOf (fields CaseFolding bytes) row → ReadsLine CaseFolding bytes row
+    its bytes (FoldLine row) r = r
+    its bytes _ r = absurd r
+line_read SpecialCasing bytes row h = its bytes row (casing_read (fields SpecialCasing bytes) row h)
+  where
+    its : (bytes : List ℕ) (row : Row) → IsCasingOf (fields SpecialCasing bytes) row → ReadsLine SpecialCasing bytes row
+    its bytes (CasingLine row) r = r
+    its bytes _ r = absurd r
+line_read PropertyAliases bytes row h = its bytes row (alias_read 2 (fields PropertyAliases bytes) row h)
+  where
+    its : (bytes : List ℕ) (row : Row) → IsAliasOf 2 (fields PropertyAliases bytes) row → ReadsLine PropertyAliases bytes row
+    its bytes (AliasLine row) r = r
+    its bytes _ r = absurd r
+line_read PropertyValueAliases bytes row h = its bytes row (alias_read 3 (fields PropertyValueAliases bytes) row h)
+  where
+    its : (bytes : List ℕ) (row : Row) → IsAliasOf 3 (fields PropertyValueAliases bytes) row → ReadsLine PropertyValueAliases bytes row
+    its bytes (AliasLine row) r = r
+    its bytes _ r = absurd r
 
--- what was found
-found : {A : Type 0} (fault : RowFault) (o : Option A) (f : A → Result Row RowFault) (row : Row) → or_fault fault o f ≡ Ok row → (x : A) × (o ≡ Some x) × (f x ≡ Ok row)
-found fault (Some x) f row h = (x, refl, h)
-found fault None f row h = absurd cc
+line_given : (file : SourceFile) (bytes : List ℕ) (row : Row) → ReadsLine file bytes row → line_or_fault file bytes ≡ Ok row
+line_given UnicodeData bytes (DataLine row) r = single_given (fields UnicodeData bytes) row r
+line_given UnicodeData bytes _ r = absurd r
+line_given PropList bytes (ValueLine row) r = value_given (fields PropList bytes) row r
+line_given PropList bytes _ r = absurd r
+line_given Scripts bytes (ValueLine row) r = value_given (fields Scripts bytes) row r
+line_given Scripts bytes _ r = absurd r
+line_given WordBreakProperty bytes (ValueLine row) r = value_given (fields WordBreakProperty bytes) row r
+line_given WordBreakProperty bytes _ r = absurd r
+line_given CompositionExclusions bytes (ExclusionLine row) r = exclusion_given (fields CompositionExclusions bytes) row r
+line_given CompositionExclusions bytes _ r = absurd r
+line_given CaseFolding bytes (FoldLine row) r = fold_given (fields CaseFolding bytes) row r
+line_given CaseFolding bytes _ r = absurd r
+line_given SpecialCasing bytes (CasingLine row) r = casing_given (fields SpecialCasing bytes) row r
+line_given SpecialCasing bytes _ r = absurd r
+line_given PropertyAliases bytes (AliasLine row) r = alias_given 2 (fields PropertyAliases bytes) row r
+line_given PropertyAliases bytes _ r = absurd r
+line_given PropertyValueAliases bytes (AliasLine row) r = alias_given 3 (fields PropertyValueAliases bytes) row r
+line_given PropertyValueAliases bytes _ r = absurd r
 
--- ---- UnicodeData.txt
+-- ---- two lines
 
-abbrev IsDataOf : List (List ℕ) → Row → Type 0
-IsDataOf fs (DataLine row) = ReadsData fs row
-IsDataOf fs _ = ⊥
+feed_splits : (bytes : List ℕ) → holds_line_feed bytes ≡ true → bytes ≡ before_first is_lf bytes ++ 10 ∷ after_first is_lf bytes
+feed_splits bytes h =
+    let lt = first_within is_lf bytes h in
+    let lf : get_or bytes (position_or_len is_lf bytes) 0 ≡ 10 = eqb-true _ _ (passes_at_first is_lf bytes 0 lt) in
+    split_at_first is_lf bytes 0 lt ∙ ap (λ (b : ℕ). before_first is_lf bytes ++ b ∷ after_first is_lf bytes) lf
 
-abbrev with_category : List (List ℕ) → ℕ → Category → Result Row RowFault
-with_category fs c k = cond (is_range_name (field fs 1)) (Err G09) (Ok (DataLine (unread (record { lo = c; hi = c }) k)))
+range_read : (bytes : List ℕ) (row : Row) → holds_line_feed bytes ≡ true → lines_or_fault UnicodeData (before_first is_lf bytes) (after_first is_lf bytes) ≡ Ok row → IsRange UnicodeData bytes row
+range_read bytes row feed h =
+    let a = failed (holds_line_feed (after_first is_lf bytes)) (pair_or_fault (fields UnicodeData (without_return (before_first is_lf bytes))) (fields UnicodeData (after_first is_lf bytes))) G03 row h in
+    its bytes row feed a.0 (pair_read (fields UnicodeData (without_return (before_first is_lf bytes))) (fields UnicodeData (after_first is_lf bytes)) row a.1)
+  where
+    its : (bytes : List ℕ) (row : Row) → holds_line_feed bytes ≡ true → holds_line_feed (after_first is_lf bytes) ≡ false → IsPairOf (fields UnicodeData (without_return (before_first is_lf bytes))) (fields UnicodeData (after_first is_lf bytes)) row → IsRange UnicodeData bytes row
+    its bytes (DataLine row) feed other r = record { front = before_first is_lf bytes; last = after_first is_lf bytes; lines = feed_splits bytes feed; one_line = lacks_before is_lf bytes; other_line = other; pair = r }
+    its bytes _ feed other r = absurd r
 
-abbrev with_point : List (List ℕ) → ℕ → Result Row RowFault
-with_point fs c = or_fault G05 (category_of (field fs 2)) (with_category fs c)
+other_range : (file : SourceFile) (bytes : List ℕ) (row : Row) → holds_line_feed bytes ≡ true → lines_or_fault file (before_first is_lf bytes) (after_first is_lf bytes) ≡ Ok row → IsRange file bytes row
+other_range UnicodeData bytes row feed h = range_read bytes row feed h
+other_range _ bytes row feed h = absurd cc
 
-data_read : (fs : List (List ℕ)) (row : Row) → data_or_fault fs ≡ Ok row → IsDataOf fs row
-data_read fs row h =
-    let a = passed (eqb (length fs) 15) (or_fault G04 (point_of (field fs 0)) (with_point fs)) G03 row h in
-    let b = found G04 (point_of (field fs 0)) (with_point fs) row a.1 in
-    let c = found G05 (category_of (field fs 2)) (with_category fs b.0) row b.2 in
-    let d = failed (is_range_name (field fs 1)) (Ok (DataLine (unread (record { lo = b.0; hi = b.0 }) c.0))) G09 row c.2 in
-    let same : DataLine (unread (record { lo = b.0; hi = b.0 }) c.0) ≡ row = cc in
-    subst (λ (r : Row). IsDataOf fs r) same (record { count = eqb-true _ _ a.0; code = b.1; single = refl; category = c.1; no_range = d.0; others = refl })
+pub has_feed : (front last : List ℕ) → holds_line_feed (front ++ 10 ∷ last) ≡ true
+has_feed front last = list_any-append is_lf front (10 ∷ last) ∙ or_right (holds_line_feed front) (holds_line_feed (10 ∷ last)) refl
 
-data_given : (fs : List (List ℕ)) (row : DataRow) → ReadsData fs row → data_or_fault fs ≡ Ok (DataLine row)
-data_given fs row r =
-    let span : record { lo = row.span.lo; hi = row.span.lo } ≡ row.span = ap (λ (h : ℕ). record { lo = row.span.lo; hi = h }) (sym r.single) in
-    let whole : unread (record { lo = row.span.lo; hi = row.span.lo }) row.category ≡ row = ap (λ (s : Bounds). unread s row.category) span ∙ sym r.others in
-    rw (r.count, r.code, r.category, r.no_range) (ap (λ (x : DataRow). Ok (DataLine x)) whole)
+range_given : (bytes : List ℕ) (row : DataRow) → ReadsRange bytes row → row_or_fault UnicodeData bytes ≡ Ok (DataLine row)
+unfolding row_or_fault
+range_given bytes row r =
+    rw (r.lines, has_feed r.front r.last, before_seam is_lf r.front 10 r.last r.one_line refl, after_seam is_lf r.front 10 r.last r.one_line refl, r.other_line) (pair_given (fields UnicodeData (without_return r.front)) (fields UnicodeData r.last) row r.pair)
 
--- ---- PropList.txt
-
-abbrev IsValueOf : List (List ℕ) → Row → Type 0
-IsValueOf fs (ValueLine row) = ReadsValue fs row
-IsValueOf fs _ = ⊥
-
-abbrev with_span : List (List ℕ) → Bounds → Result Row RowFault
-with_span fs s = cond (is_name (field fs 1)) (Ok (ValueLine (record { span = s; value = field fs 1 }))) (Err G11)
-
-value_read : (fs : List (List ℕ)) (row : Row) → value_or_fault fs ≡ Ok row → IsValueOf fs row
-value_read fs row h =
-    let a = passed (eqb (length fs) 2) (or_fault G04 (span_of (field fs 0)) (with_span fs)) G03 row h in
-    let b = found G04 (span_of (field fs 0)) (with_span fs) row a.1 in
-    let c = passed (is_name (field fs 1)) (Ok (ValueLine (record { span = b.0; value = field fs 1 }))) G11 row b.2 in
-    let same : ValueLine (record { span = b.0; value = field fs 1 }) ≡ row = cc in
-    subst (λ (r : Row). IsValueOf fs r) same (record { count = eqb-true _ _ a.0; span = spelled (field fs 0) b.0 b.1; name = c.0; value = refl })
-
-value_given : (fs : List (List ℕ)) (row : ValueRow) → ReadsValue fs row → value_or_fault fs ≡ Ok (ValueLine row)
-value_given fs row r =
-    rw (r.count, given (field fs 0) row.span r.span, r.name) (ap (λ (v : List ℕ). Ok (ValueLine (record { span = row.span; value = v }))) (sym r.value))
+some_range : (file : SourceFile) (bytes : List ℕ) (row : Row) → IsRange file bytes row → row_or_fault file bytes ≡ Ok row
+some_range UnicodeData bytes (DataLine row) r = range_given bytes row r
+some_range UnicodeData bytes _ r = absurd r
+some_range _ bytes row r = absurd r
 
 -- ---- both
 
-line_read : (file : SourceFile) (bytes : List ℕ) (row : Row) → IsRead file → line_or_fault file bytes ≡ Ok row → Reads file bytes row
-line_read UnicodeData bytes row read h = data_is bytes row (data_read (fields UnicodeData bytes) row h)
-  where
-    data_is : (bytes : List ℕ) (row : Row) → IsDataOf (fields UnicodeData bytes) row → Reads UnicodeData bytes row
-    data_is bytes (DataLine row) r = r
-    data_is bytes _ r = absurd r
-line_read PropList bytes row read h = value_is bytes row (value_read (fields PropList bytes) row h)
-  where
-    value_is : (bytes : List ℕ) (row : Row) → IsValueOf (fields PropList bytes) row → Reads PropList bytes row
-    value_is bytes (ValueLine row) r = r
-    value_is bytes _ r = absurd r
-line_read _ bytes row read h = absurd read
+either_read : (feed : Bool) (file : SourceFile) (bytes : List ℕ) (row : Row) → holds_line_feed bytes ≡ feed → cond feed (lines_or_fault file (before_first is_lf bytes) (after_first is_lf bytes)) (line_or_fault file bytes) ≡ Ok row → Reads file bytes row
+either_read true file bytes row e h = inr (other_range file bytes row e h)
+either_read false file bytes row e h = inl (e, line_read file bytes row h)
 
-line_given : (file : SourceFile) (bytes : List ℕ) (row : Row) → IsRead file → Reads file bytes row → line_or_fault file bytes ≡ Ok row
-line_given UnicodeData bytes (DataLine row) read r = data_given (fields UnicodeData bytes) row r
-line_given UnicodeData bytes _ read r = absurd r
-line_given PropList bytes (ValueLine row) read r = value_given (fields PropList bytes) row r
-line_given PropList bytes _ read r = absurd r
-line_given _ bytes row read r = absurd read
+row_read : (file : SourceFile) (bytes : List ℕ) (row : Row) → row_or_fault file bytes ≡ Ok row → Reads file bytes row
+unfolding row_or_fault
+row_read file bytes row h = either_read (holds_line_feed bytes) file bytes row refl h
+
+row_given : (file : SourceFile) (bytes : List ℕ) (row : Row) → Reads file bytes row → row_or_fault file bytes ≡ Ok row
+unfolding row_or_fault
+row_given file bytes row (inl line) = rw line.0 (line_given file bytes row line.1)
+row_given file bytes row (inr range) = some_range file bytes row range
 
 pub rows_are_read : RowsAreRead
-unfolding row_or_fault
-rows_are_read file bytes row read = (
-  λ h. let a = failed (holds_line_feed bytes) (line_or_fault file bytes) G03 row h in (a.0, line_read file bytes row read a.1),
-  λ r. rw r.0 (line_given file bytes row read r.1),
-)
+rows_are_read file bytes row = (row_read file bytes row, row_given file bytes row)

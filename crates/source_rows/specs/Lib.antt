@@ -1,5 +1,9 @@
 pub mod Lines
 pub mod Fields
+pub mod Steps
+pub mod DataFaults
+pub mod OtherFaults
+pub mod Texts
 pub mod Faults
-pub mod Files
+pub mod Ranges
 pub mod Laws

@@ -1,9 +1,20 @@
--- Bytes of a line. UAX #44, section 4.2.
+-- The first line of a range. UAX #44, section 4.2.3.
 --
--- holds_line_feed bs   a LF is among the bytes, so that they are no line's content
-use Rattle.std.specs.Prelude.{ℕ, Bool, List}
-use Rattle.std.specs.List.{list_any}
-use Rattle.ucd_model.specs.Lines.{is_lf}
+-- has_first_name name     `<Label, First>`, with a label that is a name
+-- is_first_line content   a line of UnicodeData.txt with 15 fields and such a name
+-- begins_with_first bytes   what stands before the first LF, without one CR at its end, is such a line
+use Rattle.std.specs.Prelude.{ℕ, Bool, ◌&&◌, List, length, ◌==◌, codes}
+use Rattle.ucd_model.specs.Fields.{fields, field, is_label_closed_by}
+use Rattle.ucd_model.specs.declared.files.SourceFile.TheVariants.{UnicodeData}
 
-abbrev pub holds_line_feed : List ℕ → Bool
-holds_line_feed bs = list_any is_lf bs
+abbrev pub has_first_name : List ℕ → Bool
+has_first_name name = is_label_closed_by (codes ", First>") name
+
+abbrev pub has_last_name : List ℕ → Bool
+has_last_name name = is_label_closed_by (codes ", Last>") name
+
+abbrev pub are_first_fields : List (List ℕ) → Bool
+are_first_fields fs = (length fs == 15) && has_first_name (field fs 1)
+
+abbrev pub is_first_line : List ℕ → Bool
+is_first_line content = are_first_fields (fields UnicodeData content)

@@ -2,7 +2,8 @@
 
 ghost use Rattle.std.specs.Prelude.{◌≡◌, ◌<◌, ◌≤◌, length, IfSome};
 ghost use Rattle.std.specs.List.{list_all};
-ghost use Rattle.ucd_model.specs.Fields.{digit_of, hex_number, point_of, span_of, behind_dot, is_name_byte, is_name, is_label_closed_by, is_range_name};
+ghost use Rattle.ucd_model.specs.Fields.{digit_of, hex_number, point_of, span_of, behind_dot, is_name_byte, is_name, is_label_closed_by, is_range_name, label_of};
+ghost use Rattle.source_rows.specs.Lines.{has_first_name, has_last_name};
 
 use crate::lines::{cut, first_at};
 use ucd_model::{Point, Span};
@@ -101,10 +102,35 @@ fn is_label_closed_by(closing: &[u8], text: &[u8]) -> bool
     is_name(label)
 }
 
+/// Whether the name is `<Label, First>`.
+pub fn has_first_name(name: &[u8]) -> bool
+    ensures { result ≡ has_first_name name.now }
+{
+    is_label_closed_by(b", First>", name)
+}
+
+/// Whether the name is `<Label, Last>`.
+pub fn has_last_name(name: &[u8]) -> bool
+    ensures { result ≡ has_last_name name.now }
+{
+    is_label_closed_by(b", Last>", name)
+}
+
 /// Whether the name is that of the first or the last line of a range: `<Label, First>` or `<Label, Last>`.
 /// UAX #44, section 4.2.3.
 pub fn is_range_name(name: &[u8]) -> bool
     ensures { result ≡ is_range_name name.now }
 {
-    is_label_closed_by(b", First>", name) || is_label_closed_by(b", Last>", name)
+    has_first_name(name) || has_last_name(name)
+}
+
+/// The label between the `<` and the closing.
+pub fn label_of<'a>(closing: &[u8], name: &'a [u8]) -> &'a [u8]
+    ensures { result.now ≡ label_of closing.now name.now }
+{
+    let front = &name[..name.len().saturating_sub(closing.len())];
+    match front {
+        [] => front,
+        [_, label @ ..] => label,
+    }
 }

@@ -1,4 +1,4 @@
-//! Why bytes are no row, and a file is no list of rows.
+//! Why bytes are no row.
 
 ghost use Rattle.std.specs.Prelude.{◌≡◌};
 
@@ -47,21 +47,12 @@ impl From<AllocError> for RowStop {
     }
 }
 
-/// Why a file was not read.
-#[derive(Clone, Copy, Debug, PartialEq, Eq)]
-pub enum FileStop {
-    /// The first line that breaks a rule, counted from 1 over all lines, and the first rule that it breaks.
-    Fault { line: u32, fault: RowFault },
-    /// Memory ran out.
-    Memory,
-}
-
-impl From<ucd_model::Memory> for FileStop {
-    ghost use Rattle.source_rows.specs.declared.fault.FileStop.TheVariants.{Memory};
+impl From<ucd_model::Memory> for RowStop {
+    ghost use Rattle.source_rows.specs.declared.fault.RowStop.TheVariants.{Memory};
 
     ghost from_gives = { λ _ e. e ≡ Memory };
 
-    fn from(_e: ucd_model::Memory) -> FileStop {
-        FileStop::Memory
+    fn from(_e: ucd_model::Memory) -> RowStop {
+        RowStop::Memory
     }
 }

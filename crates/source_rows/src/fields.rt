@@ -1,11 +1,20 @@
 //! Cuts a line into its fields, each a part of the line. UAX #44, section 4.2.
 
-ghost use Rattle.std.specs.Prelude.{◌≡◌, ℕ, ◌+◌, length, count_by};
+ghost use Rattle.std.specs.Prelude.{◌≡◌, ℕ, ◌+◌, ◌<◌, ◌∷◌, [], length, count_by, IfOk};
 ghost use Rattle.ucd_model.specs.Fields.{trim_start, trim_end, trim, field, is_hash, is_semicolon};
 ghost use Rattle.std.specs.List.{before_first};
 ghost use Rattle.source_rows.specs.Fields.{fields_of};
 
 use crate::lines::{cut, is_blank, leading_blanks};
+use std::alloc::{AllocError, Global};
+use ucd_model::{ListOf, Text};
+
+/// The text of the bytes.
+pub fn text_of(alloc: Global, bytes: &[u8]) -> Result<Text, AllocError>
+    ensures { IfOk result (λ text. text ≡ bytes.now) }
+{
+    Ok(ListOf::from_vec(Vec::from_slice(alloc, bytes)?))
+}
 
 /// What stands before the first `#`.
 pub fn without_comment(content: &[u8]) -> &[u8]
@@ -57,6 +66,8 @@ pub fn field_count(text: &[u8]) -> usize
 pub fn first_field(text: &[u8]) -> (&[u8], &[u8])
     ensures first { result.0.now ≡ field (fields_of text.now) 0 }
     ensures others { (n : ℕ) → field (fields_of text.now) (n + 1) ≡ field (fields_of result.1.now) n }
+    ensures one { length (fields_of text.now) ≡ 1 → fields_of text.now ≡ result.0.now ∷ [] }
+    ensures more { 1 < length (fields_of text.now) → fields_of text.now ≡ result.0.now ∷ fields_of result.1.now }
 {
     let (first, others) = cut(text, b';');
     (trim(first), others)

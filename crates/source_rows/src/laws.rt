@@ -1,6 +1,7 @@
 //! Laws that tie what is read to the grammar.
 
-ghost use Rattle.source_rows.specs.Laws.{RowsAreRead, SpansAreSpelled, FaultsAreFirst, CategoriesAreNamed};
+ghost use Rattle.source_rows.specs.Laws.{SpansAreSpelled, CategoriesAreNamed, RowsAreOk, RowsAreRead, SpellingsAreOne, TextsReadBack};
+ghost use Rattle.source_rows.specs.Ranges.{FirstLinesBegin};
 
 /// The reader gives a row exactly where the grammar reads the bytes as that row.
 pub fn rows_are_read()
@@ -12,12 +13,27 @@ pub fn spans_are_spelled()
     ensures { SpansAreSpelled }
 {}
 
-/// The reader gives a fault exactly where its rule is the first that the bytes break.
-pub fn faults_are_first()
-    ensures { FaultsAreFirst }
-{}
-
 /// The code of each category but `Cn` is read as that category, and `Cn` is none.
 pub fn categories_are_named()
     ensures { CategoriesAreNamed }
+{}
+
+/// The text of a row that the file can have is read as that row.
+pub fn texts_read_back()
+    ensures { TextsReadBack }
+{}
+
+/// The row values that a file can have are those that some bytes are read as.
+pub fn rows_are_ok()
+    ensures { RowsAreOk }
+{}
+
+/// No bytes are read as two rows, and no two rows have one text.
+pub fn spellings_are_one()
+    ensures { SpellingsAreOne }
+{}
+
+/// What a first line of a range says of the fault of two lines.
+pub fn first_lines_begin()
+    ensures { FirstLinesBegin }
 {}

@@ -1,21 +1,41 @@
-//! Reads the rows of the source files of the Unicode Character Database: UnicodeData.txt and PropList.txt.
+//! Reads and writes the rows of the source files of the Unicode Character Database.
 #![tactic(auto)]
 
+mod aliases;
+mod case_folding;
 mod category_name;
 mod code_point;
+mod composition_exclusions;
+mod data_values;
+mod decomposition;
 mod fault;
 mod fields;
-mod file;
+mod fifteen;
 mod laws;
 mod lines;
+mod mapping;
 mod prop_list;
+mod property_aliases;
+mod property_value_aliases;
+mod put_data;
+mod put_points;
+mod put_rows;
 mod read;
+mod scripts;
+mod special_casing;
+mod text;
 mod unicode_data;
+mod values;
+mod word_break_property;
 
-pub use fault::{FileStop, RowFault, RowStop};
-pub use file::read_rows;
-pub use laws::{categories_are_named, faults_are_first, rows_are_read, spans_are_spelled};
+pub use fault::{RowFault, RowStop};
+pub use laws::{
+    categories_are_named, first_lines_begin, rows_are_ok, rows_are_read, spans_are_spelled,
+    spellings_are_one, texts_read_back,
+};
 pub use read::read_row;
+pub use text::row_text;
+pub use unicode_data::begins_range;
 
 #[cfg(test)]
 mod tests;

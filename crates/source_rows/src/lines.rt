@@ -1,9 +1,8 @@
-//! Cuts a text into its lines. UAX #44, section 4.2.
+//! White space, line feeds, and what stands before and behind a byte. UAX #44, section 4.2.
 
-ghost use Rattle.std.specs.Prelude.{◌≡◌, ◌<◌, ◌≤◌, ◌∷◌, ◌==◌, length};
+ghost use Rattle.std.specs.Prelude.{◌≡◌, ◌≤◌, ◌==◌, length};
 ghost use Rattle.std.specs.List.{position_or_len, before_first, after_first, prefix_len};
-ghost use Rattle.ucd_model.specs.Lines.{contents, is_blank, is_trivia, without_return};
-ghost use Rattle.source_rows.specs.Lines.{holds_line_feed};
+ghost use Rattle.ucd_model.specs.Lines.{is_blank, without_return, holds_line_feed};
 
 /// The place of the first such byte, and the length of the text where there is none.
 pub fn first_at(text: &[u8], byte: u8) -> usize
@@ -57,35 +56,12 @@ pub fn leading_blanks(text: &[u8]) -> usize
     text.len()
 }
 
-/// Whether a line is blank, or its first byte other than white space is `#`.
-pub fn is_trivia(content: &[u8]) -> bool
-    ensures { result ≡ is_trivia content.now }
-{
-    match &content[leading_blanks(content)..] {
-        [] => true,
-        [first, ..] => *first == b'#',
-    }
-}
-
 /// The text without one CR at its end.
-fn without_return(text: &[u8]) -> &[u8]
+pub fn without_return(text: &[u8]) -> &[u8]
     ensures { result.now ≡ without_return text.now }
 {
     match text {
         [content @ .., b'\r'] => content,
         _ => text,
     }
-}
-
-/// The content of the first line, without what ends it, and the text behind that line.
-pub fn first_line(text: &[u8]) -> (&[u8], &[u8])
-    requires { 0 < length text.now }
-    ensures lines { contents text.now ≡ result.0.now ∷ contents result.1.now }
-    ensures shorter { length result.1.now < length text.now }
-{
-    let (line, rest) = cut(text, b'\n');
-    if line.len() == text.len() {
-        return (line, rest);
-    }
-    (without_return(line), rest)
 }

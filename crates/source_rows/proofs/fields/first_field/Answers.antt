@@ -1,5 +1,5 @@
 use Rattle.std.proofs.Common.{refl}
-use Rattle.source_rows.proofs.FieldCuts.{first_is, others_are}
+use Rattle.source_rows.proofs.FieldCuts.{first_is, others_are, one_is, more_is}
 use Rattle.source_rows.proofs.fields.first_field.Goals as goal
 
 pub returns-clause-first : goal.returns-clause-first
@@ -7,3 +7,9 @@ returns-clause-first c = let e = first_is c.args.text.now in rw (e, ← c.cut.en
 
 pub returns-clause-others : goal.returns-clause-others
 returns-clause-others c = λ n. rw (others_are c.args.text.now n, c.cut.ensures.after) refl
+
+pub returns-clause-one : goal.returns-clause-one
+returns-clause-one c = λ one. rw (c.trim.ensures, c.cut.ensures.before) (one_is c.args.text.now one)
+
+pub returns-clause-more : goal.returns-clause-more
+returns-clause-more c = λ more. rw (c.trim.ensures, c.cut.ensures.before, c.cut.ensures.after) (more_is c.args.text.now more)

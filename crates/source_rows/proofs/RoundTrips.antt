@@ -1,0 +1,38 @@
+-- The text of a row that the file can have is read as that row.
+use Rattle.std.proofs.Common.{inl, arith}
+use Rattle.ucd_model.specs.Fields.{fields}
+use Rattle.ucd_model.specs.Grammar.{Reads}
+use Rattle.ucd_model.specs.RowTexts.{row_text}
+use Rattle.ucd_model.specs.RowValues.{RowOk}
+use Rattle.ucd_model.specs.declared.files.SourceFile.{SourceFile}
+use Rattle.ucd_model.specs.declared.files.SourceFile.TheVariants.{UnicodeData, PropList, Scripts, WordBreakProperty, CompositionExclusions, CaseFolding, SpecialCasing, PropertyAliases, PropertyValueAliases}
+use Rattle.ucd_model.specs.declared.row.Row.{Row}
+use Rattle.ucd_model.specs.declared.row.Row.TheVariants.{Unit as DataLine, Value as ValueLine, Exclusion as ExclusionLine, Fold as FoldLine, Casing as CasingLine, Alias as AliasLine}
+use Rattle.source_rows.specs.Laws.{TextsReadBack}
+use Rattle.source_rows.proofs.Grammar.{rows_are_read}
+use Rattle.source_rows.proofs.DataTexts.{data_reads}
+use Rattle.source_rows.proofs.OtherTexts.{value_reads, exclusion_reads, fold_reads, casing_reads, alias_reads}
+
+pub text_reads : (file : SourceFile) (row : Row) → RowOk file row → Reads file (row_text file row) row
+unfolding fields
+text_reads UnicodeData (DataLine row) ok = data_reads row ok
+text_reads UnicodeData _ ok = absurd ok
+text_reads PropList (ValueLine row) ok = let line = value_reads row ok in inl (line.no_feed, line.reads)
+text_reads PropList _ ok = absurd ok
+text_reads Scripts (ValueLine row) ok = let line = value_reads row ok in inl (line.no_feed, line.reads)
+text_reads Scripts _ ok = absurd ok
+text_reads WordBreakProperty (ValueLine row) ok = let line = value_reads row ok in inl (line.no_feed, line.reads)
+text_reads WordBreakProperty _ ok = absurd ok
+text_reads CompositionExclusions (ExclusionLine row) ok = let line = exclusion_reads row ok in inl (line.no_feed, line.reads)
+text_reads CompositionExclusions _ ok = absurd ok
+text_reads CaseFolding (FoldLine row) ok = let line = fold_reads row ok in inl (line.no_feed, line.reads)
+text_reads CaseFolding _ ok = absurd ok
+text_reads SpecialCasing (CasingLine row) ok = let line = casing_reads row ok in inl (line.no_feed, line.reads)
+text_reads SpecialCasing _ ok = absurd ok
+text_reads PropertyAliases (AliasLine row) ok = let line = alias_reads 2 row (omega arith) ok in inl (line.no_feed, line.reads)
+text_reads PropertyAliases _ ok = absurd ok
+text_reads PropertyValueAliases (AliasLine row) ok = let line = alias_reads 3 row (omega arith) ok in inl (line.no_feed, line.reads)
+text_reads PropertyValueAliases _ ok = absurd ok
+
+pub texts_read_back : TextsReadBack
+texts_read_back file row ok = (rows_are_read file (row_text file row) row).1 (text_reads file row ok)

@@ -1,0 +1,7 @@
+use Rattle.std.proofs.Common.{◌≡◌, ◌++◌, take}
+use Rattle.source_rows.specs.Texts.{spaced}
+use Rattle.source_rows.proofs.put_points.put_spaced.Given as goal
+
+-- what stood there, and the code points so far
+abbrev pub invariant-loop-point : goal.invariant-loop-point
+invariant-loop-point l = l.into ≡ l.fn.into ++ spaced (take l.point-index l.points)

@@ -1,0 +1,98 @@
+//! CaseFolding.txt. UAX #44, section 5.3, and the head of the file.
+
+ghost use Rattle.std.specs.Prelude.{◌≡◌, ◌<◌, IfOk, length};
+ghost use Rattle.std.specs.List.{before_first};
+ghost use Rattle.ucd_model.specs.Fields.{is_hash, field};
+ghost use Rattle.ucd_model.specs.Mappings.{mapping_of};
+ghost use Rattle.ucd_model.specs.Names.{status_of};
+ghost use Rattle.source_rows.specs.Faults.{ReadsAs};
+ghost use Rattle.source_rows.specs.Fields.{fields_of};
+ghost use Rattle.source_rows.specs.OtherFaults.{fold_or_fault, has_fold_fields, folds_to, of_status};
+
+use crate::code_point::point_of;
+use crate::fault::{RowFault, RowStop};
+use crate::fields::{field_count, first_field, three_fields, without_comment};
+use crate::mapping::mapping_of;
+use std::alloc::Global;
+use ucd_model::{FoldRow, FoldStatus, Memory, Points, Row};
+
+/// The status that one byte names. `None` for all other bytes.
+fn status_of(field: &[u8]) -> Option<FoldStatus>
+    ensures { result ≡ status_of field.now }
+{
+    match field {
+        [b'C'] => Some(FoldStatus::C),
+        [b'F'] => Some(FoldStatus::F),
+        [b'S'] => Some(FoldStatus::S),
+        [b'T'] => Some(FoldStatus::T),
+        _ => None,
+    }
+}
+
+/// Whether a folding of the status may have so many code points.
+fn folds_to(status: FoldStatus, len: usize) -> bool
+    ensures { result ≡ folds_to status len }
+{
+    match status {
+        FoldStatus::C | FoldStatus::S => len == 1,
+        FoldStatus::F | FoldStatus::T => len > 0,
+    }
+}
+
+/// The mapping of a folding of the status. `None` for all other bytes.
+fn folding_of(alloc: Global, status: FoldStatus, field: &[u8]) -> Result<Option<Points>, Memory>
+    ensures { IfOk result (λ found. found ≡ of_status status (mapping_of field.now)) }
+{
+    let Some(points) = mapping_of(alloc, field)? else {
+        return Ok(None);
+    };
+    if !folds_to(status, points.len()) {
+        return Ok(None);
+    }
+    Ok(Some(points))
+}
+
+/// Whether there are three fields, or four of which the last is empty.
+fn has_fold_fields(text: &[u8]) -> bool
+    ensures { result ≡ has_fold_fields (fields_of text.now) }
+{
+    let count = field_count(text);
+    if count == 3 {
+        return true;
+    }
+    count == 4 && fourth_field(text).is_empty()
+}
+
+/// The fourth field. A field that is not there is empty.
+fn fourth_field(text: &[u8]) -> &[u8]
+    ensures { result.now ≡ field (fields_of text.now) 3 }
+{
+    let (_, others) = first_field(text);
+    three_fields(others).2
+}
+
+/// The row of a line, or its first fault.
+#[tactic(auto, unfolding(crate::specs::OtherFaults::fold_or_fault))]
+pub fn read_fold(alloc: Global, content: &[u8]) -> Result<Row, RowStop>
+    ensures { ReadsAs result (fold_or_fault (fields_of (before_first is_hash content.now))) }
+{
+    let text = without_comment(content);
+    if !has_fold_fields(text) {
+        return Err(RowStop::Fault(RowFault::G03));
+    }
+    let (code, status, mapping) = three_fields(text);
+    let Some(code) = point_of(code) else {
+        return Err(RowStop::Fault(RowFault::G04));
+    };
+    let Some(status) = status_of(status) else {
+        return Err(RowStop::Fault(RowFault::G08));
+    };
+    let Some(mapping) = folding_of(alloc, status, mapping)? else {
+        return Err(RowStop::Fault(RowFault::G07));
+    };
+    Ok(Row::Fold(FoldRow {
+        code,
+        status,
+        mapping,
+    }))
+}

@@ -1,0 +1,27 @@
+//! CompositionExclusions.txt. UAX #44, section 5.3.
+
+ghost use Rattle.ucd_model.specs.Fields.{is_hash};
+ghost use Rattle.std.specs.List.{before_first};
+ghost use Rattle.source_rows.specs.Faults.{ReadsAs};
+ghost use Rattle.source_rows.specs.Fields.{fields_of};
+ghost use Rattle.source_rows.specs.OtherFaults.{exclusion_or_fault};
+
+use crate::code_point::span_of;
+use crate::fault::{RowFault, RowStop};
+use crate::fields::{field_count, first_field, without_comment};
+use ucd_model::{ExclusionRow, Row};
+
+/// The row of a line, or its first fault. It takes no memory.
+#[tactic(auto, unfolding(crate::specs::OtherFaults::exclusion_or_fault))]
+pub fn read_exclusion(content: &[u8]) -> Result<Row, RowStop>
+    ensures { ReadsAs result (exclusion_or_fault (fields_of (before_first is_hash content.now))) }
+{
+    let text = without_comment(content);
+    if field_count(text) != 1 {
+        return Err(RowStop::Fault(RowFault::G03));
+    }
+    let Some(span) = span_of(first_field(text).0) else {
+        return Err(RowStop::Fault(RowFault::G04));
+    };
+    Ok(Row::Exclusion(ExclusionRow { span }))
+}

@@ -1,0 +1,105 @@
+//! Reads fields 2 to 14 of UnicodeData.txt, which a range has as a single line has them. UAX #44, section 5.7, table 9.
+
+ghost use Rattle.std.specs.Prelude.{◌≡◌, ◌≤◌, true, length};
+ghost use Rattle.std.specs.List.{list_all};
+ghost use Rattle.ucd_model.specs.Fields.{class_of, case_of, decimal_number, is_digit};
+ghost use Rattle.source_rows.specs.DataFaults.{values_or_fault, ValuesReadAs};
+ghost use Rattle.source_rows.specs.Fields.{fields_in};
+
+use crate::category_name::category_of;
+use crate::code_point::point_of;
+use crate::decomposition::{Decomposition, read_decomposition};
+use crate::fault::{RowFault, RowStop};
+use crate::fifteen::DataFields;
+use std::alloc::Global;
+use ucd_model::{Category, Point};
+
+/// What fields 2, 3, 5 and 12 to 14 hold.
+#[derive(Drop)]
+pub struct Values {
+    pub category: Category,
+    pub class: u8,
+    pub decomposition: Decomposition,
+    pub upper: Option<Point>,
+    pub lower: Option<Point>,
+    pub title: Option<Point>,
+}
+
+/// Whether each byte is a decimal digit.
+fn are_digits(text: &[u8]) -> bool
+    ensures { result ≡ list_all is_digit text.now }
+{
+    text.iter().all(|b| (b'0'..=b'9').contains(b))
+}
+
+/// The number that at most three decimal digits write.
+fn decimal_number(digits: &[u8]) -> u32
+    requires short { length digits.now ≤ 3 }
+    requires digits { list_all is_digit digits.now ≡ true }
+    ensures { result ≡ decimal_number digits.now }
+{
+    let mut number = 0;
+    for byte in digits {
+        number = 10 * number + u32::from(*byte - b'0');
+    }
+    number
+}
+
+/// The number from 0 to 254 that one to three decimal digits write. `None` for all other bytes.
+#[tactic(auto, unfolding(ucd_model::specs::Fields::class_of))]
+fn class_of(field: &[u8]) -> Option<u8>
+    ensures { result ≡ class_of field.now }
+{
+    if field.is_empty() || field.len() > 3 {
+        return None;
+    }
+    if !are_digits(field) {
+        return None;
+    }
+    let number = decimal_number(field);
+    if number > 254 {
+        return None;
+    }
+    Some(number as u8)
+}
+
+/// A simple case mapping, which may be empty. `None` for all other bytes.
+fn case_of(field: &[u8]) -> Option<Option<Point>>
+    ensures { result ≡ case_of field.now }
+{
+    match field {
+        [] => Some(None),
+        _ => Some(Some(point_of(field)?)),
+    }
+}
+
+/// The values of a line's fields, or their first fault.
+#[tactic(auto, unfolding(crate::specs::DataFaults::values_or_fault))]
+pub fn read_values(alloc: Global, line: DataFields<'_>) -> Result<Values, RowStop>
+    ensures { ValuesReadAs result (values_or_fault (fields_in line.entry)) }
+{
+    let Some(category) = category_of(line.f2) else {
+        return Err(RowStop::Fault(RowFault::G05));
+    };
+    let Some(class) = class_of(line.f3) else {
+        return Err(RowStop::Fault(RowFault::G06));
+    };
+    let decomposition = read_decomposition(alloc, line.f5)?;
+    let Some(upper) = case_of(line.f12) else {
+        return Err(RowStop::Fault(RowFault::G07));
+    };
+    let Some(lower) = case_of(line.f13) else {
+        return Err(RowStop::Fault(RowFault::G07));
+    };
+    let Some(title) = case_of(line.f14) else {
+        return Err(RowStop::Fault(RowFault::G07));
+    };
+    Ok(Values {
+        category,
+        class,
+        decomposition,
+        upper,
+        lower,
+        title,
+    })
+}

@@ -1,0 +1,22 @@
+//! PropertyAliases.txt: the names of properties. UAX #44, section 5.8.1.
+
+ghost use Rattle.std.specs.List.{before_first};
+ghost use Rattle.ucd_model.specs.Fields.{is_hash};
+ghost use Rattle.source_rows.specs.Faults.{ReadsAs};
+ghost use Rattle.source_rows.specs.Fields.{fields_of};
+ghost use Rattle.source_rows.specs.OtherFaults.{alias_or_fault};
+
+use crate::aliases::read_alias;
+use crate::fault::RowStop;
+use std::alloc::Global;
+use ucd_model::Row;
+
+/// The short name and the long one; others may follow.
+const LEAST: usize = 2;
+
+/// The row of a line, or its first fault: the names of a property, its short one first.
+pub fn read_property_alias(alloc: Global, content: &[u8]) -> Result<Row, RowStop>
+    ensures { ReadsAs result (alias_or_fault 2 (fields_of (before_first is_hash content.now))) }
+{
+    read_alias(alloc, LEAST, content)
+}

@@ -1,0 +1,218 @@
+//! Writes rows of UnicodeData.txt. UAX #44, section 5.7, table 9.
+
+ghost use Rattle.std.specs.Prelude.{◌≡◌, ◌<◌, ◌++◌, ◌∷◌, [], OnOk, IfOk, codes};
+ghost use Rattle.ucd_model.specs.DerivedText.{hex_text};
+ghost use Rattle.ucd_model.specs.Names.{category_code, tag_text};
+ghost use Rattle.ucd_model.specs.RowTexts.{class_text, decomposition_text, case_text, data_line, data_text, decimal_digit, value_fields, range_text};
+ghost use Rattle.source_rows.specs.Texts.{ended};
+
+use crate::put_points::put_mapping;
+use std::alloc::Global;
+use ucd_lines::put_hex;
+use ucd_model::{Category, DataRow, Kind, Memory, Point, Tag, Text};
+
+/// The two letters of a General_Category.
+fn category_code(category: Category) -> [u8; 2]
+    ensures { result ≡ category_code category }
+{
+    match category {
+        Category::Lu => *b"Lu",
+        Category::Ll => *b"Ll",
+        Category::Lt => *b"Lt",
+        Category::Lm => *b"Lm",
+        Category::Lo => *b"Lo",
+        Category::Mn => *b"Mn",
+        Category::Mc => *b"Mc",
+        Category::Me => *b"Me",
+        Category::Nd => *b"Nd",
+        Category::Nl => *b"Nl",
+        Category::No => *b"No",
+        Category::Pc => *b"Pc",
+        Category::Pd => *b"Pd",
+        Category::Ps => *b"Ps",
+        Category::Pe => *b"Pe",
+        Category::Pi => *b"Pi",
+        Category::Pf => *b"Pf",
+        Category::Po => *b"Po",
+        Category::Sm => *b"Sm",
+        Category::Sc => *b"Sc",
+        Category::Sk => *b"Sk",
+        Category::So => *b"So",
+        Category::Zs => *b"Zs",
+        Category::Zl => *b"Zl",
+        Category::Zp => *b"Zp",
+        Category::Cc => *b"Cc",
+        Category::Cf => *b"Cf",
+        Category::Cs => *b"Cs",
+        Category::Co => *b"Co",
+        Category::Cn => *b"Cn",
+    }
+}
+
+/// A tag between its brackets.
+fn tag_text(tag: Tag) -> &'static [u8]
+    ensures { result.now ≡ tag_text tag }
+{
+    match tag {
+        Tag::Font => b"<font>",
+        Tag::NoBreak => b"<noBreak>",
+        Tag::Initial => b"<initial>",
+        Tag::Medial => b"<medial>",
+        Tag::Final => b"<final>",
+        Tag::Isolated => b"<isolated>",
+        Tag::Circle => b"<circle>",
+        Tag::Super => b"<super>",
+        Tag::Sub => b"<sub>",
+        Tag::Vertical => b"<vertical>",
+        Tag::Wide => b"<wide>",
+        Tag::Narrow => b"<narrow>",
+        Tag::Small => b"<small>",
+        Tag::Square => b"<square>",
+        Tag::Fraction => b"<fraction>",
+        Tag::Compat => b"<compat>",
+    }
+}
+
+/// The last digit of a number.
+fn decimal_digit(number: u8) -> u8
+    ensures { result ≡ decimal_digit number }
+{
+    b'0' + number % 10
+}
+
+/// Appends a class in decimal.
+#[tactic(auto, unfolding(ucd_model::specs::RowTexts::class_text))]
+fn put_class(class: u8, into: &mut Text) -> Result<(), Memory>
+    ensures { OnOk result (into.new ≡ into.old ++ class_text class) }
+{
+    if class < 10 {
+        return into.push(decimal_digit(class));
+    }
+    if class < 100 {
+        return into.append(&[decimal_digit(class / 10), decimal_digit(class)]);
+    }
+    into.append(&[
+        decimal_digit(class / 100),
+        decimal_digit(class / 10),
+        decimal_digit(class),
+    ])
+}
+
+/// Appends field 5.
+fn put_decomposition(kind: Kind, mapping: &[Point], into: &mut Text) -> Result<(), Memory>
+    ensures { OnOk result (into.new ≡ into.old ++ decomposition_text kind mapping.now) }
+{
+    match kind {
+        Kind::Plain => Ok(()),
+        Kind::Canonical => put_mapping(mapping, into),
+        Kind::Compat(tag) => {
+            into.append(tag_text(tag))?;
+            into.push(b' ')?;
+            put_mapping(mapping, into)
+        }
+    }
+}
+
+/// Appends a simple case mapping, or nothing.
+fn put_case(case: Option<Point>, into: &mut Text) -> Result<(), Memory>
+    ensures { OnOk result (into.new ≡ into.old ++ case_text case) }
+{
+    match case {
+        None => Ok(()),
+        Some(point) => put_hex(point, into),
+    }
+}
+
+/// Appends a field and the `;` behind it.
+fn put_field(field: &[u8], into: &mut Text) -> Result<(), Memory>
+    ensures { OnOk result (into.new ≡ into.old ++ field.now ++ 59 ∷ []) }
+{
+    into.append(field)?;
+    into.push(b';')
+}
+
+/// Appends fields 0 to 3.
+fn put_front(row: &DataRow, point: Point, name: &[u8], into: &mut Text) -> Result<(), Memory>
+    ensures { OnOk result (into.new ≡ into.old ++ ended (hex_text point ∷ name.now ∷ category_code row.now.category ∷ class_text row.now.class ∷ [])) }
+{
+    put_hex(point, into)?;
+    into.push(b';')?;
+    put_field(name, into)?;
+    put_field(&category_code(row.category), into)?;
+    put_class(row.class, into)?;
+    into.push(b';')
+}
+
+/// Appends fields 4 to 7.
+fn put_decomposed(row: &DataRow, into: &mut Text) -> Result<(), Memory>
+    ensures { OnOk result (into.new ≡ into.old ++ ended (row.now.kept.f4 ∷ decomposition_text row.now.kind row.now.mapping ∷ row.now.kept.f6 ∷ row.now.kept.f7 ∷ [])) }
+{
+    put_field(row.kept.f4.as_slice(), into)?;
+    put_decomposition(row.kind, row.mapping.as_slice(), into)?;
+    into.push(b';')?;
+    put_field(row.kept.f6.as_slice(), into)?;
+    put_field(row.kept.f7.as_slice(), into)
+}
+
+/// Appends fields 8 to 11.
+fn put_kept(row: &DataRow, into: &mut Text) -> Result<(), Memory>
+    ensures { OnOk result (into.new ≡ into.old ++ ended (row.now.kept.f8 ∷ row.now.kept.f9 ∷ row.now.kept.f10 ∷ row.now.kept.f11 ∷ [])) }
+{
+    put_field(row.kept.f8.as_slice(), into)?;
+    put_field(row.kept.f9.as_slice(), into)?;
+    put_field(row.kept.f10.as_slice(), into)?;
+    put_field(row.kept.f11.as_slice(), into)
+}
+
+/// Appends fields 12 to 14, with nothing behind the last.
+fn put_cases(row: &DataRow, into: &mut Text) -> Result<(), Memory>
+    ensures { OnOk result (into.new ≡ into.old ++ ended (case_text row.now.upper ∷ case_text row.now.lower ∷ []) ++ case_text row.now.title) }
+{
+    put_case(row.upper, into)?;
+    into.push(b';')?;
+    put_case(row.lower, into)?;
+    into.push(b';')?;
+    put_case(row.title, into)
+}
+
+/// Appends the line of a row with this code point and this name.
+fn put_line(row: &DataRow, point: Point, name: &[u8], into: &mut Text) -> Result<(), Memory>
+    ensures { OnOk result (into.new ≡ into.old ++ data_line row.now point name.now) }
+{
+    put_front(row, point, name, into)?;
+    put_decomposed(row, into)?;
+    put_kept(row, into)?;
+    put_cases(row, into)
+}
+
+/// The name of a line of a range: `<`, the label, and the closing.
+fn range_name(alloc: Global, label: &[u8], closing: &[u8]) -> Result<Text, Memory>
+    ensures { IfOk result (λ name. name ≡ codes "<" ++ label.now ++ closing.now) }
+{
+    let mut name = Text::new(alloc);
+    name.push(b'<')?;
+    name.append(label)?;
+    name.append(closing)?;
+    Ok(name)
+}
+
+/// Appends the two lines of a range, LF between them.
+fn put_range(alloc: Global, row: &DataRow, into: &mut Text) -> Result<(), Memory>
+    ensures { OnOk result (into.new ≡ into.old ++ range_text row.now) }
+{
+    let first = range_name(alloc, row.name.as_slice(), b", First>")?;
+    let last = range_name(alloc, row.name.as_slice(), b", Last>")?;
+    put_line(row, row.span.lo, first.as_slice(), into)?;
+    into.push(b'\n')?;
+    put_line(row, row.span.hi, last.as_slice(), into)
+}
+
+/// Appends a row: its line, or the two lines of a range.
+pub fn put_data(alloc: Global, row: &DataRow, into: &mut Text) -> Result<(), Memory>
+    ensures { OnOk result (into.new ≡ into.old ++ data_text row.now) }
+{
+    if row.range {
+        return put_range(alloc, row, into);
+    }
+    put_line(row, row.span.lo, row.name.as_slice(), into)
+}

@@ -1,0 +1,19 @@
+//! Scripts.txt: the Script of code points. UAX #24, section 4.
+
+ghost use Rattle.std.specs.List.{before_first};
+ghost use Rattle.ucd_model.specs.Fields.{is_hash};
+ghost use Rattle.source_rows.specs.Faults.{ReadsAs};
+ghost use Rattle.source_rows.specs.Fields.{fields_of};
+ghost use Rattle.source_rows.specs.OtherFaults.{value_or_fault};
+
+use crate::fault::RowStop;
+use crate::values::read_value;
+use std::alloc::Global;
+use ucd_model::Row;
+
+/// The row of a line, or its first fault: the code points, and the name of their script.
+pub fn read_script(alloc: Global, content: &[u8]) -> Result<Row, RowStop>
+    ensures { ReadsAs result (value_or_fault (fields_of (before_first is_hash content.now))) }
+{
+    read_value(alloc, content)
+}

@@ -1,0 +1,83 @@
+//! SpecialCasing.txt. UAX #44, section 5.3, and the head of the file.
+
+ghost use Rattle.std.specs.Prelude.{◌≡◌};
+ghost use Rattle.std.specs.List.{before_first};
+ghost use Rattle.ucd_model.specs.Fields.{field, is_hash};
+ghost use Rattle.source_rows.specs.Faults.{ReadsAs};
+ghost use Rattle.source_rows.specs.Fields.{fields_of};
+ghost use Rattle.source_rows.specs.OtherFaults.{casing_or_fault, has_casing_fields};
+
+use crate::code_point::point_of;
+use crate::fault::{RowFault, RowStop};
+use crate::fields::{field_count, first_field, three_fields, without_comment};
+use crate::mapping::{conditions_of, mapping_of};
+use std::alloc::Global;
+use ucd_model::{CasingRow, Row};
+
+/// The fields of a line, each a part of it. A field that is not there is empty.
+#[derive(Clone, Copy)]
+struct CasingFields<'a> {
+    code: &'a [u8],
+    lower: &'a [u8],
+    title: &'a [u8],
+    upper: &'a [u8],
+    conditions: &'a [u8],
+    behind: &'a [u8],
+}
+
+fn casing_fields(text: &[u8]) -> CasingFields<'_>
+    ensures code { result.code.now ≡ field (fields_of text.now) 0 }
+    ensures lower { result.lower.now ≡ field (fields_of text.now) 1 }
+    ensures title { result.title.now ≡ field (fields_of text.now) 2 }
+    ensures upper { result.upper.now ≡ field (fields_of text.now) 3 }
+    ensures conditions { result.conditions.now ≡ field (fields_of text.now) 4 }
+    ensures behind { result.behind.now ≡ field (fields_of text.now) 5 }
+{
+    let (code, others) = first_field(text);
+    let (lower, others) = first_field(others);
+    let (title, others) = first_field(others);
+    let (upper, conditions, behind) = three_fields(others);
+    CasingFields {
+        code,
+        lower,
+        title,
+        upper,
+        conditions,
+        behind,
+    }
+}
+
+/// The row of a line, or its first fault.
+#[tactic(auto, unfolding(crate::specs::OtherFaults::casing_or_fault))]
+pub fn read_casing(alloc: Global, content: &[u8]) -> Result<Row, RowStop>
+    ensures { ReadsAs result (casing_or_fault (fields_of (before_first is_hash content.now))) }
+{
+    let text = without_comment(content);
+    let count = field_count(text);
+    let line = casing_fields(text);
+    if count < 4 || count > 6 || !line.behind.is_empty() {
+        return Err(RowStop::Fault(RowFault::G03));
+    }
+    let Some(code) = point_of(line.code) else {
+        return Err(RowStop::Fault(RowFault::G04));
+    };
+    let Some(lower) = mapping_of(alloc, line.lower)? else {
+        return Err(RowStop::Fault(RowFault::G07));
+    };
+    let Some(title) = mapping_of(alloc, line.title)? else {
+        return Err(RowStop::Fault(RowFault::G07));
+    };
+    let Some(upper) = mapping_of(alloc, line.upper)? else {
+        return Err(RowStop::Fault(RowFault::G07));
+    };
+    let Some(conditions) = conditions_of(alloc, line.conditions)? else {
+        return Err(RowStop::Fault(RowFault::G11));
+    };
+    Ok(Row::Casing(CasingRow {
+        code,
+        lower,
+        title,
+        upper,
+        conditions,
+    }))
+}

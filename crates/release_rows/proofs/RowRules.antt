@@ -1,0 +1,88 @@
+-- The rules that a row breaks, told by extents.
+use Rattle.std.proofs.Common.{Bor, subst, ◌≡◌, ℕ, Bool, true, false, cond, ◌&&◌, leb, eqb, List, [], ◌∷◌, map, Option, Some, None, refl, sym, ap, ◌∙◌, arith}
+use Rattle.std.specs.List.{list_any}
+use Rattle.std.specs.Option.{option_map, MatchOption}
+use Rattle.std.proofs.lemmas.Bool.Decides.{nat_tests}
+use Rattle.ucd_model.specs.declared.files.SourceFile.{SourceFile}
+use Rattle.ucd_model.specs.declared.row.Row.{Row}
+use Rattle.release_rows.specs.Extents.{Extent, same_start, meets, conflict_with}
+use Rattle.release_rows.specs.Places.{names_in, extent_at}
+use Rattle.release_rows.specs.Keys.{row_span, row_end, key_names, has_spans, same_key, overlaps, key_rule, extent_in, falls_back}
+use Rattle.release_rows.specs.FileItems.{FileItem, rows_in}
+use Rattle.release_rows.specs.Loading.{row_rule, load_rule}
+use Rattle.release_rows.specs.Progress.{BreaksNoRule}
+use Rattle.release_rows.specs.declared.place.Place.{Place}
+use Rattle.release_rows.specs.declared.key_rule.KeyRule.{KeyRule}
+use Rattle.release_rows.specs.declared.key_rule.KeyRule.TheVariants.{K1, K4}
+use Rattle.release_rows.specs.declared.load_stop.LoadRule.TheVariants.{K5}
+
+pub extent_is : (file : SourceFile) (row : Row) (place : Place) (last : ℕ) → names_in place ≡ key_names file row → place.code ≡ (row_span row).lo → last ≡ row_end file row → extent_at place last ≡ extent_in file row
+extent_is file row place last names code end = rw (names, code, end) refl
+
+pub same_conflicts : (kept above : List Extent) (x : Extent) → ((p : Extent → Bool) → list_any p kept ≡ list_any p above) → conflict_with kept x ≡ conflict_with above x
+same_conflicts kept above x same = rw (same (same_start x), same (meets x)) refl
+
+any_map : {A B : Type 0} (p : B → Bool) (f : A → B) (xs : List A) → list_any p (map f xs) ≡ list_any (λ x. p (f x)) xs
+any_map p f [] = refl
+any_map p f (x ∷ xs) = rw (any_map p f xs) refl
+
+any_same : {A : Type 0} (p q : A → Bool) (xs : List A) → ((x : A) → p x ≡ q x) → list_any p xs ≡ list_any q xs
+any_same p q [] h = refl
+any_same p q (x ∷ xs) h = rw (h x, any_same p q xs h) refl
+
+both_ways : (a b : ℕ) → (leb a b && leb b a) ≡ eqb a b
+both_ways a b = grind (arith, nat_tests)
+
+none_overlap : (file : SourceFile) (row : Row) (above : List Row) → has_spans file ≡ false → list_any (overlaps file row) above ≡ false
+none_overlap file row [] h = refl
+none_overlap file row (a ∷ above) h = rw (h, none_overlap file row above h) refl
+
+meets_spans : (file : SourceFile) (row a : Row) → has_spans file ≡ true → meets (extent_in file row) (extent_in file a) ≡ overlaps file row a
+meets_spans file row a h = rw h refl
+
+meets_points : (file : SourceFile) (row a : Row) → has_spans file ≡ false → meets (extent_in file row) (extent_in file a) ≡ same_key file row a
+meets_points file row a h = rw (h, both_ways (row_span row).lo (row_span a).lo) refl
+
+one_rule : (b : Bool) → cond b (Some K1) (cond b (Some K4) None) ≡ cond b (Some K1) None
+one_rule true = refl
+one_rule false = refl
+
+rules_by : (file : SourceFile) (row : Row) (above : List Row) (b : Bool) → has_spans file ≡ b → conflict_with (map (extent_in file) above) (extent_in file row) ≡ key_rule file above row
+rules_by file row above true h =
+    let keys = any_map (same_start (extent_in file row)) (extent_in file) above in
+    let spans = any_map (meets (extent_in file row)) (extent_in file) above ∙ any_same (λ a. meets (extent_in file row) (extent_in file a)) (overlaps file row) above (λ a. meets_spans file row a h) in
+    rw (keys, spans) refl
+rules_by file row above false h =
+    let keys = any_map (same_start (extent_in file row)) (extent_in file) above in
+    let points = any_map (meets (extent_in file row)) (extent_in file) above ∙ any_same (λ a. meets (extent_in file row) (extent_in file a)) (same_key file row) above (λ a. meets_points file row a h) in
+    rw (keys, points, none_overlap file row above h) (one_rule (list_any (same_key file row) above))
+
+pub by_extents : (file : SourceFile) (row : Row) (above : List Row) → conflict_with (map (extent_in file) above) (extent_in file row) ≡ key_rule file above row
+by_extents file row above = rules_by file row above (has_spans file) refl
+
+-- the rule that is told of keys and spans, and else of the order
+pub rule_from : (file : SourceFile) (row : Row) (above : List Row) (rule : KeyRule) → Some rule ≡ key_rule file above row → Some (load_rule rule) ≡ row_rule file above row
+rule_from file row above rule h = rw (← h) refl
+
+pub back_from : (file : SourceFile) (row : Row) (above : List Row) (back : Bool) → None ≡ key_rule file above row → back ≡ falls_back file above row → cond back (Some K5) None ≡ row_rule file above row
+back_from file row above back h k = rw (← h, ← k) refl
+
+pub no_key_rule : (o : Option KeyRule) (back : Bool) (file : SourceFile) (row : Row) (above : List Row) → key_rule file above row ≡ o → row_rule file above row ≡ None → o ≡ None
+no_key_rule None back file row above h k = refl
+no_key_rule (Some rule) back file row above h k = absurd (let e : Some (load_rule rule) ≡ None = rw h at k in cc)
+
+-- a row that breaks no rule has no extent against it
+pub free : (file : SourceFile) (row : Row) (above : List Row) → row_rule file above row ≡ None → conflict_with (map (extent_in file) above) (extent_in file row) ≡ None
+free file row above h = by_extents file row above ∙ no_key_rule (key_rule file above row) false file row above refl h
+
+-- what is kept of the rows above tells the rule of keys and spans
+pub rule_told : (file : SourceFile) (row : Row) (above : List Row) (kept : List Extent) (place : Place) (last : ℕ) → ((p : Extent → Bool) → list_any p kept ≡ list_any p (map (extent_in file) above)) → names_in place ≡ key_names file row → place.code ≡ (row_span row).lo → last ≡ row_end file row → conflict_with kept (extent_at place last) ≡ key_rule file above row
+rule_told file row above kept place last same names code end =
+    ap (conflict_with kept) (extent_is file row place last names code end) ∙ same_conflicts kept (map (extent_in file) above) (extent_in file row) same ∙ by_extents file row above
+
+-- a row that breaks no rule, where there is one, has no extent against it
+pub may_stand : (file : SourceFile) (items : List FileItem) (row : Option Row) (kept : List Extent) (o : Option (Bor Row)) → ((p : Extent → Bool) → list_any p kept ≡ list_any p (map (extent_in file) (rows_in items))) → option_map (λ r. r.now) o ≡ row → BreaksNoRule file items row → MatchOption o (Unit {0}) (λ r. conflict_with kept (extent_in file r.now) ≡ None)
+may_stand file items row kept None same h rule = tt
+may_stand file items row kept (Some r) same h rule =
+    let none : row_rule file (rows_in items) r.now ≡ None = subst (BreaksNoRule file items) (sym h) rule in
+    same_conflicts kept (map (extent_in file) (rows_in items)) (extent_in file r.now) same ∙ free file r.now (rows_in items) none

@@ -1,0 +1,33 @@
+-- The items of a file: trivia, and rows with the bytes that they stand in.
+--
+-- FileItem            the content of a row or of a line of trivia, what ends it, how many lines it has, and the row
+-- rows_in items       the rows in order
+-- bytes_of items      contents and endings put together
+-- lines_of items      how many lines they have
+use Rattle.std.specs.Prelude.{ℕ, List, [], ◌∷◌, ◌++◌, Option, Some, None}
+use Rattle.std.specs.List.{flat_map, sum_by}
+use Rattle.ucd_model.specs.Lines.{LineEnding, ending_bytes}
+use Rattle.ucd_model.specs.declared.row.Row.{Row}
+
+pub record FileItem : Type 0 where
+  pub content : List ℕ
+  pub ending : LineEnding
+  pub lines : ℕ
+  pub row : Option Row
+
+abbrev pub onto_rows : Option Row → List Row → List Row
+onto_rows None rows = rows
+onto_rows (Some row) rows = row ∷ rows
+
+abbrev pub rows_in : List FileItem → List Row
+rows_in [] = []
+rows_in (item ∷ items) = onto_rows item.row (rows_in items)
+
+abbrev pub file_item_bytes : FileItem → List ℕ
+file_item_bytes item = item.content ++ ending_bytes item.ending
+
+abbrev pub bytes_of : List FileItem → List ℕ
+bytes_of items = flat_map file_item_bytes items
+
+abbrev pub lines_of : List FileItem → ℕ
+lines_of items = sum_by (λ item. item.lines) items

@@ -1,0 +1,106 @@
+-- One file's items in the place of others.
+use Rattle.std.proofs.Common.{◌≡◌, ◌≢◌, List, refl}
+use Rattle.ucd_model.specs.declared.files.SourceFile.{SourceFile}
+use Rattle.ucd_model.specs.declared.files.SourceFile.TheVariants.{UnicodeData, PropList, Scripts, WordBreakProperty, CompositionExclusions, CaseFolding, SpecialCasing, PropertyAliases, PropertyValueAliases}
+use Rattle.release_rows.specs.FileItems.{FileItem}
+use Rattle.release_rows.specs.Releases.{items_at, with_items}
+use Rattle.release_rows.specs.declared.nine_files.NineFiles.{NineFiles}
+
+-- what holds of the new items, and of the items that stay, holds of each file
+pub each_with_items : (P : SourceFile → List FileItem → Type 0) (files : NineFiles) (file : SourceFile) (items : List FileItem) → ((other : SourceFile) → P other (items_at files other)) → P file items → (other : SourceFile) → P other (items_at (with_items files file items) other)
+each_with_items P files UnicodeData items all new UnicodeData = new
+each_with_items P files UnicodeData items all new PropList = all PropList
+each_with_items P files UnicodeData items all new Scripts = all Scripts
+each_with_items P files UnicodeData items all new WordBreakProperty = all WordBreakProperty
+each_with_items P files UnicodeData items all new CompositionExclusions = all CompositionExclusions
+each_with_items P files UnicodeData items all new CaseFolding = all CaseFolding
+each_with_items P files UnicodeData items all new SpecialCasing = all SpecialCasing
+each_with_items P files UnicodeData items all new PropertyAliases = all PropertyAliases
+each_with_items P files UnicodeData items all new PropertyValueAliases = all PropertyValueAliases
+each_with_items P files PropList items all new UnicodeData = all UnicodeData
+each_with_items P files PropList items all new PropList = new
+each_with_items P files PropList items all new Scripts = all Scripts
+each_with_items P files PropList items all new WordBreakProperty = all WordBreakProperty
+each_with_items P files PropList items all new CompositionExclusions = all CompositionExclusions
+each_with_items P files PropList items all new CaseFolding = all CaseFolding
+each_with_items P files PropList items all new SpecialCasing = all SpecialCasing
+each_with_items P files PropList items all new PropertyAliases = all PropertyAliases
+each_with_items P files PropList items all new PropertyValueAliases = all PropertyValueAliases
+each_with_items P files Scripts items all new UnicodeData = all UnicodeData
+each_with_items P files Scripts items all new PropList = all PropList
+each_with_items P files Scripts items all new Scripts = new
+each_with_items P files Scripts items all new WordBreakProperty = all WordBreakProperty
+each_with_items P files Scripts items all new CompositionExclusions = all CompositionExclusions
+each_with_items P files Scripts items all new CaseFolding = all CaseFolding
+each_with_items P files Scripts items all new SpecialCasing = all SpecialCasing
+each_with_items P files Scripts items all new PropertyAliases = all PropertyAliases
+each_with_items P files Scripts items all new PropertyValueAliases = all PropertyValueAliases
+each_with_items P files WordBreakProperty items all new UnicodeData = all UnicodeData
+each_with_items P files WordBreakProperty items all new PropList = all PropList
+each_with_items P files WordBreakProperty items all new Scripts = all Scripts
+each_with_items P files WordBreakProperty items all new WordBreakProperty = new
+each_with_items P files WordBreakProperty items all new CompositionExclusions = all CompositionExclusions
+each_with_items P files WordBreakProperty items all new CaseFolding = all CaseFolding
+each_with_items P files WordBreakProperty items all new SpecialCasing = all SpecialCasing
+each_with_items P files WordBreakProperty items all new PropertyAliases = all PropertyAliases
+each_with_items P files WordBreakProperty items all new PropertyValueAliases = all PropertyValueAliases
+each_with_items P files CompositionExclusions items all new UnicodeData = all UnicodeData
+each_with_items P files CompositionExclusions items all new PropList = all PropList
+each_with_items P files CompositionExclusions items all new Scripts = all Scripts
+each_with_items P files CompositionExclusions items all new WordBreakProperty = all WordBreakProperty
+each_with_items P files CompositionExclusions items all new CompositionExclusions = new
+each_with_items P files CompositionExclusions items all new CaseFolding = all CaseFolding
+each_with_items P files CompositionExclusions items all new SpecialCasing = all SpecialCasing
+each_with_items P files CompositionExclusions items all new PropertyAliases = all PropertyAliases
+each_with_items P files CompositionExclusions items all new PropertyValueAliases = all PropertyValueAliases
+each_with_items P files CaseFolding items all new UnicodeData = all UnicodeData
+each_with_items P files CaseFolding items all new PropList = all PropList
+each_with_items P files CaseFolding items all new Scripts = all Scripts
+each_with_items P files CaseFolding items all new WordBreakProperty = all WordBreakProperty
+each_with_items P files CaseFolding items all new CompositionExclusions = all CompositionExclusions
+each_with_items P files CaseFolding items all new CaseFolding = new
+each_with_items P files CaseFolding items all new SpecialCasing = all SpecialCasing
+each_with_items P files CaseFolding items all new PropertyAliases = all PropertyAliases
+each_with_items P files CaseFolding items all new PropertyValueAliases = all PropertyValueAliases
+each_with_items P files SpecialCasing items all new UnicodeData = all UnicodeData
+each_with_items P files SpecialCasing items all new PropList = all PropList
+each_with_items P files SpecialCasing items all new Scripts = all Scripts
+each_with_items P files SpecialCasing items all new WordBreakProperty = all WordBreakProperty
+each_with_items P files SpecialCasing items all new CompositionExclusions = all CompositionExclusions
+each_with_items P files SpecialCasing items all new CaseFolding = all CaseFolding
+each_with_items P files SpecialCasing items all new SpecialCasing = new
+each_with_items P files SpecialCasing items all new PropertyAliases = all PropertyAliases
+each_with_items P files SpecialCasing items all new PropertyValueAliases = all PropertyValueAliases
+each_with_items P files PropertyAliases items all new UnicodeData = all UnicodeData
+each_with_items P files PropertyAliases items all new PropList = all PropList
+each_with_items P files PropertyAliases items all new Scripts = all Scripts
+each_with_items P files PropertyAliases items all new WordBreakProperty = all WordBreakProperty
+each_with_items P files PropertyAliases items all new CompositionExclusions = all CompositionExclusions
+each_with_items P files PropertyAliases items all new CaseFolding = all CaseFolding
+each_with_items P files PropertyAliases items all new SpecialCasing = all SpecialCasing
+each_with_items P files PropertyAliases items all new PropertyAliases = new
+each_with_items P files PropertyAliases items all new PropertyValueAliases = all PropertyValueAliases
+each_with_items P files PropertyValueAliases items all new UnicodeData = all UnicodeData
+each_with_items P files PropertyValueAliases items all new PropList = all PropList
+each_with_items P files PropertyValueAliases items all new Scripts = all Scripts
+each_with_items P files PropertyValueAliases items all new WordBreakProperty = all WordBreakProperty
+each_with_items P files PropertyValueAliases items all new CompositionExclusions = all CompositionExclusions
+each_with_items P files PropertyValueAliases items all new CaseFolding = all CaseFolding
+each_with_items P files PropertyValueAliases items all new SpecialCasing = all SpecialCasing
+each_with_items P files PropertyValueAliases items all new PropertyAliases = all PropertyAliases
+each_with_items P files PropertyValueAliases items all new PropertyValueAliases = new
+
+pub items_at-with_items_same : (files : NineFiles) (file : SourceFile) (items : List FileItem) → items_at (with_items files file items) file ≡ items
+items_at-with_items_same files UnicodeData items = refl
+items_at-with_items_same files PropList items = refl
+items_at-with_items_same files Scripts items = refl
+items_at-with_items_same files WordBreakProperty items = refl
+items_at-with_items_same files CompositionExclusions items = refl
+items_at-with_items_same files CaseFolding items = refl
+items_at-with_items_same files SpecialCasing items = refl
+items_at-with_items_same files PropertyAliases items = refl
+items_at-with_items_same files PropertyValueAliases items = refl
+
+pub items_at-with_items_other : (files : NineFiles) (file other : SourceFile) (items : List FileItem) → other ≢ file → items_at (with_items files file items) other ≡ items_at files other
+items_at-with_items_other files file other items differs =
+    each_with_items (λ f xs. f ≢ file → xs ≡ items_at files f) files file items (λ f _. refl) (λ same. absurd (same refl)) other differs

@@ -1,0 +1,11 @@
+pub mod Extents
+pub mod Places
+pub mod Keys
+pub mod Pieces
+pub mod FileItems
+pub mod StoredItems
+pub mod Loading
+pub mod Progress
+pub mod Releases
+pub mod Laws
+pub mod FileLemmas

@@ -1,0 +1,102 @@
+-- What a release keeps.
+--
+-- items_at files file    those of one file
+-- with_items files file items   the same with other items in one file
+-- ReleaseItems           the items now, and the items that are prepared to be the next ones
+-- items_now, items_next  the items of one file, now and next
+-- loaded release file items   the release whose file has these items, now and next
+-- numbered_rows line items   the rows in order, each with the number of its first line; the first item's line is given
+-- rows_at items          the same, with lines counted from 1
+-- AreKept file items     each item is read from its content, and each row has another key than the rows above it and
+--                        overlaps none of them where the file forbids it
+-- AnswersLoad            what `load_file` answers, and what it leaves
+use Rattle.std.specs.Prelude.{◌≡◌, ℕ, ◌+◌, List, [], ◌∷◌, ◌++◌, Option, Some, None, Result, Ok, Err}
+use Rattle.ucd_model.specs.declared.files.SourceFile.{SourceFile}
+use Rattle.ucd_model.specs.declared.files.SourceFile.TheVariants.{UnicodeData, PropList, Scripts, WordBreakProperty, CompositionExclusions, CaseFolding, SpecialCasing, PropertyAliases, PropertyValueAliases}
+use Rattle.ucd_model.specs.declared.row.Row.{Row}
+use Rattle.release_rows.specs.Keys.{key_rule}
+use Rattle.release_rows.specs.FileItems.{FileItem, rows_in}
+use Rattle.release_rows.specs.Loading.{LoadFault, content_row}
+use Rattle.release_rows.specs.declared.load_stop.LoadStop.{LoadStop}
+use Rattle.release_rows.specs.declared.load_stop.LoadStop.TheVariants.{Fault, Memory}
+use Rattle.release_rows.specs.declared.nine_files.NineFiles.{NineFiles}
+
+abbrev pub items_at : NineFiles → SourceFile → List FileItem
+items_at files UnicodeData = files.unicode_data
+items_at files PropList = files.prop_list
+items_at files Scripts = files.scripts
+items_at files WordBreakProperty = files.word_break_property
+items_at files CompositionExclusions = files.composition_exclusions
+items_at files CaseFolding = files.case_folding
+items_at files SpecialCasing = files.special_casing
+items_at files PropertyAliases = files.property_aliases
+items_at files PropertyValueAliases = files.property_value_aliases
+
+abbrev pub with_items : NineFiles → SourceFile → List FileItem → NineFiles
+with_items files UnicodeData items = record files { unicode_data = items }
+with_items files PropList items = record files { prop_list = items }
+with_items files Scripts items = record files { scripts = items }
+with_items files WordBreakProperty items = record files { word_break_property = items }
+with_items files CompositionExclusions items = record files { composition_exclusions = items }
+with_items files CaseFolding items = record files { case_folding = items }
+with_items files SpecialCasing items = record files { special_casing = items }
+with_items files PropertyAliases items = record files { property_aliases = items }
+with_items files PropertyValueAliases items = record files { property_value_aliases = items }
+
+abbrev pub no_items : NineFiles
+no_items = record { unicode_data = []; prop_list = []; scripts = []; word_break_property = []; composition_exclusions = []; case_folding = []; special_casing = []; property_aliases = []; property_value_aliases = [] }
+
+pub record ReleaseItems : Type 0 where
+  pub current : NineFiles
+  pub prepared : NineFiles
+
+abbrev pub items_now : ReleaseItems → SourceFile → List FileItem
+items_now release file = items_at release.current file
+
+abbrev pub items_next : ReleaseItems → SourceFile → List FileItem
+items_next release file = items_at release.prepared file
+
+abbrev pub loaded : ReleaseItems → SourceFile → List FileItem → ReleaseItems
+loaded release file items = record { current = with_items release.current file items; prepared = with_items release.prepared file items }
+
+-- ---- rows
+
+abbrev pub onto_numbered : ℕ → Option Row → List (ℕ × Row) → List (ℕ × Row)
+onto_numbered line None rows = rows
+onto_numbered line (Some row) rows = (line, row) ∷ rows
+
+abbrev pub numbered_rows : ℕ → List FileItem → List (ℕ × Row)
+numbered_rows line [] = []
+numbered_rows line (item ∷ items) = onto_numbered line item.row (numbered_rows (line + item.lines) items)
+
+abbrev pub rows_at : List FileItem → List (ℕ × Row)
+rows_at items = numbered_rows 1 items
+
+-- ---- what is kept
+
+abbrev StandsBelow : SourceFile → List FileItem → Option Row → Type 0
+StandsBelow file above None = Unit {0}
+StandsBelow file above (Some row) = key_rule file (rows_in above) row ≡ None
+
+pub record IsKept (file : SourceFile) (above : List FileItem) (item : FileItem) : Type 0 where
+  pub is_read : content_row file item.content ≡ Ok item.row
+  pub stands : StandsBelow file above item.row
+
+-- below the items above them
+abbrev pub AreKeptBelow : SourceFile → List FileItem → List FileItem → Type 0
+AreKeptBelow file above [] = Unit {0}
+AreKeptBelow file above (item ∷ items) = IsKept file above item × AreKeptBelow file (above ++ item ∷ []) items
+
+abbrev pub AreKept : SourceFile → List FileItem → Type 0
+AreKept file items = AreKeptBelow file [] items
+
+abbrev pub AllAreKept : NineFiles → Type 0
+AllAreKept files = (file : SourceFile) → AreKept file (items_at files file)
+
+-- ---- loading
+
+abbrev pub AnswersLoad : Result (Unit {0}) LoadStop → Result (List FileItem) LoadFault → SourceFile → ReleaseItems → ReleaseItems → Type 0
+AnswersLoad (Ok _) (Ok items) file old new = new ≡ loaded old file items
+AnswersLoad (Err (Fault line rule)) (Err fault) file old new = (fault ≡ record { line = line; rule = rule }) × (new ≡ old)
+AnswersLoad (Err Memory) expected file old new = new ≡ old
+AnswersLoad _ _ file old new = ⊥

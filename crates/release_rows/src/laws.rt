@@ -1,0 +1,22 @@
+//! Laws of loaded files.
+
+ghost use Rattle.release_rows.specs.Laws.{FaultsAreFirst, LoadsExactly, BytesAreKept};
+
+use ucd_lines::items_join;
+
+/// A file is refused exactly by its first fault: no piece above has one.
+pub fn faults_are_first()
+    ensures { FaultsAreFirst }
+{}
+
+/// A file is loaded exactly where no piece of it has a fault, and then its items are its pieces.
+pub fn loads_exactly()
+    ensures { LoadsExactly }
+{}
+
+/// The items of a loaded file, put together, are its bytes.
+pub fn bytes_are_kept()
+    ensures { BytesAreKept }
+{
+    items_join();
+}

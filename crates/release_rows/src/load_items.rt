@@ -1,0 +1,36 @@
+//! Loads the items of a file.
+
+ghost use Rattle.std.specs.Prelude.{◌≡◌, ◌≤◌, length, IfOk};
+ghost use Rattle.ucd_model.specs.Limits.{file_limit};
+ghost use Rattle.release_rows.specs.FileItems.{bytes_of};
+ghost use Rattle.release_rows.specs.Loading.{file_or_fault};
+ghost use Rattle.release_rows.specs.Progress.{LoadsItems};
+ghost use Rattle.release_rows.specs.Releases.{AreKept};
+
+use crate::load_stop::LoadStop;
+use crate::loading::Loading;
+use crate::piece::next_piece;
+use crate::stored_item::StoredItem;
+use std::alloc::Global;
+use ucd_lines::items;
+use ucd_model::{ListOf, SourceFile};
+
+/// The items of a file, in the order of the file, or the first line that breaks a rule.
+#[tactic(auto, unfolding(crate::specs::Loading::file_or_fault, ucd_model::specs::Limits::file_limit))]
+pub fn load_items(
+    alloc: Global,
+    file: SourceFile,
+    bytes: &[u8],
+) -> Result<ListOf<StoredItem>, LoadStop>
+    requires { length bytes.now ≤ file_limit }
+    ensures answer { LoadsItems result (file_or_fault file bytes.now) }
+    ensures kept { IfOk result (AreKept file) }
+    ensures lossless { IfOk result (λ items. bytes_of items ≡ bytes.now) }
+{
+    let mut lines = items(bytes);
+    let mut loading = Loading::new(alloc, file);
+    'pieces: while let Some(piece) = next_piece(file, &mut lines) {
+        loading = loading.take(alloc, piece)?;
+    }
+    Ok(loading.into_items())
+}

@@ -1,0 +1,59 @@
+//! Why a file was not loaded.
+
+ghost use Rattle.std.specs.Prelude.{◌≡◌};
+
+use source_rows::RowFault;
+use std::alloc::{AllocError, AllocFailed};
+use thiserror::Error;
+use ucd_model::Memory;
+
+/// The rule that a file breaks.
+#[derive(Clone, Copy, Debug, PartialEq, Eq, Drop, Error)]
+pub enum LoadRule {
+    /// The file is longer than the limit.
+    #[error("the file is longer than the limit")]
+    G02,
+    /// A line is no row of the file.
+    #[error("the line is no row: {0:?}")]
+    Row(RowFault),
+    /// A row above has the same key.
+    #[error("a row above has this key")]
+    K1,
+    /// The row overlaps a row above.
+    #[error("the row overlaps a row above")]
+    K4,
+    /// The row begins below the row before it.
+    #[error("the row begins below the row before it")]
+    K5,
+}
+
+/// Why a file was not loaded.
+#[derive(Clone, Copy, Debug, PartialEq, Eq, Drop, Error)]
+pub enum LoadStop {
+    /// The first line that breaks a rule, counted from 1, and the first rule that it breaks. The line of `G02` is 0.
+    #[error("line {line}: {rule}")]
+    Fault { line: u32, rule: LoadRule },
+    /// Memory ran out.
+    #[error("out of memory")]
+    Memory,
+}
+
+impl From<Memory> for LoadStop {
+    ghost use Rattle.release_rows.specs.declared.load_stop.LoadStop.TheVariants.{Memory};
+
+    ghost from_gives = { λ _ e. e ≡ Memory };
+
+    fn from(_e: Memory) -> LoadStop {
+        LoadStop::Memory
+    }
+}
+
+impl<T: Drop> From<AllocFailed<T>> for LoadStop {
+    ghost use Rattle.release_rows.specs.declared.load_stop.LoadStop.TheVariants.{Memory};
+
+    ghost from_gives = { λ _ e. e ≡ Memory };
+
+    fn from(_e: AllocFailed<T>) -> LoadStop {
+        LoadStop::Memory
+    }
+}

@@ -1,0 +1,103 @@
+//! The source files of a release.
+
+ghost use Rattle.std.specs.Prelude.{◌≡◌, [], IfOk, OnOk};
+ghost use Rattle.release_rows.specs.FileItems.{bytes_of};
+ghost use Rattle.release_rows.specs.Loading.{load_or_fault};
+ghost use Rattle.release_rows.specs.Releases.{AnswersLoad, AreKept, items_now, items_next, no_items, rows_at};
+
+use crate::load_items::load_items;
+use crate::load_stop::{LoadRule, LoadStop};
+use crate::nine_files::{NineFiles, items_at, no_items, put};
+use crate::row_iter::Rows;
+use crate::stored_item::StoredItem;
+use std::alloc::Global;
+use std::marker::Model;
+use ucd_model::{Memory, SourceFile, Text, file_limit};
+
+/// The source files of a release. Contracts see the items of each file, now and next.
+///
+/// In each file keys differ, rows do not overlap where that is forbidden, and each row is read from its bytes.
+#[derive(Debug, Drop)]
+pub struct Release {
+    alloc: Global,
+    files: NineFiles,
+}
+
+impl Model for Release {
+    ghost use Rattle.release_rows.specs.Releases.{ReleaseItems, AllAreKept};
+
+    ghost Value = { ReleaseItems };
+
+    ghost view = { λ r. record { current = r.files; prepared = r.files } };
+
+    ghost invariant = { λ r. AllAreKept r.files };
+}
+
+impl Release {
+    /// The release whose files have no items. It takes no memory.
+    pub fn empty(alloc: Global) -> Release
+        ensures { result ≡ record { current = no_items; prepared = no_items } }
+    {
+        Release {
+            alloc,
+            files: no_items(alloc),
+        }
+    }
+
+    /// Loads a file that has no items yet.
+    ///
+    /// - `Fault { line, rule }`: the first line that breaks a rule, counted from 1 over all lines, and the first rule
+    ///   that it breaks: those of the row by itself, then K1, K4 and K5. A file above the limit has `G02`, on line 0.
+    /// - `Memory`: memory ran out.
+    ///
+    /// After either the release is as it was.
+    pub fn load_file(&mut self, file: SourceFile, bytes: &[u8]) -> Result<(), LoadStop>
+        requires { items_now self.old file ≡ [] }
+        ensures answer { AnswersLoad result (load_or_fault file bytes.now) file self.old self.new }
+        ensures lossless { OnOk result (bytes_of (items_now self.new file) ≡ bytes.now) }
+    {
+        if bytes.len() > file_limit() {
+            return Err(LoadStop::Fault {
+                line: 0,
+                rule: LoadRule::G02,
+            });
+        }
+        let items = load_items(self.alloc, file, bytes)?;
+        put(&mut self.files, file, items);
+        Ok(())
+    }
+
+    /// The bytes of a file now. Of a file that was loaded they are the bytes that it was loaded from.
+    pub fn text(&self, alloc: Global, file: SourceFile) -> Result<Text, Memory>
+        ensures { IfOk result (λ text. text ≡ bytes_of (items_now self.now file)) }
+    {
+        text_of(alloc, items_at(&self.files, file))
+    }
+
+    /// The rows of a file now, in the order of the file, each with the number of its first line.
+    pub fn rows(&self, file: SourceFile) -> Rows<'_>
+        ensures rows { result ≡ rows_at (items_now self.now file) }
+        ensures kept { AreKept file (items_now self.now file) }
+    {
+        Rows::new(items_at(&self.files, file))
+    }
+
+    /// The rows of a file next, in the order of the file, each with the number of its first line.
+    pub fn next_rows(&self, file: SourceFile) -> Rows<'_>
+        ensures rows { result ≡ rows_at (items_next self.now file) }
+        ensures kept { AreKept file (items_next self.now file) }
+    {
+        Rows::new(items_at(&self.files, file))
+    }
+}
+
+/// The contents and endings of items, put together.
+fn text_of(alloc: Global, items: &[StoredItem]) -> Result<Text, Memory>
+    ensures { IfOk result (λ text. text ≡ bytes_of items.now) }
+{
+    let mut text = Text::new(alloc);
+    for item in items {
+        item.join(&mut text)?;
+    }
+    Ok(text)
+}

@@ -1,0 +1,3 @@
+pub mod ExpansionLaws
+pub mod ExpansionProofs
+pub mod Walk

@@ -1,0 +1,9 @@
+//! Full decompositions of code points. UAX #15, section 1.3.
+#![tactic(auto)]
+
+mod expansion;
+pub mod laws;
+#[cfg(test)]
+mod tests;
+
+pub use expansion::expand;

@@ -211,6 +211,12 @@ fn files_of_the_system(rt: HostRuntime) -> Result<(), Memory> {
             b"".as_slice(),
         ),
         (
+            b"shelf_io_files/deep/file/below".as_slice(),
+            9,
+            Err(ReadStop::Failed),
+            b"".as_slice(),
+        ),
+        (
             b"shelf_io_files/\xff".as_slice(),
             9,
             Err(ReadStop::Failed),

@@ -1,37 +1,147 @@
 -- The verdict on files of which no more was read than decides it.
-use Rattle.std.proofs.Common.{◌≡◌, ℕ, ◌+◌, ◌<◌, ◌≤◌, Bool, true, false, cond, List, [], ◌∷◌, length, take, map, nat_lt, Option, Some, None, Result, Ok, Err, refl, sym, ap, ◌∙◌, arith, inl, inr}
+use Rattle.std.proofs.Common.{◌≡◌, ◌≢◌, ℕ, zero, suc, IsTrue, ◌+◌, ◌<◌, ◌≤◌, Bool, true, false, List, [], ◌∷◌, length, take, drop, map, get_or, nat_lt, Option, Some, None, Result, Ok, Err, refl, sym, ap, subst, ◌∙◌, arith, lit<, inl, inr}
+use mathlib.Core.Path.{fun_ext}
 use Rattle.std.proofs.lemmas.Bool.{cases_lt, lt-ltb, le-ltb}
-use Rattle.std.proofs.lemmas.List.{length-take, take_all}
+use Rattle.std.proofs.lemmas.List.{length-take, take_all, drop_more}
+use Rattle.std.specs.List.{slice_get}
 use Rattle.ucd_model.specs.Limits.{file_limit}
 use Rattle.ucd_model.specs.Facts.{Sources}
 use Rattle.ucd_model.specs.declared.files.SourceFile.{SourceFile}
-use Rattle.ucd_model.specs.declared.files.SourceFile.TheVariants.{UnicodeData, PropList}
+use Rattle.ucd_model.specs.declared.files.SourceFile.TheVariants.{UnicodeData, PropList, Scripts, WordBreakProperty, CompositionExclusions, CaseFolding, SpecialCasing, PropertyAliases, PropertyValueAliases}
 use Rattle.ucd_model.specs.declared.row.Row.{Row}
-use Rattle.ucdshop_core.specs.Judging.{JudgedAs, verdict_on}
-use Rattle.ucdshop_core.specs.Planning.{LoadedAs}
+use Rattle.release_rows.specs.FileItems.{FileItem, rows_in, onto_rows}
+use Rattle.release_rows.specs.Loading.{LoadFault, load_or_fault}
+use Rattle.release_rows.specs.Releases.{ReleaseItems, items_now, numbered_rows, onto_numbered}
+use Rattle.ucdshop_core.specs.Judging.{JudgedAs, LoadsFile, held_at, place_of, release_rows, verdict_at}
+use Rattle.ucdshop_core.specs.Planning.{LoadedAs, NamesUnread}
+use Rattle.ucdshop_core.specs.Printed.{read_failed}
+use Rattle.std.proofs.lemmas.Option.{slice_get-get_or}
+use Rattle.ucdshop_core.specs.Reading.{cut, text_at}
+use Rattle.ucdshop_core.specs.Run.{Contents, file_rows, told_rows, first_refusal, or_refusal, refused_or, rows_or_none, source_files, source_in, sources_in, verdict_by, verdict}
 use Rattle.ucdshop_core.specs.declared.stop.Stop.{Stop}
 use Rattle.ucdshop_core.specs.declared.stop.Stop.TheVariants.{Refused, ReadFailed, Memory}
-use Rattle.ucdshop_core.specs.Reading.{cut}
-use Rattle.ucdshop_core.specs.Run.{Contents, file_rows, source_in, sources_of, verdict, ◌>>=◌}
 
 cut_same : (path : List ℕ) (file : SourceFile) (held : Option (List ℕ)) → file_rows path file (cut held) ≡ file_rows path file held
 unfolding file_rows
 cut_same path file None = refl
-cut_same path file (Some bytes) = elim (cases_lt file_limit (length bytes)) [
+cut_same path file (Some bytes) = ap (told_rows path) (elim (cases_lt file_limit (length bytes)) [
   | inl long ↦
       let cut_long : nat_lt file_limit (length (take (file_limit + 1) bytes)) ≡ true = lt-ltb file_limit (length (take (file_limit + 1) bytes)) (omega (arith, length-take (file_limit + 1) bytes)) in
       let is_long : nat_lt file_limit (length bytes) ≡ true = lt-ltb file_limit (length bytes) long in
       rw (cut_long, is_long) refl
   | inr short ↦ rw (take_all (file_limit + 1) bytes (omega arith)) refl
-]
+])
 
-pub verdict_cut : (folder : List ℕ) (holds : Contents) → verdict_on (source_in folder UnicodeData ∷ source_in folder PropList ∷ []) (map (λ path. cut (holds path)) (source_in folder UnicodeData ∷ source_in folder PropList ∷ [])) ≡ verdict folder holds
-verdict_cut folder holds =
-    ap (λ (r : Result (List Row) (List ℕ)). r >>= λ units. file_rows (source_in folder PropList) PropList (cut (holds (source_in folder PropList))) >>= λ properties. Ok (sources_of units properties)) (cut_same (source_in folder UnicodeData) UnicodeData (holds (source_in folder UnicodeData)))
-    ∙ ap (λ (r : Result (List Row) (List ℕ)). file_rows (source_in folder UnicodeData) UnicodeData (holds (source_in folder UnicodeData)) >>= λ units. r >>= λ properties. Ok (sources_of units properties)) (cut_same (source_in folder PropList) PropList (holds (source_in folder PropList)))
+-- what was read at the place of each file
+read_at : (folder : List ℕ) (holds : Contents) (file : SourceFile) → verdict_at (sources_in folder) (map (λ path. cut (holds path)) (sources_in folder)) file ≡ file_rows (source_in folder file) file (cut (holds (source_in folder file)))
+read_at folder holds UnicodeData = refl
+read_at folder holds PropList = refl
+read_at folder holds Scripts = refl
+read_at folder holds WordBreakProperty = refl
+read_at folder holds CompositionExclusions = refl
+read_at folder holds CaseFolding = refl
+read_at folder holds SpecialCasing = refl
+read_at folder holds PropertyAliases = refl
+read_at folder holds PropertyValueAliases = refl
+
+-- the verdict on what was read is the verdict on what is held
+pub verdict_cut : (folder : List ℕ) (holds : Contents) → verdict_by (verdict_at (sources_in folder) (map (λ path. cut (holds path)) (sources_in folder))) ≡ verdict folder holds
+verdict_cut folder holds = ap verdict_by (fun_ext (λ file. read_at folder holds file ∙ cut_same (source_in folder file) file (holds (source_in folder file))))
+
+-- ---- file by file
+
+-- the file at a place
+abbrev pub file_at : ℕ → SourceFile
+file_at at = get_or source_files at UnicodeData
+
+pub place_of_file : (at : ℕ) → at < 9 → place_of (file_at at) ≡ at
+place_of_file zero lt = refl
+place_of_file (suc zero) lt = refl
+place_of_file (suc (suc zero)) lt = refl
+place_of_file (suc (suc (suc zero))) lt = refl
+place_of_file (suc (suc (suc (suc zero)))) lt = refl
+place_of_file (suc (suc (suc (suc (suc zero))))) lt = refl
+place_of_file (suc (suc (suc (suc (suc (suc zero)))))) lt = refl
+place_of_file (suc (suc (suc (suc (suc (suc (suc zero))))))) lt = refl
+place_of_file (suc (suc (suc (suc (suc (suc (suc (suc zero)))))))) lt = refl
+place_of_file (suc (suc (suc (suc (suc (suc (suc (suc (suc n))))))))) lt = absurd (omega arith)
+
+place_small : (file : SourceFile) → place_of file < 9
+place_small UnicodeData = lit< tt
+place_small PropList = lit< tt
+place_small Scripts = lit< tt
+place_small WordBreakProperty = lit< tt
+place_small CompositionExclusions = lit< tt
+place_small CaseFolding = lit< tt
+place_small SpecialCasing = lit< tt
+place_small PropertyAliases = lit< tt
+place_small PropertyValueAliases = lit< tt
+
+file_at_place : (file : SourceFile) → file_at (place_of file) ≡ file
+file_at_place UnicodeData = refl
+file_at_place PropList = refl
+file_at_place Scripts = refl
+file_at_place WordBreakProperty = refl
+file_at_place CompositionExclusions = refl
+file_at_place CaseFolding = refl
+file_at_place SpecialCasing = refl
+file_at_place PropertyAliases = refl
+file_at_place PropertyValueAliases = refl
+
+-- files before a place are loaded as their verdict says, and those from it on have no items
+pub record IsLoadedTo (verdict_on : SourceFile → Result (List Row) (List ℕ)) (at : ℕ) (release : ReleaseItems) : Type 0 where
+  pub rows : (file : SourceFile) → place_of file < at → verdict_on file ≡ Ok (release_rows release file)
+  pub empty : (file : SourceFile) → at ≤ place_of file → items_now release file ≡ []
+  pub later : first_refusal verdict_on source_files ≡ first_refusal verdict_on (drop at source_files)
+
+pub loaded_to_next : (verdict_on : SourceFile → Result (List Row) (List ℕ)) (at : ℕ) (old new : ReleaseItems) → at < 9 → IsLoadedTo verdict_on at old
+    → verdict_on (file_at at) ≡ Ok (release_rows new (file_at at)) → ((other : SourceFile) → other ≢ file_at at → items_now new other ≡ items_now old other)
+    → IsLoadedTo verdict_on (at + 1) new
+loaded_to_next verdict_on at old new lt loaded here others =
+    let differs : (file : SourceFile) → place_of file ≢ at → file ≢ file_at at = λ file apart same. apart (ap place_of same ∙ place_of_file at lt) in
+    record {
+      rows = λ file below. elim (cases_lt (place_of file) at) [
+        | inl before ↦ loaded.rows file before ∙ ap (λ (items : List FileItem). Ok (rows_in items)) (sym (others file (differs file (λ same. absurd (omega arith)))))
+        | inr not_before ↦
+            let same_place : place_of file ≡ at = omega arith in
+            let same : file_at at ≡ file = ap file_at (sym same_place) ∙ file_at_place file in
+            subst (λ (f : SourceFile). verdict_on f ≡ Ok (release_rows new f)) same here
+      ];
+      empty = λ file above. others file (differs file (λ same. absurd (omega arith))) ∙ loaded.empty file (omega arith);
+      later = loaded.later ∙ ap (first_refusal verdict_on) (drop_more source_files at UnicodeData (omega arith)) ∙ ap (λ (r : Result (List Row) (List ℕ)). or_refusal r (first_refusal verdict_on (drop (at + 1) source_files))) here;
+    }
+
+pub verdict_all : (verdict_on : SourceFile → Result (List Row) (List ℕ)) (release : ReleaseItems) → IsLoadedTo verdict_on 9 release → verdict_by verdict_on ≡ Ok (release_rows release)
+verdict_all verdict_on release loaded =
+    ap (λ (line : Option (List ℕ)). refused_or line (λ file. rows_or_none (verdict_on file))) loaded.later
+    ∙ ap (λ (rows : Sources). Ok rows) (fun_ext (λ file. ap rows_or_none (loaded.rows file (place_small file))))
+
+pub verdict_refused : (verdict_on : SourceFile → Result (List Row) (List ℕ)) (at : ℕ) (release : ReleaseItems) (line : List ℕ) → at < 9 → IsLoadedTo verdict_on at release → verdict_on (file_at at) ≡ Err line → verdict_by verdict_on ≡ Err line
+verdict_refused verdict_on at release line lt loaded here =
+    ap (λ (first : Option (List ℕ)). refused_or first (λ file. rows_or_none (verdict_on file)))
+    (loaded.later ∙ ap (first_refusal verdict_on) (drop_more source_files at UnicodeData (omega arith)) ∙ ap (λ (r : Result (List Row) (List ℕ)). or_refusal r (first_refusal verdict_on (drop (at + 1) source_files))) here)
 
 pub loaded_from_judged : {A B : Type 0} (view : A → B) (result : Result A Stop) (expected : Result B (List ℕ)) → JudgedAs view result expected → LoadedAs view result expected
 loaded_from_judged view (Ok rows) expected h = h
 loaded_from_judged view (Err (Refused line)) expected h = h
 loaded_from_judged view (Err (ReadFailed line)) expected h = tt
 loaded_from_judged view (Err Memory) expected h = tt
+
+-- a path at a place, by its line
+pub names_unread : (paths needed : List (List ℕ)) (at : ℕ) (tells : Bool) (failed line : List ℕ) → paths ≡ needed → at < length paths → line ≡ read_failed (text_at paths at) → (IsTrue tells → failed ≡ text_at paths at) → NamesUnread needed tells failed line
+names_unread paths needed at tells failed line same inside told last = record {
+  path = text_at paths at;
+  place = at;
+  needed = subst (λ (ps : List (List ℕ)). slice_get ps at ≡ Some (text_at paths at)) same (slice_get-get_or paths at [] inside);
+  told = told;
+  last = λ t. sym (last t);
+}
+
+-- the rows of items, with their numbers put aside
+numbered_one : (line : ℕ) (row : Option Row) (items : List FileItem) (more : ℕ) → map (λ (n : ℕ × Row). n.1) (numbered_rows more items) ≡ rows_in items → map (λ (n : ℕ × Row). n.1) (onto_numbered line row (numbered_rows more items)) ≡ onto_rows row (rows_in items)
+numbered_one line None items more e = e
+numbered_one line (Some row) items more e = ap (λ (rows : List Row). row ∷ rows) e
+
+pub rows_of_numbered : (line : ℕ) (items : List FileItem) → map (λ (n : ℕ × Row). n.1) (numbered_rows line items) ≡ rows_in items
+rows_of_numbered line [] = refl
+rows_of_numbered line (item ∷ items) = numbered_one line item.row items (line + item.lines) (rows_of_numbered (line + item.lines) items)

@@ -1,26 +1,50 @@
 -- Judging the files that were read.
 --
--- verdict_on paths held           the verdict on what the paths of a release's files hold
+-- release_rows release            the rows of a release now, file by file
+-- place_of file                   the place of a file in the order in which files are read and judged
+-- verdict_at paths held file      the verdict on what the path of a file holds
 -- JudgedAs view result expected   a result, seen by view, is what was expected; want of memory says nothing
-use Rattle.std.specs.Prelude.{◌≡◌, ℕ, List, [], ◌∷◌, Option, None, Result, Ok, Err, slice_index_or}
+-- LoadsFile result expected file old new   the file was loaded where rows were expected, and all other files stay
+use Rattle.std.specs.Prelude.{◌≡◌, ◌≢◌, ℕ, List, Option, None, Result, Ok, Err, slice_index_or}
 use Rattle.ucd_model.specs.Facts.{Sources}
-use Rattle.ucd_model.specs.declared.files.SourceFile.TheVariants.{UnicodeData, PropList}
+use Rattle.ucd_model.specs.declared.files.SourceFile.{SourceFile}
+use Rattle.ucd_model.specs.declared.files.SourceFile.TheVariants.{UnicodeData, PropList, Scripts, WordBreakProperty, CompositionExclusions, CaseFolding, SpecialCasing, PropertyAliases, PropertyValueAliases}
+use Rattle.ucd_model.specs.declared.row.Row.{Row}
+use Rattle.release_rows.specs.FileItems.{rows_in}
+use Rattle.release_rows.specs.Releases.{ReleaseItems, items_now}
 use Rattle.ucdshop_core.specs.Reading.{text_at}
-use Rattle.ucdshop_core.specs.Run.{file_rows, sources_of, ◌>>=◌}
+use Rattle.ucdshop_core.specs.Run.{file_rows}
 use Rattle.ucdshop_core.specs.declared.stop.Stop.{Stop}
 use Rattle.ucdshop_core.specs.declared.stop.Stop.TheVariants.{Refused, ReadFailed, Memory}
+
+abbrev pub release_rows : ReleaseItems → Sources
+release_rows release file = rows_in (items_now release file)
+
+abbrev pub place_of : SourceFile → ℕ
+place_of UnicodeData = 0
+place_of PropList = 1
+place_of Scripts = 2
+place_of WordBreakProperty = 3
+place_of CompositionExclusions = 4
+place_of CaseFolding = 5
+place_of SpecialCasing = 6
+place_of PropertyAliases = 7
+place_of PropertyValueAliases = 8
 
 abbrev pub held_at : List (Option (List ℕ)) → ℕ → Option (List ℕ)
 held_at held at = slice_index_or held at None
 
-abbrev pub verdict_on : List (List ℕ) → List (Option (List ℕ)) → Result Sources (List ℕ)
-verdict_on paths held = do
-  units ← file_rows (text_at paths 0) UnicodeData (held_at held 0)
-  properties ← file_rows (text_at paths 1) PropList (held_at held 1)
-  Ok (sources_of units properties)
+abbrev pub verdict_at : List (List ℕ) → List (Option (List ℕ)) → SourceFile → Result (List Row) (List ℕ)
+verdict_at paths held file = file_rows (text_at paths (place_of file)) file (held_at held (place_of file))
 
 abbrev pub JudgedAs : {A B : Type 0} → (A → B) → Result A Stop → Result B (List ℕ) → Type 0
 JudgedAs view (Ok rows) expected = expected ≡ Ok (view rows)
 JudgedAs view (Err (Refused line)) expected = expected ≡ Err line
 JudgedAs view (Err (ReadFailed line)) expected = ⊥
 JudgedAs view (Err Memory) expected = Unit {0}
+
+abbrev pub LoadsFile : Result (Unit {0}) Stop → Result (List Row) (List ℕ) → SourceFile → ReleaseItems → ReleaseItems → Type 0
+LoadsFile (Ok _) expected file old new = (expected ≡ Ok (release_rows new file)) × ((other : SourceFile) → other ≢ file → items_now new other ≡ items_now old other)
+LoadsFile (Err (Refused line)) expected file old new = expected ≡ Err line
+LoadsFile (Err (ReadFailed line)) expected file old new = ⊥
+LoadsFile (Err Memory) expected file old new = Unit {0}

@@ -1,24 +1,15 @@
 -- What is kept of the facts of each code point.
 --
--- rows_of rows         the rows, file by file; a file that is not read has none
--- facts_at table c     the facts that the table keeps at a place
+-- facts_at table c     the facts that the table keeps at a place: the category and four flags, and else those of no row
 -- ShowsFacts table F   they are those of F, as far as the core properties read them
-use Rattle.std.specs.Prelude.{◌≡◌, ℕ, ◌<◌, Bool, false, List, [], length, slice_index_or}
-use Rattle.ucd_model.specs.Facts.{Sources, Facts}
+use Rattle.std.specs.Prelude.{◌≡◌, ℕ, ◌<◌, Bool, false, length, slice_index_or}
+use Rattle.ucd_model.specs.Facts.{Facts, unassigned}
 use Rattle.ucd_model.specs.Predicates.{has}
 use Rattle.ucd_model.specs.declared.category.Category.TheVariants.{Cn}
 use Rattle.ucd_model.specs.declared.property.Core.{Core}
 use Rattle.ucd_model.specs.declared.property.Flag.{Flag}
 use Rattle.ucd_model.specs.declared.property.Flag.TheVariants.{OtherMath, OtherLowercase, OtherUppercase, OtherAlphabetic}
-use Rattle.ucd_model.specs.declared.files.SourceFile.{SourceFile}
-use Rattle.ucd_model.specs.declared.files.SourceFile.TheVariants.{UnicodeData, PropList}
-use Rattle.ucdshop_core.specs.declared.core_properties.SourceRows.{SourceRows}
 use Rattle.ucdshop_core.specs.declared.core_properties.PointFacts.{PointFacts}
-
-abbrev pub rows_of : SourceRows → Sources
-rows_of rows UnicodeData = rows.data
-rows_of rows PropList = rows.properties
-rows_of rows _ = []
 
 abbrev pub flag_in : PointFacts → ℕ → Flag → Bool
 flag_in table c OtherMath = slice_index_or table.other_math.items c false
@@ -28,7 +19,7 @@ flag_in table c OtherAlphabetic = slice_index_or table.other_alphabetic.items c 
 flag_in table c _ = false
 
 abbrev pub facts_at : PointFacts → ℕ → Facts
-facts_at table c = record { category = slice_index_or table.categories.items c Cn; flag = flag_in table c }
+facts_at table c = record (unassigned c) { category = slice_index_or table.categories.items c Cn; flag = flag_in table c }
 
 -- the place is within each of the lists
 pub record IsInside (table : PointFacts) (place : ℕ) : Type 0 where

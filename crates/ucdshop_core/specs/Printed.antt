@@ -6,9 +6,11 @@
 -- write_failed path         a file could not be written
 -- out_of_memory             memory was wanted, and there was none
 -- summary counts            how many groups were accepted, commands refused and sets answered, and policies broken
--- rule_code fault           the code of a rule that a line breaks
+-- rule_code rule            the code of a rule that a file breaks; row_rule_code, of one that a line breaks by itself
 use Rattle.std.specs.Prelude.{ℕ, List, [], ◌∷◌, ◌++◌, codes}
 use Rattle.std.specs.Fmt.{decimal}
+use Rattle.release_rows.specs.declared.load_stop.LoadRule.{LoadRule}
+use Rattle.release_rows.specs.declared.load_stop.LoadRule.TheVariants.{G02, Row, K1, K4, K5}
 use Rattle.source_rows.specs.declared.fault.RowFault.{RowFault}
 use Rattle.source_rows.specs.declared.fault.RowFault.TheVariants.{G03, G04, G05, G06, G07, G08, G09, G10, G11}
 
@@ -43,13 +45,20 @@ no_counts = record { accepted = 0; refused = 0; answered = 0; broken = 0 }
 abbrev pub summary : Counts → List ℕ
 summary counts = codes "ucdshop: " ++ decimal counts.accepted ++ codes " groups accepted, " ++ decimal counts.refused ++ codes " commands refused, " ++ decimal counts.answered ++ codes " sets answered, " ++ decimal counts.broken ++ codes " policy breaks" ++ line_end
 
-abbrev pub rule_code : RowFault → List ℕ
-rule_code G03 = codes "G03"
-rule_code G04 = codes "G04"
-rule_code G05 = codes "G05"
-rule_code G06 = codes "G06"
-rule_code G07 = codes "G07"
-rule_code G08 = codes "G08"
-rule_code G09 = codes "G09"
-rule_code G10 = codes "G10"
-rule_code G11 = codes "G11"
+abbrev pub row_rule_code : RowFault → List ℕ
+row_rule_code G03 = codes "G03"
+row_rule_code G04 = codes "G04"
+row_rule_code G05 = codes "G05"
+row_rule_code G06 = codes "G06"
+row_rule_code G07 = codes "G07"
+row_rule_code G08 = codes "G08"
+row_rule_code G09 = codes "G09"
+row_rule_code G10 = codes "G10"
+row_rule_code G11 = codes "G11"
+
+abbrev pub rule_code : LoadRule → List ℕ
+rule_code G02 = codes "G02"
+rule_code (Row fault) = row_rule_code fault
+rule_code K1 = codes "K1"
+rule_code K4 = codes "K4"
+rule_code K5 = codes "K5"

@@ -16,10 +16,11 @@ use Rattle.ucd_model.specs.Names.{source_path, derived_path}
 use Rattle.ucd_model.specs.Facts.{Sources, facts}
 use Rattle.ucd_model.specs.DerivedText.{core_text}
 use Rattle.ucd_model.specs.declared.files.SourceFile.{SourceFile}
-use Rattle.ucd_model.specs.declared.files.SourceFile.TheVariants.{UnicodeData, PropList}
+use Rattle.ucd_model.specs.declared.files.SourceFile.TheVariants.{UnicodeData, PropList, Scripts, WordBreakProperty, CompositionExclusions, CaseFolding, SpecialCasing, PropertyAliases, PropertyValueAliases}
 use Rattle.ucd_model.specs.declared.files.DerivedFile.TheVariants.{CoreProperties}
 use Rattle.ucd_model.specs.declared.row.Row.{Row}
-use Rattle.source_rows.specs.Files.{FileFault, rows_or_fault}
+use Rattle.release_rows.specs.FileItems.{FileItem, rows_in}
+use Rattle.release_rows.specs.Loading.{LoadFault, load_or_fault}
 use Rattle.ucdshop_core.specs.Printed.{refused, rule_code}
 
 -- what a shelf holds at each path
@@ -41,44 +42,55 @@ form _ = None
 abbrev pub path_in : List ℕ → List ℕ → List ℕ
 path_in folder path = folder ++ codes "/" ++ path
 
--- the source files that are read, in their order
-abbrev pub read_files : List SourceFile
-read_files = UnicodeData ∷ PropList ∷ []
+-- the source files, in their order
+abbrev pub source_files : List SourceFile
+source_files = UnicodeData ∷ PropList ∷ Scripts ∷ WordBreakProperty ∷ CompositionExclusions ∷ CaseFolding ∷ SpecialCasing ∷ PropertyAliases ∷ PropertyValueAliases ∷ []
 
 abbrev pub source_in : List ℕ → SourceFile → List ℕ
 source_in folder file = path_in folder (source_path file)
 
+-- the paths of the source files of a folder
+abbrev pub sources_in : List ℕ → List (List ℕ)
+sources_in folder = map (source_in folder) source_files
+
 abbrev pub needed : Job → List (List ℕ)
-needed (Derive input output) = map (source_in input) read_files
+needed (Derive input output) = sources_in input
 
 -- ---- the verdict
 
 -- the rows, or the line that names the path, the line and the rule
-abbrev pub told_rows : List ℕ → Result (List Row) FileFault → Result (List Row) (List ℕ)
-told_rows path (Ok rows) = Ok rows
-told_rows path (Err fault) = Err (refused path fault.line (rule_code fault.fault))
+abbrev pub told_rows : List ℕ → Result (List FileItem) LoadFault → Result (List Row) (List ℕ)
+told_rows path (Ok items) = Ok (rows_in items)
+told_rows path (Err fault) = Err (refused path fault.line (rule_code fault.rule))
 
--- absent is G01, too long is G02
+-- an absent file is G01
 unfoldable pub file_rows : List ℕ → SourceFile → Option (List ℕ) → Result (List Row) (List ℕ)
 file_rows path file None = Err (refused path 0 (codes "G01"))
-file_rows path file (Some bytes) = if nat_lt file_limit (length bytes) then Err (refused path 0 (codes "G02")) else told_rows path (rows_or_fault file bytes)
+file_rows path file (Some bytes) = told_rows path (load_or_fault file bytes)
 
--- the rows of two files; no other file is read
-abbrev pub sources_of : List Row → List Row → Sources
-sources_of units properties UnicodeData = units
-sources_of units properties PropList = properties
-sources_of units properties _ = []
+-- the line that refuses the first file that is refused
+abbrev pub or_refusal : Result (List Row) (List ℕ) → Option (List ℕ) → Option (List ℕ)
+or_refusal (Ok rows) later = later
+or_refusal (Err line) later = Some line
 
-infixl 10 ◌>>=◌
-abbrev pub ◌>>=◌ : {A B : Type 0} → Result A (List ℕ) → (A → Result B (List ℕ)) → Result B (List ℕ)
-(Ok x) >>= f = f x
-(Err e) >>= f = Err e
+abbrev pub first_refusal : (SourceFile → Result (List Row) (List ℕ)) → List SourceFile → Option (List ℕ)
+first_refusal verdict_on [] = None
+first_refusal verdict_on (file ∷ files) = or_refusal (verdict_on file) (first_refusal verdict_on files)
+
+abbrev pub rows_or_none : Result (List Row) (List ℕ) → List Row
+rows_or_none (Ok rows) = rows
+rows_or_none (Err line) = []
+
+abbrev pub refused_or : Option (List ℕ) → Sources → Result Sources (List ℕ)
+refused_or None rows = Ok rows
+refused_or (Some line) rows = Err line
+
+-- from the verdict on each file
+abbrev pub verdict_by : (SourceFile → Result (List Row) (List ℕ)) → Result Sources (List ℕ)
+verdict_by verdict_on = refused_or (first_refusal verdict_on source_files) (λ file. rows_or_none (verdict_on file))
 
 abbrev pub verdict : List ℕ → Contents → Result Sources (List ℕ)
-verdict folder holds = do
-  units ← file_rows (source_in folder UnicodeData) UnicodeData (holds (source_in folder UnicodeData))
-  properties ← file_rows (source_in folder PropList) PropList (holds (source_in folder PropList))
-  Ok (sources_of units properties)
+verdict folder holds = verdict_by (λ file. file_rows (source_in folder file) file (holds (source_in folder file)))
 
 abbrev pub job_verdict : Job → Contents → Result Sources (List ℕ)
 job_verdict (Derive input output) holds = verdict input holds

@@ -1,9 +1,11 @@
 -- Tables with one value for each number below their length, swept from rows.
 --
+-- pointed_rows rows                 the rows that references point to
 -- ShowsCategories table rows   the table has the category of the first row that covers the place
 -- ShowsMembers table p         the table has the answer of the test at each place
 -- covers_value value p row     the row has the value and its span passes
-use Rattle.std.specs.Prelude.{◌≡◌, ℕ, ◌<◌, ◌+◌, Bool, true, false, ◌&&◌, List, length, slice_index_or, nat_le, nat_lt, ◌==◌}
+use Rattle.std.specs.Prelude.{◌≡◌, ℕ, ◌<◌, ◌+◌, Bool, true, false, ◌&&◌, List, map, length, slice_index_or, nat_le, nat_lt, ◌==◌}
+use Rattle.std.specs.Borrow.{Bor}
 use Rattle.std.specs.List.{list_any}
 use Rattle.std.specs.Str.{bytes_eq}
 use Rattle.ucd_model.specs.Bounds.{Bounds}
@@ -12,6 +14,10 @@ use Rattle.ucd_model.specs.declared.category.Category.{Category}
 use Rattle.ucd_model.specs.declared.category.Category.TheVariants.{Cn}
 use Rattle.ucd_model.specs.declared.row.Row.{Row}
 use Rattle.ucd_model.specs.declared.row.Row.TheVariants.{Value as ValueLine}
+
+-- the rows that references point to
+abbrev pub pointed_rows : List (Bor Row) → List Row
+pointed_rows rows = map (λ row. row.now) rows
 
 abbrev pub ShowsCategories : List Category → List Row → Type 0
 ShowsCategories table rows = (c : ℕ) → c < length table → slice_index_or table c Cn ≡ category_at rows c

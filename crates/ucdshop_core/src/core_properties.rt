@@ -1,27 +1,23 @@
 //! DerivedCoreProperties.txt from the rows of its sources.
 
-ghost use Rattle.std.specs.Prelude.{◌≡◌, ℕ, ◌<◌, ◌≤◌, ◌^◌, length, IfOk, OnOk, ◌++◌, slice_index_or, ◌||◌, Bool};
+ghost use Rattle.std.specs.Prelude.{◌≡◌, ℕ, ◌<◌, ◌≤◌, ◌^◌, length, IfOk, OnOk, ◌++◌, map};
 ghost use Rattle.ucd_model.specs.Facts.{facts};
 ghost use Rattle.ucd_model.specs.Limits.{point_count};
 ghost use Rattle.ucd_model.specs.Names.{core_name};
 ghost use Rattle.ucd_model.specs.Predicates.{has, is_one_of, core_sections, lowercase, uppercase, math, alphabetic};
 ghost use Rattle.ucd_model.specs.DerivedText.{core_text, core_section};
-ghost use Rattle.ucd_model.specs.declared.category.Category.TheVariants.{Lu, Ll, Lt, Lm, Lo, Nl, Sm};
+ghost use Rattle.ucd_model.specs.declared.category.Category.TheVariants.{Lt, Lm, Lo, Nl};
 ghost use Rattle.std.specs.Prelude.{[], ◌∷◌};
 ghost use Rattle.ucdshop_core.specs.Sweep.{ShowsMembers};
-ghost use Rattle.ucdshop_core.specs.PointFacts.{facts_at, IsInside, ShowsFacts, rows_of};
+ghost use Rattle.ucdshop_core.specs.Judging.{release_rows};
+ghost use Rattle.ucdshop_core.specs.Sweep.{pointed_rows};
+ghost use Rattle.ucdshop_core.specs.PointFacts.{facts_at, IsInside, ShowsFacts};
 
 use crate::point_table::{categories, members};
 use crate::section::put_section;
+use release_rows::Release;
 use std::alloc::Global;
-use ucd_model::{Category, Core, Memory, Rows, Text, point_count};
-
-/// The rows of the source files that are read.
-#[derive(Drop)]
-pub struct SourceRows {
-    pub data: Rows,
-    pub properties: Rows,
-}
+use ucd_model::{Category, Core, Memory, Row, SourceFile, Text, point_count};
 
 /// The core properties that are derived, in the order of the file.
 const CORE_SECTIONS: [Core; 4] = [
@@ -33,13 +29,13 @@ const CORE_SECTIONS: [Core; 4] = [
 
 /// The text of DerivedCoreProperties.txt. UAX #44, section 5.3.
 #[tactic(auto, unfolding(ucd_model::specs::DerivedText::core_text))]
-pub fn core_properties(alloc: Global, rows: &SourceRows) -> Result<Text, Memory>
-    ensures { IfOk result (λ text. text ≡ core_text point_count (facts (rows_of rows.now))) }
+pub fn core_properties(alloc: Global, release: &Release) -> Result<Text, Memory>
+    ensures { IfOk result (λ text. text ≡ core_text point_count (facts (release_rows release.now))) }
 {
-    let table = PointFacts::of(alloc, point_count() as usize, rows)?;
+    let table = PointFacts::of(alloc, point_count() as usize, release)?;
     let mut text = Text::new(alloc);
     'sections: for core in &CORE_SECTIONS {
-        put_core(alloc, &mut text, rows, &table, *core)?;
+        put_core(alloc, &mut text, release, &table, *core)?;
     }
     Ok(text)
 }
@@ -48,14 +44,14 @@ pub fn core_properties(alloc: Global, rows: &SourceRows) -> Result<Text, Memory>
 fn put_core(
     alloc: Global,
     text: &mut Text,
-    rows: &SourceRows,
+    release: &Release,
     table: &PointFacts,
     core: Core,
 ) -> Result<(), Memory>
-    requires { ShowsFacts table.now (facts (rows_of rows.now)) point_count }
-    ensures { OnOk result (text.new ≡ text.old ++ core_section point_count (facts (rows_of rows.now)) core) }
+    requires { ShowsFacts table.now (facts (release_rows release.now)) point_count }
+    ensures { OnOk result (text.new ≡ text.old ++ core_section point_count (facts (release_rows release.now)) core) }
 {
-    let members = table.members(alloc, rows, core)?;
+    let members = table.members(alloc, release, core)?;
     put_section(alloc, text, core_name(core), members.as_slice())
 }
 
@@ -98,15 +94,17 @@ pub struct PointFacts {
 
 impl PointFacts {
     /// The facts of the first `count` numbers, swept from the rows.
-    fn of(alloc: Global, count: usize, rows: &SourceRows) -> Result<PointFacts, Memory>
+    fn of(alloc: Global, count: usize, release: &Release) -> Result<PointFacts, Memory>
         requires named { count ≡ point_count }
         requires whole { 1114112 ≤ count }
         requires small { count < 2 ^ 32 }
-        ensures { IfOk result (λ table. ShowsFacts table (facts (rows_of rows.now)) count) }
+        ensures { IfOk result (λ table. ShowsFacts table (facts (release_rows release.now)) count) }
     {
-        let properties = rows.properties.as_slice();
+        let data = rows_of(alloc, release, SourceFile::UnicodeData)?;
+        let listed = rows_of(alloc, release, SourceFile::PropList)?;
+        let properties = listed.as_slice();
         Ok(PointFacts {
-            categories: categories(alloc, count, rows.data.as_slice())?,
+            categories: categories(alloc, count, data.as_slice())?,
             other_math: members(alloc, count, properties, b"Other_Math")?,
             other_alphabetic: members(alloc, count, properties, b"Other_Alphabetic")?,
             other_lowercase: members(alloc, count, properties, b"Other_Lowercase")?,
@@ -115,10 +113,10 @@ impl PointFacts {
     }
 
     /// Whether each code point has the property.
-    fn members(&self, alloc: Global, rows: &SourceRows, core: Core) -> Result<Vec<bool>, Memory>
-        requires { ShowsFacts self.now (facts (rows_of rows.now)) point_count }
+    fn members(&self, alloc: Global, release: &Release, core: Core) -> Result<Vec<bool>, Memory>
+        requires { ShowsFacts self.now (facts (release_rows release.now)) point_count }
         ensures len { IfOk result (λ members. length members.items ≡ point_count) }
-        ensures shows { IfOk result (λ members. ShowsMembers members.items (λ c. has core (facts (rows_of rows.now) c))) }
+        ensures shows { IfOk result (λ members. ShowsMembers members.items (λ c. has core (facts (release_rows release.now) c))) }
     {
         let count = point_count() as usize;
         let mut members = Vec::with_capacity(alloc, count)?;
@@ -182,4 +180,16 @@ fn is_other_letter(category: Category) -> bool
         category,
         Category::Lt | Category::Lm | Category::Lo | Category::Nl
     )
+}
+
+/// References to the rows of a file, in the order of the file.
+fn rows_of(alloc: Global, release: &Release, file: SourceFile) -> Result<Vec<&Row>, Memory>
+    ensures { IfOk result (λ references. pointed_rows references.items ≡ release_rows release.now file) }
+{
+    let mut references = Vec::new(alloc);
+    let mut rows = release.rows(file);
+    'rows: while let Some((_, row)) = rows.next() {
+        references.push(row)?;
+    }
+    Ok(references)
 }

@@ -1,56 +1,60 @@
 //! Judging the files that were read.
 
-ghost use Rattle.std.specs.Prelude.{◌≡◌, length, slice_index_or, None};
-ghost use Rattle.ucd_model.specs.declared.files.SourceFile.TheVariants.{UnicodeData, PropList};
-ghost use Rattle.source_rows.specs.Faults.{IsRead};
-ghost use Rattle.ucdshop_core.specs.Judging.{JudgedAs, verdict_on};
-ghost use Rattle.ucdshop_core.specs.PointFacts.{rows_of};
-ghost use Rattle.ucdshop_core.specs.Run.{file_rows};
+ghost use Rattle.std.specs.Prelude.{◌≡◌, [], length};
+ghost use Rattle.release_rows.specs.Releases.{items_now};
+ghost use Rattle.ucdshop_core.specs.Judging.{JudgedAs, LoadsFile, release_rows, verdict_at};
+ghost use Rattle.ucdshop_core.specs.Run.{file_rows, verdict_by};
 
-use crate::core_properties::SourceRows;
 use crate::printed::{refused, rule_code};
+use crate::source_path::SOURCE_FILES;
 use crate::stop::Stop;
-use source_rows::{FileStop, read_rows};
+use release_rows::{LoadStop, Release};
 use std::alloc::Global;
-use ucd_model::{Rows, SourceFile, Text, file_limit};
+use ucd_model::{SourceFile, Text};
 
-/// The rows of the files of a release, from what their paths hold; or the line that refuses the first file that is
-/// absent, too long, or not in the grammar.
-pub fn judge(alloc: Global, paths: &[Text], held: &[Option<Text>]) -> Result<SourceRows, Stop>
-    requires paths { length paths.now ≡ 2 }
-    requires held { length held.now ≡ 2 }
-    ensures { JudgedAs rows_of result (verdict_on paths.now held.now) }
+/// The release whose files hold these bytes at their paths; or the line that refuses the first file that is absent, too
+/// long, or breaks a rule.
+pub fn judge(alloc: Global, paths: &[Text], held: &[Option<Text>]) -> Result<Release, Stop>
+    requires paths { length paths.now ≡ 9 }
+    requires held { length held.now ≡ 9 }
+    ensures { JudgedAs release_rows result (verdict_by (verdict_at paths.now held.now)) }
 {
-    let data = rows_in(
-        alloc,
-        SourceFile::UnicodeData,
-        paths[0].as_slice(),
-        &held[0],
-    )?;
-    let properties = rows_in(alloc, SourceFile::PropList, paths[1].as_slice(), &held[1])?;
-    Ok(SourceRows { data, properties })
+    let mut release = Release::empty(alloc);
+    'files: for at in 0..SOURCE_FILES.len() {
+        load_held(
+            alloc,
+            &mut release,
+            SOURCE_FILES[at],
+            paths[at].as_slice(),
+            &held[at],
+        )?;
+    }
+    Ok(release)
 }
 
-/// The rows of one file, or the line that refuses it.
+/// Loads one file, or gives the line that refuses it.
 #[tactic(auto, unfolding(crate::specs::Run::file_rows))]
-fn rows_in(alloc: Global, file: SourceFile, path: &[u8], held: &Option<Text>) -> Result<Rows, Stop>
-    requires { IsRead file }
-    ensures { JudgedAs (λ rows. rows) result (file_rows path.now file held.now) }
+fn load_held(
+    alloc: Global,
+    release: &mut Release,
+    file: SourceFile,
+    path: &[u8],
+    held: &Option<Text>,
+) -> Result<(), Stop>
+    requires { items_now release.old file ≡ [] }
+    ensures { LoadsFile result (file_rows path.now file held.now) file release.old release.new }
 {
     let Some(text) = held else {
         return Err(Stop::Refused(refused(alloc, path, 0, b"G01")?));
     };
-    if text.len() > file_limit() {
-        return Err(Stop::Refused(refused(alloc, path, 0, b"G02")?));
-    }
-    match read_rows(alloc, file, text.as_slice()) {
-        Ok(rows) => Ok(rows),
-        Err(FileStop::Fault { line, fault }) => Err(Stop::Refused(refused(
+    match release.load_file(file, text.as_slice()) {
+        Ok(()) => Ok(()),
+        Err(LoadStop::Fault { line, rule }) => Err(Stop::Refused(refused(
             alloc,
             path,
             line as usize,
-            rule_code(fault),
+            rule_code(rule),
         )?)),
-        Err(FileStop::Memory) => Err(Stop::Memory),
+        Err(LoadStop::Memory) => Err(Stop::Memory),
     }
 }

@@ -10,6 +10,7 @@ mod printed;
 mod program;
 mod reading;
 mod section;
+mod source_path;
 mod status;
 mod stop;
 mod writing;
@@ -18,5 +19,7 @@ pub use printed::OUT_OF_MEMORY;
 pub use program::run;
 pub use status::Status;
 
+#[cfg(test)]
+mod test_runs;
 #[cfg(test)]
 mod tests;

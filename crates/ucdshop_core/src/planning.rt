@@ -1,24 +1,27 @@
 //! All that a run does before it writes.
 
-ghost use Rattle.std.specs.Prelude.{◌≡◌, ◌≤◌, IsTrue, IfOk, length, map, ℕ, List, [], ◌∷◌};
+ghost use Rattle.std.specs.Prelude.{◌≡◌, ◌<◌, ◌≤◌, IsTrue, IfOk, length, map, ℕ, List, [], ◌∷◌};
 ghost use Rattle.shelf_io.specs.Contents.{SameContents};
 ghost use Rattle.ucdshop_core.specs.Commands.{job_of};
-ghost use Rattle.ucdshop_core.specs.PointFacts.{rows_of};
+ghost use Rattle.ucdshop_core.specs.Judging.{release_rows};
 ghost use Rattle.ucdshop_core.specs.Planning.{HasPlan, LoadedAs, OnRefused, OnUnread, NamesUnread};
-ghost use Rattle.ucdshop_core.specs.Reading.{cut};
+ghost use Rattle.ucdshop_core.specs.Reading.{cut, text_at};
+ghost use Rattle.ucdshop_core.specs.Printed.{read_failed};
 ghost use Rattle.shelf_io.specs.Counts.{Rose};
 ghost use Rattle.ucd_model.specs.Facts.{Sources};
-ghost use Rattle.ucdshop_core.specs.Run.{Derive, job_verdict, verdict, needed, path_in, source_in, outputs};
+ghost use Rattle.ucdshop_core.specs.Run.{Derive, job_verdict, verdict, needed, outputs, sources_in};
 ghost use Rattle.ucd_model.specs.Names.{source_path, derived_path};
 ghost use Rattle.ucd_model.specs.declared.files.SourceFile.TheVariants.{UnicodeData, PropList};
 
 use crate::command::Command;
-use crate::core_properties::{SourceRows, core_properties};
+use crate::core_properties::core_properties;
 use crate::judging::judge;
 use crate::printed::{RunCounts, read_failed, summary, write_failed};
 use crate::reading::{ReadingStop, read_all};
+use crate::source_path::{path_in, source_paths};
 use crate::stop::Stop;
 use crate::writing::Output;
+use release_rows::Release;
 use shelf_io::Shelf;
 use std::alloc::Global;
 use ucd_model::{Memory, Text, Texts};
@@ -30,34 +33,13 @@ pub struct Plan {
     pub summary: Text,
 }
 
-/// A path below a folder.
-fn path_in(alloc: Global, folder: &[u8], path: &[u8]) -> Result<Text, Memory>
-    ensures { IfOk result (λ text. text ≡ path_in folder.now path.now) }
-{
-    let mut text = Text::new(alloc);
-    text.append(folder)?;
-    text.append(b"/")?;
-    text.append(path)?;
-    Ok(text)
-}
-
-/// The paths of the source files that are read, in their order.
-fn source_paths(alloc: Global, folder: &[u8]) -> Result<Texts, Memory>
-    ensures { IfOk result (λ paths. paths ≡ source_in folder.now UnicodeData ∷ source_in folder.now PropList ∷ []) }
-{
-    let mut paths = Texts::new(alloc);
-    paths.push(path_in(alloc, folder, b"UnicodeData.txt")?)?;
-    paths.push(path_in(alloc, folder, b"PropList.txt")?)?;
-    Ok(paths)
-}
-
 /// The files that `derive` writes, and its summary.
-fn derive_plan(alloc: Global, output: &[u8], rows: &SourceRows) -> Result<Plan, Memory>
-    ensures { IfOk result (λ plan. (input : List ℕ) → HasPlan (Derive input output.now) (rows_of rows.now) plan) }
+fn derive_plan(alloc: Global, output: &[u8], release: &Release) -> Result<Plan, Memory>
+    ensures { IfOk result (λ plan. (input : List ℕ) → HasPlan (Derive input output.now) (release_rows release.now) plan) }
 {
     let path = path_in(alloc, output, b"DerivedCoreProperties.txt")?;
     let fault_line = write_failed(alloc, path.as_slice())?;
-    let bytes = core_properties(alloc, rows)?;
+    let bytes = core_properties(alloc, release)?;
     let summary = summary(alloc, NO_COUNTS)?;
     let mut outputs = Vec::new(alloc);
     outputs.push(Output {
@@ -83,14 +65,22 @@ struct Gathered {
     held: Vec<Option<Text>>,
 }
 
+/// The line for the path at a place, which could not be read.
+fn unread_line(alloc: Global, paths: &[Text], at: usize) -> Result<Text, Memory>
+    requires { at < length paths.now }
+    ensures { IfOk result (λ line. line ≡ read_failed (text_at paths.now at)) }
+{
+    read_failed(alloc, paths[at].as_slice())
+}
+
 /// Reads the source files of a folder.
 fn gather<S: Shelf>(alloc: Global, shelf: &mut S, folder: &[u8]) -> Result<Gathered, Stop>
-    ensures paths { IfOk result (λ gathered. gathered.paths ≡ source_in folder.now UnicodeData ∷ source_in folder.now PropList ∷ []) }
-    ensures len { IfOk result (λ gathered. length gathered.held.items ≡ 2) }
+    ensures paths { IfOk result (λ gathered. gathered.paths ≡ sources_in folder.now) }
+    ensures len { IfOk result (λ gathered. length gathered.held.items ≡ 9) }
     ensures held { IsTrue S.tells → IfOk result (λ gathered.
         gathered.held.items ≡ map (λ path. cut (S.holds shelf.old path)) gathered.paths) }
     ensures refused { OnRefused result (λ _. ⊥) }
-    ensures unread { OnUnread result (NamesUnread (source_in folder.now UnicodeData ∷ source_in folder.now PropList ∷ [])
+    ensures unread { OnUnread result (NamesUnread (sources_in folder.now)
         S.tells_failed (S.last_failed shelf.new)) }
     ensures unread_only { OnUnread result (λ _. Rose (S.read_faults shelf.old) (S.read_faults shelf.new)) }
     ensures held_stays { IsTrue S.tells → SameContents (S.holds shelf.old) (S.holds shelf.new) }
@@ -101,7 +91,7 @@ fn gather<S: Shelf>(alloc: Global, shelf: &mut S, folder: &[u8]) -> Result<Gathe
     match read_all(alloc, shelf, paths.as_slice()) {
         Ok(held) => Ok(Gathered { paths, held }),
         Err(ReadingStop::FailedAt(at)) => {
-            let line = read_failed(alloc, paths.as_slice()[at].as_slice())?;
+            let line = unread_line(alloc, paths.as_slice(), at)?;
             Err(Stop::ReadFailed(line))
         }
         Err(ReadingStop::Memory) => Err(Stop::Memory),
@@ -109,9 +99,9 @@ fn gather<S: Shelf>(alloc: Global, shelf: &mut S, folder: &[u8]) -> Result<Gathe
 }
 
 /// Reads and judges the source files of a folder.
-fn load<S: Shelf>(alloc: Global, shelf: &mut S, folder: &[u8]) -> Result<SourceRows, Stop>
-    ensures rows { IsTrue S.tells → LoadedAs rows_of result (verdict folder.now (S.holds shelf.old)) }
-    ensures unread { OnUnread result (NamesUnread (source_in folder.now UnicodeData ∷ source_in folder.now PropList ∷ [])
+fn load<S: Shelf>(alloc: Global, shelf: &mut S, folder: &[u8]) -> Result<Release, Stop>
+    ensures rows { IsTrue S.tells → LoadedAs release_rows result (verdict folder.now (S.holds shelf.old)) }
+    ensures unread { OnUnread result (NamesUnread (sources_in folder.now)
         S.tells_failed (S.last_failed shelf.new)) }
     ensures unread_only { OnUnread result (λ _. Rose (S.read_faults shelf.old) (S.read_faults shelf.new)) }
     ensures held_stays { IsTrue S.tells → SameContents (S.holds shelf.old) (S.holds shelf.new) }
@@ -134,8 +124,8 @@ fn derive<S: Shelf>(alloc: Global, input: &[u8], output: &[u8], shelf: &mut S) -
     ensures read_faults_never_fall { S.read_faults shelf.old ≤ S.read_faults shelf.new }
     ensures write_faults_stay { S.write_faults shelf.new ≡ S.write_faults shelf.old }
 {
-    let rows = load(alloc, shelf, input)?;
-    let plan = derive_plan(alloc, output, &rows)?;
+    let release = load(alloc, shelf, input)?;
+    let plan = derive_plan(alloc, output, &release)?;
     shelf.room(plan.outputs.len())?;
     Ok(plan)
 }

@@ -1,10 +1,11 @@
 //! The lines that a run prints.
 
 ghost use Rattle.std.specs.Prelude.{◌≡◌, ◌++◌, IfOk, OnOk, codes};
-ghost use Rattle.ucdshop_core.specs.Printed.{Counts, line_end, refused, read_failed, write_failed, rule_code, summary};
+ghost use Rattle.ucdshop_core.specs.Printed.{Counts, line_end, refused, read_failed, write_failed, row_rule_code, rule_code, summary};
 ghost use Rattle.std.specs.Fmt.{decimal};
 
 use crate::section::put_decimal;
+use release_rows::LoadRule;
 use source_rows::RowFault;
 use std::alloc::Global;
 use ucd_model::{Memory, Text};
@@ -89,9 +90,22 @@ fn put_count(alloc: Global, text: &mut Text, count: usize, what: &[u8]) -> Resul
     text.append(what)
 }
 
-/// The code of a rule that a line breaks.
-pub fn rule_code(fault: RowFault) -> &'static [u8]
-    ensures { result.now ≡ rule_code fault }
+/// The code of a rule that a file breaks.
+pub fn rule_code(rule: LoadRule) -> &'static [u8]
+    ensures { result.now ≡ rule_code rule }
+{
+    match rule {
+        LoadRule::G02 => b"G02",
+        LoadRule::Row(fault) => row_rule_code(fault),
+        LoadRule::K1 => b"K1",
+        LoadRule::K4 => b"K4",
+        LoadRule::K5 => b"K5",
+    }
+}
+
+/// The code of a rule that a line breaks by itself.
+fn row_rule_code(fault: RowFault) -> &'static [u8]
+    ensures { result.now ≡ row_rule_code fault }
 {
     match fault {
         RowFault::G03 => b"G03",

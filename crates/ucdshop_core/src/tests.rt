@@ -1,19 +1,18 @@
-//! Whole runs over shelves and sinks in memory.
+//! Derived files, and each way in which a run ends.
 
+use crate::test_runs::{
+    CORE_PATH, LETTERS, SOURCE_PATHS, SUMMARY, derives, run_words, shelf_of, words_of,
+};
 use crate::{Status, run};
 use shelf_io::{MemoryShelf, MemorySink, PerfectShelf};
-use std::alloc::Global;
 use std::test::Fail;
-use ucd_model::{Memory, Text, Texts};
-
-const LETTERS: &[u8] =
-    b"0041;LATIN CAPITAL LETTER A;Lu;0;L;;;;;N;;;;0061;\n0061;LATIN SMALL LETTER A;Ll;0;L;;;;;N;;;0041;;0041\n";
+use ucd_model::Text;
 
 const LETTERS_CORE: &[u8] =
     b"# Math\n# total 0\n\n# Alphabetic\n0041 ; Alphabetic\n0061 ; Alphabetic\n# total 2\n\n# Lowercase\n0061 ; Lowercase\n# total 1\n\n# Uppercase\n0041 ; Uppercase\n# total 1\n\n";
 
-const SUMMARY: &[u8] =
-    b"ucdshop: 0 groups accepted, 0 commands refused, 0 sets answered, 0 policy breaks\n";
+const EMPTY_CORE: &[u8] =
+    b"# Math\n# total 0\n\n# Alphabetic\n# total 0\n\n# Lowercase\n# total 0\n\n# Uppercase\n# total 0\n\n";
 
 const PROPERTIES: &[u8] =
     b"# head\r\n005E          ; Other_Math # Sk       CIRCUMFLEX ACCENT\n2160..216F    ; Other_Uppercase # Nl  [16] ROMAN NUMERAL ONE..ROMAN NUMERAL SIXTEEN\n0345 ; Other_Alphabetic\n0346..0347;Other_Alphabetic\n10FFFF ; Other_Lowercase\n10FFFE..10FFFF ; Noncharacter_Code_Point\n";
@@ -24,55 +23,38 @@ const PROPERTIES_DATA: &[u8] =
 const PROPERTIES_CORE: &[u8] =
     b"# Math\n002B ; Math\n005E ; Math\n# total 2\n\n# Alphabetic\n01C5 ; Alphabetic\n0345..0347 ; Alphabetic\n2160..216F ; Alphabetic\n10FFFF ; Alphabetic\n# total 21\n\n# Lowercase\n10FFFF ; Lowercase\n# total 1\n\n# Uppercase\n2160..216F ; Uppercase\n# total 16\n\n";
 
-const DATA_PATH: &[u8] = b"d/UnicodeData.txt";
+const RANGE: &[u8] =
+    b"4E00;<CJK Ideograph, First>;Lo;0;L;;;;;N;;;;;\r\n9FFF;<CJK Ideograph, Last>;Lo;0;L;;;;;N;;;;;";
 
-const PROPERTIES_PATH: &[u8] = b"d/PropList.txt";
+const RANGE_CORE: &[u8] =
+    b"# Math\n# total 0\n\n# Alphabetic\n4E00..9FFF ; Alphabetic\n# total 20992\n\n# Lowercase\n# total 0\n\n# Uppercase\n# total 0\n\n";
 
-const CORE_PATH: &[u8] = b"o/DerivedCoreProperties.txt";
-
-/// The words of a run.
-fn words_of(alloc: Global, words: &[&[u8]]) -> Result<Texts, Memory> {
-    let mut texts = Texts::new(alloc);
-    for word in words {
-        let mut text = Text::new(alloc);
-        text.append(*word)?;
-        texts.push(text)?;
-    }
-    Ok(texts)
-}
-
-/// A shelf with the two source files in `d`, and an older derived file and a stranger in `o`.
-fn shelf_of(alloc: Global, data: &[u8], properties: &[u8]) -> Result<MemoryShelf, Memory> {
-    let mut shelf = MemoryShelf::new(alloc);
-    shelf.place(DATA_PATH, data)?;
-    shelf.place(PROPERTIES_PATH, properties)?;
-    shelf.place(CORE_PATH, b"old")?;
-    shelf.place(b"o/other", b"kept")?;
-    Ok(shelf)
-}
+const SWAPPED: &[u8] =
+    b"0061;LATIN SMALL LETTER A;Ll;0;L;;;;;N;;;0041;;0041\n0041;LATIN CAPITAL LETTER A;Lu;0;L;;;;;N;;;;0061;\n";
 
 #[test]
-fn letters_are_derived(rt: HostRuntime) -> Result<(), Fail> {
+fn flags_enter_the_sections(rt: HostRuntime) -> Result<(), Fail> {
     let alloc = rt.alloc();
-    let words = words_of(alloc, &[b"derive", b"d", b"o"])?;
-    let mut shelf = shelf_of(alloc, LETTERS, b"")?;
-    let mut out = MemorySink::new(alloc, 1000)?;
-    assert_eq!(rt; run(alloc, &words, &mut shelf, &mut out), Status::Clean);
-    assert_eq!(rt; out.written(), SUMMARY);
-    assert_eq!(rt; shelf.held(CORE_PATH), Some(LETTERS_CORE));
-    assert_eq!(rt; shelf.held(b"o/other"), Some(b"kept".as_slice()));
-    assert_eq!(rt; shelf.held(DATA_PATH), Some(LETTERS));
+    for (data, properties, core) in [
+        (LETTERS, b"".as_slice(), LETTERS_CORE),
+        (PROPERTIES_DATA, PROPERTIES, PROPERTIES_CORE),
+    ] {
+        let mut shelf = shelf_of(alloc, data, properties)?;
+        let expected = (Status::Clean, SUMMARY, core);
+        assert!(rt; derives(alloc, &mut shelf, 1000, expected)?);
+    }
     Ok(())
 }
 
 #[test]
-fn properties_enter_the_sections(rt: HostRuntime) -> Result<(), Fail> {
+fn sources_stay(rt: HostRuntime) -> Result<(), Fail> {
     let alloc = rt.alloc();
-    let words = words_of(alloc, &[b"derive", b"d", b"o"])?;
-    let mut shelf = shelf_of(alloc, PROPERTIES_DATA, PROPERTIES)?;
-    let mut out = MemorySink::new(alloc, 1000)?;
-    assert_eq!(rt; run(alloc, &words, &mut shelf, &mut out), Status::Clean);
-    assert_eq!(rt; shelf.held(CORE_PATH), Some(PROPERTIES_CORE));
+    for (data, core) in [(RANGE, RANGE_CORE), (b"", EMPTY_CORE)] {
+        let mut shelf = shelf_of(alloc, data, b"")?;
+        let expected = (Status::Clean, SUMMARY, core);
+        assert!(rt; derives(alloc, &mut shelf, 1000, expected)?);
+        assert_eq!(rt; shelf.held(b"d/UnicodeData.txt"), Some(data));
+    }
     Ok(())
 }
 
@@ -87,11 +69,10 @@ fn words_of_no_form_are_refused(rt: HostRuntime) -> Result<(), Fail> {
         &[b"Derive", b"d", b"o"],
         &[b"--help"],
     ];
-    for case in cases {
-        let words = words_of(alloc, case)?;
+    for words in cases {
         let mut shelf = shelf_of(alloc, LETTERS, b"")?;
-        let mut out = MemorySink::new(alloc, 1000)?;
-        assert_eq!(rt; run(alloc, &words, &mut shelf, &mut out), Status::BadWords);
+        let (status, out) = run_words(alloc, words, &mut shelf, 1000)?;
+        assert_eq!(rt; status, Status::BadWords);
         assert_eq!(rt;
             out.written(),
             b"usage: ucdshop derive DATA OUT\n".as_slice()
@@ -104,8 +85,7 @@ fn words_of_no_form_are_refused(rt: HostRuntime) -> Result<(), Fail> {
 #[test]
 fn files_are_refused_by_their_first_fault(rt: HostRuntime) -> Result<(), Fail> {
     let alloc = rt.alloc();
-    let words = words_of(alloc, &[b"derive", b"d", b"o"])?;
-    let cases: [(&[u8], &[u8], &[u8]); 5] = [
+    let cases: [(&[u8], &[u8], &[u8]); 8] = [
         (
             b"0041;A;Xx;0;L;;;;;N;;;;0061;\n",
             b"",
@@ -131,73 +111,85 @@ fn files_are_refused_by_their_first_fault(rt: HostRuntime) -> Result<(), Fail> {
             b"",
             b"refused: d/UnicodeData.txt line 1 G09\n",
         ),
+        (
+            LETTERS,
+            b"0020 ; White_Space\n0020 ; White_Space\n",
+            b"refused: d/PropList.txt line 2 K1\n",
+        ),
+        (
+            LETTERS,
+            b"0020..0022 ; White_Space\n0021 ; White_Space\n",
+            b"refused: d/PropList.txt line 2 K4\n",
+        ),
+        (SWAPPED, b"", b"refused: d/UnicodeData.txt line 2 K5\n"),
     ];
     for (data, properties, line) in cases {
         let mut shelf = shelf_of(alloc, data, properties)?;
-        let mut out = MemorySink::new(alloc, 1000)?;
-        assert_eq!(rt;
-            run(alloc, &words, &mut shelf, &mut out),
-            Status::LoadRefused
-        );
-        assert_eq!(rt; out.written(), line);
-        assert_eq!(rt; shelf.held(CORE_PATH), Some(b"old".as_slice()));
+        let expected = (Status::LoadRefused, line, b"old".as_slice());
+        assert!(rt; derives(alloc, &mut shelf, 1000, expected)?);
     }
     Ok(())
 }
 
 #[test]
-fn absent_and_long_files_are_refused(rt: HostRuntime) -> Result<(), Fail> {
+fn an_absent_file_is_refused(rt: HostRuntime) -> Result<(), Fail> {
     let alloc = rt.alloc();
-    let words = words_of(alloc, &[b"derive", b"d", b"o"])?;
     let mut shelf = MemoryShelf::new(alloc);
-    shelf.place(DATA_PATH, LETTERS)?;
-    let mut out = MemorySink::new(alloc, 1000)?;
-    assert_eq!(rt;
-        run(alloc, &words, &mut shelf, &mut out),
-        Status::LoadRefused
-    );
+    shelf.place(b"d/UnicodeData.txt", LETTERS)?;
+    let (status, out) = run_words(alloc, &[b"derive", b"d", b"o"], &mut shelf, 1000)?;
+    assert_eq!(rt; status, Status::LoadRefused);
     assert_eq!(rt;
         out.written(),
         b"refused: d/PropList.txt line 0 G01\n".as_slice()
     );
-    for (len, line) in [
-        (16_777_216, SUMMARY),
+    Ok(())
+}
+
+#[test]
+fn a_file_has_a_limit(rt: HostRuntime) -> Result<(), Fail> {
+    let alloc = rt.alloc();
+    for (len, status, line, core) in [
+        (16_777_216, Status::Clean, SUMMARY, LETTERS_CORE),
         (
             16_777_217,
-            b"refused: d/PropList.txt line 0 G02\n".as_slice(),
+            Status::LoadRefused,
+            b"refused: d/Scripts.txt line 0 G02\n".as_slice(),
+            b"old".as_slice(),
         ),
     ] {
-        let properties = vec![in alloc; b'#'; len]?;
-        let mut shelf = shelf_of(alloc, LETTERS, properties.as_slice())?;
-        let mut out = MemorySink::new(alloc, 1000)?;
-        let _ = run(alloc, &words, &mut shelf, &mut out);
-        assert_eq!(rt; out.written(), line);
+        let scripts = vec![in alloc; b'#'; len]?;
+        let mut shelf = shelf_of(alloc, LETTERS, b"")?;
+        shelf.place(b"d/Scripts.txt", scripts.as_slice())?;
+        assert!(rt; derives(alloc, &mut shelf, 1000, (status, line, core))?);
     }
     Ok(())
 }
 
 #[test]
-fn failing_devices_are_told(rt: HostRuntime) -> Result<(), Fail> {
+fn a_failed_read_is_told(rt: HostRuntime) -> Result<(), Fail> {
     let alloc = rt.alloc();
-    let words = words_of(alloc, &[b"derive", b"d", b"o"])?;
-    for (nth, line) in [
-        (1, b"read failed: d/UnicodeData.txt\n".as_slice()),
-        (2, b"read failed: d/PropList.txt\n".as_slice()),
-    ] {
+    let mut nth = 0;
+    for path in SOURCE_PATHS {
+        nth += 1;
         let mut shelf = shelf_of(alloc, LETTERS, b"")?;
         shelf.fail_read(nth)?;
-        let mut out = MemorySink::new(alloc, 1000)?;
-        assert_eq!(rt; run(alloc, &words, &mut shelf, &mut out), Status::ReadFault);
-        assert_eq!(rt; out.written(), line);
-        assert_eq!(rt; shelf.held(CORE_PATH), Some(b"old".as_slice()));
+        let mut line = Text::new(alloc);
+        line.append(b"read failed: ")?;
+        line.append(path)?;
+        line.push(b'\n')?;
+        let expected = (Status::ReadFault, line.as_slice(), b"old".as_slice());
+        assert!(rt; derives(alloc, &mut shelf, 1000, expected)?);
     }
+    Ok(())
+}
+
+#[test]
+fn a_failed_write_is_told(rt: HostRuntime) -> Result<(), Fail> {
+    let alloc = rt.alloc();
     let mut shelf = shelf_of(alloc, LETTERS, b"")?;
     shelf.fail_write(1)?;
-    let mut out = MemorySink::new(alloc, 1000)?;
-    assert_eq!(rt;
-        run(alloc, &words, &mut shelf, &mut out),
-        Status::WriteFault
-    );
+    let (status, out) = run_words(alloc, &[b"derive", b"d", b"o"], &mut shelf, 1000)?;
+    assert_eq!(rt; status, Status::WriteFault);
     assert_eq!(rt;
         out.written(),
         b"write failed: o/DerivedCoreProperties.txt\n".as_slice()
@@ -209,22 +201,44 @@ fn failing_devices_are_told(rt: HostRuntime) -> Result<(), Fail> {
 #[test]
 fn a_short_sink_keeps_the_files(rt: HostRuntime) -> Result<(), Fail> {
     let alloc = rt.alloc();
-    let words = words_of(alloc, &[b"derive", b"d", b"o"])?;
-    for room in [0, 1, 8, SUMMARY.len() - 1] {
+    for room in [0, 1, SUMMARY.len() - 1] {
         let mut shelf = shelf_of(alloc, LETTERS, b"")?;
-        let mut out = MemorySink::new(alloc, room)?;
-        assert_eq!(rt;
-            run(alloc, &words, &mut shelf, &mut out),
-            Status::WriteFault
-        );
-        assert_eq!(rt; out.written(), SUMMARY.get(..room).unwrap_or(b""));
-        assert_eq!(rt; shelf.held(CORE_PATH), Some(LETTERS_CORE));
+        let told = SUMMARY.get(..room).unwrap_or(b"");
+        let expected = (Status::WriteFault, told, LETTERS_CORE);
+        assert!(rt; derives(alloc, &mut shelf, room, expected)?);
     }
-    let bad = words_of(alloc, &[b"derive"])?;
     let mut shelf = shelf_of(alloc, LETTERS, b"")?;
-    let mut out = MemorySink::new(alloc, 3)?;
-    assert_eq!(rt; run(alloc, &bad, &mut shelf, &mut out), Status::BadWords);
+    let (status, out) = run_words(alloc, &[b"derive"], &mut shelf, 3)?;
+    assert_eq!(rt; status, Status::BadWords);
     assert_eq!(rt; out.written(), b"usa".as_slice());
+    Ok(())
+}
+
+/// A failed read is told also where a file that was read before it is refused or absent.
+#[test]
+fn a_failed_read_is_told_before_a_refusal(rt: HostRuntime) -> Result<(), Fail> {
+    let alloc = rt.alloc();
+    for path in [b"d/UnicodeData.txt".as_slice(), b"d/other"] {
+        let mut shelf = MemoryShelf::new(alloc);
+        shelf.place(path, b"0041\n")?;
+        shelf.fail_read(2)?;
+        let (status, out) = run_words(alloc, &[b"derive", b"d", b"o"], &mut shelf, 1000)?;
+        assert_eq!(rt; status, Status::ReadFault);
+        assert_eq!(rt; out.written(), b"read failed: d/PropList.txt\n".as_slice());
+    }
+    Ok(())
+}
+
+#[test]
+fn a_list_is_copied_and_changed(rt: HostRuntime) -> Result<(), Fail> {
+    let alloc = rt.alloc();
+    let mut text = Text::new(alloc);
+    text.append(b"abc")?;
+    let mut other = text.copy(alloc)?;
+    other.replace(1, b'x');
+    other.truncate(2);
+    assert_eq!(rt; text.as_slice(), b"abc".as_slice());
+    assert_eq!(rt; other.as_slice(), b"ax".as_slice());
     Ok(())
 }
 
@@ -234,14 +248,15 @@ fn a_perfect_shelf_has_no_read_fault(rt: HostRuntime) -> Result<(), Fail> {
     let alloc = rt.alloc();
     let words = words_of(alloc, &[b"derive", b"d", b"o"])?;
     let mut shelf = PerfectShelf::new(alloc);
-    shelf.place(DATA_PATH, LETTERS)?;
-    shelf.place(PROPERTIES_PATH, b"")?;
+    for path in SOURCE_PATHS {
+        shelf.place(path, b"")?;
+    }
     let mut out = MemorySink::new(alloc, 1000)?;
     let status = run(alloc, &words, &mut shelf, &mut out);
     if let Status::ReadFault = status {
         unreachable!();
     }
     assert_eq!(rt; status.code(), 0);
-    assert_eq!(rt; shelf.held(CORE_PATH), Some(LETTERS_CORE));
+    assert_eq!(rt; shelf.held(CORE_PATH), Some(EMPTY_CORE));
     Ok(())
 }

@@ -2,7 +2,7 @@ use Rattle.std.proofs.Common.{◌≡◌, ℕ, ◌+◌, ◌<◌, nat_lt, ◌||◌
 use Rattle.std.proofs.lemmas.List.{get_or_read}
 use Rattle.std.specs.List.{list_any}
 use Rattle.ucd_model.specs.Facts.{gives_value}
-use Rattle.ucdshop_core.specs.Sweep.{ShowsMembers, reaches_before, reaches_from}
+use Rattle.ucdshop_core.specs.Sweep.{pointed_rows, ShowsMembers, reaches_before, reaches_from}
 use Rattle.ucdshop_core.proofs.SweepLemmas.{lt_zero, lt_max, ShowsMembers-push, reaches_before_zero, reaches_before_more, reaches_point}
 use Rattle.ucdshop_core.proofs.point_table.members.Goals as goal
 
@@ -10,12 +10,12 @@ pub places-init : goal.places-init
 places-init c = record {
   len = search rules;
   shows = λ d h. absurd (omega (arith, c.in_ok-table.ensures.len, h));
-  end = λ d. lt_zero d ∙ sym (reaches_before_zero c.args.rows.now c.args.value.now d);
+  end = λ d. lt_zero d ∙ sym (reaches_before_zero (pointed_rows c.args.rows.now) c.args.value.now d);
 }
 
 pub places-preserved : goal.places-preserved
 places-preserved c =
-    let rows = c.args.rows.now in
+    let rows = pointed_rows c.args.rows.now in
     let value = c.args.value.now in
     let place = c.places.place in
     let reach = c.in_ok-reach.reach.items in

@@ -1,0 +1,60 @@
+//! Where the source files lie.
+
+ghost use Rattle.std.specs.Prelude.{◌≡◌, ◌++◌, IfOk, OnOk, map};
+ghost use Rattle.ucd_model.specs.Names.{source_path};
+ghost use Rattle.ucdshop_core.specs.Run.{path_in, source_in, sources_in};
+
+use std::alloc::Global;
+use ucd_model::{Memory, SourceFile, Text, Texts};
+
+/// The source files, in the order in which they are read and judged.
+pub const SOURCE_FILES: [SourceFile; 9] = [
+    SourceFile::UnicodeData,
+    SourceFile::PropList,
+    SourceFile::Scripts,
+    SourceFile::WordBreakProperty,
+    SourceFile::CompositionExclusions,
+    SourceFile::CaseFolding,
+    SourceFile::SpecialCasing,
+    SourceFile::PropertyAliases,
+    SourceFile::PropertyValueAliases,
+];
+
+/// Where a source file lies below the folder of a release.
+fn source_path(file: SourceFile) -> &'static [u8]
+    ensures { result.now ≡ source_path file }
+{
+    match file {
+        SourceFile::UnicodeData => b"UnicodeData.txt",
+        SourceFile::PropList => b"PropList.txt",
+        SourceFile::Scripts => b"Scripts.txt",
+        SourceFile::WordBreakProperty => b"auxiliary/WordBreakProperty.txt",
+        SourceFile::CompositionExclusions => b"CompositionExclusions.txt",
+        SourceFile::CaseFolding => b"CaseFolding.txt",
+        SourceFile::SpecialCasing => b"SpecialCasing.txt",
+        SourceFile::PropertyAliases => b"PropertyAliases.txt",
+        SourceFile::PropertyValueAliases => b"PropertyValueAliases.txt",
+    }
+}
+
+/// A path below a folder.
+pub fn path_in(alloc: Global, folder: &[u8], path: &[u8]) -> Result<Text, Memory>
+    ensures { IfOk result (λ text. text ≡ path_in folder.now path.now) }
+{
+    let mut text = Text::new(alloc);
+    text.append(folder)?;
+    text.append(b"/")?;
+    text.append(path)?;
+    Ok(text)
+}
+
+/// The paths of the source files of a folder, in their order.
+pub fn source_paths(alloc: Global, folder: &[u8]) -> Result<Texts, Memory>
+    ensures { IfOk result (λ paths. paths ≡ sources_in folder.now) }
+{
+    let mut paths = Texts::new(alloc);
+    'files: for file in &SOURCE_FILES {
+        paths.push(path_in(alloc, folder, source_path(*file))?)?;
+    }
+    Ok(paths)
+}

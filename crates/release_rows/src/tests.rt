@@ -1,6 +1,6 @@
 //! Files that load, and the first line of those that do not.
 
-use crate::{LoadRule, LoadStop, Release};
+use crate::{LoadRule, LoadStop, Release, Rows};
 use source_rows::RowFault;
 use std::alloc::Global;
 use std::test::Fail;
@@ -181,26 +181,39 @@ fn a_fault_of_a_range_has_its_line(rt: HostRuntime) -> Result<(), Fail> {
     Ok(())
 }
 
+/// The release with one file.
+fn release_of(alloc: Global, file: SourceFile, bytes: &[u8]) -> Result<Release, LoadStop> {
+    let mut release = Release::empty(alloc);
+    release.load_file(file, bytes)?;
+    Ok(release)
+}
+
+/// Whether there are two rows, on these lines.
+fn are_on(mut rows: Rows<'_>, first: u64, second: u64) -> bool {
+    match (rows.next(), rows.next(), rows.next()) {
+        (Some((a, _)), Some((b, _)), None) => a == first && b == second,
+        _ => false,
+    }
+}
+
+/// Whether the first row gives a value from a code point on.
+fn gives(mut rows: Rows<'_>, first: u32, value: &[u8]) -> bool {
+    match rows.next() {
+        Some((_, Row::Value(row))) => row.span.first() == first && row.value.as_slice() == value,
+        _ => false,
+    }
+}
+
 #[test]
-fn bytes_come_back_and_rows_have_their_lines(rt: HostRuntime) -> Result<(), Fail> {
+fn rows_have_their_lines(rt: HostRuntime) -> Result<(), Fail> {
     let file = SourceFile::PropList;
     let bytes: &[u8] = b"# head\r\n0020 ; White_Space # SP\r\n\r\n0009..000D    ; White_Space";
-    let mut release = Release::empty(rt.alloc());
-    release.load_file(file, bytes)?;
-    assert_eq!(rt; release.text(rt.alloc(), file)?.as_slice(), bytes);
-    let mut rows = release.rows(file);
-    for (expected, first) in [(2, 0x20), (4, 0x09)] {
-        match rows.next() {
-            Some((line, Row::Value(row))) => {
-                assert_eq!(rt; (line, row.span.first()), (expected, first));
-                assert_eq!(rt; row.value.as_slice(), b"White_Space".as_slice());
-            }
-            _ => assert!(rt; false),
-        }
-    }
-    assert!(rt; rows.next().is_none());
-    assert!(rt; release.next_rows(file).map(|(line, _)| line).eq([2, 4]));
+    let release = release_of(rt.alloc(), file, bytes)?;
+    assert!(rt; are_on(release.rows(file), 2, 4));
+    assert!(rt; are_on(release.next_rows(file), 2, 4));
+    assert!(rt; gives(release.rows(file), 0x20, b"White_Space"));
     assert!(rt; release.rows(SourceFile::Scripts).next().is_none());
+    assert!(rt; is_answered(rt.alloc(), file, bytes, Ok(()))?);
     Ok(())
 }
 
@@ -209,10 +222,8 @@ fn a_range_has_two_lines(rt: HostRuntime) -> Result<(), Fail> {
     let file = SourceFile::UnicodeData;
     let bytes: &[u8] =
         b"AC00;<Hangul Syllable, First>;Lo;0;L;;;;;N;;;;;\nD7A3;<Hangul Syllable, Last>;Lo;0;L;;;;;N;;;;;\r\n\nE000;<Private Use, First>;Co;0;L;;;;;N;;;;;\nF8FF;<Private Use, Last>;Co;0;L;;;;;N;;;;;";
-    let mut release = Release::empty(rt.alloc());
-    release.load_file(file, bytes)?;
-    assert_eq!(rt; release.text(rt.alloc(), file)?.as_slice(), bytes);
-    let lines = release.rows(file).map(|(line, _)| line);
-    assert!(rt; lines.eq([1, 4]));
+    let release = release_of(rt.alloc(), file, bytes)?;
+    assert!(rt; are_on(release.rows(file), 1, 4));
+    assert!(rt; is_answered(rt.alloc(), file, bytes, Ok(()))?);
     Ok(())
 }

@@ -117,37 +117,79 @@ fn are_bytes(held: Option<&[u8]>, bytes: &[u8]) -> bool {
     }
 }
 
-#[test]
-fn joins_files_of_each_shelf(rt: HostRuntime) -> Result<(), Memory> {
-    let mut shelf = MemoryShelf::new(rt.alloc());
+/// A shelf in memory with two files.
+fn two_files(alloc: Global) -> Result<MemoryShelf, Memory> {
+    let mut shelf = MemoryShelf::new(alloc);
     shelf.place(b"d/a", b"front")?;
     shelf.place(b"d/b", b"back")?;
+    Ok(shelf)
+}
+
+#[test]
+fn joins_files_in_memory(rt: HostRuntime) -> Result<(), Memory> {
+    let mut shelf = two_files(rt.alloc())?;
     let joined = join_files(rt.alloc(), &mut shelf, b"d/a", b"d/b", 3, b"o/c");
     assert_eq!(rt; joined, Joined::Joined);
     assert!(rt; are_bytes(shelf.held(b"o/c"), b"frobac"));
     assert!(rt; are_bytes(shelf.held(b"d/a"), b"front"));
-    let mut perfect = PerfectShelf::new(rt.alloc());
-    perfect.place(b"d/a", b"front")?;
-    let joined = join_files(rt.alloc(), &mut perfect, b"d/a", b"d/a", 9, b"d/a");
+    Ok(())
+}
+
+/// A shelf that never fails, on which a file was joined with itself.
+fn joined_perfectly(alloc: Global) -> Result<(Joined, PerfectShelf), Memory> {
+    let mut shelf = PerfectShelf::new(alloc);
+    shelf.place(b"d/a", b"front")?;
+    let joined = join_files(alloc, &mut shelf, b"d/a", b"d/a", 9, b"d/a");
+    Ok((joined, shelf))
+}
+
+#[test]
+fn joins_files_that_never_fail(rt: HostRuntime) -> Result<(), Memory> {
+    let (joined, mut shelf) = joined_perfectly(rt.alloc())?;
     assert_eq!(rt; joined, Joined::Joined);
-    assert!(rt; are_bytes(perfect.held(b"d/a"), b"frontfront"));
-    assert!(rt; perfect.held(b"d/b").is_none());
+    assert!(rt; are_bytes(shelf.held(b"d/a"), b"frontfront"));
+    assert!(rt; shelf.held(b"d/b").is_none());
     let to = text_of(rt.alloc(), b"d/b")?;
-    let moved = move_perfectly(rt.alloc(), &mut perfect, b"d/a", to)?;
+    let moved = move_perfectly(rt.alloc(), &mut shelf, b"d/a", to)?;
     assert_eq!(rt; moved, Found::Found);
-    assert!(rt; are_bytes(perfect.held(b"d/b"), b"frontfron"));
+    assert!(rt; are_bytes(shelf.held(b"d/b"), b"frontfron"));
     Ok(())
 }
 
 #[test]
-fn named_reads_fail(rt: HostRuntime) -> Result<(), Memory> {
+fn reads_without_planned_faults(rt: HostRuntime) -> Result<(), Memory> {
     let mut shelf = MemoryShelf::new(rt.alloc());
-    shelf.place(b"a", b"old")?;
     shelf.place(b"a", b"text")?;
     let mut held = Vec::new(rt.alloc());
     assert_eq!(rt; read_planned(&mut shelf, b"a", &mut held)?, Found::Found);
-    shelf.fail_read(3)?;
-    shelf.fail_read(6)?;
+    Ok(())
+}
+
+/// A shelf with a file that was replaced, whose second and fifth reads fail.
+fn failing_reads(alloc: Global) -> Result<MemoryShelf, Memory> {
+    let mut shelf = MemoryShelf::new(alloc);
+    shelf.place(b"a", b"old")?;
+    shelf.place(b"a", b"text")?;
+    shelf.fail_read(2)?;
+    shelf.fail_read(5)?;
+    Ok(shelf)
+}
+
+/// What a read answers, and the bytes that it gave.
+fn read_once(
+    alloc: Global,
+    shelf: &mut MemoryShelf,
+    path: &[u8],
+    most: usize,
+) -> (Result<Found, ReadStop>, Vec<u8>) {
+    let mut into = Vec::new(alloc);
+    let answer = shelf.read(path, most, &mut into);
+    (answer, into)
+}
+
+#[test]
+fn named_reads_fail(rt: HostRuntime) -> Result<(), Memory> {
+    let mut shelf = failing_reads(rt.alloc())?;
     let rows = [
         (b"a", 9, Ok(Found::Found), b"text".as_slice()),
         (b"a", 9, Err(ReadStop::Failed), b"".as_slice()),
@@ -157,22 +199,33 @@ fn named_reads_fail(rt: HostRuntime) -> Result<(), Memory> {
         (b"a", 0, Ok(Found::Found), b"".as_slice()),
     ];
     for (path, most, answer, bytes) in rows {
-        let mut into = Vec::new(rt.alloc());
-        assert_eq!(rt; shelf.read(path, most, &mut into), answer);
-        assert_eq!(rt; into.as_slice(), bytes);
+        let (answered, given) = read_once(rt.alloc(), &mut shelf, path, most);
+        assert_eq!(rt; answered, answer);
+        assert_eq!(rt; given.as_slice(), bytes);
     }
     Ok(())
 }
 
+/// Writes three bytes to a path, for which room is made.
+fn write_once(alloc: Global, shelf: &mut MemoryShelf, path: &[u8]) -> Result<bool, Memory> {
+    shelf.room(1)?;
+    let path = text_of(alloc, path)?;
+    let bytes = text_of(alloc, b"new")?;
+    Ok(shelf.write(path, bytes).is_ok())
+}
+
+/// A shelf whose second write fails.
+fn failing_write(alloc: Global) -> Result<MemoryShelf, Memory> {
+    let mut shelf = MemoryShelf::new(alloc);
+    shelf.fail_write(2)?;
+    Ok(shelf)
+}
+
 #[test]
 fn named_writes_fail(rt: HostRuntime) -> Result<(), Memory> {
-    let mut shelf = MemoryShelf::new(rt.alloc());
-    shelf.fail_write(2)?;
-    for (path, answer) in [(b"a", Ok(())), (b"b", Err(Failed)), (b"c", Ok(()))] {
-        shelf.room(1)?;
-        let path = text_of(rt.alloc(), path)?;
-        let bytes = text_of(rt.alloc(), b"new")?;
-        assert_eq!(rt; shelf.write(path, bytes), answer);
+    let mut shelf = failing_write(rt.alloc())?;
+    for (path, written) in [(b"a", true), (b"b", false), (b"c", true)] {
+        assert_eq!(rt; write_once(rt.alloc(), &mut shelf, path)?, written);
     }
     assert!(rt; are_bytes(shelf.held(b"a"), b"new"));
     assert!(rt; shelf.held(b"b").is_none());

@@ -174,11 +174,19 @@ second_is_exact F y = (second_found F y, second_shown F y)
 
 -- ---- what a search through all points finds
 
+pub find_first : (p : ℕ → Bool) (n q : ℕ) → q < n → p q ≡ true → ((k : ℕ) → k < q → p k ≡ false) → find p (range_with_len 0 n) ≡ Some q
+find_first p n q lt is least = Least_only p 0 n (find p (range_with_len 0 n)) (Some q) (find_least p 0 n n (omega arith)) (omega arith, lt, is, λ k from below. least k below)
+
+pub find_none_below : (p : ℕ → Bool) (n : ℕ) → ((k : ℕ) → k < n → p k ≡ false) → find p (range_with_len 0 n) ≡ None
+find_none_below p n absent = Least_only p 0 n (find p (range_with_len 0 n)) None (find_least p 0 n n (omega arith)) (λ k from below. absent k below)
+
 pub pair_of_first : (F : ℕ → Facts) (s y q : ℕ) → q < point_count → composes F s y q ≡ true → ((k : ℕ) → k < q → composes F s y k ≡ false) → pair_of F s y ≡ Some q
-pair_of_first F s y q lt is least = Least_only (composes F s y) 0 point_count (pair_of F s y) (Some q) (pair_found F s y) (omega arith, lt, is, λ k from below. least k below)
+unfolding pair_of
+pair_of_first F s y q lt is least = find_first (composes F s y) point_count q lt is least
 
 pub pair_of_none : (F : ℕ → Facts) (s y : ℕ) → ((k : ℕ) → k < point_count → composes F s y k ≡ false) → pair_of F s y ≡ None
-pair_of_none F s y absent = Least_only (composes F s y) 0 point_count (pair_of F s y) None (pair_found F s y) (λ k from below. absent k below)
+unfolding pair_of
+pair_of_none F s y absent = find_none_below (composes F s y) point_count absent
 
 pub second_of_some : (F : ℕ → Facts) (y q : ℕ) → q < point_count → ends_with F y q ≡ true → second_of F y ≡ true
 unfolding second_of

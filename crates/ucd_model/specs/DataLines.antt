@@ -5,7 +5,7 @@
 -- ReadsValues fs row    fields 2 to 14, the same for a single line and the first line of a range
 -- ReadsSingle fs row    one line with a name that is not that of a range
 -- ReadsPair first last row   the lines `<Label, First>` and `<Label, Last>`; of the last one the code and the name are read
-use Rattle.std.specs.Prelude.{◌≡◌, ℕ, ◌<◌, ◌≤◌, true, false, List, [], ◌++◌, length, Option, Some, None, codes}
+use Rattle.std.specs.Prelude.{◌≡◌, ℕ, ◌<◌, ◌≤◌, true, false, List, [], ◌++◌, length, Some, codes}
 use Rattle.ucd_model.specs.Names.{category_of, tag_text}
 use Rattle.ucd_model.specs.Fields.{field, point_of, is_name, is_range_name, class_of, case_of}
 use Rattle.ucd_model.specs.Mappings.{SpellsMapping}

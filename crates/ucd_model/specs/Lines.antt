@@ -8,7 +8,7 @@
 -- item_bytes item   a line's content and the bytes of its ending: none, LF, or CR LF
 -- joined items      contents and endings put together again
 -- is_trivia content the line is blank, or its first byte other than white space is `#`
-use Rattle.std.specs.Prelude.{ℕ, ◌-◌, Bool, true, false, List, [], ◌∷◌, ◌++◌, length, take, drop, ◌==◌, if◌then◌else◌, slice_get, Some, None, Option, nat_eq, ◌||◌}
+use Rattle.std.specs.Prelude.{ℕ, ◌-◌, Bool, true, List, [], ◌∷◌, ◌++◌, length, take, drop, ◌==◌, if◌then◌else◌, slice_get, Some, nat_eq, ◌||◌}
 use Rattle.std.specs.Option.{option_eq}
 use Rattle.std.specs.List.{slice_split, prefix_len, list_any, flat_map}
 

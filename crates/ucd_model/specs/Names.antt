@@ -8,6 +8,7 @@
 -- tag_of bs         the tag that bytes name, `<` before its name and no `>` behind it; None for all other bytes.
 --                   UAX #44, section 5.7.3, table 14
 -- tag_text t        the tag between `<` and `>`
+-- tag_name t        the tag without `<` and `>`, a value of Decomposition_Type
 -- flag_name f       the name of the property in PropList.txt. UAX #44, section 5.3
 -- core_name p       the name of the property in DerivedCoreProperties.txt. UAX #44, section 5.3
 -- source_path f     where a source file lies below the folder of a release
@@ -150,6 +151,24 @@ tag_text Small = codes "<small>"
 tag_text Square = codes "<square>"
 tag_text Fraction = codes "<fraction>"
 tag_text Compat = codes "<compat>"
+
+abbrev pub tag_name : Tag → List ℕ
+tag_name Font = codes "font"
+tag_name NoBreak = codes "noBreak"
+tag_name Initial = codes "initial"
+tag_name Medial = codes "medial"
+tag_name Final = codes "final"
+tag_name Isolated = codes "isolated"
+tag_name Circle = codes "circle"
+tag_name Super = codes "super"
+tag_name Sub = codes "sub"
+tag_name Vertical = codes "vertical"
+tag_name Wide = codes "wide"
+tag_name Narrow = codes "narrow"
+tag_name Small = codes "small"
+tag_name Square = codes "square"
+tag_name Fraction = codes "fraction"
+tag_name Compat = codes "compat"
 
 -- ---- properties
 

@@ -8,7 +8,7 @@
 --                         conditions or none, and an empty field or none behind them
 -- ReadsAlias least fs row   PropertyAliases.txt from two names on, PropertyValueAliases.txt from three on;
 --                         a name after the first may be empty
-use Rattle.std.specs.Prelude.{◌≡◌, ◌⊎◌, ℕ, ◌<◌, ◌≤◌, Bool, true, false, ◌||◌, List, [], ◌∷◌, length, drop, Some}
+use Rattle.std.specs.Prelude.{◌≡◌, ◌⊎◌, ℕ, ◌<◌, ◌≤◌, Bool, true, List, [], ◌∷◌, length, Some}
 use Rattle.std.specs.List.{list_all}
 use Rattle.ucd_model.specs.Names.{status_of}
 use Rattle.ucd_model.specs.Fields.{field, point_of, SpellsSpan, is_name}

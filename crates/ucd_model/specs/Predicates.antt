@@ -2,16 +2,24 @@
 -- The Unicode Standard, section 4.2 (Case), 4.5 (General Category) and 4.10 (Letters, Alphabetic, and Ideographic).
 --
 -- math, alphabetic, lowercase, uppercase   as DerivedCoreProperties.txt generates them
--- has core F       whether a point with these facts has the property; absent for a property not derived here
--- core_sections    the properties that are derived, in the order of DerivedCoreProperties.txt
-use Rattle.std.specs.Prelude.{ℕ, Bool, false, ◌||◌, List, [], ◌∷◌, ◌==◌}
+-- cased, case_ignorable       The Unicode Standard, section 3.13, D135 and D136
+-- id_start, id_continue       UAX #31, section 2, table 2; never a character of pattern syntax or pattern white space
+-- default_ignorable c F       of the point c with the facts F, since two ranges of format characters are left out by number
+-- grapheme_extend, grapheme_base   The Unicode Standard, section 3.6, Combination; no point has both
+-- grapheme_link               the combining class is 9, Virama
+-- has core F       whether a point with these facts has one of the first four properties; absent for every other one
+-- core_sections    these four, in the order of DerivedCoreProperties.txt
+-- holds core c F   whether the point c with the facts F has the property; absent for a property that needs the facts of
+--                  other points too
+-- core_properties  the properties that are derived, in the order of DerivedCoreProperties.txt
+use Rattle.std.specs.Prelude.{ℕ, Bool, false, ◌||◌, ◌&&◌, not, List, [], ◌∷◌, ◌==◌, nat_le}
 use Rattle.std.specs.List.{list_any}
 use Rattle.ucd_model.specs.Facts.{Facts}
 use Rattle.ucd_model.specs.declared.category.Category.{Category}
 use Rattle.ucd_model.specs.declared.category.Category.TheVariants.{Lu, Ll, Lt, Lm, Lo, Mn, Mc, Me, Nd, Nl, No, Pc, Pd, Ps, Pe, Pi, Pf, Po, Sm, Sc, Sk, So, Zs, Zl, Zp, Cc, Cf, Cs, Co, Cn}
-use Rattle.ucd_model.specs.declared.property.Flag.TheVariants.{OtherMath, OtherLowercase, OtherUppercase, OtherAlphabetic}
+use Rattle.ucd_model.specs.declared.property.Flag.TheVariants.{WhiteSpace, OtherMath, OtherLowercase, OtherUppercase, OtherAlphabetic, OtherIdStart, OtherIdContinue, PatternSyntax, PatternWhiteSpace, OtherDefaultIgnorableCodePoint, VariationSelector, PrependedConcatenationMark, OtherGraphemeExtend}
 use Rattle.ucd_model.specs.declared.property.Core.{Core}
-use Rattle.ucd_model.specs.declared.property.Core.TheVariants.{Math, Alphabetic, Lowercase, Uppercase}
+use Rattle.ucd_model.specs.declared.property.Core.TheVariants.{Math, Alphabetic, Lowercase, Uppercase, Cased, CaseIgnorable, IdStart, IdContinue, DefaultIgnorableCodePoint, GraphemeExtend, GraphemeBase, GraphemeLink}
 
 -- the place of a category in the order of UAX #44, table 12, with Cn last
 abbrev pub place_of : Category → ℕ
@@ -71,3 +79,55 @@ has _ F = false
 
 abbrev pub core_sections : List Core
 core_sections = Math ∷ Alphabetic ∷ Lowercase ∷ Uppercase ∷ []
+
+abbrev pub cased : Facts → Bool
+cased F = (lowercase F || uppercase F) || is_one_of (Lt ∷ []) F.category
+
+abbrev pub case_ignorable : Facts → Bool
+case_ignorable F = F.mid_word || is_one_of (Mn ∷ Me ∷ Cf ∷ Lm ∷ Sk ∷ []) F.category
+
+-- the point is kept for the syntax of patterns. UAX #31, section 4.1
+abbrev pub in_pattern : Facts → Bool
+in_pattern F = F.flag PatternSyntax || F.flag PatternWhiteSpace
+
+abbrev pub id_start : Facts → Bool
+id_start F = (is_one_of (Lu ∷ Ll ∷ Lt ∷ Lm ∷ Lo ∷ Nl ∷ []) F.category || F.flag OtherIdStart) && not (in_pattern F)
+
+abbrev pub id_continue : Facts → Bool
+id_continue F = (id_start F || (is_one_of (Mn ∷ Mc ∷ Nd ∷ Pc ∷ []) F.category || F.flag OtherIdContinue)) && not (in_pattern F)
+
+-- the interlinear annotation characters, and the Egyptian hieroglyph format characters
+abbrev pub is_visible_format : ℕ → Bool
+is_visible_format c = (nat_le 0xFFF9 c && nat_le c 0xFFFB) || (nat_le 0x13430 c && nat_le c 0x1343F)
+
+abbrev pub default_ignorable : ℕ → Facts → Bool
+default_ignorable c F =
+    (is_one_of (Cf ∷ []) F.category || (F.flag OtherDefaultIgnorableCodePoint || F.flag VariationSelector))
+    && not (is_visible_format c || (F.flag WhiteSpace || F.flag PrependedConcatenationMark))
+
+abbrev pub grapheme_extend : Facts → Bool
+grapheme_extend F = is_one_of (Me ∷ Mn ∷ []) F.category || F.flag OtherGraphemeExtend
+
+abbrev pub grapheme_base : Facts → Bool
+grapheme_base F = not (is_one_of (Cc ∷ Cf ∷ Cs ∷ Co ∷ Cn ∷ Zl ∷ Zp ∷ []) F.category || grapheme_extend F)
+
+abbrev pub grapheme_link : Facts → Bool
+grapheme_link F = F.class == 9
+
+abbrev pub holds : Core → ℕ → Facts → Bool
+holds Math c F = math F
+holds Alphabetic c F = alphabetic F
+holds Lowercase c F = lowercase F
+holds Uppercase c F = uppercase F
+holds Cased c F = cased F
+holds CaseIgnorable c F = case_ignorable F
+holds IdStart c F = id_start F
+holds IdContinue c F = id_continue F
+holds DefaultIgnorableCodePoint c F = default_ignorable c F
+holds GraphemeExtend c F = grapheme_extend F
+holds GraphemeBase c F = grapheme_base F
+holds GraphemeLink c F = grapheme_link F
+holds _ c F = false
+
+abbrev pub core_properties : List Core
+core_properties = Math ∷ Alphabetic ∷ Lowercase ∷ Uppercase ∷ Cased ∷ CaseIgnorable ∷ IdStart ∷ IdContinue ∷ DefaultIgnorableCodePoint ∷ GraphemeExtend ∷ GraphemeBase ∷ GraphemeLink ∷ []

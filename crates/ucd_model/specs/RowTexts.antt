@@ -8,7 +8,7 @@
 -- data_text row            that line; of a range the first line, LF, and the last line with the same other fields
 -- value_text, exclusion_text, fold_text, casing_text, alias_text   a row of the other files
 -- row_text file row        the text of a row of the file
-use Rattle.std.specs.Prelude.{ℕ, ◌+◌, ◌/◌, ◌%◌, Bool, List, [], ◌∷◌, ◌++◌, map, Option, Some, None, nat_lt, if◌then◌else◌, codes}
+use Rattle.std.specs.Prelude.{ℕ, ◌+◌, ◌/◌, ◌%◌, List, [], ◌∷◌, ◌++◌, map, Option, Some, None, nat_lt, if◌then◌else◌, codes}
 use Rattle.std.specs.List.{join_with_byte}
 use Rattle.ucd_model.specs.Names.{category_code, status_code, tag_text}
 use Rattle.ucd_model.specs.DerivedText.{hex_text, span_text}

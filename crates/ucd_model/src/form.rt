@@ -3,6 +3,7 @@
 ghost use Rattle.std.specs.Prelude.{◌≡◌};
 
 use crate::memory::Memory;
+use crate::point::Point;
 use std::error::Error;
 use std::fmt;
 
@@ -36,6 +37,13 @@ pub enum Bad {
     V4,
     /// Its folding rounds reach no fixed point.
     V5,
+}
+
+/// A code point that breaks a rule, and the first rule that it breaks.
+#[derive(Clone, Copy, Debug, PartialEq, Eq)]
+pub struct Broken {
+    pub point: Point,
+    pub rule: Bad,
 }
 
 /// Why a form was not made.

@@ -16,6 +16,7 @@ mod list;
 mod memory;
 mod point;
 mod property;
+mod records;
 mod row;
 mod sets;
 mod span;
@@ -26,12 +27,13 @@ pub use decomposition::{Kind, Tag};
 pub use fact_list::FactList;
 pub use facts::Facts;
 pub use files::{DerivedFile, FILE_LIMIT, SourceFile, file_limit};
-pub use form::{Bad, Form, FormStop, Quick};
+pub use form::{Bad, Broken, Form, FormStop, Quick};
 pub use image::Image;
 pub use list::{Copied, ListOf, Points, Spans, Text, Texts};
 pub use memory::Memory;
 pub use point::{Point, point_count};
 pub use property::{Core, Flag};
+pub use records::{Record, Records};
 pub use row::{
     AliasRow, CasingRow, DataRow, ExclusionRow, FoldRow, FoldStatus, Kept, Row, Rows, ValueRow,
 };

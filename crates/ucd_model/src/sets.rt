@@ -1,6 +1,6 @@
 //! Sets of properties, each in one word.
 
-ghost use Rattle.std.specs.Prelude.{◌≡◌, ◌≢◌, ◌<◌, false};
+ghost use Rattle.std.specs.Prelude.{◌≡◌, ◌≢◌, ◌<◌, ◌^◌, false};
 ghost use Rattle.ucd_model.specs.Sets.{flag_place, has_flag, core_place, has_core};
 ghost use Rattle.ucd_model.specs.declared.property.Flag.{Flag};
 ghost use Rattle.ucd_model.specs.declared.property.Core.{Core};
@@ -33,6 +33,14 @@ impl Flags {
         ensures { (flag : Flag) → has_flag result flag ≡ false }
     {
         Flags { bits: 0 }
+    }
+
+    /// The set of these bits: bit `i` is the flag at place `i` of `Flag`.
+    pub fn of_bits(bits: u32) -> Flags
+        requires { bits < 2 ^ 14 }
+        ensures { result ≡ bits }
+    {
+        Flags { bits }
     }
 
     /// The set with a flag put in or taken out. The others stay.

@@ -1,0 +1,75 @@
+-- The derived files, over the records of the code points. The files, properties and values are those of UAX #44,
+-- section 5.3; their text is this project's own.
+--
+-- Section             a name, and the label of a record in it: None for the default value, which is not listed
+-- listed value        the label ` ; VALUE`
+-- core_listing p      the points that have the core property p, each with its name
+-- category_listing    General_Category by its two letters; default Cn
+-- class_listing       Canonical_Combining_Class in decimal; default 0
+-- type_listing        Decomposition_Type: `canonical`, or the tag without its brackets; default none
+-- file_sections file  the sections of a file, in order. Of DerivedNormalizationProps.txt no property is derived yet: it has
+--                     no section, so its text is empty, and it is none of derived_files
+-- derived_files       the files that are written, in order
+-- section_of n R s    the text of a section, over the records R of the points below n
+-- derived_text n file R   the text of a file
+use Rattle.std.specs.Prelude.{ℕ, List, [], ◌∷◌, ◌++◌, Some, None, map, ◌==◌, if◌then◌else◌, codes}
+use Rattle.std.specs.List.{flat_map}
+use Rattle.std.specs.Fmt.{decimal}
+use Rattle.ucd_model.specs.Names.{core_name, category_code, tag_name}
+use Rattle.ucd_model.specs.Predicates.{is_one_of, core_properties}
+use Rattle.ucd_model.specs.Records.{Record}
+use Rattle.ucd_model.specs.Labels.{Label}
+use Rattle.ucd_model.specs.DerivedText.{section_text}
+use Rattle.ucd_model.specs.declared.category.Category.{Category}
+use Rattle.ucd_model.specs.declared.category.Category.TheVariants.{Cn}
+use Rattle.ucd_model.specs.declared.decomposition.Kind.{Kind}
+use Rattle.ucd_model.specs.declared.decomposition.Kind.TheVariants.{Plain, Canonical, Compat}
+use Rattle.ucd_model.specs.declared.property.Core.{Core}
+use Rattle.ucd_model.specs.declared.files.DerivedFile.{DerivedFile}
+use Rattle.ucd_model.specs.declared.files.DerivedFile.TheVariants.{CoreProperties, NormalizationProps, GeneralCategory, CombiningClass, DecompositionType}
+
+pub record Section : Type 0 where
+  pub name : List ℕ
+  pub label : Record → Label
+
+abbrev pub listed : List ℕ → Label
+listed value = Some (codes " ; " ++ value)
+
+abbrev pub core_listing : Core → Section
+core_listing core = record { name = core_name core; label = λ R. if R.core core then listed (core_name core) else None }
+
+abbrev pub category_label : Category → Label
+category_label category = if is_one_of (Cn ∷ []) category then None else listed (category_code category)
+
+abbrev pub category_listing : Section
+category_listing = record { name = codes "General_Category"; label = λ R. category_label R.category }
+
+abbrev pub class_label : ℕ → Label
+class_label class = if class == 0 then None else listed (decimal class)
+
+abbrev pub class_listing : Section
+class_listing = record { name = codes "Canonical_Combining_Class"; label = λ R. class_label R.class }
+
+abbrev pub kind_label : Kind → Label
+kind_label Plain = None
+kind_label Canonical = listed (codes "canonical")
+kind_label (Compat tag) = listed (tag_name tag)
+
+abbrev pub type_listing : Section
+type_listing = record { name = codes "Decomposition_Type"; label = λ R. kind_label R.kind }
+
+abbrev pub file_sections : DerivedFile → List Section
+file_sections CoreProperties = map core_listing core_properties
+file_sections NormalizationProps = []
+file_sections GeneralCategory = category_listing ∷ []
+file_sections CombiningClass = class_listing ∷ []
+file_sections DecompositionType = type_listing ∷ []
+
+abbrev pub derived_files : List DerivedFile
+derived_files = CoreProperties ∷ GeneralCategory ∷ CombiningClass ∷ DecompositionType ∷ []
+
+abbrev pub section_of : ℕ → (ℕ → Record) → Section → List ℕ
+section_of n R s = section_text s.name n (λ c. s.label (R c))
+
+unfoldable pub derived_text : ℕ → DerivedFile → (ℕ → Record) → List ℕ
+derived_text n file R = flat_map (section_of n R) (file_sections file)

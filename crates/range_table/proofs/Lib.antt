@@ -2,3 +2,4 @@ pub mod Lookups
 pub mod Splices
 pub mod Spans
 pub mod RunCounts
+mod RunEnds

@@ -8,7 +8,8 @@
 -- IsLayout eq first xs      what holds of every layout
 -- count_before s xs         how many changes at the front of xs come before s
 -- value_of_run d xs i       the value of run i, where run 0 has the value d and run i + 1 begins at change i
-use Rattle.std.specs.Prelude.{◌≡◌, ℕ, zero, suc, ◌<◌, Bool, true, false, List, [], ◌∷◌, nat_lt, if◌then◌else◌, ⊤}
+-- IsEnd eq f c e            e is one past the last code point of the run of equal values of f that c lies in
+use Rattle.std.specs.Prelude.{◌≡◌, ℕ, zero, suc, ◌<◌, ◌≤◌, Bool, true, false, List, [], ◌∷◌, nat_lt, if◌then◌else◌, ⊤}
 use Rattle.range_table.specs.declared.change.Change.{Change}
 
 pub record Layout (V : Type 0) : Type 0 where
@@ -47,3 +48,9 @@ abbrev pub value_of_run : {V : Type 0} → V → List (Change V) → ℕ → V
 value_of_run d [] i = d
 value_of_run d (x ∷ xs) zero = d
 value_of_run d (x ∷ xs) (suc i) = value_of_run x.value xs i
+
+pub record IsEnd {V : Type 0} (eq : V → V → Bool) (f : ℕ → V) (c e : ℕ) : Type 0 where
+  pub above : c < e
+  pub is_point : e ≤ 1114112
+  pub same : (k : ℕ) → c ≤ k → k < e → f k ≡ f c
+  pub differs : e < 1114112 → eq (f c) (f e) ≡ false

@@ -1,8 +1,8 @@
 //! The values of all code points, kept as the places where they change.
 
-ghost use Rattle.std.specs.Prelude.{◌≡◌, ◌+◌, ◌<◌, ◌≤◌, ℕ, true, [], ◌++◌, take, drop, length, vec_len, IfOk, OnOk, OnErr};
+ghost use Rattle.std.specs.Prelude.{◌≡◌, ◌+◌, ◌<◌, ◌≤◌, ℕ, true, false, [], ◌++◌, take, drop, length, vec_len, IfOk, OnOk, OnErr};
 ghost use Rattle.range_table.specs.Values.{SameValues, with_span, run_count, point_count};
-ghost use Rattle.range_table.specs.Layout.{Layout as Runs, values, count_before, value_of_run};
+ghost use Rattle.range_table.specs.Layout.{Layout as Runs, values, count_before, value_of_run, IsEnd};
 ghost use Rattle.range_table.specs.Edit.{SetsSpan, edited};
 
 use crate::change::Change;
@@ -66,6 +66,15 @@ impl<V: Copy + Eq> Layout<V> {
         self.changes.len() + 1
     }
 
+    /// The last code point of the run of equal values that a code point lies in.
+    pub fn last_of_run(&self, c: Point) -> Point
+        ensures from { c ≤ result }
+        ensures same { (k : ℕ) → c ≤ k → k ≤ result → values self.now k ≡ values self.now c }
+        ensures maximal { result + 1 < 1114112 → V.eq (values self.now c) (values self.now (result + 1)) ≡ false }
+    {
+        Point::new(self.end_of_run(c) - 1).unwrap()
+    }
+
     /// Gives the points of a span the value. For want of memory the layout stays as it was.
     ///
     /// It takes time by the number of changes behind the span, so each of many spans in ascending order costs the same.
@@ -123,6 +132,18 @@ impl<V: Copy + Eq> Layout<V> {
             return len - 1;
         }
         changes.partition_point(|change| change.start < start)
+    }
+
+    /// One past the last code point of the run that a code point lies in.
+    fn end_of_run(&self, c: Point) -> u32
+        ensures { IsEnd V.eq (values self.now) c result }
+    {
+        let run = self.count_before(c.number() + 1);
+        if run == self.changes.len() {
+            Point::COUNT
+        } else {
+            self.changes[run].start
+        }
     }
 
     /// The value of a run: of the first one, or of the one that a change begins.

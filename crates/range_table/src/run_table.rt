@@ -1,6 +1,6 @@
 //! Tables that keep runs of equal values.
 
-ghost use Rattle.std.specs.Prelude.{◌≡◌, ℕ};
+ghost use Rattle.std.specs.Prelude.{◌≡◌, ℕ, ◌+◌, ◌<◌, ◌≤◌, false};
 ghost use Rattle.range_table.specs.Values.{run_count, point_count};
 
 use crate::layout::Layout;
@@ -26,6 +26,17 @@ impl<V: Copy + Eq> RunTable<V> {
         ensures { result ≡ run_count V.eq (⟦<RunTable<V> as Table<V>>⟧.now self.now) point_count }
     {
         self.committed.runs()
+    }
+
+    /// The last code point of the maximal run of equal values now that a code point lies in.
+    pub fn last_of_run(&self, c: Point) -> Point
+        ensures from { c ≤ result }
+        ensures same { (k : ℕ) → c ≤ k → k ≤ result
+            → ⟦<RunTable<V> as Table<V>>⟧.now self.now k ≡ ⟦<RunTable<V> as Table<V>>⟧.now self.now c }
+        ensures maximal { result + 1 < 1114112
+            → V.eq (⟦<RunTable<V> as Table<V>>⟧.now self.now c) (⟦<RunTable<V> as Table<V>>⟧.now self.now (result + 1)) ≡ false }
+    {
+        self.committed.last_of_run(c)
     }
 }
 

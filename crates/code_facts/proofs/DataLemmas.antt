@@ -1,0 +1,50 @@
+-- What the rows so far give to each code point.
+use Rattle.std.proofs.Common.{◌≡◌, ℕ, ◌+◌, ◌<◌, ◌≤◌, Bool, true, false, cond, List, [], ◌∷◌, length, take, get_or, Option, Some, None, sym, ap, subst, ◌∙◌, arith}
+use Rattle.std.proofs.lemmas.List.{take_all}
+use Rattle.ucd_model.specs.Facts.{is_data_of, within, data_row, class_in}
+use Rattle.ucd_model.specs.declared.row.Row.{Row}
+use Rattle.ucd_model.specs.declared.row.DataRow.{DataRow}
+use Rattle.ucd_model.specs.declared.row.Row.TheVariants.{Unit as DataLine}
+use Rattle.code_facts.specs.Rows.{Apart, PointData, row_data}
+use Rattle.code_facts.proofs.RowLemmas.{data_step}
+
+-- the first n rows give what the table shows
+pub record RowsGive (rows : List Row) (n : ℕ) (shows : ℕ → PointData) : Type 0 where
+  pub gives : (c : ℕ) → c < 1114112 → shows c ≡ row_data c (data_row (take n rows) c)
+  pub class : (c : ℕ) → class_in (data_row (take n rows) c) < 256
+
+pub rows_none : (rows : List Row) (shows : ℕ → PointData) → ((c : ℕ) → c < 1114112 → shows c ≡ row_data c None) → RowsGive rows 0 shows
+rows_none [] shows h = record { gives = h; class = λ c. omega arith }
+rows_none (row ∷ rows) shows h = record { gives = h; class = λ c. omega arith }
+
+class_by : (b : Bool) (row : DataRow) (o : Option DataRow) → row.class < 256 → class_in o < 256 → class_in (cond b (Some row) o) < 256
+class_by true row o here rest = here
+class_by false row o here rest = rest
+
+gives_by : (b : Bool) (c : ℕ) (row : DataRow) (o : Option DataRow) (new old : PointData) → new ≡ cond b (row_data c (Some row)) old → old ≡ row_data c o → new ≡ row_data c (cond b (Some row) o)
+gives_by true c row o new old is was = is
+gives_by false c row o new old is was = is ∙ was
+
+-- one more row of UnicodeData.txt
+pub rows_taken : (rows : List Row) (i : ℕ) (d : Row) (row : DataRow) (shows new : ℕ → PointData) → Apart rows → i < length rows → get_or rows i d ≡ DataLine row → row.class < 256
+    → ((c : ℕ) → c < 1114112 → new c ≡ cond (within c row.span) (row_data c (Some row)) (shows c)) → RowsGive rows i shows → RowsGive rows (i + 1) new
+rows_taken rows i d row shows new apart h is small add old =
+    let step : (c : ℕ) → data_row (take (i + 1) rows) c ≡ cond (within c row.span) (Some row) (data_row (take i rows) c) = λ c. rw is at (data_step rows i c d apart h) in
+    record {
+      gives = λ c lt. gives_by (within c row.span) c row (data_row (take i rows) c) (new c) (shows c) (add c lt) (old.gives c lt) ∙ ap (row_data c) (sym (step c));
+      class = λ c. subst (λ (o : Option DataRow). class_in o < 256) (sym (step c)) (class_by (within c row.span) row (data_row (take i rows) c) small (old.class c));
+    }
+
+-- a row of another kind gives nothing
+pub rows_skipped : (rows : List Row) (i : ℕ) (d : Row) (shows : ℕ → PointData) → Apart rows → i < length rows → ((c : ℕ) → is_data_of c (get_or rows i d) ≡ false) → RowsGive rows i shows → RowsGive rows (i + 1) shows
+rows_skipped rows i d shows apart h none old =
+    let step : (c : ℕ) → data_row (take (i + 1) rows) c ≡ data_row (take i rows) c = λ c. rw (none c) at (data_step rows i c d apart h) in
+    record {
+      gives = λ c lt. old.gives c lt ∙ ap (row_data c) (sym (step c));
+      class = λ c. subst (λ (o : Option DataRow). class_in o < 256) (sym (step c)) (old.class c);
+    }
+
+pub rows_all : (rows : List Row) (n : ℕ) (shows : ℕ → PointData) → length rows ≤ n → RowsGive rows n shows → ((c : ℕ) → c < 1114112 → shows c ≡ row_data c (data_row rows c)) × ((c : ℕ) → class_in (data_row rows c) < 256)
+rows_all rows n shows h old =
+    let all : take n rows ≡ rows = take_all n rows h in
+    (λ c lt. rw all at (old.gives c lt), λ c. rw all at (old.class c))

@@ -1,0 +1,10 @@
+pub mod WordLemmas
+pub mod PaintLemmas
+pub mod RowLemmas
+pub mod DataLemmas
+pub mod MarkLemmas
+pub mod CaseLemmas
+pub mod FactLemmas
+pub mod IndexLemmas
+pub mod PairLemmas
+mod AlikeLemmas

@@ -1,0 +1,163 @@
+-- Rows of UnicodeData.txt, and the row that covers a code point.
+use Rattle.std.proofs.Common.{◌≡◌, ℕ, zero, suc, ◌+◌, ◌<◌, Bool, true, false, cond, ◌&&◌, ◌||◌, leb, List, [], ◌∷◌, ◌++◌, map, length, take, get_or, find, Option, Some, None, refl, sym, ap, subst, ◌∙◌, append_assoc, arith}
+use Rattle.std.specs.List.{list_any}
+use Rattle.std.specs.Borrow.{Bor}
+use Rattle.std.proofs.lemmas.List.{take_more, append-nil}
+use Rattle.std.proofs.lemmas.Bool.Decides.{nat_tests}
+use Rattle.ucd_model.specs.Facts.{is_data_of, within, data_in, data_row}
+use Rattle.ucd_model.specs.declared.files.SourceFile.{SourceFile}
+use Rattle.ucd_model.specs.declared.files.SourceFile.TheVariants.{UnicodeData}
+use Rattle.ucd_model.specs.declared.row.Row.{Row}
+use Rattle.ucd_model.specs.declared.row.DataRow.{DataRow}
+use Rattle.ucd_model.specs.declared.row.Row.TheVariants.{Unit as DataLine, Value as ValueLine, Exclusion as ExclusionLine, Fold as FoldLine, Casing as CasingLine, Alias as AliasLine}
+use Rattle.release_rows.specs.Keys.{key_rule, same_key, overlaps}
+use Rattle.release_rows.specs.FileItems.{FileItem, rows_in, onto_rows}
+use Rattle.release_rows.specs.Releases.{AreKept, AreKeptBelow, numbered_rows}
+use Rattle.release_rows.specs.declared.key_rule.KeyRule.TheVariants.{K1, K4}
+use Rattle.code_facts.specs.Rows.{Apart, pointed}
+
+-- ---- rows with their lines
+
+numbered_by : (line : ℕ) (item : FileItem) (items : List FileItem) (o : Option Row) → item.row ≡ o → map (λ (n : ℕ × Row). n.1) (numbered_rows (line + item.lines) items) ≡ rows_in items → map (λ (n : ℕ × Row). n.1) (numbered_rows line (item ∷ items)) ≡ rows_in (item ∷ items)
+numbered_by line item items None e rest = rw e rest
+numbered_by line item items (Some row) e rest = rw (e, rest) refl
+
+pub rows_of_numbered : (line : ℕ) (items : List FileItem) → map (λ (n : ℕ × Row). n.1) (numbered_rows line items) ≡ rows_in items
+rows_of_numbered line [] = refl
+rows_of_numbered line (item ∷ items) = numbered_by line item items item.row refl (rows_of_numbered (line + item.lines) items)
+
+-- ---- rows that do not overlap
+
+no_second_rule : (any overlap : Bool) → cond any (Some K1) (cond overlap (Some K4) None) ≡ None → overlap ≡ false
+no_second_rule true overlap e = absurd cc
+no_second_rule false true e = absurd cc
+no_second_rule false false e = refl
+
+two_spans : (c a b d e : ℕ) → (leb a c && leb c b) ≡ true → (leb a e && leb d b) ≡ false → (leb d c && leb c e) ≡ false
+two_spans c a b d e inside meet = grind (arith, nat_tests)
+
+or_left_false : (a b : Bool) → (a || b) ≡ false → a ≡ false
+or_left_false true b e = e
+or_left_false false b e = refl
+
+or_right_false : (a b : Bool) → (a || b) ≡ false → b ≡ false
+or_right_false true b e = absurd cc
+or_right_false false b e = e
+
+no_cover_one : (c : ℕ) (row : DataRow) (other : Row) → within c row.span ≡ true → overlaps UnicodeData (DataLine row) other ≡ false → is_data_of c other ≡ false
+no_cover_one c row (DataLine x) inside apart = two_spans c row.span.lo row.span.hi x.span.lo x.span.hi inside apart
+no_cover_one c row (ValueLine x) inside apart = refl
+no_cover_one c row (ExclusionLine x) inside apart = refl
+no_cover_one c row (FoldLine x) inside apart = refl
+no_cover_one c row (CasingLine x) inside apart = refl
+no_cover_one c row (AliasLine x) inside apart = refl
+
+no_cover : (c : ℕ) (row : DataRow) (above : List Row) → within c row.span ≡ true → list_any (overlaps UnicodeData (DataLine row)) above ≡ false → find (is_data_of c) above ≡ None
+no_cover c row [] inside apart = refl
+no_cover c row (a ∷ above) inside apart =
+    let first = or_left_false (overlaps UnicodeData (DataLine row) a) (list_any (overlaps UnicodeData (DataLine row)) above) apart in
+    let rest = or_right_false (overlaps UnicodeData (DataLine row) a) (list_any (overlaps UnicodeData (DataLine row)) above) apart in
+    rw (no_cover_one c row a inside first) (no_cover c row above inside rest)
+
+none_above : (c : ℕ) (above : List Row) (row : Row) → key_rule UnicodeData above row ≡ None → is_data_of c row ≡ true → find (is_data_of c) above ≡ None
+none_above c above (DataLine row) free inside = no_cover c row above inside (no_second_rule (list_any (same_key UnicodeData (DataLine row)) above) (list_any (overlaps UnicodeData (DataLine row)) above) free)
+none_above c above (ValueLine row) free inside = absurd cc
+none_above c above (ExclusionLine row) free inside = absurd cc
+none_above c above (FoldLine row) free inside = absurd cc
+none_above c above (CasingLine row) free inside = absurd cc
+none_above c above (AliasLine row) free inside = absurd cc
+
+-- ---- the rows of items that are kept
+
+onto_append : (p : Option Row) (xs ys : List Row) → onto_rows p (xs ++ ys) ≡ onto_rows p xs ++ ys
+onto_append None xs ys = refl
+onto_append (Some x) xs ys = refl
+
+rows_push_by : (above : List FileItem) (item : FileItem) (o : Option Row) → item.row ≡ o → rows_in (above ++ item ∷ []) ≡ rows_in above ++ onto_rows o []
+rows_push_by [] item None e = rw e refl
+rows_push_by [] item (Some row) e = rw e refl
+rows_push_by (a ∷ above) item o e = ap (onto_rows a.row) (rows_push_by above item o e) ∙ onto_append a.row (rows_in above) (onto_rows o [])
+
+abbrev FreeFrom : SourceFile → List Row → List Row → Type 0
+FreeFrom file above rows = (i : ℕ) (d : Row) → i < length rows → key_rule file (above ++ take i rows) (get_or rows i d) ≡ None
+
+free_cons : (file : SourceFile) (above : List Row) (row : Row) (rows : List Row) → key_rule file above row ≡ None → FreeFrom file (above ++ row ∷ []) rows → FreeFrom file above (row ∷ rows)
+free_cons file above row rows here rest zero d h = rw (append-nil above) here
+free_cons file above row rows here rest (suc i) d h = rw (← append_assoc above (row ∷ []) (take i rows)) (rest i d (omega arith))
+
+free_by : (file : SourceFile) (above : List FileItem) (item : FileItem) (items : List FileItem) (o : Option Row) → item.row ≡ o → AreKeptBelow file above (item ∷ items) → FreeFrom file (rows_in (above ++ item ∷ [])) (rows_in items) → FreeFrom file (rows_in above) (rows_in (item ∷ items))
+free_by file above item items None e kept rest = rw e (let same = rows_push_by above item None e ∙ append-nil (rows_in above) in subst (λ (xs : List Row). FreeFrom file xs (rows_in items)) same rest)
+free_by file above item items (Some row) e kept rest =
+    let here : key_rule file (rows_in above) row ≡ None = rw e at kept.0.stands in
+    rw e (free_cons file (rows_in above) row (rows_in items) here (subst (λ (xs : List Row). FreeFrom file xs (rows_in items)) (rows_push_by above item (Some row) e) rest))
+
+kept_free : (file : SourceFile) (above items : List FileItem) → AreKeptBelow file above items → FreeFrom file (rows_in above) (rows_in items)
+kept_free file above [] kept = λ i d h. absurd (omega arith)
+kept_free file above (item ∷ items) kept = free_by file above item items item.row refl kept (kept_free file (above ++ item ∷ []) items kept.1)
+
+pub kept_apart : (items : List FileItem) → AreKept UnicodeData items → Apart (rows_in items)
+kept_apart items kept i c other h covers = none_above c (take i (rows_in items)) (get_or (rows_in items) i other) (kept_free UnicodeData [] items kept i other h) covers
+
+-- ---- the row that covers a code point
+
+find_push_by : {X : Type 0} (p : X → Bool) (x : X) (xs : List X) (y : X) (b : Bool) → p x ≡ b → (find p xs ≡ None → find p (xs ++ y ∷ []) ≡ cond (p y) (Some y) None) → find p (x ∷ xs) ≡ None → find p (x ∷ (xs ++ y ∷ [])) ≡ cond (p y) (Some y) None
+find_push_by p x xs y true t rest none = absurd (let bad : Some x ≡ None = rw t at none in cc)
+find_push_by p x xs y false t rest none = rw t (rest (rw t at none))
+
+find_push : {X : Type 0} (p : X → Bool) (xs : List X) (y : X) → find p xs ≡ None → find p (xs ++ y ∷ []) ≡ cond (p y) (Some y) None
+find_push p [] y e = refl
+find_push p (x ∷ xs) y e = find_push_by p x xs y (p x) refl (find_push p xs y) e
+
+find_other : {X : Type 0} (p : X → Bool) (xs : List X) (y : X) → p y ≡ false → find p (xs ++ y ∷ []) ≡ find p xs
+find_other p [] y e = rw e refl
+find_other p (x ∷ xs) y e = ap (λ o. cond (p x) (Some x) o) (find_other p xs y e)
+
+data_step_by : (rows : List Row) (i c : ℕ) (row : Row) (b : Bool) → is_data_of c row ≡ b → (is_data_of c row ≡ true → find (is_data_of c) (take i rows) ≡ None)
+    → data_in (find (is_data_of c) (take i rows ++ row ∷ [])) ≡ cond b (data_in (Some row)) (data_row (take i rows) c)
+data_step_by rows i c row true e free = ap data_in (find_push (is_data_of c) (take i rows) row (free e) ∙ ap (λ t. cond t (Some row) None) e)
+data_step_by rows i c row false e free = ap data_in (find_other (is_data_of c) (take i rows) row e)
+
+-- one more row covers its own points, and the others stay
+pub data_step : (rows : List Row) (i c : ℕ) (d : Row) → Apart rows → i < length rows → data_row (take (i + 1) rows) c ≡ cond (is_data_of c (get_or rows i d)) (data_in (Some (get_or rows i d))) (data_row (take i rows) c)
+data_step rows i c d apart h =
+    rw (take_more rows i d h) (data_step_by rows i c (get_or rows i d) (is_data_of c (get_or rows i d)) refl (apart i c d h))
+
+pub pointed_at : (rows : List (Bor Row)) (i : ℕ) (d : Bor Row) → get_or (pointed rows) i d.now ≡ (get_or rows i d).now
+pointed_at [] i d = refl
+pointed_at (r ∷ rows) zero d = refl
+pointed_at (r ∷ rows) (suc i) d = pointed_at rows i d
+
+pub pointed_take : (rows : List (Bor Row)) (i : ℕ) → pointed (take i rows) ≡ take i (pointed rows)
+pointed_take [] zero = refl
+pointed_take [] (suc i) = refl
+pointed_take (r ∷ rows) zero = refl
+pointed_take (r ∷ rows) (suc i) = ap (λ (xs : List Row). r.now ∷ xs) (pointed_take rows i)
+
+pub pointed_length : (rows : List (Bor Row)) → length (pointed rows) ≡ length rows
+pointed_length [] = refl
+pointed_length (r ∷ rows) = ap suc (pointed_length rows)
+
+-- the row behind the reference that a loop has
+pub pointed_item : (rows : List (Bor Row)) (i : ℕ) (r : Bor Row) → r ≡ get_or rows i r → get_or (pointed rows) i r.now ≡ r.now
+pointed_item rows i r is = pointed_at rows i r ∙ ap (λ (x : Bor Row). x.now) (sym is)
+
+pub not_data : (row : Row) → ((x : DataRow) → row ≡ DataLine x → ⊥) → (c : ℕ) → is_data_of c row ≡ false
+not_data (DataLine x) other c = absurd (other x refl)
+not_data (ValueLine x) other c = refl
+not_data (ExclusionLine x) other c = refl
+not_data (FoldLine x) other c = refl
+not_data (CasingLine x) other c = refl
+not_data (AliasLine x) other c = refl
+
+-- ---- a test of the rows so far
+
+or_right_id : (b : Bool) → (b || false) ≡ b
+or_right_id true = refl
+or_right_id false = refl
+
+any_push : (p : Row → Bool) (xs : List Row) (y : Row) → list_any p (xs ++ y ∷ []) ≡ (list_any p xs || p y)
+any_push p [] y = or_right_id (p y)
+any_push p (x ∷ xs) y = elim (p x) as (λ b. (b || list_any p (xs ++ y ∷ [])) ≡ ((b || list_any p xs) || p y)) [ true ↦ refl | false ↦ any_push p xs y ]
+
+pub any_more : (p : Row → Bool) (rows : List Row) (i : ℕ) (d : Row) → i < length rows → list_any p (take (i + 1) rows) ≡ (list_any p (take i rows) || p (get_or rows i d))
+any_more p rows i d h = rw (take_more rows i d h) (any_push p (take i rows) (get_or rows i d))

@@ -1,0 +1,13 @@
+pub mod Word
+pub mod Lists
+pub mod PointLists
+pub mod Rows
+pub mod DataTables
+pub mod Marks
+pub mod Found
+pub mod CaseMaps
+pub mod KeptFacts
+pub mod Index
+pub mod FactTables
+pub mod NowView
+pub mod Alike

@@ -1,0 +1,58 @@
+-- The marks that the rows of other files than UnicodeData.txt put on code points.
+--
+-- covers c span        whether the span, where there is one, covers c
+-- is_mid_word_value v  the value of Word_Break is one in the middle of a word
+-- puts mark c row      the row puts the mark on c
+-- file_of mark         the file whose rows put the mark; word_of mark: its bit in the word
+-- all_marks            the marks, the flags among them in the order of their places
+-- mark_bit rows mark c what the mark adds to the word of c; marks_before n rows c: what the first n marks add
+use Rattle.std.specs.Prelude.{ℕ, ◌+◌, ◌*◌, ◌^◌, Bool, false, ◌&&◌, ◌||◌, List, [], ◌∷◌, Option, Some, None, take, sum_by, codes}
+use Rattle.std.specs.List.{list_any}
+use Rattle.std.specs.Str.{bytes_eq}
+use Rattle.ucd_model.specs.Bounds.{Bounds}
+use Rattle.ucd_model.specs.Names.{flag_name}
+use Rattle.ucd_model.specs.Sets.{flag_place}
+use Rattle.ucd_model.specs.Facts.{Sources, within, gives_value, excludes}
+use Rattle.ucd_model.specs.declared.property.Flag.TheVariants.{WhiteSpace, OtherMath, OtherLowercase, OtherUppercase, OtherAlphabetic, OtherIdStart, OtherIdContinue, PatternSyntax, PatternWhiteSpace, OtherDefaultIgnorableCodePoint, VariationSelector, PrependedConcatenationMark, OtherGraphemeExtend, NoncharacterCodePoint}
+use Rattle.ucd_model.specs.declared.files.SourceFile.{SourceFile}
+use Rattle.ucd_model.specs.declared.files.SourceFile.TheVariants.{PropList, WordBreakProperty, CompositionExclusions}
+use Rattle.ucd_model.specs.declared.row.Row.{Row}
+use Rattle.ucd_model.specs.declared.row.Row.TheVariants.{Value as ValueLine}
+use Rattle.code_facts.specs.Word.{one_if}
+use Rattle.code_facts.specs.declared.mark.Mark.{Mark}
+use Rattle.code_facts.specs.declared.mark.Mark.TheVariants.{Excluded, MidWord, Flagged}
+
+abbrev pub covers : ℕ → Option Bounds → Bool
+covers c (Some span) = within c span
+covers c None = false
+
+abbrev pub is_mid_word_value : List ℕ → Bool
+is_mid_word_value value = bytes_eq value (codes "MidLetter") || (bytes_eq value (codes "MidNumLet") || bytes_eq value (codes "Single_Quote"))
+
+abbrev pub gives_mid_word : ℕ → Row → Bool
+gives_mid_word c (ValueLine row) = is_mid_word_value row.value && within c row.span
+gives_mid_word c _ = false
+
+abbrev pub puts : Mark → ℕ → Row → Bool
+puts Excluded c row = excludes c row
+puts MidWord c row = gives_mid_word c row
+puts (Flagged flag) c row = gives_value (flag_name flag) c row
+
+abbrev pub file_of : Mark → SourceFile
+file_of Excluded = CompositionExclusions
+file_of MidWord = WordBreakProperty
+file_of (Flagged flag) = PropList
+
+abbrev pub word_of : Mark → ℕ
+word_of Excluded = 2
+word_of MidWord = 4
+word_of (Flagged flag) = 2 ^ (24 + flag_place flag)
+
+abbrev pub all_marks : List Mark
+all_marks = Excluded ∷ MidWord ∷ Flagged WhiteSpace ∷ Flagged OtherMath ∷ Flagged OtherLowercase ∷ Flagged OtherUppercase ∷ Flagged OtherAlphabetic ∷ Flagged OtherIdStart ∷ Flagged OtherIdContinue ∷ Flagged PatternSyntax ∷ Flagged PatternWhiteSpace ∷ Flagged OtherDefaultIgnorableCodePoint ∷ Flagged VariationSelector ∷ Flagged PrependedConcatenationMark ∷ Flagged OtherGraphemeExtend ∷ Flagged NoncharacterCodePoint ∷ []
+
+abbrev pub mark_bit : Sources → Mark → ℕ → ℕ
+mark_bit rows mark c = word_of mark * one_if (list_any (puts mark c) (rows (file_of mark)))
+
+abbrev pub marks_before : ℕ → Sources → ℕ → ℕ
+marks_before n rows c = sum_by (λ mark. mark_bit rows mark c) (take n all_marks)

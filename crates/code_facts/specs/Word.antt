@@ -1,0 +1,135 @@
+-- The packed word of the facts of a code point, and how it is read back.
+--
+-- one_if b             1 where b is true, else 0
+-- category_place k     the place of a category in the list of UAX #44, section 5.7.1, as Category has it: 0 to 29, Cn the last
+-- tag_place t          the place of a tag in the list of UAX #44, section 5.7.3, as Tag has it: 0 to 15
+-- kind_place k         0 for Plain, 1 for Canonical, and 2 more than the tag's place for Compat
+-- all_flags            the flags in the order of their places
+-- flag_bit has f       2 to the power of 24 and the place of f, where f is set; else 0
+-- data_part            what the row of UnicodeData.txt adds to the word
+-- mark_part            what the rows of the other files add
+-- packed F             the word: the sum of its summands
+--
+-- assigned_of_word w   whether the word says that the point is assigned; and so the others
+-- category_at p        the category of a place; kind_at p: the kind
+-- flags_of_word w      the set of flags
+use Rattle.std.specs.Prelude.{ℕ, ◌+◌, ◌*◌, ◌/◌, ◌%◌, ◌^◌, Bool, true, false, ◌==◌, List, [], ◌∷◌, slice_index_or, sum_by}
+use Rattle.ucd_model.specs.Facts.{Facts}
+use Rattle.ucd_model.specs.Sets.{flag_place}
+use Rattle.ucd_model.specs.declared.category.Category.{Category}
+use Rattle.ucd_model.specs.declared.category.Category.TheVariants.{Lu, Ll, Lt, Lm, Lo, Mn, Mc, Me, Nd, Nl, No, Pc, Pd, Ps, Pe, Pi, Pf, Po, Sm, Sc, Sk, So, Zs, Zl, Zp, Cc, Cf, Cs, Co, Cn}
+use Rattle.ucd_model.specs.declared.decomposition.Tag.{Tag}
+use Rattle.ucd_model.specs.declared.decomposition.Tag.TheVariants as tag
+use Rattle.ucd_model.specs.declared.decomposition.Kind.{Kind}
+use Rattle.ucd_model.specs.declared.decomposition.Kind.TheVariants.{Plain, Canonical, Compat}
+use Rattle.ucd_model.specs.declared.property.Flag.{Flag}
+use Rattle.ucd_model.specs.declared.property.Flag.TheVariants.{WhiteSpace, OtherMath, OtherLowercase, OtherUppercase, OtherAlphabetic, OtherIdStart, OtherIdContinue, PatternSyntax, PatternWhiteSpace, OtherDefaultIgnorableCodePoint, VariationSelector, PrependedConcatenationMark, OtherGraphemeExtend, NoncharacterCodePoint}
+
+abbrev pub one_if : Bool → ℕ
+one_if true = 1
+one_if false = 0
+
+abbrev pub category_place : Category → ℕ
+category_place Lu = 0
+category_place Ll = 1
+category_place Lt = 2
+category_place Lm = 3
+category_place Lo = 4
+category_place Mn = 5
+category_place Mc = 6
+category_place Me = 7
+category_place Nd = 8
+category_place Nl = 9
+category_place No = 10
+category_place Pc = 11
+category_place Pd = 12
+category_place Ps = 13
+category_place Pe = 14
+category_place Pi = 15
+category_place Pf = 16
+category_place Po = 17
+category_place Sm = 18
+category_place Sc = 19
+category_place Sk = 20
+category_place So = 21
+category_place Zs = 22
+category_place Zl = 23
+category_place Zp = 24
+category_place Cc = 25
+category_place Cf = 26
+category_place Cs = 27
+category_place Co = 28
+category_place Cn = 29
+
+abbrev pub tag_place : Tag → ℕ
+tag_place tag.Font = 0
+tag_place tag.NoBreak = 1
+tag_place tag.Initial = 2
+tag_place tag.Medial = 3
+tag_place tag.Final = 4
+tag_place tag.Isolated = 5
+tag_place tag.Circle = 6
+tag_place tag.Super = 7
+tag_place tag.Sub = 8
+tag_place tag.Vertical = 9
+tag_place tag.Wide = 10
+tag_place tag.Narrow = 11
+tag_place tag.Small = 12
+tag_place tag.Square = 13
+tag_place tag.Fraction = 14
+tag_place tag.Compat = 15
+
+abbrev pub kind_place : Kind → ℕ
+kind_place Plain = 0
+kind_place Canonical = 1
+kind_place (Compat tag) = 2 + tag_place tag
+
+abbrev pub all_flags : List Flag
+all_flags = WhiteSpace ∷ OtherMath ∷ OtherLowercase ∷ OtherUppercase ∷ OtherAlphabetic ∷ OtherIdStart ∷ OtherIdContinue ∷ PatternSyntax ∷ PatternWhiteSpace ∷ OtherDefaultIgnorableCodePoint ∷ VariationSelector ∷ PrependedConcatenationMark ∷ OtherGraphemeExtend ∷ NoncharacterCodePoint ∷ []
+
+abbrev pub flag_bit : (Flag → Bool) → Flag → ℕ
+flag_bit has flag = 2 ^ (24 + flag_place flag) * one_if (has flag)
+
+abbrev pub data_part : Bool → Category → ℕ → Kind → ℕ
+data_part assigned category class kind = one_if assigned + 8 * category_place category + 256 * class + 65536 * kind_place kind
+
+abbrev pub mark_part : Bool → Bool → (Flag → Bool) → ℕ
+mark_part excluded mid_word flag = 2 * one_if excluded + 4 * one_if mid_word + sum_by (flag_bit flag) all_flags
+
+abbrev pub packed : Facts → ℕ
+packed F = data_part F.assigned F.category F.class F.kind + mark_part F.excluded F.mid_word F.flag
+
+-- ---- read back
+
+abbrev pub assigned_of_word : ℕ → Bool
+assigned_of_word word = word % 2 == 1
+
+abbrev pub excluded_of_word : ℕ → Bool
+excluded_of_word word = word / 2 % 2 == 1
+
+abbrev pub mid_word_of_word : ℕ → Bool
+mid_word_of_word word = word / 4 % 2 == 1
+
+abbrev pub all_categories : List Category
+all_categories = Lu ∷ Ll ∷ Lt ∷ Lm ∷ Lo ∷ Mn ∷ Mc ∷ Me ∷ Nd ∷ Nl ∷ No ∷ Pc ∷ Pd ∷ Ps ∷ Pe ∷ Pi ∷ Pf ∷ Po ∷ Sm ∷ Sc ∷ Sk ∷ So ∷ Zs ∷ Zl ∷ Zp ∷ Cc ∷ Cf ∷ Cs ∷ Co ∷ Cn ∷ []
+
+abbrev pub category_at : ℕ → Category
+category_at place = slice_index_or all_categories place Cn
+
+abbrev pub category_of_word : ℕ → Category
+category_of_word word = category_at (word / 8 % 32)
+
+abbrev pub class_of_word : ℕ → ℕ
+class_of_word word = word / 256 % 256
+
+abbrev pub all_kinds : List Kind
+all_kinds = Plain ∷ Canonical ∷ Compat tag.Font ∷ Compat tag.NoBreak ∷ Compat tag.Initial ∷ Compat tag.Medial ∷ Compat tag.Final ∷ Compat tag.Isolated ∷ Compat tag.Circle ∷ Compat tag.Super ∷ Compat tag.Sub ∷ Compat tag.Vertical ∷ Compat tag.Wide ∷ Compat tag.Narrow ∷ Compat tag.Small ∷ Compat tag.Square ∷ Compat tag.Fraction ∷ Compat tag.Compat ∷ []
+
+abbrev pub kind_at : ℕ → Kind
+kind_at place = slice_index_or all_kinds place Plain
+
+abbrev pub kind_of_word : ℕ → Kind
+kind_of_word word = kind_at (word / 65536 % 256)
+
+abbrev pub flags_of_word : ℕ → ℕ
+flags_of_word word = word / 16777216 % 16384

@@ -1,0 +1,22 @@
+//! How far the facts of code points stay alike.
+
+ghost use Rattle.std.specs.Prelude.{◌≤◌, ℕ};
+ghost use Rattle.code_facts.specs.Alike.{Alike};
+
+use crate::fact_tables::FactTables;
+use range_table::RunTable;
+use ucd_model::{FactView, Point};
+
+impl FactTables<RunTable<u64>> {
+    /// The last code point of the run of those whose facts differ from those of `c` in mappings and images alone.
+    pub fn last_alike(&self, c: Point) -> Point
+        ensures from { c ≤ result }
+        ensures alike { (d : ℕ) → c ≤ d → d ≤ result
+            → Alike (⟦<FactTables<RunTable<u64>> as FactView>⟧.facts_of self.now d) (⟦<FactTables<RunTable<u64>> as FactView>⟧.facts_of self.now c) }
+    {
+        let last = self.kept.words.last_of_run(c);
+        let _first = c.number();
+        let _last = last.number();
+        last
+    }
+}

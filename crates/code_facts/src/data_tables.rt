@@ -1,0 +1,136 @@
+//! What the rows of UnicodeData.txt give to each code point.
+
+ghost use Rattle.std.specs.Prelude.{◌≡◌, ℕ, ◌<◌, true, Some, None, IfOk, OnOk, if◌then◌else◌};
+ghost use Rattle.std.specs.Option.{option_to_list};
+ghost use Rattle.range_table.specs.Values.{SameValues, with_span};
+ghost use Rattle.range_table.specs.RunTable.{values_next};
+ghost use Rattle.ucd_model.specs.Facts.{within, mapping_in, data_row, class_in, is_hangul_syllable, hangul_mapping};
+ghost use Rattle.code_facts.specs.Rows.{row_data, pointed, Apart};
+ghost use Rattle.code_facts.specs.DataTables.{data_now, data_next};
+ghost use Rattle.code_facts.specs.PointLists.{lists_now, lists_next};
+
+use crate::hangul::{hangul_mapping, syllables};
+use crate::point_lists::PointLists;
+use crate::points::point;
+use crate::word::{NO_ROW, data_word};
+use range_table::{RunTable, Table};
+use std::alloc::Global;
+use ucd_model::{DataRow, Kind, Memory, Point, Row, Span};
+
+/// The part of the word that the row of a code point gives, and its mappings.
+#[derive(Drop)]
+pub struct DataTables {
+    pub words: RunTable<u64>,
+    pub mappings: PointLists,
+    pub uppers: PointLists,
+    pub lowers: PointLists,
+    pub titles: PointLists,
+}
+
+impl DataTables {
+    /// The tables of these rows.
+    pub fn of_rows(alloc: Global, rows: &[&Row]) -> Result<DataTables, Memory>
+        requires { Apart (pointed rows.now) }
+        ensures gives { IfOk result (λ tables. (c : ℕ) → c < 1114112
+            → data_now tables c ≡ row_data c (data_row (pointed rows.now) c)) }
+        ensures class { OnOk result ((c : ℕ) → class_in (data_row (pointed rows.now) c) < 256) }
+    {
+        let mut tables = DataTables::new(alloc)?;
+        'rows: for row in rows {
+            if let Row::Unit(row) = row {
+                tables.add(row)?;
+            }
+        }
+        tables.commit();
+        Ok(tables)
+    }
+
+    /// The tables of no rows.
+    fn new(alloc: Global) -> Result<DataTables, Memory>
+        ensures { IfOk result (λ tables. (c : ℕ) → c < 1114112 → data_next tables c ≡ row_data c None) }
+    {
+        Ok(DataTables {
+            words: RunTable::filled(alloc, NO_ROW)?,
+            mappings: PointLists::new(alloc)?,
+            uppers: PointLists::new(alloc)?,
+            lowers: PointLists::new(alloc)?,
+            titles: PointLists::new(alloc)?,
+        })
+    }
+
+    /// Gives the points of a row what the row gives.
+    fn add(&mut self, row: &DataRow) -> Result<(), Memory>
+        ensures gives { OnOk result ((c : ℕ) → c < 1114112
+            → data_next self.new c ≡ (if within c row.now.span then row_data c (Some row.now) else data_next self.old c)) }
+        ensures class { row.now.class < 256 }
+    {
+        add_word(&mut self.words, row)?;
+        add_mapping(&mut self.mappings, row)?;
+        add_simple(&mut self.uppers, row.span, row.upper)?;
+        add_simple(&mut self.lowers, row.span, row.lower)?;
+        add_simple(&mut self.titles, row.span, row.title)
+    }
+
+    /// What is next becomes now. It takes no memory.
+    fn commit(&mut self)
+        ensures { (c : ℕ) → c < 1114112 → data_now self.new c ≡ data_next self.old c }
+    {
+        self.words.commit();
+        self.mappings.commit();
+        self.uppers.commit();
+        self.lowers.commit();
+        self.titles.commit();
+    }
+}
+
+/// Gives the points of a row its part of the word.
+fn add_word(words: &mut RunTable<u64>, row: &DataRow) -> Result<(), Memory>
+    ensures word { OnOk result ((c : ℕ) → c < 1114112 → values_next words.new c
+        ≡ (if within c row.now.span then (row_data c (Some row.now)).word else values_next words.old c)) }
+    ensures class { row.now.class < 256 }
+{
+    words.prepare(row.span, data_word(row, row.kind))?;
+    if let Kind::Plain = row.kind
+        && let Some(part) = syllables(row.span)
+    {
+        words.prepare(part, data_word(row, Kind::Canonical))?;
+    }
+    Ok(())
+}
+
+/// Gives the points of a row its mapping, or that of a Hangul syllable.
+fn add_mapping(mappings: &mut PointLists, row: &DataRow) -> Result<(), Memory>
+    ensures { OnOk result ((c : ℕ) → c < 1114112 → lists_next mappings.new c
+        ≡ (if within c row.now.span then mapping_in c (Some row.now) else lists_next mappings.old c)) }
+{
+    mappings.prepare(row.span, row.mapping.as_slice())?;
+    if let Kind::Plain = row.kind
+        && let Some(part) = syllables(row.span)
+    {
+        add_syllables(mappings, part)?;
+    }
+    Ok(())
+}
+
+/// Gives each syllable of a span its mapping.
+fn add_syllables(mappings: &mut PointLists, part: Span) -> Result<(), Memory>
+    requires { (c : ℕ) → within c part ≡ true → is_hangul_syllable c ≡ true }
+    ensures { OnOk result ((c : ℕ) → c < 1114112 → lists_next mappings.new c
+        ≡ (if within c part then hangul_mapping c else lists_next mappings.old c)) }
+{
+    'syllables: for number in part.first()..part.last() + 1 {
+        let syllable = point(number);
+        mappings.prepare(Span::one(syllable), &hangul_mapping(syllable))?;
+    }
+    Ok(())
+}
+
+/// Gives the points of a span a simple mapping.
+fn add_simple(lists: &mut PointLists, span: Span, image: Option<Point>) -> Result<(), Memory>
+    ensures { OnOk result (SameValues (lists_next lists.new) (with_span (lists_next lists.old) span.lo span.hi (option_to_list image))) }
+{
+    match image {
+        Some(image) => lists.prepare(span, &[image]),
+        None => lists.prepare(span, &[]),
+    }
+}

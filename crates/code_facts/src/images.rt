@@ -1,0 +1,102 @@
+//! Images of code points, as views show them.
+
+ghost use Rattle.std.specs.Prelude.{◌≡◌, ℕ, [], ◌∷◌, unwrap_or};
+ghost use Rattle.std.specs.Option.{option_copied};
+ghost use Rattle.ucd_model.specs.Facts.{image, only_or};
+ghost use Rattle.ucd_model.specs.View.{image_shown};
+ghost use Rattle.code_facts.specs.Found.{found};
+ghost use Rattle.code_facts.specs.KeptFacts.{full_image};
+
+use std::collections::BTreeMap;
+use ucd_model::{Point, Points};
+
+/// The first of the points, and the code point itself where there are none.
+pub fn first_or(c: Point, points: &[Point]) -> Point
+    ensures { result ≡ only_or c points.now }
+{
+    match points {
+        [first, ..] => *first,
+        [] => c,
+    }
+}
+
+/// The points, and the others where there are none.
+pub fn first_list<'a>(points: &'a [Point], others: &'a [Point]) -> &'a [Point]
+    ensures { (c : ℕ) → only_or c result.now ≡ only_or (only_or c others.now) points.now }
+{
+    if points.is_empty() { others } else { points }
+}
+
+/// The image of a code point that is mapped to these points; `None` for the point itself alone.
+pub fn shown_image(c: Point, points: &[Point]) -> Option<&[Point]>
+    ensures { image_shown result ≡ image c points.now }
+{
+    if matches!(points, [only] if *only == c) {
+        None
+    } else {
+        Some(points)
+    }
+}
+
+/// The image of a code point under the first of the points, where there are any.
+pub fn simple_image(c: Point, simple: &[Point]) -> Option<&[Point]>
+    ensures { image_shown result ≡ image c (only_or c simple.now ∷ []) }
+{
+    match simple {
+        [] => None,
+        [only, ..] if *only == c => None,
+        _ => Some(&simple[..1]),
+    }
+}
+
+/// The points of a code point in a map.
+pub fn points_in(map: &BTreeMap<Point, Points>, c: Point) -> Option<&[Point]>
+    ensures { option_copied result ≡ found map.now c }
+{
+    match map.get(&c) {
+        Some(points) => Some(points.as_slice()),
+        None => None,
+    }
+}
+
+/// The image in the map, and else the simple image.
+pub fn full_image<'a>(
+    c: Point,
+    map: &'a BTreeMap<Point, Points>,
+    simple: &'a [Point],
+) -> Option<&'a [Point]>
+    ensures { image_shown result ≡ full_image c (only_or c simple.now) (found map.now c) }
+{
+    match points_in(map, c) {
+        Some(points) => shown_image(c, points),
+        None => simple_image(c, simple),
+    }
+}
+
+/// The image under the first map, else under the second, else none.
+pub fn folding<'a>(
+    c: Point,
+    first: &'a BTreeMap<Point, Points>,
+    second: &'a BTreeMap<Point, Points>,
+) -> Option<&'a [Point]>
+    ensures { image_shown result ≡ image c (unwrap_or (found first.now c) (unwrap_or (found second.now c) (c ∷ []))) }
+{
+    match (points_in(first, c), points_in(second, c)) {
+        (Some(points), _) | (None, Some(points)) => shown_image(c, points),
+        (None, None) => None,
+    }
+}
+
+/// The one point under the first map, else under the second, else the code point itself.
+pub fn simple_folding(
+    c: Point,
+    first: &BTreeMap<Point, Points>,
+    second: &BTreeMap<Point, Points>,
+) -> Point
+    ensures { result ≡ only_or c (unwrap_or (found first.now c) (unwrap_or (found second.now c) [])) }
+{
+    match (points_in(first, c), points_in(second, c)) {
+        (Some(points), _) | (None, Some(points)) => first_or(c, points),
+        (None, None) => c,
+    }
+}

@@ -1,0 +1,70 @@
+//! Reading the facts that are kept.
+
+ghost use Rattle.std.specs.Prelude.{◌≡◌, ℕ, ◌<◌};
+ghost use Rattle.ucd_model.specs.View.{ShowsFacts};
+ghost use Rattle.ucd_model.specs.Composites.{composes, ends_with};
+ghost use Rattle.code_facts.specs.KeptFacts.{kept_at, all_kept};
+ghost use Rattle.code_facts.specs.Index.{is_that, ends_that};
+
+use crate::images::{first_list, first_or, folding, full_image, simple_folding};
+use crate::kept_facts::KeptFacts;
+use crate::word::{
+    category_of, class_of, flags_of, is_assigned, is_excluded, is_mid_word, kind_of,
+};
+use range_table::Table;
+use ucd_model::{FactsRef, Kind, Point};
+
+impl<T: Table<u64>> KeptFacts<T> {
+    /// The facts of a code point.
+    pub fn facts(&self, c: Point) -> FactsRef<'_>
+        ensures { ShowsFacts result (all_kept T.now self.now c) }
+    {
+        let _number = c.number();
+        self.kept(c)
+    }
+
+    /// The facts that are kept of a code point.
+    fn kept(&self, c: Point) -> FactsRef<'_>
+        ensures { ShowsFacts result (kept_at T.now self.now c) }
+    {
+        let word = self.words.get(c);
+        let upper = self.uppers.get(c);
+        let lower = self.lowers.get(c);
+        let title = first_list(self.titles.get(c), upper);
+        let cases = &self.cases;
+        FactsRef {
+            assigned: is_assigned(word),
+            category: category_of(word),
+            class: class_of(word),
+            kind: kind_of(word),
+            mapping: self.mappings.get(c),
+            simple_upper: first_or(c, upper),
+            simple_lower: first_or(c, lower),
+            simple_title: first_or(c, title),
+            simple_fold: simple_folding(c, &cases.simple, &cases.common),
+            upper: full_image(c, &cases.upper, upper),
+            lower: full_image(c, &cases.lower, lower),
+            title: full_image(c, &cases.title, title),
+            fold: folding(c, &cases.full, &cases.common),
+            flags: flags_of(word),
+            mid_word: is_mid_word(word),
+            excluded: is_excluded(word),
+        }
+    }
+
+    /// The members of the mapping of a primary composite.
+    pub fn members(&self, q: Point) -> Option<(Point, Point)>
+        ensures pair { (s y : ℕ) → is_that s y result ≡ composes (all_kept T.now self.now) s y q }
+        ensures second { (y : ℕ) → ends_that y result ≡ ends_with (all_kept T.now self.now) y q }
+    {
+        let facts = self.facts(q);
+        match facts.mapping {
+            [s, y]
+                if matches!(facts.kind, Kind::Canonical)
+                    && facts.class == 0
+                    && !facts.excluded
+                    && self.facts(*s).class == 0 => { Some((*s, *y)) }
+            _ => None,
+        }
+    }
+}

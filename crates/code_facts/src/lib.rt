@@ -1,0 +1,32 @@
+//! The facts of all code points, packed into tables that are looked up.
+#![tactic(auto)]
+
+mod alike;
+mod building;
+mod case;
+mod case_map;
+mod case_maps;
+mod composites;
+mod data_tables;
+mod fact_tables;
+mod hangul;
+mod images;
+mod indexing;
+mod kept_facts;
+mod kept_view;
+mod list_calls;
+mod mark;
+mod marks;
+mod painting;
+mod place;
+mod point_lists;
+mod points;
+mod rows;
+mod view;
+mod word;
+
+pub use fact_tables::FactTables;
+pub use view::NowView;
+
+#[cfg(test)]
+mod tests;

@@ -1,0 +1,75 @@
+//! Reading and changing the lists of code points.
+
+ghost use Rattle.std.specs.Prelude.{◌≡◌, ◌<◌, ◌≤◌, ℕ, [], vec_len, OnOk, IfOk};
+ghost use Rattle.range_table.specs.Values.{SameValues, with_span};
+ghost use Rattle.code_facts.specs.Lists.{LiesIn, slice_at};
+ghost use Rattle.code_facts.specs.PointLists.{lists_now, lists_next};
+
+use crate::place::Place;
+use crate::point_lists::PointLists;
+use range_table::{RunTable, Table};
+use std::alloc::Global;
+use ucd_model::{Memory, Point, Span};
+
+impl PointLists {
+    /// The lists that are all empty.
+    pub fn new(alloc: Global) -> Result<PointLists, Memory>
+        ensures current { IfOk result (λ lists. (c : ℕ) → c < 1114112 → lists_now lists c ≡ []) }
+        ensures prepared { IfOk result (λ lists. (c : ℕ) → c < 1114112 → lists_next lists c ≡ []) }
+    {
+        let pool = Vec::new(alloc);
+        let places = RunTable::filled(alloc, Place { start: 0, end: 0 })?;
+        Ok(PointLists { places, pool })
+    }
+
+    /// The list of a code point now.
+    pub fn get(&self, c: Point) -> &[Point]
+        ensures { result.now ≡ lists_now self.now c }
+    {
+        let place = self.places.get(c);
+        &self.pool[place.start..place.end]
+    }
+
+    /// The last code point up to which all code points have now the list of this one.
+    pub fn last_of_run(&self, c: Point) -> Point
+        ensures from { c ≤ result }
+        ensures same { (k : ℕ) → c ≤ k → k ≤ result → lists_now self.now k ≡ lists_now self.now c }
+    {
+        self.places.last_of_run(c)
+    }
+
+    /// Gives the points of a span a list next. What is now stays.
+    pub fn prepare(&mut self, span: Span, points: &[Point]) -> Result<(), Memory>
+        ensures current { OnOk result (SameValues (lists_now self.new) (lists_now self.old)) }
+        ensures ok { OnOk result (SameValues (lists_next self.new) (with_span (lists_next self.old) span.lo span.hi points.now)) }
+    {
+        let place = put(&mut self.pool, points)?;
+        self.places.prepare(span, place)
+    }
+
+    /// What is next becomes now, and stays next. It takes no memory.
+    pub fn commit(&mut self)
+        ensures committed { SameValues (lists_now self.new) (lists_next self.old) }
+        ensures next { SameValues (lists_next self.new) (lists_next self.old) }
+    {
+        self.places.commit();
+    }
+}
+
+/// Puts points at the end of a pool, and answers their place. No points have a place of their own.
+fn put(pool: &mut Vec<Point>, points: &[Point]) -> Result<Place, Memory>
+    ensures longer { vec_len pool.old ≤ vec_len pool.new }
+    ensures others { (place : Place) → LiesIn (vec_len pool.old) place → slice_at pool.new.items place ≡ slice_at pool.old.items place }
+    ensures place { IfOk result (λ place. LiesIn (vec_len pool.new) place) }
+    ensures points { IfOk result (λ place. slice_at pool.new.items place ≡ points.now) }
+{
+    if points.is_empty() {
+        return Ok(Place { start: 0, end: 0 });
+    }
+    let start = pool.len();
+    pool.extend_from_slice(points)?;
+    Ok(Place {
+        start,
+        end: pool.len(),
+    })
+}

@@ -1,0 +1,124 @@
+//! The marks that rows of other files than UnicodeData.txt put on code points.
+
+ghost use Rattle.std.specs.Prelude.{◌≡◌, ℕ, ◌+◌, ◌<◌, ◌^◌};
+ghost use Rattle.ucd_model.specs.Names.{flag_name};
+ghost use Rattle.ucd_model.specs.Sets.{flag_place};
+ghost use Rattle.code_facts.specs.Marks.{covers, puts, is_mid_word_value, file_of, word_of};
+
+use ucd_model::{Flag, Row, SourceFile, Span};
+
+/// A mark of a code point.
+#[derive(Clone, Copy)]
+pub enum Mark {
+    /// It is excluded from composition.
+    Excluded,
+    /// It stands in the middle of a word: MidLetter, MidNumLet or Single_Quote.
+    MidWord,
+    /// It has a property of PropList.txt.
+    Flagged(Flag),
+}
+
+impl Mark {
+    /// The file whose rows put the mark.
+    pub fn file(self) -> SourceFile
+        ensures { result ≡ file_of self }
+    {
+        match self {
+            Mark::Excluded => SourceFile::CompositionExclusions,
+            Mark::MidWord => SourceFile::WordBreakProperty,
+            Mark::Flagged(_) => SourceFile::PropList,
+        }
+    }
+
+    /// The bit of the mark in the word.
+    pub fn word(self) -> u64
+        ensures value { result ≡ word_of self }
+        ensures below { result < 2 ^ 38 }
+    {
+        match self {
+            Mark::Excluded => 2,
+            Mark::MidWord => 4,
+            Mark::Flagged(flag) => flag_word(flag),
+        }
+    }
+
+    /// The code points on which a row puts the mark.
+    pub fn span(self, row: &Row) -> Option<Span>
+        ensures { (c : ℕ) → covers c result ≡ puts self c row.now }
+    {
+        match self {
+            Mark::Excluded => excluded_span(row),
+            Mark::MidWord => mid_word_span(row),
+            Mark::Flagged(flag) => flagged_span(row, flag),
+        }
+    }
+}
+
+/// The bit of a flag in the word.
+fn flag_word(flag: Flag) -> u64
+    ensures value { result ≡ 2 ^ (24 + flag_place flag) }
+    ensures below { result < 2 ^ 38 }
+{
+    1 << (24 + flag as u32)
+}
+
+/// The code points of a row of CompositionExclusions.txt.
+fn excluded_span(row: &Row) -> Option<Span>
+    ensures { (c : ℕ) → covers c result ≡ puts (Mark.Excluded) c row.now }
+{
+    match row {
+        Row::Exclusion(row) => Some(row.span),
+        _ => None,
+    }
+}
+
+/// The code points of a row with a value in the middle of a word.
+fn mid_word_span(row: &Row) -> Option<Span>
+    ensures { (c : ℕ) → covers c result ≡ puts (Mark.MidWord) c row.now }
+{
+    match row {
+        Row::Value(row) if is_mid_word_value(row.value.as_slice()) => Some(row.span),
+        _ => None,
+    }
+}
+
+/// The code points of a row with the name of a flag.
+fn flagged_span(row: &Row, flag: Flag) -> Option<Span>
+    ensures { (c : ℕ) → covers c result ≡ puts (Mark.Flagged flag) c row.now }
+{
+    match row {
+        Row::Value(row) if row.value.as_slice() == flag_name(flag) => Some(row.span),
+        _ => None,
+    }
+}
+
+/// Whether a value of Word_Break is MidLetter, MidNumLet or Single_Quote.
+fn is_mid_word_value(value: &[u8]) -> bool
+    ensures { result ≡ is_mid_word_value value.now }
+{
+    value == b"MidLetter".as_slice()
+        || value == b"MidNumLet".as_slice()
+        || value == b"Single_Quote".as_slice()
+}
+
+/// The name of a flag in PropList.txt.
+fn flag_name(flag: Flag) -> &'static [u8]
+    ensures { result.now ≡ flag_name flag }
+{
+    match flag {
+        Flag::WhiteSpace => b"White_Space",
+        Flag::OtherMath => b"Other_Math",
+        Flag::OtherLowercase => b"Other_Lowercase",
+        Flag::OtherUppercase => b"Other_Uppercase",
+        Flag::OtherAlphabetic => b"Other_Alphabetic",
+        Flag::OtherIdStart => b"Other_ID_Start",
+        Flag::OtherIdContinue => b"Other_ID_Continue",
+        Flag::PatternSyntax => b"Pattern_Syntax",
+        Flag::PatternWhiteSpace => b"Pattern_White_Space",
+        Flag::OtherDefaultIgnorableCodePoint => b"Other_Default_Ignorable_Code_Point",
+        Flag::VariationSelector => b"Variation_Selector",
+        Flag::PrependedConcatenationMark => b"Prepended_Concatenation_Mark",
+        Flag::OtherGraphemeExtend => b"Other_Grapheme_Extend",
+        Flag::NoncharacterCodePoint => b"Noncharacter_Code_Point",
+    }
+}

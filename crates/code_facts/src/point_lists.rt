@@ -1,0 +1,20 @@
+//! A list of code points for each code point.
+
+ghost use Rattle.std.specs.Prelude.{vec_len};
+ghost use Rattle.range_table.specs.RunTable.{values_now, values_next};
+ghost use Rattle.code_facts.specs.Lists.{Lie};
+
+use crate::place::Place;
+use range_table::RunTable;
+use ucd_model::Point;
+
+/// A list of code points for each code point, now and next; at first all are empty.
+///
+/// Equal stretches are kept once: the lists stand one after another in a pool, and a table has the place of each.
+#[derive(Drop)]
+pub struct PointLists {
+    pub places: RunTable<Place>,
+    pub pool: Vec<Point>,
+    ghost now_lie: { Lie (vec_len pool) (values_now places) },
+    ghost next_lie: { Lie (vec_len pool) (values_next places) },
+}

@@ -1,0 +1,30 @@
+//! The rows of a release.
+
+ghost use Rattle.std.specs.Prelude.{◌≡◌, IfOk};
+ghost use Rattle.ucd_model.specs.declared.files.SourceFile.TheVariants.{UnicodeData};
+ghost use Rattle.code_facts.specs.Rows.{release_sources, pointed, Apart};
+
+use release_rows::Release;
+use std::alloc::Global;
+use ucd_model::{Memory, Row, SourceFile};
+
+/// References to the rows of a file now, in the order of the file.
+pub fn rows_of(alloc: Global, release: &Release, file: SourceFile) -> Result<Vec<&Row>, Memory>
+    ensures { IfOk result (λ rows. pointed rows.items ≡ release_sources release.now file) }
+{
+    let mut references = Vec::new(alloc);
+    let mut rows = release.rows(file);
+    'rows: while let Some((_, row)) = rows.next() {
+        references.push(row)?;
+    }
+    Ok(references)
+}
+
+/// References to the rows of UnicodeData.txt now. No two of them cover the same code point.
+pub fn data_rows_of(alloc: Global, release: &Release) -> Result<Vec<&Row>, Memory>
+    ensures rows { IfOk result (λ rows. pointed rows.items ≡ release_sources release.now UnicodeData) }
+    ensures apart { IfOk result (λ rows. Apart (pointed rows.items)) }
+{
+    let _rows = release.rows(SourceFile::UnicodeData);
+    rows_of(alloc, release, SourceFile::UnicodeData)
+}

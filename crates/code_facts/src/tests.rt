@@ -1,0 +1,155 @@
+//! Facts of small releases, made of lines of the real files.
+
+use crate::FactTables;
+use range_table::RunTable;
+use release_rows::Release;
+use std::alloc::Global;
+use std::test::Fail;
+use ucd_model::{Category, FactView, FactsRef, Flag, Kind, Point, SourceFile, Tag};
+
+type Tables = FactTables<RunTable<u64>>;
+
+fn point(number: u32) -> Result<Point, Fail> {
+    Ok(Point::new(number).ok_or("a code point")?)
+}
+
+/// Whether the points are those of the numbers.
+fn are(points: &[Point], numbers: &[u32]) -> bool {
+    points
+        .iter()
+        .map(|c| c.number())
+        .eq(numbers.iter().copied())
+}
+
+/// Whether an image is the points of the numbers; no numbers stand for the code point itself.
+fn is_image(image: Option<&[Point]>, numbers: &[u32]) -> bool {
+    match image {
+        Some(points) => are(points, numbers),
+        None => numbers.is_empty(),
+    }
+}
+
+/// The tables of a release of four files.
+fn tables(
+    alloc: Global,
+    data_lines: &[u8],
+    properties: &[u8],
+    foldings: &[u8],
+    casings: &[u8],
+) -> Result<Tables, Fail> {
+    let mut release = Release::empty(alloc);
+    release.load_file(SourceFile::UnicodeData, data_lines)?;
+    release.load_file(SourceFile::PropList, properties)?;
+    release.load_file(SourceFile::CaseFolding, foldings)?;
+    release.load_file(SourceFile::SpecialCasing, casings)?;
+    release.load_file(
+        SourceFile::WordBreakProperty,
+        b"0027 ; Single_Quote\n0149 ; MidLetter\n",
+    )?;
+    release.load_file(SourceFile::CompositionExclusions, b"0149\n0958..095F\n")?;
+    Ok(FactTables::of(alloc, &release)?)
+}
+
+/// A code point with a row in every file: 0149 has one in fact in UnicodeData.txt, CaseFolding.txt and SpecialCasing.txt.
+#[test]
+fn a_point_with_rows_in_every_file(rt: HostRuntime) -> Result<(), Fail> {
+    let tables = tables(
+        rt.alloc(),
+        b"0148;LATIN SMALL LETTER N WITH CARON;Ll;0;L;006E 030C;;;;N;LATIN SMALL LETTER N HACEK;;0147;;0147\n0149;LATIN SMALL LETTER N PRECEDED BY APOSTROPHE;Ll;0;L;<compat> 02BC 006E;;;;N;LATIN SMALL LETTER APOSTROPHE N;;;;\n",
+        b"0149 ; Other_Lowercase\n0148..0149 ; Noncharacter_Code_Point\n",
+        b"0149; T; 0041;\n0149; F; 02BC 006E;\n0148; C; 0148;\n",
+        b"0149; 0149; 02BC 004E; 02BC 004E; tr;\n0149; 0149; 02BC 004E; 02BC 004F;\n",
+    )?;
+    let c = point(0x149)?;
+    assert!(rt; has_values_of_0149(tables.facts(c)));
+    assert!(rt; has_flags_of_0149(tables.facts(c)));
+    assert!(rt; has_images_of_0149(tables.facts(c)));
+    Ok(())
+}
+
+fn has_values_of_0149(facts: FactsRef<'_>) -> bool {
+    facts.assigned
+        && facts.excluded
+        && facts.mid_word
+        && facts.category == Category::Ll
+        && facts.class == 0
+        && facts.kind == Kind::Compat(Tag::Compat)
+        && are(facts.mapping, &[0x2BC, 0x6E])
+}
+
+fn has_flags_of_0149(facts: FactsRef<'_>) -> bool {
+    facts.flags.has(Flag::OtherLowercase)
+        && !facts.flags.has(Flag::OtherUppercase)
+        && facts.flags.has(Flag::NoncharacterCodePoint)
+        && !facts.flags.has(Flag::WhiteSpace)
+}
+
+fn has_images_of_0149(facts: FactsRef<'_>) -> bool {
+    facts.simple_upper.number() == 0x149
+        && is_image(facts.upper, &[0x2BC, 0x4F])
+        && is_image(facts.title, &[0x2BC, 0x4E])
+        && is_image(facts.lower, &[])
+        && is_image(facts.fold, &[0x2BC, 0x6E])
+}
+
+/// Whether a code point has the canonical mapping.
+fn maps_to(tables: &Tables, number: u32, first: u32, second: u32) -> Result<bool, Fail> {
+    let facts = tables.facts(point(number)?);
+    Ok(facts.kind == Kind::Canonical && are(facts.mapping, &[first, second]))
+}
+
+/// Whether a code point has no mapping.
+fn is_plain(tables: &Tables, number: u32) -> Result<bool, Fail> {
+    let facts = tables.facts(point(number)?);
+    Ok(facts.kind == Kind::Plain && facts.mapping.is_empty())
+}
+
+#[test]
+fn syllables_have_their_mappings(rt: HostRuntime) -> Result<(), Fail> {
+    let tables = tables(
+        rt.alloc(),
+        b"1100;HANGUL CHOSEONG KIYEOK;Lo;0;L;;;;;N;;;;;\nAC00;<Hangul Syllable, First>;Lo;0;L;;;;;N;;;;;\nD7A3;<Hangul Syllable, Last>;Lo;0;L;;;;;N;;;;;\n",
+        b"",
+        b"",
+        b"",
+    )?;
+    // the examples of The Unicode Standard, section 3.12, and the ends of the block
+    for (syllable, first, second) in [
+        (0xAC00, 0x1100, 0x1161),
+        (0xD4DB, 0xD4CC, 0x11B6),
+        (0xD4CC, 0x1111, 0x1171),
+        (0xD7A3, 0xD788, 0x11C2),
+    ] {
+        assert!(rt; maps_to(&tables, syllable, first, second)?);
+    }
+    for other in [0x1100, 0xABFF, 0xD7A4] {
+        assert!(rt; is_plain(&tables, other)?);
+    }
+    Ok(())
+}
+
+/// The least composite of a pair, of those that are not excluded.
+#[test]
+fn composites_are_found(rt: HostRuntime) -> Result<(), Fail> {
+    let tables = tables(
+        rt.alloc(),
+        b"0147;A;Lu;0;L;004E 030C;;;;N;;;;;\n0148;B;Ll;0;L;006E 030C;;;;N;;;;;\n0149;C;Ll;0;L;0041 0300;;;;N;;;;;\n014A;D;Ll;0;L;006E 030C;;;;N;;;;;\n030C;E;Mn;230;NSM;;;;;N;;;;;\n",
+        b"",
+        b"",
+        b"",
+    )?;
+    assert!(rt; pairs_to(&tables, 0x6E, 0x30C, 0x148)?);
+    assert!(rt; pairs_to(&tables, 0x4E, 0x30C, 0x147)?);
+    // 0149 is excluded
+    assert!(rt; tables.pair(point(0x41)?, point(0x300)?).is_none());
+    assert!(rt; tables.second(point(0x30C)?));
+    assert!(rt; !tables.second(point(0x300)?));
+    Ok(())
+}
+
+/// Whether the pair of two code points is the third, also in the view of the facts now.
+fn pairs_to(tables: &Tables, s: u32, y: u32, composite: u32) -> Result<bool, Fail> {
+    let found = tables.pair(point(s)?, point(y)?);
+    let shown = tables.now().pair(point(s)?, point(y)?);
+    Ok(found == shown && found == Some(point(composite)?))
+}

@@ -1,0 +1,56 @@
+//! The tables as a view of facts.
+
+ghost use Rattle.std.specs.Prelude.{◌≡◌};
+ghost use Rattle.code_facts.specs.FactTables.{tables_facts};
+ghost use Rattle.code_facts.specs.NowView.{facts_now};
+
+use crate::fact_tables::FactTables;
+use range_table::Table;
+use ucd_model::{FactView, FactsRef, Point};
+
+/// The facts of code points now.
+#[derive(Clone, Copy)]
+pub struct NowView<'a, T: Table<u64>> {
+    tables: &'a FactTables<T>,
+}
+
+impl<T: Table<u64>> FactView for FactTables<T> {
+    ghost facts_of = { tables_facts T.now };
+
+    fn facts(&self, c: Point) -> FactsRef<'_> {
+        self.kept.facts(c)
+    }
+
+    fn pair(&self, s: Point, y: Point) -> Option<Point> {
+        self.composites.pair(s, y)
+    }
+
+    fn second(&self, y: Point) -> bool {
+        self.composites.second(y)
+    }
+}
+
+impl<T: Table<u64>> FactTables<T> {
+    /// The facts now, as a view.
+    pub fn now(&self) -> NowView<'_, T>
+        ensures { facts_now T.now result ≡ tables_facts T.now self.now }
+    {
+        NowView { tables: self }
+    }
+}
+
+impl<T: Table<u64>> FactView for NowView<'_, T> {
+    ghost facts_of = { facts_now T.now };
+
+    fn facts(&self, c: Point) -> FactsRef<'_> {
+        self.tables.facts(c)
+    }
+
+    fn pair(&self, s: Point, y: Point) -> Option<Point> {
+        self.tables.pair(s, y)
+    }
+
+    fn second(&self, y: Point) -> bool {
+        self.tables.second(y)
+    }
+}

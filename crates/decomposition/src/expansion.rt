@@ -74,8 +74,9 @@ fn put(points: &mut Points, c: Point) -> Result<(), Memory>
     }
 }
 
-/// The mapping of a code point where it counts, else no code point.
-fn counted<W: FactView>(view: &W, compat: bool, c: Point) -> &[Point]
+/// The mapping of a code point where it counts: a canonical one always, a compatibility one where `compat` holds; else no
+/// code points. UAX #15, section 1.3.
+pub fn counted<W: FactView>(view: &W, compat: bool, c: Point) -> &[Point]
     ensures { result.now ≡ counted (W.facts_of view.now) compat c }
 {
     let facts = view.facts(c);

@@ -6,4 +6,4 @@ pub mod laws;
 #[cfg(test)]
 mod tests;
 
-pub use expansion::expand;
+pub use expansion::{counted, expand};

@@ -1,0 +1,121 @@
+-- What is expanded, and what expands to it.
+--
+-- Unmapped F compat x    x has no mapping that counts
+use Rattle.std.proofs.Common.{◌≡◌, ℕ, Bool, true, false, cond, ◌==◌, nat_lt, List, [], ◌∷◌, ◌++◌, length, Option, Some, None, Result, Ok, Err, refl, sym, ap, ◌∙◌, subst, arith}
+use Rattle.std.specs.List.{AllByRecursion as Each, list_all}
+use Rattle.std.proofs.lemmas.List.{append-nil}
+use Rattle.std.proofs.lemmas.List.Elements.{recursion_from_All}
+use Rattle.ucd_model.specs.declared.form.Bad.{Bad as Rule}
+use Rattle.ucd_model.specs.declared.form.Bad.TheVariants.{V3}
+use Rattle.ucd_model.specs.declared.decomposition.Kind.{Kind}
+use Rattle.ucd_model.specs.declared.decomposition.Kind.TheVariants.{Plain, Canonical, Compat}
+use Rattle.ucd_model.specs.Facts.{Facts}
+use Rattle.ucd_model.specs.Composites.{is_canonical}
+use Rattle.ucd_model.specs.CanonicalOrder.{greater, placed, with_next, order_onto, order}
+use Rattle.ucd_model.specs.Expansion.{counts, counted, both, alone_or_joined, expand, full, judged, expansion}
+use Rattle.ucd_model.specs.Forms.{appended, expansions}
+use Rattle.decomposition.specs.ExpansionProofs.{some_same, both_some, unmapped_is_alone, more_levels_give_the_same, expansions_are_full}
+use Rattle.normalisation.specs.FormLaws.{HasExpansion}
+use Rattle.normalisation.specs.FormLemmas.{expansion_alone, appended-assoc, nil-appended}
+use Rattle.normalisation.specs.PairLemmas.{Joins}
+
+abbrev pub Unmapped : (ℕ → Facts) → Bool → ℕ → Type 0
+Unmapped F compat x = counted F compat x ≡ []
+
+-- ---- each of a list
+
+pub Each-append : (P : ℕ → Type 0) (xs ys : List ℕ) → Each P xs → Each P ys → Each P (xs ++ ys)
+Each-append P [] ys p q = q
+Each-append P (x ∷ xs) ys p q = (p.0, Each-append P xs ys p.1 q)
+
+pub Each-front : (P : ℕ → Type 0) (xs ys : List ℕ) → Each P (xs ++ ys) → Each P xs
+Each-front P [] ys p = tt
+Each-front P (x ∷ xs) ys p = (p.0, Each-front P xs ys p.1)
+
+pub Each-back : (P : ℕ → Type 0) (xs ys : List ℕ) → Each P (xs ++ ys) → Each P ys
+Each-back P [] ys p = p
+Each-back P (x ∷ xs) ys p = Each-back P xs ys p.1
+
+-- order keeps the points
+module _ (P : ℕ → Type 0) (class : ℕ → ℕ) where
+  each_if : (t : Bool) (xs ys : List ℕ) → Each P xs → Each P ys → Each P (cond t xs ys)
+  each_if true xs ys p q = p
+  each_if false xs ys p q = q
+
+  Each-placed : (y : ℕ) (xs : List ℕ) → P y → Each P xs → Each P (placed class y xs)
+  Each-placed y [] p each = (p, tt)
+  Each-placed y (x ∷ xs) p each = each_if (list_all (greater class y) (x ∷ xs)) (y ∷ x ∷ xs) (x ∷ placed class y xs) (p, each) (each.0, Each-placed y xs p each.1)
+
+  Each-order_onto : (done rest : List ℕ) → Each P done → Each P rest → Each P (order_onto class done rest)
+  Each-order_onto done [] each left = each
+  Each-order_onto done (y ∷ rest) each left =
+      Each-order_onto (with_next class done y) rest (each_if (class y == 0) (done ++ y ∷ []) (placed class y done) (Each-append P done (y ∷ []) each (left.0, tt)) (Each-placed y done left.0 each)) left.1
+
+  pub Each-order : (xs : List ℕ) → Each P xs → Each P (order class xs)
+  Each-order xs each = Each-order_onto [] xs tt each
+
+-- ---- results
+
+pub ok_same : (xs ys : List ℕ) → ◌≡◌ {A = Result (List ℕ) Rule} (Ok xs) (Ok ys) → xs ≡ ys
+ok_same xs ys e = cc
+
+pub appended_ok : (a b : Result (List ℕ) Rule) (zs : List ℕ) → appended a b ≡ Ok zs → (xs : List ℕ) × (ys : List ℕ) × (a ≡ Ok xs) × (b ≡ Ok ys) × (xs ++ ys ≡ zs)
+appended_ok (Ok xs) (Ok ys) zs e = (xs, ys, refl, refl, ok_same (xs ++ ys) zs e)
+appended_ok (Ok xs) (Err rule) zs e = cc
+appended_ok (Err rule) b zs e = cc
+
+judged_if : (t : Bool) (points p : List ℕ) → cond t (Err V3) (Ok points) ≡ Ok p → points ≡ p
+judged_if true points p e = cc
+judged_if false points p e = ok_same points p e
+
+judged_some : (r : Option (List ℕ)) (p : List ℕ) → judged r ≡ Ok p → r ≡ Some p
+judged_some (Some points) p e = ap (λ zs. Some zs) (judged_if (nat_lt 64 (length points)) points p e)
+judged_some None p e = cc
+
+-- ---- lists
+
+pub expansions-append : (F : ℕ → Facts) (compat : Bool) (xs ys : List ℕ) → expansions F compat (xs ++ ys) ≡ appended (expansions F compat xs) (expansions F compat ys)
+expansions-append F compat [] ys = sym (nil-appended (expansions F compat ys))
+expansions-append F compat (x ∷ xs) ys = ap (appended (expansion F compat x)) (expansions-append F compat xs ys) ∙ sym (appended-assoc (expansion F compat x) (expansions F compat xs) (expansions F compat ys))
+
+pub expansions_unmapped : (F : ℕ → Facts) (compat : Bool) (xs : List ℕ) → Each (Unmapped F compat) xs → expansions F compat xs ≡ Ok xs
+expansions_unmapped F compat [] each = refl
+expansions_unmapped F compat (x ∷ xs) each = rw (expansion_alone F compat x each.0, expansions_unmapped F compat xs each.1) refl
+
+pub expansions_full : (F : ℕ → Facts) (compat : Bool) (s e : List ℕ) → expansions F compat s ≡ Ok e → Each (Unmapped F compat) e
+expansions_full F compat [] e is = subst (Each (Unmapped F compat)) (ok_same [] e is) tt
+expansions_full F compat (c ∷ s) e is =
+    let parts = appended_ok (expansion F compat c) (expansions F compat s) e is in
+    let here = recursion_from_All (Unmapped F compat) parts.0 (expansions_are_full F compat c parts.0 (judged_some (full F compat c) parts.0 parts.2)) in
+    subst (Each (Unmapped F compat)) parts.4 (Each-append (Unmapped F compat) parts.0 parts.1 here (expansions_full F compat s parts.1 parts.3))
+
+-- ---- a composite
+
+counts_canonical : (compat : Bool) (kind : Kind) → is_canonical kind ≡ true → counts compat kind ≡ true
+counts_canonical compat Plain e = cc
+counts_canonical compat Canonical e = refl
+counts_canonical compat (Compat tag) e = cc
+
+counted_pair : (F : ℕ → Facts) (compat : Bool) (s y q : ℕ) → Joins F s y q → counted F compat q ≡ s ∷ y ∷ []
+counted_pair F compat s y q joins = rw (counts_canonical compat (F q).kind joins.canonical) joins.mapping
+
+seven_full : (F : ℕ → Facts) (compat : Bool) (c : ℕ) (p e : List ℕ) → expand F compat 7 c ≡ Some p → full F compat c ≡ Some e → p ≡ e
+unfolding full
+seven_full F compat c p e seven eight = some_same p e (sym (more_levels_give_the_same F compat 7 8 c p (omega arith) seven) ∙ eight)
+
+pair_parts : (F : ℕ → Facts) (compat : Bool) (s y q : ℕ) (points : List ℕ) → counted F compat q ≡ s ∷ y ∷ [] → full F compat q ≡ Some points → both (expand F compat 7 s) (both (expand F compat 7 y) (Some [])) ≡ Some points
+unfolding full
+pair_parts F compat s y q points mapping e = sym (ap (λ m. alone_or_joined q m (expand F compat 7)) mapping) ∙ e
+
+-- the expansion of a composite is that of its first member, and the second member, where that is unmapped
+pub pair_expansion : (F : ℕ → Facts) (compat : Bool) (s y q : ℕ) (es : List ℕ) → Joins F s y q → Unmapped F compat y → expansion F compat s ≡ Ok es → HasExpansion F compat q → expansion F compat q ≡ Ok (es ++ y ∷ [])
+pair_expansion F compat s y q es joins alone first has =
+    let whole = pair_parts F compat s y q has.0 (counted_pair F compat s y q joins) (judged_some (full F compat q) has.0 has.1) in
+    let parts = both_some (expand F compat 7 s) (both (expand F compat 7 y) (Some [])) has.0 whole in
+    let more = both_some (expand F compat 7 y) (Some []) parts.1 parts.3 in
+    let front : parts.0 ≡ es = seven_full F compat s parts.0 es parts.2 (judged_some (full F compat s) es first) in
+    let second : more.0 ≡ y ∷ [] = seven_full F compat y more.0 (y ∷ []) more.2 (unmapped_is_alone F compat y alone) in
+    let end : more.1 ≡ [] = sym (some_same [] more.1 more.3) in
+    let back : parts.1 ≡ y ∷ [] = sym more.4 ∙ ap (λ zs. more.0 ++ zs) end ∙ append-nil more.0 ∙ second in
+    let both : has.0 ≡ es ++ y ∷ [] = sym parts.4 ∙ ap (λ zs. zs ++ parts.1) front ∙ ap (λ zs. es ++ zs) back in
+    has.1 ∙ ap (λ zs. Ok zs) both

@@ -1,0 +1,14 @@
+pub mod SoFar
+pub mod Puts
+pub mod StarterLemmas
+pub mod PairLemmas
+pub mod FormLemmas
+pub mod OrderLaws
+pub mod OrderLemmas
+pub mod OrderProofs
+pub mod CompositionLaws
+pub mod CompositionProofs
+pub mod FormLaws
+pub mod ExpandedLemmas
+pub mod StableLemmas
+pub mod FormProofs

@@ -1,0 +1,40 @@
+-- What the pair of two points is.
+--
+-- Joins F s y q    q has class 0 and a canonical mapping, s y, and is a code point
+use Rattle.std.proofs.Common.{◌≡◌, ℕ, ◌<◌, Bool, true, false, ◌&&◌, ◌==◌, [], ◌∷◌, Option, Some, None, refl, ap, ◌∙◌, sym, subst, arith}
+use Rattle.std.proofs.lemmas.Bool.Decides.{nat_tests}
+use Rattle.ucd_model.specs.Limits.{point_count}
+use Rattle.ucd_model.specs.Facts.{Facts}
+use Rattle.ucd_model.specs.Composites.{is_canonical, first_has_class_zero, pair_of}
+use Rattle.ucd_model.specs.CompositeLaws.{Composes, IsPair}
+use Rattle.ucd_model.specs.CompositeProofs.{pair_is_least}
+use Rattle.ucd_model.specs.CanonicalOrder.{class_of}
+
+pub record Joins (F : ℕ → Facts) (s y q : ℕ) : Type 0 where
+  pub point : q < point_count
+  pub class : class_of F q ≡ 0
+  pub first : class_of F s ≡ 0
+  pub canonical : is_canonical (F q).kind ≡ true
+  pub mapping : (F q).mapping ≡ s ∷ y ∷ []
+
+and_parts : (a b : Bool) → a && b ≡ true → (a ≡ true) × (b ≡ true)
+and_parts true b e = (refl, e)
+and_parts false b e = cc
+
+zero_if : (n : ℕ) → (n == 0) ≡ true → n ≡ 0
+zero_if n e = grind (arith, nat_tests)
+
+composes_joins : (F : ℕ → Facts) (s y q : ℕ) → Composes F s y q → Joins F s y q
+composes_joins F s y q composes =
+    let parts = and_parts (is_canonical (F q).kind) _ composes.primary in
+    let inner = and_parts ((F q).class == 0) _ parts.1 in
+    let last = and_parts (first_has_class_zero F (F q).mapping) _ inner.1 in
+    let first : first_has_class_zero F (s ∷ y ∷ []) ≡ true = ap (first_has_class_zero F) (sym composes.mapping) ∙ last.0 in
+    record { point = composes.point; class = zero_if _ inner.0; first = zero_if _ first; canonical = parts.0; mapping = composes.mapping }
+
+pair_least : (F : ℕ → Facts) (s y q : ℕ) (r : Option ℕ) → r ≡ Some q → IsPair F s y r → Composes F s y q
+pair_least F s y q None e is = cc
+pair_least F s y q (Some p) e is = let same : p ≡ q = cc in subst (λ (n : ℕ). Composes F s y n) same is.0
+
+pub pair_joins : (F : ℕ → Facts) (s y q : ℕ) → pair_of F s y ≡ Some q → Joins F s y q
+pair_joins F s y q e = composes_joins F s y q (pair_least F s y q (pair_of F s y) e (pair_is_least F s y))

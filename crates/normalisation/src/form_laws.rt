@@ -1,0 +1,45 @@
+//! The laws of the forms: each function here does nothing, and its contract is a law. UAX #15, section 1.2.
+
+ghost use Rattle.normalisation.specs.FormLaws.{NfdTwice, NfkdTwice, NfcTwice, NfkcTwice, NfdOfNfc, NfkdOfNfkc, NfcOfMembers, NfkcOfMembers};
+
+/// Normalisation Form D of its own result is that result.
+pub fn nfd_twice()
+    ensures { NfdTwice }
+{}
+
+/// Normalisation Form KD of its own result is that result.
+pub fn nfkd_twice()
+    ensures { NfkdTwice }
+{}
+
+/// Where every code point has a canonical expansion, Normalisation Form C of its own result is that result.
+pub fn nfc_twice()
+    ensures { NfcTwice }
+{}
+
+/// Where every code point has a compatibility expansion, Normalisation Form KC of its own result is that result.
+pub fn nfkc_twice()
+    ensures { NfkcTwice }
+{}
+
+/// Where every code point has a canonical expansion, Normalisation Form D is the same before and after composition.
+pub fn nfd_of_nfc()
+    ensures { NfdOfNfc }
+{}
+
+/// Where every code point has a compatibility expansion, Normalisation Form KD is the same before and after
+/// composition.
+pub fn nfkd_of_nfkc()
+    ensures { NfkdOfNfkc }
+{}
+
+/// Where every code point has a canonical expansion, Normalisation Form C of a member of its result is that member.
+pub fn nfc_of_members()
+    ensures { NfcOfMembers }
+{}
+
+/// Where every code point has a compatibility expansion, Normalisation Form KC of a member of its result is that
+/// member.
+pub fn nfkc_of_members()
+    ensures { NfkcOfMembers }
+{}

@@ -1,0 +1,15 @@
+//! Canonical order, composition, and the four normalisation forms. UAX #15; The Unicode Standard, section 3.11.
+#![tactic(auto)]
+
+mod canonical_order;
+mod composition;
+pub mod composition_laws;
+pub mod form_laws;
+mod forms;
+pub mod order_laws;
+#[cfg(test)]
+mod tests;
+
+pub use canonical_order::order;
+pub use composition::compose;
+pub use forms::{nfc, nfd, nfkc, nfkd};

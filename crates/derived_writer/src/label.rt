@@ -1,0 +1,79 @@
+//! What stands behind a span.
+
+ghost use Rattle.std.specs.Prelude.{◌≡◌, Some, None, OnOk};
+ghost use Rattle.ucd_model.specs.Labels.{same_label};
+ghost use Rattle.ucd_model.specs.DerivedFiles.{listed};
+ghost use Rattle.derived_writer.specs.Listings.{text_shown};
+
+use std::alloc::Global;
+use std::marker::Model;
+use ucd_model::{Memory, Text};
+
+/// The text behind a span, or none for the default value, which is not listed. The buffer is kept from one label to
+/// the next.
+#[derive(Drop)]
+pub struct LabelText {
+    is_listed: bool,
+    text: Text,
+}
+
+impl Model for LabelText {
+    ghost use Rattle.std.specs.Prelude.{Some, None, if◌then◌else◌};
+    ghost use Rattle.ucd_model.specs.Labels.{Label};
+
+    ghost Value = { Label };
+
+    ghost view = { λ l. if l.is_listed then Some l.text else None };
+}
+
+impl LabelText {
+    /// The label of the default value.
+    pub fn none(alloc: Global) -> LabelText
+        ensures { result ≡ None }
+    {
+        LabelText {
+            is_listed: false,
+            text: Text::new(alloc),
+        }
+    }
+
+    /// Makes it the label of the default value.
+    pub fn clear(&mut self)
+        ensures { self.new ≡ None }
+    {
+        self.is_listed = false;
+    }
+
+    /// Makes it the label of a value: ` ; VALUE`.
+    pub fn list(&mut self, value: &[u8]) -> Result<(), Memory>
+        ensures { OnOk result (self.new ≡ listed value.now) }
+    {
+        self.text.truncate(0);
+        self.text.append(b" ; ")?;
+        self.text.append(value)?;
+        self.is_listed = true;
+        Ok(())
+    }
+
+    /// Whether the two are one label.
+    pub fn is_same(&self, other: &LabelText) -> bool
+        ensures { result ≡ same_label self.now other.now }
+    {
+        match (self.text(), other.text()) {
+            (Some(text), Some(other)) => text == other,
+            (None, None) => true,
+            _ => false,
+        }
+    }
+
+    /// The text; `None` for the default value.
+    pub fn text(&self) -> Option<&[u8]>
+        ensures { text_shown result ≡ self.now }
+    {
+        if self.is_listed {
+            Some(self.text.as_slice())
+        } else {
+            None
+        }
+    }
+}

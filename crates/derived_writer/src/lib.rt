@@ -1,0 +1,15 @@
+//! The text of the derived files, over the records of the code points. UAX #44, section 5.3.
+#![tactic(auto)]
+
+mod file;
+mod label;
+pub mod laws;
+mod listing;
+mod names;
+mod pieces;
+mod run;
+mod section;
+#[cfg(test)]
+mod tests;
+
+pub use file::file_text;

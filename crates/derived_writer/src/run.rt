@@ -1,0 +1,107 @@
+//! A run of code points with one label, and its line.
+
+ghost use Rattle.std.specs.Prelude.{◌≡◌, ◌≤◌, ◌<◌, ◌+◌, ℕ, List, ◌++◌, None, IsSome, OnOk, IfOk};
+ghost use Rattle.ucd_model.specs.Labels.{Label, same_label};
+ghost use Rattle.ucd_model.specs.LabelLemmas.{labelled_before};
+ghost use Rattle.ucd_model.specs.DerivedText.{span_text};
+ghost use Rattle.derived_writer.specs.Runs.{lines_before, run_line, run_length, IsOpen, IsStretch};
+
+use crate::label::LabelText;
+use std::alloc::Global;
+use std::mem;
+use ucd_lines::put_hex;
+use ucd_model::{Memory, Point, Text};
+
+/// The run of one label that ends where a section has come to: the numbers from `first` to before `end`.
+#[derive(Drop)]
+pub struct Run {
+    first: u32,
+    end: u32,
+    label: LabelText,
+}
+
+impl Run {
+    /// The empty run before the first code point.
+    pub fn start(alloc: Global) -> Run
+        ensures { result ≡ record { first = 0; end = 0; label = None } }
+    {
+        Run {
+            first: 0,
+            end: 0,
+            label: LabelText::none(alloc),
+        }
+    }
+
+    /// Goes on to `end`, with the label of what is there. Where that is another label, the line of the run so far is
+    /// put, and a new run begins. The answer is how many code points the line lists.
+    pub fn go_on(&mut self, label: &mut LabelText, end: u32, text: &mut Text) -> Result<u32, Memory>
+        requires inside { self.old.end ≤ 1114112 }
+        requires some { IsSome self.old.label → self.old.first < self.old.end }
+        requires ordered { self.old.first ≤ self.old.end }
+        ensures end { OnOk result (self.new.end ≡ end) }
+        ensures few { IfOk result (λ count. count + self.old.first ≤ self.new.first) }
+        ensures begins { OnOk result (self.new.first ≤ self.old.end) }
+        ensures opens { OnOk result ((n : ℕ) (f : ℕ → Label) → IsOpen n f self.old.first self.old.end self.old.label → IsStretch n f self.old.end end label.old → IsOpen n f self.new.first self.new.end self.new.label) }
+        ensures lines { OnOk result ((n : ℕ) (f : ℕ → Label) → IsOpen n f self.old.first self.old.end self.old.label → IsStretch n f self.old.end end label.old → (front : List ℕ) → text.old ≡ front ++ lines_before n f self.old.first → text.new ≡ front ++ lines_before n f self.new.first) }
+        ensures total { IfOk result (λ count. (n : ℕ) (f : ℕ → Label) → IsOpen n f self.old.first self.old.end self.old.label → IsStretch n f self.old.end end label.old → labelled_before f self.new.first ≡ labelled_before f self.old.first + count) }
+    {
+        if self.label.is_same(label) {
+            self.end = end;
+            return Ok(0);
+        }
+        let count = self.put(text)?;
+        self.restart(label, end);
+        Ok(count)
+    }
+
+    /// Begins a new run where this one ends. Its label is taken over, and the old one is left in its place.
+    fn restart(&mut self, label: &mut LabelText, end: u32)
+        ensures { self.new ≡ record { first = self.old.end; end = end; label = label.old } }
+    {
+        self.first = self.end;
+        self.end = end;
+        mem::swap(&mut self.label, label);
+    }
+
+    /// Puts the line of the run, if it has a label, and answers how many code points the line lists.
+    pub fn put(&self, text: &mut Text) -> Result<u32, Memory>
+        requires inside { self.now.end ≤ 1114112 }
+        requires some { IsSome self.now.label → self.now.first < self.now.end }
+        ensures line { OnOk result (text.new ≡ text.old ++ run_line self.now.first self.now.end self.now.label) }
+        ensures length { IfOk result (λ count. count ≡ run_length self.now.first self.now.end self.now.label) }
+    {
+        match self.label.text() {
+            None => Ok(0),
+            Some(label) => {
+                put_span(point(self.first), point(self.end - 1), text)?;
+                text.append(label)?;
+                text.append(b"\n")?;
+                Ok(self.end - self.first)
+            }
+        }
+    }
+}
+
+/// Puts one code point, or two joined by `..`.
+#[tactic(auto, unfolding(ucd_model::specs::DerivedText::span_text))]
+fn put_span(first: Point, last: Point, text: &mut Text) -> Result<(), Memory>
+    ensures { OnOk result (text.new ≡ text.old ++ span_text (record { lo = first; hi = last })) }
+{
+    put_hex(first, text)?;
+    if first == last {
+        return Ok(());
+    }
+    text.append(b"..")?;
+    put_hex(last, text)
+}
+
+/// The code point of a number.
+pub fn point(number: u32) -> Point
+    requires { number < 1114112 }
+    ensures { result ≡ number }
+{
+    match Point::new(number) {
+        Some(point) => point,
+        None => unreachable!(),
+    }
+}

@@ -1,0 +1,70 @@
+//! The text of a section.
+
+ghost use Rattle.std.specs.Prelude.{◌≡◌, ◌++◌, OnOk, IfOk, codes};
+ghost use Rattle.std.specs.List.{flat_map};
+ghost use Rattle.std.specs.Fmt.{decimal};
+ghost use Rattle.ucd_model.specs.Limits.{point_count};
+ghost use Rattle.ucd_model.specs.Labels.{label_spans, labelled};
+ghost use Rattle.ucd_model.specs.DerivedText.{section_text, span_line, line_end};
+ghost use Rattle.ucd_model.specs.DerivedFiles.{section_of};
+ghost use Rattle.derived_writer.specs.Cuts.{IsCut};
+ghost use Rattle.derived_writer.specs.Listings.{listing_section, listing_labels};
+
+use crate::label::LabelText;
+use crate::listing::Listing;
+use crate::run::Run;
+use std::alloc::Global;
+use ucd_model::{Memory, Records, Span, Text};
+
+/// Puts a section at the end of a text: `# NAME`, a line for each maximal span of one value, `# total N` with the
+/// number of code points listed, and an empty line.
+#[tactic(auto, unfolding(ucd_model::specs::DerivedText::section_text))]
+pub fn put_section<B: Records>(
+    alloc: Global,
+    bench: &B,
+    pieces: &[Span],
+    listing: Listing,
+    text: &mut Text,
+) -> Result<(), Memory>
+    requires { IsCut (B.record_of bench.now) 0 point_count pieces.now }
+    ensures { OnOk result (text.new ≡ text.old ++ section_of point_count (B.record_of bench.now) (listing_section listing)) }
+{
+    text.append(b"# ")?;
+    text.append(listing.name())?;
+    text.append(b"\n")?;
+    let total = put_spans(alloc, bench, pieces, listing, text)?;
+    put_total(alloc, text, total)
+}
+
+/// Puts a line for each maximal span of one value, and answers how many code points are listed.
+fn put_spans<B: Records>(
+    alloc: Global,
+    bench: &B,
+    pieces: &[Span],
+    listing: Listing,
+    text: &mut Text,
+) -> Result<u32, Memory>
+    requires { IsCut (B.record_of bench.now) 0 point_count pieces.now }
+    ensures lines { OnOk result (text.new ≡ text.old ++ flat_map span_line (label_spans point_count (listing_labels listing (B.record_of bench.now)))) }
+    ensures total { IfOk result (λ total. total ≡ labelled point_count (listing_labels listing (B.record_of bench.now))) }
+{
+    let mut run = Run::start(alloc);
+    let mut label = LabelText::none(alloc);
+    let mut total = 0;
+    'pieces: for piece in pieces {
+        listing.set_label(alloc, bench.record(piece.lo), &mut label)?;
+        total += run.go_on(&mut label, piece.last() + 1, text)?;
+    }
+    total += run.put(text)?;
+    Ok(total)
+}
+
+/// Puts `# total N` and an empty line.
+fn put_total(alloc: Global, text: &mut Text, total: u32) -> Result<(), Memory>
+    ensures { OnOk result (text.new ≡ text.old ++ codes "# total " ++ decimal total ++ line_end ++ line_end) }
+{
+    let digits = total.to_string(alloc)?;
+    text.append(b"# total ")?;
+    text.append(digits.as_bytes())?;
+    text.append(b"\n\n")
+}

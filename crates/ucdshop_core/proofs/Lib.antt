@@ -1,6 +1,7 @@
-pub mod SweepLemmas
-pub mod SectionLemmas
-pub mod FactsLemmas
+mod RecordSteps
+mod CoreSteps
+mod PointRecords
+mod PlanLemmas
 pub mod WritingLemmas
 pub mod JudgingLemmas
 pub mod RunLemmas

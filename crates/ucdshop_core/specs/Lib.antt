@@ -1,6 +1,5 @@
-pub mod Sweep
-pub mod Section
-pub mod PointFacts
+pub mod RecordLists
+pub mod CoreSets
 pub mod Printed
 pub mod Run
 pub mod Outcome

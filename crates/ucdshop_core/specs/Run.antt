@@ -5,6 +5,7 @@
 -- verdict folder holds   the rows of a release's files, or the line that refuses the first file, in order, that is
 --                        absent, too long or not in the grammar
 -- job_verdict job holds  the verdict on the files that the job reads
+-- derived_file folder rows file   a derived file of these rows: its path below the folder, with its bytes
 -- outputs job rows       the files that are written, in order: each path with its bytes
 -- expected words holds   NoForm; Refuses line; or Writes files
 -- after files holds      the contents with these files replaced, one after the other
@@ -14,10 +15,11 @@ use Rattle.std.specs.Str.{bytes_eq}
 use Rattle.ucd_model.specs.Limits.{point_count, file_limit}
 use Rattle.ucd_model.specs.Names.{source_path, derived_path}
 use Rattle.ucd_model.specs.Facts.{Sources, facts}
-use Rattle.ucd_model.specs.DerivedText.{core_text}
+use Rattle.ucd_model.specs.DerivedFiles.{derived_files, derived_text}
+use Rattle.ucd_model.specs.Records.{record_at}
 use Rattle.ucd_model.specs.declared.files.SourceFile.{SourceFile}
 use Rattle.ucd_model.specs.declared.files.SourceFile.TheVariants.{UnicodeData, PropList, Scripts, WordBreakProperty, CompositionExclusions, CaseFolding, SpecialCasing, PropertyAliases, PropertyValueAliases}
-use Rattle.ucd_model.specs.declared.files.DerivedFile.TheVariants.{CoreProperties}
+use Rattle.ucd_model.specs.declared.files.DerivedFile.{DerivedFile}
 use Rattle.ucd_model.specs.declared.row.Row.{Row}
 use Rattle.release_rows.specs.FileItems.{FileItem, rows_in}
 use Rattle.release_rows.specs.Loading.{LoadFault, load_or_fault}
@@ -97,16 +99,23 @@ job_verdict (Derive input output) holds = verdict input holds
 
 -- ---- what is written
 
+abbrev pub derived_in : List ℕ → DerivedFile → List ℕ
+derived_in folder file = path_in folder (derived_path file)
+
 pub record NewFile : Type 0 where
   pub path : List ℕ
   pub bytes : List ℕ
 
+-- a derived file below a folder
+abbrev pub derived_file : List ℕ → Sources → DerivedFile → NewFile
+derived_file folder rows file = record { path = derived_in folder file; bytes = derived_text point_count file (record_at (facts rows)) }
+
 abbrev pub outputs : Job → Sources → List NewFile
-outputs (Derive input output) rows = (record { path = path_in output (derived_path CoreProperties); bytes = core_text point_count (facts rows) }) ∷ []
+outputs (Derive input output) rows = map (derived_file output rows) derived_files
 
 -- the paths of the outputs, which the words alone give
 abbrev pub output_paths : Job → List (List ℕ)
-output_paths (Derive input output) = path_in output (derived_path CoreProperties) ∷ []
+output_paths (Derive input output) = map (derived_in output) derived_files
 
 pub data Expected : Type 0 where
   NoForm : Expected

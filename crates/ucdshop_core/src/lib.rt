@@ -2,14 +2,16 @@
 #![tactic(auto)]
 
 mod command;
-mod core_properties;
+mod core_set;
+mod derived_path;
 mod judging;
 mod planning;
-mod point_table;
+mod predicates;
 mod printed;
 mod program;
 mod reading;
-mod section;
+mod record_list;
+mod record_table;
 mod source_path;
 mod status;
 mod stop;

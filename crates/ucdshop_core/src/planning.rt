@@ -1,30 +1,35 @@
 //! All that a run does before it writes.
 
-ghost use Rattle.std.specs.Prelude.{◌≡◌, ◌<◌, ◌≤◌, IsTrue, IfOk, length, map, ℕ, List, [], ◌∷◌};
+ghost use Rattle.std.specs.Prelude.{◌≡◌, ◌<◌, ◌≤◌, IsTrue, IfOk, length, map, ℕ, List};
 ghost use Rattle.shelf_io.specs.Contents.{SameContents};
 ghost use Rattle.ucdshop_core.specs.Commands.{job_of};
 ghost use Rattle.ucdshop_core.specs.Judging.{release_rows};
 ghost use Rattle.ucdshop_core.specs.Planning.{HasPlan, LoadedAs, OnRefused, OnUnread, NamesUnread};
 ghost use Rattle.ucdshop_core.specs.Reading.{cut, text_at};
-ghost use Rattle.ucdshop_core.specs.Printed.{read_failed};
+ghost use Rattle.ucdshop_core.specs.Printed.{read_failed, write_failed};
 ghost use Rattle.shelf_io.specs.Counts.{Rose};
-ghost use Rattle.ucd_model.specs.Facts.{Sources};
-ghost use Rattle.ucdshop_core.specs.Run.{Derive, job_verdict, verdict, needed, outputs, sources_in};
-ghost use Rattle.ucd_model.specs.Names.{source_path, derived_path};
-ghost use Rattle.ucd_model.specs.declared.files.SourceFile.TheVariants.{UnicodeData, PropList};
+ghost use Rattle.ucd_model.specs.Facts.{Sources, facts};
+ghost use Rattle.ucd_model.specs.Records.{record_at};
+ghost use Rattle.ucdshop_core.specs.RecordLists.{SameRecords, record_of};
+ghost use Rattle.ucdshop_core.specs.Writing.{file_of};
+ghost use Rattle.ucdshop_core.specs.Run.{Derive, job_verdict, verdict, needed, derived_file, sources_in};
 
 use crate::command::Command;
-use crate::core_properties::core_properties;
+use crate::derived_path::{DERIVED_FILES, derived_path};
 use crate::judging::judge;
 use crate::printed::{RunCounts, read_failed, summary, write_failed};
 use crate::reading::{ReadingStop, read_all};
+use crate::record_table::RecordTable;
 use crate::source_path::{path_in, source_paths};
 use crate::stop::Stop;
 use crate::writing::Output;
+use code_facts::FactTables;
+use derived_writer::file_text;
+use range_table::RunTable;
 use release_rows::Release;
 use shelf_io::Shelf;
 use std::alloc::Global;
-use ucd_model::{Memory, Text, Texts};
+use ucd_model::{DerivedFile, Memory, Text, Texts};
 
 /// What is left to be done: the files to be written, and the summary to be told.
 #[derive(Drop)]
@@ -34,20 +39,48 @@ pub struct Plan {
 }
 
 /// The files that `derive` writes, and its summary.
-fn derive_plan(alloc: Global, output: &[u8], release: &Release) -> Result<Plan, Memory>
-    ensures { IfOk result (λ plan. (input : List ℕ) → HasPlan (Derive input output.now) (release_rows release.now) plan) }
+fn derive_plan(alloc: Global, folder: &[u8], release: &Release) -> Result<Plan, Memory>
+    ensures { IfOk result (λ plan. (input : List ℕ) → HasPlan (Derive input folder.now) (release_rows release.now) plan) }
 {
-    let path = path_in(alloc, output, b"DerivedCoreProperties.txt")?;
-    let fault_line = write_failed(alloc, path.as_slice())?;
-    let bytes = core_properties(alloc, release)?;
-    let summary = summary(alloc, NO_COUNTS)?;
+    let records = records_of(alloc, release)?;
     let mut outputs = Vec::new(alloc);
-    outputs.push(Output {
+    'files: for file in &DERIVED_FILES {
+        outputs.push(derived_output(alloc, folder, *file, release, &records)?)?;
+    }
+    let summary = summary(alloc, NO_COUNTS)?;
+    Ok(Plan { outputs, summary })
+}
+
+/// The records of a release.
+fn records_of(alloc: Global, release: &Release) -> Result<RecordTable, Memory>
+    ensures { IfOk result (λ records. SameRecords (record_of records) (record_at (facts (release_rows release.now)))) }
+{
+    let tables = FactTables::<RunTable<u64>>::of(alloc, release)?;
+    let records = RecordTable::of(alloc, &tables)?;
+    Ok(records)
+}
+
+/// A derived file below a folder.
+#[tactic(auto, using(crate::proofs::PlanLemmas::same_text))]
+fn derived_output(
+    alloc: Global,
+    folder: &[u8],
+    file: DerivedFile,
+    release: &Release,
+    records: &RecordTable,
+) -> Result<Output, Memory>
+    requires { SameRecords (record_of records.now) (record_at (facts (release_rows release.now))) }
+    ensures file { IfOk result (λ output. file_of output ≡ derived_file folder.now (release_rows release.now) file) }
+    ensures line { IfOk result (λ output. output.fault_line ≡ write_failed output.path) }
+{
+    let path = path_in(alloc, folder, derived_path(file))?;
+    let fault_line = write_failed(alloc, path.as_slice())?;
+    let bytes = file_text(alloc, records, file)?;
+    Ok(Output {
         path,
         bytes,
         fault_line,
-    })?;
-    Ok(Plan { outputs, summary })
+    })
 }
 
 /// The counts of a run without a script and without an earlier release.

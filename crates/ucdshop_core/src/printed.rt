@@ -4,7 +4,6 @@ ghost use Rattle.std.specs.Prelude.{◌≡◌, ◌++◌, IfOk, OnOk, codes};
 ghost use Rattle.ucdshop_core.specs.Printed.{Counts, line_end, refused, read_failed, write_failed, row_rule_code, rule_code, summary};
 ghost use Rattle.std.specs.Fmt.{decimal};
 
-use crate::section::put_decimal;
 use release_rows::LoadRule;
 use source_rows::RowFault;
 use std::alloc::Global;
@@ -118,4 +117,12 @@ fn row_rule_code(fault: RowFault) -> &'static [u8]
         RowFault::G10 => b"G10",
         RowFault::G11 => b"G11",
     }
+}
+
+/// Puts a number in decimal digits.
+fn put_decimal(alloc: Global, text: &mut Text, number: usize) -> Result<(), Memory>
+    ensures { OnOk result (text.new ≡ text.old ++ decimal number) }
+{
+    let digits = number.to_string(alloc)?;
+    text.append(digits.as_bytes())
 }

@@ -1,0 +1,127 @@
+//! The records of the first code points, one after the other.
+
+ghost use Rattle.std.specs.Prelude.{◌≡◌, ◌+◌, ◌<◌, ◌≤◌, ◌^◌, ℕ, true, OnOk, OnErr, IfOk};
+ghost use Rattle.ucdshop_core.specs.RecordLists.{kept_record, count_of, record_of, Keeps, SameFacts, SameChecks, SameFold};
+
+use std::alloc::Global;
+use std::marker::Model;
+use ucd_model::{Image, Memory, Record};
+
+/// The records of the first code points. A record that equals the one before it is kept once.
+/// Contracts see how many points have a record, and the record of each.
+#[derive(Drop)]
+pub struct RecordList {
+    places: Vec<usize>,
+    records: Vec<Record>,
+}
+
+impl Model for RecordList {
+    ghost use Rattle.ucdshop_core.specs.RecordLists.{RecordsOf, HavePlaces};
+
+    ghost Value = { RecordsOf };
+
+    ghost view = { λ l. record { places = l.places.items; kept = l.records.items } };
+
+    ghost invariant = { λ l. HavePlaces l.places.items l.records.items };
+}
+
+impl RecordList {
+    /// No records yet, with room for the places of so many points.
+    pub fn with_room(alloc: Global, count: usize) -> Result<RecordList, Memory>
+        ensures { IfOk result (λ list. count_of list ≡ 0) }
+    {
+        Ok(RecordList {
+            places: Vec::with_capacity(alloc, count)?,
+            records: Vec::new(alloc),
+        })
+    }
+
+    /// Gives the next points, so many, their record.
+    #[tactic(auto, using(crate::proofs::RecordSteps::still_places, crate::proofs::RecordSteps::more_places, crate::proofs::RecordSteps::added_record, crate::proofs::RecordSteps::other_records))]
+    pub fn push_run(&mut self, added: Record, times: usize) -> Result<(), Memory>
+        requires { count_of self.old + times < 2 ^ 32 }
+        ensures count { OnOk result (count_of self.new ≡ count_of self.old + times) }
+        ensures added { OnOk result ((c : ℕ) → count_of self.old ≤ c → c < count_of self.old + times → record_of self.new c ≡ kept_record added) }
+        ensures others { OnOk result ((c : ℕ) → c < count_of self.old → record_of self.new c ≡ record_of self.old c) }
+    {
+        let place = keep(&mut self.records, added)?;
+        self.places.resize(self.places.len() + times, place)?;
+        Ok(())
+    }
+
+    /// The record of a point.
+    pub fn record(&self, at: usize) -> &Record
+        requires { at < count_of self.now }
+        ensures { kept_record result.now ≡ record_of self.now at }
+    {
+        &self.records[self.places[at]]
+    }
+}
+
+/// Keeps a record, where it is not the last one already, and answers its place.
+fn keep(records: &mut Vec<Record>, added: Record) -> Result<usize, Memory>
+    ensures ok { IfOk result (λ place. Keeps records.old.items records.new.items place added) }
+    ensures err { OnErr result (records.new.items ≡ records.old.items) }
+{
+    let count = records.len();
+    if let Some(last) = records.last()
+        && is_same(last, &added)
+    {
+        return Ok(count - 1);
+    }
+    records.push(added)?;
+    Ok(count)
+}
+
+/// Whether two records are known to be the same.
+#[tactic(auto, using(crate::proofs::RecordSteps::same_records))]
+fn is_same(a: &Record, b: &Record) -> bool
+    ensures { result ≡ true → kept_record a.now ≡ kept_record b.now }
+{
+    is_same_facts(a, b) && is_same_checks(a, b) && is_same_fold(a, b)
+}
+
+/// Whether two records have the same values that follow from the facts of one code point.
+fn is_same_facts(a: &Record, b: &Record) -> bool
+    ensures { result ≡ true → SameFacts a.now b.now }
+{
+    if a.category != b.category {
+        return false;
+    }
+    if a.class != b.class {
+        return false;
+    }
+    if a.kind != b.kind {
+        return false;
+    }
+    a.core == b.core
+}
+
+/// Whether two records have the same exclusion and quick checks.
+fn is_same_checks(a: &Record, b: &Record) -> bool
+    ensures { result ≡ true → SameChecks a.now b.now }
+{
+    if a.exclusion != b.exclusion {
+        return false;
+    }
+    if a.nfd != b.nfd {
+        return false;
+    }
+    if a.nfc != b.nfc {
+        return false;
+    }
+    if a.nfkd != b.nfkd {
+        return false;
+    }
+    a.nfkc == b.nfkc
+}
+
+/// Whether two records fold to the point itself alike.
+fn is_same_fold(a: &Record, b: &Record) -> bool
+    ensures { result ≡ true → SameFold a.now b.now }
+{
+    match (&a.casefold, &b.casefold) {
+        (Image::Same, Image::Same) => a.changes_casefold == b.changes_casefold,
+        _ => false,
+    }
+}

@@ -8,3 +8,4 @@ pub mod FactLemmas
 pub mod IndexLemmas
 pub mod PairLemmas
 mod AlikeLemmas
+mod PlainLemmas

@@ -11,3 +11,4 @@ pub mod Index
 pub mod FactTables
 pub mod NowView
 pub mod Alike
+pub mod Plain

@@ -19,6 +19,7 @@ mod mark;
 mod marks;
 mod painting;
 mod place;
+mod plain;
 mod point_lists;
 mod points;
 mod rows;

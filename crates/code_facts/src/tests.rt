@@ -153,3 +153,38 @@ fn pairs_to(tables: &Tables, s: u32, y: u32, composite: u32) -> Result<bool, Fai
     let shown = tables.now().pair(point(s)?, point(y)?);
     Ok(found == shown && found == Some(point(composite)?))
 }
+
+/// Stretches end before the next mapping, whichever file gives it. A folding to the code point itself is none.
+#[test]
+fn stretches_without_mappings(rt: HostRuntime) -> Result<(), Fail> {
+    let tables = tables(
+        rt.alloc(),
+        b"0041;LATIN CAPITAL LETTER A;Lu;0;L;;;;;N;;;;0061;\n0061;LATIN SMALL LETTER A;Ll;0;L;;;;;N;;;0041;;0041\n00AA;FEMININE ORDINAL INDICATOR;Lo;0;L;<super> 0061;;;;N;;;;;\n",
+        b"",
+        b"00DF; F; 0073 0073;\n0148; C; 0148;\n",
+        b"FB00; FB00; 0046 0066; 0046 0046;\n",
+    )?;
+    for (first, last) in [
+        (0, Some(0x40)),
+        (0x41, None),
+        (0x60, Some(0x60)),
+        (0x62, Some(0xA9)),
+        (0xAA, None),
+        (0xAB, Some(0xDE)),
+        (0xDF, None),
+        (0xE0, Some(0x147)),
+        (0x148, Some(0x148)),
+        (0x149, Some(0xFAFF)),
+        (0xFB00, None),
+        (0xFB01, Some(0x10FFFF)),
+    ] {
+        assert!(rt; is_plain_to(&tables, first, last)?);
+    }
+    Ok(())
+}
+
+/// Whether the stretch of a code point ends so.
+fn is_plain_to(tables: &Tables, first: u32, last: Option<u32>) -> Result<bool, Fail> {
+    let found = tables.last_plain(point(first)?).map(|c| c.number());
+    Ok(found == last)
+}

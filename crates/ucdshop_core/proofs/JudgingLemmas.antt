@@ -17,7 +17,7 @@ use Rattle.ucdshop_core.specs.Planning.{LoadedAs, NamesUnread}
 use Rattle.ucdshop_core.specs.Printed.{read_failed}
 use Rattle.std.proofs.lemmas.Option.{slice_get-get_or}
 use Rattle.ucdshop_core.specs.Reading.{cut, text_at}
-use Rattle.ucdshop_core.specs.Run.{Contents, file_rows, told_rows, first_refusal, or_refusal, refused_or, rows_or_none, source_files, source_in, sources_in, verdict_by, verdict}
+use Rattle.ucdshop_core.specs.Run.{Contents, file_rows, told_rows, first_refusal, or_refusal, refused_or, rows_or_none, source_files, source_in, sources_in, verdict_by, files_verdict}
 use Rattle.ucdshop_core.specs.declared.stop.Stop.{Stop}
 use Rattle.ucdshop_core.specs.declared.stop.Stop.TheVariants.{Refused, ReadFailed, Memory}
 
@@ -45,7 +45,7 @@ read_at folder holds PropertyAliases = refl
 read_at folder holds PropertyValueAliases = refl
 
 -- the verdict on what was read is the verdict on what is held
-pub verdict_cut : (folder : List ℕ) (holds : Contents) → verdict_by (verdict_at (sources_in folder) (map (λ path. cut (holds path)) (sources_in folder))) ≡ verdict folder holds
+pub verdict_cut : (folder : List ℕ) (holds : Contents) → verdict_by (verdict_at (sources_in folder) (map (λ path. cut (holds path)) (sources_in folder))) ≡ files_verdict folder holds
 verdict_cut folder holds = ap verdict_by (fun_ext (λ file. read_at folder holds file ∙ cut_same (source_in folder file) file (holds (source_in folder file))))
 
 -- ---- file by file

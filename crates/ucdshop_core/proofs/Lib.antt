@@ -1,3 +1,5 @@
+mod CheckLemmas
+mod ValidLemmas
 mod RecordSteps
 mod CoreSteps
 mod PointRecords

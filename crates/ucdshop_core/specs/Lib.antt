@@ -9,3 +9,4 @@ pub mod Reading
 pub mod Judging
 pub mod Writing
 pub mod Planning
+pub mod Checks

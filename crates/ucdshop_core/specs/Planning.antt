@@ -1,16 +1,21 @@
 -- All that a run does before it writes.
 --
 -- LoadedAs view result expected  a result, seen by view, is what was expected; a failed read and want of memory say nothing
+-- loaded_rows loaded           the rows of a release that was loaded
+-- ChecksAs result expected     the line that refuses is the expected one, and there is a value where none is expected; want of
+--                              memory says nothing
 -- OnRefused result P           P of the line, where a file was refused
 -- OnUnread result P            P of the line, where a file could not be read
 -- NamesUnread paths tells failed line  the line names one of the paths, and the last failed one where that is told
 -- HasPlan job rows plan        the plan writes the outputs of the job on these rows, each with the line that names its
 --                              path, and tells the summary
-use Rattle.std.specs.Prelude.{◌≡◌, ◌≤◌, ℕ, List, length, map, IsTrue, Bool, Option, Some, Result, Ok, Err, ⊤, slice_get}
+use Rattle.std.specs.Prelude.{◌≡◌, ◌≤◌, ℕ, List, length, map, IsTrue, Bool, Option, Some, None, Result, Ok, Err, ⊤, slice_get}
 use Rattle.ucd_model.specs.Facts.{Sources}
 use Rattle.ucdshop_core.specs.Printed.{read_failed, write_failed, summary, no_counts}
 use Rattle.ucdshop_core.specs.Run.{Contents, Job, NewFile, outputs}
 use Rattle.ucdshop_core.specs.Writing.{files_of}
+use Rattle.ucdshop_core.specs.Judging.{release_rows}
+use Rattle.ucdshop_core.specs.declared.planning.Loaded.{Loaded}
 use Rattle.ucdshop_core.specs.declared.planning.Plan.{Plan}
 use Rattle.ucdshop_core.specs.declared.stop.Stop.{Stop}
 use Rattle.ucdshop_core.specs.declared.stop.Stop.TheVariants.{Refused, ReadFailed, Memory}
@@ -30,6 +35,15 @@ LoadedAs view (Ok rows) expected = expected ≡ Ok (view rows)
 LoadedAs view (Err (Refused line)) expected = expected ≡ Err line
 LoadedAs view (Err (ReadFailed line)) expected = ⊤
 LoadedAs view (Err Memory) expected = ⊤
+
+abbrev pub loaded_rows : Loaded → Sources
+loaded_rows loaded = release_rows loaded.release
+
+abbrev pub ChecksAs : {A : Type 0} → Result A Stop → Option (List ℕ) → Type 0
+ChecksAs (Ok _) expected = expected ≡ None
+ChecksAs (Err (Refused line)) expected = expected ≡ Some line
+ChecksAs (Err (ReadFailed line)) expected = ⊥
+ChecksAs (Err Memory) expected = ⊤
 
 abbrev pub OnRefused : {A : Type 0} → Result A Stop → (List ℕ → Type 0) → Type 0
 OnRefused (Ok _) P = ⊤

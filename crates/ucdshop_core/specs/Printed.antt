@@ -6,9 +6,14 @@
 -- write_failed path         a file could not be written
 -- out_of_memory             memory was wanted, and there was none
 -- summary counts            how many groups were accepted, commands refused and sets answered, and policies broken
+-- refused_point folder b    a code point of the release in a folder breaks a rule; bad_code: the rule's code
 -- rule_code rule            the code of a rule that a file breaks; row_rule_code, of one that a line breaks by itself
 use Rattle.std.specs.Prelude.{ℕ, List, [], ◌∷◌, ◌++◌, codes}
 use Rattle.std.specs.Fmt.{decimal}
+use Rattle.ucd_model.specs.DerivedText.{hex_text}
+use Rattle.ucd_model.specs.declared.form.Bad.{Bad}
+use Rattle.ucd_model.specs.declared.form.Bad.TheVariants.{V1, V2, V3, V4, V5}
+use Rattle.ucd_model.specs.declared.form.Broken.{Broken}
 use Rattle.release_rows.specs.declared.load_stop.LoadRule.{LoadRule}
 use Rattle.release_rows.specs.declared.load_stop.LoadRule.TheVariants.{G02, Row, K1, K4, K5}
 use Rattle.source_rows.specs.declared.fault.RowFault.{RowFault}
@@ -55,6 +60,17 @@ row_rule_code G08 = codes "G08"
 row_rule_code G09 = codes "G09"
 row_rule_code G10 = codes "G10"
 row_rule_code G11 = codes "G11"
+
+abbrev pub bad_code : Bad → List ℕ
+bad_code V1 = codes "V1"
+bad_code V2 = codes "V2"
+bad_code V3 = codes "V3"
+bad_code V4 = codes "V4"
+bad_code V5 = codes "V5"
+
+-- a code point that breaks a rule of a valid release
+abbrev pub refused_point : List ℕ → Broken → List ℕ
+refused_point folder broken = codes "refused: " ++ folder ++ codes " point " ++ hex_text broken.point ++ codes " " ++ bad_code broken.rule ++ line_end
 
 abbrev pub rule_code : LoadRule → List ℕ
 rule_code G02 = codes "G02"

@@ -2,8 +2,11 @@
 --
 -- form words             what the words ask for; None where they have no listed form
 -- needed job             the paths that are read, in order
--- verdict folder holds   the rows of a release's files, or the line that refuses the first file, in order, that is
+-- files_verdict folder holds   the rows of a release's files, or the line that refuses the first file, in order, that is
 --                        absent, too long or not in the grammar
+-- broken_line folder F   the line that refuses the least code point that breaks a rule, where F gives the facts
+-- point_refusal folder rows   the line that refuses the least code point that breaks a rule of a valid release, by its first rule
+-- verdict folder holds   the rows of a release whose files load and whose code points are valid, or the line that refuses it
 -- job_verdict job holds  the verdict on the files that the job reads
 -- derived_file folder rows file   a derived file of these rows: its path below the folder, with its bytes
 -- outputs job rows       the files that are written, in order: each path with its bytes
@@ -12,18 +15,20 @@
 -- Replaced files old new the new contents are the old ones with these files replaced
 use Rattle.std.specs.Prelude.{◌≡◌, ℕ, Bool, List, [], ◌∷◌, ◌++◌, map, length, Option, Some, None, Result, Ok, Err, if◌then◌else◌, nat_lt, codes}
 use Rattle.std.specs.Str.{bytes_eq}
+use Rattle.std.specs.Option.{option_map}
 use Rattle.ucd_model.specs.Limits.{point_count, file_limit}
 use Rattle.ucd_model.specs.Names.{source_path, derived_path}
-use Rattle.ucd_model.specs.Facts.{Sources, facts}
+use Rattle.ucd_model.specs.Facts.{Sources, Facts, facts}
 use Rattle.ucd_model.specs.DerivedFiles.{derived_files, derived_text}
 use Rattle.ucd_model.specs.Records.{record_at}
+use Rattle.ucd_model.specs.Validity.{first_broken}
 use Rattle.ucd_model.specs.declared.files.SourceFile.{SourceFile}
 use Rattle.ucd_model.specs.declared.files.SourceFile.TheVariants.{UnicodeData, PropList, Scripts, WordBreakProperty, CompositionExclusions, CaseFolding, SpecialCasing, PropertyAliases, PropertyValueAliases}
 use Rattle.ucd_model.specs.declared.files.DerivedFile.{DerivedFile}
 use Rattle.ucd_model.specs.declared.row.Row.{Row}
 use Rattle.release_rows.specs.FileItems.{FileItem, rows_in}
 use Rattle.release_rows.specs.Loading.{LoadFault, load_or_fault}
-use Rattle.ucdshop_core.specs.Printed.{refused, rule_code}
+use Rattle.ucdshop_core.specs.Printed.{refused, refused_point, rule_code}
 
 -- what a shelf holds at each path
 abbrev pub Contents : Type 0
@@ -91,8 +96,22 @@ refused_or (Some line) rows = Err line
 abbrev pub verdict_by : (SourceFile → Result (List Row) (List ℕ)) → Result Sources (List ℕ)
 verdict_by verdict_on = refused_or (first_refusal verdict_on source_files) (λ file. rows_or_none (verdict_on file))
 
-abbrev pub verdict : List ℕ → Contents → Result Sources (List ℕ)
-verdict folder holds = verdict_by (λ file. file_rows (source_in folder file) file (holds (source_in folder file)))
+abbrev pub files_verdict : List ℕ → Contents → Result Sources (List ℕ)
+files_verdict folder holds = verdict_by (λ file. file_rows (source_in folder file) file (holds (source_in folder file)))
+
+-- the line that refuses the least code point that breaks a rule of a valid release
+abbrev pub broken_line : List ℕ → (ℕ → Facts) → Option (List ℕ)
+broken_line folder F = option_map (refused_point folder) (first_broken F)
+
+abbrev pub point_refusal : List ℕ → Sources → Option (List ℕ)
+point_refusal folder rows = broken_line folder (facts rows)
+
+abbrev pub and_valid : List ℕ → Result Sources (List ℕ) → Result Sources (List ℕ)
+and_valid folder (Ok rows) = refused_or (point_refusal folder rows) rows
+and_valid folder (Err line) = Err line
+
+unfoldable pub verdict : List ℕ → Contents → Result Sources (List ℕ)
+verdict folder holds = and_valid folder (files_verdict folder holds)
 
 abbrev pub job_verdict : Job → Contents → Result Sources (List ℕ)
 job_verdict (Derive input output) holds = verdict input holds

@@ -5,6 +5,7 @@ mod command;
 mod core_set;
 mod derived_path;
 mod judging;
+mod missing_rows;
 mod planning;
 mod predicates;
 mod printed;
@@ -15,6 +16,7 @@ mod record_table;
 mod source_path;
 mod status;
 mod stop;
+mod validity;
 mod writing;
 
 pub use printed::OUT_OF_MEMORY;
@@ -25,3 +27,5 @@ pub use status::Status;
 mod test_runs;
 #[cfg(test)]
 mod tests;
+#[cfg(test)]
+mod valid_tests;

@@ -4,7 +4,7 @@ ghost use Rattle.std.specs.Prelude.{◌≡◌, ◌<◌, ◌≤◌, IsTrue, IfOk,
 ghost use Rattle.shelf_io.specs.Contents.{SameContents};
 ghost use Rattle.ucdshop_core.specs.Commands.{job_of};
 ghost use Rattle.ucdshop_core.specs.Judging.{release_rows};
-ghost use Rattle.ucdshop_core.specs.Planning.{HasPlan, LoadedAs, OnRefused, OnUnread, NamesUnread};
+ghost use Rattle.ucdshop_core.specs.Planning.{ChecksAs, HasPlan, loaded_rows, LoadedAs, OnRefused, OnUnread, NamesUnread};
 ghost use Rattle.ucdshop_core.specs.Reading.{cut, text_at};
 ghost use Rattle.ucdshop_core.specs.Printed.{read_failed, write_failed};
 ghost use Rattle.shelf_io.specs.Counts.{Rose};
@@ -12,16 +12,17 @@ ghost use Rattle.ucd_model.specs.Facts.{Sources, facts};
 ghost use Rattle.ucd_model.specs.Records.{record_at};
 ghost use Rattle.ucdshop_core.specs.RecordLists.{SameRecords, record_of};
 ghost use Rattle.ucdshop_core.specs.Writing.{file_of};
-ghost use Rattle.ucdshop_core.specs.Run.{Derive, job_verdict, verdict, needed, derived_file, sources_in};
+ghost use Rattle.ucdshop_core.specs.Run.{Derive, broken_line, files_verdict, job_verdict, verdict, needed, derived_file, point_refusal, sources_in};
 
 use crate::command::Command;
 use crate::derived_path::{DERIVED_FILES, derived_path};
 use crate::judging::judge;
-use crate::printed::{RunCounts, read_failed, summary, write_failed};
+use crate::printed::{RunCounts, read_failed, refused_point, summary, write_failed};
 use crate::reading::{ReadingStop, read_all};
 use crate::record_table::RecordTable;
 use crate::source_path::{path_in, source_paths};
 use crate::stop::Stop;
+use crate::validity::first_broken;
 use crate::writing::Output;
 use code_facts::FactTables;
 use derived_writer::file_text;
@@ -29,7 +30,7 @@ use range_table::RunTable;
 use release_rows::Release;
 use shelf_io::Shelf;
 use std::alloc::Global;
-use ucd_model::{DerivedFile, Memory, Text, Texts};
+use ucd_model::{DerivedFile, FactView, Memory, Text, Texts};
 
 /// What is left to be done: the files to be written, and the summary to be told.
 #[derive(Drop)]
@@ -39,23 +40,41 @@ pub struct Plan {
 }
 
 /// The files that `derive` writes, and its summary.
-fn derive_plan(alloc: Global, folder: &[u8], release: &Release) -> Result<Plan, Memory>
+fn derive_plan(
+    alloc: Global,
+    folder: &[u8],
+    release: &Release,
+    records: &RecordTable,
+) -> Result<Plan, Memory>
+    requires { SameRecords (record_of records.now) (record_at (facts (release_rows release.now))) }
     ensures { IfOk result (λ plan. (input : List ℕ) → HasPlan (Derive input folder.now) (release_rows release.now) plan) }
 {
-    let records = records_of(alloc, release)?;
     let mut outputs = Vec::new(alloc);
     'files: for file in &DERIVED_FILES {
-        outputs.push(derived_output(alloc, folder, *file, release, &records)?)?;
+        outputs.push(derived_output(alloc, folder, *file, release, records)?)?;
     }
     let summary = summary(alloc, NO_COUNTS)?;
     Ok(Plan { outputs, summary })
 }
 
-/// The records of a release.
-fn records_of(alloc: Global, release: &Release) -> Result<RecordTable, Memory>
-    ensures { IfOk result (λ records. SameRecords (record_of records) (record_at (facts (release_rows release.now)))) }
+/// Refuses a folder's release by the least code point that breaks a rule of a valid release.
+fn check_valid(alloc: Global, folder: &[u8], tables: &FactTables<RunTable<u64>>) -> Result<(), Stop>
+    ensures { ChecksAs result (broken_line folder.now (⟦<FactTables<RunTable<u64>> as FactView>⟧.facts_of tables.now)) }
+{
+    match first_broken(alloc, tables)? {
+        Some(broken) => Err(Stop::Refused(refused_point(alloc, folder, broken)?)),
+        None => Ok(()),
+    }
+}
+
+/// The records of a folder's release, where each code point keeps the rules of a valid release.
+fn valid_records(alloc: Global, folder: &[u8], release: &Release) -> Result<RecordTable, Stop>
+    ensures records { IfOk result (λ records.
+        SameRecords (record_of records) (record_at (facts (release_rows release.now)))) }
+    ensures valid { ChecksAs result (point_refusal folder.now (release_rows release.now)) }
 {
     let tables = FactTables::<RunTable<u64>>::of(alloc, release)?;
+    check_valid(alloc, folder, &tables)?;
     let records = RecordTable::of(alloc, &tables)?;
     Ok(records)
 }
@@ -131,9 +150,9 @@ fn gather<S: Shelf>(alloc: Global, shelf: &mut S, folder: &[u8]) -> Result<Gathe
     }
 }
 
-/// Reads and judges the source files of a folder.
+/// Reads and judges the source files of a folder, each by itself.
 fn load<S: Shelf>(alloc: Global, shelf: &mut S, folder: &[u8]) -> Result<Release, Stop>
-    ensures rows { IsTrue S.tells → LoadedAs release_rows result (verdict folder.now (S.holds shelf.old)) }
+    ensures rows { IsTrue S.tells → LoadedAs release_rows result (files_verdict folder.now (S.holds shelf.old)) }
     ensures unread { OnUnread result (NamesUnread (sources_in folder.now)
         S.tells_failed (S.last_failed shelf.new)) }
     ensures unread_only { OnUnread result (λ _. Rose (S.read_faults shelf.old) (S.read_faults shelf.new)) }
@@ -143,6 +162,30 @@ fn load<S: Shelf>(alloc: Global, shelf: &mut S, folder: &[u8]) -> Result<Release
 {
     let gathered = gather(alloc, shelf, folder)?;
     judge(alloc, gathered.paths.as_slice(), gathered.held.as_slice())
+}
+
+/// A valid release, and the records of its code points.
+#[derive(Drop)]
+struct Loaded {
+    release: Release,
+    records: RecordTable,
+}
+
+/// Reads and judges the source files of a folder, and then the code points.
+fn load_valid<S: Shelf>(alloc: Global, shelf: &mut S, folder: &[u8]) -> Result<Loaded, Stop>
+    ensures rows { IsTrue S.tells → LoadedAs loaded_rows result (verdict folder.now (S.holds shelf.old)) }
+    ensures records { IfOk result (λ loaded.
+        SameRecords (record_of loaded.records) (record_at (facts (release_rows loaded.release)))) }
+    ensures unread { OnUnread result (NamesUnread (sources_in folder.now)
+        S.tells_failed (S.last_failed shelf.new)) }
+    ensures unread_only { OnUnread result (λ _. Rose (S.read_faults shelf.old) (S.read_faults shelf.new)) }
+    ensures held_stays { IsTrue S.tells → SameContents (S.holds shelf.old) (S.holds shelf.new) }
+    ensures read_faults_never_fall { S.read_faults shelf.old ≤ S.read_faults shelf.new }
+    ensures write_faults_stay { S.write_faults shelf.new ≡ S.write_faults shelf.old }
+{
+    let release = load(alloc, shelf, folder)?;
+    let records = valid_records(alloc, folder, &release)?;
+    Ok(Loaded { release, records })
 }
 
 /// Reads and judges the source files of a folder, and makes the files that are derived from them, and the summary.
@@ -157,8 +200,8 @@ fn derive<S: Shelf>(alloc: Global, input: &[u8], output: &[u8], shelf: &mut S) -
     ensures read_faults_never_fall { S.read_faults shelf.old ≤ S.read_faults shelf.new }
     ensures write_faults_stay { S.write_faults shelf.new ≡ S.write_faults shelf.old }
 {
-    let release = load(alloc, shelf, input)?;
-    let plan = derive_plan(alloc, output, &release)?;
+    let loaded = load_valid(alloc, shelf, input)?;
+    let plan = derive_plan(alloc, output, &loaded.release, &loaded.records)?;
     shelf.room(plan.outputs.len())?;
     Ok(plan)
 }

@@ -1,13 +1,14 @@
 //! The lines that a run prints.
 
 ghost use Rattle.std.specs.Prelude.{◌≡◌, ◌++◌, IfOk, OnOk, codes};
-ghost use Rattle.ucdshop_core.specs.Printed.{Counts, line_end, refused, read_failed, write_failed, row_rule_code, rule_code, summary};
+ghost use Rattle.ucdshop_core.specs.Printed.{Counts, bad_code, line_end, refused, refused_point, read_failed, write_failed, row_rule_code, rule_code, summary};
 ghost use Rattle.std.specs.Fmt.{decimal};
 
 use release_rows::LoadRule;
 use source_rows::RowFault;
 use std::alloc::Global;
-use ucd_model::{Memory, Text};
+use ucd_lines::put_hex;
+use ucd_model::{Bad, Broken, Memory, Text};
 
 /// The line for words that have no listed form.
 pub const USAGE: &[u8] = b"usage: ucdshop derive DATA OUT\n";
@@ -44,6 +45,32 @@ fn put_rule(text: &mut Text, rule: &[u8]) -> Result<(), Memory>
     text.append(b" ")?;
     text.append(rule)?;
     text.append(b"\n")
+}
+
+/// The line that refuses a release: its folder, the code point that breaks a rule, and the rule's code.
+pub fn refused_point(alloc: Global, folder: &[u8], broken: Broken) -> Result<Text, Memory>
+    ensures { IfOk result (λ text. text ≡ refused_point folder.now broken) }
+{
+    let mut text = Text::new(alloc);
+    text.append(b"refused: ")?;
+    text.append(folder)?;
+    text.append(b" point ")?;
+    put_hex(broken.point, &mut text)?;
+    put_rule(&mut text, bad_code(broken.rule))?;
+    Ok(text)
+}
+
+/// The code of a rule of a valid release.
+fn bad_code(rule: Bad) -> &'static [u8]
+    ensures { result.now ≡ bad_code rule }
+{
+    match rule {
+        Bad::V1 => b"V1",
+        Bad::V2 => b"V2",
+        Bad::V3 => b"V3",
+        Bad::V4 => b"V4",
+        Bad::V5 => b"V5",
+    }
 }
 
 /// The line for a file that could not be read.

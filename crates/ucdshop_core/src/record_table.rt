@@ -53,7 +53,7 @@ impl RecordTable {
 }
 
 /// The code point of a number.
-fn point_at(number: u32) -> Point
+pub fn point_at(number: u32) -> Point
     requires { number < 1114112 }
     ensures { result ≡ number }
 {

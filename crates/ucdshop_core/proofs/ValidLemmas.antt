@@ -1,0 +1,33 @@
+-- The verdict on a release whose files load: its code points decide.
+use Rattle.std.proofs.Common.{◌≡◌, List, ℕ, Option, Some, None, Result, Ok, Err, ap, ◌∙◌}
+use Rattle.ucd_model.specs.Facts.{Sources}
+use Rattle.ucdshop_core.specs.Planning.{ChecksAs, LoadedAs}
+use Rattle.ucdshop_core.specs.Run.{Contents, and_valid, files_verdict, point_refusal, refused_or, verdict}
+use Rattle.ucdshop_core.specs.declared.stop.Stop.{Stop}
+use Rattle.ucdshop_core.specs.declared.stop.Stop.TheVariants.{Refused, ReadFailed, Memory}
+
+pub valid_verdict : (folder : List ℕ) (holds : Contents) (rows : Sources) → files_verdict folder holds ≡ Ok rows → point_refusal folder rows ≡ None → verdict folder holds ≡ Ok rows
+unfolding verdict
+valid_verdict folder holds rows loads valid = ap (and_valid folder) loads ∙ ap (λ r. refused_or r rows) valid
+
+invalid_verdict : (folder line : List ℕ) (holds : Contents) (rows : Sources) → files_verdict folder holds ≡ Ok rows → point_refusal folder rows ≡ Some line → verdict folder holds ≡ Err line
+unfolding verdict
+invalid_verdict folder line holds rows loads broken = ap (and_valid folder) loads ∙ ap (λ r. refused_or r rows) broken
+
+refused_verdict : (folder line : List ℕ) (holds : Contents) → files_verdict folder holds ≡ Err line → verdict folder holds ≡ Err line
+unfolding verdict
+refused_verdict folder line holds refused = ap (and_valid folder) refused
+
+-- a file was refused
+pub files_refused : {A B : Type 0} (v : A → Sources) (w : B → Sources) (stop : Stop) (folder : List ℕ) (holds : Contents)
+    → LoadedAs v (Err stop) (files_verdict folder holds) → LoadedAs w (Err stop) (verdict folder holds)
+files_refused v w (Refused line) folder holds h = refused_verdict folder line holds h
+files_refused v w (ReadFailed line) folder holds h = h
+files_refused v w Memory folder holds h = h
+
+-- a code point was refused
+pub points_refused : {B : Type 0} (w : B → Sources) (stop : Stop) (folder : List ℕ) (holds : Contents) (rows : Sources)
+    → files_verdict folder holds ≡ Ok rows → ChecksAs {A = Sources} (Err stop) (point_refusal folder rows) → LoadedAs w (Err stop) (verdict folder holds)
+points_refused w (Refused line) folder holds rows loads h = invalid_verdict folder line holds rows loads h
+points_refused w (ReadFailed line) folder holds rows loads h = absurd h
+points_refused w Memory folder holds rows loads h = h

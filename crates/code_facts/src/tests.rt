@@ -61,13 +61,13 @@ fn a_point_with_rows_in_every_file(rt: HostRuntime) -> Result<(), Fail> {
         b"0149; 0149; 02BC 004E; 02BC 004E; tr;\n0149; 0149; 02BC 004E; 02BC 004F;\n",
     )?;
     let c = point(0x149)?;
-    assert!(rt; has_values_of_0149(tables.facts(c)));
-    assert!(rt; has_flags_of_0149(tables.facts(c)));
-    assert!(rt; has_images_of_0149(tables.facts(c)));
+    assert!(rt; has_values_of_0149(&tables.facts(c)));
+    assert!(rt; has_flags_of_0149(&tables.facts(c)));
+    assert!(rt; has_images_of_0149(&tables.facts(c)));
     Ok(())
 }
 
-fn has_values_of_0149(facts: FactsRef<'_>) -> bool {
+fn has_values_of_0149(facts: &FactsRef<'_>) -> bool {
     facts.assigned
         && facts.excluded
         && facts.mid_word
@@ -77,14 +77,14 @@ fn has_values_of_0149(facts: FactsRef<'_>) -> bool {
         && are(facts.mapping, &[0x2BC, 0x6E])
 }
 
-fn has_flags_of_0149(facts: FactsRef<'_>) -> bool {
+fn has_flags_of_0149(facts: &FactsRef<'_>) -> bool {
     facts.flags.has(Flag::OtherLowercase)
         && !facts.flags.has(Flag::OtherUppercase)
         && facts.flags.has(Flag::NoncharacterCodePoint)
         && !facts.flags.has(Flag::WhiteSpace)
 }
 
-fn has_images_of_0149(facts: FactsRef<'_>) -> bool {
+fn has_images_of_0149(facts: &FactsRef<'_>) -> bool {
     facts.simple_upper.number() == 0x149
         && is_image(facts.upper, &[0x2BC, 0x4F])
         && is_image(facts.title, &[0x2BC, 0x4E])

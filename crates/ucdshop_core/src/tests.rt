@@ -204,11 +204,10 @@ fn a_file_has_a_limit(rt: HostRuntime) -> Result<(), Fail> {
 #[test]
 fn a_failed_read_is_told(rt: HostRuntime) -> Result<(), Fail> {
     let alloc = rt.alloc();
-    let mut nth = 0;
-    for path in SOURCE_PATHS {
-        nth += 1;
+    for at in 0..SOURCE_PATHS.len() {
+        let path = SOURCE_PATHS[at];
         let mut shelf = shelf_of(alloc, LETTERS, b"")?;
-        shelf.fail_read(nth)?;
+        shelf.fail_read(at as u32 + 1)?;
         let mut line = Text::new(alloc);
         line.append(b"read failed: ")?;
         line.append(path)?;

@@ -7,12 +7,15 @@
 -- category_listing    General_Category by its two letters; default Cn
 -- class_listing       Canonical_Combining_Class in decimal; default 0
 -- type_listing        Decomposition_Type: `canonical`, or the tag without its brackets; default none
--- file_sections file  the sections of a file, in order. Of DerivedNormalizationProps.txt no property is derived yet: it has
---                     no section, so its text is empty, and it is none of derived_files
+-- binary_label name b  the label of a point that has the property of that name, where b holds
+-- exclusion_listing, changes_listing   the points with Full_Composition_Exclusion, and with Changes_When_NFKC_Casefolded
+-- quick_listing name value   the points whose quick check is No or Maybe, with the name and N or M; default Yes
+-- casefold_listing    NFKC_CF, with the name and the mapping, which may be empty; default the point itself
+-- file_sections file  the sections of a file, in order
 -- derived_files       the files that are written, in order
 -- section_of n R s    the text of a section, over the records R of the points below n
 -- derived_text n file R   the text of a file
-use Rattle.std.specs.Prelude.{ℕ, List, [], ◌∷◌, ◌++◌, Some, None, map, ◌==◌, if◌then◌else◌, codes}
+use Rattle.std.specs.Prelude.{ℕ, Bool, List, [], ◌∷◌, ◌++◌, Some, None, map, ◌==◌, if◌then◌else◌, codes}
 use Rattle.std.specs.List.{flat_map}
 use Rattle.std.specs.Fmt.{decimal}
 use Rattle.ucd_model.specs.Names.{core_name, category_code, tag_name}
@@ -20,6 +23,11 @@ use Rattle.ucd_model.specs.Predicates.{is_one_of, core_properties}
 use Rattle.ucd_model.specs.Records.{Record}
 use Rattle.ucd_model.specs.Labels.{Label}
 use Rattle.ucd_model.specs.DerivedText.{section_text}
+use Rattle.ucd_model.specs.RowTexts.{mapping_text}
+use Rattle.ucd_model.specs.declared.form.Quick.{Quick}
+use Rattle.ucd_model.specs.declared.form.Quick.TheVariants.{Yes, No, Maybe}
+use Rattle.ucd_model.specs.declared.image.Image.{Image}
+use Rattle.ucd_model.specs.declared.image.Image.TheVariants.{Same, To}
 use Rattle.ucd_model.specs.declared.category.Category.{Category}
 use Rattle.ucd_model.specs.declared.category.Category.TheVariants.{Cn}
 use Rattle.ucd_model.specs.declared.decomposition.Kind.{Kind}
@@ -35,8 +43,11 @@ pub record Section : Type 0 where
 abbrev pub listed : List ℕ → Label
 listed value = Some (codes " ; " ++ value)
 
+abbrev pub binary_label : List ℕ → Bool → Label
+binary_label name b = if b then listed name else None
+
 abbrev pub core_listing : Core → Section
-core_listing core = record { name = core_name core; label = λ R. if R.core core then listed (core_name core) else None }
+core_listing core = record { name = core_name core; label = λ R. binary_label (core_name core) (R.core core) }
 
 abbrev pub category_label : Category → Label
 category_label category = if is_one_of (Cn ∷ []) category then None else listed (category_code category)
@@ -58,15 +69,44 @@ kind_label (Compat tag) = listed (tag_name tag)
 abbrev pub type_listing : Section
 type_listing = record { name = codes "Decomposition_Type"; label = λ R. kind_label R.kind }
 
+abbrev pub exclusion_listing : Section
+exclusion_listing = record { name = codes "Full_Composition_Exclusion"; label = λ R. binary_label (codes "Full_Composition_Exclusion") R.exclusion }
+
+abbrev pub quick_label : List ℕ → Quick → Label
+quick_label name Yes = None
+quick_label name No = listed (name ++ codes " ; N")
+quick_label name Maybe = listed (name ++ codes " ; M")
+
+abbrev pub quick_listing : List ℕ → (Record → Quick) → Section
+quick_listing name value = record { name = name; label = λ R. quick_label name (value R) }
+
+abbrev pub casefold_label : Image → Label
+casefold_label Same = None
+casefold_label (To []) = listed (codes "NFKC_CF ;")
+casefold_label (To (c ∷ points)) = listed (codes "NFKC_CF ; " ++ mapping_text (c ∷ points))
+
+abbrev pub casefold_listing : Section
+casefold_listing = record { name = codes "NFKC_CF"; label = λ R. casefold_label R.casefold }
+
+abbrev pub changes_listing : Section
+changes_listing = record { name = codes "Changes_When_NFKC_Casefolded"; label = λ R. binary_label (codes "Changes_When_NFKC_Casefolded") R.changes_casefold }
+
+abbrev pub normalization_listings : List Section
+normalization_listings =
+    exclusion_listing
+    ∷ quick_listing (codes "NFD_QC") (λ R. R.nfd) ∷ quick_listing (codes "NFC_QC") (λ R. R.nfc)
+    ∷ quick_listing (codes "NFKD_QC") (λ R. R.nfkd) ∷ quick_listing (codes "NFKC_QC") (λ R. R.nfkc)
+    ∷ casefold_listing ∷ changes_listing ∷ []
+
 abbrev pub file_sections : DerivedFile → List Section
 file_sections CoreProperties = map core_listing core_properties
-file_sections NormalizationProps = []
+file_sections NormalizationProps = normalization_listings
 file_sections GeneralCategory = category_listing ∷ []
 file_sections CombiningClass = class_listing ∷ []
 file_sections DecompositionType = type_listing ∷ []
 
 abbrev pub derived_files : List DerivedFile
-derived_files = CoreProperties ∷ GeneralCategory ∷ CombiningClass ∷ DecompositionType ∷ []
+derived_files = CoreProperties ∷ NormalizationProps ∷ GeneralCategory ∷ CombiningClass ∷ DecompositionType ∷ []
 
 abbrev pub section_of : ℕ → (ℕ → Record) → Section → List ℕ
 section_of n R s = section_text s.name n (λ c. s.label (R c))

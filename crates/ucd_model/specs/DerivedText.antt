@@ -3,17 +3,11 @@
 -- hex_text c        the hexadecimal digits of a code point in upper case: four, from 10000 on five, from 100000 on six
 -- span_text s       one code point, or the first and the last joined by `..`
 -- section_text name n f  `# NAME`, a line for each span with its label behind it, `# total N`, and an empty line
--- core_section n F p  the section of a core property, over the facts F of the points below n
--- core_text n F     DerivedCoreProperties.txt: the section of each core property
-use Rattle.std.specs.Prelude.{ℕ, ◌+◌, ◌/◌, ◌%◌, List, [], ◌∷◌, ◌++◌, Some, None, ◌==◌, nat_lt, if◌then◌else◌, codes}
+use Rattle.std.specs.Prelude.{ℕ, ◌+◌, ◌/◌, ◌%◌, List, [], ◌∷◌, ◌++◌, ◌==◌, nat_lt, if◌then◌else◌, codes}
 use Rattle.std.specs.List.{flat_map}
 use Rattle.std.specs.Fmt.{decimal}
 use Rattle.ucd_model.specs.Bounds.{Bounds}
-use Rattle.ucd_model.specs.Names.{core_name}
-use Rattle.ucd_model.specs.Facts.{Facts}
-use Rattle.ucd_model.specs.Predicates.{has, core_sections}
 use Rattle.ucd_model.specs.Labels.{Label, LabelSpan, label_spans, labelled}
-use Rattle.ucd_model.specs.declared.property.Core.{Core}
 
 abbrev pub hex_digit : ℕ → ℕ
 hex_digit d = if nat_lt d 10 then 48 + d else 55 + d
@@ -37,14 +31,3 @@ span_line s = span_text s.bounds ++ s.label ++ line_end
 
 unfoldable pub section_text : List ℕ → ℕ → (ℕ → Label) → List ℕ
 section_text name n f = codes "# " ++ name ++ line_end ++ flat_map span_line (label_spans n f) ++ codes "# total " ++ decimal (labelled n f) ++ line_end ++ line_end
-
--- the points that have the property are listed with its name
-abbrev pub core_label : Core → Facts → Label
-core_label core F = if has core F then Some (codes " ; " ++ core_name core) else None
-
--- the section of a property
-abbrev pub core_section : ℕ → (ℕ → Facts) → Core → List ℕ
-core_section n F core = section_text (core_name core) n (λ c. core_label core (F c))
-
-unfoldable pub core_text : ℕ → (ℕ → Facts) → List ℕ
-core_text n F = flat_map (core_section n F) core_sections

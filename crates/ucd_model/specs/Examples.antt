@@ -2,7 +2,7 @@
 -- the others are worked out by hand.
 --
 -- between lo hi      the span from lo to hi
--- properties k flag  the core properties of a point with the category k and these flags
+-- properties k flag  the first four core properties of a point with the category k and these flags
 -- none               no flag; is_other_math and so on: that flag alone
 -- assigned           the categories that UnicodeData.txt names
 -- sample_rows        a release of three rows: 002B is Sm, 002B..002C are Lu, and 002B..10FFFF are Other_Math; an earlier
@@ -19,9 +19,9 @@ use Rattle.ucd_model.specs.Fields.{fields, digit_of, point_of, span_of, is_name,
 use Rattle.ucd_model.specs.declared.row.DataRow.{DataRow}
 use Rattle.ucd_model.specs.declared.decomposition.Kind.TheVariants.{Plain}
 use Rattle.ucd_model.specs.Facts.{Sources, facts, unassigned}
-use Rattle.ucd_model.specs.Predicates.{place_of, has, core_sections}
+use Rattle.ucd_model.specs.Predicates.{place_of, holds}
 use Rattle.ucd_model.specs.Labels.{Label, LabelSpan, label_spans, labelled}
-use Rattle.ucd_model.specs.DerivedText.{hex_text, span_text, section_text, core_text}
+use Rattle.ucd_model.specs.DerivedText.{hex_text, span_text, section_text}
 use Rattle.ucd_model.specs.declared.category.Category.{Category}
 use Rattle.ucd_model.specs.declared.category.Category.TheVariants.{Lu, Ll, Lt, Lm, Lo, Mn, Mc, Me, Nd, Nl, No, Pc, Pd, Ps, Pe, Pi, Pf, Po, Sm, Sc, Sk, So, Zs, Zl, Zp, Cc, Cf, Cs, Co, Cn}
 use Rattle.ucd_model.specs.declared.property.Flag.{Flag}
@@ -132,7 +132,7 @@ abbrev none : Flag → Bool
 none _ = false
 
 abbrev properties : Category → (Flag → Bool) → List Core
-properties category flag = filter (λ core. has core (record (unassigned 0) { category = category; flag = flag })) core_sections
+properties category flag = filter (λ core. holds core 0 (record (unassigned 0) { category = category; flag = flag })) (Math ∷ Alphabetic ∷ Lowercase ∷ Uppercase ∷ [])
 
 -- in this order: 002B, 2016, 0041, 0061, 01C5, 02EC, 02B0, 05D0, 3007, 2160, 0300, 05B0, 0030, and a point without a row
 property_examples : (properties Sm none ≡ Math ∷ [])
@@ -203,8 +203,3 @@ section_examples : (section_text (codes "Sample") 6 sample ≡ codes "# Sample\n
     × (section_text (codes "Sample") 1 sample ≡ codes "# Sample\n# total 0\n\n")
 unfolding section_text span_text hex_text digits
 section_examples = (refl, refl)
-
--- every section, over the facts of 0 to 2E: 2B to 2E are Other_Math, and 2C has the category Lu
-core_example : core_text 0x2F (facts sample_rows) ≡ codes "# Math\n002B..002E ; Math\n# total 4\n\n# Alphabetic\n002C ; Alphabetic\n# total 1\n\n# Lowercase\n# total 0\n\n# Uppercase\n002C ; Uppercase\n# total 1\n\n"
-unfolding core_text section_text span_text hex_text digits facts point_count
-core_example = refl

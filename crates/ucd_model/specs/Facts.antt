@@ -17,6 +17,7 @@
 -- SpecialCasing.txt
 -- casing_row rows c        the first row of c without conditions
 -- image c points           the image of c: Same where points is c alone
+-- image_points c i         the points of an image of c: c alone for Same
 -- full_upper c simple row  the image under the row's mapping, else under the simple mapping; so full_lower, full_title
 --
 -- CaseFolding.txt
@@ -161,6 +162,10 @@ title_in c None = c
 
 abbrev pub image : ℕ → List ℕ → Image
 image c points = if bytes_eq points (c ∷ []) then Same else To points
+
+abbrev pub image_points : ℕ → Image → List ℕ
+image_points c Same = c ∷ []
+image_points c (To points) = points
 
 -- a row of SpecialCasing.txt of c without conditions
 abbrev pub is_casing_of : ℕ → Row → Bool

@@ -21,7 +21,12 @@ pub mod Expansion
 pub mod CanonicalOrder
 pub mod Composition
 pub mod Forms
+pub mod Casing
+pub mod QuickChecks
+pub mod FoldRounds
+pub mod Identifiers
 pub mod Validity
+pub mod Uniform
 pub mod Labels
 pub mod DerivedText
 pub mod DerivedFiles
@@ -40,3 +45,4 @@ pub mod FactsExamples
 pub mod FormExamples
 pub mod ValidityExamples
 pub mod RecordExamples
+pub mod CasingExamples

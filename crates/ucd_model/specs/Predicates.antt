@@ -7,11 +7,9 @@
 -- default_ignorable c F       of the point c with the facts F, since two ranges of format characters are left out by number
 -- grapheme_extend, grapheme_base   The Unicode Standard, section 3.6, Combination; no point has both
 -- grapheme_link               the combining class is 9, Virama
--- has core F       whether a point with these facts has one of the first four properties; absent for every other one
--- core_sections    these four, in the order of DerivedCoreProperties.txt
 -- holds core c F   whether the point c with the facts F has the property; absent for a property that needs the facts of
 --                  other points too
--- core_properties  the properties that are derived, in the order of DerivedCoreProperties.txt
+-- core_properties  the core properties, in the order of DerivedCoreProperties.txt
 use Rattle.std.specs.Prelude.{ℕ, Bool, false, ◌||◌, ◌&&◌, not, List, [], ◌∷◌, ◌==◌, nat_le}
 use Rattle.std.specs.List.{list_any}
 use Rattle.ucd_model.specs.Facts.{Facts}
@@ -19,7 +17,7 @@ use Rattle.ucd_model.specs.declared.category.Category.{Category}
 use Rattle.ucd_model.specs.declared.category.Category.TheVariants.{Lu, Ll, Lt, Lm, Lo, Mn, Mc, Me, Nd, Nl, No, Pc, Pd, Ps, Pe, Pi, Pf, Po, Sm, Sc, Sk, So, Zs, Zl, Zp, Cc, Cf, Cs, Co, Cn}
 use Rattle.ucd_model.specs.declared.property.Flag.TheVariants.{WhiteSpace, OtherMath, OtherLowercase, OtherUppercase, OtherAlphabetic, OtherIdStart, OtherIdContinue, PatternSyntax, PatternWhiteSpace, OtherDefaultIgnorableCodePoint, VariationSelector, PrependedConcatenationMark, OtherGraphemeExtend}
 use Rattle.ucd_model.specs.declared.property.Core.{Core}
-use Rattle.ucd_model.specs.declared.property.Core.TheVariants.{Math, Alphabetic, Lowercase, Uppercase, Cased, CaseIgnorable, IdStart, IdContinue, DefaultIgnorableCodePoint, GraphemeExtend, GraphemeBase, GraphemeLink}
+use Rattle.ucd_model.specs.declared.property.Core.TheVariants.{Math, Alphabetic, Lowercase, Uppercase, Cased, CaseIgnorable, ChangesWhenLowercased, ChangesWhenUppercased, ChangesWhenTitlecased, ChangesWhenCasefolded, ChangesWhenCasemapped, IdStart, IdContinue, XidStart, XidContinue, DefaultIgnorableCodePoint, GraphemeExtend, GraphemeBase, GraphemeLink}
 
 -- the place of a category in the order of UAX #44, table 12, with Cn last
 abbrev pub place_of : Category → ℕ
@@ -69,16 +67,6 @@ uppercase F = is_one_of (Lu ∷ []) F.category || F.flag OtherUppercase
 
 abbrev pub alphabetic : Facts → Bool
 alphabetic F = (lowercase F || uppercase F) || (is_one_of (Lt ∷ Lm ∷ Lo ∷ Nl ∷ []) F.category || F.flag OtherAlphabetic)
-
-abbrev pub has : Core → Facts → Bool
-has Math F = math F
-has Alphabetic F = alphabetic F
-has Lowercase F = lowercase F
-has Uppercase F = uppercase F
-has _ F = false
-
-abbrev pub core_sections : List Core
-core_sections = Math ∷ Alphabetic ∷ Lowercase ∷ Uppercase ∷ []
 
 abbrev pub cased : Facts → Bool
 cased F = (lowercase F || uppercase F) || is_one_of (Lt ∷ []) F.category
@@ -130,4 +118,8 @@ holds GraphemeLink c F = grapheme_link F
 holds _ c F = false
 
 abbrev pub core_properties : List Core
-core_properties = Math ∷ Alphabetic ∷ Lowercase ∷ Uppercase ∷ Cased ∷ CaseIgnorable ∷ IdStart ∷ IdContinue ∷ DefaultIgnorableCodePoint ∷ GraphemeExtend ∷ GraphemeBase ∷ GraphemeLink ∷ []
+core_properties =
+    Math ∷ Alphabetic ∷ Lowercase ∷ Uppercase ∷ Cased ∷ CaseIgnorable
+    ∷ ChangesWhenLowercased ∷ ChangesWhenUppercased ∷ ChangesWhenTitlecased ∷ ChangesWhenCasefolded ∷ ChangesWhenCasemapped
+    ∷ IdStart ∷ IdContinue ∷ XidStart ∷ XidContinue
+    ∷ DefaultIgnorableCodePoint ∷ GraphemeExtend ∷ GraphemeBase ∷ GraphemeLink ∷ []

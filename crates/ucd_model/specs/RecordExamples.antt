@@ -5,16 +5,18 @@
 -- with_flag f F        the facts F with the flag f as well
 -- in_word F            the facts F of a point with a Word_Break value of mid_word_values
 -- cores c F            the core properties of c, in the order of DerivedCoreProperties.txt
--- sample               the facts of 0 to 5: Lu, Ll, Ll, Mn of class 230, Zs with a mapping of <noBreak>, and Lu with a
+-- sample               the facts of 0 to 5: Lu with a lower mapping and a folding, Ll, Ll, Mn of class 230, Zs with a mapping of <noBreak>, and Lu with a
 --                      canonical mapping; all others have no row
 use Rattle.std.proofs.Common.{◌≡◌, ℕ, true, false, List, [], ◌∷◌, ◌++◌, None, ◌||◌, ◌==◌, get_or, filter, map, refl, codes}
 use Rattle.std.specs.Fmt.{digits}
+use Rattle.ucd_model.specs.Expansion.{full}
 use Rattle.ucd_model.specs.Facts.{Facts, unassigned}
 use Rattle.ucd_model.specs.Names.{tag_text, tag_name}
-use Rattle.ucd_model.specs.Predicates.{holds, has, core_properties}
+use Rattle.ucd_model.specs.Predicates.{holds, core_properties}
 use Rattle.ucd_model.specs.Records.{Record, record_at}
 use Rattle.ucd_model.specs.DerivedText.{section_text, span_text, hex_text}
 use Rattle.ucd_model.specs.DerivedFiles.{derived_text, listed, category_label, class_label, kind_label}
+use Rattle.ucd_model.specs.RowTexts.{mapping_text}
 use Rattle.ucd_model.specs.Sets.{flag_place}
 use Rattle.ucd_model.specs.declared.category.Category.{Category}
 use Rattle.ucd_model.specs.declared.category.Category.TheVariants.{Lu, Ll, Lt, Lm, Lo, Mn, Mc, Me, Nd, Nl, No, Pc, Po, Sm, Sk, Zs, Zl, Cc, Cf, Cs, Co, Cn}
@@ -22,6 +24,8 @@ use Rattle.ucd_model.specs.declared.decomposition.Kind.TheVariants.{Plain, Canon
 use Rattle.ucd_model.specs.declared.decomposition.Tag.{Tag}
 use Rattle.ucd_model.specs.declared.decomposition.Tag.TheVariants.{Font, NoBreak, Initial, Medial, Final, Isolated, Circle, Super, Sub, Vertical, Wide, Narrow, Small, Square, Fraction, Compat as CompatTag}
 use Rattle.ucd_model.specs.declared.files.DerivedFile.TheVariants.{CoreProperties, NormalizationProps, GeneralCategory, CombiningClass, DecompositionType}
+use Rattle.ucd_model.specs.declared.form.Quick.TheVariants.{Yes, No, Maybe}
+use Rattle.ucd_model.specs.declared.image.Image.TheVariants.{Same, To}
 use Rattle.ucd_model.specs.declared.property.Core.{Core}
 use Rattle.ucd_model.specs.declared.property.Core.TheVariants.{Math, Alphabetic, Lowercase, Uppercase, Cased, CaseIgnorable, IdStart, IdContinue, DefaultIgnorableCodePoint, GraphemeExtend, GraphemeBase, GraphemeLink}
 use Rattle.ucd_model.specs.declared.property.Flag.{Flag}
@@ -92,10 +96,6 @@ other_examples : (cores 0x0 (point Cc 0) ≡ [])
     × (cores 0x378 (unassigned 0x378) ≡ [])
 other_examples = (refl, refl, refl, refl)
 
--- the first four properties are those that `has` gives
-has_examples : (c : ℕ) (F : Facts) → (holds Math c F ≡ has Math F) × (holds Alphabetic c F ≡ has Alphabetic F) × (holds Lowercase c F ≡ has Lowercase F) × (holds Uppercase c F ≡ has Uppercase F)
-has_examples c F = (refl, refl, refl, refl)
-
 -- ---- labels
 
 -- 0041 is Lu, 0378 has no row; 0300 has class 230; 00C0 has a canonical mapping, and 00A0 one with the tag <noBreak>
@@ -132,7 +132,7 @@ tag_examples CompatTag = refl
 -- ---- files
 
 abbrev sample : ℕ → Facts
-sample c = get_or (point Lu 0 ∷ point Ll 0 ∷ point Ll 0 ∷ point Mn 230 ∷ record (point Zs 0) { kind = Compat NoBreak } ∷ record (point Lu 0) { kind = Canonical } ∷ []) c (unassigned c)
+sample c = get_or (record (point Lu 0) { lower = To (1 ∷ []); fold = To (1 ∷ []) } ∷ point Ll 0 ∷ point Ll 0 ∷ point Mn 230 ∷ record (point Zs 0) { kind = Compat NoBreak } ∷ record (point Lu 0) { kind = Canonical } ∷ []) c (unassigned c)
 
 category_example : derived_text 8 GeneralCategory (record_at sample) ≡ codes "# General_Category\n0000 ; Lu\n0001..0002 ; Ll\n0003 ; Mn\n0004 ; Zs\n0005 ; Lu\n# total 6\n\n"
 unfolding derived_text section_text span_text hex_text digits
@@ -148,12 +148,28 @@ type_example = refl
 
 core_example : derived_text 3 CoreProperties (record_at sample) ≡
     codes "# Math\n# total 0\n\n# Alphabetic\n0000..0002 ; Alphabetic\n# total 3\n\n# Lowercase\n0001..0002 ; Lowercase\n# total 2\n\n# Uppercase\n0000 ; Uppercase\n# total 1\n\n"
-    ++ codes "# Cased\n0000..0002 ; Cased\n# total 3\n\n# Case_Ignorable\n# total 0\n\n# ID_Start\n0000..0002 ; ID_Start\n# total 3\n\n# ID_Continue\n0000..0002 ; ID_Continue\n# total 3\n\n"
+    ++ codes "# Cased\n0000..0002 ; Cased\n# total 3\n\n# Case_Ignorable\n# total 0\n\n"
+    ++ codes "# Changes_When_Lowercased\n0000 ; Changes_When_Lowercased\n# total 1\n\n# Changes_When_Uppercased\n# total 0\n\n# Changes_When_Titlecased\n# total 0\n\n"
+    ++ codes "# Changes_When_Casefolded\n0000 ; Changes_When_Casefolded\n# total 1\n\n# Changes_When_Casemapped\n0000 ; Changes_When_Casemapped\n# total 1\n\n"
+    ++ codes "# ID_Start\n0000..0002 ; ID_Start\n# total 3\n\n# ID_Continue\n0000..0002 ; ID_Continue\n# total 3\n\n"
+    ++ codes "# XID_Start\n0000..0002 ; XID_Start\n# total 3\n\n# XID_Continue\n0000..0002 ; XID_Continue\n# total 3\n\n"
     ++ codes "# Default_Ignorable_Code_Point\n# total 0\n\n# Grapheme_Extend\n# total 0\n\n# Grapheme_Base\n0000..0002 ; Grapheme_Base\n# total 3\n\n# Grapheme_Link\n# total 0\n\n"
-unfolding derived_text section_text span_text hex_text digits
+unfolding derived_text section_text span_text hex_text digits full
 core_example = refl
 
--- no property of DerivedNormalizationProps.txt is derived yet
-normalization_example : (n : ℕ) (R : ℕ → Record) → derived_text n NormalizationProps R ≡ []
-unfolding derived_text
-normalization_example n R = refl
+-- four records: of 0 with No twice, of 1 with an empty folding, of 2 with Maybe, of 3 with a folding of two points
+abbrev plain_record : Record
+plain_record = record (record_at unassigned 0) { nfd = Yes; nfc = Yes; nfkd = Yes; nfkc = Yes; exclusion = false; casefold = Same; changes_casefold = false }
+
+abbrev sample_records : ℕ → Record
+sample_records c = get_or (
+    record plain_record { nfd = No; nfkd = No; exclusion = true } ∷ record plain_record { casefold = To []; changes_casefold = true }
+    ∷ record plain_record { nfc = Maybe; nfkc = Maybe } ∷ record plain_record { nfkd = No; nfkc = No; casefold = To (0x41 ∷ 0x300 ∷ []); changes_casefold = true } ∷ []) c plain_record
+
+normalization_example : derived_text 5 NormalizationProps sample_records ≡
+    codes "# Full_Composition_Exclusion\n0000 ; Full_Composition_Exclusion\n# total 1\n\n# NFD_QC\n0000 ; NFD_QC ; N\n# total 1\n\n# NFC_QC\n0002 ; NFC_QC ; M\n# total 1\n\n"
+    ++ codes "# NFKD_QC\n0000 ; NFKD_QC ; N\n0003 ; NFKD_QC ; N\n# total 2\n\n# NFKC_QC\n0002 ; NFKC_QC ; M\n0003 ; NFKC_QC ; N\n# total 2\n\n"
+    ++ codes "# NFKC_CF\n0001 ; NFKC_CF ;\n0003 ; NFKC_CF ; 0041 0300\n# total 2\n\n"
+    ++ codes "# Changes_When_NFKC_Casefolded\n0001 ; Changes_When_NFKC_Casefolded\n0003 ; Changes_When_NFKC_Casefolded\n# total 2\n\n"
+unfolding derived_text section_text span_text hex_text digits mapping_text
+normalization_example = refl

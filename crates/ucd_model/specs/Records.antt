@@ -1,22 +1,30 @@
 -- What is derived of a code point: one record for each, from which the derived files are written. UAX #44, section 5.3.
 --
 -- Record               the values of a code point's derived properties
+-- kept_record k        the record that a value keeps
 -- ShowsRecord kept R   the kept record is R, field by field
--- record_at F c        the record of c, where F gives the facts of each code point: category, class and kind are those of
---                      its facts, and the core properties are those of `holds`. Each other field has its default: a core
---                      property of other points' facts is absent, c is not excluded from composition, each quick check is
---                      Yes, and the case folding under NFKC is the point itself
-use Rattle.std.specs.Prelude.{◌≡◌, ℕ, Bool, false}
-use Rattle.ucd_model.specs.Facts.{Facts}
+-- core_at F c p        whether c has the core property p
+-- record_at F c        the values of c, where F gives the facts of each code point: category, class and kind are those of its
+--                      facts. What needs a form or a folding of c that is not there is absent, Yes, or c itself
+-- derived F c          the record of c, or in its place the first rule of a valid release that c breaks
+use Rattle.std.specs.Prelude.{◌≡◌, ℕ, Bool, not, List, [], ◌∷◌, Option, Some, None, Result, Ok, Err}
+use Rattle.std.specs.Str.{bytes_eq}
+use Rattle.ucd_model.specs.Casing.{lowers, uppers, titles, folds, casemaps, changes_when}
+use Rattle.ucd_model.specs.Facts.{Facts, image_points}
+use Rattle.ucd_model.specs.FoldRounds.{casefold_image, image_or_same}
+use Rattle.ucd_model.specs.Identifiers.{xid_start, xid_continue}
 use Rattle.ucd_model.specs.Predicates.{holds}
+use Rattle.ucd_model.specs.QuickChecks.{full_exclusion, quick, quick_or_yes}
 use Rattle.ucd_model.specs.Sets.{has_core}
 use Rattle.ucd_model.specs.declared.category.Category.{Category}
 use Rattle.ucd_model.specs.declared.decomposition.Kind.{Kind}
 use Rattle.ucd_model.specs.declared.form.Quick.{Quick}
-use Rattle.ucd_model.specs.declared.form.Quick.TheVariants.{Yes}
+use Rattle.ucd_model.specs.Validity.{broken}
+use Rattle.ucd_model.specs.declared.form.Bad.{Bad as Rule}
+use Rattle.ucd_model.specs.declared.form.Form.TheVariants.{Nfd, Nfc, Nfkd, Nfkc}
 use Rattle.ucd_model.specs.declared.image.Image.{Image}
-use Rattle.ucd_model.specs.declared.image.Image.TheVariants.{Same}
 use Rattle.ucd_model.specs.declared.property.Core.{Core}
+use Rattle.ucd_model.specs.declared.property.Core.TheVariants.{ChangesWhenLowercased, ChangesWhenUppercased, ChangesWhenTitlecased, ChangesWhenCasefolded, ChangesWhenCasemapped, XidStart, XidContinue}
 use Rattle.ucd_model.specs.declared.records.Record.{Record as KeptRecord}
 
 pub record Record : Type 0 where
@@ -32,6 +40,21 @@ pub record Record : Type 0 where
   pub casefold : Image
   pub changes_casefold : Bool
 
+abbrev pub kept_record : KeptRecord → Record
+kept_record k = record {
+  category = k.category;
+  class = k.class;
+  kind = k.kind;
+  core = has_core k.core;
+  exclusion = k.exclusion;
+  nfd = k.nfd;
+  nfc = k.nfc;
+  nfkd = k.nfkd;
+  nfkc = k.nfkc;
+  casefold = k.casefold;
+  changes_casefold = k.changes_casefold;
+}
+
 pub record ShowsRecord (kept : KeptRecord) (R : Record) : Type 0 where
   pub category : kept.category ≡ R.category
   pub class : kept.class ≡ R.class
@@ -45,17 +68,37 @@ pub record ShowsRecord (kept : KeptRecord) (R : Record) : Type 0 where
   pub casefold : kept.casefold ≡ R.casefold
   pub changes_casefold : kept.changes_casefold ≡ R.changes_casefold
 
+abbrev pub core_at : (ℕ → Facts) → ℕ → Core → Bool
+core_at F c ChangesWhenLowercased = changes_when lowers F c
+core_at F c ChangesWhenUppercased = changes_when uppers F c
+core_at F c ChangesWhenTitlecased = changes_when titles F c
+core_at F c ChangesWhenCasefolded = changes_when folds F c
+core_at F c ChangesWhenCasemapped = changes_when casemaps F c
+core_at F c XidStart = xid_start F c
+core_at F c XidContinue = xid_continue F c
+core_at F c core = holds core c (F c)
+
+abbrev pub changes_image : ℕ → Image → Bool
+changes_image c i = not (bytes_eq (image_points c i) (c ∷ []))
+
 abbrev pub record_at : (ℕ → Facts) → ℕ → Record
 record_at F c = record {
   category = (F c).category;
   class = (F c).class;
   kind = (F c).kind;
-  core = λ core. holds core c (F c);
-  exclusion = false;
-  nfd = Yes;
-  nfc = Yes;
-  nfkd = Yes;
-  nfkc = Yes;
-  casefold = Same;
-  changes_casefold = false;
+  core = core_at F c;
+  exclusion = full_exclusion F c;
+  nfd = quick_or_yes (quick F Nfd c);
+  nfc = quick_or_yes (quick F Nfc c);
+  nfkd = quick_or_yes (quick F Nfkd c);
+  nfkc = quick_or_yes (quick F Nfkc c);
+  casefold = image_or_same (casefold_image F c);
+  changes_casefold = changes_image c (image_or_same (casefold_image F c));
 }
+
+abbrev pub record_or_rule : Record → Option Rule → Result Record Rule
+record_or_rule R None = Ok R
+record_or_rule R (Some rule) = Err rule
+
+abbrev pub derived : (ℕ → Facts) → ℕ → Result Record Rule
+derived F c = record_or_rule (record_at F c) (broken F c)

@@ -1,7 +1,6 @@
 -- The rules that every code point of a valid release keeps.
 --
 -- F is the facts of each code point.
--- image_points c i   the points of an image of c: c alone for Same
 -- mappings c G       of a point c with the facts G: its decomposition mapping, and what each simple and full case mapping
 --                    and folding gives
 -- lacks_row F c m    a member of the mapping m of c has no row in UnicodeData.txt; c alone is not looked at
@@ -9,6 +8,7 @@
 -- is_endless F c     V2: the canonical or the compatibility expansion of c needs a chain of eight mappings
 -- is_too_long F c    V3: one of them has more than 64 points
 -- is_hidden F c      V4: c is a primary composite, and a lesser primary composite has the same mapping
+-- is_unfolded F c    V5: the folding rounds from c reach no last one
 -- broken F c         the first of these rules that c breaks; None where it breaks none
 -- first_broken_below n F   the least point below n that breaks a rule, with its first rule
 -- first_broken F     the same, among all points
@@ -19,16 +19,11 @@ use Rattle.std.specs.Str.{bytes_eq}
 use Rattle.ucd_model.specs.Composites.{primary, pair_of}
 use Rattle.ucd_model.specs.Expansion.{full}
 use Rattle.ucd_model.specs.Limits.{point_count}
-use Rattle.ucd_model.specs.Facts.{Facts}
+use Rattle.ucd_model.specs.Facts.{Facts, image_points}
+use Rattle.ucd_model.specs.FoldRounds.{casefold}
 use Rattle.ucd_model.specs.declared.form.Bad.{Bad as Rule}
-use Rattle.ucd_model.specs.declared.form.Bad.TheVariants.{V1, V2, V3, V4}
+use Rattle.ucd_model.specs.declared.form.Bad.TheVariants.{V1, V2, V3, V4, V5}
 use Rattle.ucd_model.specs.declared.form.Broken.{Broken}
-use Rattle.ucd_model.specs.declared.image.Image.{Image}
-use Rattle.ucd_model.specs.declared.image.Image.TheVariants.{Same, To}
-
-abbrev pub image_points : ℕ → Image → List ℕ
-image_points c Same = c ∷ []
-image_points c (To points) = points
 
 abbrev pub mappings : ℕ → Facts → List (List ℕ)
 mappings c G =
@@ -66,12 +61,16 @@ is_other c None = false
 abbrev pub is_hidden : (ℕ → Facts) → ℕ → Bool
 is_hidden F c = primary F c && is_other c (composite_of F (F c).mapping)
 
+abbrev pub is_unfolded : (ℕ → Facts) → ℕ → Bool
+is_unfolded F c = is_none (casefold F c)
+
 unfoldable pub broken : (ℕ → Facts) → ℕ → Option Rule
 broken F c =
     if lacks_a_row F c then Some V1
     else (if is_endless F c then Some V2
     else (if is_too_long F c then Some V3
-    else (if is_hidden F c then Some V4 else None)))
+    else (if is_hidden F c then Some V4
+    else (if is_unfolded F c then Some V5 else None))))
 
 abbrev pub broken_at : (ℕ → Facts) → Option ℕ → Option Broken
 broken_at F None = None

@@ -1,6 +1,6 @@
 //! Images of code points under case mappings.
 
-ghost use Rattle.std.specs.Prelude.{◌≡◌};
+ghost use Rattle.std.specs.Prelude.{◌≡◌, IsTrue};
 ghost use Rattle.ucd_model.specs.Facts.{image};
 ghost use Rattle.ucd_model.specs.View.{image_shown};
 
@@ -33,6 +33,18 @@ impl Image {
         match self {
             Image::Same => None,
             Image::To(points) => Some(points.as_slice()),
+        }
+    }
+
+    /// Whether two images are equal.
+    pub fn is_same(&self, other: &Image) -> bool
+        ensures equal { IsTrue result → self.now ≡ other.now }
+        ensures same { self.now ≡ other.now → IsTrue result }
+    {
+        match (self, other) {
+            (Image::Same, Image::Same) => true,
+            (Image::To(a), Image::To(b)) => a.as_slice() == b.as_slice(),
+            _ => false,
         }
     }
 }

@@ -16,10 +16,12 @@ mod list;
 mod memory;
 mod point;
 mod property;
+mod query;
 mod records;
 mod row;
 mod sets;
 mod span;
+mod steps;
 mod view;
 
 pub use category::Category;
@@ -33,10 +35,12 @@ pub use list::{Copied, ListOf, Points, Spans, Text, Texts};
 pub use memory::Memory;
 pub use point::{Point, point_count};
 pub use property::{Core, Flag};
+pub use query::{Queries, Query};
 pub use records::{Record, Records};
 pub use row::{
     AliasRow, CasingRow, DataRow, ExclusionRow, FoldRow, FoldStatus, Kept, Row, Rows, ValueRow,
 };
 pub use sets::{CoreSet, Flags};
 pub use span::Span;
+pub use steps::Steps;
 pub use view::{FactView, FactsRef};

@@ -1,6 +1,6 @@
 //! What is derived of each code point.
 
-ghost use Rattle.std.specs.Prelude.{ℕ};
+ghost use Rattle.std.specs.Prelude.{◌≡◌, ℕ, IsTrue};
 ghost use Rattle.ucd_model.specs.Records.{Record, ShowsRecord};
 
 use crate::category::Category;
@@ -35,6 +35,53 @@ pub struct Record {
     pub casefold: Image,
     /// Changes_When_NFKC_Casefolded.
     pub changes_casefold: bool,
+}
+
+impl Record {
+    /// Whether two records are equal.
+    #[tactic(auto, using(crate::proofs::RecordLemmas::same_fields))]
+    pub fn is_same(&self, other: &Record) -> bool
+        ensures equal { IsTrue result → self.now ≡ other.now }
+        ensures same { self.now ≡ other.now → IsTrue result }
+    {
+        has_same_facts(self, other) && has_same_checks(self, other) && has_same_folding(self, other)
+    }
+}
+
+/// Whether two records are equal in what follows from the facts of the code point alone.
+fn has_same_facts(a: &Record, b: &Record) -> bool
+    ensures category { IsTrue result → a.now.category ≡ b.now.category }
+    ensures class { IsTrue result → a.now.class ≡ b.now.class }
+    ensures kind { IsTrue result → a.now.kind ≡ b.now.kind }
+    ensures core { IsTrue result → a.now.core ≡ b.now.core }
+    ensures same { a.now ≡ b.now → IsTrue result }
+{
+    a.core == b.core && a.category == b.category && a.class == b.class && a.kind == b.kind
+}
+
+/// Whether two records are equal in the exclusion and the quick checks.
+fn has_same_checks(a: &Record, b: &Record) -> bool
+    ensures exclusion { IsTrue result → a.now.exclusion ≡ b.now.exclusion }
+    ensures nfd { IsTrue result → a.now.nfd ≡ b.now.nfd }
+    ensures nfc { IsTrue result → a.now.nfc ≡ b.now.nfc }
+    ensures nfkd { IsTrue result → a.now.nfkd ≡ b.now.nfkd }
+    ensures nfkc { IsTrue result → a.now.nfkc ≡ b.now.nfkc }
+    ensures same { a.now ≡ b.now → IsTrue result }
+{
+    a.exclusion == b.exclusion
+        && a.nfd == b.nfd
+        && a.nfc == b.nfc
+        && a.nfkd == b.nfkd
+        && a.nfkc == b.nfkc
+}
+
+/// Whether two records are equal in the case folding under NFKC.
+fn has_same_folding(a: &Record, b: &Record) -> bool
+    ensures casefold { IsTrue result → a.now.casefold ≡ b.now.casefold }
+    ensures changes { IsTrue result → a.now.changes_casefold ≡ b.now.changes_casefold }
+    ensures same { a.now ≡ b.now → IsTrue result }
+{
+    a.changes_casefold == b.changes_casefold && a.casefold.is_same(&b.casefold)
 }
 
 /// The records of all code points, as they are now. No call takes memory.

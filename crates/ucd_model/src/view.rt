@@ -31,7 +31,8 @@ pub struct FactsRef<'a> {
     pub excluded: bool,
 }
 
-/// The facts of all code points, as they are now. No call takes memory.
+/// The facts of all code points, as they are now. No call takes memory. What is asked of single facts may be found sooner
+/// than all of them.
 pub trait FactView {
     // the facts of each code point
     ghost facts_of: { Self → ℕ → Facts };
@@ -48,4 +49,32 @@ pub trait FactView {
     /// Whether `y` is the second member of a primary composite's mapping.
     fn second(&self, y: Point) -> bool
         ensures { result ≡ second_of (facts_of self.now) y };
+
+    /// Whether a row of UnicodeData.txt covers a code point.
+    fn is_assigned(&self, c: Point) -> bool
+        ensures { result ≡ (facts_of self.now c).assigned }
+    {
+        self.facts(c).assigned
+    }
+
+    /// The canonical combining class of a code point.
+    fn class(&self, c: Point) -> u8
+        ensures { result ≡ (facts_of self.now c).class }
+    {
+        self.facts(c).class
+    }
+
+    /// The kind of a code point's decomposition mapping.
+    fn kind(&self, c: Point) -> Kind
+        ensures { result ≡ (facts_of self.now c).kind }
+    {
+        self.facts(c).kind
+    }
+
+    /// The decomposition mapping of a code point; no code points where it has none.
+    fn mapping(&self, c: Point) -> &[Point]
+        ensures { result.now ≡ (facts_of self.now c).mapping }
+    {
+        self.facts(c).mapping
+    }
 }

@@ -1,0 +1,26 @@
+//! Questions about the facts of code points.
+
+use crate::list::{Copied, ListOf};
+use crate::memory::Memory;
+use crate::point::Point;
+use std::alloc::Global;
+
+/// A question that the derivation of a code point asks.
+#[derive(Clone, Copy, Debug, PartialEq, Eq)]
+pub enum Query {
+    /// The facts of a code point.
+    Row(Point),
+    /// The primary composite of two code points.
+    Pair(Point, Point),
+    /// Whether a code point is the second member of a primary composite's mapping.
+    Second(Point),
+}
+
+/// Questions.
+pub type Queries = ListOf<Query>;
+
+impl Copied for Query {
+    fn copied(&self, _alloc: Global) -> Result<Query, Memory> {
+        Ok(*self)
+    }
+}

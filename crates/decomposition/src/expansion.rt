@@ -79,9 +79,8 @@ fn put(points: &mut Points, c: Point) -> Result<(), Memory>
 pub fn counted<W: FactView>(view: &W, compat: bool, c: Point) -> &[Point]
     ensures { result.now ≡ counted (W.facts_of view.now) compat c }
 {
-    let facts = view.facts(c);
-    if counts(compat, facts.kind) {
-        facts.mapping
+    if counts(compat, view.kind(c)) {
+        view.mapping(c)
     } else {
         &[]
     }

@@ -22,14 +22,14 @@ fn place<W: FactView>(view: &W, s: &mut Points, at: usize)
         ++ drop (at + 1) s.old }
 {
     let y = s.as_slice()[at];
-    let class = view.facts(y).class;
+    let class = view.class(y);
     if class == 0 {
         return;
     }
     let mut place = at;
     'greater: while place > 0 {
         let before = s.as_slice()[place - 1];
-        if view.facts(before).class <= class {
+        if view.class(before) <= class {
             break;
         }
         s.replace(place, before);

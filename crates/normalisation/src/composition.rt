@@ -60,7 +60,7 @@ fn put_next<W: FactView>(view: &W, s: &mut Points, so_far: SoFar, at: usize) -> 
         (last_starter (class_of (W.facts_of view.now)) (take result.len s.new)) result.starter }
 {
     let y = s.as_slice()[at];
-    let class = view.facts(y).class;
+    let class = view.class(y);
     match joined(view, s, so_far.starter, y, class) {
         Some(join) => {
             s.replace(join.at, join.point);

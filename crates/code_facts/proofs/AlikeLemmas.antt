@@ -2,7 +2,7 @@
 use Rattle.std.proofs.Common.{◌≡◌, ℕ, ◌<◌, ap, sym, subst}
 use Rattle.ucd_model.specs.Facts.{Facts}
 use Rattle.ucd_model.specs.Sets.{has_flag}
-use Rattle.code_facts.specs.Alike.{Alike}
+use Rattle.ucd_model.specs.Uniform.{Alike}
 use Rattle.code_facts.specs.KeptFacts.{kept_at, all_kept}
 use Rattle.code_facts.specs.Word.{assigned_of_word, excluded_of_word, mid_word_of_word, category_of_word, class_of_word, kind_of_word, flags_of_word}
 use Rattle.code_facts.specs.declared.kept_facts.KeptFacts.{KeptFacts}

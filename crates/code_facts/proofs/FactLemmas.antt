@@ -11,7 +11,7 @@ use Rattle.ucd_model.specs.declared.row.DataRow.{DataRow}
 use Rattle.ucd_model.specs.declared.row.CasingRow.{CasingRow}
 use Rattle.ucd_model.specs.declared.row.FoldStatus.TheVariants as status
 use Rattle.ucd_model.specs.declared.files.SourceFile.TheVariants.{UnicodeData, CaseFolding, SpecialCasing}
-use Rattle.code_facts.specs.Word.{packed, assigned_of_word, excluded_of_word, mid_word_of_word, category_of_word, class_of_word, kind_of_word, flags_of_word}
+use Rattle.code_facts.specs.Word.{packed, assigned_of_word, excluded_of_word, mid_word_of_word, category_of_word, class_of_word, kind_of_word, flags_of_word, ReadsBack}
 use Rattle.code_facts.specs.Rows.{PointData, row_data, upper_list, lower_list, title_list}
 use Rattle.code_facts.specs.Marks.{marks_before}
 use Rattle.code_facts.specs.PointLists.{lists_now}
@@ -19,7 +19,7 @@ use Rattle.code_facts.specs.Found.{found}
 use Rattle.code_facts.specs.CaseMaps.{KeepsImages}
 use Rattle.code_facts.specs.KeptFacts.{full_image, kept_at, all_kept}
 use Rattle.code_facts.specs.declared.kept_facts.KeptFacts.{KeptFacts}
-use Rattle.code_facts.proofs.WordLemmas.{ReadsBack, reads_back, one_small, category_small, kind_small}
+use Rattle.code_facts.proofs.WordLemmas.{reads_back, one_small, category_small, kind_small}
 use Rattle.code_facts.proofs.MarkLemmas.{marks_are}
 use Rattle.code_facts.proofs.IndexLemmas.{SameComposite}
 
@@ -31,9 +31,27 @@ pub kept_outside : {T : Type 0} (now : T → ℕ → ℕ) (t : KeptFacts T) (c :
 unfolding all_kept
 kept_outside now t c le = rw (le-ltb c point_count le) refl
 
+-- what a word says is what is kept
+word_back : {T : Type 0} (now : T → ℕ → ℕ) (t : KeptFacts T) (c : ℕ) → ReadsBack (now t.words c) (kept_at now t c)
+word_back now t c = record {
+  assigned = refl;
+  excluded = refl;
+  mid_word = refl;
+  category = refl;
+  class = refl;
+  kind = refl;
+  flag = λ f. refl;
+}
+
 pub point_below : (c : ℕ) → c < 1114112 → c < point_count
 unfolding point_count
 point_below c lt = lt
+
+pub kept_word : {T : Type 0} (now : T → ℕ → ℕ) (t : KeptFacts T) (c : ℕ) → c < 1114112 → ReadsBack (now t.words c) (all_kept now t c)
+kept_word now t c inside = rw (kept_inside now t c (point_below c inside)) (word_back now t c)
+
+pub kept_mapping : {T : Type 0} (now : T → ℕ → ℕ) (t : KeptFacts T) (c : ℕ) → c < 1114112 → lists_now t.mappings c ≡ (all_kept now t c).mapping
+kept_mapping now t c inside = rw (kept_inside now t c (point_below c inside)) refl
 
 pub below_point : (c : ℕ) → c < point_count → c < 1114112
 unfolding point_count

@@ -1,5 +1,5 @@
 -- Where nothing is kept of mappings, a code point has none.
-use Rattle.std.proofs.Common.{◌≡◌, ℕ, ◌<◌, ◌≤◌, false, List, [], ◌∷◌, Option, Some, None, unwrap_or, refl, ap, ◌∙◌, arith}
+use Rattle.std.proofs.Common.{◌≡◌, ℕ, ◌<◌, ◌≤◌, Bool, true, false, IsTrue, List, [], ◌∷◌, Option, Some, None, unwrap_or, refl, ap, ◌∙◌, arith}
 use Rattle.std.specs.Option.{IsSome}
 use Rattle.std.specs.Ordering.{nat_cmp, is_gt}
 use Rattle.std.proofs.lemmas.Slice.Eq.{bytes_eq-Decides}
@@ -8,11 +8,14 @@ use Rattle.std.proofs.lemmas.Bool.Decides.{nat_tests}
 use Rattle.std.specs.BTreeMap.{BTreeMap}
 use Rattle.std.specs.BTreeMap.Range.{IsLeBy}
 use Rattle.ucd_model.specs.Facts.{image, only_or}
+use Rattle.ucd_model.specs.Uniform.{IsPlain}
 use Rattle.ucd_model.specs.declared.image.Image.TheVariants.{Same}
 use Rattle.code_facts.specs.Found.{found}
+use Rattle.code_facts.specs.Index.{second_in}
 use Rattle.code_facts.specs.KeptFacts.{full_image, kept_at, all_kept}
 use Rattle.code_facts.specs.PointLists.{lists_now}
-use Rattle.code_facts.specs.Plain.{IsPlain, HasNoLists, HasNoImages}
+use Rattle.code_facts.specs.Plain.{HasNoLists, HasNoImages}
+use Rattle.code_facts.specs.declared.composites.Composites.{Composites}
 use Rattle.code_facts.specs.declared.kept_facts.KeptFacts.{KeptFacts}
 use Rattle.code_facts.proofs.FactLemmas.{kept_inside, point_below}
 
@@ -26,6 +29,14 @@ none_is (Some x) h = absurd (h refl)
 -- before the least of the keys from some point on, there is none
 pub absent_before : (map : BTreeMap ℕ (List ℕ)) (next d : ℕ) → d < next → (IsSome (found map d) → IsLeBy nat_cmp next d) → found map d ≡ None
 absent_before map next d lt least = none_is (found map d) (λ some. omega (arith, le_from_not_gt next d (least some)))
+
+not_true : (b : Bool) → (IsTrue b → ⊥) → b ≡ false
+not_true false h = refl
+not_true true h = absurd (h refl)
+
+-- and so of second members
+pub second_absent : (index : Composites) (next d : ℕ) → d < next → (IsTrue (second_in index d) → IsLeBy nat_cmp next d) → second_in index d ≡ false
+second_absent index next d lt least = not_true (second_in index d) (λ some. omega (arith, le_from_not_gt next d (least some)))
 
 itself : (c : ℕ) → image c (c ∷ []) ≡ Same
 itself c = rw ((bytes_eq-Decides (c ∷ []) (c ∷ [])).1 refl) refl

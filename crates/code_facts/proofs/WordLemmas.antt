@@ -11,7 +11,7 @@ use Rattle.ucd_model.specs.declared.decomposition.Kind.{Kind}
 use Rattle.ucd_model.specs.declared.decomposition.Kind.TheVariants.{Plain, Canonical, Compat}
 use Rattle.ucd_model.specs.declared.property.Flag.{Flag}
 use Rattle.ucd_model.specs.declared.property.Flag.TheVariants.{WhiteSpace, OtherMath, OtherLowercase, OtherUppercase, OtherAlphabetic, OtherIdStart, OtherIdContinue, PatternSyntax, PatternWhiteSpace, OtherDefaultIgnorableCodePoint, VariationSelector, PrependedConcatenationMark, OtherGraphemeExtend, NoncharacterCodePoint}
-use Rattle.code_facts.specs.Word.{one_if, category_place, kind_place, all_flags, flag_bit, packed, category_at, kind_at, assigned_of_word, excluded_of_word, mid_word_of_word, category_of_word, class_of_word, kind_of_word, flags_of_word}
+use Rattle.code_facts.specs.Word.{one_if, category_place, kind_place, all_flags, flag_bit, packed, category_at, kind_at, ReadsBack}
 
 -- ---- places
 
@@ -218,15 +218,6 @@ digits w a e m p c k s is a2 e2 m2 p30 c256 k18 s16384 = record {
   kind = omega arith;
   flags = omega arith;
 }
-
-pub record ReadsBack (w : ℕ) (F : Facts) : Type 0 where
-  pub assigned : assigned_of_word w ≡ F.assigned
-  pub excluded : excluded_of_word w ≡ F.excluded
-  pub mid_word : mid_word_of_word w ≡ F.mid_word
-  pub category : category_of_word w ≡ F.category
-  pub class : class_of_word w ≡ F.class
-  pub kind : kind_of_word w ≡ F.kind
-  pub flag : (flag : Flag) → has_flag (flags_of_word w) flag ≡ F.flag flag
 
 packed_digits : (F : Facts) → F.class < 256 → Digits (packed F) (one_if F.assigned) (one_if F.excluded) (one_if F.mid_word) (category_place F.category) F.class (kind_place F.kind) (number (flag_list F.flag))
 packed_digits F small =

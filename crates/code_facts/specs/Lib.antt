@@ -10,5 +10,4 @@ pub mod KeptFacts
 pub mod Index
 pub mod FactTables
 pub mod NowView
-pub mod Alike
 pub mod Plain

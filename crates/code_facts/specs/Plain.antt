@@ -1,29 +1,15 @@
--- Code points without a mapping. UAX #44, sections 5.6 and 5.7.
+-- Stretches of code points, and what is kept of mappings. UAX #44, sections 5.6 and 5.7.
 --
--- IsPlain c F         by its facts F the code point c has no mapping: no decomposition, and every image is c itself
 -- IsOwnImage c shown  each simple image of the shown facts is c; ShowsNoImage shown: none of their images is shown
 -- HoldsTo P c last    last is not before c, and P holds of all numbers from c to last
 -- HasNoLists t c      the tables t keep an empty list of each kind for c
 -- HasNoImages maps c  no map has c
 use Rattle.std.specs.Prelude.{◌≡◌, ℕ, ◌≤◌, [], None}
-use Rattle.ucd_model.specs.Facts.{Facts}
-use Rattle.ucd_model.specs.declared.image.Image.TheVariants.{Same}
 use Rattle.ucd_model.specs.declared.view.FactsRef.{FactsRef}
 use Rattle.code_facts.specs.Found.{found}
 use Rattle.code_facts.specs.PointLists.{lists_now}
 use Rattle.code_facts.specs.declared.case_maps.CaseMaps.{CaseMaps}
 use Rattle.code_facts.specs.declared.kept_facts.KeptFacts.{KeptFacts}
-
-pub record IsPlain (c : ℕ) (F : Facts) : Type 0 where
-  pub mapping : F.mapping ≡ []
-  pub simple_upper : F.simple_upper ≡ c
-  pub simple_lower : F.simple_lower ≡ c
-  pub simple_title : F.simple_title ≡ c
-  pub simple_fold : F.simple_fold ≡ c
-  pub upper : F.upper ≡ Same
-  pub lower : F.lower ≡ Same
-  pub title : F.title ≡ Same
-  pub fold : F.fold ≡ Same
 
 pub record IsOwnImage (c : ℕ) (shown : FactsRef) : Type 0 where
   pub upper : shown.simple_upper ≡ c

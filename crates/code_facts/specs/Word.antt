@@ -13,9 +13,10 @@
 -- assigned_of_word w   whether the word says that the point is assigned; and so the others
 -- category_at p        the category of a place; kind_at p: the kind
 -- flags_of_word w      the set of flags
-use Rattle.std.specs.Prelude.{ℕ, ◌+◌, ◌*◌, ◌/◌, ◌%◌, ◌^◌, Bool, true, false, ◌==◌, List, [], ◌∷◌, slice_index_or, sum_by}
+-- ReadsBack w F        the word says of all that it has room for what the facts F say
+use Rattle.std.specs.Prelude.{◌≡◌, ℕ, ◌+◌, ◌*◌, ◌/◌, ◌%◌, ◌^◌, Bool, true, false, ◌==◌, List, [], ◌∷◌, slice_index_or, sum_by}
 use Rattle.ucd_model.specs.Facts.{Facts}
-use Rattle.ucd_model.specs.Sets.{flag_place}
+use Rattle.ucd_model.specs.Sets.{flag_place, has_flag}
 use Rattle.ucd_model.specs.declared.category.Category.{Category}
 use Rattle.ucd_model.specs.declared.category.Category.TheVariants.{Lu, Ll, Lt, Lm, Lo, Mn, Mc, Me, Nd, Nl, No, Pc, Pd, Ps, Pe, Pi, Pf, Po, Sm, Sc, Sk, So, Zs, Zl, Zp, Cc, Cf, Cs, Co, Cn}
 use Rattle.ucd_model.specs.declared.decomposition.Tag.{Tag}
@@ -133,3 +134,12 @@ kind_of_word word = kind_at (word / 65536 % 256)
 
 abbrev pub flags_of_word : ℕ → ℕ
 flags_of_word word = word / 16777216 % 16384
+
+pub record ReadsBack (w : ℕ) (F : Facts) : Type 0 where
+  pub assigned : assigned_of_word w ≡ F.assigned
+  pub excluded : excluded_of_word w ≡ F.excluded
+  pub mid_word : mid_word_of_word w ≡ F.mid_word
+  pub category : category_of_word w ≡ F.category
+  pub class : class_of_word w ≡ F.class
+  pub kind : kind_of_word w ≡ F.kind
+  pub flag : (flag : Flag) → has_flag (flags_of_word w) flag ≡ F.flag flag

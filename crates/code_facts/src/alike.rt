@@ -1,7 +1,7 @@
 //! How far the facts of code points stay alike.
 
-ghost use Rattle.std.specs.Prelude.{◌≤◌, ℕ};
-ghost use Rattle.code_facts.specs.Alike.{Alike};
+ghost use Rattle.ucd_model.specs.Uniform.{Alike};
+ghost use Rattle.code_facts.specs.Plain.{HoldsTo};
 
 use crate::fact_tables::FactTables;
 use range_table::RunTable;
@@ -9,10 +9,9 @@ use ucd_model::{FactView, Point};
 
 impl FactTables<RunTable<u64>> {
     /// The last code point of the run of those whose facts differ from those of `c` in mappings and images alone.
-    pub fn last_alike(&self, c: Point) -> Point
-        ensures from { c ≤ result }
-        ensures alike { (d : ℕ) → c ≤ d → d ≤ result
-            → Alike (⟦<FactTables<RunTable<u64>> as FactView>⟧.facts_of self.now d) (⟦<FactTables<RunTable<u64>> as FactView>⟧.facts_of self.now c) }
+    pub(crate) fn last_alike(&self, c: Point) -> Point
+        ensures { HoldsTo (λ d. Alike (⟦<FactTables<RunTable<u64>> as FactView>⟧.facts_of self.now d)
+            (⟦<FactTables<RunTable<u64>> as FactView>⟧.facts_of self.now c)) c result }
     {
         let last = self.kept.words.last_of_run(c);
         let _first = c.number();

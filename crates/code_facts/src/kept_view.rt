@@ -5,6 +5,7 @@ ghost use Rattle.ucd_model.specs.View.{ShowsFacts};
 ghost use Rattle.ucd_model.specs.Composites.{composes, ends_with};
 ghost use Rattle.code_facts.specs.KeptFacts.{kept_at, all_kept};
 ghost use Rattle.code_facts.specs.Index.{is_that, ends_that};
+ghost use Rattle.code_facts.specs.Word.{ReadsBack};
 
 use crate::images::{first_list, first_or, folding, full_image, simple_folding};
 use crate::kept_facts::KeptFacts;
@@ -52,18 +53,55 @@ impl<T: Table<u64>> KeptFacts<T> {
         }
     }
 
+    /// Whether a row of UnicodeData.txt covers a code point.
+    pub fn is_assigned(&self, c: Point) -> bool
+        ensures { result ≡ (all_kept T.now self.now c).assigned }
+    {
+        is_assigned(self.word(c))
+    }
+
+    /// The canonical combining class of a code point.
+    pub fn class(&self, c: Point) -> u8
+        ensures { result ≡ (all_kept T.now self.now c).class }
+    {
+        class_of(self.word(c))
+    }
+
+    /// The kind of the mapping of a code point.
+    pub fn kind(&self, c: Point) -> Kind
+        ensures { result ≡ (all_kept T.now self.now c).kind }
+    {
+        kind_of(self.word(c))
+    }
+
+    /// The mapping of a code point.
+    pub fn mapping(&self, c: Point) -> &[Point]
+        ensures { result.now ≡ (all_kept T.now self.now c).mapping }
+    {
+        let _number = c.number();
+        self.mappings.get(c)
+    }
+
+    /// The packed word of a code point.
+    fn word(&self, c: Point) -> u64
+        ensures { ReadsBack result (all_kept T.now self.now c) }
+    {
+        let _number = c.number();
+        self.words.get(c)
+    }
+
     /// The members of the mapping of a primary composite.
     pub fn members(&self, q: Point) -> Option<(Point, Point)>
         ensures pair { (s y : ℕ) → is_that s y result ≡ composes (all_kept T.now self.now) s y q }
         ensures second { (y : ℕ) → ends_that y result ≡ ends_with (all_kept T.now self.now) y q }
     {
-        let facts = self.facts(q);
-        match facts.mapping {
+        let word = self.word(q);
+        match self.mapping(q) {
             [s, y]
-                if matches!(facts.kind, Kind::Canonical)
-                    && facts.class == 0
-                    && !facts.excluded
-                    && self.facts(*s).class == 0 => { Some((*s, *y)) }
+                if matches!(kind_of(word), Kind::Canonical)
+                    && class_of(word) == 0
+                    && !is_excluded(word)
+                    && self.class(*s) == 0 => { Some((*s, *y)) }
             _ => None,
         }
     }

@@ -23,6 +23,7 @@ mod plain;
 mod point_lists;
 mod points;
 mod rows;
+mod uniform;
 mod view;
 mod word;
 

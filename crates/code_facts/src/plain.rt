@@ -4,9 +4,10 @@ ghost use Rattle.std.specs.Prelude.{◌≡◌, ◌≤◌, ◌↔◌, ℕ, [], No
 ghost use Rattle.std.specs.Option.{SomeIff};
 ghost use Rattle.ucd_model.specs.Facts.{Facts};
 ghost use Rattle.ucd_model.specs.View.{ShowsFacts};
+ghost use Rattle.ucd_model.specs.Uniform.{IsPlain};
 ghost use Rattle.code_facts.specs.Found.{found};
 ghost use Rattle.code_facts.specs.PointLists.{lists_now};
-ghost use Rattle.code_facts.specs.Plain.{IsPlain, IsOwnImage, ShowsNoImage, HoldsTo, HasNoLists, HasNoImages};
+ghost use Rattle.code_facts.specs.Plain.{IsOwnImage, ShowsNoImage, HoldsTo, HasNoLists, HasNoImages};
 
 use crate::case_maps::CaseMaps;
 use crate::fact_tables::FactTables;
@@ -20,7 +21,7 @@ use ucd_model::{FactView, FactsRef, Point, Points};
 impl FactTables<RunTable<u64>> {
     /// A code point up to which none from `c` on has a mapping of any kind; `None` exactly where `c` has one. UAX #44,
     /// sections 5.6 and 5.7. It reaches as far as nothing is kept of mappings, and is found by a few look-ups.
-    pub fn last_plain(&self, c: Point) -> Option<Point>
+    pub(crate) fn last_plain(&self, c: Point) -> Option<Point>
         ensures plain { IsSome result
             ↔ IsPlain c (⟦<FactTables<RunTable<u64>> as FactView>⟧.facts_of self.now c) }
         ensures stretch { IfSome result (HoldsTo (λ d.

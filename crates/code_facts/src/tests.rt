@@ -154,9 +154,10 @@ fn pairs_to(tables: &Tables, s: u32, y: u32, composite: u32) -> Result<bool, Fai
     Ok(found == shown && found == Some(point(composite)?))
 }
 
-/// Stretches end before the next mapping, whichever file gives it. A folding to the code point itself is none.
+/// Stretches end before the next mapping, whichever file gives it, and where other facts change. A folding to the code
+/// point itself is no mapping.
 #[test]
-fn stretches_without_mappings(rt: HostRuntime) -> Result<(), Fail> {
+fn stretches_of_equal_facts(rt: HostRuntime) -> Result<(), Fail> {
     let tables = tables(
         rt.alloc(),
         b"0041;LATIN CAPITAL LETTER A;Lu;0;L;;;;;N;;;;0061;\n0061;LATIN SMALL LETTER A;Ll;0;L;;;;;N;;;0041;;0041\n00AA;FEMININE ORDINAL INDICATOR;Lo;0;L;<super> 0061;;;;N;;;;;\n",
@@ -165,7 +166,9 @@ fn stretches_without_mappings(rt: HostRuntime) -> Result<(), Fail> {
         b"FB00; FB00; 0046 0066; 0046 0046;\n",
     )?;
     for (first, last) in [
-        (0, Some(0x40)),
+        (0, Some(0x26)),
+        (0x27, Some(0x27)),
+        (0x28, Some(0x40)),
         (0x41, None),
         (0x60, Some(0x60)),
         (0x62, Some(0xA9)),
@@ -174,17 +177,72 @@ fn stretches_without_mappings(rt: HostRuntime) -> Result<(), Fail> {
         (0xDF, None),
         (0xE0, Some(0x147)),
         (0x148, Some(0x148)),
-        (0x149, Some(0xFAFF)),
+        (0x149, Some(0x149)),
+        (0x14A, Some(0x957)),
+        (0x958, Some(0x95F)),
+        (0x960, Some(0xFAFF)),
         (0xFB00, None),
         (0xFB01, Some(0x10FFFF)),
     ] {
-        assert!(rt; is_plain_to(&tables, first, last)?);
+        assert!(rt; is_uniform_to(&tables, first, last)?);
     }
     Ok(())
 }
 
+/// A second member is alone, whatever its neighbours are.
+#[test]
+fn stretches_end_at_second_members(rt: HostRuntime) -> Result<(), Fail> {
+    let tables = marks(rt.alloc())?;
+    for (first, last) in [
+        (0x304, 0x304),
+        (0x305, 0x305),
+        (0x306, 0x306),
+        (0x307, 0x307),
+    ] {
+        assert!(rt; is_uniform_to(&tables, first, Some(last))?);
+    }
+    Ok(())
+}
+
+#[test]
+fn single_facts_are_those_of_the_row(rt: HostRuntime) -> Result<(), Fail> {
+    let tables = marks(rt.alloc())?;
+    assert!(rt; has_single_facts(&tables)?);
+    assert!(rt; has_single_facts(&tables.now())?);
+    Ok(())
+}
+
+/// A composite, its second member, and the neighbours of that, which are the second members of none here.
+fn marks(alloc: Global) -> Result<Tables, Fail> {
+    tables(
+        alloc,
+        b"0103;LATIN SMALL LETTER A WITH BREVE;Ll;0;L;0061 0306;;;;N;LATIN SMALL LETTER A BREVE;;0102;;0102\n0305;COMBINING OVERLINE;Mn;230;NSM;;;;;N;NON-SPACING OVERSCORE;;;;\n0306;COMBINING BREVE;Mn;230;NSM;;;;;N;NON-SPACING BREVE;;;;\n0307;COMBINING DOT ABOVE;Mn;230;NSM;;;;;N;NON-SPACING DOT ABOVE;;;;\n",
+        b"",
+        b"",
+        b"",
+    )
+}
+
+/// Whether the single facts of 0103, of 0306 and of a code point without a row are those of `marks`.
+fn has_single_facts<W: FactView>(view: &W) -> Result<bool, Fail> {
+    let composite = point(0x103)?;
+    let mark = point(0x306)?;
+    let other = point(0x304)?;
+    Ok(
+        view.is_assigned(composite)
+            && view.class(composite) == 0
+            && view.kind(composite) == Kind::Canonical
+            && are(view.mapping(composite), &[0x61, 0x306])
+            && view.is_assigned(mark)
+            && view.class(mark) == 230
+            && view.mapping(mark).is_empty()
+            && !view.is_assigned(other)
+            && view.kind(other) == Kind::Plain,
+    )
+}
+
 /// Whether the stretch of a code point ends so.
-fn is_plain_to(tables: &Tables, first: u32, last: Option<u32>) -> Result<bool, Fail> {
-    let found = tables.last_plain(point(first)?).map(|c| c.number());
+fn is_uniform_to(tables: &Tables, first: u32, last: Option<u32>) -> Result<bool, Fail> {
+    let found = tables.last_uniform(point(first)?).map(|c| c.number());
     Ok(found == last)
 }

@@ -6,7 +6,7 @@ ghost use Rattle.code_facts.specs.NowView.{facts_now};
 
 use crate::fact_tables::FactTables;
 use range_table::Table;
-use ucd_model::{FactView, FactsRef, Point};
+use ucd_model::{FactView, FactsRef, Kind, Point};
 
 /// The facts of code points now.
 #[derive(Clone, Copy)]
@@ -27,6 +27,22 @@ impl<T: Table<u64>> FactView for FactTables<T> {
 
     fn second(&self, y: Point) -> bool {
         self.composites.second(y)
+    }
+
+    fn is_assigned(&self, c: Point) -> bool {
+        self.kept.is_assigned(c)
+    }
+
+    fn class(&self, c: Point) -> u8 {
+        self.kept.class(c)
+    }
+
+    fn kind(&self, c: Point) -> Kind {
+        self.kept.kind(c)
+    }
+
+    fn mapping(&self, c: Point) -> &[Point] {
+        self.kept.mapping(c)
     }
 }
 
@@ -52,5 +68,21 @@ impl<T: Table<u64>> FactView for NowView<'_, T> {
 
     fn second(&self, y: Point) -> bool {
         self.tables.second(y)
+    }
+
+    fn is_assigned(&self, c: Point) -> bool {
+        self.tables.is_assigned(c)
+    }
+
+    fn class(&self, c: Point) -> u8 {
+        self.tables.class(c)
+    }
+
+    fn kind(&self, c: Point) -> Kind {
+        self.tables.kind(c)
+    }
+
+    fn mapping(&self, c: Point) -> &[Point] {
+        self.tables.mapping(c)
     }
 }

@@ -1,0 +1,40 @@
+use Rattle.std.proofs.Common.{◌≡◌, ℕ, Bool, List, ap, not, ◌∙◌, ◌||◌, ◌+◌, ◌-◌, length, take, drop, length-drop, arith}
+use Rattle.std.proofs.lemmas.List.{take_all}
+use Rattle.std.specs.Str.{bytes_eq}
+use Rattle.ucd_model.specs.Casing.{lower, upper, fold, lower_of, upper_of, fold_of}
+use Rattle.ucd_model.specs.Facts.{Facts, image_points}
+use Rattle.ucd_model.specs.Predicates.{cased}
+use Rattle.ucd_model.specs.Shown.{shown_facts, shown_is}
+use Rattle.case_derivation.specs.Matching.{matches}
+use Rattle.case_derivation.specs.Steps.{titled, title_image}
+use Rattle.case_derivation.proofs.MatchingLemmas.{mapped_more, titled_more}
+use Rattle.case_derivation.proofs.changes.changes_when.Goals as goal
+
+whole : (s : List ℕ) (i : ℕ) → take (length s - i) (drop i s) ≡ drop i s
+whole s i = take_all (length s - i) (drop i s) (omega (arith, length-drop i s))
+
+either : (a b c x y z all : Bool) → a ≡ x → b ≡ y → c ≡ z → all ≡ (a || (b || c)) → all ≡ (x || (y || z))
+either a b c x y z all p q r e = cc
+
+pub returns-then-not-is_unmapped : goal.returns-then-not-is_unmapped
+returns-then-not-is_unmapped g c =
+    let F : ℕ → Facts = g.W.FactView.facts_of c.args.view.now in
+    let s : List ℕ = c.args.nfd.now in
+    let i : ℕ = c.unmapped.at in
+    let x : ℕ = c.index-nfd-at.result in
+    let is = c.index-nfd-at.is in
+    let G : Facts = shown_facts c.facts-facts.result in
+    let shown = shown_is c.facts-facts.result (F x) c.facts-facts.ensures in
+    let all = c.all_left in
+    let put = c.left_behind-left in
+    let found = c.changes_behind.ensures in
+    let lowered = found.lowered ∙ ap (λ xs. not (matches put.result.lowered (lower F xs))) (whole s (i + 1)) ∙ ap not (mapped_more s i x (omega arith) is all.result.lowered put.result.lowered (image_points x G.lower) put.ensures.lowered (lower_of F) (ap (λ (f : Facts). image_points x f.lower) shown)
+    ∙ all.ensures.lowered _ ∙ ap (bytes_eq (lower F (drop i s))) (whole s i) ∙ c.unmapped.invariant.lowered) in
+    let uppered = found.uppered ∙ ap (λ xs. not (matches put.result.uppered (upper F xs))) (whole s (i + 1)) ∙ ap not (mapped_more s i x (omega arith) is all.result.uppered put.result.uppered (image_points x G.upper) put.ensures.uppered (upper_of F) (ap (λ (f : Facts). image_points x f.upper) shown)
+    ∙ all.ensures.uppered _ ∙ ap (bytes_eq (upper F (drop i s))) (whole s i) ∙ c.unmapped.invariant.uppered) in
+    let titles = found.titled ∙ ap (λ xs. not (matches put.result.titled (titled F put.result.begun xs))) (whole s (i + 1)) ∙ ap not (titled_more s i x (omega arith) is all.result.titled put.result.titled (image_points x (title_image all.result.begun G)) put.ensures.titled F all.result.begun put.result.begun
+    (ap (λ (f : Facts). image_points x (title_image all.result.begun f)) shown) (put.ensures.begun ∙ ap (λ (f : Facts). all.result.begun || cased f) shown)
+    ∙ all.ensures.titled _ ∙ ap (bytes_eq (titled F all.result.begun (drop i s))) (whole s i) ∙ ap (λ b. bytes_eq (titled F b (drop i s)) (drop i s)) all.ensures.begun ∙ c.unmapped.invariant.titled) in
+    let folded = found.folded ∙ ap (λ xs. not (matches put.result.folded (fold F xs))) (whole s (i + 1)) ∙ ap not (mapped_more s i x (omega arith) is all.result.folded put.result.folded (image_points x G.fold) put.ensures.folded (fold_of F) (ap (λ (f : Facts). image_points x f.fold) shown)
+    ∙ all.ensures.folded _ ∙ ap (bytes_eq (fold F (drop i s))) (whole s i) ∙ c.unmapped.invariant.folded) in
+    record { lowered = lowered; uppered = uppered; titled = titles; folded = folded; mapped = either _ _ _ _ _ _ _ lowered uppered titles found.mapped }

@@ -1,0 +1,14 @@
+use Rattle.std.proofs.Common.{◌≡◌, drop}
+use Rattle.std.specs.Str.{bytes_eq}
+use Rattle.ucd_model.specs.Casing.{lower, upper, title, fold}
+use Rattle.case_derivation.specs.Steps.{titled}
+use Rattle.case_derivation.proofs.changes.changes_when.Given as goal
+
+-- the members so far stay, so that all changes exactly where what is left does
+abbrev pub invariant-unmapped : goal.invariant-unmapped
+invariant-unmapped g l = record {
+  lowered : bytes_eq (lower (g.W.FactView.facts_of l.view) (drop l.at l.nfd)) (drop l.at l.nfd) ≡ bytes_eq (lower (g.W.FactView.facts_of l.view) l.nfd) l.nfd;
+  uppered : bytes_eq (upper (g.W.FactView.facts_of l.view) (drop l.at l.nfd)) (drop l.at l.nfd) ≡ bytes_eq (upper (g.W.FactView.facts_of l.view) l.nfd) l.nfd;
+  titled : bytes_eq (titled (g.W.FactView.facts_of l.view) l.begun (drop l.at l.nfd)) (drop l.at l.nfd) ≡ bytes_eq (title (g.W.FactView.facts_of l.view) l.nfd) l.nfd;
+  folded : bytes_eq (fold (g.W.FactView.facts_of l.view) (drop l.at l.nfd)) (drop l.at l.nfd) ≡ bytes_eq (fold (g.W.FactView.facts_of l.view) l.nfd) l.nfd;
+}

@@ -1,0 +1,4 @@
+pub mod Steps
+pub mod Matching
+pub mod CasingLaws
+pub mod CasingProofs

@@ -1,0 +1,88 @@
+//! What changes when a list is mapped.
+
+ghost use Rattle.std.specs.Prelude.{◌≡◌, ◌||◌, not};
+ghost use Rattle.ucd_model.specs.Casing.{lower, upper, fold, lowers, uppers, titles, folds, casemaps};
+ghost use Rattle.ucd_model.specs.Shown.{shown_facts};
+ghost use Rattle.case_derivation.specs.Matching.{matches, is_unmapped};
+ghost use Rattle.case_derivation.specs.Steps.{titled};
+
+use crate::is_cased;
+use crate::matching::{Left, all_left, is_changed, left_behind};
+use ucd_model::{FactView, FactsRef, Point};
+
+/// Which mappings change a list. The Unicode Standard, section 3.13, D139 to D145.
+#[derive(Clone, Copy, Debug, PartialEq, Eq)]
+pub struct Changes {
+    /// The mapping to lower case.
+    pub lowered: bool,
+    /// The mapping to upper case.
+    pub uppered: bool,
+    /// The mapping to title case.
+    pub titled: bool,
+    /// The folding.
+    pub folded: bool,
+    /// One of the mappings to lower, upper and title case.
+    pub mapped: bool,
+}
+
+/// Which mappings change a list. Those that change the canonical decomposition of a code point tell its properties
+/// Changes_When_Lowercased, Changes_When_Uppercased, Changes_When_Titlecased, Changes_When_Casefolded and
+/// Changes_When_Casemapped: UAX #44, section 5.3; The Unicode Standard, section 3.13, D139 to D145.
+///
+/// It takes no memory, and asks for the facts of each member once: each image is matched with the list in place, and nothing
+/// is matched before the first member that a mapping changes.
+pub fn changes_when<W: FactView>(view: &W, nfd: &[Point]) -> Changes
+    ensures lowered { result.lowered ≡ lowers (W.facts_of view.now) nfd.now }
+    ensures uppered { result.uppered ≡ uppers (W.facts_of view.now) nfd.now }
+    ensures titled { result.titled ≡ titles (W.facts_of view.now) nfd.now }
+    ensures folded { result.folded ≡ folds (W.facts_of view.now) nfd.now }
+    ensures mapped { result.mapped ≡ casemaps (W.facts_of view.now) nfd.now }
+{
+    let mut begun = false;
+    'unmapped: for (at, c) in nfd.iter().enumerate() {
+        let facts = view.facts(*c);
+        if !is_unmapped(&facts) {
+            let left = left_behind(all_left(&nfd[at..], begun), *c, &facts);
+            return changes_behind(view, left, &nfd[at + 1..]);
+        }
+        begun = begun || is_cased(&facts);
+    }
+    Changes {
+        lowered: false,
+        uppered: false,
+        titled: false,
+        folded: false,
+        mapped: false,
+    }
+}
+
+/// Whether a code point with these facts is the image of itself by each mapping.
+fn is_unmapped(facts: &FactsRef<'_>) -> bool
+    ensures { result ≡ is_unmapped (shown_facts facts.now) }
+{
+    facts.lower.is_none() && facts.upper.is_none() && facts.title.is_none() && facts.fold.is_none()
+}
+
+/// What is changed once the members in `s` are mapped too.
+fn changes_behind<W: FactView>(view: &W, left: Left<'_>, s: &[Point]) -> Changes
+    ensures lowered { result.lowered ≡ not (matches left.entry.lowered (lower (W.facts_of view.now) s.now)) }
+    ensures uppered { result.uppered ≡ not (matches left.entry.uppered (upper (W.facts_of view.now) s.now)) }
+    ensures titled { result.titled ≡ not (matches left.entry.titled (titled (W.facts_of view.now) left.entry.begun s.now)) }
+    ensures folded { result.folded ≡ not (matches left.entry.folded (fold (W.facts_of view.now) s.now)) }
+    ensures mapped { result.mapped ≡ (result.lowered || (result.uppered || result.titled)) }
+{
+    let mut left = left;
+    'members: for c in s {
+        left = left_behind(left, *c, &view.facts(*c));
+    }
+    let lowered = is_changed(left.lowered);
+    let uppered = is_changed(left.uppered);
+    let titled = is_changed(left.titled);
+    Changes {
+        lowered,
+        uppered,
+        titled,
+        folded: is_changed(left.folded),
+        mapped: lowered || uppered || titled,
+    }
+}

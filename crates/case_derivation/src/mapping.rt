@@ -1,0 +1,89 @@
+//! The mappings that each code point takes by itself: to lower case, to upper case, and the folding.
+
+ghost use Rattle.std.specs.Prelude.{◌≡◌, ◌++◌, IfOk, OnOk, OnErr};
+ghost use Rattle.ucd_model.specs.Casing.{lower, upper, fold, fold_of};
+ghost use Rattle.ucd_model.specs.Facts.{image_points};
+ghost use Rattle.ucd_model.specs.Shown.{shown_facts};
+ghost use Rattle.ucd_model.specs.View.{image_shown};
+ghost use Rattle.case_derivation.specs.Steps.{image_of, mapped_by};
+
+use std::alloc::Global;
+use ucd_model::{FactView, FactsRef, Memory, Point, Points};
+
+/// A full mapping that each code point takes by itself.
+#[derive(Clone, Copy)]
+enum Casing {
+    Lower,
+    Upper,
+    Fold,
+}
+
+/// The list in lower case: the full lower case mappings of its members, joined in order, without context.
+/// The Unicode Standard, section 3.13, toLowercase.
+pub fn lower<W: FactView>(alloc: Global, view: &W, s: &[Point]) -> Result<Points, Memory>
+    ensures { IfOk result (λ points. points ≡ lower (W.facts_of view.now) s.now) }
+{
+    mapped(alloc, view, Casing::Lower, s)
+}
+
+/// The list in upper case: the full upper case mappings of its members, joined in order, without context.
+/// The Unicode Standard, section 3.13, toUppercase.
+pub fn upper<W: FactView>(alloc: Global, view: &W, s: &[Point]) -> Result<Points, Memory>
+    ensures { IfOk result (λ points. points ≡ upper (W.facts_of view.now) s.now) }
+{
+    mapped(alloc, view, Casing::Upper, s)
+}
+
+/// The folded list: the full foldings of its members, joined in order. The Unicode Standard, section 3.13, toCasefold.
+pub fn fold<W: FactView>(alloc: Global, view: &W, s: &[Point]) -> Result<Points, Memory>
+    ensures { IfOk result (λ points. points ≡ fold (W.facts_of view.now) s.now) }
+{
+    mapped(alloc, view, Casing::Fold, s)
+}
+
+/// Puts the full folding of a code point at the end of a list. For want of memory the list stays as it was.
+/// The Unicode Standard, section 3.13, toCasefold.
+pub fn put_fold<W: FactView>(view: &W, c: Point, into: &mut Points) -> Result<(), Memory>
+    ensures ok { OnOk result (into.new ≡ into.old ++ fold_of (W.facts_of view.now) c) }
+    ensures err { OnErr result (into.new ≡ into.old) }
+{
+    put_image(c, view.facts(c).fold, into)
+}
+
+/// The mappings of the members, joined in order.
+fn mapped<W: FactView>(
+    alloc: Global,
+    view: &W,
+    casing: Casing,
+    s: &[Point],
+) -> Result<Points, Memory>
+    ensures { IfOk result (λ points. points ≡ mapped_by (W.facts_of view.now) casing s.now) }
+{
+    let mut points = Points::new(alloc);
+    'members: for c in s {
+        put_image(*c, image(casing, &view.facts(*c)), &mut points)?;
+    }
+    Ok(points)
+}
+
+/// The image of a code point with these facts.
+fn image<'a>(casing: Casing, facts: &FactsRef<'a>) -> Option<&'a [Point]>
+    ensures { image_shown result ≡ image_of casing (shown_facts facts.now) }
+{
+    match casing {
+        Casing::Lower => facts.lower,
+        Casing::Upper => facts.upper,
+        Casing::Fold => facts.fold,
+    }
+}
+
+/// Puts the points of an image of a code point at the end of a list. For want of memory the list stays as it was.
+pub(crate) fn put_image(c: Point, image: Option<&[Point]>, into: &mut Points) -> Result<(), Memory>
+    ensures ok { OnOk result (into.new ≡ into.old ++ image_points c (image_shown image.entry)) }
+    ensures err { OnErr result (into.new ≡ into.old) }
+{
+    match image {
+        Some(points) => into.append(points),
+        None => into.push(c),
+    }
+}

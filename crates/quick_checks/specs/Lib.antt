@@ -1,0 +1,3 @@
+pub mod Checks
+pub mod CheckLaws
+pub mod CheckProofs

@@ -1,0 +1,25 @@
+//! The laws of the quick checks: each function here does nothing, and its contract is a law. UAX #15, section 9.
+
+ghost use Rattle.quick_checks.specs.CheckLaws.{KindsTell, UnchangedIsYes, NoIsOther, OthersAreSame};
+
+/// What the kind of a mapping tells is the quick check of the decomposition, whatever that decomposition is.
+pub fn kinds_tell()
+    ensures { KindsTell }
+{}
+
+/// A code point whose four forms are all itself, and that is no second member of a primary composite's mapping, has `Yes`
+/// in each quick check, where a mapping is never empty.
+pub fn unchanged_is_yes()
+    ensures { UnchangedIsYes }
+{}
+
+/// Where a quick check is `No`, the form of the code point is another list than the code point alone, where a mapping is
+/// never empty.
+pub fn no_is_other()
+    ensures { NoIsOther }
+{}
+
+/// Where a quick check is not `No`, the form of the code point is the code point alone.
+pub fn others_are_same()
+    ensures { OthersAreSame }
+{}

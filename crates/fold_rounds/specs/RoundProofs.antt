@@ -1,0 +1,187 @@
+-- Rounds of folding, and which list is found.
+use Rattle.std.proofs.Common.{◌≡◌, ℕ, zero, suc, ◌+◌, ◌<◌, ◌≤◌, Bool, true, false, cond, not, nat_le, List, [], ◌∷◌, ◌++◌, length, Option, Some, None, Ok, is_some, Bor, refl, sym, ap, ◌∙◌, arith, add-one, ◌⊎◌, inl, inr}
+use Rattle.std.specs.Option.{option_and_then}
+use Rattle.std.specs.Str.{bytes_eq}
+use Rattle.std.proofs.lemmas.Bool.{cases_lt}
+use Rattle.std.proofs.lemmas.Bool.Decides.{nat_tests}
+use Rattle.std.proofs.lemmas.Slice.Eq.{bytes_eq-Decides}
+use Rattle.ucd_model.specs.CompositeProofs.{find_first, find_none_below}
+use Rattle.ucd_model.specs.Casing.{fold_of}
+use Rattle.ucd_model.specs.Facts.{Facts, image_points}
+use Rattle.ucd_model.specs.FoldRounds.{drop_ignorable, short, short_form, short_nfkc, short_fold, round, rounds, is_list, is_fixed, is_last, casefold, image_or_rule, casefold_image}
+use Rattle.ucd_model.specs.Forms.{nfkc}
+use Rattle.ucd_model.specs.Predicates.{default_ignorable}
+use Rattle.ucd_model.specs.Shown.{shown_facts, shown_is}
+use Rattle.ucd_model.specs.View.{ShowsFacts, image_shown}
+use Rattle.ucd_model.specs.declared.image.Image.TheVariants.{Same, To}
+use Rattle.ucd_model.specs.declared.view.FactsRef.{FactsRef}
+use Rattle.fold_rounds.specs.Steps.{folded_form}
+use Rattle.fold_rounds.specs.RoundLaws.{IsFixed, FixedIsFound, FoundIsFixed}
+
+-- ---- lists
+
+bytes_same : (xs ys : List ℕ) → bytes_eq xs ys ≡ true → xs ≡ ys
+bytes_same xs ys e = (bytes_eq-Decides xs ys).0 e
+
+same_bytes : (xs ys : List ℕ) → xs ≡ ys → bytes_eq xs ys ≡ true
+same_bytes xs ys e = (bytes_eq-Decides xs ys).1 e
+
+some_same : (xs ys : List ℕ) → ◌≡◌ {A = Option (List ℕ)} (Some xs) (Some ys) → xs ≡ ys
+some_same xs ys e = cc
+
+-- ---- one round of a list with a known form
+
+round_known : (F : ℕ → Facts) (s form : List ℕ) → nfkc F s ≡ Ok form → length form ≤ 255 → round F s ≡ folded_form F form
+round_known F s form e few =
+    let test : nat_le (length form) 255 ≡ true = grind (arith, nat_tests) in
+    ap (λ r. option_and_then (short_nfkc F) (option_and_then (short_fold F) (short_form r))) e ∙ ap (λ b. option_and_then (short_nfkc F) (option_and_then (short_fold F) (cond b (Some form) None))) test
+
+-- ---- which rounds are last
+
+module _ (F : ℕ → Facts) (c : ℕ) where
+  -- one more round
+  rounds_more : (i : ℕ) (s : List ℕ) (next : Option (List ℕ)) → rounds F i (c ∷ []) ≡ Some s → round F s ≡ next → rounds F (i + 1) (c ∷ []) ≡ next
+  rounds_more i s next e r = rw add-one (ap (option_and_then (round F)) e ∙ r)
+
+  last_here : (i : ℕ) (s : List ℕ) → rounds F i (c ∷ []) ≡ Some s → round F s ≡ Some s → is_last F c i ≡ true
+  last_here i s e r = ap (is_fixed F) e ∙ ap (is_list s) r ∙ same_bytes s s refl
+
+  not_last_none : (i : ℕ) → rounds F i (c ∷ []) ≡ None → is_last F c i ≡ false
+  not_last_none i e = ap (is_fixed F) e
+
+  not_last_stop : (i : ℕ) (s : List ℕ) → rounds F i (c ∷ []) ≡ Some s → round F s ≡ None → is_last F c i ≡ false
+  not_last_stop i s e r = ap (is_fixed F) e ∙ ap (is_list s) r
+
+  list_stays : (s : List ℕ) (r : Option (List ℕ)) → is_list s r ≡ true → r ≡ Some s
+  list_stays s (Some t) e = ap (λ zs. Some zs) (bytes_same t s e)
+  list_stays s None e = cc
+
+  fixed_parts : (r : Option (List ℕ)) → is_fixed F r ≡ true → (s : List ℕ) × (r ≡ Some s) × (round F s ≡ Some s)
+  fixed_parts (Some s) e = (s, refl, list_stays s (round F s) e)
+  fixed_parts None e = cc
+
+  -- after a last round every round gives the same list, and after none no round gives any
+  rounds_stay : (s : List ℕ) → round F s ≡ Some s → (i k : ℕ) → i ≤ k → rounds F i (c ∷ []) ≡ Some s → rounds F k (c ∷ []) ≡ Some s
+  rounds_stay s r zero zero le e = e
+  rounds_stay s r (suc i) zero le e = absurd (omega arith)
+  rounds_stay s r i (suc k) le e =
+      elim (cases_lt k i) [
+        | inl lt ↦ let same : suc k ≡ i = omega arith in ap (λ n. rounds F n (c ∷ [])) same ∙ e
+        | inr le' ↦ ap (option_and_then (round F)) (rounds_stay s r i k le' e) ∙ r
+      ]
+
+  rounds_stop : (i k : ℕ) → i ≤ k → rounds F i (c ∷ []) ≡ None → rounds F k (c ∷ []) ≡ None
+  rounds_stop zero zero le e = e
+  rounds_stop (suc i) zero le e = absurd (omega arith)
+  rounds_stop i (suc k) le e =
+      elim (cases_lt k i) [
+        | inl lt ↦ let same : suc k ≡ i = omega arith in ap (λ n. rounds F n (c ∷ [])) same ∙ e
+        | inr le' ↦ ap (option_and_then (round F)) (rounds_stop i k le' e)
+      ]
+
+  -- ---- which list is found
+
+  abbrev First : ℕ → Type 0
+  First n = (q : ℕ) × (q < n) × (is_last F c q ≡ true) × ((k : ℕ) → k < q → is_last F c k ≡ false)
+
+  one_more : (n : ℕ) → ((k : ℕ) → k < n → is_last F c k ≡ false) → is_last F c n ≡ false → (k : ℕ) → k < n + 1 → is_last F c k ≡ false
+  one_more n before here k lt =
+      elim (cases_lt k n) [
+        | inl past ↦ before k past
+        | inr le ↦ let same : k ≡ n = omega arith in ap (is_last F c) same ∙ here
+      ]
+
+  first_at : (n : ℕ) → ((k : ℕ) → k < n → is_last F c k ≡ false) → (t : Bool) → is_last F c n ≡ t → ((k : ℕ) → k < suc n → is_last F c k ≡ false) ⊎ First (suc n)
+  first_at n before true e = inr (n, omega arith, e, before)
+  first_at n before false e = inl (λ k lt. one_more n before e k (omega arith))
+
+  first_or_none : (n : ℕ) → ((k : ℕ) → k < n → is_last F c k ≡ false) ⊎ First n
+  first_or_none zero = inl (λ k lt. absurd (omega arith))
+  first_or_none (suc n) =
+      elim (first_or_none n) [
+        | inl before ↦ first_at n before (is_last F c n) refl
+        | inr q ↦ inr (q.0, omega (arith, q.1), q.2, q.3)
+      ]
+
+  pub found_none : ((k : ℕ) → k < 8 → is_last F c k ≡ false) → casefold F c ≡ None
+  found_none absent = ap (option_and_then (λ i. rounds F i (c ∷ []))) (find_none_below (is_last F c) 8 absent)
+
+  found_first : (q : First 8) → casefold F c ≡ rounds F q.0 (c ∷ [])
+  found_first q = ap (option_and_then (λ i. rounds F i (c ∷ []))) (find_first (is_last F c) 8 q.0 q.1 q.2 q.3)
+
+  -- a round stops the rounds, and no list before it is left as it is
+  pub found_stop : (i : ℕ) (s : List ℕ) → rounds F i (c ∷ []) ≡ Some s → round F s ≡ None → ((k : ℕ) → k < i → is_last F c k ≡ false) → casefold F c ≡ None
+  found_stop i s e r before =
+      found_none (λ k lt. elim (cases_lt i k) [
+        | inl past ↦ not_last_none k (rounds_stop (i + 1) k (omega arith) (rounds_more i s None e r))
+        | inr le ↦ one_more i before (not_last_stop i s e r) k (omega arith)
+      ])
+
+  found_is : (s : List ℕ) (i : ℕ) → i < 8 → rounds F i (c ∷ []) ≡ Some s → round F s ≡ Some s → casefold F c ≡ Some s
+  found_is s i few e r =
+      elim (first_or_none 8) [
+        | inl absent ↦ let t = last_here i s e r in let f = absent i few in cc
+        | inr q ↦
+            let parts = fixed_parts (rounds F q.0 (c ∷ [])) q.2 in
+            found_first q ∙ elim (cases_lt i q.0) [
+              | inl lt ↦ let t = last_here i s e r in let f = q.3 i lt in cc
+              | inr le ↦ parts.1 ∙ sym (rounds_stay parts.0 parts.2 q.0 i le parts.1) ∙ e
+            ]
+      ]
+
+  pub found_same : (i : ℕ) (s t : List ℕ) → i < 8 → rounds F i (c ∷ []) ≡ Some s → round F s ≡ Some t → bytes_eq t s ≡ true → casefold F c ≡ Some t
+  found_same i s t few e r test =
+      let same : t ≡ s = bytes_same t s test in
+      found_is t i few (e ∙ ap (λ zs. Some zs) (sym same)) (ap (round F) same ∙ r)
+
+  found_fixed : (s : List ℕ) → casefold F c ≡ Some s → (i : ℕ) × IsFixed F c i s
+  found_fixed s e =
+      elim (first_or_none 8) [
+        | inl absent ↦ let none = found_none absent in cc
+        | inr q ↦
+            let parts = fixed_parts (rounds F q.0 (c ∷ [])) q.2 in
+            let is : rounds F q.0 (c ∷ []) ≡ Some s = sym (found_first q) ∙ e in
+            let same : parts.0 ≡ s = some_same parts.0 s (sym parts.1 ∙ is) in
+            (q.0, record { few = q.1; reached = is; stays = rw (sym same) parts.2 })
+      ]
+
+pub fixed_is_found : FixedIsFound
+fixed_is_found F c i s fixed = found_is F c s i fixed.few fixed.reached fixed.stays
+
+pub found_is_fixed : FoundIsFixed
+found_is_fixed F c s e = found_fixed F c s e
+
+-- ---- a point that neither its form nor its folding changes
+
+kept_unless : (c : ℕ) (t : Bool) → short (cond (not t) (c ∷ []) []) ≡ Some (cond t [] (c ∷ []))
+kept_unless c true = refl
+kept_unless c false = refl
+
+module _ (F : ℕ → Facts) (c : ℕ) (form : nfkc F (c ∷ []) ≡ Ok (c ∷ [])) (folds : fold_of F c ≡ c ∷ []) where
+  alone_fold : (t : Bool) → default_ignorable c (F c) ≡ t → short_fold F (c ∷ []) ≡ Some (cond t [] (c ∷ []))
+  alone_fold t e = ap (λ zs. short (drop_ignorable F (zs ++ []))) folds ∙ ap (λ b. short (cond (not b) (c ∷ []) [])) e ∙ kept_unless c t
+
+  pub alone_same : default_ignorable c (F c) ≡ false → casefold_image F c ≡ Ok Same
+  alone_same e =
+      let once : round F (c ∷ []) ≡ Some (c ∷ []) = round_known F (c ∷ []) (c ∷ []) form (omega arith) ∙ ap (option_and_then (short_nfkc F)) (alone_fold false e) ∙ ap short_form form in
+      ap (image_or_rule c) (found_is F c (c ∷ []) 0 (omega arith) refl once) ∙ ap (λ b. Ok (cond b Same (To (c ∷ [])))) (same_bytes (c ∷ []) (c ∷ []) refl)
+
+  pub alone_ignored : default_ignorable c (F c) ≡ true → casefold_image F c ≡ Ok (To [])
+  alone_ignored e =
+      let once : round F (c ∷ []) ≡ Some [] = round_known F (c ∷ []) (c ∷ []) form (omega arith) ∙ ap (option_and_then (short_nfkc F)) (alone_fold true e) in
+      ap (image_or_rule c) (found_is F c [] 1 (omega arith) once refl)
+
+-- ---- the same, from what a view shows of it
+
+none_shown : (shown : Option (Bor (List ℕ))) → is_some shown ≡ false → image_shown shown ≡ Same
+none_shown None e = refl
+none_shown (Some points) e = cc
+
+pub unfolded : (F : ℕ → Facts) (c : ℕ) (shown : FactsRef) → ShowsFacts shown (F c) → is_some shown.fold ≡ false → fold_of F c ≡ c ∷ []
+unfolded F c shown shows e = ap (image_points c) (sym shows.fold ∙ none_shown shown.fold e)
+
+pub ignored : (F : ℕ → Facts) (c : ℕ) (shown : FactsRef) (t : Bool) → ShowsFacts shown (F c) → t ≡ default_ignorable c (shown_facts shown) → default_ignorable c (F c) ≡ t
+ignored F c shown t shows e = ap (default_ignorable c) (sym (shown_is shown (F c) shows)) ∙ sym e
+
+pub alone_form : (F : ℕ → Facts) (c : ℕ) (form : List ℕ) → nfkc F (c ∷ []) ≡ Ok form → bytes_eq form (c ∷ []) ≡ true → nfkc F (c ∷ []) ≡ Ok (c ∷ [])
+alone_form F c form e test = e ∙ ap (λ zs. Ok zs) (bytes_same form (c ∷ []) test)

@@ -1,0 +1,12 @@
+-- The steps of a round. The Unicode Standard, section 3.13, toNFKC_Casefold.
+--
+-- F is the facts of each code point.
+-- folded_form F form    the round of a list, from its NFKC: the NFKC of the short_fold of that form; None where one of the
+--                       two is
+use Rattle.std.specs.Prelude.{ℕ, List, Option}
+use Rattle.std.specs.Option.{option_and_then}
+use Rattle.ucd_model.specs.Facts.{Facts}
+use Rattle.ucd_model.specs.FoldRounds.{short_nfkc, short_fold}
+
+abbrev pub folded_form : (ℕ → Facts) → List ℕ → Option (List ℕ)
+folded_form F form = option_and_then (short_nfkc F) (short_fold F form)

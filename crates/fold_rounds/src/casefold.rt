@@ -1,0 +1,52 @@
+//! NFKC_Casefold of a code point.
+
+ghost use Rattle.std.specs.Prelude.{◌≡◌, Ok, [], ◌∷◌};
+ghost use Rattle.ucd_model.specs.Expansion.{FormAnswers};
+ghost use Rattle.ucd_model.specs.FoldRounds.{casefold_image};
+ghost use Rattle.ucd_model.specs.Forms.{nfkc};
+ghost use Rattle.ucd_model.specs.View.{ShowsFacts};
+
+use crate::ignorable::is_default_ignorable;
+use crate::rounds::{fixed, is_same};
+use normalisation::nfkc;
+use std::alloc::Global;
+use ucd_model::{Bad, FactView, FactsRef, FormStop, Image, Point, Points};
+
+/// NFKC_Casefold of a code point: from the code point alone, the first list after 0 to 7 rounds that one more round leaves as
+/// it is. A round is the folding, without ignorable code points, of the Normalisation Form KC, in that form again. `V5` comes
+/// exactly where there is no such list, where a list has no Normalisation Form KC, and where a form or a folding has more than
+/// 255 code points; no other rule comes. The Unicode Standard, section 3.13, toNFKC_Casefold.
+pub fn nfkc_casefold<W: FactView>(alloc: Global, view: &W, c: Point) -> Result<Image, FormStop>
+    ensures { FormAnswers result (casefold_image (W.facts_of view.now) c) }
+{
+    match nfkc(alloc, view, &[c]) {
+        Ok(form) => casefold_of(alloc, view, c, &view.facts(c), form.as_slice()),
+        Err(FormStop::Bad(_)) => Err(FormStop::Bad(Bad::V5)),
+        Err(FormStop::Memory) => Err(FormStop::Memory),
+    }
+}
+
+/// NFKC_Casefold of a code point with these facts, whose Normalisation Form KC is `form`; `V5` comes as for `nfkc_casefold`. It takes no
+/// memory where neither that form nor the folding changes the code point.
+pub fn casefold_of<W: FactView>(
+    alloc: Global,
+    view: &W,
+    c: Point,
+    facts: &FactsRef<'_>,
+    form: &[Point],
+) -> Result<Image, FormStop>
+    requires facts { ShowsFacts facts.now (W.facts_of view.now c) }
+    requires form { nfkc (W.facts_of view.now) (c ∷ []) ≡ Ok form.now }
+    ensures { FormAnswers result (casefold_image (W.facts_of view.now) c) }
+{
+    if facts.fold.is_none() && is_same(form, &[c]) {
+        if is_default_ignorable(c, facts) {
+            return Ok(Image::To(Points::new(alloc)));
+        }
+        return Ok(Image::Same);
+    }
+    match fixed(alloc, view, c, form)? {
+        Some(points) => Ok(Image::of(c, points)),
+        None => Err(FormStop::Bad(Bad::V5)),
+    }
+}

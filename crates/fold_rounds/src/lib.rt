@@ -1,0 +1,12 @@
+//! Code points that are ignored by default, and the case folding under compatibility composition, NFKC_Casefold.
+#![tactic(auto)]
+
+mod casefold;
+mod ignorable;
+pub mod laws;
+mod rounds;
+#[cfg(test)]
+mod tests;
+
+pub use casefold::{casefold_of, nfkc_casefold};
+pub use ignorable::{default_ignorable, is_default_ignorable, is_visible_format};

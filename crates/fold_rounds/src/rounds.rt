@@ -1,0 +1,113 @@
+//! The rounds of folding.
+
+ghost use Rattle.std.specs.Prelude.{◌≡◌, IfOk, Ok, [], ◌∷◌};
+ghost use Rattle.std.specs.Str.{bytes_eq};
+ghost use Rattle.ucd_model.specs.FoldRounds.{short, short_nfkc, short_fold, round, casefold};
+ghost use Rattle.ucd_model.specs.Forms.{nfkc};
+ghost use Rattle.fold_rounds.specs.Steps.{folded_form};
+
+use crate::ignorable::drop_ignorable;
+use case_derivation::fold;
+use normalisation::nfkc;
+use std::alloc::Global;
+use ucd_model::{FactView, FormStop, Memory, Point, Points};
+
+/// The most code points that a list of a round may have (the longest result of a real release has 18).
+const MOST: usize = 255;
+
+/// How many lists are looked at for one that a round leaves as it is: after 0 to 7 rounds (real releases need 0 or 1).
+const LISTS: u8 = 8;
+
+/// The first list, after 0 to 7 rounds from a code point with this Normalisation Form KC, that one more round leaves as it
+/// is; `None` where there is none. The Unicode Standard, section 3.13, toNFKC_Casefold.
+pub(crate) fn fixed<W: FactView>(
+    alloc: Global,
+    view: &W,
+    c: Point,
+    form: &[Point],
+) -> Result<Option<Points>, Memory>
+    requires { nfkc (W.facts_of view.now) (c ∷ []) ≡ Ok form.now }
+    ensures { IfOk result (λ found. found ≡ casefold (W.facts_of view.now) c) }
+{
+    if form.len() > MOST {
+        return Ok(None);
+    }
+    let Some(mut list) = folded_form(alloc, view, form)? else {
+        return Ok(None);
+    };
+    if is_same(list.as_slice(), &[c]) {
+        return Ok(Some(list));
+    }
+    'rounds: for done in 1..LISTS {
+        let Some(next) = round(alloc, view, list.as_slice())? else {
+            return Ok(None);
+        };
+        if is_same(next.as_slice(), list.as_slice()) {
+            return Ok(Some(next));
+        }
+        list = next;
+    }
+    Ok(None)
+}
+
+/// One round: the folding, without ignorable code points, of the Normalisation Form KC of a list, in that form again.
+fn round<W: FactView>(alloc: Global, view: &W, s: &[Point]) -> Result<Option<Points>, Memory>
+    ensures { IfOk result (λ next. next ≡ round (W.facts_of view.now) s.now) }
+{
+    match short_nfkc(alloc, view, s)? {
+        Some(form) => folded_form(alloc, view, form.as_slice()),
+        None => Ok(None),
+    }
+}
+
+/// The round of a list with this Normalisation Form KC.
+fn folded_form<W: FactView>(
+    alloc: Global,
+    view: &W,
+    form: &[Point],
+) -> Result<Option<Points>, Memory>
+    ensures { IfOk result (λ next. next ≡ folded_form (W.facts_of view.now) form.now) }
+{
+    match short_fold(alloc, view, form)? {
+        Some(folded) => short_nfkc(alloc, view, folded.as_slice()),
+        None => Ok(None),
+    }
+}
+
+/// The full folding of a list without ignorable code points; `None` where that is too long.
+fn short_fold<W: FactView>(alloc: Global, view: &W, s: &[Point]) -> Result<Option<Points>, Memory>
+    ensures { IfOk result (λ folded. folded ≡ short_fold (W.facts_of view.now) s.now) }
+{
+    let mut folded = fold(alloc, view, s)?;
+    drop_ignorable(view, &mut folded);
+    Ok(short(folded))
+}
+
+/// The Normalisation Form KC of a list; `None` where there is none, and where it is too long.
+fn short_nfkc<W: FactView>(alloc: Global, view: &W, s: &[Point]) -> Result<Option<Points>, Memory>
+    ensures { IfOk result (λ form. form ≡ short_nfkc (W.facts_of view.now) s.now) }
+{
+    match nfkc(alloc, view, s) {
+        Ok(form) => Ok(short(form)),
+        Err(FormStop::Bad(_)) => Ok(None),
+        Err(FormStop::Memory) => Err(Memory),
+    }
+}
+
+/// Whether two lists are the same.
+pub(crate) fn is_same(a: &[Point], b: &[Point]) -> bool
+    ensures { result ≡ bytes_eq a.now b.now }
+{
+    a == b
+}
+
+/// A list that is not too long.
+fn short(points: Points) -> Option<Points>
+    ensures { result ≡ short points }
+{
+    if points.len() <= MOST {
+        Some(points)
+    } else {
+        None
+    }
+}

@@ -1,0 +1,96 @@
+-- The forms of a code point alone, from its expansions.
+use Rattle.std.proofs.Common.{◌≡◌, ◌≢◌, ℕ, Bool, true, false, cond, ◌||◌, nat_lt, List, [], ◌∷◌, ◌++◌, length, Option, Some, None, Result, Ok, Err, if◌then◌else◌, refl, sym, ap, subst, ◌∙◌, ◌⊎◌, inl, inr}
+use Rattle.std.proofs.lemmas.List.{append-nil}
+use Rattle.ucd_model.specs.CanonicalOrder.{class_of, order}
+use Rattle.ucd_model.specs.Composites.{pair_of}
+use Rattle.ucd_model.specs.Composition.{compose}
+use Rattle.ucd_model.specs.Expansion.{full, judged, expansion}
+use Rattle.ucd_model.specs.Facts.{Facts}
+use Rattle.ucd_model.specs.Forms.{appended, expansions, in_order, composed, decomposed}
+use Rattle.ucd_model.specs.Validity.{is_none, is_long}
+use Rattle.ucd_model.specs.declared.form.Bad.{Bad as Rule}
+use Rattle.ucd_model.specs.declared.form.Bad.TheVariants.{V2, V3}
+use Rattle.identifier_closure.specs.PointForms.{expansion_rule, HaveForms, HaveExpansions}
+
+-- ---- the rule of two expansions
+
+abbrev pub rule_of : Option (List ℕ) → Option (List ℕ) → Option Rule
+rule_of a b = if is_none a || is_none b then Some V2 else (if is_long a || is_long b then Some V3 else None)
+
+abbrev IsSound : Option (List ℕ) → Type 0
+IsSound a = (is_none a ≡ false) × (is_long a ≡ false)
+
+sound_if : (t : Bool) (points p : List ℕ) → cond t (Err V3) (Ok points) ≡ Ok p → t ≡ false
+sound_if true points p e = cc
+sound_if false points p e = refl
+
+sound : (a : Option (List ℕ)) (p : List ℕ) → judged a ≡ Ok p → IsSound a
+sound None p e = cc
+sound (Some points) p e = (refl, sound_if (nat_lt 64 (length points)) points p e)
+
+-- what is wrong with an expansion without a value
+abbrev Faulty : Option (List ℕ) → Rule → Type 0
+Faulty a rule = ((rule ≡ V2) × (is_none a ≡ true)) ⊎ ((rule ≡ V3) × (is_none a ≡ false) × (is_long a ≡ true))
+
+faulty_if : (t : Bool) (points : List ℕ) (rule : Rule) → cond t (Err V3) (Ok points) ≡ Err rule → (rule ≡ V3) × (t ≡ true)
+faulty_if true points rule e = let same : V3 ≡ rule = cc in (sym same, refl)
+faulty_if false points rule e = cc
+
+faulty : (a : Option (List ℕ)) (rule : Rule) → judged a ≡ Err rule → Faulty a rule
+faulty None rule e = let same : V2 ≡ rule = cc in inl (sym same, refl)
+faulty (Some points) rule e = let parts = faulty_if (nat_lt 64 (length points)) points rule e in inr (parts.0, refl, parts.1)
+
+none_of : (a b : Option (List ℕ)) → IsSound a → IsSound b → rule_of a b ≡ None
+none_of a b x y = rw (x.0, x.1, y.0, y.1) refl
+
+second_of : (a b : Option (List ℕ)) (rule : Rule) → IsSound a → Faulty b rule → rule_of a b ≡ Some rule
+second_of a b rule x (inl y) = rw (x.0, y.0, y.1) refl
+second_of a b rule x (inr y) = rw (x.0, x.1, y.0, y.1, y.2) refl
+
+either_true : (b : Bool) → (b || true) ≡ true
+either_true true = refl
+either_true false = refl
+
+endless_of : (a b : Option (List ℕ)) → is_none b ≡ true → rule_of a b ≡ Some V2
+endless_of a b y = ap (λ t. if is_none a || t then Some V2 else (if is_long a || is_long b then Some V3 else None)) y ∙ ap (λ t. if t then Some V2 else (if is_long a || is_long b then Some V3 else None)) (either_true (is_none a))
+
+first_of : (a b : Option (List ℕ)) (rule : Rule) → Faulty a rule → is_none b ≡ false → rule_of a b ≡ Some rule
+first_of a b rule (inl x) y = rw (x.0, x.1) refl
+first_of a b rule (inr x) y = rw (x.0, x.1, x.2, y) refl
+
+pub both_expanded : (F : ℕ → Facts) (c : ℕ) (p q : List ℕ) → expansion F false c ≡ Ok p → expansion F true c ≡ Ok q → HaveExpansions F c p q
+both_expanded F c p q x y = record { canonical = x; compat = y; rule = none_of (full F false c) (full F true c) (sound (full F false c) p x) (sound (full F true c) q y) }
+
+pub compat_rule : (F : ℕ → Facts) (c : ℕ) (p : List ℕ) (rule : Rule) → expansion F false c ≡ Ok p → expansion F true c ≡ Err rule → expansion_rule F c ≡ Some rule
+compat_rule F c p rule x y = second_of (full F false c) (full F true c) rule (sound (full F false c) p x) (faulty (full F true c) rule y)
+
+endless_faulty : (a : Option (List ℕ)) → judged a ≡ Err V2 → is_none a ≡ true
+endless_faulty a e = elim (faulty a V2 e) [ inl x ↦ x.1 | inr x ↦ cc ]
+
+pub compat_endless : (F : ℕ → Facts) (c : ℕ) → expansion F true c ≡ Err V2 → expansion_rule F c ≡ Some V2
+compat_endless F c y = endless_of (full F false c) (full F true c) (endless_faulty (full F true c) y)
+
+pub canonical_rule : (F : ℕ → Facts) (c : ℕ) (rule : Rule) → expansion F false c ≡ Err rule → is_none (full F true c) ≡ false → expansion_rule F c ≡ Some rule
+canonical_rule F c rule x y = first_of (full F false c) (full F true c) rule (faulty (full F false c) rule x) y
+
+pub has_one : (F : ℕ → Facts) (c : ℕ) (p : List ℕ) → expansion F true c ≡ Ok p → is_none (full F true c) ≡ false
+has_one F c p e = (sound (full F true c) p e).0
+
+pub has_long : (F : ℕ → Facts) (c : ℕ) (rule : Rule) → expansion F true c ≡ Err rule → rule ≢ V2 → is_none (full F true c) ≡ false
+has_long F c rule e other = elim (faulty (full F true c) rule e) [ inl x ↦ absurd (other x.0) | inr x ↦ x.1 ]
+
+-- ---- the forms
+
+alone : (F : ℕ → Facts) (compat : Bool) (c : ℕ) (p : List ℕ) → expansion F compat c ≡ Ok p → decomposed F compat (c ∷ []) ≡ Ok (order (class_of F) p)
+alone F compat c p e = ap (λ r. in_order F (appended r (Ok []))) e ∙ ap (λ zs. Ok (order (class_of F) zs)) (append-nil p)
+
+pub forms_are : (F : ℕ → Facts) (c : ℕ) (p q nfd nfc nfkd nfkc : List ℕ) → HaveExpansions F c p q → nfd ≡ order (class_of F) p → nfc ≡ compose (class_of F) (pair_of F) nfd
+    → nfkd ≡ order (class_of F) q → nfkc ≡ compose (class_of F) (pair_of F) nfkd → HaveForms F c nfd nfc nfkc
+forms_are F c p q nfd nfc nfkd nfkc have d e k l =
+    let canonical : decomposed F false (c ∷ []) ≡ Ok nfd = alone F false c p have.canonical ∙ ap (λ zs. Ok zs) (sym d) in
+    let compat : decomposed F true (c ∷ []) ≡ Ok nfkd = alone F true c q have.compat ∙ ap (λ zs. Ok zs) (sym k) in
+    record {
+      nfd = canonical;
+      nfc = ap (composed F) canonical ∙ ap (λ zs. Ok zs) (sym e);
+      nfkc = ap (composed F) compat ∙ ap (λ zs. Ok zs) (sym l);
+    }

@@ -1,0 +1,4 @@
+pub mod FormLemmas
+pub mod ShownLemmas
+pub mod CoreSteps
+pub mod RecordLemmas

@@ -1,0 +1,214 @@
+-- The record of a point from what is found of it.
+use Rattle.std.proofs.Common.{◌≡◌, ℕ, Bool, true, false, cond, ◌&&◌, not, List, [], ◌∷◌, Option, Some, None, Result, Ok, Err, if◌then◌else◌, refl, sym, ap, ◌∙◌}
+use mathlib.Core.Path.{fun_ext}
+use Rattle.std.specs.List.{list_any}
+use Rattle.std.specs.Str.{bytes_eq}
+use Rattle.std.proofs.lemmas.Slice.Eq.{bytes_eq-Decides}
+use Rattle.ucd_model.specs.Casing.{lowers, uppers, titles, folds, casemaps, where_form, changes_when}
+use Rattle.ucd_model.specs.Composites.{is_canonical}
+use Rattle.ucd_model.specs.Expansion.{counts, FormAnswers}
+use Rattle.ucd_model.specs.Facts.{Facts, image, is_plain}
+use Rattle.ucd_model.specs.FoldRounds.{casefold, casefold_image, image_or_rule, image_or_same}
+use Rattle.ucd_model.specs.Forms.{nfd, nfc, nfkd, nfkc, composed}
+use Rattle.ucd_model.specs.Identifiers.{xid_start, xid_continue}
+use Rattle.ucd_model.specs.Predicates.{holds}
+use Rattle.ucd_model.specs.QuickChecks.{full_exclusion, quick_composed, quick_where, quick, quick_or_yes}
+use Rattle.ucd_model.specs.Records.{Record, core_at, changes_image, kept_record, record_at, derived}
+use Rattle.ucd_model.specs.Sets.{has_core}
+use Rattle.ucd_model.specs.Shown.{shown_facts, shown_is}
+use Rattle.ucd_model.specs.Validity.{lacks_row, lacks_a_row, mappings, is_hidden, is_unfolded, is_none}
+use Rattle.ucd_model.specs.View.{ShowsFacts}
+use Rattle.ucd_model.specs.declared.decomposition.Kind.{Kind}
+use Rattle.ucd_model.specs.declared.decomposition.Kind.TheVariants.{Plain, Canonical, Compat}
+use Rattle.ucd_model.specs.declared.form.Bad.{Bad as Rule}
+use Rattle.ucd_model.specs.declared.form.Bad.TheVariants.{V4, V5}
+use Rattle.ucd_model.specs.declared.form.FormStop.{FormStop}
+use Rattle.ucd_model.specs.declared.form.FormStop.TheVariants.{Bad, Memory}
+use Rattle.ucd_model.specs.declared.form.Form.TheVariants.{Nfd, Nfc, Nfkd, Nfkc}
+use Rattle.ucd_model.specs.declared.form.Quick.{Quick}
+use Rattle.ucd_model.specs.declared.form.Quick.TheVariants.{Yes, No}
+use Rattle.ucd_model.specs.declared.image.Image.{Image}
+use Rattle.ucd_model.specs.declared.image.Image.TheVariants.{Same, To}
+use Rattle.ucd_model.specs.declared.property.Core.{Core}
+use Rattle.ucd_model.specs.declared.property.Core.TheVariants.{Math, Alphabetic, Lowercase, Uppercase, Cased, CaseIgnorable, ChangesWhenLowercased, ChangesWhenUppercased, ChangesWhenTitlecased, ChangesWhenCasefolded, ChangesWhenCasemapped, IdStart, IdContinue, XidStart, XidContinue, DefaultIgnorableCodePoint, GraphemeExtend, GraphemeBase, GraphemeLink}
+use Rattle.ucd_model.specs.declared.records.Record.{Record as KeptRecord}
+use Rattle.ucd_model.specs.declared.view.FactsRef.{FactsRef}
+use Rattle.identifier_closure.specs.Composites.{hidden_of}
+use Rattle.identifier_closure.specs.CoreSets.{core_given}
+use Rattle.identifier_closure.specs.Derived.{RecordAnswers}
+use Rattle.quick_checks.specs.Checks.{quick_decomposed}
+use Rattle.identifier_closure.specs.PointForms.{expansion_rule, HaveForms, FormsAnswer}
+use Rattle.identifier_closure.specs.RuleProofs.{by_expansion, by_composite, by_folding, by_none}
+use Rattle.identifier_closure.specs.declared.predicates.ToldByForms.{ToldByForms}
+
+pub lacks_shown : (F : ℕ → Facts) (c : ℕ) (r : FactsRef) → ShowsFacts r (F c) → list_any (lacks_row F c) (mappings c (shown_facts r)) ≡ lacks_a_row F c
+lacks_shown F c r shows = ap (λ (G : Facts). list_any (lacks_row F c) (mappings c G)) (shown_is r (F c) shows)
+
+pub hidden_shown : (F : ℕ → Facts) (c : ℕ) (r : FactsRef) → ShowsFacts r (F c) → hidden_of F c (shown_facts r) ≡ is_hidden F c
+hidden_shown F c r shows = ap (hidden_of F c) (shown_is r (F c) shows)
+
+-- ---- the folding
+
+ok_same : (i j : Image) → ◌≡◌ {A = Result Image Rule} (Ok i) (Ok j) → i ≡ j
+ok_same i j e = cc
+
+folded_if : (c : ℕ) (r : Option (List ℕ)) (i : Image) → image_or_rule c r ≡ Ok i → is_none r ≡ false
+folded_if c (Some s) i e = refl
+folded_if c None i e = cc
+
+pub folded : (F : ℕ → Facts) (c : ℕ) (i : Image) → casefold_image F c ≡ Ok i → is_unfolded F c ≡ false
+folded F c i e = folded_if c (casefold F c) i e
+
+unfolded_if : (c : ℕ) (r : Option (List ℕ)) (rule : Rule) → image_or_rule c r ≡ Err rule → is_none r ≡ true
+unfolded_if c (Some s) rule e = cc
+unfolded_if c None rule e = refl
+
+pub not_folded : (F : ℕ → Facts) (c : ℕ) (rule : Rule) → casefold_image F c ≡ Err rule → is_unfolded F c ≡ true
+not_folded F c rule e = unfolded_if c (casefold F c) rule e
+
+-- ---- forms
+
+pub stopped : (F : ℕ → Facts) (c : ℕ) (stop : FormStop) → lacks_a_row F c ≡ false → FormsAnswer F c (Err stop) → RecordAnswers (Err stop) (derived F c)
+stopped F c (Bad rule) lacks answer = by_expansion F c rule lacks answer
+stopped F c Memory lacks answer = tt
+
+-- ---- quick checks
+
+kind_of : (kind : Kind) → quick_decomposed kind false ≡ (if is_canonical kind then No else Yes)
+kind_of Plain = refl
+kind_of Canonical = refl
+kind_of (Compat tag) = refl
+
+compat_kind_of : (kind : Kind) → quick_decomposed kind true ≡ (if is_plain kind then Yes else No)
+compat_kind_of Plain = refl
+compat_kind_of Canonical = refl
+compat_kind_of (Compat tag) = refl
+
+-- a check that does not look at the form, where there is one
+given : (F : ℕ → Facts) (r : Result (List ℕ) Rule) (u : List ℕ) (value : Quick) → composed F r ≡ Ok u → quick_or_yes (quick_where (λ _. value) r) ≡ value
+given F (Ok t) u value e = refl
+given F (Err rule) u value e = cc
+
+module _ (F : ℕ → Facts) (c : ℕ) (d n k : List ℕ) (forms : HaveForms F c d n k) where
+  nfd_check : quick_decomposed (F c).kind false ≡ quick_or_yes (quick F Nfd c)
+  nfd_check = kind_of (F c).kind ∙ sym (given F (nfd F (c ∷ [])) n (if is_canonical (F c).kind then No else Yes) forms.nfc)
+
+  nfkd_check : quick_decomposed (F c).kind true ≡ quick_or_yes (quick F Nfkd c)
+  nfkd_check = compat_kind_of (F c).kind ∙ sym (given F (nfkd F (c ∷ [])) k (if is_plain (F c).kind then Yes else No) forms.nfkc)
+
+  nfc_check : quick_composed F c n ≡ quick_or_yes (quick F Nfc c)
+  nfc_check = ap (λ r. quick_or_yes (quick_where (quick_composed F c) r)) (sym forms.nfc)
+
+  nfkc_check : quick_composed F c k ≡ quick_or_yes (quick F Nfkc c)
+  nfkc_check = ap (λ r. quick_or_yes (quick_where (quick_composed F c) r)) (sym forms.nfkc)
+
+  changes_are : (test : List ℕ → Bool) → test d ≡ where_form test (nfd F (c ∷ []))
+  changes_are test = ap (where_form test) (sym forms.nfd)
+
+-- ---- the folding changes the point
+
+abbrev pub is_other : Image → Bool
+is_other Same = false
+is_other (To points) = true
+
+other_if : (t : Bool) (c : ℕ) (s : List ℕ) → bytes_eq s (c ∷ []) ≡ t → is_other (if t then Same else To s) ≡ changes_image c (if t then Same else To s)
+other_if true c s e = sym (ap not ((bytes_eq-Decides (c ∷ []) (c ∷ [])).1 refl))
+other_if false c s e = sym (ap not e)
+
+other_of : (c : ℕ) (r : Option (List ℕ)) (i : Image) → image_or_rule c r ≡ Ok i → is_other i ≡ changes_image c i
+other_of c (Some s) i e =
+    let same : image c s ≡ i = ok_same (image c s) i e in
+    ap is_other (sym same) ∙ other_if (bytes_eq s (c ∷ [])) c s refl ∙ ap (changes_image c) same
+other_of c None i e = cc
+
+-- ---- the record
+
+cores_are : (F : ℕ → Facts) (c : ℕ) (told : ToldByForms) (core : Core) → told.changes.lowered ≡ changes_when lowers F c → told.changes.uppered ≡ changes_when uppers F c
+    → told.changes.titled ≡ changes_when titles F c → told.changes.folded ≡ changes_when folds F c → told.changes.mapped ≡ changes_when casemaps F c
+    → told.xid_start ≡ xid_start F c → told.xid_continue ≡ xid_continue F c → core_given c (F c) told core ≡ core_at F c core
+cores_are F c told Math l u t f m s k = refl
+cores_are F c told Alphabetic l u t f m s k = refl
+cores_are F c told Lowercase l u t f m s k = refl
+cores_are F c told Uppercase l u t f m s k = refl
+cores_are F c told Cased l u t f m s k = refl
+cores_are F c told CaseIgnorable l u t f m s k = refl
+cores_are F c told ChangesWhenLowercased l u t f m s k = l
+cores_are F c told ChangesWhenUppercased l u t f m s k = u
+cores_are F c told ChangesWhenTitlecased l u t f m s k = t
+cores_are F c told ChangesWhenCasefolded l u t f m s k = f
+cores_are F c told ChangesWhenCasemapped l u t f m s k = m
+cores_are F c told IdStart l u t f m s k = refl
+cores_are F c told IdContinue l u t f m s k = refl
+cores_are F c told XidStart l u t f m s k = s
+cores_are F c told XidContinue l u t f m s k = k
+cores_are F c told DefaultIgnorableCodePoint l u t f m s k = refl
+cores_are F c told GraphemeExtend l u t f m s k = refl
+cores_are F c told GraphemeBase l u t f m s k = refl
+cores_are F c told GraphemeLink l u t f m s k = refl
+
+-- what is found of a point of which the facts, the forms and the folding are known
+pub record IsTold (F : ℕ → Facts) (c : ℕ) (d n k : List ℕ) (kept : KeptRecord) (told : ToldByForms) : Type 0 where
+  pub lowered : told.changes.lowered ≡ lowers F d
+  pub uppered : told.changes.uppered ≡ uppers F d
+  pub titled : told.changes.titled ≡ titles F d
+  pub folded : told.changes.folded ≡ folds F d
+  pub mapped : told.changes.mapped ≡ casemaps F d
+  pub xid_start : told.xid_start ≡ xid_start F c
+  pub xid_continue : told.xid_continue ≡ xid_continue F c
+  pub exclusion : kept.exclusion ≡ full_exclusion F c
+  pub nfd : kept.nfd ≡ quick_decomposed kept.kind false
+  pub nfc : kept.nfc ≡ quick_composed F c n
+  pub nfkd : kept.nfkd ≡ quick_decomposed kept.kind true
+  pub nfkc : kept.nfkc ≡ quick_composed F c k
+  pub changes : kept.changes_casefold ≡ is_other kept.casefold
+
+pub record_is : (F : ℕ → Facts) (c : ℕ) (r : FactsRef) (d n k : List ℕ) (kept : KeptRecord) (told : ToldByForms) → ShowsFacts r (F c) → HaveForms F c d n k
+    → casefold_image F c ≡ Ok kept.casefold → kept.category ≡ r.category → kept.class ≡ r.class → kept.kind ≡ r.kind
+    → ((core : Core) → has_core kept.core core ≡ core_given c (shown_facts r) told core) → IsTold F c d n k kept told → kept_record kept ≡ record_at F c
+record_is F c r d n k kept told shows forms fold category class kind cores found =
+    let same_kind : kept.kind ≡ (F c).kind = kind ∙ shows.kind in
+    let set : (core : Core) → has_core kept.core core ≡ core_at F c core = λ core.
+    cores core ∙ ap (λ (G : Facts). core_given c G told core) (shown_is r (F c) shows)
+    ∙ cores_are F c told core (found.lowered ∙ changes_are F c d n k forms (lowers F)) (found.uppered ∙ changes_are F c d n k forms (uppers F)) (found.titled ∙ changes_are F c d n k forms (titles F))
+    (found.folded ∙ changes_are F c d n k forms (folds F)) (found.mapped ∙ changes_are F c d n k forms (casemaps F)) found.xid_start found.xid_continue in
+    let image : kept.casefold ≡ image_or_same (casefold_image F c) = ap image_or_same (sym fold) in
+    let nfd : kept.nfd ≡ quick_or_yes (quick F Nfd c) = found.nfd ∙ ap (λ x. quick_decomposed x false) same_kind ∙ nfd_check F c d n k forms in
+    let nfc : kept.nfc ≡ quick_or_yes (quick F Nfc c) = found.nfc ∙ nfc_check F c d n k forms in
+    let nfkd : kept.nfkd ≡ quick_or_yes (quick F Nfkd c) = found.nfkd ∙ ap (λ x. quick_decomposed x true) same_kind ∙ nfkd_check F c d n k forms in
+    let nfkc : kept.nfkc ≡ quick_or_yes (quick F Nfkc c) = found.nfkc ∙ nfkc_check F c d n k forms in
+    let changes : kept.changes_casefold ≡ changes_image c (image_or_same (casefold_image F c)) = found.changes ∙ other_of c (casefold F c) kept.casefold fold ∙ ap (changes_image c) image in
+    let category_is : kept.category ≡ (F c).category = category ∙ shows.category in
+    let class_is : kept.class ≡ (F c).class = class ∙ shows.class in
+    λ i. record {
+      category = category_is i;
+      class = class_is i;
+      kind = same_kind i;
+      core = λ core. set core i;
+      exclusion = found.exclusion i;
+      nfd = nfd i;
+      nfc = nfc i;
+      nfkd = nfkd i;
+      nfkc = nfkc i;
+      casefold = image i;
+      changes_casefold = changes i;
+    }
+
+-- ---- the answer
+
+pub hidden_stop : (F : ℕ → Facts) (c : ℕ) (r : FactsRef) → ShowsFacts r (F c) → lacks_a_row F c ≡ false → expansion_rule F c ≡ None → hidden_of F c (shown_facts r) ≡ true → derived F c ≡ Err V4
+hidden_stop F c r shows lacks rule hidden = by_composite F c lacks rule (sym (hidden_shown F c r shows) ∙ hidden)
+
+only_V5 : (c : ℕ) (r : Option (List ℕ)) (rule : Rule) → image_or_rule c r ≡ Err rule → V5 ≡ rule
+only_V5 c (Some s) rule e = cc
+only_V5 c None rule e = cc
+
+pub folding_stop : (F : ℕ → Facts) (c : ℕ) (r : FactsRef) (stop : FormStop) → ShowsFacts r (F c) → lacks_a_row F c ≡ false → expansion_rule F c ≡ None → hidden_of F c (shown_facts r) ≡ false
+    → FormAnswers {A = Image} (Err stop) (casefold_image F c) → RecordAnswers (Err stop) (derived F c)
+folding_stop F c r (Bad rule) shows lacks none hidden e =
+    by_folding F c lacks none (sym (hidden_shown F c r shows) ∙ hidden) (not_folded F c rule e) ∙ ap (λ (k : Rule). Err k) (only_V5 c (casefold F c) rule e)
+folding_stop F c r Memory shows lacks none hidden e = tt
+
+pub valid : (F : ℕ → Facts) (c : ℕ) (r : FactsRef) (i : Image) (kept : KeptRecord) → ShowsFacts r (F c) → lacks_a_row F c ≡ false → expansion_rule F c ≡ None → hidden_of F c (shown_facts r) ≡ false
+    → casefold_image F c ≡ Ok i → kept_record kept ≡ record_at F c → derived F c ≡ Ok (kept_record kept)
+valid F c r i kept shows lacks none hidden fold same =
+    by_none F c lacks none (sym (hidden_shown F c r shows) ∙ hidden) (folded F c i fold) ∙ ap (λ (R : Record). Ok R) (sym same)

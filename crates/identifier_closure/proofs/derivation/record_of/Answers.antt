@@ -1,0 +1,45 @@
+use Rattle.std.proofs.Common.{◌≡◌, ℕ, true, false, refl, sym, ap, ◌∙◌}
+use Rattle.ucd_model.specs.Facts.{Facts}
+use Rattle.ucd_model.specs.declared.records.Record.{Record as KeptRecord}
+use Rattle.identifier_closure.specs.declared.predicates.ToldByForms.{ToldByForms}
+use Rattle.identifier_closure.proofs.RecordLemmas.{is_other, IsTold, record_is}
+use Rattle.identifier_closure.proofs.derivation.record_of.Goals.{in-Same, in-To}
+use Rattle.identifier_closure.proofs.derivation.record_of.Goals as goal
+
+pub returns : goal.returns
+returns g c =
+    let F : ℕ → Facts = g.W.FactView.facts_of c.args.view.now in
+    let told : ToldByForms = record { changes = c.changes_when.result; xid_start = c.closure_of-closed.result.start; xid_continue = c.closure_of-closed.result.continues } in
+    let kept : KeptRecord = record {
+      category = c.args.facts.now.category;
+      class = c.args.facts.now.class;
+      kind = c.args.facts.now.kind;
+      core = c.core_set.result;
+      exclusion = c.is_fully_excluded.result;
+      nfd = c.quick_decomposed.result;
+      nfc = c.quick_composed.result;
+      nfkd = c.quick_decomposed-2.result;
+      nfkc = c.quick_composed-2.result;
+      casefold = c.args.casefold;
+      changes_casefold = c.match-casefold.changes_casefold;
+    } in
+    let changes : c.match-casefold.changes_casefold ≡ is_other c.args.casefold = elim c.match-casefold.branch [
+      | in-Same w ↦ w.changes_casefold-is ∙ sym (ap is_other w.in-Same.is)
+      | in-To w ↦ w.changes_casefold-is ∙ sym (ap is_other w.in-To.is)
+    ] in
+    let found : IsTold F c.args.c c.args.forms.nfd.now c.args.forms.nfc.now c.args.forms.nfkc.now kept told = record {
+      lowered = c.changes_when.ensures.lowered;
+      uppered = c.changes_when.ensures.uppered;
+      titled = c.changes_when.ensures.titled;
+      folded = c.changes_when.ensures.folded;
+      mapped = c.changes_when.ensures.mapped;
+      xid_start = c.closure_of-closed.ensures.start;
+      xid_continue = c.closure_of-closed.ensures.continues;
+      exclusion = c.is_fully_excluded.ensures;
+      nfd = c.quick_decomposed.ensures;
+      nfc = c.quick_composed.ensures;
+      nfkd = c.quick_decomposed-2.ensures;
+      nfkc = c.quick_composed-2.ensures;
+      changes = changes;
+    } in
+    record_is F c.args.c c.args.facts.now c.args.forms.nfd.now c.args.forms.nfc.now c.args.forms.nfkc.now kept told c.requires.facts c.requires.forms c.requires.casefold refl refl refl c.core_set.ensures found

@@ -1,0 +1,45 @@
+-- The forms of a code point alone, as far as its record follows from them.
+--
+-- expansion_rule F c             the first rule that the expansions of c break
+-- HaveForms F c nfd nfc nfkc     the forms of c alone are these lists
+-- ExpansionsAnswer F c r         r is both expansions of c, or in their place the first rule that they break; want of memory
+--                                says nothing
+-- FormsAnswer F c r              r is the forms of c alone, or in their place that rule; want of memory says nothing
+use Rattle.std.specs.Prelude.{◌≡◌, ℕ, true, false, List, [], ◌∷◌, Option, Some, None, Result, Ok, Err, if◌then◌else◌, ⊤}
+use Rattle.ucd_model.specs.Expansion.{expansion}
+use Rattle.ucd_model.specs.Facts.{Facts}
+use Rattle.ucd_model.specs.Forms.{nfd, nfc, nfkc}
+use Rattle.ucd_model.specs.Validity.{is_endless, is_too_long}
+use Rattle.ucd_model.specs.declared.form.Bad.{Bad as Rule}
+use Rattle.ucd_model.specs.declared.form.Bad.TheVariants.{V2, V3}
+use Rattle.ucd_model.specs.declared.form.FormStop.{FormStop}
+use Rattle.ucd_model.specs.declared.form.FormStop.TheVariants.{Bad, Memory}
+use Rattle.identifier_closure.specs.declared.point_forms.Expansions.{Expansions}
+use Rattle.identifier_closure.specs.declared.point_forms.Forms.{Forms}
+
+abbrev pub expansion_rule : (ℕ → Facts) → ℕ → Option Rule
+expansion_rule F c = if is_endless F c then Some V2 else (if is_too_long F c then Some V3 else None)
+
+pub record HaveForms (F : ℕ → Facts) (c : ℕ) (decomposed composed compat : List ℕ) : Type 0 where
+  pub nfd : nfd F (c ∷ []) ≡ Ok decomposed
+  pub nfc : nfc F (c ∷ []) ≡ Ok composed
+  pub nfkc : nfkc F (c ∷ []) ≡ Ok compat
+
+pub record HaveExpansions (F : ℕ → Facts) (c : ℕ) (p q : List ℕ) : Type 0 where
+  pub canonical : expansion F false c ≡ Ok p
+  pub compat : expansion F true c ≡ Ok q
+  pub rule : expansion_rule F c ≡ None
+
+abbrev pub ExpansionsAnswer : (ℕ → Facts) → ℕ → Result Expansions FormStop → Type 0
+ExpansionsAnswer F c (Ok both) = HaveExpansions F c both.canonical both.compat
+ExpansionsAnswer F c (Err (Bad rule)) = expansion_rule F c ≡ Some rule
+ExpansionsAnswer F c (Err Memory) = ⊤
+
+abbrev pub StopsBy : (ℕ → Facts) → ℕ → FormStop → Type 0
+StopsBy F c (Bad rule) = expansion_rule F c ≡ Some rule
+StopsBy F c Memory = ⊤
+
+abbrev pub FormsAnswer : (ℕ → Facts) → ℕ → Result Forms FormStop → Type 0
+FormsAnswer F c (Ok forms) = (expansion_rule F c ≡ None) × HaveForms F c forms.nfd forms.nfc forms.nfkc
+FormsAnswer F c (Err (Bad rule)) = expansion_rule F c ≡ Some rule
+FormsAnswer F c (Err Memory) = ⊤

@@ -1,0 +1,134 @@
+//! The derivation of a code point.
+
+ghost use Rattle.std.specs.Prelude.{◌≡◌, ◌+◌, [], ◌∷◌, Ok, None, false};
+ghost use Rattle.ucd_model.specs.FoldRounds.{casefold_image};
+ghost use Rattle.ucd_model.specs.Records.{kept_record, record_at, derived};
+ghost use Rattle.ucd_model.specs.Validity.{lacks_a_row};
+ghost use Rattle.ucd_model.specs.View.{ShowsFacts};
+ghost use Rattle.identifier_closure.specs.Derived.{DerivesAs, RecordAnswers};
+ghost use Rattle.identifier_closure.specs.PointForms.{expansion_rule, HaveForms};
+
+use crate::composites::is_hidden;
+use crate::core_set::core_set;
+use crate::identifiers::closure_of;
+use crate::missing_rows::lacks_a_row;
+use crate::point_forms::{FormsRef, forms_of};
+use crate::predicates::ToldByForms;
+use case_derivation::changes_when;
+use fold_rounds::casefold_of;
+use quick_checks::{is_fully_excluded, quick_composed, quick_decomposed};
+use std::alloc::Global;
+use std::sync::ledger::Ledger;
+use ucd_model::{Bad, FactView, FactsRef, FormStop, Image, Kind, Point, Queries, Record, Steps};
+
+/// What the derivation of a code point gives.
+#[derive(Debug, Drop)]
+pub struct Derived {
+    /// The derived properties.
+    pub value: Record,
+    /// The questions that were asked. None are listed as yet.
+    pub asked: Queries,
+}
+
+/// Derives a code point: its record, in one step. A `Bad` comes exactly where the code point breaks a rule of a valid
+/// release, with the first rule that it breaks. UAX #44, section 5.3.
+pub fn derive_point<W: FactView, L: Ledger>(
+    alloc: Global,
+    view: &W,
+    c: Point,
+    steps: &mut Steps<L>,
+) -> Result<Derived, FormStop>
+    ensures value { DerivesAs result (derived (W.facts_of view.now) c) }
+    ensures step { steps.new ≡ steps.old + 1 }
+{
+    steps.tick();
+    let value = record_or_rule(alloc, view, c)?;
+    Ok(Derived {
+        value,
+        asked: Queries::new(alloc),
+    })
+}
+
+/// The record of a code point, or the first rule that it breaks. Where it has no mapping, its forms are itself, and no
+/// memory is taken for them.
+#[tactic(auto, using(crate::proofs::RecordLemmas::lacks_shown, crate::specs::RuleProofs::by_missing_row, crate::proofs::RecordLemmas::stopped))]
+fn record_or_rule<W: FactView>(alloc: Global, view: &W, c: Point) -> Result<Record, FormStop>
+    ensures { RecordAnswers result (derived (W.facts_of view.now) c) }
+{
+    let facts = view.facts(c);
+    if lacks_a_row(view, c, &facts) {
+        return Err(FormStop::Bad(Bad::V1));
+    }
+    if let Kind::Plain = facts.kind {
+        let alone = [c];
+        let forms = FormsRef::alone(&alone);
+        return recorded(alloc, view, c, &facts, forms);
+    }
+    match forms_of(alloc, view, c) {
+        Ok(forms) => recorded(alloc, view, c, &facts, forms.shown()),
+        Err(stop) => Err(stop),
+    }
+}
+
+/// The record of a code point that breaks none of the rules V1 to V3, with its facts and its forms; or the first rule that it
+/// breaks.
+#[tactic(auto, using(crate::proofs::RecordLemmas::hidden_stop, crate::proofs::RecordLemmas::folding_stop))]
+fn recorded<W: FactView>(
+    alloc: Global,
+    view: &W,
+    c: Point,
+    facts: &FactsRef<'_>,
+    forms: FormsRef<'_>,
+) -> Result<Record, FormStop>
+    requires facts { ShowsFacts facts.now (W.facts_of view.now c) }
+    requires forms { HaveForms (W.facts_of view.now) c forms.nfd.now forms.nfc.now forms.nfkc.now }
+    requires rows { lacks_a_row (W.facts_of view.now) c ≡ false }
+    requires expansions { expansion_rule (W.facts_of view.now) c ≡ None }
+    ensures { RecordAnswers result (derived (W.facts_of view.now) c) }
+{
+    if is_hidden(view, c, facts) {
+        return Err(FormStop::Bad(Bad::V4));
+    }
+    match casefold_of(alloc, view, c, facts, forms.nfkc) {
+        Ok(casefold) => Ok(record_of(view, c, facts, forms, casefold)),
+        Err(stop) => Err(stop),
+    }
+}
+
+/// The record of a code point with its facts, its forms and its folding under NFKC.
+fn record_of<W: FactView>(
+    view: &W,
+    c: Point,
+    facts: &FactsRef<'_>,
+    forms: FormsRef<'_>,
+    casefold: Image,
+) -> Record
+    requires facts { ShowsFacts facts.now (W.facts_of view.now c) }
+    requires forms { HaveForms (W.facts_of view.now) c forms.nfd.now forms.nfc.now forms.nfkc.now }
+    requires casefold { casefold_image (W.facts_of view.now) c ≡ Ok casefold }
+    ensures { kept_record result ≡ record_at (W.facts_of view.now) c }
+{
+    let closed = closure_of(view, c, facts, forms.nfkc);
+    let told = ToldByForms {
+        changes: changes_when(view, forms.nfd),
+        xid_start: closed.start,
+        xid_continue: closed.continues,
+    };
+    let changes_casefold = match casefold {
+        Image::Same => false,
+        Image::To(_) => true,
+    };
+    Record {
+        category: facts.category,
+        class: facts.class,
+        kind: facts.kind,
+        core: core_set(c, facts, told),
+        exclusion: is_fully_excluded(view, c, facts),
+        nfd: quick_decomposed(facts.kind, false),
+        nfc: quick_composed(view, c, forms.nfc),
+        nfkd: quick_decomposed(facts.kind, true),
+        nfkc: quick_composed(view, c, forms.nfkc),
+        casefold,
+        changes_casefold,
+    }
+}

@@ -1,0 +1,123 @@
+//! Core properties of one code point. UAX #44, section 5.3.
+
+ghost use Rattle.std.specs.Prelude.{◌≡◌, [], ◌∷◌};
+ghost use Rattle.ucd_model.specs.declared.category.Category.TheVariants.{Lu, Ll, Lt, Lm, Lo, Nl};
+ghost use Rattle.identifier_closure.specs.CoreSets.{core_given};
+ghost use Rattle.ucd_model.specs.Shown.{shown_facts};
+ghost use Rattle.ucd_model.specs.Predicates.{is_one_of, math, alphabetic, in_pattern, id_start, id_continue, grapheme_extend, grapheme_base, grapheme_link};
+
+use case_derivation::{Changes, is_case_ignorable, is_cased, is_lowercase, is_uppercase};
+use fold_rounds::is_default_ignorable;
+use ucd_model::{Category, Core, FactsRef, Flag, Point};
+
+/// What follows from the forms of a code point alone.
+#[derive(Clone, Copy)]
+pub struct ToldByForms {
+    pub changes: Changes,
+    pub xid_start: bool,
+    pub xid_continue: bool,
+}
+
+/// Whether a code point with these facts, of whose forms this is told, has the property.
+pub fn holds(core: Core, c: Point, facts: &FactsRef<'_>, told: ToldByForms) -> bool
+    ensures { result ≡ core_given c (shown_facts facts.now) told core }
+{
+    match core {
+        Core::Math => is_math(facts),
+        Core::Alphabetic => is_alphabetic(facts),
+        Core::Lowercase => is_lowercase(facts),
+        Core::Uppercase => is_uppercase(facts),
+        Core::Cased => is_cased(facts),
+        Core::CaseIgnorable => is_case_ignorable(facts),
+        Core::ChangesWhenLowercased => told.changes.lowered,
+        Core::ChangesWhenUppercased => told.changes.uppered,
+        Core::ChangesWhenTitlecased => told.changes.titled,
+        Core::ChangesWhenCasefolded => told.changes.folded,
+        Core::ChangesWhenCasemapped => told.changes.mapped,
+        Core::IdStart => is_id_start(facts),
+        Core::IdContinue => is_id_continue(facts),
+        Core::XidStart => told.xid_start,
+        Core::XidContinue => told.xid_continue,
+        Core::DefaultIgnorableCodePoint => is_default_ignorable(c, facts),
+        Core::GraphemeExtend => is_grapheme_extend(facts),
+        Core::GraphemeBase => is_grapheme_base(facts),
+        Core::GraphemeLink => facts.class == 9,
+    }
+}
+
+fn is_math(facts: &FactsRef<'_>) -> bool
+    ensures { result ≡ math (shown_facts facts.now) }
+{
+    matches!(facts.category, Category::Sm) || facts.flags.has(Flag::OtherMath)
+}
+
+fn is_alphabetic(facts: &FactsRef<'_>) -> bool
+    ensures { result ≡ alphabetic (shown_facts facts.now) }
+{
+    is_lowercase(facts)
+        || is_uppercase(facts)
+        || matches!(
+            facts.category,
+            Category::Lt | Category::Lm | Category::Lo | Category::Nl
+        )
+        || facts.flags.has(Flag::OtherAlphabetic)
+}
+
+/// Whether the code point is kept for the syntax of patterns. UAX #31, section 4.1.
+fn is_in_pattern(facts: &FactsRef<'_>) -> bool
+    ensures { result ≡ in_pattern (shown_facts facts.now) }
+{
+    facts.flags.has(Flag::PatternSyntax) || facts.flags.has(Flag::PatternWhiteSpace)
+}
+
+/// UAX #31, section 2, table 2.
+pub fn is_id_start(facts: &FactsRef<'_>) -> bool
+    ensures { result ≡ id_start (shown_facts facts.now) }
+{
+    (is_letter(facts) || facts.flags.has(Flag::OtherIdStart)) && !is_in_pattern(facts)
+}
+
+/// Whether the category is that of a letter or of a letter number.
+fn is_letter(facts: &FactsRef<'_>) -> bool
+    ensures { result ≡ is_one_of (Lu ∷ Ll ∷ Lt ∷ Lm ∷ Lo ∷ Nl ∷ []) facts.now.category }
+{
+    matches!(
+        facts.category,
+        Category::Lu | Category::Ll | Category::Lt | Category::Lm | Category::Lo | Category::Nl
+    )
+}
+
+/// UAX #31, section 2, table 2.
+pub fn is_id_continue(facts: &FactsRef<'_>) -> bool
+    ensures { result ≡ id_continue (shown_facts facts.now) }
+{
+    let continues = matches!(
+        facts.category,
+        Category::Mn | Category::Mc | Category::Nd | Category::Pc
+    );
+    (is_id_start(facts) || continues || facts.flags.has(Flag::OtherIdContinue))
+        && !is_in_pattern(facts)
+}
+
+fn is_grapheme_extend(facts: &FactsRef<'_>) -> bool
+    ensures { result ≡ grapheme_extend (shown_facts facts.now) }
+{
+    matches!(facts.category, Category::Me | Category::Mn)
+        || facts.flags.has(Flag::OtherGraphemeExtend)
+}
+
+fn is_grapheme_base(facts: &FactsRef<'_>) -> bool
+    ensures { result ≡ grapheme_base (shown_facts facts.now) }
+{
+    let other = matches!(
+        facts.category,
+        Category::Cc
+            | Category::Cf
+            | Category::Cs
+            | Category::Co
+            | Category::Cn
+            | Category::Zl
+            | Category::Zp
+    );
+    !other && !is_grapheme_extend(facts)
+}

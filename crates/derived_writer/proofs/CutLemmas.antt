@@ -57,23 +57,6 @@ flat_map-more f g xs i d lt =
     ∙ flat_map-append f (map g (take i xs)) (g (get_or xs i d) ∷ [])
     ∙ ap (λ (t : List _). flat_map f (map g (take i xs)) ++ t) (append-nil (f (g (get_or xs i d))))
 
--- two kept records with the same fields are one
-pub same_fields : (a b : KeptRecord) → a.category ≡ b.category → a.class ≡ b.class → a.kind ≡ b.kind → a.core ≡ b.core → a.exclusion ≡ b.exclusion
-    → a.nfd ≡ b.nfd → a.nfc ≡ b.nfc → a.nfkd ≡ b.nfkd → a.nfkc ≡ b.nfkc → a.casefold ≡ b.casefold → a.changes_casefold ≡ b.changes_casefold → a ≡ b
-same_fields a b category class kind core exclusion nfd nfc nfkd nfkc casefold changes = λ i. record {
-  category = category i;
-  class = class i;
-  kind = kind i;
-  core = core i;
-  exclusion = exclusion i;
-  nfd = nfd i;
-  nfc = nfc i;
-  nfkd = nfkd i;
-  nfkc = nfkc i;
-  casefold = casefold i;
-  changes_casefold = changes i;
-}
-
 -- a kept record shows one record
 pub shows_one : (kept : KeptRecord) (A B : Record) → ShowsRecord kept A → ShowsRecord kept B → A ≡ B
 shows_one kept A B a b = λ i. record {

@@ -1,30 +1,50 @@
 -- The sections that a value stands for, and their labels.
 --
+-- check_name form     the name of the quick check of a form; check_value form R is its value in the record R
 -- listing_section l   the section that l stands for
 -- listing_labels l R  the label of each code point in that section, over the records R
--- core_label p b      the label of a point that has the core property p, where b holds
+-- spaced points       code points, each with a space before it
 -- text_shown t        the label with the text t
-use Rattle.std.specs.Prelude.{ℕ, Bool, List, Option, Some, None, if◌then◌else◌}
+use Rattle.std.specs.Prelude.{ℕ, List, ◌∷◌, Option, Some, None, codes}
+use Rattle.std.specs.List.{flat_map}
 use Rattle.std.specs.Borrow.{Bor}
 use Rattle.ucd_model.specs.Labels.{Label}
-use Rattle.ucd_model.specs.Names.{core_name}
-use Rattle.ucd_model.specs.DerivedFiles.{Section, listed, core_listing, category_listing, class_listing, type_listing}
+use Rattle.ucd_model.specs.DerivedText.{hex_text}
+use Rattle.ucd_model.specs.DerivedFiles.{Section, core_listing, category_listing, class_listing, type_listing, exclusion_listing, quick_listing, casefold_listing, changes_listing}
 use Rattle.ucd_model.specs.Records.{Record}
-use Rattle.ucd_model.specs.declared.property.Core.{Core}
+use Rattle.ucd_model.specs.declared.form.Form.{Form}
+use Rattle.ucd_model.specs.declared.form.Form.TheVariants.{Nfd, Nfc, Nfkd, Nfkc}
+use Rattle.ucd_model.specs.declared.form.Quick.{Quick as QuickValue}
 use Rattle.derived_writer.specs.declared.listing.Listing.{Listing}
-use Rattle.derived_writer.specs.declared.listing.Listing.TheVariants.{Core as CoreListing, Category, Class, Decomposition}
+use Rattle.derived_writer.specs.declared.listing.Listing.TheVariants.{Core as CoreListing, Category, Class, Decomposition, Exclusion, Quick, Casefold, ChangesCasefold}
+
+abbrev pub check_name : Form → List ℕ
+check_name Nfd = codes "NFD_QC"
+check_name Nfc = codes "NFC_QC"
+check_name Nfkd = codes "NFKD_QC"
+check_name Nfkc = codes "NFKC_QC"
+
+abbrev pub check_value : Form → Record → QuickValue
+check_value Nfd = λ R. R.nfd
+check_value Nfc = λ R. R.nfc
+check_value Nfkd = λ R. R.nfkd
+check_value Nfkc = λ R. R.nfkc
 
 abbrev pub listing_section : Listing → Section
 listing_section (CoreListing core) = core_listing core
 listing_section Category = category_listing
 listing_section Class = class_listing
 listing_section Decomposition = type_listing
+listing_section Exclusion = exclusion_listing
+listing_section (Quick form) = quick_listing (check_name form) (check_value form)
+listing_section Casefold = casefold_listing
+listing_section ChangesCasefold = changes_listing
 
 abbrev pub listing_labels : Listing → (ℕ → Record) → ℕ → Label
 listing_labels listing R c = (listing_section listing).label (R c)
 
-abbrev pub core_label : Core → Bool → Label
-core_label core b = if b then listed (core_name core) else None
+abbrev pub spaced : List ℕ → List ℕ
+spaced points = flat_map (λ c. 32 ∷ hex_text c) points
 
 abbrev pub text_shown : Option (Bor (List ℕ)) → Label
 text_shown None = None

@@ -3,24 +3,39 @@
 ghost use Rattle.std.specs.Prelude.{◌≡◌, IfOk};
 ghost use Rattle.ucd_model.specs.Limits.{point_count};
 ghost use Rattle.ucd_model.specs.DerivedFiles.{derived_text};
+ghost use Rattle.derived_writer.specs.Cuts.{IsCut};
 
 use crate::listing::file_listings;
 use crate::pieces::equal_pieces;
 use crate::section::put_section;
 use std::alloc::Global;
-use ucd_model::{DerivedFile, Memory, Records, Text};
+use ucd_model::{DerivedFile, Memory, Records, Span, Text};
 
 /// The text of a derived file: its sections in order, each with `# NAME`, a line for each maximal span of equal value
 /// other than the default, ascending, `# total N` with the number of code points listed, and an empty line.
 /// UAX #44, section 5.3.
-#[tactic(auto, unfolding(ucd_model::specs::DerivedFiles::derived_text))]
 pub fn file_text<B: Records>(alloc: Global, bench: &B, file: DerivedFile) -> Result<Text, Memory>
     ensures { IfOk result (λ text. text ≡ derived_text point_count file (B.record_of bench.now)) }
 {
     let pieces = equal_pieces(alloc, bench)?;
+    text_over(alloc, bench, pieces.as_slice(), file)
+}
+
+/// The text of a derived file, over the pieces of equal records that [`equal_pieces`] gives: whoever writes several files has
+/// the records compared with one another once. UAX #44, section 5.3.
+#[tactic(auto, unfolding(ucd_model::specs::DerivedFiles::derived_text))]
+pub fn text_over<B: Records>(
+    alloc: Global,
+    bench: &B,
+    pieces: &[Span],
+    file: DerivedFile,
+) -> Result<Text, Memory>
+    requires { IsCut (B.record_of bench.now) 0 point_count pieces.now }
+    ensures { IfOk result (λ text. text ≡ derived_text point_count file (B.record_of bench.now)) }
+{
     let mut text = Text::new(alloc);
     'sections: for listing in file_listings(file) {
-        put_section(alloc, bench, pieces.as_slice(), *listing, &mut text)?;
+        put_section(alloc, bench, pieces, *listing, &mut text)?;
     }
     Ok(text)
 }

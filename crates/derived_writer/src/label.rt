@@ -1,13 +1,14 @@
 //! What stands behind a span.
 
-ghost use Rattle.std.specs.Prelude.{◌≡◌, Some, None, OnOk};
+ghost use Rattle.std.specs.Prelude.{◌≡◌, ◌++◌, Some, None, OnOk};
 ghost use Rattle.ucd_model.specs.Labels.{same_label};
 ghost use Rattle.ucd_model.specs.DerivedFiles.{listed};
-ghost use Rattle.derived_writer.specs.Listings.{text_shown};
+ghost use Rattle.derived_writer.specs.Listings.{spaced, text_shown};
 
 use std::alloc::Global;
 use std::marker::Model;
-use ucd_model::{Memory, Text};
+use ucd_lines::put_hex;
+use ucd_model::{Memory, Point, Text};
 
 /// The text behind a span, or none for the default value, which is not listed. The buffer is kept from one label to
 /// the next.
@@ -55,6 +56,22 @@ impl LabelText {
         Ok(())
     }
 
+    /// Makes it the label of a value in two parts.
+    pub fn list_parts(&mut self, front: &[u8], back: &[u8]) -> Result<(), Memory>
+        ensures { OnOk result (self.new ≡ listed (front.now ++ back.now)) }
+    {
+        self.list(front)?;
+        self.text.append(back)
+    }
+
+    /// Makes it the label of a value with code points behind it, each with a space before it.
+    pub fn list_points(&mut self, value: &[u8], points: &[Point]) -> Result<(), Memory>
+        ensures { OnOk result (self.new ≡ listed (value.now ++ spaced points.now)) }
+    {
+        self.list(value)?;
+        put_spaced(points, &mut self.text)
+    }
+
     /// Whether the two are one label.
     pub fn is_same(&self, other: &LabelText) -> bool
         ensures { result ≡ same_label self.now other.now }
@@ -76,4 +93,15 @@ impl LabelText {
             None
         }
     }
+}
+
+/// Puts code points, each with a space before it.
+fn put_spaced(points: &[Point], text: &mut Text) -> Result<(), Memory>
+    ensures { OnOk result (text.new ≡ text.old ++ spaced points.now) }
+{
+    'points: for point in points {
+        text.push(b' ')?;
+        put_hex(*point, text)?;
+    }
+    Ok(())
 }

@@ -8,8 +8,12 @@ mod listing;
 mod names;
 mod pieces;
 mod run;
+#[cfg(test)]
+mod sample;
 mod section;
 #[cfg(test)]
 mod tests;
+mod values;
 
-pub use file::file_text;
+pub use file::{file_text, text_over};
+pub use pieces::equal_pieces;

@@ -1,15 +1,15 @@
 //! The sections of the derived files.
 
 ghost use Rattle.std.specs.Prelude.{◌≡◌, OnOk, map};
-ghost use Rattle.ucd_model.specs.DerivedFiles.{file_sections, category_label, class_label, kind_label};
+ghost use Rattle.ucd_model.specs.DerivedFiles.{file_sections};
 ghost use Rattle.ucd_model.specs.Records.{Record as RecordValue, ShowsRecord};
-ghost use Rattle.ucd_model.specs.Sets.{has_core};
-ghost use Rattle.derived_writer.specs.Listings.{listing_section, core_label};
+ghost use Rattle.derived_writer.specs.Listings.{listing_section, check_value};
 
 use crate::label::LabelText;
-use crate::names::{category_code, core_name, tag_name};
+use crate::names::{check_name, core_name};
+use crate::values::{set_binary, set_casefold, set_category, set_class, set_kind, set_quick};
 use std::alloc::Global;
-use ucd_model::{Category, Core, DerivedFile, Kind, Memory, Record};
+use ucd_model::{Core, DerivedFile, Form, Memory, Quick, Record};
 
 /// A property whose values are listed in a section.
 #[derive(Clone, Copy, Debug, PartialEq, Eq)]
@@ -18,22 +18,44 @@ pub enum Listing {
     Category,
     Class,
     Decomposition,
+    Exclusion,
+    Quick(Form),
+    Casefold,
+    ChangesCasefold,
 }
 
 /// The sections of DerivedCoreProperties.txt.
-const CORE_LISTINGS: [Listing; 12] = [
+const CORE_LISTINGS: [Listing; 19] = [
     Listing::Core(Core::Math),
     Listing::Core(Core::Alphabetic),
     Listing::Core(Core::Lowercase),
     Listing::Core(Core::Uppercase),
     Listing::Core(Core::Cased),
     Listing::Core(Core::CaseIgnorable),
+    Listing::Core(Core::ChangesWhenLowercased),
+    Listing::Core(Core::ChangesWhenUppercased),
+    Listing::Core(Core::ChangesWhenTitlecased),
+    Listing::Core(Core::ChangesWhenCasefolded),
+    Listing::Core(Core::ChangesWhenCasemapped),
     Listing::Core(Core::IdStart),
     Listing::Core(Core::IdContinue),
+    Listing::Core(Core::XidStart),
+    Listing::Core(Core::XidContinue),
     Listing::Core(Core::DefaultIgnorableCodePoint),
     Listing::Core(Core::GraphemeExtend),
     Listing::Core(Core::GraphemeBase),
     Listing::Core(Core::GraphemeLink),
+];
+
+/// The sections of DerivedNormalizationProps.txt.
+const NORMALIZATION_LISTINGS: [Listing; 7] = [
+    Listing::Exclusion,
+    Listing::Quick(Form::Nfd),
+    Listing::Quick(Form::Nfc),
+    Listing::Quick(Form::Nfkd),
+    Listing::Quick(Form::Nfkc),
+    Listing::Casefold,
+    Listing::ChangesCasefold,
 ];
 
 /// The sections of a file, in order.
@@ -42,7 +64,7 @@ pub fn file_listings(file: DerivedFile) -> &'static [Listing]
 {
     match file {
         DerivedFile::CoreProperties => &CORE_LISTINGS,
-        DerivedFile::NormalizationProps => &[],
+        DerivedFile::NormalizationProps => &NORMALIZATION_LISTINGS,
         DerivedFile::GeneralCategory => &[Listing::Category],
         DerivedFile::CombiningClass => &[Listing::Class],
         DerivedFile::DecompositionType => &[Listing::Decomposition],
@@ -59,6 +81,10 @@ impl Listing {
             Listing::Category => b"General_Category",
             Listing::Class => b"Canonical_Combining_Class",
             Listing::Decomposition => b"Decomposition_Type",
+            Listing::Exclusion => b"Full_Composition_Exclusion",
+            Listing::Quick(form) => check_name(form),
+            Listing::Casefold => b"NFKC_CF",
+            Listing::ChangesCasefold => b"Changes_When_NFKC_Casefolded",
         }
     }
 
@@ -72,60 +98,26 @@ impl Listing {
         ensures { OnOk result ((R : RecordValue) → ShowsRecord shown.now R → label.new ≡ (listing_section self).label R) }
     {
         match self {
-            Listing::Core(core) => set_core(core, shown, label),
+            Listing::Core(core) => set_binary(core_name(core), shown.core.has(core), label),
             Listing::Category => set_category(shown.category, label),
             Listing::Class => set_class(alloc, shown.class, label),
             Listing::Decomposition => set_kind(shown.kind, label),
+            Listing::Exclusion => set_binary(self.name(), shown.exclusion, label),
+            Listing::Quick(form) => set_quick(check_name(form), quick(form, shown), label),
+            Listing::Casefold => set_casefold(&shown.casefold, label),
+            Listing::ChangesCasefold => set_binary(self.name(), shown.changes_casefold, label),
         }
     }
 }
 
-/// A core property is listed by its name.
-fn set_core(core: Core, shown: &Record, label: &mut LabelText) -> Result<(), Memory>
-    ensures { OnOk result (label.new ≡ core_label core (has_core shown.now.core core)) }
+/// The quick check of a form.
+fn quick(form: Form, shown: &Record) -> Quick
+    ensures { (R : RecordValue) → ShowsRecord shown.now R → result ≡ check_value form R }
 {
-    if shown.core.has(core) {
-        label.list(core_name(core))
-    } else {
-        label.clear();
-        Ok(())
-    }
-}
-
-/// A general category is listed by its two letters, unless it is `Cn`.
-fn set_category(category: Category, label: &mut LabelText) -> Result<(), Memory>
-    ensures { OnOk result (label.new ≡ category_label category) }
-{
-    if matches!(category, Category::Cn) {
-        label.clear();
-        Ok(())
-    } else {
-        label.list(category_code(category))
-    }
-}
-
-/// A combining class is listed in decimal, unless it is 0.
-fn set_class(alloc: Global, class: u8, label: &mut LabelText) -> Result<(), Memory>
-    ensures { OnOk result (label.new ≡ class_label class) }
-{
-    if class == 0 {
-        label.clear();
-        return Ok(());
-    }
-    let digits = class.to_string(alloc)?;
-    label.list(digits.as_bytes())
-}
-
-/// A decomposition type is listed as `canonical` or by the name of its tag.
-fn set_kind(kind: Kind, label: &mut LabelText) -> Result<(), Memory>
-    ensures { OnOk result (label.new ≡ kind_label kind) }
-{
-    match kind {
-        Kind::Plain => {
-            label.clear();
-            Ok(())
-        }
-        Kind::Canonical => label.list(b"canonical"),
-        Kind::Compat(tag) => label.list(tag_name(tag)),
+    match form {
+        Form::Nfd => shown.nfd,
+        Form::Nfc => shown.nfc,
+        Form::Nfkd => shown.nfkd,
+        Form::Nfkc => shown.nfkc,
     }
 }

@@ -2,8 +2,9 @@
 
 ghost use Rattle.std.specs.Prelude.{◌≡◌};
 ghost use Rattle.ucd_model.specs.Names.{core_name, category_code, tag_name};
+ghost use Rattle.derived_writer.specs.Listings.{check_name};
 
-use ucd_model::{Category, Core, Tag};
+use ucd_model::{Category, Core, Form, Tag};
 
 /// The name of a core property.
 pub fn core_name(core: Core) -> &'static [u8]
@@ -29,6 +30,18 @@ pub fn core_name(core: Core) -> &'static [u8]
         Core::GraphemeExtend => b"Grapheme_Extend",
         Core::GraphemeBase => b"Grapheme_Base",
         Core::GraphemeLink => b"Grapheme_Link",
+    }
+}
+
+/// The name of the quick check of a form.
+pub fn check_name(form: Form) -> &'static [u8]
+    ensures { result.now ≡ check_name form }
+{
+    match form {
+        Form::Nfd => b"NFD_QC",
+        Form::Nfc => b"NFC_QC",
+        Form::Nfkd => b"NFKD_QC",
+        Form::Nfkc => b"NFKC_QC",
     }
 }
 

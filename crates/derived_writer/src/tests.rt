@@ -1,99 +1,12 @@
 //! Whole files over a few records. The lines are those of Unicode 15.0.0 for these code points, but for their totals and
 //! for points that the sample leaves out.
 
-ghost use Rattle.std.specs.Prelude.{◌≡◌};
-ghost use Rattle.ucd_model.specs.Facts.{within};
-ghost use Rattle.derived_writer.specs.Samples.{sample_record};
-
-use crate::file_text;
-use std::alloc::Global;
-use std::test::Fail;
-use ucd_model::{
-    Category, Core, CoreSet, DerivedFile, Image, Kind, ListOf, Point, Quick, Record, Records, Span,
-    Tag,
+use crate::sample::{
+    Sample, excluded, plain, with_checks, with_class, with_core, with_folding, with_kind, with_more,
 };
-
-/// Records of a few spans; of two that cover a code point the first one counts, and all others have the default.
-#[derive(Drop)]
-struct Sample {
-    entries: ListOf<(Span, Record)>,
-    rest: Record,
-}
-
-impl Records for Sample {
-    ghost record_of = { λ s. sample_record s.entries s.rest };
-
-    fn record(&self, c: Point) -> &Record {
-        'entries: for entry in self.entries.as_slice() {
-            if covers(entry.0, c) {
-                return &entry.1;
-            }
-        }
-        &self.rest
-    }
-}
-
-fn covers(span: Span, c: Point) -> bool
-    ensures { result ≡ within c span }
-{
-    span.first() <= c.number() && c.number() <= span.last()
-}
-
-/// A record with nothing but a category.
-fn plain(category: Category) -> Record {
-    Record {
-        category,
-        class: 0,
-        kind: Kind::Plain,
-        core: CoreSet::none(),
-        exclusion: false,
-        nfd: Quick::Yes,
-        nfc: Quick::Yes,
-        nfkd: Quick::Yes,
-        nfkc: Quick::Yes,
-        casefold: Image::Same,
-        changes_casefold: false,
-    }
-}
-
-fn with_kind(category: Category, kind: Kind) -> Record {
-    let mut record = plain(category);
-    record.kind = kind;
-    record
-}
-
-fn with_class(class: u8) -> Record {
-    let mut record = plain(Category::Mn);
-    record.class = class;
-    record
-}
-
-fn with_core(category: Category, properties: &[Core]) -> Record {
-    let mut record = plain(category);
-    for property in properties {
-        record.core = record.core.with(*property, true);
-    }
-    record
-}
-
-fn span(lo: u32, hi: u32) -> Result<Span, Fail> {
-    let lo = Point::new(lo).ok_or("a code point")?;
-    let hi = Point::new(hi).ok_or("a code point")?;
-    Ok(Span::new(lo, hi).ok_or("a span")?)
-}
-
-impl Sample {
-    fn new(alloc: Global) -> Sample {
-        Sample {
-            entries: ListOf::new(alloc),
-            rest: plain(Category::Cn),
-        }
-    }
-
-    fn put(&mut self, lo: u32, hi: u32, record: Record) -> Result<(), Fail> {
-        Ok(self.entries.push((span(lo, hi)?, record))?)
-    }
-}
+use crate::{equal_pieces, file_text, text_over};
+use std::test::Fail;
+use ucd_model::{Category, Core, DerivedFile, Kind, Quick, Record, Tag};
 
 #[test]
 fn categories_up_to_the_last_code_point(rt: HostRuntime) -> Result<(), Fail> {
@@ -155,44 +68,152 @@ fn decomposition_types_without_brackets(rt: HostRuntime) -> Result<(), Fail> {
     Ok(())
 }
 
-/// The core properties of `+`, of `A` to `Z` and of DEVANAGARI SIGN VIRAMA; a sample of no other point.
-const CORE_TEXT: &[u8] =
-    b"# Math\n002B ; Math\n# total 1\n\n# Alphabetic\n0041..005A ; Alphabetic\n# total 26\n\n# Lowercase\n# total 0\n\n# Uppercase\n0041..005A ; Uppercase\n# total 26\n\n# Cased\n0041..005A ; Cased\n# total 26\n\n# Case_Ignorable\n094D ; Case_Ignorable\n# total 1\n\n# ID_Start\n0041..005A ; ID_Start\n# total 26\n\n# ID_Continue\n0041..005A ; ID_Continue\n094D ; ID_Continue\n# total 27\n\n# Default_Ignorable_Code_Point\n# total 0\n\n# Grapheme_Extend\n094D ; Grapheme_Extend\n# total 1\n\n# Grapheme_Base\n002B ; Grapheme_Base\n0041..005A ; Grapheme_Base\n# total 27\n\n# Grapheme_Link\n094D ; Grapheme_Link\n# total 1\n\n";
+/// The core properties of `+`, of `A` to `Z`, of `a` to `z`, of GREEK YPOGEGRAMMENI and of DEVANAGARI SIGN VIRAMA; a sample
+/// of no other point.
+const CORE_TEXT: &[u8] = b"# Math\n002B ; Math\n# total 1\n\n\
+      # Alphabetic\n0041..005A ; Alphabetic\n0061..007A ; Alphabetic\n037A ; Alphabetic\n# total 53\n\n\
+      # Lowercase\n0061..007A ; Lowercase\n037A ; Lowercase\n# total 27\n\n\
+      # Uppercase\n0041..005A ; Uppercase\n# total 26\n\n\
+      # Cased\n0041..005A ; Cased\n0061..007A ; Cased\n037A ; Cased\n# total 53\n\n\
+      # Case_Ignorable\n037A ; Case_Ignorable\n094D ; Case_Ignorable\n# total 2\n\n\
+      # Changes_When_Lowercased\n0041..005A ; Changes_When_Lowercased\n# total 26\n\n\
+      # Changes_When_Uppercased\n0061..007A ; Changes_When_Uppercased\n# total 26\n\n\
+      # Changes_When_Titlecased\n0061..007A ; Changes_When_Titlecased\n# total 26\n\n\
+      # Changes_When_Casefolded\n0041..005A ; Changes_When_Casefolded\n# total 26\n\n\
+      # Changes_When_Casemapped\n0041..005A ; Changes_When_Casemapped\n0061..007A ; Changes_When_Casemapped\n# total 52\n\n\
+      # ID_Start\n0041..005A ; ID_Start\n0061..007A ; ID_Start\n037A ; ID_Start\n# total 53\n\n\
+      # ID_Continue\n0041..005A ; ID_Continue\n0061..007A ; ID_Continue\n037A ; ID_Continue\n094D ; ID_Continue\n# total 54\n\n\
+      # XID_Start\n0041..005A ; XID_Start\n0061..007A ; XID_Start\n# total 52\n\n\
+      # XID_Continue\n0041..005A ; XID_Continue\n0061..007A ; XID_Continue\n094D ; XID_Continue\n# total 53\n\n\
+      # Default_Ignorable_Code_Point\n# total 0\n\n\
+      # Grapheme_Extend\n094D ; Grapheme_Extend\n# total 1\n\n\
+      # Grapheme_Base\n002B ; Grapheme_Base\n0041..005A ; Grapheme_Base\n0061..007A ; Grapheme_Base\n037A ; Grapheme_Base\n# total 54\n\n\
+      # Grapheme_Link\n094D ; Grapheme_Link\n# total 1\n\n";
 
-#[test]
-fn twelve_core_properties(rt: HostRuntime) -> Result<(), Fail> {
-    let letter = [
-        Core::Alphabetic,
+/// What the letters of the sample have in common.
+const LETTER: [Core; 5] = [
+    Core::Alphabetic,
+    Core::Cased,
+    Core::IdStart,
+    Core::IdContinue,
+    Core::GraphemeBase,
+];
+
+fn capital() -> Record {
+    let changes = [
         Core::Uppercase,
-        Core::Cased,
-        Core::IdStart,
-        Core::IdContinue,
-        Core::GraphemeBase,
+        Core::ChangesWhenLowercased,
+        Core::ChangesWhenCasefolded,
+        Core::ChangesWhenCasemapped,
+        Core::XidStart,
+        Core::XidContinue,
     ];
-    let virama = [
+    with_more(with_core(Category::Lu, &LETTER), &changes)
+}
+
+fn small() -> Record {
+    let changes = [
+        Core::Lowercase,
+        Core::ChangesWhenUppercased,
+        Core::ChangesWhenTitlecased,
+        Core::ChangesWhenCasemapped,
+        Core::XidStart,
+        Core::XidContinue,
+    ];
+    with_more(with_core(Category::Ll, &LETTER), &changes)
+}
+
+fn virama() -> Record {
+    let properties = [
         Core::CaseIgnorable,
         Core::IdContinue,
+        Core::XidContinue,
         Core::GraphemeExtend,
         Core::GraphemeLink,
     ];
+    with_core(Category::Mn, &properties)
+}
+
+#[test]
+fn all_core_properties(rt: HostRuntime) -> Result<(), Fail> {
     let mut bench = Sample::new(rt.alloc());
-    bench.put(
-        0x002B,
-        0x002B,
-        with_core(Category::Sm, &[Core::Math, Core::GraphemeBase]),
-    )?;
-    bench.put(0x0041, 0x005A, with_core(Category::Lu, &letter))?;
-    bench.put(0x094D, 0x094D, with_core(Category::Mn, &virama))?;
+    let plus = with_core(Category::Sm, &[Core::Math, Core::GraphemeBase]);
+    let modifier = with_core(Category::Lm, &LETTER);
+    let modifier = with_more(modifier, &[Core::Lowercase, Core::CaseIgnorable]);
+    bench.put(0x002B, 0x002B, plus)?;
+    bench.put(0x0041, 0x005A, capital())?;
+    bench.put(0x0061, 0x007A, small())?;
+    bench.put(0x037A, 0x037A, modifier)?;
+    bench.put(0x094D, 0x094D, virama())?;
     let text = file_text(rt.alloc(), &bench, DerivedFile::CoreProperties)?;
     assert!(rt; text.as_slice() == CORE_TEXT);
     Ok(())
 }
 
+/// The normalisation properties of `A` and `B`, of DIAERESIS and SOFT HYPHEN, of five combining marks, of two that are
+/// excluded from composition, and of the spaces from EN QUAD to HAIR SPACE; a sample of no other point.
+const NORMALIZATION_TEXT: &[u8] =
+    b"# Full_Composition_Exclusion\n0340..0341 ; Full_Composition_Exclusion\n2000..2001 ; Full_Composition_Exclusion\n# total 4\n\n\
+      # NFD_QC\n0340..0341 ; NFD_QC ; N\n2000..2001 ; NFD_QC ; N\n# total 4\n\n\
+      # NFC_QC\n0300..0304 ; NFC_QC ; M\n0340..0341 ; NFC_QC ; N\n2000..2001 ; NFC_QC ; N\n# total 9\n\n\
+      # NFKD_QC\n00A8 ; NFKD_QC ; N\n0340..0341 ; NFKD_QC ; N\n2000..200A ; NFKD_QC ; N\n# total 14\n\n\
+      # NFKC_QC\n00A8 ; NFKC_QC ; N\n0300..0304 ; NFKC_QC ; M\n0340..0341 ; NFKC_QC ; N\n2000..200A ; NFKC_QC ; N\n# total 19\n\n\
+      # NFKC_CF\n0041 ; NFKC_CF ; 0061\n0042 ; NFKC_CF ; 0062\n00A8 ; NFKC_CF ; 0020 0308\n00AD ; NFKC_CF ;\n0340 ; NFKC_CF ; 0300\n0341 ; NFKC_CF ; 0301\n2000..200A ; NFKC_CF ; 0020\n# total 17\n\n\
+      # Changes_When_NFKC_Casefolded\n0041..0042 ; Changes_When_NFKC_Casefolded\n00A8 ; Changes_When_NFKC_Casefolded\n00AD ; Changes_When_NFKC_Casefolded\n0340..0341 ; Changes_When_NFKC_Casefolded\n2000..200A ; Changes_When_NFKC_Casefolded\n# total 17\n\n";
+
 #[test]
-fn no_section_of_normalization_properties(rt: HostRuntime) -> Result<(), Fail> {
+fn all_normalization_properties(rt: HostRuntime) -> Result<(), Fail> {
+    let alloc = rt.alloc();
+    let (yes, no, maybe) = (Quick::Yes, Quick::No, Quick::Maybe);
+    let mut bench = Sample::new(alloc);
+    // neighbours with different mappings are two spans
+    bench.put(
+        0x0041,
+        0x0041,
+        with_folding(alloc, Category::Lu, &[0x0061])?,
+    )?;
+    bench.put(
+        0x0042,
+        0x0042,
+        with_folding(alloc, Category::Lu, &[0x0062])?,
+    )?;
+    let diaeresis = with_folding(alloc, Category::Sk, &[0x0020, 0x0308])?;
+    bench.put(0x00A8, 0x00A8, with_checks(diaeresis, (yes, yes), (no, no)))?;
+    bench.put(0x00AD, 0x00AD, with_folding(alloc, Category::Cf, &[])?)?;
+    let mark = with_checks(plain(Category::Mn), (yes, maybe), (yes, maybe));
+    bench.put(0x0300, 0x0304, mark)?;
+    let grave = with_folding(alloc, Category::Mn, &[0x0300])?;
+    bench.put(0x0340, 0x0340, excluded(grave))?;
+    let acute = with_folding(alloc, Category::Mn, &[0x0301])?;
+    bench.put(0x0341, 0x0341, excluded(acute))?;
+    // neighbours with one mapping are one span, though the records differ
+    let quad = with_folding(alloc, Category::Zs, &[0x0020])?;
+    bench.put(0x2000, 0x2001, excluded(quad))?;
+    let space = with_folding(alloc, Category::Zs, &[0x0020])?;
+    bench.put(0x2002, 0x200A, with_checks(space, (yes, yes), (no, no)))?;
+    let text = file_text(alloc, &bench, DerivedFile::NormalizationProps)?;
+    assert!(rt; text.as_slice() == NORMALIZATION_TEXT);
+    Ok(())
+}
+
+#[test]
+fn files_over_the_same_pieces(rt: HostRuntime) -> Result<(), Fail> {
     let mut bench = Sample::new(rt.alloc());
     bench.put(0x0041, 0x005A, plain(Category::Lu))?;
-    let text = file_text(rt.alloc(), &bench, DerivedFile::NormalizationProps)?;
-    assert_eq!(rt; text.len(), 0);
+    bench.put(0x0300, 0x0314, with_class(230))?;
+    let pieces = equal_pieces(rt.alloc(), &bench)?;
+    for (file, wanted) in [
+        (
+            DerivedFile::CombiningClass,
+            b"# Canonical_Combining_Class\n0300..0314 ; 230\n# total 21\n\n".as_slice(),
+        ),
+        (
+            DerivedFile::GeneralCategory,
+            b"# General_Category\n0041..005A ; Lu\n0300..0314 ; Mn\n# total 47\n\n",
+        ),
+    ] {
+        let text = text_over(rt.alloc(), &bench, pieces.as_slice(), file)?;
+        assert!(rt; text.as_slice() == wanted);
+    }
     Ok(())
 }

@@ -3,7 +3,7 @@ use Rattle.std.specs.List.{flat_map}
 use Rattle.ucd_model.specs.Limits.{point_count}
 use Rattle.ucd_model.specs.DerivedFiles.{section_of}
 use Rattle.derived_writer.specs.Listings.{listing_section}
-use Rattle.derived_writer.proofs.file.file_text.Given as goal
+use Rattle.derived_writer.proofs.file.text_over.Given as goal
 
 -- the sections so far
 abbrev pub invariant-sections : goal.invariant-sections

@@ -1,6 +1,6 @@
 use Rattle.std.proofs.Common.{◌≡◌, drop, find}
 use Rattle.ucd_model.specs.Facts.{within}
-use Rattle.derived_writer.proofs.tests.SampleRecords.record.Given as goal
+use Rattle.derived_writer.proofs.sample.SampleRecords.record.Given as goal
 
 -- what is found in what is left is what is found in all
 abbrev pub invariant-entries : goal.invariant-entries

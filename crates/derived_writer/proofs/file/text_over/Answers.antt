@@ -6,7 +6,7 @@ use Rattle.derived_writer.specs.declared.listing.Listing.{Listing}
 use Rattle.derived_writer.specs.declared.listing.Listing.TheVariants.{Core as CoreListing}
 use Rattle.ucd_model.specs.declared.property.Core.TheVariants.{Math}
 use Rattle.derived_writer.proofs.CutLemmas.{flat_map-more}
-use Rattle.derived_writer.proofs.file.file_text.Goals as goal
+use Rattle.derived_writer.proofs.file.text_over.Goals as goal
 
 pub sections-preserved : goal.sections-preserved
 sections-preserved g c =

@@ -5,7 +5,7 @@ use Rattle.ucd_model.specs.Facts.{within}
 use Rattle.ucd_model.specs.Records.{ShowsRecord}
 use Rattle.ucd_model.specs.declared.records.Record.{Record as KeptRecord}
 use Rattle.derived_writer.specs.Samples.{kept_record, entry_or, sample_record}
-use Rattle.derived_writer.proofs.tests.SampleRecords.record.Goals as goal
+use Rattle.derived_writer.proofs.sample.SampleRecords.record.Goals as goal
 
 shows_kept : (k : KeptRecord) → ShowsRecord k (kept_record k)
 shows_kept k = record {

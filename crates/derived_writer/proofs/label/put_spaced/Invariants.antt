@@ -1,0 +1,7 @@
+use Rattle.std.proofs.Common.{◌≡◌, ◌++◌, take}
+use Rattle.derived_writer.specs.Listings.{spaced}
+use Rattle.derived_writer.proofs.label.put_spaced.Given as goal
+
+-- what stood there, and the code points so far
+abbrev pub invariant-points : goal.invariant-points
+invariant-points l = l.text ≡ l.fn.text ++ spaced (take l.point-index l.points)

@@ -1,0 +1,87 @@
+//! The labels of values: what stands behind a span, and which value is the default.
+
+ghost use Rattle.std.specs.Prelude.{◌≡◌, OnOk};
+ghost use Rattle.ucd_model.specs.DerivedFiles.{binary_label, category_label, class_label, kind_label, quick_label, casefold_label};
+
+use crate::label::LabelText;
+use crate::names::{category_code, tag_name};
+use std::alloc::Global;
+use ucd_model::{Category, Image, Kind, Memory, Quick};
+
+/// A property of two values is listed by its name where it holds.
+pub fn set_binary(name: &[u8], holds: bool, label: &mut LabelText) -> Result<(), Memory>
+    ensures { OnOk result (label.new ≡ binary_label name.now holds) }
+{
+    if holds {
+        label.list(name)
+    } else {
+        label.clear();
+        Ok(())
+    }
+}
+
+/// A general category is listed by its two letters, unless it is `Cn`.
+pub fn set_category(category: Category, label: &mut LabelText) -> Result<(), Memory>
+    ensures { OnOk result (label.new ≡ category_label category) }
+{
+    if matches!(category, Category::Cn) {
+        label.clear();
+        Ok(())
+    } else {
+        label.list(category_code(category))
+    }
+}
+
+/// A combining class is listed in decimal, unless it is 0.
+pub fn set_class(alloc: Global, class: u8, label: &mut LabelText) -> Result<(), Memory>
+    ensures { OnOk result (label.new ≡ class_label class) }
+{
+    if class == 0 {
+        label.clear();
+        return Ok(());
+    }
+    let digits = class.to_string(alloc)?;
+    label.list(digits.as_bytes())
+}
+
+/// A decomposition type is listed as `canonical` or by the name of its tag.
+pub fn set_kind(kind: Kind, label: &mut LabelText) -> Result<(), Memory>
+    ensures { OnOk result (label.new ≡ kind_label kind) }
+{
+    match kind {
+        Kind::Plain => {
+            label.clear();
+            Ok(())
+        }
+        Kind::Canonical => label.list(b"canonical"),
+        Kind::Compat(tag) => label.list(tag_name(tag)),
+    }
+}
+
+/// A quick check is listed by its name with `N` for No and `M` for Maybe.
+pub fn set_quick(name: &[u8], quick: Quick, label: &mut LabelText) -> Result<(), Memory>
+    ensures { OnOk result (label.new ≡ quick_label name.now quick) }
+{
+    match quick {
+        Quick::Yes => {
+            label.clear();
+            Ok(())
+        }
+        Quick::No => label.list_parts(name, b" ; N"),
+        Quick::Maybe => label.list_parts(name, b" ; M"),
+    }
+}
+
+/// A folding is listed by `NFKC_CF ;` and its code points, which may be none, unless it is the point itself.
+#[tactic(auto, using(crate::proofs::PointLemmas::casefold_is))]
+pub fn set_casefold(image: &Image, label: &mut LabelText) -> Result<(), Memory>
+    ensures { OnOk result (label.new ≡ casefold_label image.now) }
+{
+    match image {
+        Image::Same => {
+            label.clear();
+            Ok(())
+        }
+        Image::To(points) => label.list_points(b"NFKC_CF ;", points.as_slice()),
+    }
+}

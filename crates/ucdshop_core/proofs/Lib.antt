@@ -1,7 +1,6 @@
 mod CheckLemmas
 mod ValidLemmas
 mod RecordSteps
-mod CoreSteps
 mod PointRecords
 mod PlanLemmas
 pub mod WritingLemmas

@@ -1,92 +1,96 @@
--- The record of a point, and one record more.
-use Rattle.std.proofs.Common.{◌≡◌, ℕ, ◌+◌, ◌<◌, ◌≤◌, Bool, false, refl, sym, ap, subst, ◌∙◌, arith, inl, inr}
-use mathlib.Core.Path.{fun_ext}
+-- The records of the first points, and more of them.
+use Rattle.std.proofs.Common.{◌≡◌, ℕ, ◌+◌, ◌<◌, ◌≤◌, Option, Some, None, Result, Ok, Err, refl, sym, ap, subst, ◌∙◌, arith, inl, inr}
 use Rattle.std.proofs.lemmas.Bool.{cases_lt}
 use Rattle.ucd_model.specs.Limits.{point_count}
+use Rattle.ucd_model.specs.Predicates.{is_visible_format}
+use Rattle.ucd_model.specs.Uniform.{IsPlain, Uniform}
+use Rattle.code_facts.specs.Plain.{HoldsTo}
+use Rattle.identifier_closure.specs.UniformProofs.{uniform_derived}
 use Rattle.ucd_model.specs.Facts.{Facts}
-use Rattle.ucd_model.specs.Predicates.{holds, is_visible_format}
-use Rattle.ucd_model.specs.Records.{Record, record_at}
-use Rattle.ucd_model.specs.Sets.{has_core}
-use Rattle.ucd_model.specs.Shown.{shown_facts, shown_is}
-use Rattle.ucd_model.specs.View.{ShowsFacts}
-use Rattle.ucd_model.specs.declared.category.Category.{Category}
-use Rattle.ucd_model.specs.declared.decomposition.Kind.{Kind}
-use Rattle.ucd_model.specs.declared.form.Quick.TheVariants.{Yes}
-use Rattle.ucd_model.specs.declared.image.Image.TheVariants.{Same}
-use Rattle.ucd_model.specs.declared.property.Core.{Core}
-use Rattle.ucd_model.specs.declared.property.Core.TheVariants.{Math, Alphabetic, Lowercase, Uppercase, Cased, CaseIgnorable, ChangesWhenLowercased, ChangesWhenUppercased, ChangesWhenTitlecased, ChangesWhenCasefolded, ChangesWhenCasemapped, IdStart, IdContinue, XidStart, XidContinue, DefaultIgnorableCodePoint, GraphemeExtend, GraphemeBase, GraphemeLink}
-use Rattle.code_facts.specs.Alike.{Alike}
-use Rattle.ucd_model.specs.declared.view.FactsRef.{FactsRef}
-use Rattle.ucdshop_core.specs.RecordLists.{RecordsOf, kept_record, count_of, record_of, HoldsBelow, SameRecords}
+use Rattle.ucd_model.specs.Records.{Record, ShowsRecord, kept_record, record_at, record_or_rule, derived}
+use Rattle.ucd_model.specs.Validity.{broken, first_broken}
+use Rattle.ucd_model.specs.declared.form.Bad.{Bad as Rule}
+use Rattle.ucd_model.specs.declared.records.Record.{Record as KeptRecord}
+use Rattle.ucdshop_core.specs.RecordLists.{RecordsOf, RecordFound, RecordsAs, count_of, record_of, DerivedBelow, SameRecords}
+use Rattle.ucd_model.specs.declared.form.Broken.{Broken as BrokenPoint}
+use Rattle.ucdshop_core.specs.declared.record_stop.RecordsStop.{RecordsStop}
+use Rattle.ucdshop_core.specs.declared.record_stop.RecordsStop.TheVariants.{Broken, Memory}
+use Rattle.ucdshop_core.proofs.CheckLemmas.{KeepsBelow, found_at, none_found}
 
 pub has_place : (c count : ℕ) → c < 1114112 → count ≡ point_count → c < count
 unfolding point_count
 has_place c count lt e = omega (arith, lt, e)
 
-pub record_is : (r : FactsRef) (F : ℕ → Facts) (c set : ℕ) → ShowsFacts r (F c) → ((core : Core) → has_core set core ≡ holds core c (shown_facts r))
-    → kept_record (record { category = r.category; class = r.class; kind = r.kind; core = set; exclusion = false; nfd = Yes; nfc = Yes; nfkd = Yes; nfkc = Yes; casefold = Same; changes_casefold = false }) ≡ record_at F c
-record_is r F c set shows has =
-    let cores : has_core set ≡ (λ core. holds core c (F c)) = fun_ext (λ core. has core ∙ ap (holds core c) (shown_is r (F c) shows)) in
-    rw (shows.category, shows.class, shows.kind, cores) refl
+shows_kept : (kept : KeptRecord) → ShowsRecord kept (kept_record kept)
+shows_kept kept = record {
+  category = refl;
+  class = refl;
+  kind = refl;
+  core = λ core. refl;
+  exclusion = refl;
+  nfd = refl;
+  nfc = refl;
+  nfkd = refl;
+  nfkc = refl;
+  casefold = refl;
+  changes_casefold = refl;
+}
 
-pub none_below : (list : RecordsOf) (R : ℕ → Record) → count_of list ≡ 0 → HoldsBelow list 0 R
-none_below list R e = record { count = e; same = λ c lt. absurd (omega (arith, lt)) }
+pub shows : (kept : KeptRecord) (R : Record) → kept_record kept ≡ R → ShowsRecord kept R
+shows kept R e = subst (ShowsRecord kept) e (shows_kept kept)
 
-pub run_below : (old new : RecordsOf) (n more : ℕ) (R : ℕ → Record) (here : Record) → HoldsBelow old n R → count_of new ≡ count_of old + more
+pub none_below : (list : RecordsOf) (F : ℕ → Facts) → count_of list ≡ 0 → DerivedBelow list 0 F
+none_below list F e = record { count = e; same = λ c lt. absurd (omega (arith, lt)) }
+
+pub run_below : (old new : RecordsOf) (n more : ℕ) (F : ℕ → Facts) (here : Record) → DerivedBelow old n F → count_of new ≡ count_of old + more
     → ((c : ℕ) → count_of old ≤ c → c < count_of old + more → record_of new c ≡ here) → ((c : ℕ) → c < count_of old → record_of new c ≡ record_of old c)
-    → ((c : ℕ) → n ≤ c → c < n + more → here ≡ R c) → HoldsBelow new (n + more) R
-run_below old new n more R here holds longer added others same =
+    → ((c : ℕ) → n ≤ c → c < n + more → derived F c ≡ Ok here) → DerivedBelow new (n + more) F
+run_below old new n more F here holds longer added others same =
     let count = holds.count in
     record {
       count = longer ∙ ap (λ k. k + more) count;
       same = λ c lt. elim (cases_lt c n) [
-        | inl less ↦ others c (subst (λ k. c < k) (sym count) less) ∙ holds.same c less
-        | inr past ↦ added c (subst (λ k. k ≤ c) (sym count) past) (subst (λ k. c < k + more) (sym count) lt) ∙ same c past lt
+        | inl less ↦ holds.same c less ∙ ap (λ (R : Record). Ok R) (sym (others c (subst (λ k. c < k) (sym count) less)))
+        | inr past ↦ same c past lt ∙ ap (λ (R : Record). Ok R) (sym (added c (subst (λ k. k ≤ c) (sym count) past) (subst (λ k. c < k + more) (sym count) lt)))
       ];
     }
 
--- ---- points whose facts are alike
+-- ---- what is derived
 
-holds_alike : (core : Core) (c d : ℕ) (G H : Facts) → Alike G H → is_visible_format d ≡ is_visible_format c → holds core d G ≡ holds core c H
-holds_alike Math c d G H a v = rw (a.category, a.flag) refl
-holds_alike Alphabetic c d G H a v = rw (a.category, a.flag) refl
-holds_alike Lowercase c d G H a v = rw (a.category, a.flag) refl
-holds_alike Uppercase c d G H a v = rw (a.category, a.flag) refl
-holds_alike Cased c d G H a v = rw (a.category, a.flag) refl
-holds_alike CaseIgnorable c d G H a v = rw (a.category, a.mid_word) refl
-holds_alike ChangesWhenLowercased c d G H a v = refl
-holds_alike ChangesWhenUppercased c d G H a v = refl
-holds_alike ChangesWhenTitlecased c d G H a v = refl
-holds_alike ChangesWhenCasefolded c d G H a v = refl
-holds_alike ChangesWhenCasemapped c d G H a v = refl
-holds_alike IdStart c d G H a v = rw (a.category, a.flag) refl
-holds_alike IdContinue c d G H a v = rw (a.category, a.flag) refl
-holds_alike XidStart c d G H a v = refl
-holds_alike XidContinue c d G H a v = refl
-holds_alike DefaultIgnorableCodePoint c d G H a v = rw (a.category, a.flag, v) refl
-holds_alike GraphemeExtend c d G H a v = rw (a.category, a.flag) refl
-holds_alike GraphemeBase c d G H a v = rw (a.category, a.flag) refl
-holds_alike GraphemeLink c d G H a v = rw a.class refl
+ok_parts : (R S : Record) (b : Option Rule) → record_or_rule R b ≡ Ok S → (R ≡ S) × (b ≡ None)
+ok_parts R S None e = let same : R ≡ S = cc in (same, refl)
+ok_parts R S (Some rule) e = cc
 
-abbrev made : Category → ℕ → Kind → (Core → Bool) → Record
-made category class kind cores = record {
-  category = category;
-  class = class;
-  kind = kind;
-  core = cores;
-  exclusion = false;
-  nfd = Yes;
-  nfc = Yes;
-  nfkd = Yes;
-  nfkc = Yes;
-  casefold = Same;
-  changes_casefold = false;
-}
+err_part : (R : Record) (rule : Rule) (b : Option Rule) → record_or_rule R b ≡ Err rule → b ≡ Some rule
+err_part R rule None e = cc
+err_part R rule (Some other) e = let same : other ≡ rule = cc in ap (λ (r : Rule). Some r) same
 
-made_same : (k l : Category) (m n : ℕ) (a b : Kind) (f g : Core → Bool) → k ≡ l → m ≡ n → a ≡ b → f ≡ g → made k m a f ≡ made l n b g
-made_same k l m n a b f g p q r s = rw (p, q, r, s) refl
+keeps_below : (list : RecordsOf) (n : ℕ) (F : ℕ → Facts) → DerivedBelow list n F → KeepsBelow F n
+keeps_below list n F holds k lt = (ok_parts (record_at F k) (record_of list k) (broken F k) (holds.same k lt)).1
 
-pub alike_records : (F : ℕ → Facts) (c d : ℕ) → Alike (F d) (F c) → is_visible_format d ≡ is_visible_format c → record_at F d ≡ record_at F c
-alike_records F c d a v =
-    made_same (F d).category (F c).category (F d).class (F c).class (F d).kind (F c).kind (λ core. holds core d (F d)) (λ core. holds core c (F c))
-    a.category a.class a.kind (fun_ext (λ core. holds_alike core c d (F d) (F c) a v))
+-- the least point that breaks a rule
+pub broken_next : (list : RecordsOf) (n : ℕ) (F : ℕ → Facts) (rule : Rule) → n < point_count → DerivedBelow list n F → derived F n ≡ Err rule
+    → first_broken F ≡ Some (record { point = n; rule = rule })
+broken_next list n F rule lt holds e = found_at F n rule lt (keeps_below list n F holds) (err_part (record_at F n) rule (broken F n) e)
+
+-- no point does
+pub all_derived : (list : RecordsOf) (F : ℕ → Facts) → DerivedBelow list point_count F → (first_broken F ≡ None) × SameRecords (record_of list) (record_at F)
+all_derived list F holds = (none_found F (keeps_below list point_count F holds), λ c lt. sym (ok_parts (record_at F c) (record_of list c) (broken F c) (holds.same c lt)).0)
+
+-- ---- points that stand together
+
+pub uniform_run : (F : ℕ → Facts) (c last shown end d : ℕ) → IsPlain c (F c) → HoldsTo (Uniform F c) c last → ((k : ℕ) → c ≤ k → k < shown → is_visible_format k ≡ is_visible_format c)
+    → end ≤ last + 1 → end ≤ shown → c ≤ d → d < end → derived F d ≡ derived F c
+uniform_run F c last shown end d plain stretch visible within below from lt =
+    uniform_derived F c d plain (stretch.each d from (omega (arith, within, lt))) (visible d from (omega (arith, below, lt)))
+
+-- ---- the answer
+
+stop_at : (F : ℕ → Facts) (list : RecordsOf) (n : ℕ) (stop : RecordsStop) → n < point_count → DerivedBelow list n F → RecordFound F n (Err stop) → RecordsAs (Err stop) F
+stop_at F list n (Broken broken) lt holds found =
+    let here : ◌≡◌ {A = BrokenPoint} (record { point = n; rule = broken.rule }) broken = λ i. record { point = sym found.0 i; rule = broken.rule } in
+    broken_next list n F broken.rule lt holds found.1 ∙ ap (λ (b : BrokenPoint). Some b) here
+stop_at F list n Memory lt holds found = tt
+
+pub stopped : (F : ℕ → Facts) (list : RecordsOf) (q n : ℕ) (stop : RecordsStop) → q ≡ n → n < point_count → DerivedBelow list n F → RecordFound F q (Err stop) → RecordsAs (Err stop) F
+stopped F list q n stop same lt holds found = stop_at F list n stop lt holds (subst (λ (k : ℕ). RecordFound F k (Err stop)) same found)

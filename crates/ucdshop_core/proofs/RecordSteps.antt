@@ -4,9 +4,9 @@ use Rattle.std.proofs.Math.Seq.{get_or-append_seam}
 use Rattle.std.proofs.lemmas.Bool.{cases_lt}
 use Rattle.std.proofs.lemmas.List.{get_or_append_left, length_push}
 use Rattle.ucd_model.specs.Facts.{unassigned}
-use Rattle.ucd_model.specs.Records.{record_at}
+use Rattle.ucd_model.specs.Records.{kept_record, record_at}
 use Rattle.ucd_model.specs.declared.records.Record.{Record as KeptRecord}
-use Rattle.ucdshop_core.specs.RecordLists.{kept_or, kept_record, record_in, HavePlaces, Keeps, SameFacts, SameChecks, SameFold}
+use Rattle.ucdshop_core.specs.RecordLists.{kept_or, record_in, HavePlaces, Keeps}
 
 pub still_places : (places : List ℕ) (old new : List KeptRecord) → length old ≤ length new → HavePlaces places old → HavePlaces places new
 still_places places old new longer have i lt = let below = have i lt in omega (arith, longer, below)
@@ -31,7 +31,3 @@ pub other_records : (places : List ℕ) (old new : List KeptRecord) (place : ℕ
 other_records places old new place added keeps have c lt =
     ap (λ k. kept_or (record_at unassigned c) (slice_get new k)) (get_or_append_left places (place ∷ []) 0 c lt)
     ∙ ap (kept_or (record_at unassigned c)) (keeps.others (get_or places c 0) (have c lt))
-
-pub same_records : (a b : KeptRecord) → SameFacts a b → SameChecks a b → SameFold a b → kept_record a ≡ kept_record b
-same_records a b (category, class, kind, core) (exclusion, nfd, nfc, nfkd, nfkc) (casefold, changes) =
-    rw (category, class, kind, core, exclusion, nfd, nfc, nfkd, nfkc, casefold, changes) refl

@@ -1,5 +1,4 @@
 pub mod RecordLists
-pub mod CoreSets
 pub mod Printed
 pub mod Run
 pub mod Outcome
@@ -9,4 +8,3 @@ pub mod Reading
 pub mod Judging
 pub mod Writing
 pub mod Planning
-pub mod Checks

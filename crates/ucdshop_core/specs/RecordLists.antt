@@ -1,33 +1,23 @@
 -- The records of the first code points, one after the other.
 --
--- kept_record k               the record that a value keeps
 -- record_in places records c  the record at the place of c
 -- RecordsOf                   the records that are kept, and for each point the place of its record
 -- SameRecords R S             the records of the code points are the same
--- HoldsBelow list n R         the points below n, and no others, have a record, and it is that of R
+-- DerivedBelow list n F       the points below n, and no others, have a record, and it is the one that is derived of the facts F
+-- RecordFound F c result      the result is the record of c, or in its place c with the first rule that it breaks; want of memory says
+--                             nothing
+-- RecordsAs result F          the result is the records of all points, none of which breaks a rule, or in their place the least
+--                             point that does; want of memory says nothing
 -- HavePlaces                  each place is that of a record
 -- Keeps old new place added   the new list has the old one's records and one that is `added` at the place
-use Rattle.std.specs.Prelude.{◌≡◌, ℕ, ◌<◌, ◌≤◌, List, length, Option, Some, None, slice_get, slice_index_or}
-use Rattle.ucd_model.specs.Facts.{unassigned}
+use Rattle.std.specs.Prelude.{◌≡◌, ℕ, ◌<◌, ◌≤◌, List, length, Option, Some, None, Result, Ok, Err, ⊤, slice_get, slice_index_or}
+use Rattle.ucd_model.specs.Facts.{Facts, unassigned}
 use Rattle.ucd_model.specs.Limits.{point_count}
-use Rattle.ucd_model.specs.Records.{Record, record_at}
-use Rattle.ucd_model.specs.Sets.{has_core}
+use Rattle.ucd_model.specs.Records.{Record, kept_record, record_at, derived}
+use Rattle.ucd_model.specs.Validity.{first_broken}
 use Rattle.ucd_model.specs.declared.records.Record.{Record as KeptRecord}
-
-abbrev pub kept_record : KeptRecord → Record
-kept_record k = record {
-  category = k.category;
-  class = k.class;
-  kind = k.kind;
-  core = has_core k.core;
-  exclusion = k.exclusion;
-  nfd = k.nfd;
-  nfc = k.nfc;
-  nfkd = k.nfkd;
-  nfkc = k.nfkc;
-  casefold = k.casefold;
-  changes_casefold = k.changes_casefold;
-}
+use Rattle.ucdshop_core.specs.declared.record_stop.RecordsStop.{RecordsStop}
+use Rattle.ucdshop_core.specs.declared.record_stop.RecordsStop.TheVariants.{Broken, Memory}
 
 abbrev pub kept_or : Record → Option KeptRecord → Record
 kept_or other (Some kept) = kept_record kept
@@ -49,9 +39,19 @@ record_of list = record_in list.places list.kept
 abbrev pub SameRecords : (ℕ → Record) → (ℕ → Record) → Type 0
 SameRecords R S = (c : ℕ) → c < point_count → R c ≡ S c
 
-pub record HoldsBelow (list : RecordsOf) (n : ℕ) (R : ℕ → Record) : Type 0 where
+pub record DerivedBelow (list : RecordsOf) (n : ℕ) (F : ℕ → Facts) : Type 0 where
   pub count : count_of list ≡ n
-  pub same : (c : ℕ) → c < n → record_of list c ≡ R c
+  pub same : (c : ℕ) → c < n → derived F c ≡ Ok (record_of list c)
+
+abbrev pub RecordFound : (ℕ → Facts) → ℕ → Result KeptRecord RecordsStop → Type 0
+RecordFound F c (Ok kept) = derived F c ≡ Ok (kept_record kept)
+RecordFound F c (Err (Broken broken)) = (broken.point ≡ c) × (derived F c ≡ Err broken.rule)
+RecordFound F c (Err Memory) = ⊤
+
+abbrev pub RecordsAs : Result RecordsOf RecordsStop → (ℕ → Facts) → Type 0
+RecordsAs (Ok list) F = (first_broken F ≡ None) × SameRecords (record_of list) (record_at F)
+RecordsAs (Err (Broken broken)) F = first_broken F ≡ Some broken
+RecordsAs (Err Memory) F = ⊤
 
 abbrev pub HavePlaces : List ℕ → List KeptRecord → Type 0
 HavePlaces places records = (i : ℕ) → i < length places → slice_index_or places i 0 < length records
@@ -61,12 +61,3 @@ pub record Keeps (old new : List KeptRecord) (place : ℕ) (added : KeptRecord) 
   pub below : place < length new
   pub others : (i : ℕ) → i < length old → slice_get new i ≡ slice_get old i
   pub here : (other : Record) → kept_or other (slice_get new place) ≡ kept_record added
-
-abbrev pub SameFacts : KeptRecord → KeptRecord → Type 0
-SameFacts a b = (a.category ≡ b.category) × (a.class ≡ b.class) × (a.kind ≡ b.kind) × (a.core ≡ b.core)
-
-abbrev pub SameChecks : KeptRecord → KeptRecord → Type 0
-SameChecks a b = (a.exclusion ≡ b.exclusion) × (a.nfd ≡ b.nfd) × (a.nfc ≡ b.nfc) × (a.nfkd ≡ b.nfkd) × (a.nfkc ≡ b.nfkc)
-
-abbrev pub SameFold : KeptRecord → KeptRecord → Type 0
-SameFold a b = (a.casefold ≡ b.casefold) × (a.changes_casefold ≡ b.changes_casefold)

@@ -6,8 +6,9 @@ ghost use Rattle.ucd_model.specs.Names.{derived_path};
 use ucd_model::DerivedFile;
 
 /// The derived files that are written, in order.
-pub const DERIVED_FILES: [DerivedFile; 4] = [
+pub const DERIVED_FILES: [DerivedFile; 5] = [
     DerivedFile::CoreProperties,
+    DerivedFile::NormalizationProps,
     DerivedFile::GeneralCategory,
     DerivedFile::CombiningClass,
     DerivedFile::DecompositionType,

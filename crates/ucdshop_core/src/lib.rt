@@ -2,27 +2,26 @@
 #![tactic(auto)]
 
 mod command;
-mod core_set;
 mod derived_path;
 mod judging;
-mod missing_rows;
 mod planning;
-mod predicates;
 mod printed;
 mod program;
 mod reading;
 mod record_list;
+mod record_stop;
 mod record_table;
 mod source_path;
 mod status;
 mod stop;
-mod validity;
 mod writing;
 
 pub use printed::OUT_OF_MEMORY;
 pub use program::run;
 pub use status::Status;
 
+#[cfg(test)]
+mod folding_tests;
 #[cfg(test)]
 mod test_runs;
 #[cfg(test)]

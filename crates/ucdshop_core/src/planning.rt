@@ -8,29 +8,33 @@ ghost use Rattle.ucdshop_core.specs.Planning.{ChecksAs, HasPlan, loaded_rows, Lo
 ghost use Rattle.ucdshop_core.specs.Reading.{cut, text_at};
 ghost use Rattle.ucdshop_core.specs.Printed.{read_failed, write_failed};
 ghost use Rattle.shelf_io.specs.Counts.{Rose};
+ghost use Rattle.derived_writer.specs.Cuts.{IsCut};
 ghost use Rattle.ucd_model.specs.Facts.{Sources, facts};
+ghost use Rattle.ucd_model.specs.Limits.{point_count};
 ghost use Rattle.ucd_model.specs.Records.{record_at};
-ghost use Rattle.ucdshop_core.specs.RecordLists.{SameRecords, record_of};
+ghost use Rattle.ucdshop_core.specs.RecordLists.{RecordsAs, SameRecords, record_of};
 ghost use Rattle.ucdshop_core.specs.Writing.{file_of};
-ghost use Rattle.ucdshop_core.specs.Run.{Derive, broken_line, files_verdict, job_verdict, verdict, needed, derived_file, point_refusal, sources_in};
+ghost use Rattle.ucdshop_core.specs.Run.{Derive, files_verdict, job_verdict, verdict, needed, derived_file, point_refusal, sources_in};
 
 use crate::command::Command;
 use crate::derived_path::{DERIVED_FILES, derived_path};
 use crate::judging::judge;
 use crate::printed::{RunCounts, read_failed, refused_point, summary, write_failed};
 use crate::reading::{ReadingStop, read_all};
+use crate::record_stop::RecordsStop;
 use crate::record_table::RecordTable;
 use crate::source_path::{path_in, source_paths};
 use crate::stop::Stop;
-use crate::validity::first_broken;
 use crate::writing::Output;
 use code_facts::FactTables;
-use derived_writer::file_text;
+use derived_writer::{equal_pieces, text_over};
 use range_table::RunTable;
 use release_rows::Release;
 use shelf_io::Shelf;
 use std::alloc::Global;
-use ucd_model::{DerivedFile, FactView, Memory, Text, Texts};
+use std::marker::Brand;
+use std::sync::ledger::{Blank, Ledger};
+use ucd_model::{DerivedFile, FactView, Memory, Span, Steps, Text, Texts};
 
 /// What is left to be done: the files to be written, and the summary to be told.
 #[derive(Drop)]
@@ -49,22 +53,37 @@ fn derive_plan(
     requires { SameRecords (record_of records.now) (record_at (facts (release_rows release.now))) }
     ensures { IfOk result (λ plan. (input : List ℕ) → HasPlan (Derive input folder.now) (release_rows release.now) plan) }
 {
+    let pieces = equal_pieces(alloc, records)?;
     let mut outputs = Vec::new(alloc);
     'files: for file in &DERIVED_FILES {
-        outputs.push(derived_output(alloc, folder, *file, release, records)?)?;
+        let output = derived_output(alloc, folder, *file, release, records, pieces.as_slice())?;
+        outputs.push(output)?;
     }
     let summary = summary(alloc, NO_COUNTS)?;
     Ok(Plan { outputs, summary })
 }
 
-/// Refuses a folder's release by the least code point that breaks a rule of a valid release.
-fn check_valid(alloc: Global, folder: &[u8], tables: &FactTables<RunTable<u64>>) -> Result<(), Stop>
-    ensures { ChecksAs result (broken_line folder.now (⟦<FactTables<RunTable<u64>> as FactView>⟧.facts_of tables.now)) }
+/// The records of all code points, of a release's facts. Each step of the derivation is counted on a ledger of its own.
+fn counted_records<L: Ledger>(
+    alloc: Global,
+    tables: &FactTables<RunTable<u64>>,
+    blank: Blank,
+) -> Result<RecordTable, RecordsStop>
+    requires name { blank.name ≡ L.name }
+    requires parts { blank.parts ≡ L.parts }
+    requires some { blank.parts ≡ 1 }
+    ensures { RecordsAs result (⟦<FactTables<RunTable<u64>> as FactView>⟧.facts_of tables.now) }
 {
-    match first_broken(alloc, tables)? {
-        Some(broken) => Err(Stop::Refused(refused_point(alloc, folder, broken)?)),
-        None => Ok(()),
-    }
+    let mut steps = Steps::<L>::new(blank);
+    RecordTable::of(alloc, tables, &mut steps)
+}
+
+/// The records of a release's rows, or the least code point that breaks a rule of a valid release.
+fn release_records(alloc: Global, release: &Release) -> Result<RecordTable, RecordsStop>
+    ensures { RecordsAs result (facts (release_rows release.now)) }
+{
+    let tables = FactTables::<RunTable<u64>>::of(alloc, release)?;
+    counted_records::<Brand>(alloc, &tables, Blank::new(1))
 }
 
 /// The records of a folder's release, where each code point keeps the rules of a valid release.
@@ -73,13 +92,17 @@ fn valid_records(alloc: Global, folder: &[u8], release: &Release) -> Result<Reco
         SameRecords (record_of records) (record_at (facts (release_rows release.now)))) }
     ensures valid { ChecksAs result (point_refusal folder.now (release_rows release.now)) }
 {
-    let tables = FactTables::<RunTable<u64>>::of(alloc, release)?;
-    check_valid(alloc, folder, &tables)?;
-    let records = RecordTable::of(alloc, &tables)?;
-    Ok(records)
+    match release_records(alloc, release) {
+        Ok(records) => Ok(records),
+        Err(RecordsStop::Broken(broken)) => {
+            let line = refused_point(alloc, folder, broken)?;
+            Err(Stop::Refused(line))
+        }
+        Err(RecordsStop::Memory) => Err(Stop::Memory),
+    }
 }
 
-/// A derived file below a folder.
+/// A derived file below a folder, over the pieces of equal records.
 #[tactic(auto, using(crate::proofs::PlanLemmas::same_text))]
 fn derived_output(
     alloc: Global,
@@ -87,14 +110,16 @@ fn derived_output(
     file: DerivedFile,
     release: &Release,
     records: &RecordTable,
+    pieces: &[Span],
 ) -> Result<Output, Memory>
-    requires { SameRecords (record_of records.now) (record_at (facts (release_rows release.now))) }
+    requires same { SameRecords (record_of records.now) (record_at (facts (release_rows release.now))) }
+    requires cut { IsCut (record_of records.now) 0 point_count pieces.now }
     ensures file { IfOk result (λ output. file_of output ≡ derived_file folder.now (release_rows release.now) file) }
     ensures line { IfOk result (λ output. output.fault_line ≡ write_failed output.path) }
 {
     let path = path_in(alloc, folder, derived_path(file))?;
     let fault_line = write_failed(alloc, path.as_slice())?;
-    let bytes = file_text(alloc, records, file)?;
+    let bytes = text_over(alloc, records, pieces, file)?;
     Ok(Output {
         path,
         bytes,

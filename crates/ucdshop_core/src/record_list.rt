@@ -1,11 +1,12 @@
 //! The records of the first code points, one after the other.
 
-ghost use Rattle.std.specs.Prelude.{◌≡◌, ◌+◌, ◌<◌, ◌≤◌, ◌^◌, ℕ, true, OnOk, OnErr, IfOk};
-ghost use Rattle.ucdshop_core.specs.RecordLists.{kept_record, count_of, record_of, Keeps, SameFacts, SameChecks, SameFold};
+ghost use Rattle.std.specs.Prelude.{◌≡◌, ◌+◌, ◌<◌, ◌≤◌, ◌^◌, ℕ, OnOk, OnErr, IfOk};
+ghost use Rattle.ucd_model.specs.Records.{kept_record};
+ghost use Rattle.ucdshop_core.specs.RecordLists.{count_of, record_of, Keeps};
 
 use std::alloc::Global;
 use std::marker::Model;
-use ucd_model::{Image, Memory, Record};
+use ucd_model::{Memory, Record};
 
 /// The records of the first code points. A record that equals the one before it is kept once.
 /// Contracts see how many points have a record, and the record of each.
@@ -65,63 +66,10 @@ fn keep(records: &mut Vec<Record>, added: Record) -> Result<usize, Memory>
 {
     let count = records.len();
     if let Some(last) = records.last()
-        && is_same(last, &added)
+        && last.is_same(&added)
     {
         return Ok(count - 1);
     }
     records.push(added)?;
     Ok(count)
-}
-
-/// Whether two records are known to be the same.
-#[tactic(auto, using(crate::proofs::RecordSteps::same_records))]
-fn is_same(a: &Record, b: &Record) -> bool
-    ensures { result ≡ true → kept_record a.now ≡ kept_record b.now }
-{
-    is_same_facts(a, b) && is_same_checks(a, b) && is_same_fold(a, b)
-}
-
-/// Whether two records have the same values that follow from the facts of one code point.
-fn is_same_facts(a: &Record, b: &Record) -> bool
-    ensures { result ≡ true → SameFacts a.now b.now }
-{
-    if a.category != b.category {
-        return false;
-    }
-    if a.class != b.class {
-        return false;
-    }
-    if a.kind != b.kind {
-        return false;
-    }
-    a.core == b.core
-}
-
-/// Whether two records have the same exclusion and quick checks.
-fn is_same_checks(a: &Record, b: &Record) -> bool
-    ensures { result ≡ true → SameChecks a.now b.now }
-{
-    if a.exclusion != b.exclusion {
-        return false;
-    }
-    if a.nfd != b.nfd {
-        return false;
-    }
-    if a.nfc != b.nfc {
-        return false;
-    }
-    if a.nfkd != b.nfkd {
-        return false;
-    }
-    a.nfkc == b.nfkc
-}
-
-/// Whether two records fold to the point itself alike.
-fn is_same_fold(a: &Record, b: &Record) -> bool
-    ensures { result ≡ true → SameFold a.now b.now }
-{
-    match (&a.casefold, &b.casefold) {
-        (Image::Same, Image::Same) => a.changes_casefold == b.changes_casefold,
-        _ => false,
-    }
 }

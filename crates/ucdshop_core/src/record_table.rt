@@ -1,17 +1,19 @@
 //! The records of all code points.
 
-ghost use Rattle.std.specs.Prelude.{◌≡◌, ℕ, ◌<◌, ◌≤◌, IfOk};
+ghost use Rattle.std.specs.Prelude.{◌≡◌, ℕ, ◌<◌, ◌≤◌, Ok};
 ghost use Rattle.ucd_model.specs.Predicates.{is_visible_format};
-ghost use Rattle.ucd_model.specs.Records.{record_at};
-ghost use Rattle.ucdshop_core.specs.RecordLists.{SameRecords, kept_record, record_of};
+ghost use Rattle.ucd_model.specs.Records.{kept_record, derived};
+ghost use Rattle.ucdshop_core.specs.RecordLists.{RecordsAs, RecordFound, record_of};
 
-use crate::core_set::core_set;
 use crate::record_list::RecordList;
+use crate::record_stop::RecordsStop;
 use code_facts::FactTables;
+use identifier_closure::{Derived, derive_point};
 use range_table::RunTable;
 use std::alloc::Global;
 use std::marker::Model;
-use ucd_model::{FactView, Image, Memory, Point, Quick, Record, Records, point_count};
+use std::sync::ledger::Ledger;
+use ucd_model::{Broken, FactView, FormStop, Point, Record, Records, Steps, point_count};
 
 /// The records of all code points. Contracts see the records that are kept, and the place of each code point's record.
 #[derive(Drop)]
@@ -32,20 +34,24 @@ impl Model for RecordTable {
 }
 
 impl RecordTable {
-    /// The records that follow from the facts of all code points. Code points that stand together and whose facts are
-    /// alike cost what one of them costs.
-    #[tactic(auto, using(crate::proofs::PointRecords::none_below, crate::proofs::PointRecords::run_below))]
-    pub fn of(alloc: Global, tables: &FactTables<RunTable<u64>>) -> Result<RecordTable, Memory>
-        ensures { IfOk result (λ table. SameRecords (record_of table)
-            (record_at (⟦<FactTables<RunTable<u64>> as FactView>⟧.facts_of tables.now))) }
+    /// The records that are derived of the facts of all code points, or the least code point that breaks a rule of a valid
+    /// release. Code points that stand together and are uniform are derived in one step.
+    #[tactic(auto, using(crate::proofs::PointRecords::none_below))]
+    pub fn of<L: Ledger>(
+        alloc: Global,
+        tables: &FactTables<RunTable<u64>>,
+        steps: &mut Steps<L>,
+    ) -> Result<RecordTable, RecordsStop>
+        ensures { RecordsAs result (⟦<FactTables<RunTable<u64>> as FactView>⟧.facts_of tables.now) }
     {
         let count = point_count();
         let mut list = RecordList::with_room(alloc, count as usize)?;
         let mut number = 0;
         'runs: while number < count {
             let c = point_at(number);
+            let record = record_of(alloc, tables, c, steps)?;
             let end = end_of_run(tables, c);
-            list.push_run(record_of(tables, c), (end - number) as usize)?;
+            list.push_run(record, (end - number) as usize)?;
             number = end;
         }
         Ok(RecordTable { list })
@@ -60,17 +66,18 @@ pub fn point_at(number: u32) -> Point
     Point::new(number).unwrap()
 }
 
-/// One past the last code point up to which all from `c` on have the record of `c`.
-#[tactic(auto, using(crate::proofs::PointRecords::alike_records))]
+/// One past the last code point up to which all from `c` on have the record of `c`, as far as few look-ups tell.
 fn end_of_run(tables: &FactTables<RunTable<u64>>, c: Point) -> u32
     ensures from { c < result }
     ensures inside { result ≤ 1114112 }
     ensures same { (d : ℕ) → c ≤ d → d < result
-        → record_at (⟦<FactTables<RunTable<u64>> as FactView>⟧.facts_of tables.now) d
-        ≡ record_at (⟦<FactTables<RunTable<u64>> as FactView>⟧.facts_of tables.now) c }
+        → derived (⟦<FactTables<RunTable<u64>> as FactView>⟧.facts_of tables.now) d
+        ≡ derived (⟦<FactTables<RunTable<u64>> as FactView>⟧.facts_of tables.now) c }
 {
-    let end = tables.last_alike(c).number() + 1;
-    end.min(end_of_shown(c))
+    match tables.last_uniform(c) {
+        Some(last) => (last.number() + 1).min(end_of_shown(c)),
+        None => c.number() + 1,
+    }
 }
 
 /// One past the last code point up to which all from `c` on are format characters that are shown, or none of them is.
@@ -96,22 +103,18 @@ impl Records for RecordTable {
     }
 }
 
-/// The record of a code point.
-fn record_of<W: FactView>(view: &W, c: Point) -> Record
-    ensures { kept_record result ≡ record_at (W.facts_of view.now) c }
+/// The record of a code point, or the first rule that it breaks.
+fn record_of<W: FactView, L: Ledger>(
+    alloc: Global,
+    view: &W,
+    c: Point,
+    steps: &mut Steps<L>,
+) -> Result<Record, RecordsStop>
+    ensures { RecordFound (W.facts_of view.now) c result }
 {
-    let facts = view.facts(c);
-    Record {
-        category: facts.category,
-        class: facts.class,
-        kind: facts.kind,
-        core: core_set(c, &facts),
-        exclusion: false,
-        nfd: Quick::Yes,
-        nfc: Quick::Yes,
-        nfkd: Quick::Yes,
-        nfkc: Quick::Yes,
-        casefold: Image::Same,
-        changes_casefold: false,
+    match derive_point(alloc, view, c, steps) {
+        Ok(Derived { value, asked: _ }) => Ok(value),
+        Err(FormStop::Bad(rule)) => Err(RecordsStop::Broken(Broken { point: c, rule })),
+        Err(FormStop::Memory) => Err(RecordsStop::Memory),
     }
 }

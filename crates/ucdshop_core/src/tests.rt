@@ -9,10 +9,10 @@ use std::test::Fail;
 use ucd_model::Text;
 
 const LETTERS_CORE: &[u8] =
-    b"# Math\n# total 0\n\n# Alphabetic\n0041 ; Alphabetic\n0061 ; Alphabetic\n# total 2\n\n# Lowercase\n0061 ; Lowercase\n# total 1\n\n# Uppercase\n0041 ; Uppercase\n# total 1\n\n# Cased\n0041 ; Cased\n0061 ; Cased\n# total 2\n\n# Case_Ignorable\n# total 0\n\n# ID_Start\n0041 ; ID_Start\n0061 ; ID_Start\n# total 2\n\n# ID_Continue\n0041 ; ID_Continue\n0061 ; ID_Continue\n# total 2\n\n# Default_Ignorable_Code_Point\n# total 0\n\n# Grapheme_Extend\n# total 0\n\n# Grapheme_Base\n0041 ; Grapheme_Base\n0061 ; Grapheme_Base\n# total 2\n\n# Grapheme_Link\n# total 0\n\n";
+    b"# Math\n# total 0\n\n# Alphabetic\n0041 ; Alphabetic\n0061 ; Alphabetic\n# total 2\n\n# Lowercase\n0061 ; Lowercase\n# total 1\n\n# Uppercase\n0041 ; Uppercase\n# total 1\n\n# Cased\n0041 ; Cased\n0061 ; Cased\n# total 2\n\n# Case_Ignorable\n# total 0\n\n# Changes_When_Lowercased\n0041 ; Changes_When_Lowercased\n# total 1\n\n# Changes_When_Uppercased\n0061 ; Changes_When_Uppercased\n# total 1\n\n# Changes_When_Titlecased\n0061 ; Changes_When_Titlecased\n# total 1\n\n# Changes_When_Casefolded\n# total 0\n\n# Changes_When_Casemapped\n0041 ; Changes_When_Casemapped\n0061 ; Changes_When_Casemapped\n# total 2\n\n# ID_Start\n0041 ; ID_Start\n0061 ; ID_Start\n# total 2\n\n# ID_Continue\n0041 ; ID_Continue\n0061 ; ID_Continue\n# total 2\n\n# XID_Start\n0041 ; XID_Start\n0061 ; XID_Start\n# total 2\n\n# XID_Continue\n0041 ; XID_Continue\n0061 ; XID_Continue\n# total 2\n\n# Default_Ignorable_Code_Point\n# total 0\n\n# Grapheme_Extend\n# total 0\n\n# Grapheme_Base\n0041 ; Grapheme_Base\n0061 ; Grapheme_Base\n# total 2\n\n# Grapheme_Link\n# total 0\n\n";
 
 const EMPTY_CORE: &[u8] =
-    b"# Math\n# total 0\n\n# Alphabetic\n# total 0\n\n# Lowercase\n# total 0\n\n# Uppercase\n# total 0\n\n# Cased\n# total 0\n\n# Case_Ignorable\n# total 0\n\n# ID_Start\n# total 0\n\n# ID_Continue\n# total 0\n\n# Default_Ignorable_Code_Point\n# total 0\n\n# Grapheme_Extend\n# total 0\n\n# Grapheme_Base\n# total 0\n\n# Grapheme_Link\n# total 0\n\n";
+    b"# Math\n# total 0\n\n# Alphabetic\n# total 0\n\n# Lowercase\n# total 0\n\n# Uppercase\n# total 0\n\n# Cased\n# total 0\n\n# Case_Ignorable\n# total 0\n\n# Changes_When_Lowercased\n# total 0\n\n# Changes_When_Uppercased\n# total 0\n\n# Changes_When_Titlecased\n# total 0\n\n# Changes_When_Casefolded\n# total 0\n\n# Changes_When_Casemapped\n# total 0\n\n# ID_Start\n# total 0\n\n# ID_Continue\n# total 0\n\n# XID_Start\n# total 0\n\n# XID_Continue\n# total 0\n\n# Default_Ignorable_Code_Point\n# total 0\n\n# Grapheme_Extend\n# total 0\n\n# Grapheme_Base\n# total 0\n\n# Grapheme_Link\n# total 0\n\n";
 
 const PROPERTIES: &[u8] =
     b"# head\r\n005E          ; Other_Math # Sk       CIRCUMFLEX ACCENT\n2160..216F    ; Other_Uppercase # Nl  [16] ROMAN NUMERAL ONE..ROMAN NUMERAL SIXTEEN\n0345 ; Other_Alphabetic\n0346..0347;Other_Alphabetic\n10FFFF ; Other_Lowercase\n10FFFE..10FFFF ; Noncharacter_Code_Point\n";
@@ -21,13 +21,13 @@ const PROPERTIES_DATA: &[u8] =
     b"002B;PLUS SIGN;Sm;0;ES;;;;;N;;;;;\n01C5;X;Lt;0;L;;;;;N;;;;;\n2160;ROMAN NUMERAL ONE;Nl;0;L;;;;1;N;;;;;\n";
 
 const PROPERTIES_CORE: &[u8] =
-    b"# Math\n002B ; Math\n005E ; Math\n# total 2\n\n# Alphabetic\n01C5 ; Alphabetic\n0345..0347 ; Alphabetic\n2160..216F ; Alphabetic\n10FFFF ; Alphabetic\n# total 21\n\n# Lowercase\n10FFFF ; Lowercase\n# total 1\n\n# Uppercase\n2160..216F ; Uppercase\n# total 16\n\n# Cased\n01C5 ; Cased\n2160..216F ; Cased\n10FFFF ; Cased\n# total 18\n\n# Case_Ignorable\n# total 0\n\n# ID_Start\n01C5 ; ID_Start\n2160 ; ID_Start\n# total 2\n\n# ID_Continue\n01C5 ; ID_Continue\n2160 ; ID_Continue\n# total 2\n\n# Default_Ignorable_Code_Point\n# total 0\n\n# Grapheme_Extend\n# total 0\n\n# Grapheme_Base\n002B ; Grapheme_Base\n01C5 ; Grapheme_Base\n2160 ; Grapheme_Base\n# total 3\n\n# Grapheme_Link\n# total 0\n\n";
+    b"# Math\n002B ; Math\n005E ; Math\n# total 2\n\n# Alphabetic\n01C5 ; Alphabetic\n0345..0347 ; Alphabetic\n2160..216F ; Alphabetic\n10FFFF ; Alphabetic\n# total 21\n\n# Lowercase\n10FFFF ; Lowercase\n# total 1\n\n# Uppercase\n2160..216F ; Uppercase\n# total 16\n\n# Cased\n01C5 ; Cased\n2160..216F ; Cased\n10FFFF ; Cased\n# total 18\n\n# Case_Ignorable\n# total 0\n\n# Changes_When_Lowercased\n# total 0\n\n# Changes_When_Uppercased\n# total 0\n\n# Changes_When_Titlecased\n# total 0\n\n# Changes_When_Casefolded\n# total 0\n\n# Changes_When_Casemapped\n# total 0\n\n# ID_Start\n01C5 ; ID_Start\n2160 ; ID_Start\n# total 2\n\n# ID_Continue\n01C5 ; ID_Continue\n2160 ; ID_Continue\n# total 2\n\n# XID_Start\n01C5 ; XID_Start\n2160 ; XID_Start\n# total 2\n\n# XID_Continue\n01C5 ; XID_Continue\n2160 ; XID_Continue\n# total 2\n\n# Default_Ignorable_Code_Point\n# total 0\n\n# Grapheme_Extend\n# total 0\n\n# Grapheme_Base\n002B ; Grapheme_Base\n01C5 ; Grapheme_Base\n2160 ; Grapheme_Base\n# total 3\n\n# Grapheme_Link\n# total 0\n\n";
 
 const RANGE: &[u8] =
     b"4E00;<CJK Ideograph, First>;Lo;0;L;;;;;N;;;;;\r\n9FFF;<CJK Ideograph, Last>;Lo;0;L;;;;;N;;;;;";
 
 const RANGE_CORE: &[u8] =
-    b"# Math\n# total 0\n\n# Alphabetic\n4E00..9FFF ; Alphabetic\n# total 20992\n\n# Lowercase\n# total 0\n\n# Uppercase\n# total 0\n\n# Cased\n# total 0\n\n# Case_Ignorable\n# total 0\n\n# ID_Start\n4E00..9FFF ; ID_Start\n# total 20992\n\n# ID_Continue\n4E00..9FFF ; ID_Continue\n# total 20992\n\n# Default_Ignorable_Code_Point\n# total 0\n\n# Grapheme_Extend\n# total 0\n\n# Grapheme_Base\n4E00..9FFF ; Grapheme_Base\n# total 20992\n\n# Grapheme_Link\n# total 0\n\n";
+    b"# Math\n# total 0\n\n# Alphabetic\n4E00..9FFF ; Alphabetic\n# total 20992\n\n# Lowercase\n# total 0\n\n# Uppercase\n# total 0\n\n# Cased\n# total 0\n\n# Case_Ignorable\n# total 0\n\n# Changes_When_Lowercased\n# total 0\n\n# Changes_When_Uppercased\n# total 0\n\n# Changes_When_Titlecased\n# total 0\n\n# Changes_When_Casefolded\n# total 0\n\n# Changes_When_Casemapped\n# total 0\n\n# ID_Start\n4E00..9FFF ; ID_Start\n# total 20992\n\n# ID_Continue\n4E00..9FFF ; ID_Continue\n# total 20992\n\n# XID_Start\n4E00..9FFF ; XID_Start\n# total 20992\n\n# XID_Continue\n4E00..9FFF ; XID_Continue\n# total 20992\n\n# Default_Ignorable_Code_Point\n# total 0\n\n# Grapheme_Extend\n# total 0\n\n# Grapheme_Base\n4E00..9FFF ; Grapheme_Base\n# total 20992\n\n# Grapheme_Link\n# total 0\n\n";
 
 const SWAPPED: &[u8] =
     b"0061;LATIN SMALL LETTER A;Ll;0;L;;;;;N;;;0041;;0041\n0041;LATIN CAPITAL LETTER A;Lu;0;L;;;;;N;;;;0061;\n";
@@ -59,7 +59,8 @@ fn sources_stay(rt: HostRuntime) -> Result<(), Fail> {
 }
 
 /// The other derived files of a shelf after `derive d o`, in their order.
-const EXTRACTED_PATHS: [&[u8]; 3] = [
+const OTHER_PATHS: [&[u8]; 4] = [
+    b"o/DerivedNormalizationProps.txt",
     b"o/extracted/DerivedGeneralCategory.txt",
     b"o/extracted/DerivedCombiningClass.txt",
     b"o/extracted/DerivedDecompositionType.txt",
@@ -68,27 +69,29 @@ const EXTRACTED_PATHS: [&[u8]; 3] = [
 const MARKS: &[u8] =
     b"0020;SPACE;Zs;0;WS;;;;;N;;;;;\n0041;LATIN CAPITAL LETTER A;Lu;0;L;;;;;N;;;;;\n00A0;NO-BREAK SPACE;Zs;0;CS;<noBreak> 0020;;;;N;NON-BREAKING SPACE;;;;\n00C0;LATIN CAPITAL LETTER A WITH GRAVE;Lu;0;L;0041 0300;;;;N;LATIN CAPITAL LETTER A GRAVE;;;;\n0300;COMBINING GRAVE ACCENT;Mn;230;NSM;;;;;N;NON-SPACING GRAVE;;;;\n0301;COMBINING ACUTE ACCENT;Mn;230;NSM;;;;;N;NON-SPACING ACUTE;;;;\n1100;<L, First>;Lo;0;L;;;;;N;;;;;\n1112;<L, Last>;Lo;0;L;;;;;N;;;;;\n1161;<V, First>;Lo;0;L;;;;;N;;;;;\n1175;<V, Last>;Lo;0;L;;;;;N;;;;;\n11A8;<T, First>;Lo;0;L;;;;;N;;;;;\n11C2;<T, Last>;Lo;0;L;;;;;N;;;;;\nAC00;<Hangul Syllable, First>;Lo;0;L;;;;;N;;;;;\nD7A3;<Hangul Syllable, Last>;Lo;0;L;;;;;N;;;;;\n";
 
-const MARKS_EXTRACTED: [&[u8]; 3] = [
+const MARKS_TEXTS: [&[u8]; 4] = [
+    b"# Full_Composition_Exclusion\n# total 0\n\n# NFD_QC\n00C0 ; NFD_QC ; N\nAC00..D7A3 ; NFD_QC ; N\n# total 11173\n\n# NFC_QC\n0300 ; NFC_QC ; M\n1161..1175 ; NFC_QC ; M\n11A8..11C2 ; NFC_QC ; M\n# total 49\n\n# NFKD_QC\n00A0 ; NFKD_QC ; N\n00C0 ; NFKD_QC ; N\nAC00..D7A3 ; NFKD_QC ; N\n# total 11174\n\n# NFKC_QC\n00A0 ; NFKC_QC ; N\n0300 ; NFKC_QC ; M\n1161..1175 ; NFKC_QC ; M\n11A8..11C2 ; NFKC_QC ; M\n# total 50\n\n# NFKC_CF\n00A0 ; NFKC_CF ; 0020\n# total 1\n\n# Changes_When_NFKC_Casefolded\n00A0 ; Changes_When_NFKC_Casefolded\n# total 1\n\n",
     b"# General_Category\n0020 ; Zs\n0041 ; Lu\n00A0 ; Zs\n00C0 ; Lu\n0300..0301 ; Mn\n1100..1112 ; Lo\n1161..1175 ; Lo\n11A8..11C2 ; Lo\nAC00..D7A3 ; Lo\n# total 11245\n\n",
     b"# Canonical_Combining_Class\n0300..0301 ; 230\n# total 2\n\n",
     b"# Decomposition_Type\n00A0 ; noBreak\n00C0 ; canonical\nAC00..D7A3 ; canonical\n# total 11174\n\n",
 ];
 
-const EMPTY_EXTRACTED: [&[u8]; 3] = [
+const EMPTY_TEXTS: [&[u8]; 4] = [
+    b"# Full_Composition_Exclusion\n# total 0\n\n# NFD_QC\n# total 0\n\n# NFC_QC\n# total 0\n\n# NFKD_QC\n# total 0\n\n# NFKC_QC\n# total 0\n\n# NFKC_CF\n# total 0\n\n# Changes_When_NFKC_Casefolded\n# total 0\n\n",
     b"# General_Category\n# total 0\n\n",
     b"# Canonical_Combining_Class\n# total 0\n\n",
     b"# Decomposition_Type\n# total 0\n\n",
 ];
 
 #[test]
-fn extracted_files_are_derived(rt: HostRuntime) -> Result<(), Fail> {
+fn other_files_are_derived(rt: HostRuntime) -> Result<(), Fail> {
     let alloc = rt.alloc();
-    for (data, texts) in [(MARKS, MARKS_EXTRACTED), (b"", EMPTY_EXTRACTED)] {
+    for (data, texts) in [(MARKS, MARKS_TEXTS), (b"", EMPTY_TEXTS)] {
         let mut shelf = shelf_of(alloc, data, b"")?;
         let (status, _) = run_words(alloc, &[b"derive", b"d", b"o"], &mut shelf, 1000)?;
         assert_eq!(rt; status, Status::Clean);
-        for at in 0..3 {
-            assert_eq!(rt; shelf.held(EXTRACTED_PATHS[at]), Some(texts[at]));
+        for at in 0..4 {
+            assert_eq!(rt; shelf.held(OTHER_PATHS[at]), Some(texts[at]));
         }
     }
     Ok(())
@@ -222,13 +225,13 @@ fn a_failed_read_is_told(rt: HostRuntime) -> Result<(), Fail> {
 fn a_failed_write_is_told(rt: HostRuntime) -> Result<(), Fail> {
     let alloc = rt.alloc();
     let mut shelf = shelf_of(alloc, LETTERS, b"")?;
-    shelf.place(EXTRACTED_PATHS[1], b"old")?;
+    shelf.place(OTHER_PATHS[1], b"old")?;
     shelf.fail_write(2)?;
-    let line = b"write failed: o/extracted/DerivedGeneralCategory.txt\n".as_slice();
+    let line = b"write failed: o/DerivedNormalizationProps.txt\n".as_slice();
     let expected = (Status::WriteFault, line, LETTERS_CORE);
     assert!(rt; derives(alloc, &mut shelf, 1000, expected)?);
-    assert_eq!(rt; shelf.held(EXTRACTED_PATHS[1]), Some(b"old".as_slice()));
-    assert_eq!(rt; shelf.held(EXTRACTED_PATHS[2]), None);
+    assert_eq!(rt; shelf.held(OTHER_PATHS[1]), Some(b"old".as_slice()));
+    assert_eq!(rt; shelf.held(OTHER_PATHS[2]), None);
     Ok(())
 }
 

@@ -10,7 +10,7 @@ use crate::is_cased;
 use crate::matching::{Left, all_left, is_changed, left_behind};
 use ucd_model::{FactView, FactsRef, Point};
 
-/// Which mappings change a list. The Unicode Standard, section 3.13, D139 to D145.
+/// Which mappings change a list. The Unicode Standard, section 3.13, D139 to D143.
 #[derive(Clone, Copy, Debug, PartialEq, Eq)]
 pub struct Changes {
     /// The mapping to lower case.
@@ -27,7 +27,7 @@ pub struct Changes {
 
 /// Which mappings change a list. Those that change the canonical decomposition of a code point tell its properties
 /// Changes_When_Lowercased, Changes_When_Uppercased, Changes_When_Titlecased, Changes_When_Casefolded and
-/// Changes_When_Casemapped: UAX #44, section 5.3; The Unicode Standard, section 3.13, D139 to D145.
+/// Changes_When_Casemapped: UAX #44, section 5.3; The Unicode Standard, section 3.13, D139 to D143.
 ///
 /// It takes no memory, and asks for the facts of each member once: each image is matched with the list in place, and nothing
 /// is matched before the first member that a mapping changes.

@@ -11,7 +11,7 @@ mod tests;
 mod titling;
 
 pub use changes::{Changes, changes_when};
-pub use mapping::{fold, lower, put_fold, upper};
+pub use mapping::{fold, lower, upper};
 pub use predicates::{
     case_ignorable, cased, is_case_ignorable, is_cased, is_lowercase, is_uppercase,
 };

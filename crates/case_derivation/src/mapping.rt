@@ -1,7 +1,7 @@
 //! The mappings that each code point takes by itself: to lower case, to upper case, and the folding.
 
 ghost use Rattle.std.specs.Prelude.{◌≡◌, ◌++◌, IfOk, OnOk, OnErr};
-ghost use Rattle.ucd_model.specs.Casing.{lower, upper, fold, fold_of};
+ghost use Rattle.ucd_model.specs.Casing.{lower, upper, fold};
 ghost use Rattle.ucd_model.specs.Facts.{image_points};
 ghost use Rattle.ucd_model.specs.Shown.{shown_facts};
 ghost use Rattle.ucd_model.specs.View.{image_shown};
@@ -39,15 +39,6 @@ pub fn fold<W: FactView>(alloc: Global, view: &W, s: &[Point]) -> Result<Points,
     ensures { IfOk result (λ points. points ≡ fold (W.facts_of view.now) s.now) }
 {
     mapped(alloc, view, Casing::Fold, s)
-}
-
-/// Puts the full folding of a code point at the end of a list. For want of memory the list stays as it was.
-/// The Unicode Standard, section 3.13, toCasefold.
-pub fn put_fold<W: FactView>(view: &W, c: Point, into: &mut Points) -> Result<(), Memory>
-    ensures ok { OnOk result (into.new ≡ into.old ++ fold_of (W.facts_of view.now) c) }
-    ensures err { OnErr result (into.new ≡ into.old) }
-{
-    put_image(c, view.facts(c).fold, into)
 }
 
 /// The mappings of the members, joined in order.

@@ -2,7 +2,7 @@
 
 use crate::{
     Changes, case_ignorable, cased, changes_when, fold, is_case_ignorable, is_cased, is_lowercase,
-    is_uppercase, lower, put_fold, title, upper,
+    is_uppercase, lower, title, upper,
 };
 use std::alloc::Global;
 use std::test::Fail;
@@ -159,17 +159,6 @@ fn only_the_first_cased_member_of_a_title_is_a_capital(rt: HostRuntime) -> Resul
     );
     assert!(rt; maps_to(alloc, &list, Mapping::Title, &[0x1C5, 0x53], &[0x1C5, 0x73])?);
     assert!(rt; maps_to(alloc, &list, Mapping::Title, &[0x2E, 0x2E], &[0x2E, 0x2E])?);
-    Ok(())
-}
-
-#[test]
-fn a_folding_is_put_at_the_end(rt: HostRuntime) -> Result<(), Fail> {
-    let alloc = rt.alloc();
-    let list = listed(alloc, &LETTERS)?;
-    let mut found = points(alloc, &[0x0041])?;
-    put_fold(&list, point(0x00DF)?, &mut found)?;
-    put_fold(&list, point(0x002E)?, &mut found)?;
-    assert!(rt; found.as_slice() == points(alloc, &[0x41, 0x73, 0x73, 0x2E])?.as_slice());
     Ok(())
 }
 

@@ -99,6 +99,12 @@ fn letters_are_folded(rt: HostRuntime) -> Result<(), Fail> {
     Ok(())
 }
 
+/// NFKC_Casefold of a code point whose facts and form are looked up before.
+fn casefold_by_form<W: FactView>(alloc: Global, view: &W, c: Point) -> Result<Image, FormStop> {
+    let form = nfkc(alloc, view, &[c])?;
+    casefold_of(alloc, view, c, &view.facts(c), form.as_slice())
+}
+
 #[test]
 fn ignored_points_are_dropped(rt: HostRuntime) -> Result<(), Fail> {
     let alloc = rt.alloc();
@@ -107,8 +113,7 @@ fn ignored_points_are_dropped(rt: HostRuntime) -> Result<(), Fail> {
     assert!(rt; folds_to(alloc, &list, 0x00AD, &[])?);
     assert!(rt; folds_to(alloc, &list, 0x1000, &[0x1001])?);
     let hyphen = point(0x00AD)?;
-    let form = nfkc(alloc, &list, &[hyphen])?;
-    let found = casefold_of(alloc, &list, hyphen, form.as_slice())?;
+    let found = casefold_by_form(alloc, &list, hyphen)?;
     assert!(rt; found.is_same(&Image::To(Points::new(alloc))));
     Ok(())
 }

@@ -1,4 +1,4 @@
--- The order of combining marks. The Unicode Standard, section 3.11, D108 to D110; UAX #15, section 1.1.
+-- The order of combining marks. The Unicode Standard, section 3.11, D108 and D109; UAX #15, section 1.3.
 --
 -- class is the canonical combining class of each code point.
 -- class_of F             the classes that the facts give

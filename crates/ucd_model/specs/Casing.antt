@@ -1,7 +1,8 @@
--- Case mappings and foldings of lists of code points, without context. The Unicode Standard, section 3.13, toUppercase to toCasefold, and
--- the properties of changes by them, D139 to D145; UAX #44, section 5.3.
+-- Case mappings and foldings of lists of code points, without context. The Unicode Standard, section 3.13, toUppercase to
+-- toCasefold, and the properties of changes by them, D139 to D143; UAX #44, section 5.3.
 --
 -- F is the facts of each code point.
+-- lower_of upper_of title_of fold_of F c   the full mapping of c
 -- lower upper fold F s     the full mappings of the members, joined in order
 -- title F s                the members before the first Cased one stay; that one has its title mapping, and each later
 --                          member its lower mapping

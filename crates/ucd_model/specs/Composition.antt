@@ -1,4 +1,4 @@
--- Canonical composition. The Unicode Standard, section 3.11, D115 and D117; UAX #15, section 1.2.
+-- Canonical composition. The Unicode Standard, section 3.11, D115 and D117; UAX #15, section 1.3.
 --
 -- class is the canonical combining class of each code point, and pair the primary composite of two code points, or None.
 -- A starter is a code point of class 0.

@@ -93,9 +93,6 @@ abbrev pub category_in : Option DataRow → Category
 category_in (Some row) = row.category
 category_in None = Cn
 
-abbrev pub category_at : List Row → ℕ → Category
-category_at rows c = category_in (data_row rows c)
-
 abbrev pub class_in : Option DataRow → ℕ
 class_in (Some row) = row.class
 class_in None = 0

@@ -10,6 +10,7 @@
 -- is_last F c i         the list after i rounds from c alone is there, and one more round leaves it as it is
 -- casefold F c          the list after the first such i from 0 to 7 (real releases need 0 or 1); None where there is no such i
 -- casefold_image F c    NFKC_Casefold of c; V5 where there is none
+-- image_or_same r       the image, and Same where there is a rule in its place
 use Rattle.std.specs.Prelude.{ℕ, zero, suc, Bool, true, false, not, List, [], ◌∷◌, length, nat_le, Option, Some, None, Result, Ok, Err, filter, find, if◌then◌else◌}
 use Rattle.std.specs.List.{range_with_len}
 use Rattle.std.specs.Option.{option_and_then}

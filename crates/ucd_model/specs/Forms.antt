@@ -4,6 +4,7 @@
 -- F is the facts of each code point, and `compat` says whether compatibility mappings count.
 -- appended a b             the list a and behind it b; where one is a rule, the first such rule
 -- expansions F compat s    the expansions of the members, joined in order; the rule of the first member without one
+-- decomposed F compat s    the expansions in canonical order
 -- in_order F value         the list put in canonical order; composed F value: the list composed
 -- nfd, nfkd                the expansions in canonical order, canonical and compatibility
 -- nfc, nfkc                these composed

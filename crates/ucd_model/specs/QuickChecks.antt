@@ -5,6 +5,7 @@
 --                           or the first has another class than 0
 -- full_exclusion F c        c is excluded, or its canonical mapping is such a one
 -- form_of F form s          the form of a list
+-- quick_composed F c s      the quick check of NFC or NFKC of c, where s is that form of c alone
 -- quick_given F form c s    the quick check of c, where s is the form of c alone. NFD and NFKD: No where c has a canonical
 --                           mapping, or a mapping of any kind. NFC and NFKC: No where s is not c alone; else Maybe where c is
 --                           the second member of a primary composite's mapping; else Yes

@@ -4,8 +4,10 @@
 -- kept_record k        the record that a value keeps
 -- ShowsRecord kept R   the kept record is R, field by field
 -- core_at F c p        whether c has the core property p
+-- changes_image c i     the image is not c alone
 -- record_at F c        the values of c, where F gives the facts of each code point: category, class and kind are those of its
 --                      facts. What needs a form or a folding of c that is not there is absent, Yes, or c itself
+-- record_or_rule R b    R where there is no rule, else the rule
 -- derived F c          the record of c, or in its place the first rule of a valid release that c breaks
 use Rattle.std.specs.Prelude.{◌≡◌, ℕ, Bool, not, List, [], ◌∷◌, Option, Some, None, Result, Ok, Err}
 use Rattle.std.specs.Str.{bytes_eq}

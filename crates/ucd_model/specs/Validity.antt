@@ -7,6 +7,7 @@
 -- lacks_a_row F c    V1: some mapping of c does
 -- is_endless F c     V2: the canonical or the compatibility expansion of c needs a chain of eight mappings
 -- is_too_long F c    V3: one of them has more than 64 points
+-- composite_of F m   the primary composite of a mapping of two members; is_other c o: there is one, and it is not c
 -- is_hidden F c      V4: c is a primary composite, and a lesser primary composite has the same mapping
 -- is_unfolded F c    V5: the folding rounds from c reach no last one
 -- broken F c         the first of these rules that c breaks; None where it breaks none

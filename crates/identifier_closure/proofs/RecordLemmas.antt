@@ -1,17 +1,15 @@
 -- The record of a point from what is found of it.
-use Rattle.std.proofs.Common.{◌≡◌, ℕ, Bool, true, false, cond, ◌&&◌, not, List, [], ◌∷◌, Option, Some, None, Result, Ok, Err, if◌then◌else◌, refl, sym, ap, ◌∙◌}
-use mathlib.Core.Path.{fun_ext}
+use Rattle.std.proofs.Common.{◌≡◌, ℕ, Bool, true, false, not, List, [], ◌∷◌, Option, Some, None, Result, Ok, Err, if◌then◌else◌, refl, sym, ap, ◌∙◌}
 use Rattle.std.specs.List.{list_any}
 use Rattle.std.specs.Str.{bytes_eq}
 use Rattle.std.proofs.lemmas.Slice.Eq.{bytes_eq-Decides}
 use Rattle.ucd_model.specs.Casing.{lowers, uppers, titles, folds, casemaps, where_form, changes_when}
 use Rattle.ucd_model.specs.Composites.{is_canonical}
-use Rattle.ucd_model.specs.Expansion.{counts, FormAnswers}
+use Rattle.ucd_model.specs.Expansion.{FormAnswers}
 use Rattle.ucd_model.specs.Facts.{Facts, image, is_plain}
 use Rattle.ucd_model.specs.FoldRounds.{casefold, casefold_image, image_or_rule, image_or_same}
-use Rattle.ucd_model.specs.Forms.{nfd, nfc, nfkd, nfkc, composed}
+use Rattle.ucd_model.specs.Forms.{nfd, nfkd, composed}
 use Rattle.ucd_model.specs.Identifiers.{xid_start, xid_continue}
-use Rattle.ucd_model.specs.Predicates.{holds}
 use Rattle.ucd_model.specs.QuickChecks.{full_exclusion, quick_composed, quick_where, quick, quick_or_yes}
 use Rattle.ucd_model.specs.Records.{Record, core_at, changes_image, kept_record, record_at, derived}
 use Rattle.ucd_model.specs.Sets.{has_core}
@@ -37,6 +35,7 @@ use Rattle.identifier_closure.specs.Composites.{hidden_of}
 use Rattle.identifier_closure.specs.CoreSets.{core_given}
 use Rattle.identifier_closure.specs.Derived.{RecordAnswers}
 use Rattle.quick_checks.specs.Checks.{quick_decomposed}
+use Rattle.identifier_closure.specs.PlainProofs.{folded_if}
 use Rattle.identifier_closure.specs.PointForms.{expansion_rule, HaveForms, FormsAnswer}
 use Rattle.identifier_closure.specs.RuleProofs.{by_expansion, by_composite, by_folding, by_none}
 use Rattle.identifier_closure.specs.declared.predicates.ToldByForms.{ToldByForms}
@@ -51,10 +50,6 @@ hidden_shown F c r shows = ap (hidden_of F c) (shown_is r (F c) shows)
 
 ok_same : (i j : Image) → ◌≡◌ {A = Result Image Rule} (Ok i) (Ok j) → i ≡ j
 ok_same i j e = cc
-
-folded_if : (c : ℕ) (r : Option (List ℕ)) (i : Image) → image_or_rule c r ≡ Ok i → is_none r ≡ false
-folded_if c (Some s) i e = refl
-folded_if c None i e = cc
 
 pub folded : (F : ℕ → Facts) (c : ℕ) (i : Image) → casefold_image F c ≡ Ok i → is_unfolded F c ≡ false
 folded F c i e = folded_if c (casefold F c) i e

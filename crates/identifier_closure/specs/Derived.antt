@@ -2,7 +2,7 @@
 --
 -- RecordAnswers r value    r is the record, or in its place the rule; want of memory says nothing
 -- DerivesAs r value        the same of a record with the questions that were asked
-use Rattle.std.specs.Prelude.{◌≡◌, ℕ, Result, Ok, Err, ⊤}
+use Rattle.std.specs.Prelude.{◌≡◌, Result, Ok, Err, ⊤}
 use Rattle.ucd_model.specs.Records.{Record, kept_record}
 use Rattle.ucd_model.specs.declared.form.Bad.{Bad as Rule}
 use Rattle.ucd_model.specs.declared.form.FormStop.{FormStop}

@@ -2,33 +2,31 @@
 --
 -- plain_core c G p       whether c with the facts G and no mapping has the core property p
 -- plain_record c G s     its record, where s says whether it is the second member of a primary composite's mapping
-use Rattle.std.proofs.Common.{◌≡◌, ℕ, Bool, true, false, cond, ◌&&◌, ◌||◌, not, ◌==◌, nat_le, List, [], ◌∷◌, ◌++◌, length, Option, Some, None, Result, Ok, Err, if◌then◌else◌, refl, sym, ap, subst, ◌∙◌}
-use mathlib.Core.Path.{fun_ext}
+use Rattle.std.proofs.Common.{◌≡◌, ℕ, Bool, true, false, ◌&&◌, ◌||◌, not, ◌==◌, List, [], ◌∷◌, ◌++◌, Option, Some, None, Ok, if◌then◌else◌, refl, ap, ◌∙◌}
 use Rattle.std.specs.List.{list_any}
-use Rattle.std.specs.Option.{option_and_then}
 use Rattle.std.specs.Str.{bytes_eq}
 use Rattle.std.proofs.lemmas.Slice.Eq.{bytes_eq-Decides}
 use Rattle.ucd_model.specs.CanonicalOrder.{class_of, order}
-use Rattle.ucd_model.specs.Casing.{fold, fold_of, lowers, uppers, titles, folds, casemaps, changes_when, where_form}
+use Rattle.ucd_model.specs.Casing.{lowers, uppers, titles, folds, casemaps, changes_when, where_form}
 use Rattle.ucd_model.specs.Composites.{primary, is_canonical, first_has_class_zero, second_of}
-use Rattle.ucd_model.specs.Expansion.{counts, counted, alone_or_joined, expand, full, expansion}
+use Rattle.ucd_model.specs.Expansion.{counts, counted, alone_or_joined, expand, full}
 use Rattle.ucd_model.specs.Facts.{Facts, image_points, is_plain}
-use Rattle.ucd_model.specs.FoldRounds.{drop_ignorable, short, short_form, short_nfkc, short_fold, round, casefold, casefold_image, image_or_rule, image_or_same}
-use Rattle.ucd_model.specs.Forms.{nfd, nfc, nfkd, nfkc, appended, in_order, composed, decomposed}
+use Rattle.ucd_model.specs.FoldRounds.{casefold, casefold_image, image_or_rule, image_or_same}
+use Rattle.ucd_model.specs.Forms.{nfd, nfkc, composed, decomposed}
 use Rattle.ucd_model.specs.Identifiers.{starts, continues}
-use Rattle.ucd_model.specs.Predicates.{holds, cased, default_ignorable, id_start, id_continue, is_visible_format}
+use Rattle.ucd_model.specs.Predicates.{holds, cased, default_ignorable, id_start, id_continue}
 use Rattle.ucd_model.specs.QuickChecks.{excludes_mapping, full_exclusion, quick_composed, quick_given, quick_where, quick, quick_or_yes}
 use Rattle.ucd_model.specs.Records.{Record, core_at, changes_image, record_at, derived}
-use Rattle.ucd_model.specs.Uniform.{IsPlain, Alike, Uniform}
+use Rattle.ucd_model.specs.Uniform.{IsPlain}
 use Rattle.ucd_model.specs.Validity.{lacks_row, lacks_a_row, mappings, is_none, is_hidden, is_other, composite_of}
 use Rattle.ucd_model.specs.declared.decomposition.Kind.TheVariants.{Plain}
 use Rattle.ucd_model.specs.declared.form.Form.TheVariants.{Nfd, Nfc, Nfkd, Nfkc}
-use Rattle.ucd_model.specs.declared.form.Quick.{Quick}
 use Rattle.ucd_model.specs.declared.form.Quick.TheVariants.{Yes, No, Maybe}
 use Rattle.ucd_model.specs.declared.image.Image.{Image}
 use Rattle.ucd_model.specs.declared.image.Image.TheVariants.{Same, To}
 use Rattle.ucd_model.specs.declared.property.Core.{Core}
 use Rattle.ucd_model.specs.declared.property.Core.TheVariants.{Math, Alphabetic, Lowercase, Uppercase, Cased, CaseIgnorable, ChangesWhenLowercased, ChangesWhenUppercased, ChangesWhenTitlecased, ChangesWhenCasefolded, ChangesWhenCasemapped, IdStart, IdContinue, XidStart, XidContinue, DefaultIgnorableCodePoint, GraphemeExtend, GraphemeBase, GraphemeLink}
+use Rattle.fold_rounds.specs.RoundProofs.{alone_same, alone_ignored}
 use Rattle.identifier_closure.specs.PointForms.{expansion_rule, HaveForms}
 use Rattle.identifier_closure.specs.RuleProofs.{by_none}
 
@@ -103,39 +101,11 @@ not_hidden F c p =
 
 -- ---- the folding
 
--- c alone, or nothing where it is ignored
-abbrev kept_alone : Bool → ℕ → List ℕ
-kept_alone true c = []
-kept_alone false c = c ∷ []
+fold_by : (F : ℕ → Facts) (c : ℕ) → nfkc F (c ∷ []) ≡ Ok (c ∷ []) → (F c).fold ≡ Same → (b : Bool) → default_ignorable c (F c) ≡ b → casefold_image F c ≡ Ok (if b then To [] else Same)
+fold_by F c form folds true e = alone_ignored F c form (ap (image_points c) folds) e
+fold_by F c form folds false e = alone_same F c form (ap (image_points c) folds) e
 
-module _ (F : ℕ → Facts) (c : ℕ) (nfkc_is : nfkc F (c ∷ []) ≡ Ok (c ∷ [])) (fold_is : (F c).fold ≡ Same) where
-  form_alone : short_nfkc F (c ∷ []) ≡ Some (c ∷ [])
-  form_alone = ap short_form nfkc_is
-
-  fold_alone : fold F (c ∷ []) ≡ c ∷ []
-  fold_alone = ap (λ i. image_points c i ++ []) fold_is
-
-  dropped : (b : Bool) → default_ignorable c (F c) ≡ b → short_fold F (c ∷ []) ≡ Some (kept_alone b c)
-  dropped true e = ap (λ s. short (drop_ignorable F s)) fold_alone ∙ ap (λ b. short (if not b then c ∷ [] else [])) e
-  dropped false e = ap (λ s. short (drop_ignorable F s)) fold_alone ∙ ap (λ b. short (if not b then c ∷ [] else [])) e
-
-  round_kept : default_ignorable c (F c) ≡ false → round F (c ∷ []) ≡ Some (c ∷ [])
-  round_kept e = rw (form_alone, dropped false e) form_alone
-
-  round_dropped : default_ignorable c (F c) ≡ true → round F (c ∷ []) ≡ Some []
-  round_dropped e = rw (form_alone, dropped true e) refl
-
-  casefold_kept : default_ignorable c (F c) ≡ false → casefold F c ≡ Some (c ∷ [])
-  casefold_kept e = rw (round_kept e, alone_list c) refl
-
-  casefold_dropped : default_ignorable c (F c) ≡ true → casefold F c ≡ Some []
-  casefold_dropped e = rw (round_dropped e) (round_dropped e)
-
-  fold_by : (b : Bool) → default_ignorable c (F c) ≡ b → casefold_image F c ≡ Ok (if b then To [] else Same)
-  fold_by true e = ap (image_or_rule c) (casefold_dropped e)
-  fold_by false e = ap (image_or_rule c) (casefold_kept e) ∙ ap (λ b. Ok (if b then Same else To (c ∷ []))) (alone_list c)
-
-folded_if : (c : ℕ) (r : Option (List ℕ)) (i : Image) → image_or_rule c r ≡ Ok i → is_none r ≡ false
+pub folded_if : (c : ℕ) (r : Option (List ℕ)) (i : Image) → image_or_rule c r ≡ Ok i → is_none r ≡ false
 folded_if c (Some s) i e = refl
 folded_if c None i e = cc
 
@@ -166,7 +136,7 @@ plain_record c G second = record {
   changes_casefold = default_ignorable c G;
 }
 
-and_self : (b : Bool) → (b && (b && true)) ≡ b
+pub and_self : (b : Bool) → (b && (b && true)) ≡ b
 and_self true = refl
 and_self false = refl
 

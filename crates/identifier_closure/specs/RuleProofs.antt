@@ -1,5 +1,5 @@
 -- The first rule that a point breaks, step by step.
-use Rattle.std.proofs.Common.{◌≡◌, ℕ, Bool, true, false, Option, Some, None, Result, Ok, Err, if◌then◌else◌, refl, ap, ◌∙◌}
+use Rattle.std.proofs.Common.{◌≡◌, ℕ, Bool, true, false, Option, Some, None, Ok, Err, if◌then◌else◌, refl, ap, ◌∙◌}
 use Rattle.ucd_model.specs.Facts.{Facts}
 use Rattle.ucd_model.specs.Records.{record_at, record_or_rule, derived}
 use Rattle.ucd_model.specs.Validity.{lacks_a_row, is_endless, is_too_long, is_hidden, is_unfolded, broken}

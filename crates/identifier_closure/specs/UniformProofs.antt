@@ -1,13 +1,11 @@
 -- Proof that uniform code points have the same record.
-use Rattle.std.proofs.Common.{◌≡◌, ℕ, Bool, true, false, [], Ok, if◌then◌else◌, refl, sym, ap, ◌∙◌}
-use mathlib.Core.Path.{fun_ext}
+use Rattle.std.proofs.Common.{◌≡◌, ℕ, Bool, [], Ok, if◌then◌else◌, refl, sym, ap, ◌∙◌}
 use Rattle.ucd_model.specs.Composites.{is_canonical, second_of}
 use Rattle.ucd_model.specs.Facts.{Facts, is_plain}
-use Rattle.ucd_model.specs.Predicates.{holds, default_ignorable, is_visible_format}
-use Rattle.ucd_model.specs.Records.{Record, derived}
-use Rattle.ucd_model.specs.Uniform.{IsPlain, Alike, Uniform}
+use Rattle.ucd_model.specs.Predicates.{default_ignorable, is_visible_format}
+use Rattle.ucd_model.specs.Records.{Record}
+use Rattle.ucd_model.specs.Uniform.{Alike}
 use Rattle.ucd_model.specs.declared.form.Quick.TheVariants.{Yes, No, Maybe}
-use Rattle.ucd_model.specs.declared.image.Image.{Image}
 use Rattle.ucd_model.specs.declared.image.Image.TheVariants.{Same, To}
 use Rattle.ucd_model.specs.declared.property.Core.{Core}
 use Rattle.ucd_model.specs.declared.property.Core.TheVariants.{Math, Alphabetic, Lowercase, Uppercase, Cased, CaseIgnorable, ChangesWhenLowercased, ChangesWhenUppercased, ChangesWhenTitlecased, ChangesWhenCasefolded, ChangesWhenCasemapped, IdStart, IdContinue, XidStart, XidContinue, DefaultIgnorableCodePoint, GraphemeExtend, GraphemeBase, GraphemeLink}

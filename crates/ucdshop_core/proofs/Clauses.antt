@@ -75,6 +75,9 @@ bad_words_told words shelf sink status o e = let c : Outcome words shelf sink Ba
 pub refused_only : (words : List (List ℕ)) (shelf : ShelfSeen) (sink : SinkSeen) (status : Status) → Outcome words shelf sink status → IsTrue shelf.tells → status ≡ LoadRefused → (line : List ℕ) × (expected words shelf.old ≡ Refuses line) × Told line sink
 refused_only words shelf sink status o tells e = let c : Outcome words shelf sink LoadRefused = subst (Outcome words shelf sink) e o in (c.line, c.refused tells, c.told)
 
+pub refused_read : (words : List (List ℕ)) (shelf : ShelfSeen) (sink : SinkSeen) (status : Status) → Outcome words shelf sink status → IsTrue shelf.tells_failed → status ≡ LoadRefused → shelf.failed ≡ shelf.failed_old
+refused_read words shelf sink status o tells e = let c : Outcome words shelf sink LoadRefused = subst (Outcome words shelf sink) e o in c.read tells
+
 pub refused : (words : List (List ℕ)) (shelf : ShelfSeen) (sink : SinkSeen) (status : Status) → Outcome words shelf sink status
     → IsTrue shelf.tells → (line : List ℕ) → expected words shelf.old ≡ Refuses line → ¬ Rose shelf.reads_old shelf.reads_new → (status ≡ LoadRefused) ⊎ (status ≡ Memory)
 refused words shelf sink Clean o tells line e r = absurd (refuses_writes _ line (o.written tells).0 e (o.written tells).1)

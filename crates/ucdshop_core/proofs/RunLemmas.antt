@@ -9,7 +9,7 @@ use Rattle.shelf_io.specs.Contents.{SameContents}
 use Rattle.ucd_model.specs.Facts.{Sources}
 use Rattle.ucdshop_core.specs.Printed.{read_failed, write_failed, summary, no_counts, out_of_memory}
 use Rattle.ucdshop_core.specs.Run.{Contents, Job, Derive, form, needed, NewFile, outputs, output_paths, Expected, NoForm, Refuses, Writes, expected, expected_of, judged, job_verdict, after, Replaced}
-use Rattle.ucdshop_core.specs.Planning.{HasPlan, HaveLines, OnRefused, OnUnread, NamesUnread}
+use Rattle.ucdshop_core.specs.Planning.{HasPlan, HaveLines, OnRefused, OnUnread, NamesUnread, NoneFailed}
 use Rattle.ucdshop_core.specs.Writing.{file_of, files_of, StopsAt, StoppedAt}
 use Rattle.ucdshop_core.specs.Outcome.{ShelfSeen, SinkSeen, Unchanged, Grew, GrewInPart, Told, IsClean, IsRefused, IsReadFault, IsWriteStopped, IsUntold, IsWriteFault, IsMemory, Outcome, StoppedWith, StopsWriting, WritesAll, Finished}
 use Rattle.ucdshop_core.specs.declared.planning.Plan.{Plan}
@@ -55,17 +55,17 @@ replaced_from : (files others : List NewFile) (old mid new : Contents) → other
 replaced_from files others old mid new e same replaced path =
     replaced path ∙ ap (λ (fs : List NewFile). after fs mid path) e ∙ ap (λ (h : Contents). after files h path) (fun_ext same)
 
-pub outcome_finished : (words : List (List ℕ)) (job : Job) (rows : Sources) (plan : Plan) (tells tells_failed : Bool) (old mid new : Contents) (reads_old reads_mid reads_new writes_old writes_mid writes_new : ℕ) (failed : List ℕ) (sink : SinkSeen) (status : Status)
+pub outcome_finished : (words : List (List ℕ)) (job : Job) (rows : Sources) (plan : Plan) (tells tells_failed : Bool) (old mid new : Contents) (reads_old reads_mid reads_new writes_old writes_mid writes_new : ℕ) (failed_old failed_mid failed : List ℕ) (sink : SinkSeen) (status : Status)
     → form words ≡ Some job → HasPlan job rows plan → (IsTrue tells → job_verdict job old ≡ Ok rows) → (IsTrue tells → SameContents old mid) → writes_mid ≡ writes_old
-    → Finished plan (record { tells = tells; tells_failed = tells_failed; old = mid; new = new; reads_old = reads_mid; reads_new = reads_new; writes_old = writes_mid; writes_new = writes_new; failed = failed }) sink status
-    → Outcome words (record { tells = tells; tells_failed = tells_failed; old = old; new = new; reads_old = reads_old; reads_new = reads_new; writes_old = writes_old; writes_new = writes_new; failed = failed }) sink status
-outcome_finished words job rows plan tells tells_failed old mid new reads_old reads_mid reads_new writes_old writes_mid writes_new failed sink Clean formed has fine same writes f = record {
+    → Finished plan (record { tells = tells; tells_failed = tells_failed; old = mid; new = new; reads_old = reads_mid; reads_new = reads_new; writes_old = writes_mid; writes_new = writes_new; failed_old = failed_mid; failed = failed }) sink status
+    → Outcome words (record { tells = tells; tells_failed = tells_failed; old = old; new = new; reads_old = reads_old; reads_new = reads_new; writes_old = writes_old; writes_new = writes_new; failed_old = failed_old; failed = failed }) sink status
+outcome_finished words job rows plan tells tells_failed old mid new reads_old reads_mid reads_new writes_old writes_mid writes_new failed_old failed_mid failed sink Clean formed has fine same writes f = record {
   job = job;
   formed = formed;
   written = λ told. (outputs job rows, expected_writes words job rows old formed (fine told), replaced_from (outputs job rows) (files_of plan.outputs.items) old mid new has.files (same told) (f.0.written told));
   told = λ told. f.1 told ∙ ap (λ (line : List ℕ). sink.old ++ line) has.summary;
 }
-outcome_finished words job rows plan tells tells_failed old mid new reads_old reads_mid reads_new writes_old writes_mid writes_new failed sink WriteFault formed has fine same writes (inl stops) = record {
+outcome_finished words job rows plan tells tells_failed old mid new reads_old reads_mid reads_new writes_old writes_mid writes_new failed_old failed_mid failed sink WriteFault formed has fine same writes (inl stops) = record {
   job = job;
   formed = formed;
   cause = inl (
@@ -87,7 +87,7 @@ outcome_finished words job rows plan tells tells_failed old mid new reads_old re
         told = subst (λ (line : List ℕ). Told line sink) (at.told ∙ output_line plan.outputs.items place output has.lines at.here) stops.told;
       });
 }
-outcome_finished words job rows plan tells tells_failed old mid new reads_old reads_mid reads_new writes_old writes_mid writes_new failed sink WriteFault formed has fine same writes (inr untold) = record {
+outcome_finished words job rows plan tells tells_failed old mid new reads_old reads_mid reads_new writes_old writes_mid writes_new failed_old failed_mid failed sink WriteFault formed has fine same writes (inr untold) = record {
   job = job;
   formed = formed;
   cause = inr (record {
@@ -95,27 +95,29 @@ outcome_finished words job rows plan tells tells_failed old mid new reads_old re
     told = subst (λ (line : List ℕ). GrewInPart line sink) has.summary untold.1;
   });
 }
-outcome_finished words job rows plan tells tells_failed old mid new reads_old reads_mid reads_new writes_old writes_mid writes_new failed sink Done formed has fine same writes f = absurd f
-outcome_finished words job rows plan tells tells_failed old mid new reads_old reads_mid reads_new writes_old writes_mid writes_new failed sink BadWords formed has fine same writes f = absurd f
-outcome_finished words job rows plan tells tells_failed old mid new reads_old reads_mid reads_new writes_old writes_mid writes_new failed sink LoadRefused formed has fine same writes f = absurd f
-outcome_finished words job rows plan tells tells_failed old mid new reads_old reads_mid reads_new writes_old writes_mid writes_new failed sink ReadFault formed has fine same writes f = absurd f
-outcome_finished words job rows plan tells tells_failed old mid new reads_old reads_mid reads_new writes_old writes_mid writes_new failed sink Memory formed has fine same writes f = absurd f
+outcome_finished words job rows plan tells tells_failed old mid new reads_old reads_mid reads_new writes_old writes_mid writes_new failed_old failed_mid failed sink Done formed has fine same writes f = absurd f
+outcome_finished words job rows plan tells tells_failed old mid new reads_old reads_mid reads_new writes_old writes_mid writes_new failed_old failed_mid failed sink BadWords formed has fine same writes f = absurd f
+outcome_finished words job rows plan tells tells_failed old mid new reads_old reads_mid reads_new writes_old writes_mid writes_new failed_old failed_mid failed sink LoadRefused formed has fine same writes f = absurd f
+outcome_finished words job rows plan tells tells_failed old mid new reads_old reads_mid reads_new writes_old writes_mid writes_new failed_old failed_mid failed sink ReadFault formed has fine same writes f = absurd f
+outcome_finished words job rows plan tells tells_failed old mid new reads_old reads_mid reads_new writes_old writes_mid writes_new failed_old failed_mid failed sink Memory formed has fine same writes f = absurd f
 
 pub outcome_stopped : (words : List (List ℕ)) (job : Job) (stop : Stop) (shelf : ShelfSeen) (sink : SinkSeen) (status : Status) → form words ≡ Some job
     → (IsTrue shelf.tells → OnRefused {A = Plan} (Err stop) (λ line. job_verdict job shelf.old ≡ Err line))
     → OnUnread {A = Plan} (Err stop) (NamesUnread (needed job) shelf.tells_failed shelf.failed)
     → OnUnread {A = Plan} (Err stop) (λ _. Rose shelf.reads_old shelf.reads_new)
+    → (IsTrue shelf.tells_failed → NoneFailed {A = Plan} (Err stop) shelf.failed_old shelf.failed)
     → Unchanged shelf → StoppedWith stop sink status → Outcome words shelf sink status
-outcome_stopped words job (stops.Refused line) shelf sink status formed refused unread rose unchanged told =
+outcome_stopped words job (stops.Refused line) shelf sink status formed refused unread rose read unchanged told =
     subst (Outcome words shelf sink) (sym told.0) (record {
       job = job;
       formed = formed;
       line = line;
       refused = λ tells. expected_refuses words job line shelf.old formed (refused tells);
+      read = read;
       unchanged = unchanged;
       told = told.1;
     })
-outcome_stopped words job (stops.ReadFailed line) shelf sink status formed refused unread rose unchanged told =
+outcome_stopped words job (stops.ReadFailed line) shelf sink status formed refused unread rose read unchanged told =
     subst (Outcome words shelf sink) (sym told.0) (record {
       job = job;
       formed = formed;
@@ -127,5 +129,5 @@ outcome_stopped words job (stops.ReadFailed line) shelf sink status formed refus
       unchanged = unchanged;
       told = subst (λ (l : List ℕ). Told l sink) unread.told told.1;
     })
-outcome_stopped words job stops.Memory shelf sink status formed refused unread rose unchanged told =
+outcome_stopped words job stops.Memory shelf sink status formed refused unread rose read unchanged told =
     subst (Outcome words shelf sink) (sym told.0) (record { job = job; formed = formed; unchanged = unchanged; told = told.1 })

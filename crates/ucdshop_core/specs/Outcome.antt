@@ -29,6 +29,7 @@ pub record ShelfSeen : Type 0 where
   pub reads_new : ℕ
   pub writes_old : ℕ
   pub writes_new : ℕ
+  pub failed_old : List ℕ
   pub failed : List ℕ
 
 pub record SinkSeen : Type 0 where
@@ -72,6 +73,7 @@ pub record IsRefused (words : List (List ℕ)) (shelf : ShelfSeen) (sink : SinkS
   pub formed : form words ≡ Some job
   pub line : List ℕ
   pub refused : IsTrue shelf.tells → expected words shelf.old ≡ Refuses line
+  pub read : IsTrue shelf.tells_failed → shelf.failed ≡ shelf.failed_old
   pub unchanged : Unchanged shelf
   pub told : Told line sink
 

@@ -5,6 +5,8 @@
 -- ChecksAs result expected     the line that refuses is the expected one, and there is a value where none is expected; want of
 --                              memory says nothing
 -- OnRefused result P           P of the line, where a file was refused
+-- NoneFailed result old new    the path of the last failed read is as it was, unless a file could not be read; want of memory says
+--                              nothing
 -- OnUnread result P            P of the line, where a file could not be read
 -- NamesUnread paths tells failed line  the line names one of the paths, and the last failed one where that is told
 -- HasPlan job rows plan        the plan writes the outputs of the job on these rows, each with the line that names its
@@ -56,6 +58,12 @@ OnUnread (Ok _) P = ⊤
 OnUnread (Err (Refused line)) P = ⊤
 OnUnread (Err (ReadFailed line)) P = P line
 OnUnread (Err Memory) P = ⊤
+
+abbrev pub NoneFailed : {A : Type 0} → Result A Stop → List ℕ → List ℕ → Type 0
+NoneFailed (Ok _) old new = new ≡ old
+NoneFailed (Err (Refused line)) old new = new ≡ old
+NoneFailed (Err (ReadFailed line)) old new = ⊤
+NoneFailed (Err Memory) old new = ⊤
 
 -- a path that is needed; it is that of the last failed read, where the shelf tells it
 pub record NamesUnread (paths : List (List ℕ)) (tells : Bool) (failed line : List ℕ) : Type 0 where

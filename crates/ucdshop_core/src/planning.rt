@@ -4,7 +4,7 @@ ghost use Rattle.std.specs.Prelude.{◌≡◌, ◌<◌, ◌≤◌, IsTrue, IfOk,
 ghost use Rattle.shelf_io.specs.Contents.{SameContents};
 ghost use Rattle.ucdshop_core.specs.Commands.{job_of};
 ghost use Rattle.ucdshop_core.specs.Judging.{release_rows};
-ghost use Rattle.ucdshop_core.specs.Planning.{ChecksAs, HasPlan, loaded_rows, LoadedAs, OnRefused, OnUnread, NamesUnread};
+ghost use Rattle.ucdshop_core.specs.Planning.{ChecksAs, HasPlan, loaded_rows, LoadedAs, OnRefused, OnUnread, NamesUnread, NoneFailed};
 ghost use Rattle.ucdshop_core.specs.Reading.{cut, text_at};
 ghost use Rattle.ucdshop_core.specs.Printed.{read_failed, write_failed};
 ghost use Rattle.shelf_io.specs.Counts.{Rose};
@@ -159,6 +159,7 @@ fn gather<S: Shelf>(alloc: Global, shelf: &mut S, folder: &[u8]) -> Result<Gathe
     ensures refused { OnRefused result (λ _. ⊥) }
     ensures unread { OnUnread result (NamesUnread (sources_in folder.now)
         S.tells_failed (S.last_failed shelf.new)) }
+    ensures none_failed { IsTrue S.tells_failed → NoneFailed result (S.last_failed shelf.old) (S.last_failed shelf.new) }
     ensures unread_only { OnUnread result (λ _. Rose (S.read_faults shelf.old) (S.read_faults shelf.new)) }
     ensures held_stays { IsTrue S.tells → SameContents (S.holds shelf.old) (S.holds shelf.new) }
     ensures read_faults_never_fall { S.read_faults shelf.old ≤ S.read_faults shelf.new }
@@ -180,6 +181,7 @@ fn load<S: Shelf>(alloc: Global, shelf: &mut S, folder: &[u8]) -> Result<Release
     ensures rows { IsTrue S.tells → LoadedAs release_rows result (files_verdict folder.now (S.holds shelf.old)) }
     ensures unread { OnUnread result (NamesUnread (sources_in folder.now)
         S.tells_failed (S.last_failed shelf.new)) }
+    ensures none_failed { IsTrue S.tells_failed → NoneFailed result (S.last_failed shelf.old) (S.last_failed shelf.new) }
     ensures unread_only { OnUnread result (λ _. Rose (S.read_faults shelf.old) (S.read_faults shelf.new)) }
     ensures held_stays { IsTrue S.tells → SameContents (S.holds shelf.old) (S.holds shelf.new) }
     ensures read_faults_never_fall { S.read_faults shelf.old ≤ S.read_faults shelf.new }
@@ -203,6 +205,7 @@ fn load_valid<S: Shelf>(alloc: Global, shelf: &mut S, folder: &[u8]) -> Result<L
         SameRecords (record_of loaded.records) (record_at (facts (release_rows loaded.release)))) }
     ensures unread { OnUnread result (NamesUnread (sources_in folder.now)
         S.tells_failed (S.last_failed shelf.new)) }
+    ensures none_failed { IsTrue S.tells_failed → NoneFailed result (S.last_failed shelf.old) (S.last_failed shelf.new) }
     ensures unread_only { OnUnread result (λ _. Rose (S.read_faults shelf.old) (S.read_faults shelf.new)) }
     ensures held_stays { IsTrue S.tells → SameContents (S.holds shelf.old) (S.holds shelf.new) }
     ensures read_faults_never_fall { S.read_faults shelf.old ≤ S.read_faults shelf.new }
@@ -220,6 +223,7 @@ fn derive<S: Shelf>(alloc: Global, input: &[u8], output: &[u8], shelf: &mut S) -
     ensures room { IfOk result (λ plan. length plan.outputs.items ≤ S.spare shelf.new) }
     ensures refused { IsTrue S.tells → OnRefused result (λ line. verdict input.now (S.holds shelf.old) ≡ Err line) }
     ensures unread { OnUnread result (NamesUnread (needed (Derive input.now output.now)) S.tells_failed (S.last_failed shelf.new)) }
+    ensures none_failed { IsTrue S.tells_failed → NoneFailed result (S.last_failed shelf.old) (S.last_failed shelf.new) }
     ensures unread_only { OnUnread result (λ _. Rose (S.read_faults shelf.old) (S.read_faults shelf.new)) }
     ensures held_stays { IsTrue S.tells → SameContents (S.holds shelf.old) (S.holds shelf.new) }
     ensures read_faults_never_fall { S.read_faults shelf.old ≤ S.read_faults shelf.new }
@@ -239,6 +243,7 @@ pub fn prepare<S: Shelf>(alloc: Global, command: Command<'_>, shelf: &mut S) -> 
     ensures refused { IsTrue S.tells →
         OnRefused result (λ line. job_verdict (job_of command.entry) (S.holds shelf.old) ≡ Err line) }
     ensures unread { OnUnread result (NamesUnread (needed (job_of command.entry)) S.tells_failed (S.last_failed shelf.new)) }
+    ensures none_failed { IsTrue S.tells_failed → NoneFailed result (S.last_failed shelf.old) (S.last_failed shelf.new) }
     ensures unread_only { OnUnread result (λ _. Rose (S.read_faults shelf.old) (S.read_faults shelf.new)) }
     ensures held_stays { IsTrue S.tells → SameContents (S.holds shelf.old) (S.holds shelf.new) }
     ensures read_faults_never_fall { S.read_faults shelf.old ≤ S.read_faults shelf.new }

@@ -49,11 +49,13 @@ pub fn run<S: Shelf, K: Sink>(alloc: Global, words: &Texts, shelf: &mut S, out: 
     ensures bad_words_told { result ≡ Status.BadWords → Told usage
         (sink_seen K.tells (K.written out.old) (K.written out.new) (K.faults out.old) (K.faults out.new)) }
 
-    // LoadRefused: only where a file is refused, by the line that is told; a refused file gives no other status unless
-    // a read failed or memory was wanted.
+    // LoadRefused: only where no read failed and a file is refused, by the line that is told; a refused file gives no
+    // other status unless a read failed or memory was wanted.
     ensures refused_only { IsTrue S.tells → result ≡ Status.LoadRefused
         → (line : List ℕ) × (expected words.now (S.holds shelf.old) ≡ Refuses line) × Told line
         (sink_seen K.tells (K.written out.old) (K.written out.new) (K.faults out.old) (K.faults out.new)) }
+    ensures refused_read { IsTrue S.tells_failed → result ≡ Status.LoadRefused
+        → S.last_failed shelf.new ≡ S.last_failed shelf.old }
     ensures refused { IsTrue S.tells → (line : List ℕ) → expected words.now (S.holds shelf.old) ≡ Refuses line
         → ¬ Rose (S.read_faults shelf.old) (S.read_faults shelf.new)
         → (result ≡ Status.LoadRefused) ⊎ (result ≡ Status.Memory) }
@@ -96,6 +98,7 @@ fn run_words<S: Shelf, K: Sink>(alloc: Global, words: &Texts, shelf: &mut S, out
           reads_new = S.read_faults shelf.new;
           writes_old = S.write_faults shelf.old;
           writes_new = S.write_faults shelf.new;
+          failed_old = S.last_failed shelf.old;
           failed = S.last_failed shelf.new;
         })
         (record {
@@ -168,6 +171,7 @@ fn finish<S: Shelf, K: Sink>(plan: Plan, shelf: &mut S, out: &mut K) -> Status
           reads_new = S.read_faults shelf.new;
           writes_old = S.write_faults shelf.old;
           writes_new = S.write_faults shelf.new;
+          failed_old = S.last_failed shelf.old;
           failed = S.last_failed shelf.new;
         })
         (record {

@@ -31,6 +31,7 @@ pub fn read_all<S: Shelf>(
     ensures failed_only { OnFailedAt result (λ at. Rose (S.read_faults shelf.old) (S.read_faults shelf.new)) }
     ensures names_failed { IsTrue S.tells_failed →
         OnFailedAt result (λ at. S.last_failed shelf.new ≡ text_at paths.now at) }
+    ensures none_failed { IsTrue S.tells_failed → IfOk result (λ _. S.last_failed shelf.new ≡ S.last_failed shelf.old) }
     ensures held_stays { IsTrue S.tells → SameContents (S.holds shelf.old) (S.holds shelf.new) }
     ensures read_faults_never_fall { S.read_faults shelf.old ≤ S.read_faults shelf.new }
     ensures write_faults_stay { S.write_faults shelf.new ≡ S.write_faults shelf.old }
@@ -55,6 +56,7 @@ fn read_one<S: Shelf>(alloc: Global, shelf: &mut S, path: &[u8]) -> Result<Optio
     ensures contents { IsTrue S.tells → IfOk result (λ held. held ≡ cut (S.holds shelf.old path.now)) }
     ensures failed_only { OnOneFailed result (Rose (S.read_faults shelf.old) (S.read_faults shelf.new)) }
     ensures names_failed { IsTrue S.tells_failed → OnOneFailed result (S.last_failed shelf.new ≡ path.now) }
+    ensures none_failed { IsTrue S.tells_failed → IfOk result (λ _. S.last_failed shelf.new ≡ S.last_failed shelf.old) }
     ensures held_stays { IsTrue S.tells → SameContents (S.holds shelf.old) (S.holds shelf.new) }
     ensures read_faults_never_fall { S.read_faults shelf.old ≤ S.read_faults shelf.new }
     ensures write_faults_stay { S.write_faults shelf.new ≡ S.write_faults shelf.old }

@@ -1,4 +1,3 @@
-use Rattle.std.proofs.Common.{◌≡◌, ℕ, ◌≤◌}
 use Rattle.ucd_model.specs.Shown.{shown_facts}
 use Rattle.identifier_closure.specs.CoreSets.{HasBelow, core_given}
 use Rattle.identifier_closure.proofs.core_set.core_set.Given as goal

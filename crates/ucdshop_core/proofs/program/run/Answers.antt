@@ -25,6 +25,9 @@ returns-clause-bad_words_told g c = clauses.bad_words_told _ _ _ _ c.run_words.e
 pub returns-clause-refused_only : goal.returns-clause-refused_only
 returns-clause-refused_only g c = clauses.refused_only _ _ _ _ c.run_words.ensures
 
+pub returns-clause-refused_read : goal.returns-clause-refused_read
+returns-clause-refused_read g c = clauses.refused_read _ _ _ _ c.run_words.ensures
+
 pub returns-clause-refused : goal.returns-clause-refused
 returns-clause-refused g c = clauses.refused _ _ _ _ c.run_words.ensures
 

@@ -11,6 +11,7 @@ invariant-paths g l =
       len : length l.held.items ≡ l.at;
       contents : IsTrue shelf.tells → l.held.items ≡ map (λ path. cut (shelf.holds l.initial.shelf path)) (take l.at l.paths);
       stays : IsTrue shelf.tells → SameContents (shelf.holds l.initial.shelf) (shelf.holds l.shelf);
+      none_failed : IsTrue shelf.tells_failed → shelf.last_failed l.shelf ≡ shelf.last_failed l.initial.shelf;
       reads : shelf.read_faults l.initial.shelf ≤ shelf.read_faults l.shelf;
       writes : shelf.write_faults l.shelf ≡ shelf.write_faults l.initial.shelf;
     }

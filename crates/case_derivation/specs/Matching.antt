@@ -1,6 +1,7 @@
 -- A list matched with images.
 --
 -- matches rest mapped   the points are exactly what is left; nothing is matched where no rest is left
+-- is_same i             the image is Same
 -- is_unmapped F         a point with the facts F is its own image by each of the four mappings
 use Rattle.std.specs.Prelude.{ℕ, Bool, true, false, ◌&&◌, List, Option, Some, None}
 use Rattle.std.specs.Borrow.{Bor}

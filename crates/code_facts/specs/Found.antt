@@ -1,11 +1,13 @@
 -- The images that rows of CaseFolding.txt and SpecialCasing.txt give, kept in maps.
 --
--- found map c            the value of c in the map
--- first_some a b         a where it is there, else b
--- passes case c row      the row gives c an image of this case; a row with conditions does not
--- image_in case row      the image that the row gives
--- image_by case rows c   the image that the first row gives that passes
--- given_to c pair        what a pair of a code point and its image gives to c
+-- found map c               the value of c in the map; None where it has none
+-- first_some a b            a where it is there, else b
+-- passes case c row         the row gives c an image of this case; a row with conditions does not
+-- image_in case row         the image that the row gives; None where there is no row, and for a row of another file
+-- image_by case rows c      the image that the first row gives that passes; None where none does
+-- image_of_row case c row   the image that this row gives c; None where it does not pass
+-- given_to c pair           what a pair of a code point and its image gives to c; None where it is of another point, or no pair
+--                           is there
 use Rattle.std.specs.Prelude.{ℕ, Bool, List, Option, Some, None, ◌==◌, find, if◌then◌else◌}
 use Rattle.std.specs.Option.{option_map}
 use Rattle.std.specs.Ordering.{nat_cmp}

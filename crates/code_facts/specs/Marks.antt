@@ -1,11 +1,14 @@
 -- The marks that the rows of other files than UnicodeData.txt put on code points.
 --
--- covers c span        whether the span, where there is one, covers c
--- is_mid_word_value v  the value of Word_Break is one in the middle of a word
--- puts mark c row      the row puts the mark on c
--- file_of mark         the file whose rows put the mark; word_of mark: its bit in the word
--- all_marks            the marks, the flags among them in the order of their places
--- mark_bit rows mark c what the mark adds to the word of c; marks_before n rows c: what the first n marks add
+-- covers c span           whether the span, where there is one, covers c
+-- is_mid_word_value v     the value of Word_Break is one in the middle of a word
+-- gives_mid_word c row    the row gives c such a value
+-- puts mark c row         the row puts the mark on c
+-- file_of mark            the file whose rows put the mark
+-- word_of mark            its bit in the word: 2, 4, or for a flag 2 to the power of 24 and its place
+-- all_marks               the marks, the flags among them in the order of their places
+-- mark_bit rows mark c    what the mark adds to the word of c: its bit where some row of its file puts it on c, else 0
+-- marks_before n rows c   what the first n marks add to it together
 use Rattle.std.specs.Prelude.{ℕ, ◌+◌, ◌*◌, ◌^◌, Bool, false, ◌&&◌, ◌||◌, List, [], ◌∷◌, Option, Some, None, take, sum_by, codes}
 use Rattle.std.specs.List.{list_any}
 use Rattle.std.specs.Str.{bytes_eq}

@@ -3,8 +3,11 @@
 -- release_sources release   the rows of each file now
 -- pointed rows              the rows that references point to
 -- Apart rows                no row of UnicodeData.txt covers a code point that a row above it covers
--- PointData                 what the row gives: its part of the word, the mapping, and the simple mappings, each a list of
---                           one code point, or an empty one where the row has none
+-- PointData                 what the row gives: its part of the word, the mapping, and the simple mappings, each a list of one
+--                           code point, or an empty one where the row has none
+-- upper_list row            the row's simple upper mapping as a list: one point, or none; none where there is no row
+-- lower_list row            the same of the lower mapping
+-- title_list row            the same of the title mapping
 -- row_data c row            what the row that covers c gives; without a row category Cn and nothing else
 use Rattle.std.specs.Prelude.{◌≡◌, ℕ, ◌<◌, true, List, [], map, length, take, find, Option, Some, None, is_some, slice_index_or}
 use Rattle.std.specs.Option.{option_to_list}

@@ -6,13 +6,22 @@
 -- kind_place k         0 for Plain, 1 for Canonical, and 2 more than the tag's place for Compat
 -- all_flags            the flags in the order of their places
 -- flag_bit has f       2 to the power of 24 and the place of f, where f is set; else 0
--- data_part            what the row of UnicodeData.txt adds to the word
--- mark_part            what the rows of the other files add
+-- data_part assigned k class kind   what the row of UnicodeData.txt adds to the word: whether the point is assigned in bit 0, the
+--                      place of its category k times 8, its class times 256, and the place of its kind times 65536
+-- mark_part excluded mid_word flag   what the rows of the other files add: bits 1 and 2, and the bits of the flags
 -- packed F             the word: the sum of its summands
 --
--- assigned_of_word w   whether the word says that the point is assigned; and so the others
--- category_at p        the category of a place; kind_at p: the kind
--- flags_of_word w      the set of flags
+-- assigned_of_word w   whether the word says that the point is assigned: bit 0
+-- excluded_of_word w   whether it says that the point is excluded from composition: bit 1
+-- mid_word_of_word w   whether it says that the point is in the middle of a word: bit 2
+-- all_categories       the categories in the order of their places
+-- category_at p        the category of a place; Cn past the last
+-- category_of_word w   the category that the word says: bits 3 to 7
+-- class_of_word w      the class that the word says: bits 8 to 15
+-- all_kinds            the kinds in the order of their places
+-- kind_at p            the kind of a place; Plain past the last
+-- kind_of_word w       the kind that the word says: bits 16 to 23
+-- flags_of_word w      the set of flags that the word says: bits 24 to 37
 -- ReadsBack w F        the word says of all that it has room for what the facts F say
 use Rattle.std.specs.Prelude.{◌≡◌, ℕ, ◌+◌, ◌*◌, ◌/◌, ◌%◌, ◌^◌, Bool, true, false, ◌==◌, List, [], ◌∷◌, slice_index_or, sum_by}
 use Rattle.ucd_model.specs.Facts.{Facts}

@@ -1,6 +1,8 @@
 -- The code points, cut into spans of equal records.
 --
--- IsCut R lo n pieces   the pieces are spans that follow one another from lo to before n, and R is the same throughout each
+-- IsEqualIn R s         each point of the span s has the record of its first point
+-- IsCut R lo n pieces   the pieces are spans that follow one another from lo to before n, and R is the same throughout each; no
+--                       pieces where lo is n
 use Rattle.std.specs.Prelude.{◌≡◌, ◌≤◌, ◌+◌, ℕ, List, [], ◌∷◌}
 use Rattle.ucd_model.specs.Bounds.{Bounds}
 use Rattle.ucd_model.specs.Records.{Record}

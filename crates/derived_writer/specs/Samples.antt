@@ -1,7 +1,8 @@
 -- Records that are kept in a list of spans, for tests.
 --
--- kept_record k        the record that a value keeps
--- sample_record s c    the record of c: that of the first entry whose span covers c, and without one the default
+-- kept_record k            the record that a value keeps
+-- entry_or rest entry      the record of the entry that was found, and rest where there is none
+-- sample_record s rest c   the record of c: that of the first entry of s whose span covers c, and without one the default, rest
 use Rattle.std.specs.Prelude.{ℕ, List, Option, Some, None, find}
 use Rattle.ucd_model.specs.Bounds.{Bounds}
 use Rattle.ucd_model.specs.Facts.{within}

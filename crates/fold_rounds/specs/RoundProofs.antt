@@ -1,4 +1,15 @@
 -- Rounds of folding, and which list is found.
+--
+-- F is the facts of each code point. A last number is one that `is_last` names.
+-- found_none      where no number from 0 to 7 is a last one, no list is found
+-- found_stop      where i rounds give a list, one more round gives none, and no number below i is a last one, no list is found
+-- found_same      where i rounds, at most 7, give a list, and one more round a list with the same members, that list is found
+-- alone_same      where NFKC and the folding leave c alone as it is, and c is not ignorable, its NFKC_Casefold is Same
+-- alone_ignored   where they do, and c is ignorable, it is the empty list
+-- unfolded        where a view shows no folding of c, c folds to itself alone
+-- ignored         c is ignorable exactly where the facts that a view shows of it say so
+-- alone_form      where the NFKC of c alone is a list with the members of c alone, it is c alone
+-- fixed_is_found, found_is_fixed   the laws of the same names
 use Rattle.std.proofs.Common.{◌≡◌, ℕ, zero, suc, ◌+◌, ◌<◌, ◌≤◌, Bool, true, false, cond, not, nat_le, List, [], ◌∷◌, ◌++◌, length, Option, Some, None, Ok, is_some, Bor, refl, sym, ap, ◌∙◌, arith, add-one, ◌⊎◌, inl, inr}
 use Rattle.std.specs.Option.{option_and_then}
 use Rattle.std.specs.Str.{bytes_eq}

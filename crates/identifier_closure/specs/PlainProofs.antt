@@ -1,7 +1,13 @@
 -- Code points without a mapping.
 --
--- plain_core c G p       whether c with the facts G and no mapping has the core property p
--- plain_record c G s     its record, where s says whether it is the second member of a primary composite's mapping
+-- Unmapped F c         c has no mapping that counts, whether compatibility mappings count or not
+-- kind_forms           where the kind of c is Plain, its NFD, NFC and NFKC are c alone
+-- kind_rule            where it is, the expansions of c break no rule
+-- folded_if            where image_or_rule gives an image, there is a list
+-- plain_core c G p     whether c with the facts G and no mapping has the core property p
+-- plain_record c G s   its record, where s says whether it is the second member of a primary composite's mapping
+-- and_self             b, b again, and true together are b
+-- plain_derived        the record that is derived of a point without a mapping is plain_record
 use Rattle.std.proofs.Common.{◌≡◌, ℕ, Bool, true, false, ◌&&◌, ◌||◌, not, ◌==◌, List, [], ◌∷◌, ◌++◌, Option, Some, None, Ok, if◌then◌else◌, refl, ap, ◌∙◌}
 use Rattle.std.specs.List.{list_any}
 use Rattle.std.specs.Str.{bytes_eq}
@@ -39,7 +45,6 @@ either : {A : Type 0} (b : Bool) (x : A) → (if b then x else x) ≡ x
 either true x = refl
 either false x = refl
 
--- of a point whose mapping does not count
 abbrev pub Unmapped : (ℕ → Facts) → ℕ → Type 0
 Unmapped F c = (compat : Bool) → counted F compat c ≡ []
 
@@ -69,7 +74,6 @@ forms_alone F c u = record {
   nfkc = ap (composed F) (decomposed_alone F c true u);
 }
 
--- where the kind is Plain, the forms are the point alone, and its expansions break no rule
 pub kind_forms : (F : ℕ → Facts) (c : ℕ) → (F c).kind ≡ Plain → HaveForms F c (c ∷ []) (c ∷ []) (c ∷ [])
 kind_forms F c e = forms_alone F c (kind_unmapped F c e)
 

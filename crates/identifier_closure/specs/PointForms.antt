@@ -1,10 +1,12 @@
 -- The forms of a code point alone, as far as its record follows from them.
 --
--- expansion_rule F c             the first rule that the expansions of c break
--- HaveForms F c nfd nfc nfkc     the forms of c alone are these lists
--- ExpansionsAnswer F c r         r is both expansions of c, or in their place the first rule that they break; want of memory
---                                says nothing
--- FormsAnswer F c r              r is the forms of c alone, or in their place that rule; want of memory says nothing
+-- expansion_rule F c           the first rule that the expansions of c break: V2, then V3; None where they break none
+-- HaveForms F c nfd nfc nfkc   the forms of c alone are these lists
+-- HaveExpansions F c p q       the canonical expansion of c is p, the compatibility expansion q, and they break no rule
+-- ExpansionsAnswer F c r       r is both expansions of c, or in their place the first rule that they break; want of memory says
+--                              nothing
+-- StopsBy F c stop             the stop is the first rule that the expansions of c break; want of memory says nothing
+-- FormsAnswer F c r            r is the forms of c alone, or in their place that rule; want of memory says nothing
 use Rattle.std.specs.Prelude.{◌≡◌, ℕ, true, false, List, [], ◌∷◌, Option, Some, None, Result, Ok, Err, if◌then◌else◌, ⊤}
 use Rattle.ucd_model.specs.Expansion.{expansion}
 use Rattle.ucd_model.specs.Facts.{Facts}

@@ -1,4 +1,10 @@
 -- The first rule that a point breaks, step by step.
+--
+-- by_missing_row   where a mapping of c has a member without a row, c has V1 in place of its record
+-- by_expansion     where it has not, and the expansions of c break a rule, c has that one
+-- by_composite     where neither is so, and a lesser composite has the mapping of c, c has V4
+-- by_folding       where none of these is so, and the folding rounds of c reach no last one, c has V5
+-- by_none          where none at all is so, c has its record
 use Rattle.std.proofs.Common.{◌≡◌, ℕ, Bool, true, false, Option, Some, None, Ok, Err, if◌then◌else◌, refl, ap, ◌∙◌}
 use Rattle.ucd_model.specs.Facts.{Facts}
 use Rattle.ucd_model.specs.Records.{record_at, record_or_rule, derived}

@@ -1,4 +1,6 @@
 -- Proof that uniform code points have the same record.
+--
+-- uniform_derived   the law of the same name
 use Rattle.std.proofs.Common.{◌≡◌, ℕ, Bool, [], Ok, if◌then◌else◌, refl, sym, ap, ◌∙◌}
 use Rattle.ucd_model.specs.Composites.{is_canonical, second_of}
 use Rattle.ucd_model.specs.Facts.{Facts, is_plain}

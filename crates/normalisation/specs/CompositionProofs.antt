@@ -1,4 +1,13 @@
 -- Proofs of the laws of composition.
+--
+-- compose_onto-append      composing two joined lists is composing the first, and then the second behind it
+-- compose_push             so one more point is put behind what is composed before it
+-- no_last_starter          a list in which no point has class 0 has no last starter
+-- composed_with_replaced   one more point, not blocked from the last starter of a list and with a composite: that takes the
+--                          starter's place
+-- composed_with_blocked    a blocked one stays at the end
+-- composed_with_unpaired   so does one without a composite
+-- composites_replace, blocked_stay, unpaired_stay, starterless_stay, nothing_composes   the laws of the same names
 use Rattle.std.proofs.Common.{◌≡◌, ℕ, Bool, true, false, cond, not, ◌&&◌, ◌||◌, ◌==◌, nat_lt, nat_le, List, [], ◌∷◌, ◌++◌, Option, Some, None, refl, ap, ◌∙◌, arith}
 use Rattle.std.proofs.lemmas.Bool.Decides.{nat_tests}
 use Rattle.ucd_model.specs.Composition.{is_open, where_open, last_starter, reached, with_composite, with_point, composed_with, compose_onto, compose}

@@ -1,6 +1,16 @@
 -- What is expanded, and what expands to it.
 --
--- Unmapped F compat x    x has no mapping that counts
+-- Unmapped F compat x     x has no mapping that counts
+-- Each-append             what holds of each member of two lists holds of each member of them joined
+-- Each-front, Each-back   what holds of each member of two joined lists holds of each member of the first, and of the second
+-- Each-order              what holds of each member of a list holds of each member of the ordered list
+-- ok_same                 two lists in Ok that are the same are the same list
+-- appended_ok             where two results appended are a list, both are lists, and that list is the two joined
+-- expansions-append       the expansions of two joined lists are those of the two, appended
+-- expansions_unmapped     where no member has a mapping that counts, the expansions are the list itself
+-- expansions_full         no member of the expansions of a list has a mapping that counts
+-- pair_expansion          the expansion of a composite that has one is that of its first member, and behind it the second member,
+--                         where that has no mapping that counts
 use Rattle.std.proofs.Common.{◌≡◌, ℕ, Bool, true, false, cond, ◌==◌, nat_lt, List, [], ◌∷◌, ◌++◌, length, Option, Some, None, Result, Ok, Err, refl, sym, ap, ◌∙◌, subst, arith}
 use Rattle.std.specs.List.{AllByRecursion as Each, list_all}
 use Rattle.std.proofs.lemmas.List.{append-nil}
@@ -107,7 +117,6 @@ pair_parts : (F : ℕ → Facts) (compat : Bool) (s y q : ℕ) (points : List �
 unfolding full
 pair_parts F compat s y q points mapping e = sym (ap (λ m. alone_or_joined q m (expand F compat 7)) mapping) ∙ e
 
--- the expansion of a composite is that of its first member, and the second member, where that is unmapped
 pub pair_expansion : (F : ℕ → Facts) (compat : Bool) (s y q : ℕ) (es : List ℕ) → Joins F s y q → Unmapped F compat y → expansion F compat s ≡ Ok es → HasExpansion F compat q → expansion F compat q ≡ Ok (es ++ y ∷ [])
 pair_expansion F compat s y q es joins alone first has =
     let whole = pair_parts F compat s y q has.0 (counted_pair F compat s y q joins) (judged_some (full F compat q) has.0 has.1) in

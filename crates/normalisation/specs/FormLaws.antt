@@ -1,7 +1,14 @@
 -- The laws of the normalisation forms. UAX #15, section 1.2; The Unicode Standard, section 3.11.
 --
--- HasExpansion F compat c    c breaks neither V2 nor V3 for that kind of mapping
--- HaveExpansions F compat    no code point breaks them; in a valid release this holds for both kinds
+-- HasExpansion F compat c       c breaks neither V2 nor V3 for that kind of mapping
+-- HaveExpansions F compat       no code point breaks them; in a valid release this holds for both kinds
+--
+-- NfdTwice, NfkdTwice           NFD of NFD, and NFKD of NFKD, is that list
+-- NfcTwice, NfkcTwice           so is NFC of NFC, and NFKC of NFKC, where each code point has its expansion
+-- NfdOfNfc, NfkdOfNfkc          the NFD of the NFC of a list is its NFD, and the NFKD of its NFKC is its NFKD, where each code
+--                               point has its expansion
+-- NfcOfMembers, NfkcOfMembers   the NFC of each member alone of an NFC is that member, and so for NFKC, where each code point has
+--                               its expansion
 use Rattle.std.specs.Prelude.{◌≡◌, ℕ, ◌<◌, Bool, true, false, List, [], ◌∷◌, Ok}
 use Rattle.std.specs.List.{All}
 use Rattle.ucd_model.specs.Limits.{point_count}
@@ -15,7 +22,6 @@ HasExpansion F compat c = (points : List ℕ) × (expansion F compat c ≡ Ok po
 abbrev pub HaveExpansions : (ℕ → Facts) → Bool → Type 0
 HaveExpansions F compat = (c : ℕ) → c < point_count → HasExpansion F compat c
 
--- a form of its own result is that result
 abbrev pub NfdTwice : Type 0
 NfdTwice = (F : ℕ → Facts) (s t : List ℕ) → nfd F s ≡ Ok t → nfd F t ≡ Ok t
 
@@ -28,14 +34,12 @@ NfcTwice = (F : ℕ → Facts) (s t : List ℕ) → HaveExpansions F false → n
 abbrev pub NfkcTwice : Type 0
 NfkcTwice = (F : ℕ → Facts) (s t : List ℕ) → HaveExpansions F true → nfkc F s ≡ Ok t → nfkc F t ≡ Ok t
 
--- what is composed decomposes to the decomposition of the list
 abbrev pub NfdOfNfc : Type 0
 NfdOfNfc = (F : ℕ → Facts) (s t : List ℕ) → HaveExpansions F false → nfc F s ≡ Ok t → nfd F t ≡ nfd F s
 
 abbrev pub NfkdOfNfkc : Type 0
 NfkdOfNfkc = (F : ℕ → Facts) (s t : List ℕ) → HaveExpansions F true → nfkc F s ≡ Ok t → nfkd F t ≡ nfkd F s
 
--- the form of each member alone is that member
 abbrev pub NfcOfMembers : Type 0
 NfcOfMembers = (F : ℕ → Facts) (s t : List ℕ) → HaveExpansions F false → nfc F s ≡ Ok t → All (λ x. nfc F (x ∷ []) ≡ Ok (x ∷ [])) t
 

@@ -1,4 +1,10 @@
 -- Expansions of points and of lists.
+--
+-- expansion_alone              a point without a mapping that counts is its own expansion
+-- appended-assoc               of three results, it is the same whether the first two or the last two are appended first
+-- appended-nil, nil-appended   a result with the empty list behind it, or before it, is that result
+-- expansions_more              once the expansion of the member at place i is behind what stands so far, the expansions from
+--                              place i + 1 on are left to be appended
 use Rattle.std.proofs.Common.{◌≡◌, ℕ, ◌+◌, ◌<◌, Bool, List, [], ◌∷◌, length, drop, get_or, Result, Ok, Err, refl, sym, ap, ◌∙◌}
 use Rattle.std.proofs.lemmas.List.{append_assoc, append-nil, at_drop_more}
 use Rattle.ucd_model.specs.declared.form.Bad.{Bad as Rule}
@@ -24,7 +30,6 @@ pub nil-appended : (a : Result (List ℕ) Rule) → appended (Ok []) a ≡ a
 nil-appended (Ok xs) = refl
 nil-appended (Err rule) = refl
 
--- one member more
 pub expansions_more : (F : ℕ → Facts) (compat : Bool) (s : List ℕ) (i c : ℕ) (now new : List ℕ) → i < length s → c ≡ get_or s i c → appended (Ok now) (expansion F compat c) ≡ Ok new
     → appended (Ok new) (expansions F compat (drop (i + 1) s)) ≡ appended (Ok now) (expansions F compat (drop i s))
 expansions_more F compat s i c now new lt is e =

@@ -1,4 +1,7 @@
 -- Proofs of the laws of the normalisation forms.
+--
+-- nfd_twice, nfkd_twice, nfc_twice, nfkc_twice, nfd_of_nfc, nfkd_of_nfkc, nfc_of_members,
+-- nfkc_of_members   the laws of the same names
 use Rattle.std.proofs.Common.{◌≡◌, ℕ, Bool, true, false, List, [], ◌∷◌, Result, Ok, Err, refl, sym, ap, ◌∙◌, subst}
 use Rattle.std.specs.List.{AllByRecursion as Each, All}
 use Rattle.std.proofs.lemmas.List.{append-nil}

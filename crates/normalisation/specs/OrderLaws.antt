@@ -1,9 +1,18 @@
 -- The laws of canonical order. The Unicode Standard, section 3.11, D108 and D109.
 --
--- Reorderable class a b    a and b, beside one another, are to be exchanged: the class of a is greater than that of b,
---                          which is not 0 (D108)
--- Exchanges class xs ys    ys comes from xs by exchanging reorderable pairs, one after the other
--- InOrder class xs         xs has no reorderable pair
+-- Reorderable class a b   a and b, beside one another, are to be exchanged: the class of a is greater than that of b, which is
+--                         not 0 (D108)
+-- Exchanges class xs ys   ys comes from xs by exchanging reorderable pairs, one after the other
+-- InOrder class xs        xs has no reorderable pair
+--
+-- OrderIsReached          the ordered list comes from the list by exchanging reorderable pairs, and has no reorderable pair left
+--                         (D109)
+-- OrderIsOnly             whatever pairs are exchanged, and in whatever turn: where none is left, the list is the ordered one
+-- OrderTwice              what is in order stays
+-- StartersStay            a point of class 0 stays at the end
+-- MarksMove               a point of another class is moved before the points directly before it that have a greater class, and
+--                         no further
+-- EqualsKeepOrder         the points of one class keep their order
 use Rattle.std.specs.Prelude.{◌≡◌, ℕ, ◌<◌, ◌≤◌, List, [], ◌∷◌, ◌++◌, ◌==◌, filter}
 use Rattle.std.specs.List.{All}
 use Rattle.ucd_model.specs.CanonicalOrder.{order}
@@ -18,28 +27,22 @@ pub data Exchanges (class : ℕ → ℕ) (end : List ℕ) : List ℕ → Type 0 
 abbrev pub InOrder : (ℕ → ℕ) → List ℕ → Type 0
 InOrder class xs = (before after : List ℕ) (a b : ℕ) → xs ≡ before ++ a ∷ b ∷ after → ¬ Reorderable class a b
 
--- the ordered list comes from the list by exchanging reorderable pairs, and has no reorderable pair left (D109)
 abbrev pub OrderIsReached : Type 0
 OrderIsReached = (class : ℕ → ℕ) (xs : List ℕ) → Exchanges class (order class xs) xs × InOrder class (order class xs)
 
--- whatever pairs are exchanged, and in whatever turn: where none is left, the list is the ordered one
 abbrev pub OrderIsOnly : Type 0
 OrderIsOnly = (class : ℕ → ℕ) (xs ys : List ℕ) → Exchanges class ys xs → InOrder class ys → ys ≡ order class xs
 
--- what is in order stays
 abbrev pub OrderTwice : Type 0
 OrderTwice = (class : ℕ → ℕ) (xs : List ℕ) → order class (order class xs) ≡ order class xs
 
--- a point of class 0 stays at the end
 abbrev pub StartersStay : Type 0
 StartersStay = (class : ℕ → ℕ) (xs : List ℕ) (y : ℕ) → class y ≡ 0 → order class (xs ++ y ∷ []) ≡ order class xs ++ y ∷ []
 
--- a point of another class is moved before the points directly before it that have a greater class, and no further
 abbrev pub MarksMove : Type 0
 MarksMove = (class : ℕ → ℕ) (xs before after : List ℕ) (x y : ℕ) → 0 < class y → All (λ m. class y < class m) after
     → (order class xs ≡ after → order class (xs ++ y ∷ []) ≡ y ∷ after)
     × (order class xs ≡ before ++ x ∷ after → class x ≤ class y → order class (xs ++ y ∷ []) ≡ before ++ x ∷ y ∷ after)
 
--- the points of one class keep their order
 abbrev pub EqualsKeepOrder : Type 0
 EqualsKeepOrder = (class : ℕ → ℕ) (k : ℕ) (xs : List ℕ) → filter (λ x. class x == k) (order class xs) ≡ filter (λ x. class x == k) xs

@@ -1,7 +1,27 @@
 -- Lists in canonical order.
 --
--- last_class class k xs    the class of the last point; k where there is none
--- Ordered class k xs       behind a point of class k, no point of non-zero class has a class less than the point before it
+-- last_class class k xs         the class of the last point; k where there is none
+-- Ordered class k xs            behind a point of class k, no point of non-zero class has a class less than the point before it
+-- with_next_starter             one more point of class 0 stays at the end
+-- with_next_mark                one more point of another class is placed
+-- placed_end                    a point is placed at the end where its class is not less than the last class
+-- with_next_end                 one more point stays at the end where its class is 0, or not less than the last class
+-- last_class-append             the last class of two joined lists is that of the second, behind that of the first
+-- Ordered-append                two joined lists are Ordered where the first is, and the second is behind the last class of the
+--                               first
+-- Ordered-front, Ordered-back   where two joined lists are Ordered, so is the first, and the second behind the last class of the
+--                               first
+-- Ordered-push                  an Ordered list with one more point is Ordered, where its class is 0, or not less than the last
+--                               class
+-- order_onto-append             putting two joined lists in order is putting the first in order, and then the second behind it
+-- order-ordered                 what is Ordered stays
+-- order_is_ordered              the ordered list is Ordered
+-- list_all-placed               a test passes on every member of a list with y placed where it does on y and on every member of
+--                               the list
+-- placed_either                 two points of different classes are placed in either turn, with one result
+-- with_next_either              so two marks of different classes are put behind a list in either turn
+-- AllLess class y xs            each class in xs is not 0, and less than that of y
+-- order_past                    the ordered list is the same whether y is read before such a list or behind it
 use Rattle.std.proofs.Common.{◌≡◌, ℕ, zero, suc, ◌<◌, ◌≤◌, Bool, true, false, cond, ◌&&◌, ◌==◌, List, [], ◌∷◌, ◌++◌, refl, sym, ap, ◌∙◌, arith}
 use Rattle.std.specs.Prelude.{⊤}
 use Rattle.std.specs.List.{list_all}
@@ -167,7 +187,6 @@ with_next_either class a b xs some lt =
     let more : 0 < class a = omega arith in
     rw (with_next_mark class xs a more, with_next_mark class xs b some, with_next_mark class (placed class a xs) b some, with_next_mark class (placed class b xs) a more) (placed_either class a b lt xs)
 
--- a mark passes a run of marks of less classes
 abbrev pub AllLess : (ℕ → ℕ) → ℕ → List ℕ → Type 0
 AllLess class y [] = ⊤
 AllLess class y (m ∷ xs) = (0 < class m) × (class m < class y) × AllLess class y xs

@@ -1,6 +1,7 @@
 -- What the pair of two points is.
 --
--- Joins F s y q    q has class 0 and a canonical mapping, s y, and is a code point
+-- Joins F s y q   q is a code point with a canonical mapping, s y; q and s have class 0
+-- pair_joins      the pair of two points, where there is one, joins them so
 use Rattle.std.proofs.Common.{◌≡◌, ℕ, ◌<◌, Bool, true, false, ◌&&◌, ◌==◌, [], ◌∷◌, Option, Some, None, refl, ap, ◌∙◌, sym, subst, arith}
 use Rattle.std.proofs.lemmas.Bool.Decides.{nat_tests}
 use Rattle.ucd_model.specs.Limits.{point_count}

@@ -1,13 +1,15 @@
--- What the pass of composition keeps of the list that is composed so far.
+-- What the pass of composition keeps of the list that is composed so far. The Unicode Standard, section 3.11, D115 and D117.
 --
--- passes highest k           the class k is greater than the greatest class behind the starter, where anything stands there
--- highest_with highest k     the greatest class, once a point of class k stands there too
+-- passes highest k               the class k is greater than the greatest class behind the starter, where anything stands there
+-- highest_with highest k         the greatest class, once a point of class k stands there too
+-- raised starter k               the last starter, once a point of class k stands behind it; None where there is none
 -- starter_behind len starter k   the last starter, once a point of class k stands behind the len points so far
--- joined pair xs starter y k     the composite of the starter and the point y of class k, and the starter's place, where y
---                                passes and there is one; else None
+-- placed_at at q                 the composite q, to be put into this place; None where there is no composite
+-- joined pair xs starter y k     the composite of the starter and the point y of class k, and the starter's place, where y passes
+--                                and there is one; else None
 -- with_joined xs y join          the composite put into its place; without one y at the end
--- Describes class cut starter    the kept starter is that of the cut at the last starter: its place, and the points that
---                                what stands behind it does not block
+-- Describes class cut starter    the kept starter is that of the cut at the last starter: its place, and the points that what
+--                                stands behind it does not block
 use Rattle.std.specs.Prelude.{◌≡◌, ℕ, max, Bool, true, List, [], ◌∷◌, ◌++◌, length, nat_lt, ◌==◌, Option, Some, None, if◌then◌else◌, slice_index, slice_set, ⊤}
 use Rattle.ucd_model.specs.Composition.{Split, is_open}
 use Rattle.normalisation.specs.declared.composition.Starter.{Starter}

@@ -1,9 +1,17 @@
 -- What composition keeps, point by point: what is composed so far decomposes to what was read.
 --
--- Alone F compat x            x has an expansion, which is in order and composes to x alone
--- StarterBelow F compat cut n   the expansion of the last starter ends with a class that is at most n
--- Stable F compat done read   done decomposes to read; its marks are unmapped; each of its points is Alone; and the expansion
---                             of its last starter ends with at most the class with which read ends
+-- Alone F compat x                   x has an expansion, which is in order and composes to x alone
+-- StarterBelow F compat cut n        the expansion of the last starter ends with a class that is at most n
+-- Stable F compat done read          done decomposes to read; its marks are unmapped; each of its points is Alone; and the
+--                                    expansion of its last starter ends with at most the class with which read ends
+-- stable_behind                      one more point behind both: done and read with an unmapped point at their ends are Stable,
+--                                    where read stays in order
+-- Join F compat before after s y q   s is the last starter of the list of before, s and after; y is not blocked from it; they
+--                                    have the composite q, and the expansion of q is that of s with y behind it
+-- stable_joined                      one more point that is joined: done with the composite in the starter's place is Stable with
+--                                    read and the point
+-- stable_compose                     what is composed of a list in order, without mapped members, is Stable with it, where each
+--                                    code point has its expansion
 use Rattle.std.proofs.Common.{◌≡◌, ℕ, zero, suc, ◌<◌, ◌≤◌, Bool, true, false, cond, ◌&&◌, ◌==◌, nat_lt, List, [], ◌∷◌, ◌++◌, Option, Some, None, Ok, refl, sym, ap, ◌∙◌, subst, arith}
 use Rattle.std.specs.Prelude.{⊤}
 use Rattle.std.specs.Option.{option_map}
@@ -102,7 +110,6 @@ module _ (F : ℕ → Facts) (compat : Bool) (done read : List ℕ) (y : ℕ) (u
 
 -- ---- one point more, joined
 
--- the last starter of the list before after, s, and the point y join to q
 pub record Join (F : ℕ → Facts) (compat : Bool) (before after : List ℕ) (s y q : ℕ) : Type 0 where
   pub starter : class_of F s ≡ 0
   pub last : last_starter (class_of F) after ≡ None

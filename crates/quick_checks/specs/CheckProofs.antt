@@ -1,4 +1,12 @@
 -- Proofs of the laws of the quick checks.
+--
+-- decomposed_alone        where the mapping of c does not count, the decomposition of c alone is c alone
+-- composed_alone          where it does not, what is composed of that decomposition is c alone
+-- quick_nfd, quick_nfkd   the quick checks of NFD and NFKD are decomposed_check, for canonical mappings and for all
+-- check_alone             where the mapping of c does not count, decomposed_check is told by the kind of c
+-- check_expanded          where c has an expansion, decomposed_check is told by the kind of c
+-- composed_check_alone    where the mapping of c does not count, composed_check is quick_composed of c alone
+-- kinds_tell, unchanged_is_yes, no_is_other, others_are_same   the laws of the same names
 use Rattle.std.proofs.Common.{◌≡◌, ℕ, Bool, true, false, cond, ◌==◌, List, [], ◌∷◌, Result, Ok, Err, refl, sym, ap, ◌∙◌, subst, arith}
 use Rattle.std.specs.List.{AllByRecursion as Each}
 use Rattle.std.specs.Str.{bytes_eq}

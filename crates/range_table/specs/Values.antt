@@ -1,10 +1,11 @@
 -- The values of all code points, as functions of the code point.
 --
--- point_count            how many code points there are
--- SameValues f g         f and g agree at each code point (above the last they may differ)
--- with_span f lo hi v    v from lo to hi, both of them in it, and f elsewhere
--- begins_run eq f c      the value at c differs by eq from the value before it (at 0: always)
--- run_count eq f n       how many maximal runs of equal values the points below n have (0 for n = 0)
+-- point_count           how many code points there are
+-- point_count-is        that number is 1114112
+-- SameValues f g        f and g agree at each code point (above the last they may differ)
+-- with_span f lo hi v   v from lo to hi, both of them in it, and f elsewhere
+-- begins_run eq f c     the value at c differs by eq from the value before it (at 0: always)
+-- run_count eq f n      how many maximal runs of equal values the points below n have (0 for n = 0)
 use Rattle.std.specs.Prelude.{◌≡◌, refl, ℕ, zero, suc, ◌+◌, ◌<◌, Bool, true, not, ◌&&◌, nat_le, if◌then◌else◌}
 
 -- a name for 1114112 that no recursion looks into

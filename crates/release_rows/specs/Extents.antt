@@ -1,9 +1,10 @@
 -- Where rows lie: the names of a row's key, and the code points from the one in its key on.
 --
--- same_texts a b           the same texts, byte by byte
--- same_start a b           the rows have the same key
--- meets a b                the rows have the same names, and share a code point
--- conflict_with above x    the rule that x breaks against the extents above it: K1 comes before K4
+-- Extent                  names, and the code points from first to last, both of them in it
+-- same_texts a b          the same texts, byte by byte
+-- same_start a b          the names are the same, and the first code points: the rows have the same key
+-- meets a b               the names are the same, and the extents share a code point
+-- conflict_with above x   the rule that x breaks against the extents above it: K1 comes before K4; None where it breaks none
 use Rattle.std.specs.Prelude.{ℕ, Bool, ◌&&◌, List, Option, Some, None, ◌==◌, nat_le, if◌then◌else◌}
 use Rattle.std.specs.List.{list_any}
 use Rattle.std.specs.Cmp.Lexicographic.{pointwise}

@@ -1,9 +1,12 @@
 -- The items of a file: trivia, and rows with the bytes that they stand in.
 --
--- FileItem            the content of a row or of a line of trivia, what ends it, how many lines it has, and the row
--- rows_in items       the rows in order
--- bytes_of items      contents and endings put together
--- lines_of items      how many lines they have
+-- FileItem               the content of a row or of a line of trivia, what ends it, how many lines it has, and the row; None for
+--                        trivia
+-- onto_rows row rows     the row before the rows; the rows alone where there is none
+-- rows_in items          the rows in order
+-- file_item_bytes item   the content and the bytes of the ending
+-- bytes_of items         contents and endings put together; no bytes for no items
+-- lines_of items         how many lines they have
 use Rattle.std.specs.Prelude.{ℕ, List, [], ◌∷◌, ◌++◌, Option, Some, None}
 use Rattle.std.specs.List.{flat_map, sum_by}
 use Rattle.ucd_model.specs.Lines.{LineEnding, ending_bytes}

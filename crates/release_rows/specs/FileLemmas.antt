@@ -1,4 +1,9 @@
 -- One file's items in the place of others.
+--
+-- each_with_items             what holds of each file's items, and of the new ones of a file, holds of each file's once they are
+--                             there
+-- items_at-with_items_same    the file in which the items were put has them
+-- items_at-with_items_other   every other file has the items that it had
 use Rattle.std.proofs.Common.{◌≡◌, ◌≢◌, List, refl}
 use Rattle.ucd_model.specs.declared.files.SourceFile.{SourceFile}
 use Rattle.ucd_model.specs.declared.files.SourceFile.TheVariants.{UnicodeData, PropList, Scripts, WordBreakProperty, CompositionExclusions, CaseFolding, SpecialCasing, PropertyAliases, PropertyValueAliases}
@@ -6,7 +11,6 @@ use Rattle.release_rows.specs.FileItems.{FileItem}
 use Rattle.release_rows.specs.Releases.{items_at, with_items}
 use Rattle.release_rows.specs.declared.nine_files.NineFiles.{NineFiles}
 
--- what holds of the new items, and of the items that stay, holds of each file
 pub each_with_items : (P : SourceFile → List FileItem → Type 0) (files : NineFiles) (file : SourceFile) (items : List FileItem) → ((other : SourceFile) → P other (items_at files other)) → P file items → (other : SourceFile) → P other (items_at (with_items files file items) other)
 each_with_items P files UnicodeData items all new UnicodeData = new
 each_with_items P files UnicodeData items all new PropList = all PropList

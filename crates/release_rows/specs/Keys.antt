@@ -1,14 +1,25 @@
 -- The keys of rows, and which rows of one file may not stand together.
 --
--- row_span row         the code points that the row speaks of; the one of a folding or a casing. A row of names has 0
--- key_names file row   the names in the row's key: the property of PropList.txt, the status of a folding, the conditions
---                      of a casing where there are any, and the first two or three names of an alias row
--- key_of file row      the names, and the first code point
--- same_key file a b    the rows have one key: K1
--- has_spans file       the rows of the file have spans that may not overlap
--- overlaps file a b    the spans share a code point; rows of PropList.txt of different properties do not overlap: K4
--- key_rule file above row   the rule that the row breaks against the rows above it, K1 before K4
+-- row_span row                the code points that the row speaks of; the one of a folding or a casing. A row of names has 0
+-- RowKey                      names, and a code point
+-- condition_names bs          the conditions as one name; no name where there are none
+-- value_names file value      the value as one name in PropList.txt; no name in every other file
+-- alias_count file            how many names of an alias row its key has: two in PropertyAliases.txt, three in
+--                             PropertyValueAliases.txt
+-- key_names file row          the names in the row's key: the property of PropList.txt, the status of a folding, the conditions
+--                             of a casing where there are any, and the first two or three names of an alias row
+-- key_of file row             the names, and the first code point
+-- same_key file a b           the rows have one key: K1
+-- has_spans file              the rows of the file have spans that may not overlap
+-- spans_meet a b              the spans share a code point
+-- overlaps file a b           the spans share a code point; rows of PropList.txt of different properties do not overlap: K4
+-- key_rule file above row     the rule that the row breaks against the rows above it, K1 before K4
+-- last_start rows             the first code point of the last row; None where there is no row
+-- is_below c before           c is less than the one before; never where there is none
 -- falls_back file above row   in UnicodeData.txt the row begins below the row before it: K5
+-- row_end file row            the last code point that may not be shared: the last of the row's span, or the first in a file
+--                             without spans
+-- extent_in file row          the names of the row's key, and the code points from the one in it to that last one
 use Rattle.std.specs.Prelude.{ℕ, Bool, true, false, ◌&&◌, List, [], ◌∷◌, take, Option, Some, None, ◌==◌, nat_le, nat_lt, if◌then◌else◌}
 use Rattle.std.specs.List.{list_any}
 use Rattle.ucd_model.specs.Bounds.{Bounds}
@@ -36,7 +47,6 @@ row_span (FoldLine row) = one_point row.code
 row_span (CasingLine row) = one_point row.code
 row_span (AliasLine row) = one_point 0
 
--- no name where there are no conditions
 abbrev pub condition_names : List ℕ → List (List ℕ)
 condition_names [] = []
 condition_names (b ∷ bs) = (b ∷ bs) ∷ []
@@ -45,7 +55,6 @@ abbrev pub value_names : SourceFile → List ℕ → List (List ℕ)
 value_names PropList value = value ∷ []
 value_names _ value = []
 
--- how many names of an alias row its key has
 abbrev pub alias_count : SourceFile → ℕ
 alias_count PropertyAliases = 2
 alias_count _ = 3
@@ -72,7 +81,6 @@ has_spans WordBreakProperty = true
 has_spans CompositionExclusions = true
 has_spans _ = false
 
--- the spans share a code point
 abbrev pub spans_meet : Bounds → Bounds → Bool
 spans_meet a b = nat_le a.lo b.hi && nat_le b.lo a.hi
 
@@ -82,7 +90,6 @@ overlaps file a b = has_spans file && (same_texts (key_names file a) (key_names 
 abbrev pub key_rule : SourceFile → List Row → Row → Option KeyRule
 key_rule file above row = if list_any (same_key file row) above then Some K1 else (if list_any (overlaps file row) above then Some K4 else None)
 
--- the first code point of the last row
 abbrev pub last_start : List Row → Option ℕ
 last_start [] = None
 last_start (row ∷ []) = Some (row_span row).lo
@@ -98,7 +105,6 @@ falls_back _ above row = false
 
 -- ---- as extents
 
--- the last code point that may not be shared
 abbrev pub row_end : SourceFile → Row → ℕ
 row_end file row = if has_spans file then (row_span row).hi else (row_span row).lo
 

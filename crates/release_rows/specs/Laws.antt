@@ -1,10 +1,13 @@
 -- Laws of loaded files.
 --
--- NoFault file ps          no piece has a fault below the items of the pieces above it
--- FirstFault file bytes fault   the fault of a piece of the file, where no piece above it has one
--- FaultsAreFirst           a file is refused exactly by its first fault
--- LoadsExactly             a file is loaded exactly where no piece has a fault, and then each piece is an item
--- BytesAreKept             contents and endings of the items put together are the file's bytes
+-- NoFaultBelow file above ps        no piece has a fault below the items above them all and those of the pieces above it
+-- NoFault file ps                   no piece has a fault below the items of the pieces above it
+-- FirstFaultBelow file above ps f   f is the fault of one of the pieces, and no piece above that one has a fault, below those
+--                                   items
+-- FirstFault file bytes fault       the fault of a piece of the file, where no piece above it has one
+-- FaultsAreFirst                    a file is refused exactly by its first fault
+-- LoadsExactly                      a file is loaded exactly where no piece has a fault, and then each piece is an item
+-- BytesAreKept                      contents and endings of the items put together are the file's bytes
 use Rattle.std.specs.Prelude.{◌≡◌, ◌↔◌, ℕ, List, [], ◌∷◌, ◌++◌, map, Some, None, Ok, Err}
 use Rattle.ucd_model.specs.Lines.{items_of}
 use Rattle.ucd_model.specs.declared.files.SourceFile.{SourceFile}
@@ -12,7 +15,6 @@ use Rattle.release_rows.specs.Pieces.{Lines, pieces}
 use Rattle.release_rows.specs.FileItems.{FileItem, bytes_of}
 use Rattle.release_rows.specs.Loading.{LoadFault, file_item, piece_fault, file_or_fault}
 
--- below the items above them all
 abbrev pub NoFaultBelow : SourceFile → List FileItem → List Lines → Type 0
 NoFaultBelow file above ps = (front : List Lines) (p : Lines) (rest : List Lines) → ps ≡ front ++ p ∷ rest → piece_fault file (above ++ map (file_item file) front) p ≡ None
 

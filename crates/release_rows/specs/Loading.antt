@@ -1,13 +1,23 @@
 -- The items of a file, or the first line that breaks a rule.
 --
--- content_row file content    nothing of trivia; else the row that the content stands for, or its first fault
--- faulty_last file piece fault   the fault is that of the second line of a range: no code point there (G04), where the
---                             first line by itself lacks nothing but its second one (G09)
--- row_rule file above row     the rule that a row breaks against the rows above it: K1, then K4, then K5
--- piece_fault file above piece   the fault of a piece below the items above it: the row's own comes first
--- first_fault file above pieces   of the first piece that has one, below the items above it
--- file_or_fault file bytes    the items of the file, or its first fault
--- load_or_fault file bytes    the same; bytes above the limit have G02, on line 0
+-- LoadFault                          the number of a line, and the rule that is broken there
+-- content_row file content           nothing of trivia; else the row that the content stands for, or its first fault
+-- file_item file piece               the item of a piece: its content, ending and number of lines, and its row; no row for
+--                                    trivia, and none where the content has a fault
+-- is_g04 fault                       the fault is G04
+-- lacks_its_last result              the result is the fault G09
+-- faulty_last file piece fault       the fault is that of the second line of a range: no code point there (G04), where the first
+--                                    line by itself lacks nothing but its second one (G09)
+-- fault_line file line piece fault   the line of the fault of a piece that begins at this line: the next one where the fault is
+--                                    that of the second line of a range, else this one
+-- load_rule rule                     K1 and K4 as rules of loading
+-- row_rule file above row            the rule that a row breaks against the rows above it: K1, then K4, then K5
+-- piece_fault file above piece       the fault of a piece below the items above it: the row's own comes first
+-- first_fault file above pieces      of the first piece that has one, below the items above it; None where no piece has
+-- unless_fault fault items           the fault where there is one, else the items
+-- items_or_fault file above pieces   the items above and those of the pieces below them, or the first fault of the pieces
+-- file_or_fault file bytes           the items of the file, or its first fault
+-- load_or_fault file bytes           the same; bytes above the limit have G02, on line 0
 use Rattle.std.specs.Prelude.{ℕ, ◌+◌, Bool, true, false, ◌&&◌, List, [], ◌∷◌, ◌++◌, map, length, Option, Some, None, Result, Ok, Err, is_some, nat_lt, if◌then◌else◌}
 use Rattle.ucd_model.specs.Limits.{file_limit}
 use Rattle.ucd_model.specs.Lines.{is_trivia, items_of}
@@ -97,7 +107,6 @@ abbrev pub unless_fault : Option LoadFault → List FileItem → Result (List Fi
 unless_fault (Some fault) items = Err fault
 unless_fault None items = Ok items
 
--- of pieces below the items above them: all items, or the first fault
 abbrev pub items_or_fault : SourceFile → List FileItem → List Lines → Result (List FileItem) LoadFault
 items_or_fault file above ps = unless_fault (first_fault file above ps) (above ++ map (file_item file) ps)
 

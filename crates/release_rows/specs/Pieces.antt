@@ -1,8 +1,11 @@
 -- The pieces of a file: a line each, or the two lines of a range. UAX #44, section 4.2.3.
 --
+-- Lines                      a piece: its first line, and the second where it has two
 -- opens_range file content   a line of UnicodeData.txt that is no trivia and begins a range
--- pieces file lines          a line that opens a range and the next one, whatever that is, are one piece; every other
---                            line is one, and so is a line that opens a range at the end of the file
+-- one_line a                 the piece of the line a
+-- two_lines a b              the piece of the lines a and b
+-- pieces file lines          a line that opens a range and the next one, whatever that is, are one piece; every other line is
+--                            one, and so is a line that opens a range at the end of the file; no lines have no piece
 -- piece_content p            what stands before the piece's ending: of two lines both, with what ends the first between
 -- piece_ending p             what ends its last line
 -- piece_lines p              how many lines it has

@@ -1,9 +1,18 @@
 -- How far a file is loaded.
 --
 -- Progress                      the file, and its items so far
--- IsProgress                    what is kept beside the items, by their rows
+-- IsProgress file items kept start count   what is kept beside the items, by their rows: extents of which some pass a test
+--                               exactly where some of the rows' do, the first code point of the last row, and the number of lines
 -- item_or_fault file line p     the item of a piece whose first line has this number, by itself, or its fault
--- ReadsPiece, StopsAs, TakesPiece, LoadsItems   a result is what was expected; want of memory says nothing
+-- ReadsPiece result expected    the result is the item, or the fault, that was expected; want of memory says nothing
+-- StopsAs stop fault            the stop is that fault; want of memory says nothing
+-- TakesPiece result above p     the piece has no fault below the items so far, and its item is behind them; or the result is its
+--                               fault; want of memory says nothing
+-- LoadsItems result expected    the result is the items, or the fault, that were expected; want of memory says nothing
+-- row_extents file row          the extent of a row; none where there is no row
+-- start_with before row         the first code point of the last row, with one more row or none
+-- BreaksNoRule file above row   the row breaks none of K1, K4 and K5 against the rows of the items above; so it is where there is
+--                               no row
 use Rattle.std.specs.Prelude.{◌≡◌, ℕ, Bool, List, [], ◌∷◌, ◌++◌, map, Option, Some, None, Result, Ok, Err}
 use Rattle.std.specs.List.{list_any}
 use Rattle.ucd_model.specs.declared.files.SourceFile.{SourceFile}
@@ -55,17 +64,14 @@ LoadsItems (Err Memory) expected = Unit {0}
 
 -- ---- one more item
 
--- the extents of a row, of which there may be none
 abbrev pub row_extents : SourceFile → Option Row → List Extent
 row_extents file None = []
 row_extents file (Some row) = extent_in file row ∷ []
 
--- the first code point of the last row, with one more row or none
 abbrev pub start_with : Option ℕ → Option Row → Option ℕ
 start_with before None = before
 start_with before (Some row) = Some (row_span row).lo
 
--- a row breaks no rule
 abbrev pub BreaksNoRule : SourceFile → List FileItem → Option Row → Type 0
 BreaksNoRule file above None = Unit {0}
 BreaksNoRule file above (Some row) = row_rule file (rows_in above) row ≡ None

@@ -1,15 +1,21 @@
 -- What a release keeps.
 --
--- items_at files file    those of one file
--- with_items files file items   the same with other items in one file
--- ReleaseItems           the items now, and the items that are prepared to be the next ones
--- items_now, items_next  the items of one file, now and next
--- loaded release file items   the release whose file has these items, now and next
--- numbered_rows line items   the rows in order, each with the number of its first line; the first item's line is given
--- rows_at items          the same, with lines counted from 1
--- AreKept file items     each item is read from its content, and each row has another key than the rows above it and
---                        overlaps none of them where the file forbids it
--- AnswersLoad            what `load_file` answers, and what it leaves
+-- items_at files file             those of one file
+-- with_items files file items     the same with other items in one file
+-- no_items                        no file has an item
+-- ReleaseItems                    the items now, and the items that are prepared to be the next ones
+-- items_now, items_next           the items of one file, now and next
+-- loaded release file items       the release whose file has these items, now and next
+-- onto_numbered line row rows     the row with the number of its line before the others; the others alone where there is no row
+-- numbered_rows line items        the rows in order, each with the number of its first line; the first item's line is given
+-- rows_at items                   the same, with lines counted from 1
+-- IsKept file above item          the item's row is the one that its content is read as, and has another key than the rows of the
+--                                 items above and overlaps none of them where the file forbids it (K1, K4)
+-- AreKeptBelow file above items   IsKept of each of the items, below the items above them all
+-- AreKept file items              each item is read from its content, and each row has another key than the rows above it and
+--                                 overlaps none of them where the file forbids it
+-- AllAreKept files                AreKept of the items of every file
+-- AnswersLoad                     what `load_file` answers, and what it leaves
 use Rattle.std.specs.Prelude.{◌≡◌, ℕ, ◌+◌, List, [], ◌∷◌, ◌++◌, Option, Some, None, Result, Ok, Err}
 use Rattle.ucd_model.specs.declared.files.SourceFile.{SourceFile}
 use Rattle.ucd_model.specs.declared.files.SourceFile.TheVariants.{UnicodeData, PropList, Scripts, WordBreakProperty, CompositionExclusions, CaseFolding, SpecialCasing, PropertyAliases, PropertyValueAliases}
@@ -82,7 +88,6 @@ pub record IsKept (file : SourceFile) (above : List FileItem) (item : FileItem) 
   pub is_read : content_row file item.content ≡ Ok item.row
   pub stands : StandsBelow file above item.row
 
--- below the items above them
 abbrev pub AreKeptBelow : SourceFile → List FileItem → List FileItem → Type 0
 AreKeptBelow file above [] = Unit {0}
 AreKeptBelow file above (item ∷ items) = IsKept file above item × AreKeptBelow file (above ++ item ∷ []) items

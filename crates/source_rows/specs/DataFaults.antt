@@ -1,11 +1,23 @@
 -- The row of a line of UnicodeData.txt, or the first rule that it breaks. UAX #44, section 5.7.
 --
--- decomposition_or_fault bs   field 5: a bad mapping or tag (G07), more than two code points without a tag (G10)
--- values_or_fault fs          fields 2, 3, 5 and 12 to 14 in order: G05, G06, G07 or G10, G07
+-- at_least_one mapping              the mapping where it has a member, else None
+-- is_gt b                           the byte is `>`
+-- canonical_or_fault bs             field 5 without a tag: a bad mapping (G07), more than two code points (G10)
+-- compat_or_fault bs                field 5 with a tag, up to the first `>`: a bad tag or mapping (G07)
+-- decomposition_or_fault bs         field 5: a bad mapping or tag (G07), more than two code points without a tag (G10); no bytes
+--                                   are no mapping, and `<` as the first byte begins a tag
+-- values_or_fault fs                fields 2, 3, 5 and 12 to 14 in order: G05, G06, G07 or G10, G07
+-- unit_of fs range name values span   the row of these fields, values and span; its kept fields are those of fs
 -- unit_or_fault fs range name end   the row of these fields; last, what was found of its span
--- single_or_fault fs          one line: G03, G04, G11, fields 2 to 14, and G09 for the name of a range
--- pair_end label lo last      the span of a range: G09 where the last line is not that of the label, then G04
--- pair_or_fault first last    two lines: G03 where the first one is not that of a range, G04, fields 2 to 14, `pair_end`
+-- single_end c name                 the span of c alone; G09 where the name is that of a range
+-- single_or_fault fs                one line: G03, G04, G11, fields 2 to 14, and G09 for the name of a range
+-- first_label fs                    the label in field 1, where that is `<Label, First>`
+-- last_label fs                     the label in field 1, where that is `<Label, Last>`
+-- are_last_fields label fs          fs has 15 fields, the second of which is `<Label, Last>` with this label
+-- pair_end label lo last            the span of a range: G09 where the last line is not that of the label, then G04
+-- pair_or_fault first last          two lines: G03 where the first one is not that of a range, G04, fields 2 to 14, `pair_end`
+-- ValuesReadAs result expected      the result is the values, or the fault, that were expected; want of memory says nothing
+-- DecompositionReadsAs result expected   the same of field 5
 use Rattle.std.specs.Prelude.{◌≡◌, ℕ, Bool, true, false, ◌&&◌, List, [], ◌∷◌, length, Option, Some, None, Result, Ok, Err, ◌==◌, nat_le, if◌then◌else◌, codes}
 use Rattle.std.specs.List.{before_first, after_first}
 use Rattle.std.specs.Str.{bytes_eq}
@@ -28,7 +40,6 @@ use Rattle.source_rows.specs.declared.fault.RowStop.TheVariants.{Fault, Memory}
 
 -- ---- field 5
 
--- a mapping of one or more
 abbrev pub at_least_one : Option (List ℕ) → Option (List ℕ)
 at_least_one (Some (c ∷ cs)) = Some (c ∷ cs)
 at_least_one _ = None
@@ -74,7 +85,6 @@ first_label fs = label_of (codes ", First>") (field fs 1)
 abbrev pub last_label : List (List ℕ) → List ℕ
 last_label fs = label_of (codes ", Last>") (field fs 1)
 
--- the last line of the range with this label
 abbrev pub are_last_fields : List ℕ → List (List ℕ) → Bool
 are_last_fields label fs = (length fs == 15) && (has_last_name (field fs 1) && bytes_eq (last_label fs) label)
 

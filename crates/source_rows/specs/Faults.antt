@@ -1,9 +1,11 @@
 -- The row that bytes stand for, or the first rule that they break. UAX #44, sections 4.2 and 5.7.
 --
--- line_or_fault file content   of one line, by its file
--- row_or_fault file bytes      of the bytes; bytes with a LF have G03, but for two lines of UnicodeData.txt of which
---                              the first one is that of a range. One CR before that LF is no part of the line
--- ReadsAs result expected      a result is what was expected; want of memory says nothing
+-- line_or_fault file content       of one line, by its file
+-- lines_or_fault file front last   of the bytes before and behind the first LF: two lines of UnicodeData.txt; G03 where a LF is
+--                                  behind, and in every other file
+-- row_or_fault file bytes          of the bytes; bytes with a LF have G03, but for two lines of UnicodeData.txt of which the
+--                                  first one is that of a range. One CR before that LF is no part of the line
+-- ReadsAs result expected          a result is what was expected; want of memory says nothing
 use Rattle.std.specs.Prelude.{◌≡◌, ℕ, List, Result, Ok, Err, if◌then◌else◌}
 use Rattle.std.specs.List.{before_first, after_first}
 use Rattle.ucd_model.specs.Lines.{is_lf, holds_line_feed, without_return}
@@ -29,7 +31,6 @@ line_or_fault SpecialCasing content = casing_or_fault (fields SpecialCasing cont
 line_or_fault PropertyAliases content = alias_or_fault 2 (fields PropertyAliases content)
 line_or_fault PropertyValueAliases content = alias_or_fault 3 (fields PropertyValueAliases content)
 
--- of the bytes before and behind a LF
 abbrev pub lines_or_fault : SourceFile → List ℕ → List ℕ → Result Row RowFault
 lines_or_fault UnicodeData front last = if holds_line_feed last then Err G03 else pair_or_fault (fields UnicodeData (without_return front)) (fields UnicodeData last)
 lines_or_fault _ front last = Err G03

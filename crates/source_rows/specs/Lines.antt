@@ -1,8 +1,9 @@
--- The first line of a range. UAX #44, section 4.2.3.
+-- The lines of a range. UAX #44, section 4.2.3.
 --
 -- has_first_name name     `<Label, First>`, with a label that is a name
--- is_first_line content   a line of UnicodeData.txt with 15 fields and such a name
--- begins_with_first bytes   what stands before the first LF, without one CR at its end, is such a line
+-- has_last_name name      `<Label, Last>`, with a label that is a name
+-- are_first_fields fs     fs has 15 fields, the second of which is `<Label, First>`
+-- is_first_line content   a line of UnicodeData.txt with such fields
 use Rattle.std.specs.Prelude.{ℕ, Bool, ◌&&◌, List, length, ◌==◌, codes}
 use Rattle.ucd_model.specs.Fields.{fields, field, is_label_closed_by}
 use Rattle.ucd_model.specs.declared.files.SourceFile.TheVariants.{UnicodeData}

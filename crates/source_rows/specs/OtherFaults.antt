@@ -1,11 +1,19 @@
--- The row of a line of a file beside UnicodeData.txt, or the first rule that it breaks, by the fields of the line.
--- The number of fields (G03) comes first, then the fields in order.
+-- The row of a line of a file beside UnicodeData.txt, or the first rule that it breaks, by the fields of the line. UAX #44,
+-- section 4.2, and the heads of the files. The number of fields (G03) comes first, then the fields in order.
 --
--- value_or_fault fs       PropList.txt, Scripts.txt, WordBreakProperty.txt: the span (G04), the value (G11)
--- exclusion_or_fault fs   CompositionExclusions.txt: the span (G04)
--- fold_or_fault fs        CaseFolding.txt: the code point (G04), the status (G08), the mapping (G07); a fourth field that is not empty is G03
--- casing_or_fault fs      SpecialCasing.txt: the code point (G04), three mappings (G07), the conditions (G11); a sixth field likewise
--- alias_or_fault least fs   PropertyAliases.txt and PropertyValueAliases.txt: the first name, and the others (G11)
+-- is_empty bs                there is no byte
+-- value_or_fault fs          PropList.txt, Scripts.txt, WordBreakProperty.txt: the span (G04), the value (G11)
+-- exclusion_or_fault fs      CompositionExclusions.txt: the span (G04)
+-- has_fold_fields fs         three fields, or four of which the fourth is empty
+-- folds_to status n          a folding of the status has n code points: one for C and S, one or more for F and T
+-- of_status status mapping   the mapping where it has as many code points as the status has, else None
+-- fold_or_fault fs           CaseFolding.txt: the code point (G04), the status (G08), the mapping (G07); a fourth field that is
+--                            not empty is G03
+-- has_casing_fields fs       four to six fields; the sixth, where there is one, is empty
+-- casing_or_fault fs         SpecialCasing.txt: the code point (G04), three mappings (G07), the conditions (G11); a sixth field
+--                            that is not empty is G03
+-- names_of fs                the fields, where each is a name or empty, else None
+-- alias_or_fault least fs    PropertyAliases.txt and PropertyValueAliases.txt: the first name, and the others (G11)
 use Rattle.std.specs.Prelude.{ℕ, Bool, true, false, ◌&&◌, ◌||◌, List, [], ◌∷◌, length, Option, Some, None, Result, Ok, Err, ◌==◌, nat_le, nat_lt, if◌then◌else◌}
 use Rattle.std.specs.List.{list_all}
 use Rattle.ucd_model.specs.Names.{status_of}

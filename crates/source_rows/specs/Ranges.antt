@@ -1,12 +1,15 @@
 -- What a first line of a range says of the fault of two lines. UAX #44, section 4.2.3.
 --
--- OwnFieldsRead fs        code, name and values of the first line are read
--- NoEnd lo hi             the last line's code is no code point, or below the first one's
--- PairFaults fs last given   of two lines whose first one is read: G09 exactly where the last one is not that of the
---                         label, so that it is the first line's; G04 exactly where the last line's code is no end, so
---                         that it is the last line's; no other fault
--- FirstLinesBegin         a first line by itself is no row. Where it has G09, its own fields are read, and the two lines
---                         have `PairFaults`; any other fault of it is the fault of the two lines
+-- OwnFieldsRead fs                code, name and values of the first line are read
+-- NoEnd lo hi                     the last line's code is no code point, or below the first one's
+-- PairFaults fs last given        of two lines whose first one is read: G09 exactly where the last one is not that of the label,
+--                                 so that it is the first line's; G04 exactly where the last line's code is no end, so that it is
+--                                 the last line's; no other fault
+-- FirstLine fs last alone given   what is found of a first line alone and of the two lines, by their fields: alone it is no row;
+--                                 where alone it has G09, OwnFieldsRead and PairFaults; any other fault of it is that of the two
+--                                 lines
+-- FirstLinesBegin                 a first line by itself is no row. Where it has G09, its own fields are read, and the two lines
+--                                 have `PairFaults`; any other fault of it is the fault of the two lines
 use Rattle.std.specs.Prelude.{◌≡◌, ◌≢◌, ◌⊎◌, ◌↔◌, ℕ, ◌<◌, true, false, List, ◌∷◌, ◌++◌, Option, Some, None, Result, Ok, Err, IsSome, IsOk}
 use Rattle.ucd_model.specs.Lines.{holds_line_feed, without_return}
 use Rattle.ucd_model.specs.Fields.{fields, field, point_of, is_name}

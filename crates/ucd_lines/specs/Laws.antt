@@ -1,21 +1,23 @@
 -- Laws of lines and code points.
 --
--- ItemsJoin              contents and endings put together give the text, for every text
--- EmptyTextHasNoLine     the empty text has no line
--- NoLineFeedInside       no content holds a LF
--- OnlyTheLastIsUnended   a line that another one follows has an ending; a content without an ending is not empty
--- EndingsAreToldApart    a content that LF alone ends does not end in CR
--- AreLines items         each line keeps the three laws above, with the lines behind it
--- LinesAreUnique         lines that keep these laws are the lines of what they give put together, so that a text has no others
--- ContentsAreItems       the contents of the lines are `contents`
--- HexReadsPutHex         what a code point is written in spells that code point
+-- HasItem bytes front item rest   the text has this line, behind the lines of front and before those of rest
+-- ItemsJoin                       contents and endings put together give the text, for every text
+-- EmptyTextHasNoLine              the empty text has no line
+-- NoLineFeedInside                no content holds a LF
+-- OnlyTheLastIsUnended            a line that another one follows has an ending; a content without an ending is not empty
+-- EndingsAreToldApart             a content that LF alone ends does not end in CR
+-- IsLine item rest                the line keeps the three laws above, with the lines behind it
+-- AreLines items                  each of the lines does; no lines do
+-- LinesAreUnique                  lines that keep these laws are the lines of what they give put together, so that a text has no
+--                                 others
+-- ContentsAreItems                the contents of the lines are `contents`
+-- HexReadsPutHex                  what a code point is written in spells that code point
 use Rattle.std.specs.Prelude.{◌≡◌, ◌≢◌, ℕ, ◌<◌, false, List, [], ◌∷◌, ◌++◌, map, Some}
 use Rattle.std.specs.List.{list_any}
 use Rattle.ucd_model.specs.Lines.{LineItem, unended, lf, is_lf, ends_in_return, contents, items_of, joined}
 use Rattle.ucd_model.specs.Fields.{point_of}
 use Rattle.ucd_model.specs.DerivedText.{hex_text}
 
--- the text has this line, behind the lines of front and before those of rest
 abbrev pub HasItem : List ℕ → List LineItem → LineItem → List LineItem → Type 0
 HasItem bytes front item rest = items_of bytes ≡ front ++ item ∷ rest
 
@@ -34,7 +36,6 @@ OnlyTheLastIsUnended = (bytes : List ℕ) (front : List LineItem) (item : LineIt
 abbrev pub EndingsAreToldApart : Type 0
 EndingsAreToldApart = (bytes : List ℕ) (front : List LineItem) (item : LineItem) (rest : List LineItem) → HasItem bytes front item rest → item.ending ≡ lf → ends_in_return item.content ≡ false
 
--- a line, and the lines behind it
 pub record IsLine (item : LineItem) (rest : List LineItem) : Type 0 where
   pub no_line_feed : list_any is_lf item.content ≡ false
   pub last : item.ending ≡ unended → (rest ≡ []) × (item.content ≢ [])

@@ -1,8 +1,12 @@
--- The laws of primary composites.
+-- The laws of primary composites. The Unicode Standard, section 3.11, D114.
 --
 -- Composes F s y q   q is a primary composite with the mapping s y
 -- IsPair F s y r     r is the least such q; None, and there is none
 -- IsSecond F y       y is the second member of some primary composite's mapping
+--
+-- PairIsLeast        the pair of s and y is the least primary composite with their mapping; None, and there is none
+-- PairIsOnly         and nothing else is: whatever is so is the pair of s and y
+-- SecondIsExact      y is told to be a second member exactly where it is that of some primary composite's mapping
 use Rattle.std.specs.Prelude.{◌≡◌, ℕ, ◌<◌, true, [], ◌∷◌, Option, Some, None, ◌↔◌}
 use Rattle.ucd_model.specs.Limits.{point_count}
 use Rattle.ucd_model.specs.Facts.{Facts}
@@ -20,11 +24,9 @@ IsPair F s y (Some q) = Composes F s y q × ((lesser : ℕ) → lesser < q → �
 abbrev pub IsSecond : (ℕ → Facts) → ℕ → Type 0
 IsSecond F y = (s : ℕ) × (q : ℕ) × Composes F s y q
 
--- the pair is the least primary composite with the mapping, where there is one
 abbrev pub PairIsLeast : Type 0
 PairIsLeast = (F : ℕ → Facts) (s y : ℕ) → IsPair F s y (pair_of F s y)
 
--- and nothing else is
 abbrev pub PairIsOnly : Type 0
 PairIsOnly = (F : ℕ → Facts) (s y : ℕ) (r : Option ℕ) → IsPair F s y r → pair_of F s y ≡ r
 

@@ -1,4 +1,12 @@
 -- Proofs of the laws of primary composites, over the points below a variable bound.
+--
+-- pair_is_least, pair_is_only, second_is_exact   the laws of the same names
+-- find_first        where q, below n, passes a test and no number below q does, the search among the numbers below n finds q
+-- find_none_below   where no number below n passes, it finds none
+-- pair_of_first     where q composes s and y and no number below q does, the pair of s and y is q
+-- pair_of_none      where no code point composes them, they have no pair
+-- second_of_some    where y is the second member of a composite's mapping, second_of tells so
+-- second_of_none    where y is that of no composite's mapping, second_of is false
 use Rattle.std.proofs.Common.{◌≡◌, ℕ, zero, suc, ◌+◌, ◌<◌, ◌≤◌, Bool, true, false, cond, ◌&&◌, ◌||◌, ◌==◌, List, [], ◌∷◌, Option, Some, None, find, refl, ap, ◌∙◌, arith, ◌⊎◌, inl, inr}
 use Rattle.std.specs.List.{list_any, range_with_len}
 use Rattle.std.proofs.lemmas.Bool.Decides.{nat_tests}

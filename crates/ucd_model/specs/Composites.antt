@@ -1,13 +1,18 @@
 -- Primary composites. The Unicode Standard, section 3.11, D110 to D114; UAX #15, section 5.
 --
 -- F is the facts of each code point.
--- primary F q        q is a primary composite: its mapping is canonical and has two members, q and the first member
---                    have class 0, and q is not excluded
--- composes F s y q   q is a primary composite with the mapping s y
--- ends_with F y q    q is a primary composite whose mapping has y as its second member
--- pair_below n F s y, second_below n F y   pair_of and second_of, among the points below n
--- pair_of F s y      the least primary composite with the mapping s y; None where there is none
--- second_of F y      whether some primary composite's mapping has y as its second member
+-- is_canonical kind          the kind of the mapping is Canonical
+-- first_has_class_zero F m   m has two members, and the first has class 0
+-- primary F q                q is a primary composite: its mapping is canonical and has two members, q and the first member have
+--                            class 0, and q is not excluded
+-- is_pair s y m              the mapping m has two members, s and y
+-- is_second y m              the mapping m has two members, and the second is y
+-- composes F s y q           q is a primary composite with the mapping s y
+-- ends_with F y q            q is a primary composite whose mapping has y as its second member
+-- pair_below n F s y         pair_of among the points below n
+-- second_below n F y         second_of among the points below n
+-- pair_of F s y              the least primary composite with the mapping s y; None where there is none
+-- second_of F y              whether some primary composite's mapping has y as its second member
 use Rattle.std.specs.Prelude.{ℕ, Bool, true, false, ◌&&◌, not, List, [], ◌∷◌, Option, ◌==◌, find}
 use Rattle.std.specs.List.{list_any, range_with_len}
 use Rattle.ucd_model.specs.Limits.{point_count}

@@ -1,10 +1,11 @@
 -- Which lines of UnicodeData.txt stand for which rows. UAX #44, section 5.7, table 9.
 --
--- SpellsDecomposition bs kind cs   field 5: no bytes; a mapping of one or two code points; or a tag and, with white
---                                  space between or not, a mapping of one or more. UAX #44, section 5.7.3
--- ReadsValues fs row    fields 2 to 14, the same for a single line and the first line of a range
--- ReadsSingle fs row    one line with a name that is not that of a range
--- ReadsPair first last row   the lines `<Label, First>` and `<Label, Last>`; of the last one the code and the name are read
+-- SpellsDecomposition bs kind cs   field 5: no bytes; a mapping of one or two code points; or a tag and, with white space between
+--                                  or not, a mapping of one or more. UAX #44, section 5.7.3
+-- kept_of fs                       fields 4 and 6 to 11, which are kept as they stand; no bytes for a field that is not there
+-- ReadsValues fs row               fields 2 to 14, the same for a single line and the first line of a range
+-- ReadsSingle fs row               one line with a name that is not that of a range
+-- ReadsPair first last row         the lines `<Label, First>` and `<Label, Last>`; of the last one the code and the name are read
 use Rattle.std.specs.Prelude.{◌≡◌, ℕ, ◌<◌, ◌≤◌, true, false, List, [], ◌++◌, length, Some, codes}
 use Rattle.ucd_model.specs.Names.{category_of, tag_text}
 use Rattle.ucd_model.specs.Fields.{field, point_of, is_name, is_range_name, class_of, case_of}
@@ -19,7 +20,6 @@ SpellsDecomposition bs Plain cs = (bs ≡ []) × (cs ≡ [])
 SpellsDecomposition bs Canonical cs = SpellsMapping bs cs × (0 < length cs) × (length cs ≤ 2)
 SpellsDecomposition bs (Compat tag) cs = (rest : List ℕ) × (bs ≡ tag_text tag ++ rest) × SpellsMapping rest cs × (0 < length cs)
 
--- the fields that are kept as they stand
 abbrev pub kept_of : List (List ℕ) → Kept
 kept_of fs = record { f4 = field fs 4; f6 = field fs 6; f7 = field fs 7; f8 = field fs 8; f9 = field fs 9; f10 = field fs 10; f11 = field fs 11 }
 

@@ -1,20 +1,28 @@
 -- The derived files, over the records of the code points. The files, properties and values are those of UAX #44,
 -- section 5.3; their text is this project's own.
 --
--- Section             a name, and the label of a record in it: None for the default value, which is not listed
--- listed value        the label ` ; VALUE`
--- core_listing p      the points that have the core property p, each with its name
--- category_listing    General_Category by its two letters; default Cn
--- class_listing       Canonical_Combining_Class in decimal; default 0
--- type_listing        Decomposition_Type: `canonical`, or the tag without its brackets; default none
--- binary_label name b  the label of a point that has the property of that name, where b holds
--- exclusion_listing, changes_listing   the points with Full_Composition_Exclusion, and with Changes_When_NFKC_Casefolded
+-- Section                    a name, and the label of a record in it: None for the default value, which is not listed
+-- listed value               the label ` ; VALUE`
+-- binary_label name b        the label of a point that has the property of that name, where b holds
+-- core_listing p             the points that have the core property p, each with its name
+-- category_label k           the two letters of the category; None for Cn
+-- category_listing           General_Category by its two letters; default Cn
+-- class_label n              the class in decimal; None for 0
+-- class_listing              Canonical_Combining_Class in decimal; default 0
+-- kind_label kind            `canonical`, or the tag without its brackets; None for Plain
+-- type_listing               Decomposition_Type by that label; default none
+-- exclusion_listing          the points with Full_Composition_Exclusion
+-- quick_label name value     the name with N or M; None for Yes
 -- quick_listing name value   the points whose quick check is No or Maybe, with the name and N or M; default Yes
--- casefold_listing    NFKC_CF, with the name and the mapping, which may be empty; default the point itself
--- file_sections file  the sections of a file, in order
--- derived_files       the files that are written, in order
--- section_of n R s    the text of a section, over the records R of the points below n
--- derived_text n file R   the text of a file
+-- casefold_label i           NFKC_CF and the mapping, nothing behind the last `;` where it is empty; None for Same
+-- casefold_listing           NFKC_CF, with the name and the mapping, which may be empty; default the point itself
+-- changes_listing            the points with Changes_When_NFKC_Casefolded
+-- normalization_listings     the sections of DerivedNormalizationProps.txt: exclusion, the checks of NFD, NFC, NFKD and NFKC,
+--                            NFKC_CF, changes
+-- file_sections file         the sections of a file, in order
+-- derived_files              the files that are written, in order
+-- section_of n R s           the text of a section, over the records R of the points below n
+-- derived_text n file R      the text of a file
 use Rattle.std.specs.Prelude.{ℕ, Bool, List, [], ◌∷◌, ◌++◌, Some, None, map, ◌==◌, if◌then◌else◌, codes}
 use Rattle.std.specs.List.{flat_map}
 use Rattle.std.specs.Fmt.{decimal}

@@ -1,8 +1,12 @@
 -- The text of the derived files. The files are those of UAX #44, section 5.3; their text is this project's own.
 --
--- hex_text c        the hexadecimal digits of a code point in upper case: four, from 10000 on five, from 100000 on six
--- span_text s       one code point, or the first and the last joined by `..`
--- section_text name n f  `# NAME`, a line for each span with its label behind it, `# total N`, and an empty line
+-- hex_digit d             the byte of the hexadecimal digit that is worth d, below 16, in upper case
+-- four_digits c           the digits of c that are worth 4096, 256, 16 and 1; what is above them is left out
+-- hex_text c              the hexadecimal digits of a code point in upper case: four, from 10000 on five, from 100000 on six
+-- span_text s             one code point, or the first and the last joined by `..`
+-- line_end                LF
+-- span_line s             the line of a span: its text, its label, LF
+-- section_text name n f   `# NAME`, a line for each span with its label behind it, `# total N`, and an empty line
 use Rattle.std.specs.Prelude.{ℕ, ◌+◌, ◌/◌, ◌%◌, List, [], ◌∷◌, ◌++◌, ◌==◌, nat_lt, if◌then◌else◌, codes}
 use Rattle.std.specs.List.{flat_map}
 use Rattle.std.specs.Fmt.{decimal}
@@ -12,7 +16,6 @@ use Rattle.ucd_model.specs.Labels.{Label, LabelSpan, label_spans, labelled}
 abbrev pub hex_digit : ℕ → ℕ
 hex_digit d = if nat_lt d 10 then 48 + d else 55 + d
 
--- the digits that are worth 4096, 256, 16 and 1
 abbrev pub four_digits : ℕ → List ℕ
 four_digits c = hex_digit (c / 4096 % 16) ∷ hex_digit (c / 256 % 16) ∷ hex_digit (c / 16 % 16) ∷ hex_digit (c % 16) ∷ []
 
@@ -25,7 +28,6 @@ span_text s = if s.lo == s.hi then hex_text s.lo else hex_text s.lo ++ codes "..
 abbrev pub line_end : List ℕ
 line_end = 10 ∷ []
 
--- a line for each span
 abbrev pub span_line : LabelSpan → List ℕ
 span_line s = span_text s.bounds ++ s.label ++ line_end
 

@@ -1,15 +1,17 @@
 -- Full decompositions, before they are put in order. UAX #15, section 1.3; The Unicode Standard, section 3.7, Decomposition.
 --
 -- F is the facts of each code point, and `compat` says whether compatibility mappings count.
--- counts compat kind     a mapping of this kind counts: a canonical one always, a compatibility one where compat holds
--- counted F compat c     the mapping of c where it counts, else none
--- joined f xs            f of the members, joined in order; None where it is None of one of them
--- expand F compat n c    with n levels left: None for n = 0; c alone where no mapping of it counts;
---                        else the expansions of the mapping's members with n - 1 levels, joined
--- full F compat c        the expansion with 8 levels, so along chains of at most 7 mappings (real releases need 3)
--- judged expansion       V2 where there is none; V3 where it has more than 64 points (NFKD of FDFA has 18)
--- expansion F compat c   the full expansion of c, or the rule that c breaks
--- FormAnswers r value    r is the value, or the rule in its place; want of memory says nothing
+-- counts compat kind      a mapping of this kind counts: a canonical one always, a compatibility one where compat holds
+-- counted F compat c      the mapping of c where it counts, else none
+-- both a b                the list a and behind it b; None where one of them is None
+-- joined f xs             f of the members, joined in order; the empty list for no members; None where it is None of one of them
+-- alone_or_joined c m f   c alone where the mapping m has no members; else f of its members, joined
+-- expand F compat n c     with n levels left: None for n = 0; c alone where no mapping of it counts; else the expansions of the
+--                         mapping's members with n - 1 levels, joined
+-- full F compat c         the expansion with 8 levels, so along chains of at most 7 mappings (real releases need 3)
+-- judged expansion        V2 where there is none; V3 where it has more than 64 points (NFKD of FDFA has 18)
+-- expansion F compat c    the full expansion of c, or the rule that c breaks
+-- FormAnswers r value     r is the value, or the rule in its place; want of memory says nothing
 use Rattle.std.specs.Prelude.{◌≡◌, ℕ, zero, suc, Bool, true, false, List, [], ◌∷◌, ◌++◌, length, nat_lt, Option, Some, None, Result, Ok, Err, if◌then◌else◌, ⊤}
 use Rattle.ucd_model.specs.Facts.{Facts}
 use Rattle.ucd_model.specs.declared.decomposition.Kind.{Kind}

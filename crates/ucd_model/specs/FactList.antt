@@ -1,7 +1,8 @@
 -- Facts that are kept in a list.
 --
--- kept_facts k        the facts that a value keeps
--- facts_in entries c  the facts of c: those of the first entry of c, and without one those of no row
+-- kept_facts k                  the facts that a value keeps
+-- facts_or_unassigned c entry   the facts of the entry that was found; where there is none, those of c without a row
+-- facts_in entries c            the facts of c: those of the first entry of c, and without one those of no row
 use Rattle.std.specs.Prelude.{ℕ, List, Option, Some, None, ◌==◌, find}
 use Rattle.ucd_model.specs.Facts.{Facts, unassigned}
 use Rattle.ucd_model.specs.Sets.{has_flag}

@@ -1,34 +1,66 @@
 -- The facts of a code point, found by looking through the plain list of rows. UAX #44, sections 5.3, 5.6 and 5.7;
 -- The Unicode Standard, sections 3.12 (Hangul) and 5.18 (case mappings).
 --
--- Sources                  the rows of a release, file by file
--- facts rows c             the facts of c: those that the rows give, and past 10FFFF those of an unassigned point
--- given rows c             what the rows give; given_by: what the row that covers c and the casing row give, with the other files
--- unassigned c             no row: Cn, class 0, no mapping, and every image the point itself
+-- Sources                          the rows of a release, file by file
+-- Facts                            what is known of one code point: its category, class and mapping, its images, its properties
+--                                  of PropList.txt, and whether it is assigned, a mid-word point, and excluded from composition
+-- facts rows c                     the facts of c: those that the rows give, and past 10FFFF those of an unassigned point
+-- given rows c                     what the rows give
+-- given_by c row casing rows       the same, from the row of UnicodeData.txt and that of SpecialCasing.txt that were found, None
+--                                  where there is none, with the rows of the other files
+-- unassigned c                     no row: Cn, class 0, no mapping, no property, and every image the point itself
+-- within c s                       c lies in the span s: not below its first code point, and not above its last
 --
 -- UnicodeData.txt
--- data_row rows c          the first row that covers c
--- category_in row          its category, else Cn; class_in: its class, else 0
--- kind_in c row            its kind, else Plain; a Hangul syllable without a mapping of its own is Canonical
--- mapping_in c row         its mapping, else none; a Hangul syllable without a mapping of its own has hangul_mapping
--- hangul_mapping c         LV and T, or L and V where there is no T. The Unicode Standard, section 3.12
--- upper_in lower_in c row  its simple mapping, else c; title_in: its simple title mapping, else upper_in
+-- is_data_of c row                 a row of UnicodeData.txt that covers c; no row of another file does
+-- data_in row                      the row that was found, as one of UnicodeData.txt; None where there is none, and for a row of
+--                                  another file
+-- data_row rows c                  the first row that covers c; None where none does
+-- category_in row                  its category, else Cn
+-- class_in row                     its class, else 0
+-- is_plain kind                    the kind is Plain: there is no mapping
+-- is_hangul_syllable c             c lies from AC00 to D7A3
+-- maps_by_rule c row               c is a Hangul syllable, and its row has no mapping of its own: field 5 is empty
+-- kind_in c row                    the kind of the row, else Plain; a Hangul syllable without a mapping of its own is Canonical
+-- mapping_in c row                 its mapping, else none; a Hangul syllable without a mapping of its own has hangul_mapping
+-- hangul_mapping c                 of a Hangul syllable, LV and T, or L and V where there is no T. The Unicode Standard,
+--                                  section 3.12
+-- s_base, l_base, v_base, t_base   AC00, the first syllable; 1100, the first leading consonant; 1161, the first vowel; and 11A7,
+--                                  one before the first ending
+-- t_count, n_count                 28, the endings with none among them; 588, the syllables of one leading consonant
+-- upper_in c row                   its simple upper mapping, else c
+-- lower_in c row                   its simple lower mapping, else c
+-- title_in c row                   its simple title mapping, else upper_in; c where there is no row
 --
 -- SpecialCasing.txt
--- casing_row rows c        the first row of c without conditions
--- image c points           the image of c: Same where points is c alone
--- image_points c i         the points of an image of c: c alone for Same
--- full_upper c simple row  the image under the row's mapping, else under the simple mapping; so full_lower, full_title
+-- is_casing_of c row               a row of SpecialCasing.txt of c without conditions
+-- casing_in row                    the row that was found, as one of SpecialCasing.txt; None where there is none, and for a row
+--                                  of another file
+-- casing_row rows c                the first row of c without conditions; None where there is none
+-- image c points                   the image of c: Same where points is c alone, else To points
+-- image_points c i                 the points of an image of c: c alone for Same
+-- full_upper c simple row          the image under the row's upper mapping; where there is no row, under the simple mapping
+-- full_lower c simple row          the same of the lower mapping
+-- full_title c simple row          the same of the title mapping
 --
 -- CaseFolding.txt
--- folding rows status c    the mapping of the first row of c with that status
--- full_folding rows c      that of F, else that of C, else c alone
--- simple_folding rows c    the one point of S, else that of C, else c
+-- status_place s                   the place of a status in the order C F S T, counted from 0
+-- is_folding_of s c row            a row of CaseFolding.txt of c with the status s
+-- folding_in row                   the mapping of the row that was found; None where there is none, and for a row of another file
+-- folding rows status c            the mapping of the first row of c with that status; None where there is none
+-- full_folding rows c              that of F, else that of C, else c alone
+-- only_or c points                 the first of the points, which is the one point of a mapping of status C or S; c where there
+--                                  is none
+-- simple_folding rows c            the one point of S, else that of C, else c
 --
 -- Other files
--- flag_at rows f c         whether a row of PropList.txt with exactly the name of f covers c
--- mid_word_at rows c       whether the Word_Break value of c is one of mid_word_values
--- excluded_at rows c       whether a row of CompositionExclusions.txt covers c
+-- gives_value value c row          a row with exactly this value that covers c: of PropList.txt, Scripts.txt or
+--                                  WordBreakProperty.txt
+-- flag_at rows f c                 whether some row of PropList.txt with exactly the name of f covers c
+-- mid_word_values                  the values of Word_Break in the middle of a word: MidLetter, MidNumLet and Single_Quote
+-- mid_word_at rows c               whether the Word_Break value of c is one of them: some row with such a value covers c
+-- excludes c row                   a row of CompositionExclusions.txt that covers c
+-- excluded_at rows c               whether some row of CompositionExclusions.txt covers c
 use Rattle.std.specs.Prelude.{ℕ, ◌+◌, ◌-◌, ◌/◌, ◌%◌, Bool, true, false, ◌&&◌, List, [], ◌∷◌, Option, Some, None, is_some, unwrap_or, nat_lt, nat_le, ◌==◌, if◌then◌else◌, find, codes}
 use Rattle.std.specs.List.{list_any}
 use Rattle.std.specs.Str.{bytes_eq}
@@ -77,7 +109,6 @@ within c s = nat_le s.lo c && nat_le c s.hi
 
 -- ---- UnicodeData.txt
 
--- a row of UnicodeData.txt that covers c
 abbrev pub is_data_of : ℕ → Row → Bool
 is_data_of c (DataLine row) = within c row.span
 is_data_of c _ = false
@@ -131,7 +162,6 @@ abbrev pub is_plain : Kind → Bool
 is_plain Plain = true
 is_plain _ = false
 
--- a Hangul syllable whose row has an empty field 5
 abbrev pub maps_by_rule : ℕ → DataRow → Bool
 maps_by_rule c row = is_hangul_syllable c && is_plain row.kind
 
@@ -164,7 +194,6 @@ abbrev pub image_points : ℕ → Image → List ℕ
 image_points c Same = c ∷ []
 image_points c (To points) = points
 
--- a row of SpecialCasing.txt of c without conditions
 abbrev pub is_casing_of : ℕ → Row → Bool
 is_casing_of c (CasingLine row) = (row.code == c) && bytes_eq row.conditions []
 is_casing_of c _ = false
@@ -190,14 +219,12 @@ full_title c simple None = image c (simple ∷ [])
 
 -- ---- CaseFolding.txt
 
--- the place of a status in the order C F S T
 abbrev pub status_place : FoldStatus → ℕ
 status_place status.C = 0
 status_place status.F = 1
 status_place status.S = 2
 status_place status.T = 3
 
--- a row of CaseFolding.txt of c with this status
 abbrev pub is_folding_of : FoldStatus → ℕ → Row → Bool
 is_folding_of s c (FoldLine row) = (row.code == c) && (status_place row.status == status_place s)
 is_folding_of s c _ = false
@@ -212,7 +239,6 @@ folding rows s c = folding_in (find (is_folding_of s c) rows)
 abbrev pub full_folding : List Row → ℕ → List ℕ
 full_folding rows c = unwrap_or (folding rows status.F c) (unwrap_or (folding rows status.C c) (c ∷ []))
 
--- the one point of a mapping of status C or S
 abbrev pub only_or : ℕ → List ℕ → ℕ
 only_or c (d ∷ _) = d
 only_or c [] = c
@@ -222,7 +248,6 @@ simple_folding rows c = only_or c (unwrap_or (folding rows status.S c) (unwrap_o
 
 -- ---- PropList.txt, WordBreakProperty.txt, CompositionExclusions.txt
 
--- a row with this value that covers c
 abbrev pub gives_value : List ℕ → ℕ → Row → Bool
 gives_value value c (ValueLine row) = bytes_eq row.value value && within c row.span
 gives_value value c _ = false
@@ -236,7 +261,6 @@ mid_word_values = codes "MidLetter" ∷ codes "MidNumLet" ∷ codes "Single_Quot
 abbrev pub mid_word_at : List Row → ℕ → Bool
 mid_word_at rows c = list_any (λ value. list_any (gives_value value c) rows) mid_word_values
 
--- a row of CompositionExclusions.txt that covers c
 abbrev pub excludes : ℕ → Row → Bool
 excludes c (ExclusionLine row) = within c row.span
 excludes c _ = false

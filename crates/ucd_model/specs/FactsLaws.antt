@@ -1,17 +1,21 @@
 -- The laws of the facts of code points.
 --
--- IsLV l v c       c is the Hangul syllable of the leading consonant l and the vowel v. The Unicode Standard, section 3.12
--- IsLVT lv t c     c is the syllable of the syllable lv, which has no ending, and the ending t
+-- IsLV l v c           c is the Hangul syllable of the leading consonant l and the vowel v. The Unicode Standard, section 3.12
+-- IsLVT lv t c         c is the syllable of the syllable lv, which has no ending, and the ending t
+--
+-- ImageIsSame          an image is Same exactly where a code point is mapped to itself alone
+-- ImageIsOther         and else it holds what the code point is mapped to
+-- HangulComposesBack   the mapping of a Hangul syllable composes to the syllable: it is its consonant and vowel, or the syllable
+--                      without an ending and its ending. The Unicode Standard, section 3.12
+-- FactsAreCut          a number past the code points has the facts of a code point without a row
 use Rattle.std.specs.Prelude.{◌≡◌, ℕ, ◌+◌, ◌-◌, ◌*◌, ◌%◌, ◌<◌, ◌≤◌, List, [], ◌∷◌, ◌↔◌, ◌⊎◌, true}
 use Rattle.ucd_model.specs.Limits.{point_count}
 use Rattle.ucd_model.specs.Facts.{Sources, facts, unassigned, image, is_hangul_syllable, hangul_mapping}
 use Rattle.ucd_model.specs.declared.image.Image.TheVariants.{Same, To}
 
--- an image is Same exactly where a code point is mapped to itself alone
 abbrev pub ImageIsSame : Type 0
 ImageIsSame = (c : ℕ) (points : List ℕ) → (image c points ≡ Same) ↔ (points ≡ c ∷ [])
 
--- and else it holds what the code point is mapped to
 abbrev pub ImageIsOther : Type 0
 ImageIsOther = (c : ℕ) (points : List ℕ) → ¬ (points ≡ c ∷ []) → image c points ≡ To points
 
@@ -31,11 +35,9 @@ pub record IsLVT (lv t c : ℕ) : Type 0 where
   pub ending_below : t < 0x11A8 + 27
   pub is : c ≡ lv + (t - 0x11A7)
 
--- the mapping of a Hangul syllable composes to the syllable
 abbrev pub HangulComposesBack : Type 0
 HangulComposesBack = (c : ℕ) → is_hangul_syllable c ≡ true
     → ((l : ℕ) × (v : ℕ) × (hangul_mapping c ≡ l ∷ v ∷ []) × IsLV l v c) ⊎ ((lv : ℕ) × (t : ℕ) × (hangul_mapping c ≡ lv ∷ t ∷ []) × IsLVT lv t c)
 
--- a number past the code points has the facts of a code point without a row
 abbrev pub FactsAreCut : Type 0
 FactsAreCut = (rows : Sources) (c : ℕ) → point_count ≤ c → facts rows c ≡ unassigned c

@@ -1,4 +1,8 @@
 -- The facts of a code point and those of a number past them, and proofs of the laws of facts.
+--
+-- facts_inside    the facts of a code point are those that the rows give
+-- facts_outside   those of a number past them are those of no row: the law FactsAreCut
+-- image_is_same, image_is_other, hangul_composes_back   the laws of the same names
 use Rattle.std.proofs.Common.{◌≡◌, ℕ, ◌+◌, ◌-◌, ◌*◌, ◌/◌, ◌%◌, ◌<◌, ◌≤◌, Bool, true, false, ◌==◌, nat_lt, List, [], ◌∷◌, refl, ap, arith, inl, inr, ◌⊎◌}
 use Rattle.std.specs.Prelude.{if◌then◌else◌}
 use Rattle.std.specs.Str.{bytes_eq}

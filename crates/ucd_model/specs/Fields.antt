@@ -1,16 +1,48 @@
 -- What the fields of a line spell. UAX #44, section 4.2.
 --
--- fields file content   the fields of a line, each without white space around it; outside of UnicodeData.txt
---                       a comment, from the first `#` on, is no part of them
--- point_of bs           the code point that 4 to 6 hexadecimal digits spell, in either case;
---                       None for all other bytes, and above 10FFFF
--- SpellsSpan bs s       bs is one code point, or two joined by `..`, the first at most the second
--- span_of bs            that span, None where there is none
--- is_name bs            one or more bytes from 20 to 7E, without `;`
--- is_label_closed_by closing bs   `<`, a label that is a name, and the closing; label_of closing bs is that label
--- is_range_name bs      `<Label, First>` or `<Label, Last>`, with a label that is a name
--- class_of bs           the decimal number from 0 to 254 that one to three digits write; None for all other bytes
--- case_of bs            no bytes: there is none; a code point: that one; None for all other bytes
+-- trim_start bs               the bytes without the white space, space and tab, at their beginning
+-- trim_end bs                 the bytes without the white space at their end
+-- trim bs                     the bytes without white space at either end
+-- is_semicolon b, is_hash b   the byte is `;`, or `#`
+-- uncommented file content    what stands before the first `#`, all where there is none; of UnicodeData.txt the whole content
+-- fields file content         the fields of a line, cut at each `;`, each without white space around it; outside of
+--                             UnicodeData.txt a comment, from the first `#` on, is no part of them. No bytes have one empty field
+-- field fs n                  the field at a place, counted from 0; no bytes past the last
+--
+-- Code points
+-- digit_of b                  what a hexadecimal digit is worth, 0 to 9, A to F or a to f; None for all other bytes
+-- with_digit n d              the number with one more digit behind it; None where one of the two is
+-- hex_number bs               what hexadecimal digits write, from the left; 0 for no bytes; None where a byte is no digit
+-- if_point n                  the number where it is at most 10FFFF, else None
+-- point_of bs                 the code point that 4 to 6 hexadecimal digits spell, in either case; None for all other bytes, and
+--                             above 10FFFF
+--
+-- Spans
+-- is_dot b                    the byte is `.`
+-- SpellsOne bs s              bs is one code point, the first and the last of s
+-- SpellsTwo bs s              bs is two code points joined by `..`, the first at most the second, and s goes from one to the
+--                             other
+-- SpellsSpan bs s             bs is one code point, or two joined by `..`, the first at most the second
+-- one_point c                 the span of that code point alone; None where there is none
+-- two_points lo hi            the span from one to the other; None where one is None, and where the first is greater
+-- behind_dot bs               the code point behind a `.` at the beginning; None where there is no such byte, or no code point
+--                             behind it
+-- span_of bs                  that span, None where there is none
+--
+-- Names
+-- is_name_byte b              a byte from 20 to 7E other than `;`
+-- is_name bs                  one or more bytes from 20 to 7E, without `;`
+-- is_label_closed_by closing bs   `<`, a label that is a name, and the closing
+-- label_of closing bs         that label: bs without its first byte and without the bytes of the closing at its end
+-- is_range_name bs            `<Label, First>` or `<Label, Last>`, with a label that is a name
+--
+-- Numbers, and simple case mappings
+-- is_digit b                  a byte from `0` to `9`
+-- decimal_number bs           what decimal digits write, from the left; 0 for no bytes
+-- is_class bs                 one to three digits that write a number of at most 254
+-- class_of bs                 the decimal number from 0 to 254 that one to three digits write; None for all other bytes
+-- some_point c                a mapping to c, where bytes spell it; None where they spell no code point
+-- case_of bs                  no bytes: there is none; a code point: that one; None for all other bytes
 use Rattle.std.specs.Prelude.{◌≡◌, ◌⊎◌, ℕ, ◌+◌, ◌-◌, ◌*◌, ◌≤◌, Bool, false, ◌&&◌, ◌||◌, not, List, [], ◌∷◌, ◌++◌, length, take, drop, map, Option, Some, None, ◌==◌, nat_lt, nat_le, if◌then◌else◌, codes, fold}
 use Rattle.std.specs.List.{slice_split, prefix_len, suffix_len, before_first, after_first, position_or_len, list_all}
 use Rattle.std.specs.Str.{bytes_eq}
@@ -43,23 +75,19 @@ uncommented _ content = before_first is_hash content
 unfoldable pub fields : SourceFile → List ℕ → List (List ℕ)
 fields file content = map trim (slice_split is_semicolon (uncommented file content))
 
--- the field at a place, counted from 0; no bytes past the last
 abbrev pub field : List (List ℕ) → ℕ → List ℕ
 field [] n = []
 field (f ∷ fs) n = if n == 0 then f else field fs (n - 1)
 
 -- ---- code points
 
--- 0 to 9, A to F, a to f
 abbrev pub digit_of : ℕ → Option ℕ
 digit_of b = if nat_le 48 b && nat_le b 57 then Some (b - 48) else (if nat_le 65 b && nat_le b 70 then Some (b - 55) else (if nat_le 97 b && nat_le b 102 then Some (b - 87) else None))
 
--- with one more digit behind it
 abbrev pub with_digit : Option ℕ → Option ℕ → Option ℕ
 with_digit (Some n) (Some d) = Some (16 * n + d)
 with_digit _ _ = None
 
--- what hexadecimal digits write, from the left
 abbrev pub hex_number : List ℕ → Option ℕ
 hex_number bs = fold (λ n b. with_digit n (digit_of b)) (Some 0) bs
 
@@ -98,7 +126,6 @@ abbrev pub two_points : Option ℕ → Option ℕ → Option Bounds
 two_points (Some lo) (Some hi) = if nat_le lo hi then Some (record { lo = lo; hi = hi }) else None
 two_points _ _ = None
 
--- the code point behind a second dot
 abbrev pub behind_dot : List ℕ → Option ℕ
 behind_dot [] = None
 behind_dot (b ∷ bs) = if b == 46 then point_of bs else None
@@ -115,7 +142,6 @@ abbrev pub is_name : List ℕ → Bool
 is_name [] = false
 is_name (b ∷ bs) = list_all is_name_byte (b ∷ bs)
 
--- `<`, a label that is a name, and the closing
 unfoldable pub is_label_closed_by : List ℕ → List ℕ → Bool
 is_label_closed_by closing bs = (bytes_eq (take 1 bs) (codes "<") && bytes_eq (drop (length bs - length closing) bs) closing) && is_name (drop 1 (take (length bs - length closing) bs))
 
@@ -130,7 +156,6 @@ is_range_name bs = is_label_closed_by (codes ", First>") bs || is_label_closed_b
 abbrev pub is_digit : ℕ → Bool
 is_digit b = nat_le 48 b && nat_le b 57
 
--- what decimal digits write, from the left
 abbrev pub decimal_number : List ℕ → ℕ
 decimal_number bs = fold (λ n b. 10 * n + (b - 48)) 0 bs
 

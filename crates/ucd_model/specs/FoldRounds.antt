@@ -1,16 +1,20 @@
 -- NFKC_Casefold, by rounds of folding. The Unicode Standard, section 3.13, toNFKC_Casefold; UAX #44, table 9.
 --
 -- F is the facts of each code point.
--- drop_ignorable F s    s without its Default_Ignorable_Code_Points
--- short s               s, where it has at most 255 points (the longest result of a real release has 18); else None
--- short_nfkc F s        NFKC of s; None where there is none, and where it is too long
--- short_fold F s        the full folding of s without ignorable points; None where that is too long
--- round F s             a round: the NFKC of the short_fold of the NFKC of s; None where one of the three is
--- rounds F n s          n rounds one after the other, from s
--- is_last F c i         the list after i rounds from c alone is there, and one more round leaves it as it is
--- casefold F c          the list after the first such i from 0 to 7 (real releases need 0 or 1); None where there is no such i
--- casefold_image F c    NFKC_Casefold of c; V5 where there is none
--- image_or_same r       the image, and Same where there is a rule in its place
+-- drop_ignorable F s   s without its Default_Ignorable_Code_Points
+-- short s              s, where it has at most 255 points (the longest result of a real release has 18); else None
+-- short_form r         the list r where it is short; None where it is too long, and where r is a rule
+-- short_nfkc F s       NFKC of s; None where there is none, and where it is too long
+-- short_fold F s       the full folding of s without ignorable points; None where that is too long
+-- round F s            a round: the NFKC of the short_fold of the NFKC of s; None where one of the three is
+-- rounds F n s         n rounds one after the other, from s
+-- is_list s r          r is the list s; never where it is None
+-- is_fixed F r         r is a list that one more round leaves as it is; never where it is None
+-- is_last F c i        the list after i rounds from c alone is there, and one more round leaves it as it is
+-- casefold F c         the list after the first such i from 0 to 7 (real releases need 0 or 1); None where there is no such i
+-- image_or_rule c r    the image of c under the list r; V5 where there is none
+-- casefold_image F c   NFKC_Casefold of c; V5 where there is none
+-- image_or_same r      the image, and Same where there is a rule in its place
 use Rattle.std.specs.Prelude.{ℕ, zero, suc, Bool, true, false, not, List, [], ◌∷◌, length, nat_le, Option, Some, None, Result, Ok, Err, filter, find, if◌then◌else◌}
 use Rattle.std.specs.List.{range_with_len}
 use Rattle.std.specs.Option.{option_and_then}

@@ -1,7 +1,9 @@
 -- Which bytes stand for which rows. UAX #44, sections 4.2 and 5.3.
 --
--- ReadsLine file content row   a line's content stands for the row, by the fields of the line
+-- ReadsLine file content row   a line's content stands for the row, by the fields of the line; never for a row of another file's
+--                              kind
 -- ReadsRange bytes row         two lines of UnicodeData.txt, LF or CR LF between them, stand for a range
+-- IsRange file bytes row       the same of any file: none but UnicodeData.txt has ranges
 -- Reads file bytes row         the bytes are such a line, without a LF, or such two lines
 use Rattle.std.specs.Prelude.{◌≡◌, ◌⊎◌, ℕ, false, List, ◌∷◌, ◌++◌}
 use Rattle.ucd_model.specs.Lines.{holds_line_feed, without_return}

@@ -1,4 +1,7 @@
 -- Proofs of the laws of the text of code points and spans. No word but those of the laws is defined here.
+--
+-- hex_text_has_four_to_six_digits, hex_text_has_no_spare_digit, hex_text_is_upper_case, hex_text_spells_its_number,
+-- hex_text_spells_its_point, span_text_spells_its_span   the laws of the same names
 use Rattle.std.proofs.Common.{◌≡◌, ◌≢◌, ℕ, ◌+◌, ◌-◌, ◌*◌, ◌/◌, ◌%◌, ◌<◌, ◌≤◌, true, false, cond, List, [], ◌∷◌, ◌++◌, length, get_or, drop, Some, nat_lt, refl, sym, ap, subst, ◌∙◌, arith, inl, inr, slice_get, nat_le, fold}
 use Rattle.std.specs.List.{AllByRecursion, position_or_len, before_first, after_first}
 use Rattle.std.proofs.lemmas.List.Elements.{All-from_recursion}

@@ -1,5 +1,14 @@
 -- How the maximal spans grow, run by run. A run is a stretch of numbers with one label, before which another label
 -- stands or none.
+--
+-- same_label-true       a label is the same as itself
+-- IsRun n f at end      the numbers from `at` to before `end`, one or more and all below n, have the label of `at`; the one
+--                       before `at` has not, and where `end` is below n, `end` has not
+-- spans_before n f m    the spans that begin before m, each up to its end below n
+-- labelled_before f m   how many numbers before m have a label
+-- span_end_run          the span from the beginning of a run ends at its last number
+-- run_plain             where a run without a label ends, no more spans have begun, and no more numbers have a label
+-- run_labelled          a run with a label is one more span, and as many more numbers with a label as it has
 use Rattle.std.proofs.Common.{◌≡◌, ℕ, zero, suc, ◌+◌, ◌-◌, ◌<◌, ◌≤◌, Bool, true, false, cond, ◌&&◌, not, List, [], ◌∷◌, ◌++◌, length, get_or, map, filter, Some, None, is_some, unwrap_or, count_by, refl, sym, ap, ◌∙◌, arith, inl, inr}
 use Rattle.std.specs.List.{range_with_len, prefix_len}
 use Rattle.std.proofs.lemmas.List.{append-nil, map-append, map-id}
@@ -60,7 +69,6 @@ count_all p a (suc j) h =
 
 -- ---- a run
 
--- the numbers from `at` to before `end` have the label of `at`; the one before `at` and the one at `end` have not
 pub record IsRun (n : ℕ) (f : ℕ → Label) (at end : ℕ) : Type 0 where
   pub some : at < end
   pub inside : end ≤ n
@@ -68,11 +76,9 @@ pub record IsRun (n : ℕ) (f : ℕ → Label) (at end : ℕ) : Type 0 where
   pub other : end < n → same_label (f at) (f end) ≡ false
   pub starts : (k : ℕ) → k + 1 ≡ at → same_label (f k) (f at) ≡ false
 
--- the spans that begin before m
 abbrev pub spans_before : ℕ → (ℕ → Label) → ℕ → List LabelSpan
 spans_before n f m = map (span_from n f) (filter (begins f) (range_with_len 0 m))
 
--- how many numbers before m have a label
 abbrev pub labelled_before : (ℕ → Label) → ℕ → ℕ
 labelled_before f m = count_by (λ c. is_some (f c)) (range_with_len 0 m)
 
@@ -89,7 +95,6 @@ begins_at n f zero end run = refl
 begins_at n f (suc at) end run =
     ap (λ b. is_some (f (suc at)) && not b) (run.starts at (omega arith)) ∙ elim (is_some (f (suc at))) as (λ b. b && true ≡ b) [ true ↦ refl | false ↦ refl ]
 
--- where a run without a label ends, no more spans have begun
 pub run_plain : (n : ℕ) (f : ℕ → Label) (at end : ℕ) → IsRun n f at end → is_some (f at) ≡ false → (spans_before n f end ≡ spans_before n f at) × (labelled_before f end ≡ labelled_before f at)
 run_plain n f at end run none =
     let long : at + (end - at) ≡ end = let h = run.some in omega arith in
@@ -102,7 +107,6 @@ run_plain n f at end run none =
       ap (λ m. labelled_before f m) (sym long) ∙ count_none (λ c. is_some (f c)) at (end - at) plain,
     )
 
--- a run with a label is a span, up to its last number
 pub span_end_run : (n : ℕ) (f : ℕ → Label) (at end : ℕ) → IsRun n f at end → span_end n f at ≡ end - 1
 span_end_run n f at end run =
     let p : ℕ → Bool = λ d. same_label (f at) (f d) in

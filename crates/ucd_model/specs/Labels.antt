@@ -1,8 +1,11 @@
 -- Maximal spans of equal value, over the numbers below n.
 --
--- A label is the text that stands behind a span; None where the value is the default, which is not listed.
--- begins f c        a span begins at c: c has a label, and c - 1 has another one or none
+-- Label             the text that stands behind a span; None where the value is the default, which is not listed
+-- same_label a b    the same text, or none on both sides
+-- begins f c        a span begins at c: c has a label, and c - 1 has another one or none; at 0, c has a label
 -- span_end n f c    the last number of the span that begins at c
+-- LabelSpan         a span, and the label of its numbers
+-- span_from n f c   the span that begins at c, with the label of c; the empty text where c has none
 -- label_spans n f   the spans in ascending order, each with its label
 -- labelled n f      how many of the numbers have a label
 use Rattle.std.specs.Prelude.{ℕ, zero, suc, ◌+◌, ◌-◌, Bool, ◌&&◌, not, List, map, filter, Option, is_some, unwrap_or, [], count_by}

@@ -1,18 +1,28 @@
 -- The lines of a file. UAX #44, section 4.2.
 --
--- contents bytes    the contents of the lines in order: a line ends after LF, and what ends it, LF or CR LF,
---                   is not part of its content; the last line may lack it; no bytes have no line.
---                   A CR that no LF follows belongs to the content
--- holds_line_feed bs   a LF is among the bytes, so that they are no line's content
--- items_of bytes    the same lines, each with what ends it: a LineItem is a content and its LineEnding
--- item_bytes item   a line's content and the bytes of its ending: none, LF, or CR LF
--- joined items      contents and endings put together again
--- is_trivia content the line is blank, or its first byte other than white space is `#`
+-- is_blank b              the byte is white space: space or tab
+-- is_lf b                 the byte is LF
+-- contents bytes          the contents of the lines in order: a line ends after LF, and what ends it, LF or CR LF, is not part of
+--                         its content; the last line may lack it; no bytes have no line. A CR that no LF follows belongs to the
+--                         content
+-- contents_of_pieces ps   the contents of what stands between LFs: every piece but the last was ended by a LF, and loses one CR
+--                         at its end; an empty last piece is no line
+-- without_return bs       without one CR at the end, where one is there
+-- holds_line_feed bs      a LF is among the bytes, so that they are no line's content
+-- LineEnding              what ends a line: unended, nothing at the end of the file; lf, LF; cr_lf, CR LF
+-- LineItem                a line: its content and its LineEnding
+-- items_of bytes          the same lines, each with what ends it
+-- items_of_pieces ps      those lines, from what stands between LFs, as contents_of_pieces
+-- ended_item piece        the line of what stands before a LF: CR LF ended it where the piece ends in CR
+-- ends_in_return bs       the last byte is CR; false for no bytes
+-- ending_bytes ending     the bytes of an ending: none, LF, or CR LF
+-- item_bytes item         a line's content and the bytes of its ending
+-- joined items            contents and endings put together again
+-- is_trivia content       the line is blank, or its first byte other than white space is `#`
 use Rattle.std.specs.Prelude.{ℕ, ◌-◌, Bool, true, List, [], ◌∷◌, ◌++◌, length, take, drop, ◌==◌, if◌then◌else◌, slice_get, Some, nat_eq, ◌||◌}
 use Rattle.std.specs.Option.{option_eq}
 use Rattle.std.specs.List.{slice_split, prefix_len, list_any, flat_map}
 
--- space and tab
 abbrev pub is_blank : ℕ → Bool
 is_blank b = (b == 32) || (b == 9)
 
@@ -22,11 +32,9 @@ is_lf b = b == 10
 abbrev pub holds_line_feed : List ℕ → Bool
 holds_line_feed bs = list_any is_lf bs
 
--- without one CR at the end
 abbrev pub without_return : List ℕ → List ℕ
 without_return bs = if option_eq nat_eq (slice_get bs (length bs - 1)) (Some 13) then take (length bs - 1) bs else bs
 
--- of what stands between line feeds: all but the last piece ended by one
 abbrev pub contents_of_pieces : List (List ℕ) → List (List ℕ)
 contents_of_pieces [] = []
 contents_of_pieces ([] ∷ []) = []
@@ -36,7 +44,6 @@ contents_of_pieces (piece ∷ next ∷ pieces) = without_return piece ∷ conten
 unfoldable pub contents : List ℕ → List (List ℕ)
 contents bytes = contents_of_pieces (slice_split is_lf bytes)
 
--- what ends a line: nothing at the end of the file, LF, or CR LF
 pub data LineEnding : Type 0 where
   unended : LineEnding
   lf : LineEnding
@@ -49,11 +56,9 @@ pub record LineItem : Type 0 where
 abbrev pub ends_in_return : List ℕ → Bool
 ends_in_return bs = option_eq nat_eq (slice_get bs (length bs - 1)) (Some 13)
 
--- the line of what stands before a LF
 abbrev pub ended_item : List ℕ → LineItem
 ended_item piece = record { content = without_return piece; ending = if ends_in_return piece then cr_lf else lf }
 
--- of what stands between line feeds: all but the last piece ended by one
 abbrev pub items_of_pieces : List (List ℕ) → List LineItem
 items_of_pieces [] = []
 items_of_pieces ([] ∷ []) = []

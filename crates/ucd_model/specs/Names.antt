@@ -1,18 +1,31 @@
 -- The names by which the files of the database speak of values, properties and files.
 --
--- category_of bs    the General_Category that two bytes name; None for all other bytes, `Cn` among them.
---                   UAX #44, section 5.7.1, table 12
--- letter_of to other_of   by the second byte, behind L M N P S Z C as the first
--- category_code k   the two bytes that name k
--- status_of bs      the status of a folding that one byte names; None for all other bytes; status_code s is that byte
--- tag_of bs         the tag that bytes name, `<` before its name and no `>` behind it; None for all other bytes.
---                   UAX #44, section 5.7.3, table 14
--- tag_text t        the tag between `<` and `>`
--- tag_name t        the tag without `<` and `>`, a value of Decomposition_Type
--- flag_name f       the name of the property in PropList.txt. UAX #44, section 5.3
--- core_name p       the name of the property in DerivedCoreProperties.txt. UAX #44, section 5.3
--- source_path f     where a source file lies below the folder of a release
--- derived_path f    where a derived file lies below the folder of the output
+-- category_of bs         the General_Category that two bytes name; None for all other bytes, `Cn` among them. UAX #44,
+--                        section 5.7.1, table 12
+-- letter_of b            the one whose second byte is b, behind `L`: u l t m o are Lu Ll Lt Lm Lo; None for all other bytes, and
+--                        so below
+-- mark_of b              behind `M`: n c e
+-- number_of b            behind `N`: d l o
+-- punctuation_of b       behind `P`: c d s e i f o
+-- symbol_of b            behind `S`: m c k o
+-- separator_of b         behind `Z`: s l p
+-- other_of b             behind `C`: c f s o
+-- category_code k        the two bytes that name k
+-- status_of bs           the status of a folding that one byte names; None for all other bytes. CaseFolding.txt
+-- status_code s          that byte: `C`, `F`, `S` or `T`
+-- tag_of bs              the tag that bytes name, `<` before its name and no `>` behind it; None for all other bytes. UAX #44,
+--                        section 5.7.3, table 14
+-- positional_tag_of bs   the tag where it is initial, medial, final or isolated; else None
+-- shaped_tag_of bs       where it is circle, super, sub or vertical
+-- sized_tag_of bs        where it is wide, narrow, small or square
+-- other_tag_of bs        where it is font, noBreak, fraction or compat
+-- or_else a b            the tag a where it is there, else b
+-- tag_text t             the tag between `<` and `>`
+-- tag_name t             the tag without `<` and `>`, a value of Decomposition_Type
+-- flag_name f            the name of the property in PropList.txt. UAX #44, section 5.3
+-- core_name p            the name of the property in DerivedCoreProperties.txt. UAX #44, section 5.3
+-- source_path f          where a source file lies below the folder of a release
+-- derived_path f         where a derived file lies below the folder of the output
 use Rattle.std.specs.Prelude.{ℕ, List, [], ◌∷◌, Option, Some, None, ◌==◌, if◌then◌else◌, codes}
 use Rattle.ucd_model.specs.declared.category.Category.{Category}
 use Rattle.ucd_model.specs.declared.category.Category.TheVariants.{Lu, Ll, Lt, Lm, Lo, Mn, Mc, Me, Nd, Nl, No, Pc, Pd, Ps, Pe, Pi, Pf, Po, Sm, Sc, Sk, So, Zs, Zl, Zp, Cc, Cf, Cs, Co, Cn}
@@ -32,35 +45,27 @@ use Rattle.ucd_model.specs.declared.files.DerivedFile.TheVariants.{CorePropertie
 
 -- ---- categories: a first letter for the group, a second one for the category in it
 
--- u l t m o
 abbrev pub letter_of : ℕ → Option Category
 letter_of b = if b == 117 then Some Lu else (if b == 108 then Some Ll else (if b == 116 then Some Lt else (if b == 109 then Some Lm else (if b == 111 then Some Lo else None))))
 
--- n c e
 abbrev pub mark_of : ℕ → Option Category
 mark_of b = if b == 110 then Some Mn else (if b == 99 then Some Mc else (if b == 101 then Some Me else None))
 
--- d l o
 abbrev pub number_of : ℕ → Option Category
 number_of b = if b == 100 then Some Nd else (if b == 108 then Some Nl else (if b == 111 then Some No else None))
 
--- c d s e i f o
 abbrev pub punctuation_of : ℕ → Option Category
 punctuation_of b = if b == 99 then Some Pc else (if b == 100 then Some Pd else (if b == 115 then Some Ps else (if b == 101 then Some Pe else (if b == 105 then Some Pi else (if b == 102 then Some Pf else (if b == 111 then Some Po else None))))))
 
--- m c k o
 abbrev pub symbol_of : ℕ → Option Category
 symbol_of b = if b == 109 then Some Sm else (if b == 99 then Some Sc else (if b == 107 then Some Sk else (if b == 111 then Some So else None)))
 
--- s l p
 abbrev pub separator_of : ℕ → Option Category
 separator_of b = if b == 115 then Some Zs else (if b == 108 then Some Zl else (if b == 112 then Some Zp else None))
 
--- c f s o
 abbrev pub other_of : ℕ → Option Category
 other_of b = if b == 99 then Some Cc else (if b == 102 then Some Cf else (if b == 115 then Some Cs else (if b == 111 then Some Co else None)))
 
--- L M N P S Z C
 abbrev pub category_of : List ℕ → Option Category
 category_of (a ∷ b ∷ []) = if a == 76 then letter_of b else (if a == 77 then mark_of b else (if a == 78 then number_of b else (if a == 80 then punctuation_of b else (if a == 83 then symbol_of b else (if a == 90 then separator_of b else (if a == 67 then other_of b else None))))))
 category_of _ = None
@@ -111,19 +116,15 @@ status_code T = 84
 
 -- ---- tags of compatibility mappings
 
--- initial medial final isolated
 unfoldable pub positional_tag_of : List ℕ → Option Tag
 positional_tag_of bs = if bytes_eq bs (codes "<initial") then Some Initial else (if bytes_eq bs (codes "<medial") then Some Medial else (if bytes_eq bs (codes "<final") then Some Final else (if bytes_eq bs (codes "<isolated") then Some Isolated else None)))
 
--- circle super sub vertical
 unfoldable pub shaped_tag_of : List ℕ → Option Tag
 shaped_tag_of bs = if bytes_eq bs (codes "<circle") then Some Circle else (if bytes_eq bs (codes "<super") then Some Super else (if bytes_eq bs (codes "<sub") then Some Sub else (if bytes_eq bs (codes "<vertical") then Some Vertical else None)))
 
--- wide narrow small square
 unfoldable pub sized_tag_of : List ℕ → Option Tag
 sized_tag_of bs = if bytes_eq bs (codes "<wide") then Some Wide else (if bytes_eq bs (codes "<narrow") then Some Narrow else (if bytes_eq bs (codes "<small") then Some Small else (if bytes_eq bs (codes "<square") then Some Square else None)))
 
--- font noBreak fraction compat
 unfoldable pub other_tag_of : List ℕ → Option Tag
 other_tag_of bs = if bytes_eq bs (codes "<font") then Some Font else (if bytes_eq bs (codes "<noBreak") then Some NoBreak else (if bytes_eq bs (codes "<fraction") then Some Fraction else (if bytes_eq bs (codes "<compat") then Some Compat else None)))
 

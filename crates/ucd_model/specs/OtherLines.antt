@@ -1,13 +1,15 @@
 -- Which lines of the files beside UnicodeData.txt stand for which rows. UAX #44, section 4.2, and the heads of the files.
 --
--- ReadsValue fs row       PropList.txt, Scripts.txt, WordBreakProperty.txt: a span, and a name as the value
--- ReadsExclusion fs row   CompositionExclusions.txt: a span
--- ReadsFold fs row        CaseFolding.txt: a code point, a status, a mapping, and an empty field or none behind them;
---                         C and S have a mapping of one code point
--- ReadsCasing fs row      SpecialCasing.txt: a code point, its lower, title and upper mapping, each possibly empty,
---                         conditions or none, and an empty field or none behind them
--- ReadsAlias least fs row   PropertyAliases.txt from two names on, PropertyValueAliases.txt from three on;
---                         a name after the first may be empty
+-- ReadsValue fs row         PropList.txt, Scripts.txt, WordBreakProperty.txt: a span, and a name as the value
+-- ReadsExclusion fs row     CompositionExclusions.txt: a span
+-- FoldsTo status n          a folding of the status has n code points: one for C and S, one or more for F and T
+-- ReadsFold fs row          CaseFolding.txt: a code point, a status, a mapping with as many code points as the status has, and an
+--                           empty field or none behind them
+-- ReadsCasing fs row        SpecialCasing.txt: a code point, its lower, title and upper mapping, each possibly empty, conditions
+--                           or none, and an empty field or none behind them
+-- is_name_or_empty bs       a name, or no bytes
+-- ReadsAlias least fs row   PropertyAliases.txt from two names on, PropertyValueAliases.txt from three on; a name after the first
+--                           may be empty
 use Rattle.std.specs.Prelude.{◌≡◌, ◌⊎◌, ℕ, ◌<◌, ◌≤◌, Bool, true, List, [], ◌∷◌, length, Some}
 use Rattle.std.specs.List.{list_all}
 use Rattle.ucd_model.specs.Names.{status_of}
@@ -31,7 +33,6 @@ pub record ReadsExclusion (fs : List (List ℕ)) (row : ExclusionRow) : Type 0 w
   pub count : length fs ≡ 1
   pub span : SpellsSpan (field fs 0) row.span
 
--- how many code points a folding of the status has
 abbrev pub FoldsTo : FoldStatus → ℕ → Type 0
 FoldsTo C n = n ≡ 1
 FoldsTo S n = n ≡ 1

@@ -1,15 +1,21 @@
 -- Core properties that follow from the facts of one code point. UAX #44, section 5.3, table 9;
 -- The Unicode Standard, section 4.2 (Case), 4.5 (General Category) and 4.10 (Letters, Alphabetic, and Ideographic).
 --
+-- place_of k                       the place of a category in the order of UAX #44, table 12, counted from 0, with Cn last
+-- is_one_of ks k                   the category k is one of the categories ks
 -- math, alphabetic, lowercase, uppercase   as DerivedCoreProperties.txt generates them
--- cased, case_ignorable       The Unicode Standard, section 3.13, D135 and D136
--- id_start, id_continue       UAX #31, section 2, table 2; never a character of pattern syntax or pattern white space
--- default_ignorable c F       of the point c with the facts F, since two ranges of format characters are left out by number
+-- cased, case_ignorable            The Unicode Standard, section 3.13, D135 and D136
+-- in_pattern F                     Pattern_Syntax or Pattern_White_Space: the point is kept for the syntax of patterns. UAX #31,
+--                                  section 4.1
+-- id_start, id_continue            UAX #31, section 2, table 2; never a character of pattern syntax or pattern white space
+-- is_visible_format c              a format character that is shown: interlinear annotation, FFF9 to FFFB, and Egyptian
+--                                  hieroglyph format characters, 13430 to 1343F
+-- default_ignorable c F            of the point c with the facts F, since two ranges of format characters are left out by number
 -- grapheme_extend, grapheme_base   The Unicode Standard, section 3.6, Combination; no point has both
--- grapheme_link               the combining class is 9, Virama
--- holds core c F   whether the point c with the facts F has the property; absent for a property that needs the facts of
---                  other points too
--- core_properties  the core properties, in the order of DerivedCoreProperties.txt
+-- grapheme_link                    the combining class is 9, Virama
+-- holds core c F                   whether the point c with the facts F has the property; absent for a property that needs the
+--                                  facts of other points too
+-- core_properties                  the core properties, in the order of DerivedCoreProperties.txt
 use Rattle.std.specs.Prelude.{ℕ, Bool, false, ◌||◌, ◌&&◌, not, List, [], ◌∷◌, ◌==◌, nat_le}
 use Rattle.std.specs.List.{list_any}
 use Rattle.ucd_model.specs.Facts.{Facts}
@@ -19,7 +25,6 @@ use Rattle.ucd_model.specs.declared.property.Flag.TheVariants.{WhiteSpace, Other
 use Rattle.ucd_model.specs.declared.property.Core.{Core}
 use Rattle.ucd_model.specs.declared.property.Core.TheVariants.{Math, Alphabetic, Lowercase, Uppercase, Cased, CaseIgnorable, ChangesWhenLowercased, ChangesWhenUppercased, ChangesWhenTitlecased, ChangesWhenCasefolded, ChangesWhenCasemapped, IdStart, IdContinue, XidStart, XidContinue, DefaultIgnorableCodePoint, GraphemeExtend, GraphemeBase, GraphemeLink}
 
--- the place of a category in the order of UAX #44, table 12, with Cn last
 abbrev pub place_of : Category → ℕ
 place_of Lu = 0
 place_of Ll = 1
@@ -52,7 +57,6 @@ place_of Cs = 27
 place_of Co = 28
 place_of Cn = 29
 
--- the category is one of these
 abbrev pub is_one_of : List Category → Category → Bool
 is_one_of categories category = list_any (λ k. place_of k == place_of category) categories
 
@@ -74,7 +78,6 @@ cased F = (lowercase F || uppercase F) || is_one_of (Lt ∷ []) F.category
 abbrev pub case_ignorable : Facts → Bool
 case_ignorable F = F.mid_word || is_one_of (Mn ∷ Me ∷ Cf ∷ Lm ∷ Sk ∷ []) F.category
 
--- the point is kept for the syntax of patterns. UAX #31, section 4.1
 abbrev pub in_pattern : Facts → Bool
 in_pattern F = F.flag PatternSyntax || F.flag PatternWhiteSpace
 
@@ -84,7 +87,6 @@ id_start F = (is_one_of (Lu ∷ Ll ∷ Lt ∷ Lm ∷ Lo ∷ Nl ∷ []) F.categor
 abbrev pub id_continue : Facts → Bool
 id_continue F = (id_start F || (is_one_of (Mn ∷ Mc ∷ Nd ∷ Pc ∷ []) F.category || F.flag OtherIdContinue)) && not (in_pattern F)
 
--- the interlinear annotation characters, and the Egyptian hieroglyph format characters
 abbrev pub is_visible_format : ℕ → Bool
 is_visible_format c = (nat_le 0xFFF9 c && nat_le c 0xFFFB) || (nat_le 0x13430 c && nat_le c 0x1343F)
 

@@ -1,16 +1,17 @@
 -- Exclusion from composition, and the quick checks of the normalisation forms. UAX #15, sections 5 and 9; UAX #44, 5.7.5.
 --
 -- F is the facts of each code point.
--- excludes_mapping F c m    a canonical mapping m of c that composition never gives back: it has one member, or two of which c
---                           or the first has another class than 0
--- full_exclusion F c        c is excluded, or its canonical mapping is such a one
--- form_of F form s          the form of a list
--- quick_composed F c s      the quick check of NFC or NFKC of c, where s is that form of c alone
--- quick_given F form c s    the quick check of c, where s is the form of c alone. NFD and NFKD: No where c has a canonical
---                           mapping, or a mapping of any kind. NFC and NFKC: No where s is not c alone; else Maybe where c is
---                           the second member of a primary composite's mapping; else Yes
--- quick F form c            the same, or the rule for which c alone has no form
--- quick_or_yes r            the value, and Yes where there is none
+-- excludes_mapping F c m     a canonical mapping m of c that composition never gives back: it has one member, or two of which c
+--                            or the first has another class than 0; false for every other number of members
+-- full_exclusion F c         c is excluded, or its canonical mapping is such a one
+-- form_of F form s           the form of a list
+-- quick_composed F c s       the quick check of NFC or NFKC of c, where s is that form of c alone
+-- quick_given F form c s     the quick check of c, where s is the form of c alone. NFD and NFKD: No where c has a canonical
+--                            mapping, or a mapping of any kind. NFC and NFKC: No where s is not c alone; else Maybe where c is
+--                            the second member of a primary composite's mapping; else Yes
+-- quick_where value r        the value of the list r; where r is a rule, that rule
+-- quick F form c             the same, or the rule for which c alone has no form
+-- quick_or_yes r             the value, and Yes where there is none
 use Rattle.std.specs.Prelude.{ℕ, Bool, true, false, ◌&&◌, ◌||◌, not, List, [], ◌∷◌, Result, Ok, Err, ◌==◌, if◌then◌else◌}
 use Rattle.std.specs.Str.{bytes_eq}
 use Rattle.ucd_model.specs.Facts.{Facts, is_plain}

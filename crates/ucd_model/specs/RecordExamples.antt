@@ -1,12 +1,12 @@
 -- The derived properties of some code points, with the values of DerivedCoreProperties.txt of Unicode 15.0.0, and the
 -- derived files over a few records.
 --
--- point k class        the facts of a point of category k and of that combining class, with no flag
--- with_flag f F        the facts F with the flag f as well
--- in_word F            the facts F of a point with a Word_Break value of mid_word_values
--- cores c F            the core properties of c, in the order of DerivedCoreProperties.txt
--- sample               the facts of 0 to 5: Lu with a lower mapping and a folding, Ll, Ll, Mn of class 230, Zs with a mapping of <noBreak>, and Lu with a
---                      canonical mapping; all others have no row
+-- point k class         the facts of a point of category k and of that combining class, with no flag
+-- with_flag f F         the facts F with the flag f as well
+-- in_word F             the facts F of a point with a Word_Break value of mid_word_values
+-- cores c F             the core properties of c, in the order of DerivedCoreProperties.txt
+-- sample                the facts of 0 to 5: Lu with a lower mapping and a folding, Ll, Ll, Mn of class 230, Zs with a mapping of
+--                       <noBreak>, and Lu with a canonical mapping; all others have no row
 use Rattle.std.proofs.Common.{◌≡◌, ℕ, true, false, List, [], ◌∷◌, ◌++◌, None, ◌||◌, ◌==◌, get_or, filter, map, refl, codes}
 use Rattle.std.specs.Fmt.{digits}
 use Rattle.ucd_model.specs.Expansion.{full}

@@ -1,13 +1,28 @@
 -- The text that a row is written as.
 --
--- mapping_text cs          code points with one space between them
--- class_text n             a number below 1000 in decimal, without leading zeros
+-- mapping_text cs              code points with one space between them
+-- decimal_digit d              the byte of the last decimal digit of a number
+-- class_text n                 a number below 1000 in decimal, without leading zeros; of a greater one the last three digits
 -- decomposition_text kind cs   field 5 of UnicodeData.txt: nothing, the mapping, or a tag, a space and the mapping
--- case_text c              nothing, or the code point
--- data_line row c name     the 15 fields of UnicodeData.txt, joined by `;`, with this code point and this name
--- data_text row            that line; of a range the first line, LF, and the last line with the same other fields
--- value_text, exclusion_text, fold_text, casing_text, alias_text   a row of the other files
--- row_text file row        the text of a row of the file
+-- case_text c                  nothing, or the code point
+-- value_fields row             fields 2 to 14 of UnicodeData.txt
+-- data_line row c name         the 15 fields of UnicodeData.txt, joined by `;`, with this code point and this name
+-- first_name label             `<LABEL, First>`
+-- last_name label              `<LABEL, Last>`
+-- range_text row               the first line of a range, LF, and the last line, with the same fields 2 to 14
+-- data_text row                the line of a row of UnicodeData.txt, with its one code point and its name; of a range those two
+--                              lines
+-- value_text row               a row of PropList.txt, Scripts.txt or WordBreakProperty.txt: the span and the value, with ` ; `
+--                              between
+-- exclusion_text row           a row of CompositionExclusions.txt: the span
+-- fold_text row                a row of CaseFolding.txt: the code point, the status and the mapping, with `; ` between and `;` at
+--                              the end
+-- conditions_text bs           a space, the conditions and `;`; nothing where there are none
+-- casing_text row              a row of SpecialCasing.txt: the code point, its lower, title and upper mapping, with `; ` between
+--                              and `;` at the end, and then the conditions
+-- names_text ns                the names with ` ; ` between them; nothing for no names
+-- alias_text row               a row of PropertyAliases.txt or PropertyValueAliases.txt: its names
+-- row_text file row            the text of a row, by its kind alone: the file plays no part
 use Rattle.std.specs.Prelude.{ℕ, ◌+◌, ◌/◌, ◌%◌, List, [], ◌∷◌, ◌++◌, map, Option, Some, None, nat_lt, if◌then◌else◌, codes}
 use Rattle.std.specs.List.{join_with_byte}
 use Rattle.ucd_model.specs.Names.{category_code, status_code, tag_text}
@@ -44,7 +59,6 @@ abbrev pub case_text : Option ℕ → List ℕ
 case_text None = []
 case_text (Some c) = hex_text c
 
--- fields 2 to 14
 abbrev pub value_fields : DataRow → List (List ℕ)
 value_fields row = category_code row.category ∷ class_text row.class ∷ row.kept.f4 ∷ decomposition_text row.kind row.mapping ∷ row.kept.f6 ∷ row.kept.f7 ∷ row.kept.f8 ∷ row.kept.f9 ∷ row.kept.f10 ∷ row.kept.f11 ∷ case_text row.upper ∷ case_text row.lower ∷ case_text row.title ∷ []
 
@@ -74,7 +88,6 @@ exclusion_text row = span_text row.span
 abbrev pub fold_text : FoldRow → List ℕ
 fold_text row = hex_text row.code ++ codes "; " ++ status_code row.status ∷ codes "; " ++ mapping_text row.mapping ++ codes ";"
 
--- conditions, where there are some, behind a space
 abbrev pub conditions_text : List ℕ → List ℕ
 conditions_text [] = []
 conditions_text (b ∷ bs) = codes " " ++ (b ∷ bs) ++ codes ";"

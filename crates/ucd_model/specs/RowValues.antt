@@ -1,11 +1,31 @@
 -- The row values that a file can have.
 --
--- IsPoint c            a number of at most 10FFFF
--- IsMapping cs         at most 64 code points
--- IsTrimmed bs         no white space at either end
--- IsKept bs            trimmed, without `;` and LF
--- IsValueName bs       a name, trimmed, without `#`
--- RowOk file row       some bytes of the file are read as the row
+-- IsPoint c                 a number of at most 10FFFF
+-- IsSpan s                  its first code point is at most its last, and that is at most 10FFFF
+-- IsMapping cs              at most 64 code points, each of at most 10FFFF
+-- IsTrimmed bs              no white space at either end
+-- IsKept bs                 trimmed, without `;` and LF
+-- IsValueName bs            a name, trimmed, without `#`
+--
+-- UnicodeData.txt
+-- DecompositionOk kind cs   no code points for Plain; one or two for Canonical; one or more, at most 64, for a tag
+-- CaseOk c                  a code point of at most 10FFFF, or none
+-- SingleOk row              one code point; a name, trimmed, that is not that of a range
+-- NameOk range row          of a range, the label is a name; of a single line, SingleOk
+-- DataOk row                a span, NameOk, another category than Cn, a class of at most 254, DecompositionOk, CaseOk of the
+--                           three simple case mappings, and IsKept of the fields that are kept
+--
+-- The other files
+-- ValueOk row               a span, and a value that is IsValueName
+-- ExclusionOk row           a span
+-- FoldOk row                a code point, and a mapping of at most 64 code points, with as many code points as its status has:
+--                           one for C and S, else one or more
+-- CasingOk row              a code point; three mappings, each possibly empty; conditions with one space between words, without
+--                           `;` and `#`, or none
+-- IsAliasName bs            a name or nothing, trimmed, without `#`
+-- AliasOk least row         at least so many names, each IsAliasName, the first not empty
+-- RowOk file row            the row is one of the file's kind, and Ok as above (alias rows with two names, or three); it is what
+--                           some bytes of the file are read as
 use Rattle.std.specs.Prelude.{◌≡◌, ◌≢◌, ℕ, ◌<◌, ◌≤◌, Bool, true, false, List, [], length, Option, Some, None}
 use Rattle.std.specs.List.{All, list_any}
 use Rattle.ucd_model.specs.Bounds.{Bounds}
@@ -60,7 +80,6 @@ abbrev pub CaseOk : Option ℕ → Type 0
 CaseOk None = Unit {0}
 CaseOk (Some c) = IsPoint c
 
--- a name by itself, with one code point; the label of a range
 pub record SingleOk (row : DataRow) : Type 0 where
   pub one : row.span.hi ≡ row.span.lo
   pub name : is_name row.name ≡ true
@@ -111,7 +130,6 @@ pub record CasingOk (row : CasingRow) : Type 0 where
   pub no_semicolon : list_any is_semicolon row.conditions ≡ false
   pub no_hash : list_any is_hash row.conditions ≡ false
 
--- a name or nothing, trimmed, without `#`
 pub record IsAliasName (bs : List ℕ) : Type 0 where
   pub name : is_name_or_empty bs ≡ true
   pub trimmed : IsTrimmed bs

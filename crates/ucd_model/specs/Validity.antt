@@ -1,18 +1,22 @@
 -- The rules that every code point of a valid release keeps.
 --
 -- F is the facts of each code point.
--- mappings c G       of a point c with the facts G: its decomposition mapping, and what each simple and full case mapping
---                    and folding gives
--- lacks_row F c m    a member of the mapping m of c has no row in UnicodeData.txt; c alone is not looked at
--- lacks_a_row F c    V1: some mapping of c does
--- is_endless F c     V2: the canonical or the compatibility expansion of c needs a chain of eight mappings
--- is_too_long F c    V3: one of them has more than 64 points
--- composite_of F m   the primary composite of a mapping of two members; is_other c o: there is one, and it is not c
--- is_hidden F c      V4: c is a primary composite, and a lesser primary composite has the same mapping
--- is_unfolded F c    V5: the folding rounds from c reach no last one
--- broken F c         the first of these rules that c breaks; None where it breaks none
+-- mappings c G             of a point c with the facts G: its decomposition mapping, and what each simple and full case mapping
+--                          and folding gives
+-- lacks_row F c m          a member of the mapping m of c has no row in UnicodeData.txt; c alone is not looked at
+-- lacks_a_row F c          V1: some mapping of c does
+-- is_none r                there are no points
+-- is_endless F c           V2: the canonical or the compatibility expansion of c needs a chain of eight mappings or more
+-- is_long r                more than 64 points; never where there are none
+-- is_too_long F c          V3: one of them has more than 64 points
+-- composite_of F m         the primary composite of a mapping of two members; None of every other mapping
+-- is_other c o             there is a composite o, and it is not c
+-- is_hidden F c            V4: c is a primary composite, and a lesser primary composite has the same mapping
+-- is_unfolded F c          V5: the folding rounds from c reach no last one
+-- broken F c               the first of these rules that c breaks; None where it breaks none
+-- broken_at F c            c with the first rule that it breaks; None where there is no c, and where it breaks none
 -- first_broken_below n F   the least point below n that breaks a rule, with its first rule
--- first_broken F     the same, among all points
+-- first_broken F           the same, among all points
 use Rattle.std.specs.Prelude.{ℕ, Bool, true, false, ◌&&◌, ◌||◌, not, List, [], ◌∷◌, Option, Some, None, is_some, length, nat_lt, ◌==◌, if◌then◌else◌, find}
 use Rattle.std.specs.List.{list_any, range_with_len}
 use Rattle.std.specs.Option.{option_map}

@@ -1,4 +1,6 @@
 -- The exit status of each status.
+--
+-- code_of status   0 Clean, 1 Done, 2 BadWords, 3 LoadRefused, 4 ReadFault, 5 WriteFault, 6 Memory
 use Rattle.std.specs.Prelude.{ℕ}
 use Rattle.ucdshop_core.specs.declared.status.Status.{Status}
 use Rattle.ucdshop_core.specs.declared.status.Status.TheVariants.{Clean, Done, BadWords, LoadRefused, ReadFault, WriteFault, Memory}

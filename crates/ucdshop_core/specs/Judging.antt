@@ -2,6 +2,7 @@
 --
 -- release_rows release            the rows of a release now, file by file
 -- place_of file                   the place of a file in the order in which files are read and judged
+-- held_at held at                 what is held at a place; None where nothing is, and past the last
 -- verdict_at paths held file      the verdict on what the path of a file holds
 -- JudgedAs view result expected   a result, seen by view, is what was expected; want of memory says nothing
 -- LoadsFile result expected file old new   the file was loaded where rows were expected, and all other files stay

@@ -1,12 +1,44 @@
 -- What a run leaves, by its status.
 --
--- ShelfSeen, SinkSeen      what is seen of the shelf and the sink before and after the run
--- sink_seen ..             of a sink: whether it tells, what was written and its count of faults, each before and after
--- Unchanged shelf          every path holds what it held
--- Grew line sink           what was written grew by exactly the line
--- GrewInPart line sink     the sink's count of faults rose, and what was written grew by a prefix of the line
--- Told line sink           one of the two
--- Outcome words shelf sink status   what the status says of the run, by cases
+-- ShelfSeen, SinkSeen               what is seen of the shelf and the sink before and after the run
+-- sink_seen ..                      of a sink: whether it tells, what was written and its count of faults, each before and after
+-- Unchanged shelf                   every path holds what it held; nothing is said of a shelf that does not tell what it holds
+-- Grew line sink                    what was written grew by exactly the line; nothing is said of a sink that does not tell it
+-- GrewInPart line sink              the sink's count of faults rose, and what was written grew by a prefix of the line
+-- Told line sink                    one of the two
+--
+-- What each status says. What a shelf holds and the path of its last failed read are spoken of only where the shelf tells them,
+-- here and below
+-- IsClean words shelf sink          the words have a form, every file that is expected is written and all else is as it was, and
+--                                   the summary is told
+-- IsBadWords words shelf sink       the words have no form, the shelf is unchanged, and the usage is told
+-- IsRefused words shelf sink        the words have a form, a file or the release is refused by the line that is told, the path of
+--                                   the last failed read is as it was, and the shelf is unchanged
+-- IsReadFault words shelf sink      a path that the words need could not be read: the count of failed reads rose, the path is
+--                                   that of the last failed read where that is told, and the line names it; the shelf is
+--                                   unchanged
+-- IsWriteStopped words job shelf sink   an output could not be written: the count of failed writes rose, the files before it are
+--                                   written, its path holds anything or is absent, all else is as it was, and the line names it
+-- IsUntold words shelf sink         all files are written, and the summary could not be told whole
+-- IsWriteFault words shelf sink     the words have a form, and one of the two
+-- IsMemory words shelf sink         the words have a form, memory was wanted before the first write, the shelf is unchanged, and
+--                                   the line says so
+-- Outcome words shelf sink status   what the status says of the run, by cases; Done never comes
+--
+-- Parts of a run, and what a caller reads of a status
+-- StoppedWith stop sink status      a run that stopped before it wrote has the status of its stop, and has told its line
+-- StopsWriting plan shelf sink      the count of failed writes rose, the files of the plan before the one that failed are
+--                                   written, and the line of that one is told
+-- WritesAll plan shelf              the files of the plan are written, and every other path holds what it held
+-- Finished plan shelf sink status   Clean: all files are written, and the summary is told; WriteFault: writing stopped, or all
+--                                   files are written and the summary could not be told whole; no other status comes
+-- IsNeeded words path               the words have a form, and the path is one that is read
+-- IsOutput words place path         the words have a form, and the path is the one at this place, counted from 0, among those
+--                                   that are written
+-- WritesNothing status              BadWords, LoadRefused, ReadFault or Memory: the statuses with which nothing was written
+-- WrittenUpTo words place path old new   the files before the place are written, its path holds anything or is absent, and every
+--                                   other path holds what it held
+-- WrittenWhole words old new        every file is written, and every other path holds what it held
 use Rattle.std.specs.Prelude.{◌≡◌, ◌≢◌, ◌⊎◌, ℕ, ◌<◌, Bool, IsTrue, List, [], ◌∷◌, ◌++◌, length, take, Option, Some, None, slice_get}
 use Rattle.shelf_io.specs.Counts.{Rose}
 use Rattle.shelf_io.specs.Contents.{SameContents, AddsPrefix}
@@ -54,20 +86,18 @@ GrewInPart line sink = Rose sink.faults_old sink.faults_new × (IsTrue sink.tell
 abbrev pub Told : List ℕ → SinkSeen → Type 0
 Told line sink = Grew line sink ⊎ GrewInPart line sink
 
--- ---- the words have a form, and everything was written and told
+-- ---- each status
 pub record IsClean (words : List (List ℕ)) (shelf : ShelfSeen) (sink : SinkSeen) : Type 0 where
   pub job : Job
   pub formed : form words ≡ Some job
   pub written : IsTrue shelf.tells → (files : List NewFile) × (expected words shelf.old ≡ Writes files) × Replaced files shelf.old shelf.new
   pub told : Grew (summary no_counts) sink
 
--- ---- the words have no form
 pub record IsBadWords (words : List (List ℕ)) (shelf : ShelfSeen) (sink : SinkSeen) : Type 0 where
   pub unformed : form words ≡ None
   pub unchanged : Unchanged shelf
   pub told : Told usage sink
 
--- ---- a file is refused
 pub record IsRefused (words : List (List ℕ)) (shelf : ShelfSeen) (sink : SinkSeen) : Type 0 where
   pub job : Job
   pub formed : form words ≡ Some job
@@ -77,7 +107,6 @@ pub record IsRefused (words : List (List ℕ)) (shelf : ShelfSeen) (sink : SinkS
   pub unchanged : Unchanged shelf
   pub told : Told line sink
 
--- ---- a file could not be read: one that is needed, and the last failed one where that is told
 pub record IsReadFault (words : List (List ℕ)) (shelf : ShelfSeen) (sink : SinkSeen) : Type 0 where
   pub job : Job
   pub formed : form words ≡ Some job
@@ -89,7 +118,6 @@ pub record IsReadFault (words : List (List ℕ)) (shelf : ShelfSeen) (sink : Sin
   pub unchanged : Unchanged shelf
   pub told : Told (read_failed path) sink
 
--- ---- a file could not be written: the files before it are written, it holds anything or is absent, all else is as before
 pub record IsWriteStopped (words : List (List ℕ)) (job : Job) (shelf : ShelfSeen) (sink : SinkSeen) : Type 0 where
   pub rose : Rose shelf.writes_old shelf.writes_new
   pub path : List ℕ
@@ -99,7 +127,6 @@ pub record IsWriteStopped (words : List (List ℕ)) (job : Job) (shelf : ShelfSe
       × ((other : List ℕ) → other ≢ path → shelf.new other ≡ after (take place files) shelf.old other)
   pub told : Told (write_failed path) sink
 
--- ---- all files are written, and the summary could not be told
 pub record IsUntold (words : List (List ℕ)) (shelf : ShelfSeen) (sink : SinkSeen) : Type 0 where
   pub written : IsTrue shelf.tells → (files : List NewFile) × (expected words shelf.old ≡ Writes files) × Replaced files shelf.old shelf.new
   pub told : GrewInPart (summary no_counts) sink
@@ -109,7 +136,6 @@ pub record IsWriteFault (words : List (List ℕ)) (shelf : ShelfSeen) (sink : Si
   pub formed : form words ≡ Some job
   pub cause : IsWriteStopped words job shelf sink ⊎ IsUntold words shelf sink
 
--- ---- memory was wanted before the first write
 pub record IsMemory (words : List (List ℕ)) (shelf : ShelfSeen) (sink : SinkSeen) : Type 0 where
   pub job : Job
   pub formed : form words ≡ Some job
@@ -127,13 +153,11 @@ Outcome words shelf sink Memory = IsMemory words shelf sink
 
 -- ---- parts of a run
 
--- a run that stopped before it wrote has told its line
 abbrev pub StoppedWith : Stop → SinkSeen → Status → Type 0
 StoppedWith (Refused line) sink status = (status ≡ LoadRefused) × Told line sink
 StoppedWith (ReadFailed line) sink status = (status ≡ ReadFault) × Told line sink
 StoppedWith stops.Memory sink status = (status ≡ Memory) × Told out_of_memory sink
 
--- the files of the plan are written, or up to the one that failed
 pub record StopsWriting (plan : Plan) (shelf : ShelfSeen) (sink : SinkSeen) : Type 0 where
   pub rose : Rose shelf.writes_old shelf.writes_new
   pub line : List ℕ
@@ -150,15 +174,12 @@ Finished plan shelf sink _ = ⊥
 
 -- ---- what a caller reads of a status
 
--- a path that the words need
 abbrev pub IsNeeded : List (List ℕ) → List ℕ → Type 0
 IsNeeded words path = (job : Job) × (form words ≡ Some job) × (place : ℕ) × (slice_get (needed job) place ≡ Some path)
 
--- a path that the words have written, at this place
 abbrev pub IsOutput : List (List ℕ) → ℕ → List ℕ → Type 0
 IsOutput words place path = (job : Job) × (form words ≡ Some job) × (slice_get (output_paths job) place ≡ Some path)
 
--- the statuses with which nothing was written
 abbrev pub WritesNothing : Status → Type 0
 WritesNothing BadWords = Unit {0}
 WritesNothing LoadRefused = Unit {0}
@@ -166,11 +187,9 @@ WritesNothing ReadFault = Unit {0}
 WritesNothing Memory = Unit {0}
 WritesNothing _ = ⊥
 
--- the files before the place are written, its path holds anything or is absent, and every other path holds what it held
 abbrev pub WrittenUpTo : List (List ℕ) → ℕ → List ℕ → Contents → Contents → Type 0
 WrittenUpTo words place path old new = (files : List NewFile) × (expected words old ≡ Writes files)
     × ((other : List ℕ) → other ≢ path → new other ≡ after (take place files) old other)
 
--- every file is written, and every other path holds what it held
 abbrev pub WrittenWhole : List (List ℕ) → Contents → Contents → Type 0
 WrittenWhole words old new = (files : List NewFile) × (expected words old ≡ Writes files) × Replaced files old new

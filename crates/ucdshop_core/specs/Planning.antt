@@ -1,16 +1,17 @@
 -- All that a run does before it writes.
 --
--- LoadedAs view result expected  a result, seen by view, is what was expected; a failed read and want of memory say nothing
--- loaded_rows loaded           the rows of a release that was loaded
--- ChecksAs result expected     the line that refuses is the expected one, and there is a value where none is expected; want of
---                              memory says nothing
--- OnRefused result P           P of the line, where a file was refused
--- NoneFailed result old new    the path of the last failed read is as it was, unless a file could not be read; want of memory says
---                              nothing
--- OnUnread result P            P of the line, where a file could not be read
--- NamesUnread paths tells failed line  the line names one of the paths, and the last failed one where that is told
--- HasPlan job rows plan        the plan writes the outputs of the job on these rows, each with the line that names its
---                              path, and tells the summary
+-- LoadedAs view result expected   a result, seen by view, is what was expected; a failed read and want of memory say nothing
+-- loaded_rows loaded              the rows of a release that was loaded
+-- ChecksAs result expected        the line that refuses is the expected one, and there is a value where none is expected; want of
+--                                 memory says nothing
+-- OnRefused result P              P of the line, where a file was refused
+-- NoneFailed result old new       the path of the last failed read is as it was, unless a file could not be read; want of memory
+--                                 says nothing
+-- OnUnread result P               P of the line, where a file could not be read
+-- NamesUnread paths tells failed line   the line names one of the paths, and the last failed one where that is told
+-- HaveLines outputs               each output has the line that names its path as the one that could not be written
+-- HasPlan job rows plan           the plan writes the outputs of the job on these rows, each with the line that names its path,
+--                                 and tells the summary
 use Rattle.std.specs.Prelude.{◌≡◌, ◌≤◌, ℕ, List, length, map, IsTrue, Bool, Option, Some, None, Result, Ok, Err, ⊤, slice_get}
 use Rattle.ucd_model.specs.Facts.{Sources}
 use Rattle.ucdshop_core.specs.Printed.{read_failed, write_failed, summary, no_counts}
@@ -23,7 +24,6 @@ use Rattle.ucdshop_core.specs.declared.stop.Stop.{Stop}
 use Rattle.ucdshop_core.specs.declared.stop.Stop.TheVariants.{Refused, ReadFailed, Memory}
 use Rattle.ucdshop_core.specs.declared.writing.Output.{Output}
 
--- each file has the line that names its path
 abbrev pub HaveLines : List Output → Type 0
 HaveLines outputs = map (λ output. output.fault_line) outputs ≡ map (λ output. write_failed output.path) outputs
 
@@ -65,7 +65,6 @@ NoneFailed (Err (Refused line)) old new = new ≡ old
 NoneFailed (Err (ReadFailed line)) old new = ⊤
 NoneFailed (Err Memory) old new = ⊤
 
--- a path that is needed; it is that of the last failed read, where the shelf tells it
 pub record NamesUnread (paths : List (List ℕ)) (tells : Bool) (failed line : List ℕ) : Type 0 where
   pub path : List ℕ
   pub place : ℕ

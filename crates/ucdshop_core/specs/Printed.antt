@@ -1,13 +1,18 @@
 -- The lines that a run prints, each ended by LF.
 --
--- usage                     of words that have no listed form
--- refused path line rule    a file is refused: the number of the line, 0 for the file as a whole, and the rule's code
--- read_failed path          a file could not be read
--- write_failed path         a file could not be written
--- out_of_memory             memory was wanted, and there was none
--- summary counts            how many groups were accepted, commands refused and sets answered, and policies broken
--- refused_point folder b    a code point of the release in a folder breaks a rule; bad_code: the rule's code
--- rule_code rule            the code of a rule that a file breaks; row_rule_code, of one that a line breaks by itself
+-- line_end                 LF
+-- usage                    of words that have no listed form
+-- refused path line rule   a file is refused: the number of the line, 0 for the file as a whole, and the rule's code
+-- read_failed path         a file could not be read
+-- write_failed path        a file could not be written
+-- out_of_memory            memory was wanted, and there was none
+-- Counts                   how many groups were accepted, commands refused and sets answered, and policies broken
+-- no_counts                0 of each: no script was carried out, and no earlier release compared
+-- summary counts           the line that says them
+-- refused_point folder b   a code point of the release in a folder breaks a rule: the point, and the rule's code
+-- bad_code rule            the code of a rule of a valid release: V1 to V5
+-- rule_code rule           the code of a rule that a file breaks
+-- row_rule_code fault      the code of a rule that a line breaks by itself: G03 to G11
 use Rattle.std.specs.Prelude.{ℕ, List, [], ◌∷◌, ◌++◌, codes}
 use Rattle.std.specs.Fmt.{decimal}
 use Rattle.ucd_model.specs.DerivedText.{hex_text}
@@ -43,7 +48,6 @@ pub record Counts : Type 0 where
   pub answered : ℕ
   pub broken : ℕ
 
--- no script was carried out, and no earlier release compared
 abbrev pub no_counts : Counts
 no_counts = record { accepted = 0; refused = 0; answered = 0; broken = 0 }
 
@@ -68,7 +72,6 @@ bad_code V3 = codes "V3"
 bad_code V4 = codes "V4"
 bad_code V5 = codes "V5"
 
--- a code point that breaks a rule of a valid release
 abbrev pub refused_point : List ℕ → Broken → List ℕ
 refused_point folder broken = codes "refused: " ++ folder ++ codes " point " ++ hex_text broken.point ++ codes " " ++ bad_code broken.rule ++ line_end
 

@@ -1,15 +1,19 @@
 -- The records of the first code points, one after the other.
 --
--- record_in places records c  the record at the place of c
--- RecordsOf                   the records that are kept, and for each point the place of its record
--- SameRecords R S             the records of the code points are the same
--- DerivedBelow list n F       the points below n, and no others, have a record, and it is the one that is derived of the facts F
--- RecordFound F c result      the result is the record of c, or in its place c with the first rule that it breaks; want of memory says
---                             nothing
--- RecordsAs result F          the result is the records of all points, none of which breaks a rule, or in their place the least
---                             point that does; want of memory says nothing
--- HavePlaces                  each place is that of a record
--- Keeps old new place added   the new list has the old one's records and one that is `added` at the place
+-- kept_or other kept           the kept record; the other one where none is kept
+-- record_in places records c   the record at the place of c, or past the last place at 0; where there is no such record, that of
+--                              c without a row
+-- RecordsOf                    the records that are kept, and for each point the place of its record
+-- count_of list                for how many points a place is kept
+-- record_of list c             the record of c in the list, as record_in
+-- SameRecords R S              the records of the code points are the same
+-- DerivedBelow list n F        the points below n, and no others, have a record, and it is the one that is derived of the facts F
+-- RecordFound F c result       the result is the record of c, or in its place c with the first rule that it breaks; want of
+--                              memory says nothing
+-- RecordsAs result F           the result is the records of all points, none of which breaks a rule, or in their place the least
+--                              point that does; want of memory says nothing
+-- HavePlaces places records    each place is that of a record
+-- Keeps old new place added    the new list has the old one's records and one that is `added` at the place
 use Rattle.std.specs.Prelude.{◌≡◌, ℕ, ◌<◌, ◌≤◌, List, length, Option, Some, None, Result, Ok, Err, ⊤, slice_get, slice_index_or}
 use Rattle.ucd_model.specs.Facts.{Facts, unassigned}
 use Rattle.ucd_model.specs.Limits.{point_count}

@@ -1,18 +1,48 @@
 -- What a run is to do, by its words and by what the shelf holds.
 --
--- form words             what the words ask for; None where they have no listed form
--- needed job             the paths that are read, in order
--- files_verdict folder holds   the rows of a release's files, or the line that refuses the first file, in order, that is
---                        absent, too long or not in the grammar
--- broken_line folder F   the line that refuses the least code point that breaks a rule, where F gives the facts
--- point_refusal folder rows   the line that refuses the least code point that breaks a rule of a valid release, by its first rule
--- verdict folder holds   the rows of a release whose files load and whose code points are valid, or the line that refuses it
--- job_verdict job holds  the verdict on the files that the job reads
--- derived_file folder rows file   a derived file of these rows: its path below the folder, with its bytes
--- outputs job rows       the files that are written, in order: each path with its bytes
--- expected words holds   NoForm; Refuses line; or Writes files
--- after files holds      the contents with these files replaced, one after the other
--- Replaced files old new the new contents are the old ones with these files replaced
+-- Contents                         what a shelf holds at each path: the bytes of a file, or None
+-- Job                              what is asked for: Derive input output, to derive the files of one folder into another
+-- form words                       what the words ask for; None where they have no listed form
+-- path_in folder path              the folder, `/`, and the path
+-- source_files                     the source files, in the order in which they are read and judged
+-- source_in folder file            the path of a source file of a folder
+-- sources_in folder                the paths of the source files of a folder, in order
+-- needed job                       the paths that are read, in order
+--
+-- The verdict
+-- told_rows path result            the rows of the items, or the line that names the path, the fault's line and its rule
+-- file_rows path file held         the rows of what the path holds, or the line that refuses it; an absent file is G01, on line 0
+-- or_refusal verdict later         the line where the verdict is one, else the later one
+-- first_refusal verdict_on files   the line that refuses the first of the files that is refused; None where none is
+-- rows_or_none verdict             the rows; none where the file is refused
+-- refused_or line rows             the line where there is one, else the rows
+-- verdict_by verdict_on            the rows of every source file, or the line that refuses the first one, from the verdict on
+--                                  each
+-- files_verdict folder holds       the rows of a release's files, or the line that refuses the first file, in order, that is
+--                                  absent, too long or not in the grammar
+-- broken_line folder F             the line that refuses the least code point that breaks a rule, where F gives the facts; None
+--                                  where none does
+-- point_refusal folder rows        the line that refuses the least code point that breaks a rule of a valid release, by its first
+--                                  rule
+-- and_valid folder verdict         the rows of that verdict, where each code point is valid, else the line that refuses the least
+--                                  one that is not; a verdict that is a line stays
+-- verdict folder holds             the rows of a release whose files load and whose code points are valid, or the line that
+--                                  refuses it
+-- job_verdict job holds            the verdict on the files that the job reads
+--
+-- What is written
+-- derived_in folder file           the path of a derived file below a folder
+-- NewFile                          a path, and the bytes that are written there
+-- derived_file folder rows file    a derived file of these rows: its path below the folder, with its bytes
+-- outputs job rows                 the files that are written, in order: each path with its bytes
+-- output_paths job                 the paths of the outputs, which the words alone give
+-- Expected                         NoForm; Refuses line; or Writes files
+-- judged job verdict               Writes the outputs on the rows of the verdict, or Refuses its line
+-- expected_of form holds           what is expected of a job, by what the shelf holds; NoForm where there is none
+-- expected words holds             what is expected of the words
+-- put file holds path              what the path holds once the file is put in its place
+-- after files holds                the contents with these files replaced, one after the other
+-- Replaced files old new           the new contents are the old ones with these files replaced
 use Rattle.std.specs.Prelude.{◌≡◌, ℕ, Bool, List, [], ◌∷◌, ◌++◌, map, length, Option, Some, None, Result, Ok, Err, if◌then◌else◌, nat_lt, codes}
 use Rattle.std.specs.Str.{bytes_eq}
 use Rattle.std.specs.Option.{option_map}
@@ -30,13 +60,11 @@ use Rattle.release_rows.specs.FileItems.{FileItem, rows_in}
 use Rattle.release_rows.specs.Loading.{LoadFault, load_or_fault}
 use Rattle.ucdshop_core.specs.Printed.{refused, refused_point, rule_code}
 
--- what a shelf holds at each path
 abbrev pub Contents : Type 0
 Contents = List ℕ → Option (List ℕ)
 
 -- ---- the words
 
--- derive the files of one folder into another
 pub data Job : Type 0 where
   Derive : (input output : List ℕ) → Job
 
@@ -49,14 +77,12 @@ form _ = None
 abbrev pub path_in : List ℕ → List ℕ → List ℕ
 path_in folder path = folder ++ codes "/" ++ path
 
--- the source files, in their order
 abbrev pub source_files : List SourceFile
 source_files = UnicodeData ∷ PropList ∷ Scripts ∷ WordBreakProperty ∷ CompositionExclusions ∷ CaseFolding ∷ SpecialCasing ∷ PropertyAliases ∷ PropertyValueAliases ∷ []
 
 abbrev pub source_in : List ℕ → SourceFile → List ℕ
 source_in folder file = path_in folder (source_path file)
 
--- the paths of the source files of a folder
 abbrev pub sources_in : List ℕ → List (List ℕ)
 sources_in folder = map (source_in folder) source_files
 
@@ -65,17 +91,14 @@ needed (Derive input output) = sources_in input
 
 -- ---- the verdict
 
--- the rows, or the line that names the path, the line and the rule
 abbrev pub told_rows : List ℕ → Result (List FileItem) LoadFault → Result (List Row) (List ℕ)
 told_rows path (Ok items) = Ok (rows_in items)
 told_rows path (Err fault) = Err (refused path fault.line (rule_code fault.rule))
 
--- an absent file is G01
 unfoldable pub file_rows : List ℕ → SourceFile → Option (List ℕ) → Result (List Row) (List ℕ)
 file_rows path file None = Err (refused path 0 (codes "G01"))
 file_rows path file (Some bytes) = told_rows path (load_or_fault file bytes)
 
--- the line that refuses the first file that is refused
 abbrev pub or_refusal : Result (List Row) (List ℕ) → Option (List ℕ) → Option (List ℕ)
 or_refusal (Ok rows) later = later
 or_refusal (Err line) later = Some line
@@ -92,14 +115,12 @@ abbrev pub refused_or : Option (List ℕ) → Sources → Result Sources (List �
 refused_or None rows = Ok rows
 refused_or (Some line) rows = Err line
 
--- from the verdict on each file
 abbrev pub verdict_by : (SourceFile → Result (List Row) (List ℕ)) → Result Sources (List ℕ)
 verdict_by verdict_on = refused_or (first_refusal verdict_on source_files) (λ file. rows_or_none (verdict_on file))
 
 abbrev pub files_verdict : List ℕ → Contents → Result Sources (List ℕ)
 files_verdict folder holds = verdict_by (λ file. file_rows (source_in folder file) file (holds (source_in folder file)))
 
--- the line that refuses the least code point that breaks a rule of a valid release
 abbrev pub broken_line : List ℕ → (ℕ → Facts) → Option (List ℕ)
 broken_line folder F = option_map (refused_point folder) (first_broken F)
 
@@ -125,14 +146,12 @@ pub record NewFile : Type 0 where
   pub path : List ℕ
   pub bytes : List ℕ
 
--- a derived file below a folder
 abbrev pub derived_file : List ℕ → Sources → DerivedFile → NewFile
 derived_file folder rows file = record { path = derived_in folder file; bytes = derived_text point_count file (record_at (facts rows)) }
 
 abbrev pub outputs : Job → Sources → List NewFile
 outputs (Derive input output) rows = map (derived_file output rows) derived_files
 
--- the paths of the outputs, which the words alone give
 abbrev pub output_paths : Job → List (List ℕ)
 output_paths (Derive input output) = map (derived_in output) derived_files
 
@@ -154,7 +173,6 @@ expected words holds = expected_of (form words) holds
 
 -- ---- contents
 
--- with one file put in its place
 abbrev pub put : NewFile → Contents → Contents
 put file holds path = if bytes_eq file.path path then Some file.bytes else holds path
 

@@ -1,9 +1,11 @@
 -- Writing the files that a run makes.
 --
--- files_of outputs                     the files, without their lines
--- StoppedAt line outputs tells old new at one place, whose line it is; where contents are told, the files before are put in
---                                      order, the path of that place holds anything or is absent, and every other path
---                                      holds what it held
+-- file_of output                         the file of an output, without its line
+-- files_of outputs                       the files of the outputs, in order
+-- StopsAt place output line outputs tells old new   the output is the one at this place, and the line is its line; where contents
+--                                        are told, the files before it are put in order, its path holds anything or is absent,
+--                                        and every other path holds what it held
+-- StoppedAt line outputs tells old new   so it is at some place, of some output
 use Rattle.std.specs.Prelude.{◌≡◌, ◌≢◌, ℕ, Bool, IsTrue, List, length, take, map, slice_get, Option, Some}
 use Rattle.ucdshop_core.specs.Run.{Contents, NewFile, after}
 use Rattle.ucdshop_core.specs.declared.writing.Output.{Output}

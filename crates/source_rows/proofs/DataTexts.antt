@@ -18,7 +18,8 @@ use Rattle.ucd_model.specs.RowValues.{IsTrimmed, IsKept, SingleOk, NameOk, DataO
 use Rattle.ucd_model.specs.declared.files.SourceFile.TheVariants.{UnicodeData}
 use Rattle.ucd_model.specs.declared.row.DataRow.{DataRow}
 use Rattle.ucd_model.specs.declared.row.Row.TheVariants.{Unit as DataLine}
-use Rattle.source_rows.proofs.HexTexts.{text_reads, hex_lacks}
+use Rattle.source_rows.proofs.HexTexts.{hex_lacks}
+use Rattle.ucd_model.specs.HexTextProofs.{hex_text_spells_its_point}
 use Rattle.source_rows.proofs.Lacks.{Lacks, lacks_both, lacks_cons, lacks_each, lacks_join, split_join}
 use Rattle.source_rows.proofs.Trims.{Firm, trim_firm, firm_between}
 use Rattle.source_rows.proofs.Separators.{Separates, semicolon_separates, feed_separates, name_no_semicolon, name_no_feed}
@@ -88,7 +89,7 @@ values_read row c name ok = record {
 single_reads : (row : DataRow) → DataOk row → row.range ≡ false → SingleOk row → Reads UnicodeData (data_line row row.span.lo row.name) (DataLine row)
 single_reads row ok single alone =
     let named : IsKept row.name = record { trimmed = alone.trimmed; no_semicolon = name_no_semicolon row.name alone.name; no_feed = name_no_feed row.name alone.name } in
-    let line : ReadsSingle (line_fields row row.span.lo row.name) row = record { count = refl; code = text_reads row.span.lo (omega (arith, ok.span.0, ok.span.1)); one = alone.one; single = single; is_named = alone.name; no_range = alone.no_range; name = refl; values = values_read row row.span.lo row.name ok } in
+    let line : ReadsSingle (line_fields row row.span.lo row.name) row = record { count = refl; code = hex_text_spells_its_point row.span.lo (omega (arith, ok.span.0, ok.span.1)); one = alone.one; single = single; is_named = alone.name; no_range = alone.no_range; name = refl; values = values_read row row.span.lo row.name ok } in
     inl (no_feed row row.span.lo row.name ok named, subst (λ (fs : List (List ℕ)). ReadsSingle fs row) (sym (cut_again row row.span.lo row.name ok named)) line)
 
 -- ---- two lines
@@ -159,14 +160,14 @@ range_reads row ok range label =
     let last_ok = last_kept row.name label in
     let pair : ReadsPair (line_fields row lo first) (line_fields row hi last) row = record {
       count = refl;
-      code = text_reads lo (omega (arith, ok.span.0, ok.span.1));
+      code = hex_text_spells_its_point lo (omega (arith, ok.span.0, ok.span.1));
       range = range;
       label = label;
       first_name = refl;
       values = values_read row lo first ok;
       last_count = refl;
       last_name = refl;
-      last_code = text_reads hi ok.span.1;
+      last_code = hex_text_spells_its_point hi ok.span.1;
       ordered = ok.span.0;
     } in
     let first_cut : line_fields row lo first ≡ fields UnicodeData (without_return (data_line row lo first)) = sym (ap (λ (bs : List ℕ). fields UnicodeData bs) (no_return row lo first) ∙ cut_again row lo first ok first_ok) in

@@ -1,28 +1,14 @@
 -- Hexadecimal digits.
-use Rattle.std.proofs.Common.{◌≡◌, ℕ, zero, suc, ◌+◌, ◌*◌, ◌^◌, ◌<◌, Bool, true, false, cond, List, [], ◌∷◌, length, Option, Some, None, fold, refl, arith}
+use Rattle.std.proofs.Common.{◌≡◌, ℕ, Bool, true, false, cond, List, [], ◌∷◌, length, Option, Some, None, fold, refl, arith}
 use Rattle.std.specs.List.{position_or_len}
 use Rattle.std.proofs.lemmas.Bool.{eqb-true}
-use Rattle.std.proofs.lemmas.Nat.{pow-add}
 use Rattle.ucd_model.specs.Fields.{digit_of, with_digit, hex_number, if_point, point_of, is_dot}
-
-pub with_more : (i n d : ℕ) → n < 16 ^ i → d < 16 → 16 * n + d < 16 ^ (i + 1)
-with_more i n d lt small = omega (arith, pow-add 16 i 1)
-
--- before a sixth digit
-pub five_digits : (i n : ℕ) → i < 6 → n < 16 ^ i → n < 1048576
-five_digits zero n le lt = omega arith
-five_digits (suc zero) n le lt = omega arith
-five_digits (suc (suc zero)) n le lt = omega arith
-five_digits (suc (suc (suc zero))) n le lt = omega arith
-five_digits (suc (suc (suc (suc zero)))) n le lt = omega arith
-five_digits (suc (suc (suc (suc (suc zero))))) n le lt = omega arith
-five_digits (suc (suc (suc (suc (suc (suc i)))))) n le lt = absurd (omega arith)
 
 pub none_stays : (bs : List ℕ) → fold (λ n b. with_digit n (digit_of b)) None bs ≡ None
 none_stays [] = refl
 none_stays (b ∷ bs) = none_stays bs
 
-pub no_digit : (n : Option ℕ) → with_digit n None ≡ None
+no_digit : (n : Option ℕ) → with_digit n None ≡ None
 no_digit (Some n) = refl
 no_digit None = refl
 

@@ -7,7 +7,7 @@ use Rattle.std.proofs.lemmas.List.{take_all, drop_all, length-map}
 use Rattle.std.proofs.lemmas.List.Splits.{slice_split_first, length-slice_split}
 use Rattle.ucd_model.specs.Fields.{trim, field, is_semicolon}
 use Rattle.source_rows.specs.Fields.{fields_of}
-use Rattle.source_rows.proofs.Cuts.{split_whole}
+use Rattle.ucd_lines.specs.Cuts.{split_whole}
 
 field_next : (f : List ℕ) (fs : List (List ℕ)) (n : ℕ) → field (f ∷ fs) (n + 1) ≡ field fs n
 field_next f fs n = grind (arith, nat_tests)

@@ -1,4 +1,3 @@
-pub mod Cuts
 pub mod FieldCuts
 pub mod Digits
 pub mod Spans

@@ -20,7 +20,8 @@ use Rattle.ucd_model.specs.declared.row.FoldRow.{FoldRow}
 use Rattle.ucd_model.specs.declared.row.CasingRow.{CasingRow}
 use Rattle.ucd_model.specs.declared.row.AliasRow.{AliasRow}
 use Rattle.source_rows.specs.Fields.{fields_of}
-use Rattle.source_rows.proofs.HexTexts.{text_reads, hex_lacks}
+use Rattle.source_rows.proofs.HexTexts.{hex_lacks}
+use Rattle.ucd_model.specs.HexTextProofs.{hex_text_spells_its_point}
 use Rattle.source_rows.proofs.Lacks.{Lacks, lacks_both, lacks_cons, lacks_join, split_join}
 use Rattle.source_rows.proofs.Trims.{trim_firm, space_before, space_behind}
 use Rattle.source_rows.proofs.Seams.{before_no_seam}
@@ -151,7 +152,7 @@ fold_reads row ok =
     let pieces : All Piece (hex_text row.code ∷ fold_pieces row) = All-cons Piece (hex_text row.code) (fold_pieces row) (hex_piece row.code) (All-cons Piece (32 ∷ status_code row.status ∷ []) ((32 ∷ mapping_text row.mapping) ∷ [] ∷ []) (spaced (status_code row.status ∷ []) status) (All-cons Piece (32 ∷ mapping_text row.mapping) ([] ∷ []) (spaced (mapping_text row.mapping) (mapping_piece row.mapping)) (All-cons Piece [] [] none (All-nil Piece)))) in
     let trimmed : map trim (hex_text row.code ∷ fold_pieces row) ≡ hex_text row.code ∷ (status_code row.status ∷ []) ∷ mapping_text row.mapping ∷ [] ∷ [] = rw (trim_firm (hex_text row.code) (hex_firm row.code), status_trimmed row.status, spaced_trimmed (mapping_text row.mapping) (mapping_trimmed row.mapping)) refl in
     let line = line_is (fold_text row) (hex_text row.code) (fold_pieces row) (hex_text row.code ∷ (status_code row.status ∷ []) ∷ mapping_text row.mapping ∷ [] ∷ []) (fold_joined row) pieces trimmed in
-    record { no_feed = line.no_feed; reads = subst (λ (fs : List (List ℕ)). ReadsFold fs row) (sym line.cut) (record { count = inr (refl, refl); code = text_reads row.code ok.code; status = status_reads row.status; mapping = mapping_reads row.mapping ok.mapping; length_fits = ok.length_fits }) }
+    record { no_feed = line.no_feed; reads = subst (λ (fs : List (List ℕ)). ReadsFold fs row) (sym line.cut) (record { count = inr (refl, refl); code = hex_text_spells_its_point row.code ok.code; status = status_reads row.status; mapping = mapping_reads row.mapping ok.mapping; length_fits = ok.length_fits }) }
 
 -- ---- SpecialCasing.txt
 
@@ -189,8 +190,8 @@ pub record CasingLine (row : CasingRow) : Type 0 where
   pub reads : ReadsCasing (cut_fields (casing_text row)) row
 
 casing_fields : (row : CasingRow) (cs : List ℕ) → cs ≡ row.conditions → CasingOk row → ReadsCasing (hex_text row.code ∷ mapping_text row.lower ∷ mapping_text row.title ∷ mapping_text row.upper ∷ condition_fields cs) row
-casing_fields row [] e ok = record { least = omega arith; most = omega arith; nothing_behind = refl; code = text_reads row.code ok.code; lower = mapping_reads row.lower ok.lower; title = mapping_reads row.title ok.title; upper = mapping_reads row.upper ok.upper; conditions = no_conditions ∙ ap (λ (xs : List ℕ). Some xs) e }
-casing_fields row (b ∷ bs) e ok = record { least = omega arith; most = omega arith; nothing_behind = refl; code = text_reads row.code ok.code; lower = mapping_reads row.lower ok.lower; title = mapping_reads row.title ok.title; upper = mapping_reads row.upper ok.upper; conditions = ap conditions_of e ∙ ok.conditions }
+casing_fields row [] e ok = record { least = omega arith; most = omega arith; nothing_behind = refl; code = hex_text_spells_its_point row.code ok.code; lower = mapping_reads row.lower ok.lower; title = mapping_reads row.title ok.title; upper = mapping_reads row.upper ok.upper; conditions = no_conditions ∙ ap (λ (xs : List ℕ). Some xs) e }
+casing_fields row (b ∷ bs) e ok = record { least = omega arith; most = omega arith; nothing_behind = refl; code = hex_text_spells_its_point row.code ok.code; lower = mapping_reads row.lower ok.lower; title = mapping_reads row.title ok.title; upper = mapping_reads row.upper ok.upper; conditions = ap conditions_of e ∙ ok.conditions }
 
 pub casing_reads : (row : CasingRow) → CasingOk row → CasingLine row
 casing_reads row ok =

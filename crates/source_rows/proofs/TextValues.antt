@@ -22,7 +22,8 @@ use Rattle.ucd_model.specs.declared.decomposition.Tag.{Tag}
 use Rattle.ucd_model.specs.declared.decomposition.Tag.TheVariants.{Font, NoBreak, Initial, Medial, Final, Isolated, Circle, Super, Sub, Vertical, Wide, Narrow, Small, Square, Fraction, Compat as CompatTag}
 use Rattle.ucd_model.specs.declared.row.FoldStatus.{FoldStatus}
 use Rattle.ucd_model.specs.declared.row.FoldStatus.TheVariants.{C, F, S, T}
-use Rattle.source_rows.proofs.HexTexts.{text_reads, hex_lacks, hex_some}
+use Rattle.source_rows.proofs.HexTexts.{hex_lacks, hex_some}
+use Rattle.ucd_model.specs.HexTextProofs.{hex_text_spells_its_point}
 use Rattle.source_rows.proofs.Lacks.{Lacks, lacks_both, lacks_cons, lacks_join, split_join}
 use Rattle.source_rows.proofs.Trims.{Firm, trim_firm, solid, firm_ends, firm_around}
 
@@ -38,11 +39,11 @@ pub hex_firm : (c : ℕ) → Firm (hex_text c)
 hex_firm c = solid (hex_text c) (hex_some c) (hex_no_blank c)
 
 two_spelled : (s : Bounds) → IsSpan s → SpellsSpan (hex_text s.lo ++ codes ".." ++ hex_text s.hi) s
-two_spelled s ok = inr (record { first = hex_text s.lo; second = hex_text s.hi; parts = append_assoc (hex_text s.lo) (codes "..") (hex_text s.hi); lo = text_reads s.lo (omega (arith, ok.0, ok.1)); hi = text_reads s.hi ok.1; ordered = ok.0 })
+two_spelled s ok = inr (record { first = hex_text s.lo; second = hex_text s.hi; parts = append_assoc (hex_text s.lo) (codes "..") (hex_text s.hi); lo = hex_text_spells_its_point s.lo (omega (arith, ok.0, ok.1)); hi = hex_text_spells_its_point s.hi ok.1; ordered = ok.0 })
 
 pub span_spelled : (s : Bounds) → IsSpan s → SpellsSpan (span_text s) s
 unfolding span_text
-span_spelled s ok = cond_both (eqb s.lo s.hi) _ _ (λ (bs : List ℕ). SpellsSpan bs s) (λ e. inl (record { lo = text_reads s.lo (omega (arith, ok.0, ok.1)); hi = sym (eqb-true s.lo s.hi e) })) (λ _. two_spelled s ok)
+span_spelled s ok = cond_both (eqb s.lo s.hi) _ _ (λ (bs : List ℕ). SpellsSpan bs s) (λ e. inl (record { lo = hex_text_spells_its_point s.lo (omega (arith, ok.0, ok.1)); hi = sym (eqb-true s.lo s.hi e) })) (λ _. two_spelled s ok)
 
 pub span_lacks : (p : ℕ → Bool) → ((d : ℕ) → d < 16 → p (hex_digit d) ≡ false) → p 46 ≡ false → (s : Bounds) → Lacks p (span_text s)
 unfolding span_text
@@ -78,7 +79,7 @@ hex_bytes (c ∷ cs) = and_from _ _ (has_bytes (hex_text c) (hex_some c)) (hex_b
 
 read_points : (cs : List ℕ) → All IsPoint cs → map point_of (map hex_text cs) ≡ map (λ c. Some c) cs
 read_points [] h = refl
-read_points (c ∷ cs) h = rw (text_reads c (All-head IsPoint c cs h), read_points cs (All-tail IsPoint c cs h)) refl
+read_points (c ∷ cs) h = rw (hex_text_spells_its_point c (All-head IsPoint c cs h), read_points cs (All-tail IsPoint c cs h)) refl
 
 pub mapping_words : (cs : List ℕ) → words (mapping_text cs) ≡ map hex_text cs
 unfolding mapping_text
@@ -262,7 +263,7 @@ case_is (b ∷ bs) c some h = rw h refl
 
 pub case_reads : (o : Option ℕ) → CaseOk o → case_of (case_text o) ≡ Some o
 case_reads None ok = refl
-case_reads (Some c) ok = case_is (hex_text c) c (hex_some c) (text_reads c ok)
+case_reads (Some c) ok = case_is (hex_text c) c (hex_some c) (hex_text_spells_its_point c ok)
 
 pub case_lacks : (p : ℕ → Bool) → ((d : ℕ) → d < 16 → p (hex_digit d) ≡ false) → (o : Option ℕ) → Lacks p (case_text o)
 case_lacks p h None = refl

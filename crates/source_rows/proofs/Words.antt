@@ -7,7 +7,7 @@ use Rattle.std.proofs.lemmas.List.{take_all, drop_all}
 use Rattle.std.proofs.lemmas.List.Splits.{slice_split_first}
 use Rattle.ucd_model.specs.Lines.{is_blank}
 use Rattle.ucd_model.specs.Mappings.{is_some_bytes, words, onto_points, all_points, mapping_of}
-use Rattle.source_rows.proofs.Cuts.{split_whole}
+use Rattle.ucd_lines.specs.Cuts.{split_whole}
 
 -- a word that may be empty, and then it is none
 abbrev pub onto_words : List ℕ → List (List ℕ) → List (List ℕ)

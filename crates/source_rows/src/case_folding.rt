@@ -9,11 +9,11 @@ ghost use Rattle.source_rows.specs.Faults.{ReadsAs};
 ghost use Rattle.source_rows.specs.Fields.{fields_of};
 ghost use Rattle.source_rows.specs.OtherFaults.{fold_or_fault, has_fold_fields, folds_to, of_status};
 
-use crate::code_point::point_of;
 use crate::fault::{RowFault, RowStop};
 use crate::fields::{field_count, first_field, three_fields, without_comment};
 use crate::mapping::mapping_of;
 use std::alloc::Global;
+use ucd_lines::hex;
 use ucd_model::{FoldRow, FoldStatus, Memory, Points, Row};
 
 /// The status that one byte names. `None` for all other bytes.
@@ -81,7 +81,7 @@ pub fn read_fold(alloc: Global, content: &[u8]) -> Result<Row, RowStop>
         return Err(RowStop::Fault(RowFault::G03));
     }
     let (code, status, mapping) = three_fields(text);
-    let Some(code) = point_of(code) else {
+    let Some(code) = hex(code) else {
         return Err(RowStop::Fault(RowFault::G04));
     };
     let Some(status) = status_of(status) else {

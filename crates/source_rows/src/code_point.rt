@@ -1,56 +1,19 @@
-//! Reads code points, spans of them, and names. UAX #44, section 4.2.
+//! Reads spans of code points, and names. UAX #44, section 4.2.
 
-ghost use Rattle.std.specs.Prelude.{◌≡◌, ◌<◌, ◌≤◌, length, IfSome};
+ghost use Rattle.std.specs.Prelude.{◌≡◌};
 ghost use Rattle.std.specs.List.{list_all};
-ghost use Rattle.ucd_model.specs.Fields.{digit_of, hex_number, point_of, span_of, behind_dot, is_name_byte, is_name, is_label_closed_by, is_range_name, label_of};
+ghost use Rattle.ucd_model.specs.Fields.{span_of, behind_dot, is_name_byte, is_name, is_label_closed_by, is_range_name, label_of};
 ghost use Rattle.source_rows.specs.Lines.{has_first_name, has_last_name};
 
-use crate::lines::{cut, first_at};
+use ucd_lines::{cut, first_at, hex};
 use ucd_model::{Point, Span};
-
-/// What a hexadecimal digit is worth, in either case.
-#[inline]
-fn digit_of(byte: u8) -> Option<u32>
-    ensures worth { result ≡ digit_of byte }
-    ensures small { IfSome result (λ d. d < 16) }
-{
-    match byte {
-        b'0'..=b'9' => Some(u32::from(byte - b'0')),
-        b'A'..=b'F' => Some(u32::from(byte - b'A') + 10),
-        b'a'..=b'f' => Some(u32::from(byte - b'a') + 10),
-        _ => None,
-    }
-}
-
-/// The number that at most six hexadecimal digits write.
-fn hex_number(digits: &[u8]) -> Option<u32>
-    requires { length digits.now ≤ 6 }
-    ensures { result ≡ hex_number digits.now }
-{
-    let mut number = 0;
-    for byte in digits {
-        number = 16 * number + digit_of(*byte)?;
-    }
-    Some(number)
-}
-
-/// The code point that 4 to 6 hexadecimal digits spell, in either case. `None` for all other bytes, and above 10FFFF.
-#[tactic(auto, unfolding(ucd_model::specs::Fields::point_of))]
-pub fn point_of(field: &[u8]) -> Option<Point>
-    ensures { result ≡ point_of field.now }
-{
-    if field.len() < 4 || field.len() > 6 {
-        return None;
-    }
-    Point::new(hex_number(field)?)
-}
 
 /// The code point behind a second dot.
 fn behind_dot(text: &[u8]) -> Option<Point>
     ensures { result ≡ behind_dot text.now }
 {
     match text {
-        [b'.', second @ ..] => point_of(second),
+        [b'.', second @ ..] => hex(second),
         _ => None,
     }
 }
@@ -61,10 +24,10 @@ pub fn span_of(field: &[u8]) -> Option<Span>
     ensures { result ≡ span_of field.now }
 {
     if first_at(field, b'.') == field.len() {
-        return Some(Span::one(point_of(field)?));
+        return Some(Span::one(hex(field)?));
     }
     let (first, second) = cut(field, b'.');
-    Span::new(point_of(first)?, behind_dot(second)?)
+    Span::new(hex(first)?, behind_dot(second)?)
 }
 
 /// Whether a byte may stand in a name: from 20 to 7E, and not `;`.

@@ -1,4 +1,4 @@
-//! Reads fields 2 to 14 of UnicodeData.txt, which a range has as a single line has them. UAX #44, section 5.7, table 9.
+//! Reads fields 2 to 14 of UnicodeData.txt, which a range has as a single line has them. UAX #44, section 5.3, table 9.
 
 ghost use Rattle.std.specs.Prelude.{◌≡◌, ◌≤◌, true, length};
 ghost use Rattle.std.specs.List.{list_all};
@@ -7,11 +7,11 @@ ghost use Rattle.source_rows.specs.DataFaults.{values_or_fault, ValuesReadAs};
 ghost use Rattle.source_rows.specs.Fields.{fields_in};
 
 use crate::category_name::category_of;
-use crate::code_point::point_of;
 use crate::decomposition::{Decomposition, read_decomposition};
 use crate::fault::{RowFault, RowStop};
 use crate::fifteen::DataFields;
 use std::alloc::Global;
+use ucd_lines::hex;
 use ucd_model::{Category, Point};
 
 /// What fields 2, 3, 5 and 12 to 14 hold.
@@ -69,7 +69,7 @@ fn case_of(field: &[u8]) -> Option<Option<Point>>
 {
     match field {
         [] => Some(None),
-        _ => Some(Some(point_of(field)?)),
+        _ => Some(Some(hex(field)?)),
     }
 }
 

@@ -5,9 +5,9 @@ ghost use Rattle.ucd_model.specs.Names.{tag_of, positional_tag_of, shaped_tag_of
 ghost use Rattle.source_rows.specs.DataFaults.{decomposition_or_fault, canonical_or_fault, compat_or_fault, DecompositionReadsAs};
 
 use crate::fault::{RowFault, RowStop};
-use crate::lines::cut;
 use crate::mapping::some_mapping_of;
 use std::alloc::Global;
+use ucd_lines::cut;
 use ucd_model::{Kind, Points, Tag};
 
 /// The greatest number of code points in a canonical mapping.

@@ -1,12 +1,12 @@
 //! Cuts a line into its fields, each a part of the line. UAX #44, section 4.2.
 
 ghost use Rattle.std.specs.Prelude.{◌≡◌, ℕ, ◌+◌, ◌<◌, ◌∷◌, [], length, count_by, IfOk};
-ghost use Rattle.ucd_model.specs.Fields.{trim_start, trim_end, trim, field, is_hash, is_semicolon};
+ghost use Rattle.ucd_model.specs.Fields.{field, is_hash, is_semicolon};
 ghost use Rattle.std.specs.List.{before_first};
 ghost use Rattle.source_rows.specs.Fields.{fields_of};
 
-use crate::lines::{cut, is_blank, leading_blanks};
 use std::alloc::{AllocError, Global};
+use ucd_lines::{cut, trim};
 use ucd_model::{ListOf, Text};
 
 /// The text of the bytes.
@@ -21,31 +21,6 @@ pub fn without_comment(content: &[u8]) -> &[u8]
     ensures { result.now ≡ before_first is_hash content.now }
 {
     cut(content, b'#').0
-}
-
-/// The text without white space at its beginning.
-fn trim_start(text: &[u8]) -> &[u8]
-    ensures { result.now ≡ trim_start text.now }
-{
-    &text[leading_blanks(text)..]
-}
-
-/// The text without white space at its end.
-fn trim_end(text: &[u8]) -> &[u8]
-    ensures { result.now ≡ trim_end text.now }
-{
-    let mut end = text.len();
-    'blanks: while end > 0 && is_blank(text[end - 1]) {
-        end -= 1;
-    }
-    &text[..end]
-}
-
-/// The text without white space at both ends.
-fn trim(text: &[u8]) -> &[u8]
-    ensures { result.now ≡ trim text.now }
-{
-    trim_end(trim_start(text))
 }
 
 /// How many `;` there are.

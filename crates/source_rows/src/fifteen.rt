@@ -1,4 +1,4 @@
-//! Cuts a line of UnicodeData.txt into its 15 fields. UAX #44, section 5.7, table 9.
+//! Cuts a line of UnicodeData.txt into its 15 fields. UAX #44, section 5.3, table 9.
 
 ghost use Rattle.std.specs.Prelude.{◌≡◌, length};
 ghost use Rattle.source_rows.specs.Fields.{fields_of, fields_in};

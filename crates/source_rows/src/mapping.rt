@@ -7,9 +7,8 @@ ghost use Rattle.ucd_model.specs.Mappings.{mapping_of, conditions_of, spaced_wor
 ghost use Rattle.source_rows.specs.DataFaults.{at_least_one};
 ghost use Rattle.source_rows.specs.Fields.{with_word};
 
-use crate::code_point::point_of;
-use crate::lines::is_blank;
 use std::alloc::Global;
+use ucd_lines::{hex, is_blank};
 use ucd_model::{Memory, Points, Text};
 
 /// The greatest number of code points in a mapping.
@@ -54,7 +53,7 @@ pub fn mapping_of(alloc: Global, text: &[u8]) -> Result<Option<Points>, Memory>
         if word.is_empty() {
             continue;
         }
-        let Some(point) = point_of(word) else {
+        let Some(point) = hex(word) else {
             return Ok(None);
         };
         if points.len() == LIMIT {

@@ -1,4 +1,4 @@
-//! Writes rows of UnicodeData.txt. UAX #44, section 5.7, table 9.
+//! Writes rows of UnicodeData.txt. UAX #44, section 5.3, table 9.
 
 ghost use Rattle.std.specs.Prelude.{◌≡◌, ◌<◌, ◌++◌, ◌∷◌, [], OnOk, IfOk, codes};
 ghost use Rattle.ucd_model.specs.DerivedText.{hex_text};

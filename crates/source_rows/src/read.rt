@@ -40,7 +40,7 @@ pub fn read_bytes(alloc: Global, file: SourceFile, bytes: &[u8]) -> Result<Row, 
 }
 
 /// The row that a line of a source file stands for, or the two lines of a range of UnicodeData.txt.
-/// UAX #44, sections 4.2 and 5.7.
+/// UAX #44, sections 4.2 and 5.3.
 ///
 /// The bytes are the content of the line, without what ends it. Of a range they are both lines, with LF or CR LF
 /// between them; all other bytes that hold a LF are `G03`.

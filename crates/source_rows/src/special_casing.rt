@@ -7,11 +7,11 @@ ghost use Rattle.source_rows.specs.Faults.{ReadsAs};
 ghost use Rattle.source_rows.specs.Fields.{fields_of};
 ghost use Rattle.source_rows.specs.OtherFaults.{casing_or_fault, has_casing_fields};
 
-use crate::code_point::point_of;
 use crate::fault::{RowFault, RowStop};
 use crate::fields::{field_count, first_field, three_fields, without_comment};
 use crate::mapping::{conditions_of, mapping_of};
 use std::alloc::Global;
+use ucd_lines::hex;
 use ucd_model::{CasingRow, Row};
 
 /// The fields of a line, each a part of it. A field that is not there is empty.
@@ -58,7 +58,7 @@ pub fn read_casing(alloc: Global, content: &[u8]) -> Result<Row, RowStop>
     if count < 4 || count > 6 || !line.behind.is_empty() {
         return Err(RowStop::Fault(RowFault::G03));
     }
-    let Some(code) = point_of(line.code) else {
+    let Some(code) = hex(line.code) else {
         return Err(RowStop::Fault(RowFault::G04));
     };
     let Some(lower) = mapping_of(alloc, line.lower)? else {

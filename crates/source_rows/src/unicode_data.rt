@@ -10,15 +10,14 @@ ghost use Rattle.source_rows.specs.Lines.{is_first_line};
 ghost use Rattle.source_rows.specs.DataFaults.{unit_or_fault, single_or_fault, single_end, are_last_fields, pair_end};
 ghost use Rattle.source_rows.specs.Faults.{ReadsAs, lines_or_fault, row_or_fault};
 
-use crate::code_point::{
-    has_first_name, has_last_name, is_name, is_range_name, label_of, point_of,
-};
+use crate::code_point::{has_first_name, has_last_name, is_name, is_range_name, label_of};
 use crate::data_values::{Values, read_values};
 use crate::fault::{RowFault, RowStop};
 use crate::fields::{field_count, text_of, two_fields};
 use crate::fifteen::{DataFields, FIELDS, fifteen_fields};
-use crate::lines::{cut, holds_line_feed, without_return};
+use crate::lines::{holds_line_feed, without_return};
 use std::alloc::{AllocError, Global};
+use ucd_lines::{cut, hex};
 use ucd_model::{DataRow, Kept, Point, Row, SourceFile, Span};
 
 /// Fields 4 and 6 to 11, as they stand.
@@ -96,7 +95,7 @@ fn read_single(alloc: Global, content: &[u8]) -> Result<Row, RowStop>
         return Err(RowStop::Fault(RowFault::G03));
     }
     let line = fifteen_fields(content);
-    let Some(point) = point_of(line.f0) else {
+    let Some(point) = hex(line.f0) else {
         return Err(RowStop::Fault(RowFault::G04));
     };
     if !is_name(line.f1) {
@@ -136,7 +135,7 @@ fn pair_end(label: &[u8], lo: Point, last: &[u8]) -> Result<Span, RowFault>
     if !ends_range(label, last) {
         return Err(RowFault::G09);
     }
-    let Some(hi) = point_of(two_fields(last).0) else {
+    let Some(hi) = hex(two_fields(last).0) else {
         return Err(RowFault::G04);
     };
     match Span::new(lo, hi) {
@@ -155,7 +154,7 @@ fn read_pair(alloc: Global, front: &[u8], last: &[u8]) -> Result<Row, RowStop>
         return Err(RowStop::Fault(RowFault::G03));
     }
     let line = fifteen_fields(first);
-    let Some(lo) = point_of(line.f0) else {
+    let Some(lo) = hex(line.f0) else {
         return Err(RowStop::Fault(RowFault::G04));
     };
     let label = label_of(b", First>", line.f1);

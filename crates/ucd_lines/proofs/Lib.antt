@@ -1,8 +1,6 @@
-pub mod Cuts
 pub mod Places
 pub mod ItemCuts
 pub mod FieldCuts
 pub mod Digits
-pub mod HexTexts
 pub mod Endings
 pub mod Lines

@@ -1,3 +1,4 @@
+pub mod Cuts
 pub mod Items
 pub mod Fields
 pub mod Laws

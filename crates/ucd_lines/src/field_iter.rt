@@ -2,11 +2,11 @@
 
 ghost use Rattle.std.specs.Prelude.{◌≡◌, ◌∷◌, map};
 ghost use Rattle.std.specs.List.{slice_split};
-ghost use Rattle.ucd_model.specs.Fields.{trim_start, trim_end, trim, is_semicolon};
+ghost use Rattle.ucd_model.specs.Fields.{trim, is_semicolon};
 ghost use Rattle.ucd_lines.specs.Fields.{fields_left};
 
+use crate::blank::trim;
 use crate::search::first_at;
-use crate::trivia::{is_blank, leading_blanks};
 use std::marker::Model;
 
 /// The fields of a line that are left, in order, each without white space around it: what
@@ -61,29 +61,4 @@ fn first_field(text: &[u8]) -> (&[u8], Option<&[u8]>)
         return (trim(text), None);
     }
     (trim(&text[..at]), Some(&text[at + 1..]))
-}
-
-/// The text without white space at its beginning.
-fn trim_start(text: &[u8]) -> &[u8]
-    ensures { result.now ≡ trim_start text.now }
-{
-    &text[leading_blanks(text)..]
-}
-
-/// The text without white space at its end.
-fn trim_end(text: &[u8]) -> &[u8]
-    ensures { result.now ≡ trim_end text.now }
-{
-    let mut end = text.len();
-    'blanks: while end > 0 && is_blank(text[end - 1]) {
-        end -= 1;
-    }
-    &text[..end]
-}
-
-/// The text without white space at both ends.
-fn trim(text: &[u8]) -> &[u8]
-    ensures { result.now ≡ trim text.now }
-{
-    trim_end(trim_start(text))
 }

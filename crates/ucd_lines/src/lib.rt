@@ -2,6 +2,7 @@
 //! UAX #44, section 4.2, "File Format Conventions".
 #![tactic(auto)]
 
+mod blank;
 mod code_point;
 mod field_iter;
 mod hex_text;
@@ -12,6 +13,7 @@ mod search;
 mod split;
 mod trivia;
 
+pub use blank::{is_blank, trim};
 pub use code_point::hex;
 pub use field_iter::Fields;
 pub use hex_text::put_hex;

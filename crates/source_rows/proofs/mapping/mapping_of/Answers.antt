@@ -13,7 +13,7 @@ words-preserved-then-is_empty c =
 pub words-preserved : goal.words-preserved
 words-preserved c =
     let e = one_word c.words.rest.now c.first_word.result.0.now c.first_word.result.1.now c.first_word.ensures.before c.first_word.ensures.after (sym c.is_empty-in-words.ensures ∙ c.if-is_empty.false) in
-    let found : point_of c.first_word.result.0.now ≡ Some c.in-Some.point = sym c.point_of.ensures ∙ c.in-Some.is in
+    let found : point_of c.first_word.result.0.now ≡ Some c.in-Some.point = sym c.hex.ensures ∙ c.in-Some.is in
     let grown = c.in_ok-push.ensures.ok in
     let next = all_points (words c.first_word.result.1.now) in
     let len = ap length grown in (
@@ -25,7 +25,7 @@ words-preserved c =
 pub returns-in_default : goal.returns-in_default
 returns-in_default c =
     let e = one_word c.words.rest.now c.first_word.result.0.now c.first_word.result.1.now c.first_word.ensures.before c.first_word.ensures.after (sym c.is_empty-in-words.ensures ∙ c.if-is_empty.false) in
-    let none : point_of c.first_word.result.0.now ≡ None = sym c.point_of.ensures ∙ c.in_default.is in
+    let none : point_of c.first_word.result.0.now ≡ None = sym c.hex.ensures ∙ c.in_default.is in
     let next = all_points (words c.first_word.result.1.now) in
     sym (none_mapping c.args.text.now (sym c.words.invariant.0 ∙ rw (e, none) refl))
 

@@ -1,5 +1,5 @@
-use Rattle.ucd_lines.proofs.HexTexts.{text_reads}
+use Rattle.ucd_model.specs.HexTextProofs.{hex_text_spells_its_point}
 use Rattle.ucd_lines.proofs.laws.hex_reads_put_hex.Goals as goal
 
 pub returns : goal.returns
-returns c = text_reads
+returns c = hex_text_spells_its_point

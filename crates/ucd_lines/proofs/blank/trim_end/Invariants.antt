@@ -1,7 +1,7 @@
 use Rattle.std.proofs.Common.{◌≡◌, ◌+◌, ◌≤◌, length, take}
 use Rattle.std.specs.List.{suffix_len}
 use Rattle.ucd_model.specs.Lines.{is_blank}
-use Rattle.source_rows.proofs.fields.trim_end.Given as goal
+use Rattle.ucd_lines.proofs.blank.trim_end.Given as goal
 
 -- what is left gives what the whole gives
 abbrev pub invariant-blanks : goal.invariant-blanks

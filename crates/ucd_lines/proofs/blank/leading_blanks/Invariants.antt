@@ -1,7 +1,7 @@
 use Rattle.std.proofs.Common.{◌≡◌, ◌+◌, drop}
 use Rattle.std.specs.List.{prefix_len}
 use Rattle.ucd_model.specs.Lines.{is_blank}
-use Rattle.ucd_lines.proofs.trivia.leading_blanks.Given as goal
+use Rattle.ucd_lines.proofs.blank.leading_blanks.Given as goal
 
 -- what is left gives what the whole gives
 abbrev pub invariant-loop-i : goal.invariant-loop-i

@@ -1,7 +1,0 @@
-use Rattle.std.proofs.Common.{◌≡◌, ◌+◌, ◌==◌, drop}
-use Rattle.std.specs.List.{position_or_len}
-use Rattle.source_rows.proofs.lines.first_at.Given as goal
-
--- what is left gives what the whole gives
-abbrev pub invariant-loop-i : goal.invariant-loop-i
-invariant-loop-i l = l.i + position_or_len (λ b. b == l.byte) (drop l.i l.text) ≡ position_or_len (λ b. b == l.byte) l.text

@@ -12,19 +12,9 @@ use Rattle.ucd_model.specs.declared.row.DataRow.{DataRow}
 use Rattle.ucd_model.specs.declared.row.Row.TheVariants.{Unit as DataLine, Value as ValueLine, Exclusion as ExclusionLine, Fold as FoldLine, Casing as CasingLine, Alias as AliasLine}
 use Rattle.release_rows.specs.Keys.{key_rule, same_key, overlaps}
 use Rattle.release_rows.specs.FileItems.{FileItem, rows_in, onto_rows}
-use Rattle.release_rows.specs.Releases.{AreKept, AreKeptBelow, numbered_rows}
+use Rattle.release_rows.specs.Releases.{AreKept, AreKeptBelow}
 use Rattle.release_rows.specs.declared.key_rule.KeyRule.TheVariants.{K1, K4}
 use Rattle.code_facts.specs.Rows.{Apart, pointed}
-
--- ---- rows with their lines
-
-numbered_by : (line : ℕ) (item : FileItem) (items : List FileItem) (o : Option Row) → item.row ≡ o → map (λ (n : ℕ × Row). n.1) (numbered_rows (line + item.lines) items) ≡ rows_in items → map (λ (n : ℕ × Row). n.1) (numbered_rows line (item ∷ items)) ≡ rows_in (item ∷ items)
-numbered_by line item items None e rest = rw e rest
-numbered_by line item items (Some row) e rest = rw (e, rest) refl
-
-pub rows_of_numbered : (line : ℕ) (items : List FileItem) → map (λ (n : ℕ × Row). n.1) (numbered_rows line items) ≡ rows_in items
-rows_of_numbered line [] = refl
-rows_of_numbered line (item ∷ items) = numbered_by line item items item.row refl (rows_of_numbered (line + item.lines) items)
 
 -- ---- rows that do not overlap
 

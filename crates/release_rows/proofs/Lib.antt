@@ -5,5 +5,4 @@ pub mod Apart
 pub mod RowRules
 pub mod Growing
 pub mod Kept
-pub mod Stored
 pub mod Faults

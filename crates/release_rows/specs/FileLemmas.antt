@@ -1,14 +1,16 @@
--- One file's items in the place of others.
+-- Lemmas of files and their items.
 --
 -- each_with_items             what holds of each file's items, and of the new ones of a file, holds of each file's once they are
 --                             there
 -- items_at-with_items_same    the file in which the items were put has them
 -- items_at-with_items_other   every other file has the items that it had
-use Rattle.std.proofs.Common.{◌≡◌, ◌≢◌, List, refl}
+-- rows_of_numbered            without their lines, numbered rows are the rows
+use Rattle.std.proofs.Common.{◌≡◌, ◌≢◌, ℕ, ◌+◌, List, [], ◌∷◌, map, Option, Some, None, refl, ap}
 use Rattle.ucd_model.specs.declared.files.SourceFile.{SourceFile}
 use Rattle.ucd_model.specs.declared.files.SourceFile.TheVariants.{UnicodeData, PropList, Scripts, WordBreakProperty, CompositionExclusions, CaseFolding, SpecialCasing, PropertyAliases, PropertyValueAliases}
-use Rattle.release_rows.specs.FileItems.{FileItem}
-use Rattle.release_rows.specs.Releases.{items_at, with_items}
+use Rattle.ucd_model.specs.declared.row.Row.{Row}
+use Rattle.release_rows.specs.FileItems.{FileItem, rows_in, onto_rows}
+use Rattle.release_rows.specs.Releases.{items_at, with_items, numbered_rows, onto_numbered}
 use Rattle.release_rows.specs.declared.nine_files.NineFiles.{NineFiles}
 
 pub each_with_items : (P : SourceFile → List FileItem → Type 0) (files : NineFiles) (file : SourceFile) (items : List FileItem) → ((other : SourceFile) → P other (items_at files other)) → P file items → (other : SourceFile) → P other (items_at (with_items files file items) other)
@@ -108,3 +110,13 @@ items_at-with_items_same files PropertyValueAliases items = refl
 pub items_at-with_items_other : (files : NineFiles) (file other : SourceFile) (items : List FileItem) → other ≢ file → items_at (with_items files file items) other ≡ items_at files other
 items_at-with_items_other files file other items differs =
     each_with_items (λ f xs. f ≢ file → xs ≡ items_at files f) files file items (λ f _. refl) (λ same. absurd (same refl)) other differs
+
+-- ---- rows with their lines
+
+numbered_one : (line : ℕ) (row : Option Row) (items : List FileItem) (more : ℕ) → map (λ (n : ℕ × Row). n.1) (numbered_rows more items) ≡ rows_in items → map (λ (n : ℕ × Row). n.1) (onto_numbered line row (numbered_rows more items)) ≡ onto_rows row (rows_in items)
+numbered_one line None items more e = e
+numbered_one line (Some row) items more e = ap (λ (rows : List Row). row ∷ rows) e
+
+pub rows_of_numbered : (line : ℕ) (items : List FileItem) → map (λ (n : ℕ × Row). n.1) (numbered_rows line items) ≡ rows_in items
+rows_of_numbered line [] = refl
+rows_of_numbered line (item ∷ items) = numbered_one line item.row items (line + item.lines) (rows_of_numbered (line + item.lines) items)

@@ -1,7 +1,7 @@
 use Rattle.std.proofs.Common.{ℕ, map, ap, ◌∙◌}
 use Rattle.ucd_model.specs.declared.row.Row.{Row}
 use Rattle.release_rows.specs.Releases.{items_now}
-use Rattle.code_facts.proofs.RowLemmas.{rows_of_numbered}
+use Rattle.release_rows.specs.FileLemmas.{rows_of_numbered}
 use Rattle.code_facts.proofs.rows.rows_of.Goals as goal
 
 pub rows-init : goal.rows-init

@@ -3,9 +3,10 @@ use Rattle.std.proofs.Common.{◌≡◌, ◌≢◌, ◌⊎◌, ◌↔◌, ℕ, I
 use Rattle.shelf_io.specs.Counts.{Rose}
 use Rattle.shelf_io.specs.Contents.{SameContents}
 use Rattle.ucdshop_core.specs.Printed.{usage, read_failed, write_failed, out_of_memory, summary, no_counts}
-use Rattle.ucdshop_core.specs.Run.{Contents, Job, form, NewFile, Expected, NoForm, Refuses, Writes, expected, expected_of, Replaced}
-use Rattle.ucdshop_core.specs.Outcome.{ShelfSeen, SinkSeen, Told, GrewInPart, IsClean, Outcome, IsNeeded, IsOutput, WritesNothing, WrittenUpTo, WrittenWhole}
+use Rattle.ucdshop_core.specs.Run.{Contents, Job, form, NewFile, Expected, NoForm, Refuses, Writes, expected, expected_of, Replaced, Sees, IsFine}
+use Rattle.ucdshop_core.specs.Outcome.{ShelfSeen, SinkSeen, Told, GrewInPart, IsClean, Outcome, IsNeeded, IsOutput, MayWrite, WritesNothing, WrittenUpTo, WrittenWhole}
 use Rattle.ucdshop_core.specs.declared.status.Status.{Status}
+use Rattle.ucdshop_core.proofs.RunLemmas.{seen_held}
 use Rattle.ucdshop_core.specs.declared.status.Status.TheVariants.{Clean, Done, BadWords, LoadRefused, ReadFault, WriteFault, Memory}
 
 -- words without a form expect nothing
@@ -33,7 +34,7 @@ pub complete : (words : List (List ℕ)) (shelf : ShelfSeen) (sink : SinkSeen) (
 complete words shelf sink Clean o tells files e r w f = inl refl
 complete words shelf sink Done o tells files e r w f = absurd o
 complete words shelf sink BadWords o tells files e r w f = absurd (no_form_writes _ files (no_form words shelf.old o.unformed) e)
-complete words shelf sink LoadRefused o tells files e r w f = absurd (refuses_writes _ o.line files (o.refused tells) e)
+complete words shelf sink LoadRefused o tells files e r w f = absurd (refuses_writes _ o.line files (seen_held shelf.tells shelf.old (λ seen. expected words seen ≡ Refuses o.line) o.refused tells) e)
 complete words shelf sink ReadFault o tells files e r w f = absurd (r o.rose)
 complete words shelf sink WriteFault o tells files e r w f = elim o.cause [ inl stopped ↦ absurd (w stopped.rose) | inr untold ↦ absurd (f untold.told.0) ]
 complete words shelf sink Memory o tells files e r w f = inr refl
@@ -72,8 +73,19 @@ bad_words words shelf sink Memory o = (λ e. absurd cc, λ n. absurd (some_none 
 pub bad_words_told : (words : List (List ℕ)) (shelf : ShelfSeen) (sink : SinkSeen) (status : Status) → Outcome words shelf sink status → status ≡ BadWords → Told usage sink
 bad_words_told words shelf sink status o e = let c : Outcome words shelf sink BadWords = subst (Outcome words shelf sink) e o in c.told
 
-pub refused_only : (words : List (List ℕ)) (shelf : ShelfSeen) (sink : SinkSeen) (status : Status) → Outcome words shelf sink status → IsTrue shelf.tells → status ≡ LoadRefused → (line : List ℕ) × (expected words shelf.old ≡ Refuses line) × Told line sink
-refused_only words shelf sink status o tells e = let c : Outcome words shelf sink LoadRefused = subst (Outcome words shelf sink) e o in (c.line, c.refused tells, c.told)
+pub refused_only : (words : List (List ℕ)) (shelf : ShelfSeen) (sink : SinkSeen) (status : Status) → Outcome words shelf sink status → status ≡ LoadRefused → Sees shelf.tells shelf.old (λ seen. (line : List ℕ) × (expected words seen ≡ Refuses line) × Told line sink)
+refused_only words shelf sink status o e =
+    let c : Outcome words shelf sink LoadRefused = subst (Outcome words shelf sink) e o in
+    (c.refused.0, c.refused.1, (c.line, c.refused.2, c.told))
+
+pub fine_only : (words : List (List ℕ)) (shelf : ShelfSeen) (sink : SinkSeen) (status : Status) → Outcome words shelf sink status → MayWrite status → Sees shelf.tells shelf.old (IsFine words)
+fine_only words shelf sink Clean o may = o.fine
+fine_only words shelf sink WriteFault o may = o.fine
+fine_only words shelf sink Done o may = absurd may
+fine_only words shelf sink BadWords o may = absurd may
+fine_only words shelf sink LoadRefused o may = absurd may
+fine_only words shelf sink ReadFault o may = absurd may
+fine_only words shelf sink Memory o may = absurd may
 
 pub refused_read : (words : List (List ℕ)) (shelf : ShelfSeen) (sink : SinkSeen) (status : Status) → Outcome words shelf sink status → IsTrue shelf.tells_failed → status ≡ LoadRefused → shelf.failed ≡ shelf.failed_old
 refused_read words shelf sink status o tells e = let c : Outcome words shelf sink LoadRefused = subst (Outcome words shelf sink) e o in c.read tells

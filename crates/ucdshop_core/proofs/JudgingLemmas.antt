@@ -1,23 +1,26 @@
 -- The verdict on files of which no more was read than decides it.
-use Rattle.std.proofs.Common.{◌≡◌, ◌≢◌, ℕ, zero, suc, IsTrue, ◌+◌, ◌<◌, ◌≤◌, Bool, true, false, List, [], ◌∷◌, length, take, drop, map, get_or, nat_lt, Option, Some, None, Result, Ok, Err, refl, sym, ap, subst, ◌∙◌, arith, lit<, inl, inr}
+use Rattle.std.proofs.Common.{◌≡◌, ◌≢◌, ℕ, zero, suc, IsTrue, ◌+◌, ◌<◌, ◌≤◌, Bool, true, false, List, [], ◌∷◌, length, take, drop, map, get_or, nat_lt, if◌then◌else◌, codes, ◌++◌, Option, Some, None, Result, Ok, Err, refl, sym, ap, subst, ◌∙◌, arith, lit<, inl, inr}
 use mathlib.Core.Path.{fun_ext}
 use Rattle.std.proofs.lemmas.Bool.{cases_lt, lt-ltb, le-ltb}
 use Rattle.std.proofs.lemmas.List.{length-take, take_all, drop_more}
 use Rattle.std.specs.List.{slice_get}
+use Rattle.std.specs.Str.{bytes_eq}
+use Rattle.std.proofs.Math.Seq.{drop-append_seam}
 use Rattle.ucd_model.specs.Limits.{file_limit}
+use Rattle.ucd_model.specs.Names.{source_path}
 use Rattle.ucd_model.specs.Facts.{Sources}
 use Rattle.ucd_model.specs.declared.files.SourceFile.{SourceFile}
 use Rattle.ucd_model.specs.declared.files.SourceFile.TheVariants.{UnicodeData, PropList, Scripts, WordBreakProperty, CompositionExclusions, CaseFolding, SpecialCasing, PropertyAliases, PropertyValueAliases}
 use Rattle.ucd_model.specs.declared.row.Row.{Row}
-use Rattle.release_rows.specs.FileItems.{FileItem, rows_in, onto_rows}
+use Rattle.release_rows.specs.FileItems.{FileItem, rows_in}
 use Rattle.release_rows.specs.Loading.{LoadFault, load_or_fault}
-use Rattle.release_rows.specs.Releases.{ReleaseItems, items_now, numbered_rows, onto_numbered}
+use Rattle.release_rows.specs.Releases.{ReleaseItems, items_now}
 use Rattle.ucdshop_core.specs.Judging.{JudgedAs, LoadsFile, held_at, place_of, release_rows, verdict_at}
-use Rattle.ucdshop_core.specs.Planning.{LoadedAs, NamesUnread}
+use Rattle.ucdshop_core.specs.Planning.{LoadedAs, NamesUnread, OnRefused}
 use Rattle.ucdshop_core.specs.Printed.{read_failed}
 use Rattle.std.proofs.lemmas.Option.{slice_get-get_or}
 use Rattle.ucdshop_core.specs.Reading.{cut, text_at}
-use Rattle.ucdshop_core.specs.Run.{Contents, file_rows, told_rows, first_refusal, or_refusal, refused_or, rows_or_none, source_files, source_in, sources_in, verdict_by, files_verdict}
+use Rattle.ucdshop_core.specs.Run.{Contents, Sees, file_rows, told_rows, first_refusal, or_refusal, refused_or, rows_or_none, source_files, source_in, sources_in, verdict_by, files_verdict}
 use Rattle.ucdshop_core.specs.declared.stop.Stop.{Stop}
 use Rattle.ucdshop_core.specs.declared.stop.Stop.TheVariants.{Refused, ReadFailed, Memory}
 
@@ -47,6 +50,54 @@ read_at folder holds PropertyValueAliases = refl
 -- the verdict on what was read is the verdict on what is held
 pub verdict_cut : (folder : List ℕ) (holds : Contents) → verdict_by (verdict_at (sources_in folder) (map (λ path. cut (holds path)) (sources_in folder))) ≡ files_verdict folder holds
 verdict_cut folder holds = ap verdict_by (fun_ext (λ file. read_at folder holds file ∙ cut_same (source_in folder file) file (holds (source_in folder file))))
+
+-- ---- what was seen
+
+-- what was read of the file of this name, among these files
+abbrev named_in : (SourceFile → Option (List ℕ)) → List ℕ → List SourceFile → Option (List ℕ)
+named_in held name [] = None
+named_in held name (file ∷ files) = if bytes_eq (source_path file) name then held file else named_in held name files
+
+named : (held : SourceFile → Option (List ℕ)) (file : SourceFile) → named_in held (source_path file) source_files ≡ held file
+named held UnicodeData = refl
+named held PropList = refl
+named held Scripts = refl
+named held WordBreakProperty = refl
+named held CompositionExclusions = refl
+named held CaseFolding = refl
+named held SpecialCasing = refl
+named held PropertyAliases = refl
+named held PropertyValueAliases = refl
+
+-- contents that hold below a folder what was read
+abbrev read_contents : List ℕ → (SourceFile → Option (List ℕ)) → Contents
+read_contents folder held path = named_in held (drop (length (folder ++ codes "/")) path) source_files
+
+read_of : (folder : List ℕ) (held : SourceFile → Option (List ℕ)) (file : SourceFile) → read_contents folder held (source_in folder file) ≡ held file
+read_of folder held file =
+    ap (λ (name : List ℕ). named_in held name source_files) (drop-append_seam (folder ++ codes "/") (source_path file)) ∙ named held file
+
+path_at : (folder : List ℕ) (file : SourceFile) → text_at (sources_in folder) (place_of file) ≡ source_in folder file
+path_at folder UnicodeData = refl
+path_at folder PropList = refl
+path_at folder Scripts = refl
+path_at folder WordBreakProperty = refl
+path_at folder CompositionExclusions = refl
+path_at folder CaseFolding = refl
+path_at folder SpecialCasing = refl
+path_at folder PropertyAliases = refl
+path_at folder PropertyValueAliases = refl
+
+verdict_read : (folder : List ℕ) (held : List (Option (List ℕ))) → verdict_by (verdict_at (sources_in folder) held) ≡ files_verdict folder (read_contents folder (λ file. held_at held (place_of file)))
+verdict_read folder held = ap verdict_by (fun_ext (λ file.
+    ap (λ (path : List ℕ). file_rows path file (held_at held (place_of file))) (path_at folder file)
+    ∙ ap (file_rows (source_in folder file) file) (sym (read_of folder (λ f. held_at held (place_of f)) file))))
+
+-- the verdict on what was read is that on what was seen
+pub verdict_seen : (tells : Bool) (holds : Contents) (folder : List ℕ) (held : List (Option (List ℕ))) → (IsTrue tells → verdict_by (verdict_at (sources_in folder) held) ≡ files_verdict folder holds)
+    → Sees tells holds (λ seen. verdict_by (verdict_at (sources_in folder) held) ≡ files_verdict folder seen)
+verdict_seen true holds folder held same = (holds, λ _. refl, same refl)
+verdict_seen false holds folder held same = (read_contents folder (λ file. held_at held (place_of file)), λ none. absurd cc, verdict_read folder held)
 
 -- ---- file by file
 
@@ -127,6 +178,12 @@ loaded_from_judged view (Err (Refused line)) expected h = h
 loaded_from_judged view (Err (ReadFailed line)) expected h = tt
 loaded_from_judged view (Err Memory) expected h = tt
 
+-- where reading stopped, nothing is said of a verdict
+pub unread_says_nothing : {A B : Type 0} (view : A → B) (stop : Stop) (expected : Result B (List ℕ)) → OnRefused {A = A} (Err stop) (λ _. ⊥) → LoadedAs view (Err stop) expected
+unread_says_nothing view (Refused line) expected none = absurd none
+unread_says_nothing view (ReadFailed line) expected none = tt
+unread_says_nothing view Memory expected none = tt
+
 -- a path at a place, by its line
 pub names_unread : (paths needed : List (List ℕ)) (at : ℕ) (tells : Bool) (failed line : List ℕ) → paths ≡ needed → at < length paths → line ≡ read_failed (text_at paths at) → (IsTrue tells → failed ≡ text_at paths at) → NamesUnread needed tells failed line
 names_unread paths needed at tells failed line same inside told last = record {
@@ -136,12 +193,3 @@ names_unread paths needed at tells failed line same inside told last = record {
   told = told;
   last = λ t. sym (last t);
 }
-
--- the rows of items, with their numbers put aside
-numbered_one : (line : ℕ) (row : Option Row) (items : List FileItem) (more : ℕ) → map (λ (n : ℕ × Row). n.1) (numbered_rows more items) ≡ rows_in items → map (λ (n : ℕ × Row). n.1) (onto_numbered line row (numbered_rows more items)) ≡ onto_rows row (rows_in items)
-numbered_one line None items more e = e
-numbered_one line (Some row) items more e = ap (λ (rows : List Row). row ∷ rows) e
-
-pub rows_of_numbered : (line : ℕ) (items : List FileItem) → map (λ (n : ℕ × Row). n.1) (numbered_rows line items) ≡ rows_in items
-rows_of_numbered line [] = refl
-rows_of_numbered line (item ∷ items) = numbered_one line item.row items (line + item.lines) (rows_of_numbered (line + item.lines) items)

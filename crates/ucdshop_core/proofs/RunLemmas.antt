@@ -8,7 +8,7 @@ use Rattle.shelf_io.specs.Counts.{Rose}
 use Rattle.shelf_io.specs.Contents.{SameContents}
 use Rattle.ucd_model.specs.Facts.{Sources}
 use Rattle.ucdshop_core.specs.Printed.{read_failed, write_failed, summary, no_counts, out_of_memory}
-use Rattle.ucdshop_core.specs.Run.{Contents, Job, Derive, form, needed, NewFile, outputs, output_paths, Expected, NoForm, Refuses, Writes, expected, expected_of, judged, job_verdict, after, Replaced}
+use Rattle.ucdshop_core.specs.Run.{Contents, Job, Derive, form, needed, NewFile, outputs, output_paths, Expected, NoForm, Refuses, Writes, expected, expected_of, judged, job_verdict, after, Replaced, Sees, IsFine}
 use Rattle.ucdshop_core.specs.Planning.{HasPlan, HaveLines, OnRefused, OnUnread, NamesUnread, NoneFailed}
 use Rattle.ucdshop_core.specs.Writing.{file_of, files_of, StopsAt, StoppedAt}
 use Rattle.ucdshop_core.specs.Outcome.{ShelfSeen, SinkSeen, Unchanged, Grew, GrewInPart, Told, IsClean, IsRefused, IsReadFault, IsWriteStopped, IsUntold, IsWriteFault, IsMemory, Outcome, StoppedWith, StopsWriting, WritesAll, Finished}
@@ -31,6 +31,13 @@ expected_writes words job rows holds formed fine = expected_form words job holds
 
 pub expected_refuses : (words : List (List ℕ)) (job : Job) (line : List ℕ) (holds : Contents) → form words ≡ Some job → job_verdict job holds ≡ Err line → expected words holds ≡ Refuses line
 expected_refuses words job line holds formed refused = expected_form words job holds formed ∙ ap (judged job) refused
+
+-- what was seen is what is held
+pub seen_held : (tells : Bool) (holds : Contents) (P : Contents → Type 0) → Sees tells holds P → IsTrue tells → P holds
+seen_held tells holds P sees told = subst P (sees.1 told) sees.2
+
+sees_fine : (words : List (List ℕ)) (job : Job) (rows : Sources) (tells : Bool) (holds : Contents) → form words ≡ Some job → Sees tells holds (λ seen. job_verdict job seen ≡ Ok rows) → Sees tells holds (IsFine words)
+sees_fine words job rows tells holds formed sees = (sees.0, sees.1, (outputs job rows, expected_writes words job rows sees.0 formed sees.2))
 
 -- the paths of the outputs
 paths_of_outputs : (job : Job) (rows : Sources) → map (λ (file : NewFile). file.path) (outputs job rows) ≡ output_paths job
@@ -56,18 +63,20 @@ replaced_from files others old mid new e same replaced path =
     replaced path ∙ ap (λ (fs : List NewFile). after fs mid path) e ∙ ap (λ (h : Contents). after files h path) (fun_ext same)
 
 pub outcome_finished : (words : List (List ℕ)) (job : Job) (rows : Sources) (plan : Plan) (tells tells_failed : Bool) (old mid new : Contents) (reads_old reads_mid reads_new writes_old writes_mid writes_new : ℕ) (failed_old failed_mid failed : List ℕ) (sink : SinkSeen) (status : Status)
-    → form words ≡ Some job → HasPlan job rows plan → (IsTrue tells → job_verdict job old ≡ Ok rows) → (IsTrue tells → SameContents old mid) → writes_mid ≡ writes_old
+    → form words ≡ Some job → HasPlan job rows plan → Sees tells old (λ seen. job_verdict job seen ≡ Ok rows) → (IsTrue tells → SameContents old mid) → writes_mid ≡ writes_old
     → Finished plan (record { tells = tells; tells_failed = tells_failed; old = mid; new = new; reads_old = reads_mid; reads_new = reads_new; writes_old = writes_mid; writes_new = writes_new; failed_old = failed_mid; failed = failed }) sink status
     → Outcome words (record { tells = tells; tells_failed = tells_failed; old = old; new = new; reads_old = reads_old; reads_new = reads_new; writes_old = writes_old; writes_new = writes_new; failed_old = failed_old; failed = failed }) sink status
 outcome_finished words job rows plan tells tells_failed old mid new reads_old reads_mid reads_new writes_old writes_mid writes_new failed_old failed_mid failed sink Clean formed has fine same writes f = record {
   job = job;
   formed = formed;
-  written = λ told. (outputs job rows, expected_writes words job rows old formed (fine told), replaced_from (outputs job rows) (files_of plan.outputs.items) old mid new has.files (same told) (f.0.written told));
+  fine = sees_fine words job rows tells old formed fine;
+  written = λ told. (outputs job rows, expected_writes words job rows old formed (seen_held tells old (λ seen. job_verdict job seen ≡ Ok rows) fine told), replaced_from (outputs job rows) (files_of plan.outputs.items) old mid new has.files (same told) (f.0.written told));
   told = λ told. f.1 told ∙ ap (λ (line : List ℕ). sink.old ++ line) has.summary;
 }
 outcome_finished words job rows plan tells tells_failed old mid new reads_old reads_mid reads_new writes_old writes_mid writes_new failed_old failed_mid failed sink WriteFault formed has fine same writes (inl stops) = record {
   job = job;
   formed = formed;
+  fine = sees_fine words job rows tells old formed fine;
   cause = inl (
       let place = stops.written.0 in
       let output = stops.written.1 in
@@ -79,7 +88,7 @@ outcome_finished words job rows plan tells tells_failed old mid new reads_old re
         output = output_path job rows plan place output has at.here;
         written = λ told. (
           outputs job rows,
-          expected_writes words job rows old formed (fine told),
+          expected_writes words job rows old formed (seen_held tells old (λ seen. job_verdict job seen ≡ Ok rows) fine told),
           λ other differs.
               at.others told other differs ∙ ap (λ (fs : List NewFile). after (take place fs) mid other) has.files
               ∙ ap (λ (h : Contents). after (take place (outputs job rows)) h other) (fun_ext (same told)),
@@ -90,8 +99,9 @@ outcome_finished words job rows plan tells tells_failed old mid new reads_old re
 outcome_finished words job rows plan tells tells_failed old mid new reads_old reads_mid reads_new writes_old writes_mid writes_new failed_old failed_mid failed sink WriteFault formed has fine same writes (inr untold) = record {
   job = job;
   formed = formed;
+  fine = sees_fine words job rows tells old formed fine;
   cause = inr (record {
-    written = λ told. (outputs job rows, expected_writes words job rows old formed (fine told), replaced_from (outputs job rows) (files_of plan.outputs.items) old mid new has.files (same told) (untold.0.written told));
+    written = λ told. (outputs job rows, expected_writes words job rows old formed (seen_held tells old (λ seen. job_verdict job seen ≡ Ok rows) fine told), replaced_from (outputs job rows) (files_of plan.outputs.items) old mid new has.files (same told) (untold.0.written told));
     told = subst (λ (line : List ℕ). GrewInPart line sink) has.summary untold.1;
   });
 }
@@ -102,7 +112,7 @@ outcome_finished words job rows plan tells tells_failed old mid new reads_old re
 outcome_finished words job rows plan tells tells_failed old mid new reads_old reads_mid reads_new writes_old writes_mid writes_new failed_old failed_mid failed sink Memory formed has fine same writes f = absurd f
 
 pub outcome_stopped : (words : List (List ℕ)) (job : Job) (stop : Stop) (shelf : ShelfSeen) (sink : SinkSeen) (status : Status) → form words ≡ Some job
-    → (IsTrue shelf.tells → OnRefused {A = Plan} (Err stop) (λ line. job_verdict job shelf.old ≡ Err line))
+    → OnRefused {A = Plan} (Err stop) (λ line. Sees shelf.tells shelf.old (λ seen. job_verdict job seen ≡ Err line))
     → OnUnread {A = Plan} (Err stop) (NamesUnread (needed job) shelf.tells_failed shelf.failed)
     → OnUnread {A = Plan} (Err stop) (λ _. Rose shelf.reads_old shelf.reads_new)
     → (IsTrue shelf.tells_failed → NoneFailed {A = Plan} (Err stop) shelf.failed_old shelf.failed)
@@ -112,7 +122,7 @@ outcome_stopped words job (stops.Refused line) shelf sink status formed refused 
       job = job;
       formed = formed;
       line = line;
-      refused = λ tells. expected_refuses words job line shelf.old formed (refused tells);
+      refused = (refused.0, refused.1, expected_refuses words job line refused.0 formed refused.2);
       read = read;
       unchanged = unchanged;
       told = told.1;

@@ -9,18 +9,18 @@
 --
 -- What each status says. What a shelf holds and the path of its last failed read are spoken of only where the shelf tells them,
 -- here and below
--- IsClean words shelf sink          the words have a form, every file that is expected is written and all else is as it was, and
---                                   the summary is told
+-- IsClean words shelf sink          the words have a form, what was seen is fine, every file that is expected is written and all
+--                                   else is as it was, and the summary is told
 -- IsBadWords words shelf sink       the words have no form, the shelf is unchanged, and the usage is told
--- IsRefused words shelf sink        the words have a form, a file or the release is refused by the line that is told, the path of
---                                   the last failed read is as it was, and the shelf is unchanged
+-- IsRefused words shelf sink        the words have a form, what was seen is refused by the line that is told, the path of the last
+--                                   failed read is as it was, and the shelf is unchanged
 -- IsReadFault words shelf sink      a path that the words need could not be read: the count of failed reads rose, the path is
 --                                   that of the last failed read where that is told, and the line names it; the shelf is
 --                                   unchanged
 -- IsWriteStopped words job shelf sink   an output could not be written: the count of failed writes rose, the files before it are
 --                                   written, its path holds anything or is absent, all else is as it was, and the line names it
 -- IsUntold words shelf sink         all files are written, and the summary could not be told whole
--- IsWriteFault words shelf sink     the words have a form, and one of the two
+-- IsWriteFault words shelf sink     the words have a form, what was seen is fine, and one of the two
 -- IsMemory words shelf sink         the words have a form, memory was wanted before the first write, the shelf is unchanged, and
 --                                   the line says so
 -- Outcome words shelf sink status   what the status says of the run, by cases; Done never comes
@@ -36,6 +36,7 @@
 -- IsOutput words place path         the words have a form, and the path is the one at this place, counted from 0, among those
 --                                   that are written
 -- WritesNothing status              BadWords, LoadRefused, ReadFault or Memory: the statuses with which nothing was written
+-- MayWrite status                   Clean or WriteFault: the statuses with which files were written, or the first one was tried
 -- WrittenUpTo words place path old new   the files before the place are written, its path holds anything or is absent, and every
 --                                   other path holds what it held
 -- WrittenWhole words old new        every file is written, and every other path holds what it held
@@ -43,7 +44,7 @@ use Rattle.std.specs.Prelude.{◌≡◌, ◌≢◌, ◌⊎◌, ℕ, ◌<◌, Boo
 use Rattle.shelf_io.specs.Counts.{Rose}
 use Rattle.shelf_io.specs.Contents.{SameContents, AddsPrefix}
 use Rattle.ucdshop_core.specs.Printed.{usage, read_failed, write_failed, out_of_memory, summary, no_counts}
-use Rattle.ucdshop_core.specs.Run.{Contents, Job, form, needed, NewFile, output_paths, Expected, NoForm, Refuses, Writes, expected, after, Replaced}
+use Rattle.ucdshop_core.specs.Run.{Contents, Job, form, needed, NewFile, output_paths, Expected, NoForm, Refuses, Writes, expected, after, Replaced, Sees, IsFine}
 use Rattle.ucdshop_core.specs.Writing.{files_of, StoppedAt}
 use Rattle.ucdshop_core.specs.declared.planning.Plan.{Plan}
 use Rattle.ucdshop_core.specs.declared.stop.Stop.{Stop}
@@ -90,6 +91,7 @@ Told line sink = Grew line sink ⊎ GrewInPart line sink
 pub record IsClean (words : List (List ℕ)) (shelf : ShelfSeen) (sink : SinkSeen) : Type 0 where
   pub job : Job
   pub formed : form words ≡ Some job
+  pub fine : Sees shelf.tells shelf.old (IsFine words)
   pub written : IsTrue shelf.tells → (files : List NewFile) × (expected words shelf.old ≡ Writes files) × Replaced files shelf.old shelf.new
   pub told : Grew (summary no_counts) sink
 
@@ -102,7 +104,7 @@ pub record IsRefused (words : List (List ℕ)) (shelf : ShelfSeen) (sink : SinkS
   pub job : Job
   pub formed : form words ≡ Some job
   pub line : List ℕ
-  pub refused : IsTrue shelf.tells → expected words shelf.old ≡ Refuses line
+  pub refused : Sees shelf.tells shelf.old (λ seen. expected words seen ≡ Refuses line)
   pub read : IsTrue shelf.tells_failed → shelf.failed ≡ shelf.failed_old
   pub unchanged : Unchanged shelf
   pub told : Told line sink
@@ -134,6 +136,7 @@ pub record IsUntold (words : List (List ℕ)) (shelf : ShelfSeen) (sink : SinkSe
 pub record IsWriteFault (words : List (List ℕ)) (shelf : ShelfSeen) (sink : SinkSeen) : Type 0 where
   pub job : Job
   pub formed : form words ≡ Some job
+  pub fine : Sees shelf.tells shelf.old (IsFine words)
   pub cause : IsWriteStopped words job shelf sink ⊎ IsUntold words shelf sink
 
 pub record IsMemory (words : List (List ℕ)) (shelf : ShelfSeen) (sink : SinkSeen) : Type 0 where
@@ -186,6 +189,11 @@ WritesNothing LoadRefused = Unit {0}
 WritesNothing ReadFault = Unit {0}
 WritesNothing Memory = Unit {0}
 WritesNothing _ = ⊥
+
+abbrev pub MayWrite : Status → Type 0
+MayWrite Clean = Unit {0}
+MayWrite WriteFault = Unit {0}
+MayWrite _ = ⊥
 
 abbrev pub WrittenUpTo : List (List ℕ) → ℕ → List ℕ → Contents → Contents → Type 0
 WrittenUpTo words place path old new = (files : List NewFile) × (expected words old ≡ Writes files)

@@ -43,7 +43,11 @@
 -- put file holds path              what the path holds once the file is put in its place
 -- after files holds                the contents with these files replaced, one after the other
 -- Replaced files old new           the new contents are the old ones with these files replaced
-use Rattle.std.specs.Prelude.{◌≡◌, ℕ, Bool, List, [], ◌∷◌, ◌++◌, map, length, Option, Some, None, Result, Ok, Err, if◌then◌else◌, nat_lt, codes}
+--
+-- What was seen
+-- Sees tells holds P               P of the contents that were seen: those that are held, where the shelf tells them
+-- IsFine words seen                over these contents files are to be written
+use Rattle.std.specs.Prelude.{◌≡◌, ℕ, Bool, IsTrue, List, [], ◌∷◌, ◌++◌, map, length, Option, Some, None, Result, Ok, Err, if◌then◌else◌, nat_lt, codes}
 use Rattle.std.specs.Str.{bytes_eq}
 use Rattle.std.specs.Option.{option_map}
 use Rattle.ucd_model.specs.Limits.{point_count, file_limit}
@@ -182,3 +186,11 @@ after (file ∷ files) holds = after files (put file holds)
 
 abbrev pub Replaced : List NewFile → Contents → Contents → Type 0
 Replaced files old new = (path : List ℕ) → new path ≡ after files old path
+
+-- ---- what was seen
+
+abbrev pub Sees : Bool → Contents → (Contents → Type 0) → Type 0
+Sees tells holds P = (seen : Contents) × (IsTrue tells → seen ≡ holds) × P seen
+
+abbrev pub IsFine : List (List ℕ) → Contents → Type 0
+IsFine words seen = (files : List NewFile) × (expected words seen ≡ Writes files)

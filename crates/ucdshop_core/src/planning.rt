@@ -14,7 +14,7 @@ ghost use Rattle.ucd_model.specs.Limits.{point_count};
 ghost use Rattle.ucd_model.specs.Records.{record_at};
 ghost use Rattle.ucdshop_core.specs.RecordLists.{RecordsAs, SameRecords, record_of};
 ghost use Rattle.ucdshop_core.specs.Writing.{file_of};
-ghost use Rattle.ucdshop_core.specs.Run.{Derive, files_verdict, job_verdict, verdict, needed, derived_file, point_refusal, sources_in};
+ghost use Rattle.ucdshop_core.specs.Run.{Derive, Sees, files_verdict, job_verdict, verdict, needed, derived_file, point_refusal, sources_in};
 
 use crate::command::Command;
 use crate::derived_path::{DERIVED_FILES, derived_path};
@@ -178,7 +178,7 @@ fn gather<S: Shelf>(alloc: Global, shelf: &mut S, folder: &[u8]) -> Result<Gathe
 
 /// Reads and judges the source files of a folder, each by itself.
 fn load<S: Shelf>(alloc: Global, shelf: &mut S, folder: &[u8]) -> Result<Release, Stop>
-    ensures rows { IsTrue S.tells → LoadedAs release_rows result (files_verdict folder.now (S.holds shelf.old)) }
+    ensures rows { Sees S.tells (S.holds shelf.old) (λ seen. LoadedAs release_rows result (files_verdict folder.now seen)) }
     ensures unread { OnUnread result (NamesUnread (sources_in folder.now)
         S.tells_failed (S.last_failed shelf.new)) }
     ensures none_failed { IsTrue S.tells_failed → NoneFailed result (S.last_failed shelf.old) (S.last_failed shelf.new) }
@@ -200,7 +200,7 @@ struct Loaded {
 
 /// Reads and judges the source files of a folder, and then the code points.
 fn load_valid<S: Shelf>(alloc: Global, shelf: &mut S, folder: &[u8]) -> Result<Loaded, Stop>
-    ensures rows { IsTrue S.tells → LoadedAs loaded_rows result (verdict folder.now (S.holds shelf.old)) }
+    ensures rows { Sees S.tells (S.holds shelf.old) (λ seen. LoadedAs loaded_rows result (verdict folder.now seen)) }
     ensures records { IfOk result (λ loaded.
         SameRecords (record_of loaded.records) (record_at (facts (release_rows loaded.release)))) }
     ensures unread { OnUnread result (NamesUnread (sources_in folder.now)
@@ -219,9 +219,9 @@ fn load_valid<S: Shelf>(alloc: Global, shelf: &mut S, folder: &[u8]) -> Result<L
 /// Reads and judges the source files of a folder, and makes the files that are derived from them, and the summary.
 fn derive<S: Shelf>(alloc: Global, input: &[u8], output: &[u8], shelf: &mut S) -> Result<Plan, Stop>
     ensures planned { IfOk result (λ plan. (rows : Sources) × HasPlan (Derive input.now output.now) rows plan
-        × (IsTrue S.tells → verdict input.now (S.holds shelf.old) ≡ Ok rows)) }
+        × Sees S.tells (S.holds shelf.old) (λ seen. verdict input.now seen ≡ Ok rows)) }
     ensures room { IfOk result (λ plan. length plan.outputs.items ≤ S.spare shelf.new) }
-    ensures refused { IsTrue S.tells → OnRefused result (λ line. verdict input.now (S.holds shelf.old) ≡ Err line) }
+    ensures refused { OnRefused result (λ line. Sees S.tells (S.holds shelf.old) (λ seen. verdict input.now seen ≡ Err line)) }
     ensures unread { OnUnread result (NamesUnread (needed (Derive input.now output.now)) S.tells_failed (S.last_failed shelf.new)) }
     ensures none_failed { IsTrue S.tells_failed → NoneFailed result (S.last_failed shelf.old) (S.last_failed shelf.new) }
     ensures unread_only { OnUnread result (λ _. Rose (S.read_faults shelf.old) (S.read_faults shelf.new)) }
@@ -238,10 +238,10 @@ fn derive<S: Shelf>(alloc: Global, input: &[u8], output: &[u8], shelf: &mut S) -
 /// Does all of a command that comes before the first write.
 pub fn prepare<S: Shelf>(alloc: Global, command: Command<'_>, shelf: &mut S) -> Result<Plan, Stop>
     ensures planned { IfOk result (λ plan. (rows : Sources) × HasPlan (job_of command.entry) rows plan
-        × (IsTrue S.tells → job_verdict (job_of command.entry) (S.holds shelf.old) ≡ Ok rows)) }
+        × Sees S.tells (S.holds shelf.old) (λ seen. job_verdict (job_of command.entry) seen ≡ Ok rows)) }
     ensures room { IfOk result (λ plan. length plan.outputs.items ≤ S.spare shelf.new) }
-    ensures refused { IsTrue S.tells →
-        OnRefused result (λ line. job_verdict (job_of command.entry) (S.holds shelf.old) ≡ Err line) }
+    ensures refused { OnRefused result (λ line.
+        Sees S.tells (S.holds shelf.old) (λ seen. job_verdict (job_of command.entry) seen ≡ Err line)) }
     ensures unread { OnUnread result (NamesUnread (needed (job_of command.entry)) S.tells_failed (S.last_failed shelf.new)) }
     ensures none_failed { IsTrue S.tells_failed → NoneFailed result (S.last_failed shelf.old) (S.last_failed shelf.new) }
     ensures unread_only { OnUnread result (λ _. Rose (S.read_faults shelf.old) (S.read_faults shelf.new)) }

@@ -4,9 +4,9 @@ ghost use Rattle.std.specs.Prelude.{◌≡◌, ◌≢◌, ◌≤◌, ◌⊎◌, 
 ghost use Rattle.shelf_io.specs.Counts.{Rose};
 ghost use Rattle.ucdshop_core.specs.Commands.{job_of};
 ghost use Rattle.shelf_io.specs.Contents.{SameContents};
-ghost use Rattle.ucdshop_core.specs.Outcome.{Outcome, Told, GrewInPart, StoppedWith, Finished, IsNeeded, IsOutput, WritesNothing, WrittenUpTo, WrittenWhole, sink_seen};
+ghost use Rattle.ucdshop_core.specs.Outcome.{Outcome, Told, GrewInPart, StoppedWith, Finished, IsNeeded, IsOutput, MayWrite, WritesNothing, WrittenUpTo, WrittenWhole, sink_seen};
 ghost use Rattle.ucdshop_core.specs.Printed.{usage, read_failed, write_failed, out_of_memory, summary, no_counts};
-ghost use Rattle.ucdshop_core.specs.Run.{NewFile, Refuses, Writes, Replaced, expected, form};
+ghost use Rattle.ucdshop_core.specs.Run.{NewFile, Refuses, Writes, Replaced, Sees, IsFine, expected, form};
 
 use crate::command::{Command, command_of};
 use crate::planning::{Plan, prepare};
@@ -37,6 +37,9 @@ pub fn run<S: Shelf, K: Sink>(alloc: Global, words: &Texts, shelf: &mut S, out: 
         → ¬ Rose (K.faults out.old) (K.faults out.new)
         → (result ≡ Status.Clean) ⊎ (result ≡ Status.Memory) }
 
+    // Clean and WriteFault: only where no file of what was seen is refused; that is what is held, where the shelf tells it.
+    ensures fine_only { MayWrite result → Sees S.tells (S.holds shelf.old) (IsFine words.now) }
+
     // Clean: every file is written, and the summary is told.
     ensures clean { IsTrue S.tells → result ≡ Status.Clean
         → WrittenWhole words.now (S.holds shelf.old) (S.holds shelf.new) }
@@ -49,11 +52,11 @@ pub fn run<S: Shelf, K: Sink>(alloc: Global, words: &Texts, shelf: &mut S, out: 
     ensures bad_words_told { result ≡ Status.BadWords → Told usage
         (sink_seen K.tells (K.written out.old) (K.written out.new) (K.faults out.old) (K.faults out.new)) }
 
-    // LoadRefused: only where no read failed and a file is refused, by the line that is told; a refused file gives no
-    // other status unless a read failed or memory was wanted.
-    ensures refused_only { IsTrue S.tells → result ≡ Status.LoadRefused
-        → (line : List ℕ) × (expected words.now (S.holds shelf.old) ≡ Refuses line) × Told line
-        (sink_seen K.tells (K.written out.old) (K.written out.new) (K.faults out.old) (K.faults out.new)) }
+    // LoadRefused: only where what was seen is refused, by the line that is told, and no other path became that of the
+    // last failed read; a refused file gives no other status unless a read failed or memory was wanted.
+    ensures refused_only { result ≡ Status.LoadRefused → Sees S.tells (S.holds shelf.old) (λ seen.
+        (line : List ℕ) × (expected words.now seen ≡ Refuses line) × Told line
+        (sink_seen K.tells (K.written out.old) (K.written out.new) (K.faults out.old) (K.faults out.new))) }
     ensures refused_read { IsTrue S.tells_failed → result ≡ Status.LoadRefused
         → S.last_failed shelf.new ≡ S.last_failed shelf.old }
     ensures refused { IsTrue S.tells → (line : List ℕ) → expected words.now (S.holds shelf.old) ≡ Refuses line

@@ -170,17 +170,28 @@ fn files_are_refused_by_their_first_fault(rt: HostRuntime) -> Result<(), Fail> {
     Ok(())
 }
 
+/// The first file that is absent is named, also where others behind it are.
 #[test]
 fn an_absent_file_is_refused(rt: HostRuntime) -> Result<(), Fail> {
     let alloc = rt.alloc();
-    let mut shelf = MemoryShelf::new(alloc);
-    shelf.place(b"d/UnicodeData.txt", LETTERS)?;
-    let (status, out) = run_words(alloc, &[b"derive", b"d", b"o"], &mut shelf, 1000)?;
-    assert_eq!(rt; status, Status::LoadRefused);
-    assert_eq!(rt;
-        out.written(),
-        b"refused: d/PropList.txt line 0 G01\n".as_slice()
-    );
+    let cases: [(usize, usize, &[u8]); 3] = [
+        (1, 2, b"refused: d/PropList.txt line 0 G01\n"),
+        (5, 6, b"refused: d/CaseFolding.txt line 0 G01\n"),
+        (1, 9, b"refused: d/PropList.txt line 0 G01\n"),
+    ];
+    for (from, to, line) in cases {
+        let mut shelf = MemoryShelf::new(alloc);
+        for at in 0..SOURCE_PATHS.len() {
+            if at < from || to <= at {
+                shelf.place(SOURCE_PATHS[at], b"")?;
+            }
+        }
+        shelf.place(b"d/UnicodeData.txt", LETTERS)?;
+        let (status, out) = run_words(alloc, &[b"derive", b"d", b"o"], &mut shelf, 1000)?;
+        assert_eq!(rt; status, Status::LoadRefused);
+        assert_eq!(rt; out.written(), line);
+        assert_eq!(rt; shelf.held(CORE_PATH), None);
+    }
     Ok(())
 }
 

@@ -5,16 +5,18 @@ use Rattle.ucdshop_core.proofs.ValidLemmas.{files_refused, points_refused, valid
 use Rattle.ucdshop_core.proofs.planning.load_valid.Goals as goal
 
 pub returns-in_err-release-clause-rows : goal.returns-in_err-release-clause-rows
-returns-in_err-release-clause-rows g c = λ tells.
+returns-in_err-release-clause-rows g c =
     let p = err_from_is_err_and c.from_residual.result c.from_residual.ensures.1 in
-    rw (p.1, p.2) (files_refused release_rows loaded_rows _ c.args.folder.now (g.S.Shelf.holds c.args.shelf.now) (c.in_err-release.ensures.rows tells))
+    let sees = c.in_err-release.ensures.rows in
+    (sees.0, sees.1, rw (p.1, p.2) (files_refused release_rows loaded_rows _ c.args.folder.now sees.0 sees.2))
 
 pub returns-in_err-records-clause-rows : goal.returns-in_err-records-clause-rows
-returns-in_err-records-clause-rows g c = λ tells.
+returns-in_err-records-clause-rows g c =
     let p = err_from_is_err_and c.from_residual-in_err-records.result c.from_residual-in_err-records.ensures.1 in
-    rw (p.1, p.2)
-    (points_refused loaded_rows _ c.args.folder.now (g.S.Shelf.holds c.args.shelf.now) (release_rows c.in_ok-release.release) (c.in_ok-release.ensures.rows tells) c.in_err-records.ensures.valid)
+    let sees = c.in_ok-release.ensures.rows in
+    (sees.0, sees.1, rw (p.1, p.2) (points_refused loaded_rows _ c.args.folder.now sees.0 (release_rows c.in_ok-release.release) sees.2 c.in_err-records.ensures.valid))
 
 pub returns-clause-rows : goal.returns-clause-rows
-returns-clause-rows g c = λ tells.
-    valid_verdict c.args.folder.now (g.S.Shelf.holds c.args.shelf.now) (release_rows c.in_ok-release.release) (c.in_ok-release.ensures.rows tells) c.in_ok-records.ensures.valid
+returns-clause-rows g c =
+    let sees = c.in_ok-release.ensures.rows in
+    (sees.0, sees.1, valid_verdict c.args.folder.now sees.0 (release_rows c.in_ok-release.release) sees.2 c.in_ok-records.ensures.valid)

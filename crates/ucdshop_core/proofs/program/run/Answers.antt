@@ -22,6 +22,9 @@ returns-clause-bad_words g c = clauses.bad_words _ _ _ _ c.run_words.ensures
 pub returns-clause-bad_words_told : goal.returns-clause-bad_words_told
 returns-clause-bad_words_told g c = clauses.bad_words_told _ _ _ _ c.run_words.ensures
 
+pub returns-clause-fine_only : goal.returns-clause-fine_only
+returns-clause-fine_only g c = clauses.fine_only _ _ _ _ c.run_words.ensures
+
 pub returns-clause-refused_only : goal.returns-clause-refused_only
 returns-clause-refused_only g c = clauses.refused_only _ _ _ _ c.run_words.ensures
 

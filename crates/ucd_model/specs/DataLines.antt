@@ -1,4 +1,4 @@
--- Which lines of UnicodeData.txt stand for which rows. UAX #44, section 5.7, table 9.
+-- Which lines of UnicodeData.txt stand for which rows. UAX #44, section 5.3, table 9.
 --
 -- SpellsDecomposition bs kind cs   field 5: no bytes; a mapping of one or two code points; or a tag and, with white space between
 --                                  or not, a mapping of one or more. UAX #44, section 5.7.3

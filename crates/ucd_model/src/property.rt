@@ -25,7 +25,8 @@ pub enum Core {
     GraphemeLink,
 }
 
-/// A property of PropList.txt from which others are derived. UAX #44, section 5.3.
+/// A property of PropList.txt that the facts of a code point have: those from which core properties are derived, and
+/// Noncharacter_Code_Point. UAX #44, section 5.3.
 #[derive(Clone, Copy, Debug, PartialEq, Eq)]
 pub enum Flag {
     WhiteSpace,

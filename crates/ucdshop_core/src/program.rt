@@ -24,8 +24,9 @@ use ucd_model::Texts;
 /// The words are `derive DATA OUT`. All files are read before any is judged, and all texts are made before the first
 /// is written. Nothing is written unless the status is [`Status::Clean`] or [`Status::WriteFault`].
 pub fn run<S: Shelf, K: Sink>(alloc: Global, words: &Texts, shelf: &mut S, out: &mut K) -> Status
-    // If the source files load, no outside call fails and memory suffices, the shelf is the old one with just the
-    // derived files replaced, each exactly what the definitions give.
+    // If the words have a form, the source files load, each code point keeps the rules of a valid release, no outside call
+    // fails and memory suffices, the shelf is the old one with just the derived files replaced, each exactly what the
+    // definitions give.
     ensures headline { IsTrue S.tells → (files : List NewFile) → expected words.now (S.holds shelf.old) ≡ Writes files
         → ¬ Rose (S.read_faults shelf.old) (S.read_faults shelf.new)
         → ¬ Rose (S.write_faults shelf.old) (S.write_faults shelf.new)
@@ -37,7 +38,7 @@ pub fn run<S: Shelf, K: Sink>(alloc: Global, words: &Texts, shelf: &mut S, out: 
         → ¬ Rose (K.faults out.old) (K.faults out.new)
         → (result ≡ Status.Clean) ⊎ (result ≡ Status.Memory) }
 
-    // Clean and WriteFault: only where no file of what was seen is refused; that is what is held, where the shelf tells it.
+    // Clean and WriteFault: only where nothing of what was seen is refused; that is what is held, where the shelf tells it.
     ensures fine_only { MayWrite result → Sees S.tells (S.holds shelf.old) (IsFine words.now) }
 
     // Clean: every file is written, and the summary is told.
@@ -53,7 +54,7 @@ pub fn run<S: Shelf, K: Sink>(alloc: Global, words: &Texts, shelf: &mut S, out: 
         (sink_seen K.tells (K.written out.old) (K.written out.new) (K.faults out.old) (K.faults out.new)) }
 
     // LoadRefused: only where what was seen is refused, by the line that is told, and no other path became that of the
-    // last failed read; a refused file gives no other status unless a read failed or memory was wanted.
+    // last failed read; what is refused gives no other status unless a read failed or memory was wanted.
     ensures refused_only { result ≡ Status.LoadRefused → Sees S.tells (S.holds shelf.old) (λ seen.
         (line : List ℕ) × (expected words.now seen ≡ Refuses line) × Told line
         (sink_seen K.tells (K.written out.old) (K.written out.new) (K.faults out.old) (K.faults out.new))) }

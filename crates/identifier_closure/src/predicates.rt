@@ -63,7 +63,7 @@ fn is_alphabetic(facts: &FactsRef<'_>) -> bool
         || facts.flags.has(Flag::OtherAlphabetic)
 }
 
-/// Whether the code point is kept for the syntax of patterns. UAX #31, section 4.1.
+/// Whether the code point is kept for the syntax of patterns. UAX #31, section 4.
 fn is_in_pattern(facts: &FactsRef<'_>) -> bool
     ensures { result ≡ in_pattern (shown_facts facts.now) }
 {

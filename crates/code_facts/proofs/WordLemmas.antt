@@ -11,7 +11,8 @@ use Rattle.ucd_model.specs.declared.decomposition.Kind.{Kind}
 use Rattle.ucd_model.specs.declared.decomposition.Kind.TheVariants.{Plain, Canonical, Compat}
 use Rattle.ucd_model.specs.declared.property.Flag.{Flag}
 use Rattle.ucd_model.specs.declared.property.Flag.TheVariants.{WhiteSpace, OtherMath, OtherLowercase, OtherUppercase, OtherAlphabetic, OtherIdStart, OtherIdContinue, PatternSyntax, PatternWhiteSpace, OtherDefaultIgnorableCodePoint, VariationSelector, PrependedConcatenationMark, OtherGraphemeExtend, NoncharacterCodePoint}
-use Rattle.code_facts.specs.Word.{one_if, category_place, kind_place, all_flags, flag_bit, packed, category_at, kind_at, ReadsBack}
+use Rattle.ucd_model.specs.Predicates.{category_place}
+use Rattle.code_facts.specs.Word.{one_if, kind_place, all_flags, flag_bit, packed, category_at, kind_at, ReadsBack}
 
 -- ---- places
 

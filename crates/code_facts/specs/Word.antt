@@ -1,7 +1,6 @@
 -- The packed word of the facts of a code point, and how it is read back.
 --
 -- one_if b             1 where b is true, else 0
--- category_place k     the place of a category in the list of UAX #44, section 5.7.1, as Category has it: 0 to 29, Cn the last
 -- tag_place t          the place of a tag in the list of UAX #44, section 5.7.3, as Tag has it: 0 to 15
 -- kind_place k         0 for Plain, 1 for Canonical, and 2 more than the tag's place for Compat
 -- all_flags            the flags in the order of their places
@@ -25,6 +24,7 @@
 -- ReadsBack w F        the word says of all that it has room for what the facts F say
 use Rattle.std.specs.Prelude.{◌≡◌, ℕ, ◌+◌, ◌*◌, ◌/◌, ◌%◌, ◌^◌, Bool, true, false, ◌==◌, List, [], ◌∷◌, slice_index_or, sum_by}
 use Rattle.ucd_model.specs.Facts.{Facts}
+use Rattle.ucd_model.specs.Predicates.{category_place}
 use Rattle.ucd_model.specs.Sets.{flag_place, has_flag}
 use Rattle.ucd_model.specs.declared.category.Category.{Category}
 use Rattle.ucd_model.specs.declared.category.Category.TheVariants.{Lu, Ll, Lt, Lm, Lo, Mn, Mc, Me, Nd, Nl, No, Pc, Pd, Ps, Pe, Pi, Pf, Po, Sm, Sc, Sk, So, Zs, Zl, Zp, Cc, Cf, Cs, Co, Cn}
@@ -38,38 +38,6 @@ use Rattle.ucd_model.specs.declared.property.Flag.TheVariants.{WhiteSpace, Other
 abbrev pub one_if : Bool → ℕ
 one_if true = 1
 one_if false = 0
-
-abbrev pub category_place : Category → ℕ
-category_place Lu = 0
-category_place Ll = 1
-category_place Lt = 2
-category_place Lm = 3
-category_place Lo = 4
-category_place Mn = 5
-category_place Mc = 6
-category_place Me = 7
-category_place Nd = 8
-category_place Nl = 9
-category_place No = 10
-category_place Pc = 11
-category_place Pd = 12
-category_place Ps = 13
-category_place Pe = 14
-category_place Pi = 15
-category_place Pf = 16
-category_place Po = 17
-category_place Sm = 18
-category_place Sc = 19
-category_place Sk = 20
-category_place So = 21
-category_place Zs = 22
-category_place Zl = 23
-category_place Zp = 24
-category_place Cc = 25
-category_place Cf = 26
-category_place Cs = 27
-category_place Co = 28
-category_place Cn = 29
 
 abbrev pub tag_place : Tag → ℕ
 tag_place tag.Font = 0

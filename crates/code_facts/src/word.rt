@@ -12,7 +12,8 @@
 //! | 38 to 63 | 0 |
 
 ghost use Rattle.std.specs.Prelude.{◌≡◌, ◌<◌, true, ◌/◌, ◌%◌};
-ghost use Rattle.code_facts.specs.Word.{category_place, kind_place, tag_place, data_part, assigned_of_word, excluded_of_word, mid_word_of_word, category_of_word, class_of_word, kind_of_word, flags_of_word};
+ghost use Rattle.ucd_model.specs.Predicates.{category_place};
+ghost use Rattle.code_facts.specs.Word.{kind_place, tag_place, data_part, assigned_of_word, excluded_of_word, mid_word_of_word, category_of_word, class_of_word, kind_of_word, flags_of_word};
 
 use ucd_model::{Category, DataRow, Flags, Kind, Tag};
 

@@ -3,13 +3,10 @@
 -- check_name form     the name of the quick check of a form; check_value form R is its value in the record R
 -- listing_section l   the section that l stands for
 -- listing_labels l R  the label of each code point in that section, over the records R
--- spaced points       code points, each with a space before it
 -- text_shown t        the label with the text t
 use Rattle.std.specs.Prelude.{ℕ, List, ◌∷◌, Option, Some, None, codes}
-use Rattle.std.specs.List.{flat_map}
 use Rattle.std.specs.Borrow.{Bor}
 use Rattle.ucd_model.specs.Labels.{Label}
-use Rattle.ucd_model.specs.DerivedText.{hex_text}
 use Rattle.ucd_model.specs.DerivedFiles.{Section, core_listing, category_listing, class_listing, type_listing, exclusion_listing, quick_listing, casefold_listing, changes_listing}
 use Rattle.ucd_model.specs.Records.{Record}
 use Rattle.ucd_model.specs.declared.form.Form.{Form}
@@ -42,9 +39,6 @@ listing_section ChangesCasefold = changes_listing
 
 abbrev pub listing_labels : Listing → (ℕ → Record) → ℕ → Label
 listing_labels listing R c = (listing_section listing).label (R c)
-
-abbrev pub spaced : List ℕ → List ℕ
-spaced points = flat_map (λ c. 32 ∷ hex_text c) points
 
 abbrev pub text_shown : Option (Bor (List ℕ)) → Label
 text_shown None = None

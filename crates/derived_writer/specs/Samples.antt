@@ -1,29 +1,12 @@
 -- Records that are kept in a list of spans, for tests.
 --
--- kept_record k            the record that a value keeps
 -- entry_or rest entry      the record of the entry that was found, and rest where there is none
 -- sample_record s rest c   the record of c: that of the first entry of s whose span covers c, and without one the default, rest
 use Rattle.std.specs.Prelude.{ℕ, List, Option, Some, None, find}
 use Rattle.ucd_model.specs.Bounds.{Bounds}
 use Rattle.ucd_model.specs.Facts.{within}
-use Rattle.ucd_model.specs.Records.{Record}
-use Rattle.ucd_model.specs.Sets.{has_core}
+use Rattle.ucd_model.specs.Records.{Record, kept_record}
 use Rattle.ucd_model.specs.declared.records.Record.{Record as KeptRecord}
-
-abbrev pub kept_record : KeptRecord → Record
-kept_record k = record {
-  category = k.category;
-  class = k.class;
-  kind = k.kind;
-  core = has_core k.core;
-  exclusion = k.exclusion;
-  nfd = k.nfd;
-  nfc = k.nfc;
-  nfkd = k.nfkd;
-  nfkc = k.nfkc;
-  casefold = k.casefold;
-  changes_casefold = k.changes_casefold;
-}
 
 abbrev pub entry_or : KeptRecord → Option (Bounds × KeptRecord) → KeptRecord
 entry_or rest (Some entry) = entry.1

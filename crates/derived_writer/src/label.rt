@@ -3,7 +3,8 @@
 ghost use Rattle.std.specs.Prelude.{◌≡◌, ◌++◌, Some, None, OnOk};
 ghost use Rattle.ucd_model.specs.Labels.{same_label};
 ghost use Rattle.ucd_model.specs.DerivedFiles.{listed};
-ghost use Rattle.derived_writer.specs.Listings.{spaced, text_shown};
+ghost use Rattle.ucd_model.specs.RowTexts.{spaced};
+ghost use Rattle.derived_writer.specs.Listings.{text_shown};
 
 use std::alloc::Global;
 use std::marker::Model;

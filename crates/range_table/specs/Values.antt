@@ -1,16 +1,12 @@
 -- The values of all code points, as functions of the code point.
 --
--- point_count           how many code points there are
--- point_count-is        that number is 1114112
+-- point_count-is        there are 1114112 code points
 -- SameValues f g        f and g agree at each code point (above the last they may differ)
 -- with_span f lo hi v   v from lo to hi, both of them in it, and f elsewhere
 -- begins_run eq f c     the value at c differs by eq from the value before it (at 0: always)
 -- run_count eq f n      how many maximal runs of equal values the points below n have (0 for n = 0)
 use Rattle.std.specs.Prelude.{◌≡◌, refl, ℕ, zero, suc, ◌+◌, ◌<◌, Bool, true, not, ◌&&◌, nat_le, if◌then◌else◌}
-
--- a name for 1114112 that no recursion looks into
-unfoldable pub point_count : ℕ
-point_count = 1114112
+use Rattle.ucd_model.specs.Limits.{point_count}
 
 pub point_count-is : point_count ≡ 1114112
 unfolding point_count

@@ -1,7 +1,8 @@
 //! The values of all code points, kept as the places where they change.
 
 ghost use Rattle.std.specs.Prelude.{◌≡◌, ◌+◌, ◌<◌, ◌≤◌, ℕ, true, false, [], ◌++◌, take, drop, length, vec_len, IfOk, OnOk, OnErr};
-ghost use Rattle.range_table.specs.Values.{SameValues, with_span, run_count, point_count};
+ghost use Rattle.range_table.specs.Values.{SameValues, with_span, run_count};
+ghost use Rattle.ucd_model.specs.Limits.{point_count};
 ghost use Rattle.range_table.specs.Layout.{Layout as Runs, values, count_before, value_of_run, IsEnd};
 ghost use Rattle.range_table.specs.Edit.{SetsSpan, edited};
 

@@ -1,7 +1,8 @@
 //! Tables that keep runs of equal values.
 
 ghost use Rattle.std.specs.Prelude.{◌≡◌, ℕ, ◌+◌, ◌<◌, ◌≤◌, false};
-ghost use Rattle.range_table.specs.Values.{run_count, point_count};
+ghost use Rattle.range_table.specs.Values.{run_count};
+ghost use Rattle.ucd_model.specs.Limits.{point_count};
 
 use crate::layout::Layout;
 use crate::table::Table;

@@ -1,25 +1,17 @@
 -- Texts that are written part by part.
 use Rattle.std.proofs.Common.{◌≡◌, ℕ, List, [], ◌∷◌, ◌++◌, map, length, take, drop, get_or, ◌-◌, ◌<◌, ◌≤◌, Result, Ok, Err, refl, sym, ap, ◌∙◌, arith, append_assoc}
 use Rattle.std.specs.Prelude.{codes, OnOk}
-use Rattle.std.specs.List.{join_with_byte}
 use Rattle.std.proofs.lemmas.List.{append-nil, take_all}
 use Rattle.ucd_model.specs.Names.{category_code}
 use Rattle.ucd_model.specs.DerivedText.{hex_text}
-use Rattle.ucd_model.specs.RowTexts.{mapping_text, class_text, decomposition_text, case_text, data_line, names_text}
+use Rattle.ucd_model.specs.RowTexts.{mapping_text, spaced, class_text, decomposition_text, case_text, data_line, names_text}
+use Rattle.ucd_model.specs.RowTextLemmas.{mapping_text-is}
 use Rattle.ucd_model.specs.declared.row.DataRow.{DataRow}
-use Rattle.source_rows.specs.Texts.{ended, spaced, named}
+use Rattle.source_rows.specs.Texts.{ended, named}
 
 pub on_ok : {T E P Q : Type 0} (r : Result T E) → (P → Q) → OnOk r P → OnOk r Q
 on_ok (Ok x) f h = f h
 on_ok (Err e) f h = h
-
-spaced_are : (c : ℕ) (cs : List ℕ) → join_with_byte 32 (hex_text c ∷ map hex_text cs) ≡ hex_text c ++ spaced cs
-spaced_are c [] = sym (append-nil (hex_text c))
-spaced_are c (d ∷ ds) = ap (λ (xs : List ℕ). hex_text c ++ 32 ∷ xs) (spaced_are d ds)
-
-pub mapping_is : (c : ℕ) (cs : List ℕ) → mapping_text (c ∷ cs) ≡ hex_text c ++ spaced cs
-unfolding mapping_text
-mapping_is c cs = spaced_are c cs
 
 pub no_points : mapping_text [] ≡ []
 unfolding mapping_text
@@ -41,7 +33,7 @@ behind_is x xs = take_all (length (x ∷ xs) - 1) xs (omega arith)
 
 pub mapping_from : (cs : List ℕ) (c : ℕ) → 1 ≤ length cs → c ≡ get_or cs 0 c → mapping_text cs ≡ hex_text c ++ spaced (behind cs)
 mapping_from [] c some first = absurd (omega arith)
-mapping_from (d ∷ ds) c some first = rw (behind_is d ds, first) (mapping_is d ds)
+mapping_from (d ∷ ds) c some first = rw (behind_is d ds, first) (mapping_text-is d ds)
 
 pub mapping_of_none : (cs : List ℕ) → length cs < 1 → mapping_text cs ≡ []
 mapping_of_none [] none = no_points

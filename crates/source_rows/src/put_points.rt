@@ -2,8 +2,7 @@
 
 ghost use Rattle.std.specs.Prelude.{◌≡◌, ◌++◌, OnOk};
 ghost use Rattle.ucd_model.specs.DerivedText.{hex_text, span_text};
-ghost use Rattle.ucd_model.specs.RowTexts.{mapping_text};
-ghost use Rattle.source_rows.specs.Texts.{spaced};
+ghost use Rattle.ucd_model.specs.RowTexts.{mapping_text, spaced};
 
 use ucd_lines::put_hex;
 use ucd_model::{Memory, Point, Span, Text};

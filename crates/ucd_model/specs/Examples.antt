@@ -19,7 +19,7 @@ use Rattle.ucd_model.specs.Fields.{fields, digit_of, point_of, span_of, is_name,
 use Rattle.ucd_model.specs.declared.row.DataRow.{DataRow}
 use Rattle.ucd_model.specs.declared.decomposition.Kind.TheVariants.{Plain}
 use Rattle.ucd_model.specs.Facts.{Sources, facts, unassigned}
-use Rattle.ucd_model.specs.Predicates.{place_of, holds}
+use Rattle.ucd_model.specs.Predicates.{category_place, holds}
 use Rattle.ucd_model.specs.Labels.{Label, LabelSpan, label_spans, labelled}
 use Rattle.ucd_model.specs.DerivedText.{hex_text, span_text, section_text}
 use Rattle.ucd_model.specs.declared.category.Category.{Category}
@@ -107,7 +107,7 @@ assigned = Lu ∷ Ll ∷ Lt ∷ Lm ∷ Lo ∷ Mn ∷ Mc ∷ Me ∷ Nd ∷ Nl ∷
 
 -- two letters name the category that has them, and each category has its own place
 every_category : (map category_of (map category_code assigned) ≡ map Some assigned)
-    × (map place_of (assigned ++ Cn ∷ []) ≡ range_with_len 0 30)
+    × (map category_place (assigned ++ Cn ∷ []) ≡ range_with_len 0 30)
 every_category = (refl, refl)
 
 -- ---- facts and properties

@@ -40,6 +40,7 @@ pub mod FactsLaws
 pub mod FactsLemmas
 pub mod Examples
 pub mod RowTexts
+pub mod RowTextLemmas
 pub mod RowValues
 pub mod FactsExamples
 pub mod FormExamples

@@ -1,12 +1,12 @@
 -- Core properties that follow from the facts of one code point. UAX #44, section 5.3, table 9;
 -- The Unicode Standard, section 4.2 (Case), 4.5 (General Category) and 4.10 (Letters, Alphabetic, and Ideographic).
 --
--- place_of k                       the place of a category in the order of UAX #44, table 12, counted from 0, with Cn last
+-- category_place k                 the place of a category in the order of UAX #44, table 12, counted from 0, with Cn last
 -- is_one_of ks k                   the category k is one of the categories ks
 -- math, alphabetic, lowercase, uppercase   as DerivedCoreProperties.txt generates them
 -- cased, case_ignorable            The Unicode Standard, section 3.13, D135 and D136
 -- in_pattern F                     Pattern_Syntax or Pattern_White_Space: the point is kept for the syntax of patterns. UAX #31,
---                                  section 4.1
+--                                  section 4
 -- id_start, id_continue            UAX #31, section 2, table 2; never a character of pattern syntax or pattern white space
 -- is_visible_format c              a format character that is shown: interlinear annotation, FFF9 to FFFB, and Egyptian
 --                                  hieroglyph format characters, 13430 to 1343F
@@ -25,40 +25,40 @@ use Rattle.ucd_model.specs.declared.property.Flag.TheVariants.{WhiteSpace, Other
 use Rattle.ucd_model.specs.declared.property.Core.{Core}
 use Rattle.ucd_model.specs.declared.property.Core.TheVariants.{Math, Alphabetic, Lowercase, Uppercase, Cased, CaseIgnorable, ChangesWhenLowercased, ChangesWhenUppercased, ChangesWhenTitlecased, ChangesWhenCasefolded, ChangesWhenCasemapped, IdStart, IdContinue, XidStart, XidContinue, DefaultIgnorableCodePoint, GraphemeExtend, GraphemeBase, GraphemeLink}
 
-abbrev pub place_of : Category → ℕ
-place_of Lu = 0
-place_of Ll = 1
-place_of Lt = 2
-place_of Lm = 3
-place_of Lo = 4
-place_of Mn = 5
-place_of Mc = 6
-place_of Me = 7
-place_of Nd = 8
-place_of Nl = 9
-place_of No = 10
-place_of Pc = 11
-place_of Pd = 12
-place_of Ps = 13
-place_of Pe = 14
-place_of Pi = 15
-place_of Pf = 16
-place_of Po = 17
-place_of Sm = 18
-place_of Sc = 19
-place_of Sk = 20
-place_of So = 21
-place_of Zs = 22
-place_of Zl = 23
-place_of Zp = 24
-place_of Cc = 25
-place_of Cf = 26
-place_of Cs = 27
-place_of Co = 28
-place_of Cn = 29
+abbrev pub category_place : Category → ℕ
+category_place Lu = 0
+category_place Ll = 1
+category_place Lt = 2
+category_place Lm = 3
+category_place Lo = 4
+category_place Mn = 5
+category_place Mc = 6
+category_place Me = 7
+category_place Nd = 8
+category_place Nl = 9
+category_place No = 10
+category_place Pc = 11
+category_place Pd = 12
+category_place Ps = 13
+category_place Pe = 14
+category_place Pi = 15
+category_place Pf = 16
+category_place Po = 17
+category_place Sm = 18
+category_place Sc = 19
+category_place Sk = 20
+category_place So = 21
+category_place Zs = 22
+category_place Zl = 23
+category_place Zp = 24
+category_place Cc = 25
+category_place Cf = 26
+category_place Cs = 27
+category_place Co = 28
+category_place Cn = 29
 
 abbrev pub is_one_of : List Category → Category → Bool
-is_one_of categories category = list_any (λ k. place_of k == place_of category) categories
+is_one_of categories category = list_any (λ k. category_place k == category_place category) categories
 
 abbrev pub math : Facts → Bool
 math F = is_one_of (Sm ∷ []) F.category || F.flag OtherMath

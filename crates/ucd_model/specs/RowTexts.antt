@@ -1,6 +1,7 @@
 -- The text that a row is written as.
 --
 -- mapping_text cs              code points with one space between them
+-- spaced cs                    code points, each with a space before it
 -- decimal_digit d              the byte of the last decimal digit of a number
 -- class_text n                 a number below 1000 in decimal, without leading zeros; of a greater one the last three digits
 -- decomposition_text kind cs   field 5 of UnicodeData.txt: nothing, the mapping, or a tag, a space and the mapping
@@ -24,7 +25,7 @@
 -- alias_text row               a row of PropertyAliases.txt or PropertyValueAliases.txt: its names
 -- row_text file row            the text of a row, by its kind alone: the file plays no part
 use Rattle.std.specs.Prelude.{ℕ, ◌+◌, ◌/◌, ◌%◌, List, [], ◌∷◌, ◌++◌, map, Option, Some, None, nat_lt, if◌then◌else◌, codes}
-use Rattle.std.specs.List.{join_with_byte}
+use Rattle.std.specs.List.{flat_map, join_with_byte}
 use Rattle.ucd_model.specs.Names.{category_code, status_code, tag_text}
 use Rattle.ucd_model.specs.DerivedText.{hex_text, span_text}
 use Rattle.ucd_model.specs.declared.files.SourceFile.{SourceFile}
@@ -41,6 +42,9 @@ use Rattle.ucd_model.specs.declared.row.Row.TheVariants.{Unit as DataLine, Value
 
 unfoldable pub mapping_text : List ℕ → List ℕ
 mapping_text cs = join_with_byte 32 (map hex_text cs)
+
+abbrev pub spaced : List ℕ → List ℕ
+spaced cs = flat_map (λ c. 32 ∷ hex_text c) cs
 
 -- ---- UnicodeData.txt
 

@@ -1,5 +1,5 @@
 use Rattle.std.proofs.Common.{◌≡◌, ◌++◌, take}
-use Rattle.derived_writer.specs.Listings.{spaced}
+use Rattle.ucd_model.specs.RowTexts.{spaced}
 use Rattle.derived_writer.proofs.label.put_spaced.Given as goal
 
 -- what stood there, and the code points so far

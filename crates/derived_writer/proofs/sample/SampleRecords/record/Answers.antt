@@ -4,7 +4,8 @@ use Rattle.ucd_model.specs.Bounds.{Bounds}
 use Rattle.ucd_model.specs.Facts.{within}
 use Rattle.ucd_model.specs.Records.{ShowsRecord}
 use Rattle.ucd_model.specs.declared.records.Record.{Record as KeptRecord}
-use Rattle.derived_writer.specs.Samples.{kept_record, entry_or, sample_record}
+use Rattle.derived_writer.specs.Samples.{entry_or, sample_record}
+use Rattle.ucd_model.specs.Records.{kept_record}
 use Rattle.derived_writer.proofs.sample.SampleRecords.record.Goals as goal
 
 shows_kept : (k : KeptRecord) → ShowsRecord k (kept_record k)

@@ -29,8 +29,8 @@ pub struct Changes {
 /// Changes_When_Lowercased, Changes_When_Uppercased, Changes_When_Titlecased, Changes_When_Casefolded and
 /// Changes_When_Casemapped: UAX #44, section 5.3; The Unicode Standard, section 3.13, D139 to D143.
 ///
-/// It takes no memory, and asks for the facts of each member once: each image is matched with the list in place, and nothing
-/// is matched before the first member that a mapping changes.
+/// It takes no memory, and asks for the facts of each member once: each image is matched with the list in place, and
+/// nothing is matched before the first member that a mapping changes.
 pub fn changes_when<W: FactView>(view: &W, nfd: &[Point]) -> Changes
     ensures lowered { result.lowered ≡ lowers (W.facts_of view.now) nfd.now }
     ensures uppered { result.uppered ≡ uppers (W.facts_of view.now) nfd.now }

@@ -24,8 +24,8 @@ pub fn fold_of_joined()
     ensures { FoldOfJoined }
 {}
 
-/// In a title the members before the first Cased one stay, that one has its title mapping, and what is behind it is in lower
-/// case.
+/// In a title the members before the first Cased one stay, that one has its title mapping, and what is behind it is in
+/// lower case.
 pub fn title_of_word()
     ensures { TitleOfWord }
 {}

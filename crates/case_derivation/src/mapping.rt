@@ -20,6 +20,8 @@ enum Casing {
 
 /// The list in lower case: the full lower case mappings of its members, joined in order, without context.
 /// The Unicode Standard, section 3.13, toLowercase.
+///
+/// - `Memory`: memory ran out.
 pub fn lower<W: FactView>(alloc: Global, view: &W, s: &[Point]) -> Result<Points, Memory>
     ensures { IfOk result (λ points. points ≡ lower (W.facts_of view.now) s.now) }
 {
@@ -28,6 +30,8 @@ pub fn lower<W: FactView>(alloc: Global, view: &W, s: &[Point]) -> Result<Points
 
 /// The list in upper case: the full upper case mappings of its members, joined in order, without context.
 /// The Unicode Standard, section 3.13, toUppercase.
+///
+/// - `Memory`: memory ran out.
 pub fn upper<W: FactView>(alloc: Global, view: &W, s: &[Point]) -> Result<Points, Memory>
     ensures { IfOk result (λ points. points ≡ upper (W.facts_of view.now) s.now) }
 {
@@ -35,6 +39,8 @@ pub fn upper<W: FactView>(alloc: Global, view: &W, s: &[Point]) -> Result<Points
 }
 
 /// The folded list: the full foldings of its members, joined in order. The Unicode Standard, section 3.13, toCasefold.
+///
+/// - `Memory`: memory ran out.
 pub fn fold<W: FactView>(alloc: Global, view: &W, s: &[Point]) -> Result<Points, Memory>
     ensures { IfOk result (λ points. points ≡ fold (W.facts_of view.now) s.now) }
 {
@@ -68,7 +74,9 @@ fn image<'a>(casing: Casing, facts: &FactsRef<'a>) -> Option<&'a [Point]>
     }
 }
 
-/// Puts the points of an image of a code point at the end of a list. For want of memory the list stays as it was.
+/// Puts the points of an image of a code point at the end of a list.
+///
+/// - `Memory`: memory ran out. The list stays as it was.
 pub(crate) fn put_image(c: Point, image: Option<&[Point]>, into: &mut Points) -> Result<(), Memory>
     ensures ok { OnOk result (into.new ≡ into.old ++ image_points c (image_shown image.entry)) }
     ensures err { OnErr result (into.new ≡ into.old) }

@@ -13,14 +13,19 @@ use crate::is_cased;
 use crate::titling::title_image;
 use ucd_model::{FactsRef, Point};
 
-/// What of a list is left for the images of the later members, by each mapping; `None` where the images so far are not the
-/// beginning of the list. A title has begun where one of the members so far is Cased.
+/// What of a list is left for the images of the later members, by each mapping; `None` where the images so far are not
+/// the beginning of the list.
 #[derive(Clone, Copy)]
 pub(crate) struct Left<'a> {
+    /// By the mapping to lower case.
     pub(crate) lowered: Option<&'a [Point]>,
+    /// By the mapping to upper case.
     pub(crate) uppered: Option<&'a [Point]>,
+    /// By the mapping to title case.
     pub(crate) titled: Option<&'a [Point]>,
+    /// By the folding.
     pub(crate) folded: Option<&'a [Point]>,
+    /// Whether the title has begun: one of the members so far is Cased.
     pub(crate) begun: bool,
 }
 

@@ -12,7 +12,10 @@ use std::alloc::Global;
 use ucd_model::{FactView, FactsRef, Memory, Point, Points};
 
 /// The title of a list that is one word: the members before the first Cased one stay, that one has its full title case
-/// mapping, and each later member its full lower case mapping, without context. The Unicode Standard, section 3.13, toTitlecase.
+/// mapping, and each later member its full lower case mapping, without context.
+/// The Unicode Standard, section 3.13, toTitlecase.
+///
+/// - `Memory`: memory ran out.
 pub fn title<W: FactView>(alloc: Global, view: &W, s: &[Point]) -> Result<Points, Memory>
     ensures { IfOk result (λ points. points ≡ title (W.facts_of view.now) s.now) }
 {
@@ -26,7 +29,8 @@ pub fn title<W: FactView>(alloc: Global, view: &W, s: &[Point]) -> Result<Points
     Ok(points)
 }
 
-/// The image in a title of a code point with these facts; the title has begun where a Cased code point stands before it.
+/// The image in a title of a code point with these facts; the title has begun where a Cased code point stands before
+/// it.
 pub(crate) fn title_image<'a>(begun: bool, facts: &FactsRef<'a>) -> Option<&'a [Point]>
     ensures { image_shown result ≡ title_image begun (shown_facts facts.now) }
 {

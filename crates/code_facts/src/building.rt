@@ -18,10 +18,12 @@ use std::alloc::Global;
 use ucd_model::{FactView, Memory};
 
 impl<T: Table<u64>> FactTables<T> {
-    /// The facts of the rows of a release now. It answers Memory only for want of memory.
+    /// The facts of the rows of a release now. UAX #44, sections 5.3, 5.6 and 5.7.
     ///
-    /// It takes time by the number of rows, and by its logarithm: no work is done for each code point of a span, but for
-    /// Hangul syllables, each of which has a mapping of its own.
+    /// It takes time by the number of rows, and by its logarithm: no work is done for each code point of a span, but
+    /// for Hangul syllables, each of which has a mapping of its own.
+    ///
+    /// - `Memory`: memory ran out.
     pub fn of(alloc: Global, release: &Release) -> Result<FactTables<T>, Memory>
         ensures { IfOk result (λ tables. ⟦<FactTables<T> as FactView>⟧.facts_of tables ≡ facts (release_sources release.now)) }
     {

@@ -10,14 +10,20 @@ use ucd_model::{CasingRow, FoldRow, FoldStatus, Memory, Point, Points, Row};
 /// What an image is of: a folding of a status, or a casing without conditions.
 #[derive(Clone, Copy)]
 pub enum Case {
+    /// The folding of this status.
     Fold(FoldStatus),
+    /// The full mapping to lower case.
     Lower,
+    /// The full mapping to title case.
     Title,
+    /// The full mapping to upper case.
     Upper,
 }
 
 impl Case {
-    /// The code point and the image that a row gives it.
+    /// The code point and the image that a row gives it; `None` where the row gives none of this case.
+    ///
+    /// - `Memory`: memory ran out.
     pub fn image(self, alloc: Global, row: &Row) -> Result<Option<(Point, Points)>, Memory>
         ensures { IfOk result (λ image. (c : ℕ) → given_to c image ≡ image_of_row self c row.now) }
     {

@@ -10,6 +10,8 @@ use std::collections::BTreeMap;
 use ucd_model::{Memory, Point, Points, Row};
 
 /// The images of a case. Of several rows that give a code point one, the first counts.
+///
+/// - `Memory`: memory ran out.
 pub fn case_map(alloc: Global, rows: &[&Row], case: Case) -> Result<BTreeMap<Point, Points>, Memory>
     ensures { IfOk result (λ map. (c : ℕ) → found map c ≡ image_by case (pointed rows.now) c) }
 {

@@ -9,9 +9,12 @@ use std::collections::{BTreeMap, BTreeSet};
 use ucd_model::{Memory, Point};
 
 /// Composites under the two members of their mappings, and the second members.
+/// The Unicode Standard, section 3.11, D114.
 #[derive(Drop)]
 pub struct Composites {
+    /// The composite of each pair that has one.
     pub pairs: BTreeMap<(Point, Point), Point>,
+    /// The second members of the pairs.
     pub seconds: BTreeSet<Point>,
 }
 
@@ -27,7 +30,7 @@ impl Composites {
         }
     }
 
-    /// The composite of a pair.
+    /// The composite of a pair; `None` where it has none.
     pub fn pair(&self, s: Point, y: Point) -> Option<Point>
         ensures { result ≡ pair_in self.now s y }
     {
@@ -41,7 +44,9 @@ impl Composites {
         self.seconds.contains(&y)
     }
 
-    /// Takes up a composite under its pair, unless the pair has one already.
+    /// Takes up a composite under its pair, unless the pair has one already. Where there is no pair, nothing changes.
+    ///
+    /// - `Memory`: memory ran out. Nothing is told of the index then.
     pub fn add(&mut self, pair: Option<(Point, Point)>, composite: Point) -> Result<(), Memory>
         ensures pairs { OnOk result ((s y : ℕ) → pair_in self.new s y
             ≡ first_of (pair_in self.old s y) (if is_that s y pair then Some composite else None)) }

@@ -20,15 +20,22 @@ use ucd_model::{DataRow, Kind, Memory, Point, Row, Span};
 /// The part of the word that the row of a code point gives, and its mappings.
 #[derive(Drop)]
 pub struct DataTables {
+    /// The parts of the packed words.
     pub words: RunTable<u64>,
+    /// The decomposition mappings.
     pub mappings: PointLists,
+    /// The simple mappings to upper case: one point, or none.
     pub uppers: PointLists,
+    /// The simple mappings to lower case: one point, or none.
     pub lowers: PointLists,
+    /// The simple mappings to title case: one point, or none.
     pub titles: PointLists,
 }
 
 impl DataTables {
     /// The tables of these rows.
+    ///
+    /// - `Memory`: memory ran out.
     pub fn of_rows(alloc: Global, rows: &[&Row]) -> Result<DataTables, Memory>
         requires { Apart (pointed rows.now) }
         ensures gives { IfOk result (λ tables. (c : ℕ) → c < 1114112

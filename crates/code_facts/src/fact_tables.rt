@@ -15,7 +15,9 @@ use range_table::Table;
 /// Facts and composites are found in time by the logarithm of the number of spans, rows and composites.
 #[derive(Drop)]
 pub struct FactTables<T: Table<u64>> {
+    /// What is kept of the facts.
     pub(crate) kept: KeptFacts<T>,
+    /// The index of the primary composites.
     pub(crate) composites: Composites,
     ghost pairs: { (s y : ℕ) → pair_in composites s y ≡ pair_of (all_kept T.now kept) s y },
     ghost seconds: { (y : ℕ) → second_in composites y ≡ second_of (all_kept T.now kept) y },

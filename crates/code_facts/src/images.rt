@@ -38,7 +38,7 @@ pub fn shown_image(c: Point, points: &[Point]) -> Option<&[Point]>
     }
 }
 
-/// The image of a code point under the first of the points, where there are any.
+/// The image of a code point under the first of the points, where there are any; `None` for the point itself alone.
 pub fn simple_image(c: Point, simple: &[Point]) -> Option<&[Point]>
     ensures { image_shown result ≡ image c (only_or c simple.now ∷ []) }
 {
@@ -49,7 +49,7 @@ pub fn simple_image(c: Point, simple: &[Point]) -> Option<&[Point]>
     }
 }
 
-/// The points of a code point in a map.
+/// The points of a code point in a map; `None` where it has none there.
 pub fn points_in(map: &BTreeMap<Point, Points>, c: Point) -> Option<&[Point]>
     ensures { option_copied result ≡ found map.now c }
 {
@@ -59,7 +59,7 @@ pub fn points_in(map: &BTreeMap<Point, Points>, c: Point) -> Option<&[Point]>
     }
 }
 
-/// The image in the map, and else the simple image.
+/// The image in the map, and else the simple image; `None` for the point itself alone.
 pub fn full_image<'a>(
     c: Point,
     map: &'a BTreeMap<Point, Points>,
@@ -73,7 +73,7 @@ pub fn full_image<'a>(
     }
 }
 
-/// The image under the first map, else under the second, else none.
+/// The image under the first map, else under the second, else the point itself, which `None` stands for.
 pub fn folding<'a>(
     c: Point,
     first: &'a BTreeMap<Point, Points>,

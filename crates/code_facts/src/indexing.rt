@@ -13,8 +13,10 @@ use range_table::{RunTable, Table};
 use std::alloc::Global;
 use ucd_model::{Memory, Point};
 
-/// The index of the primary composites, where the words are the sums of two tables.
-/// It takes a step for each stretch in which neither of them changes, nor the mapping.
+/// The index of the primary composites, where the words are the sums of two tables. It takes a step for each stretch in
+/// which neither of them changes, nor the mapping. The Unicode Standard, section 3.11, D114.
+///
+/// - `Memory`: memory ran out.
 pub fn index_of<T: Table<u64>>(
     alloc: Global,
     kept: &KeptFacts<T>,

@@ -90,7 +90,8 @@ impl<T: Table<u64>> KeptFacts<T> {
         self.words.get(c)
     }
 
-    /// The members of the mapping of a primary composite.
+    /// The members of the mapping of a primary composite; `None` of every other code point.
+    /// The Unicode Standard, section 3.11, D114.
     pub fn members(&self, q: Point) -> Option<(Point, Point)>
         ensures pair { (s y : ℕ) → is_that s y result ≡ composes (all_kept T.now self.now) s y q }
         ensures second { (y : ℕ) → ends_that y result ≡ ends_with (all_kept T.now self.now) y q }

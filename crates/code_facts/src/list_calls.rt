@@ -13,6 +13,8 @@ use ucd_model::{Memory, Point, Span};
 
 impl PointLists {
     /// The lists that are all empty.
+    ///
+    /// - `Memory`: memory ran out.
     pub fn new(alloc: Global) -> Result<PointLists, Memory>
         ensures current { IfOk result (λ lists. (c : ℕ) → c < 1114112 → lists_now lists c ≡ []) }
         ensures prepared { IfOk result (λ lists. (c : ℕ) → c < 1114112 → lists_next lists c ≡ []) }
@@ -39,6 +41,8 @@ impl PointLists {
     }
 
     /// Gives the points of a span a list next. What is now stays.
+    ///
+    /// - `Memory`: memory ran out. Nothing is told of the lists then.
     pub fn prepare(&mut self, span: Span, points: &[Point]) -> Result<(), Memory>
         ensures current { OnOk result (SameValues (lists_now self.new) (lists_now self.old)) }
         ensures ok { OnOk result (SameValues (lists_next self.new) (with_span (lists_next self.old) span.lo span.hi points.now)) }

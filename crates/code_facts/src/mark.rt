@@ -30,7 +30,7 @@ impl Mark {
         }
     }
 
-    /// The bit of the mark in the word.
+    /// The bit of the mark in the word: bit 1, 2, or 24 to 37.
     pub fn word(self) -> u64
         ensures value { result ≡ word_of self }
         ensures below { result < 2 ^ 38 }
@@ -42,7 +42,7 @@ impl Mark {
         }
     }
 
-    /// The code points on which a row puts the mark.
+    /// The code points on which a row puts the mark; `None` where it puts it on none.
     pub fn span(self, row: &Row) -> Option<Span>
         ensures { (c : ℕ) → covers c result ≡ puts self c row.now }
     {

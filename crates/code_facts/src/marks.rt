@@ -36,7 +36,9 @@ const MARKS: [Mark; 16] = [
     Mark::Flagged(Flag::NoncharacterCodePoint),
 ];
 
-/// The sum of the marks of each code point.
+/// The sum of the marks of each code point. UAX #44, section 5.3; UAX #29, section 4.1.
+///
+/// - `Memory`: memory ran out.
 pub fn marks(alloc: Global, release: &Release) -> Result<RunTable<u64>, Memory>
     ensures { IfOk result (λ table. SameValues (values_now table) (marks_before 16 (release_sources release.now))) }
 {

@@ -11,8 +11,10 @@ use range_table::{RunTable, Table};
 use std::alloc::Global;
 use ucd_model::{Memory, Point, Span};
 
-/// The table with a value at each code point that some span covers, and 0 elsewhere.
-/// The spans may stand in any order, and overlap.
+/// The table with a value at each code point that some span covers, and 0 elsewhere. The spans may stand in any order,
+/// and overlap.
+///
+/// - `Memory`: memory ran out.
 pub fn painted(alloc: Global, mut spans: Vec<Span>, value: u64) -> Result<RunTable<u64>, Memory>
     ensures { IfOk result (λ table. SameValues (values_now table) (λ c. if list_any (within c) spans.items then value else 0)) }
 {
@@ -26,8 +28,10 @@ pub fn painted(alloc: Global, mut spans: Vec<Span>, value: u64) -> Result<RunTab
     Ok(table)
 }
 
-/// The table with the sum of the values of two tables at each code point.
-/// It takes a step for each stretch in which neither table changes.
+/// The table with the sum of the values of two tables at each code point. It takes a step for each stretch in which
+/// neither table changes.
+///
+/// - `Memory`: memory ran out.
 pub fn summed<T: Table<u64>>(
     alloc: Global,
     a: &RunTable<u64>,

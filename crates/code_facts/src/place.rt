@@ -1,8 +1,10 @@
 //! Places in a pool.
 
-/// The part of a pool from `start` up to, and without, `end`.
+/// A part of a pool.
 #[derive(Clone, Copy, PartialEq, Eq)]
 pub struct Place {
+    /// The index where it begins, counted from 0.
     pub start: usize,
+    /// The index behind its last.
     pub end: usize,
 }

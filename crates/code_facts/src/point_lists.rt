@@ -13,7 +13,9 @@ use ucd_model::Point;
 /// Equal stretches are kept once: the lists stand one after another in a pool, and a table has the place of each.
 #[derive(Drop)]
 pub struct PointLists {
+    /// The place of each code point's list in the pool.
     pub places: RunTable<Place>,
+    /// The lists, one after another.
     pub pool: Vec<Point>,
     ghost now_lie: { Lie (vec_len pool) (values_now places) },
     ghost next_lie: { Lie (vec_len pool) (values_next places) },

@@ -9,6 +9,8 @@ use std::alloc::Global;
 use ucd_model::{Memory, Row, SourceFile};
 
 /// References to the rows of a file now, in the order of the file.
+///
+/// - `Memory`: memory ran out.
 pub fn rows_of(alloc: Global, release: &Release, file: SourceFile) -> Result<Vec<&Row>, Memory>
     ensures { IfOk result (λ rows. pointed rows.items ≡ release_sources release.now file) }
 {
@@ -21,6 +23,8 @@ pub fn rows_of(alloc: Global, release: &Release, file: SourceFile) -> Result<Vec
 }
 
 /// References to the rows of UnicodeData.txt now. No two of them cover the same code point.
+///
+/// - `Memory`: memory ran out.
 pub fn data_rows_of(alloc: Global, release: &Release) -> Result<Vec<&Row>, Memory>
     ensures rows { IfOk result (λ rows. pointed rows.items ≡ release_sources release.now UnicodeData) }
     ensures apart { IfOk result (λ rows. Apart (pointed rows.items)) }

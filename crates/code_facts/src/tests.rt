@@ -50,7 +50,8 @@ fn tables(
     Ok(FactTables::of(alloc, &release)?)
 }
 
-/// A code point with a row in every file: 0149 has one in fact in UnicodeData.txt, CaseFolding.txt and SpecialCasing.txt.
+/// A code point with a row in every file: 0149 has one in fact in UnicodeData.txt, CaseFolding.txt and
+/// SpecialCasing.txt.
 #[test]
 fn a_point_with_rows_in_every_file(rt: HostRuntime) -> Result<(), Fail> {
     let tables = tables(

@@ -12,12 +12,12 @@ use range_table::RunTable;
 use ucd_model::{FactView, Point};
 
 impl FactTables<RunTable<u64>> {
-    /// A code point up to which all from `c` on are without a mapping of any kind and have the same other facts, and are
-    /// second members of primary composites' mappings alike; `None` exactly where `c` has a mapping. UAX #44, sections 5.6
-    /// and 5.7; The Unicode Standard, section 3.11, D114.
+    /// A code point up to which all from `c` on are without a mapping of any kind and have the same other facts, and
+    /// are second members of primary composites' mappings alike; `None` exactly where `c` has a mapping. UAX #44,
+    /// sections 5.6 and 5.7; The Unicode Standard, section 3.11, D114.
     ///
-    /// It is found by a few look-ups, and need not be the last such code point: it ends also where a row maps a code point
-    /// to itself, and a second member is alone.
+    /// It is found by a few look-ups, and need not be the last such code point: it ends also where a row maps a code
+    /// point to itself, and a second member is alone.
     pub fn last_uniform(&self, c: Point) -> Option<Point>
         ensures plain { IsSome result
             ↔ IsPlain c (⟦<FactTables<RunTable<u64>> as FactView>⟧.facts_of self.now c) }
@@ -32,8 +32,8 @@ impl FactTables<RunTable<u64>> {
 }
 
 impl Composites {
-    /// A code point up to which all from `c` on are second members alike: `c` itself where it is one, and else the last before
-    /// the next one.
+    /// A code point up to which all from `c` on are second members alike: `c` itself where it is one, and else the last
+    /// before the next one.
     fn last_seconds(&self, c: Point) -> Point
         ensures same { HoldsTo (λ d. second_in self.now d ≡ second_in self.now c) c result }
         ensures ends { result + 1 < 1114112 → second_in self.now c ≡ false → second_in self.now (result + 1) ≡ true }

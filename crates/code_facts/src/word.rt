@@ -7,7 +7,7 @@
 //! | 2 | 1: its Word_Break value is MidLetter, MidNumLet or Single_Quote |
 //! | 3 to 7 | the place of its category in the order of `Category`, 0 to 29 |
 //! | 8 to 15 | its combining class |
-//! | 16 to 23 | its kind: 0 for `Plain`, 1 for `Canonical`, and for `Compat` 2 and the place of the tag in the order of `Tag` |
+//! | 16 to 23 | its kind: 0 for `Plain`, 1 for `Canonical`, for `Compat` 2 and the tag's place in the order of `Tag` |
 //! | 24 to 37 | its flags: bit 24 + i is the flag at place i of `Flag` |
 //! | 38 to 63 | 0 |
 

@@ -17,8 +17,11 @@ const MOST: usize = 64;
 const ROOM: usize = 65;
 
 /// The full decomposition of a code point before it is put in order: canonical, or compatibility where `compat` holds.
-/// UAX #15, section 1.3. `V2` comes exactly where a chain of eight mappings is needed, and `V3` exactly where there is none
-/// and the expansion has more than 64 code points.
+/// UAX #15, section 1.3; The Unicode Standard, section 3.7, Decomposition.
+///
+/// - `Bad(V2)`: a chain of eight mappings or more is needed, or one without end.
+/// - `Bad(V3)`: no such chain is needed, and the expansion has more than 64 code points.
+/// - `Memory`: memory ran out.
 pub fn expand<W: FactView>(
     alloc: Global,
     view: &W,
@@ -74,8 +77,8 @@ fn put(points: &mut Points, c: Point) -> Result<(), Memory>
     }
 }
 
-/// The mapping of a code point where it counts: a canonical one always, a compatibility one where `compat` holds; else no
-/// code points. UAX #15, section 1.3.
+/// The mapping of a code point where it counts: a canonical one always, a compatibility one where `compat` holds; else
+/// no code points. UAX #15, section 1.3.
 pub fn counted<W: FactView>(view: &W, compat: bool, c: Point) -> &[Point]
     ensures { result.now ≡ counted (W.facts_of view.now) compat c }
 {

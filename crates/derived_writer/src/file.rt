@@ -14,6 +14,8 @@ use ucd_model::{DerivedFile, Memory, Records, Span, Text};
 /// The text of a derived file: its sections in order, each with `# NAME`, a line for each maximal span of equal value
 /// other than the default, ascending, `# total N` with the number of code points listed, and an empty line.
 /// UAX #44, section 5.3.
+///
+/// - `Memory`: memory ran out.
 pub fn file_text<B: Records>(alloc: Global, bench: &B, file: DerivedFile) -> Result<Text, Memory>
     ensures { IfOk result (λ text. text ≡ derived_text point_count file (B.record_of bench.now)) }
 {
@@ -21,8 +23,10 @@ pub fn file_text<B: Records>(alloc: Global, bench: &B, file: DerivedFile) -> Res
     text_over(alloc, bench, pieces.as_slice(), file)
 }
 
-/// The text of a derived file, over the pieces of equal records that [`equal_pieces`] gives: whoever writes several files has
-/// the records compared with one another once. UAX #44, section 5.3.
+/// The text of a derived file, over the pieces of equal records that [`equal_pieces`] gives: whoever writes several
+/// files has the records compared with one another once. UAX #44, section 5.3.
+///
+/// - `Memory`: memory ran out.
 #[tactic(auto, unfolding(ucd_model::specs::DerivedFiles::derived_text))]
 pub fn text_over<B: Records>(
     alloc: Global,

@@ -47,6 +47,8 @@ impl LabelText {
     }
 
     /// Makes it the label of a value: ` ; VALUE`.
+    ///
+    /// - `Memory`: memory ran out. Nothing is told of the label then.
     pub fn list(&mut self, value: &[u8]) -> Result<(), Memory>
         ensures { OnOk result (self.new ≡ listed value.now) }
     {
@@ -58,6 +60,8 @@ impl LabelText {
     }
 
     /// Makes it the label of a value in two parts.
+    ///
+    /// - `Memory`: memory ran out. Nothing is told of the label then.
     pub fn list_parts(&mut self, front: &[u8], back: &[u8]) -> Result<(), Memory>
         ensures { OnOk result (self.new ≡ listed (front.now ++ back.now)) }
     {
@@ -66,6 +70,8 @@ impl LabelText {
     }
 
     /// Makes it the label of a value with code points behind it, each with a space before it.
+    ///
+    /// - `Memory`: memory ran out. Nothing is told of the label then.
     pub fn list_points(&mut self, value: &[u8], points: &[Point]) -> Result<(), Memory>
         ensures { OnOk result (self.new ≡ listed (value.now ++ spaced points.now)) }
     {

@@ -11,16 +11,24 @@ use crate::values::{set_binary, set_casefold, set_category, set_class, set_kind,
 use std::alloc::Global;
 use ucd_model::{Core, DerivedFile, Form, Memory, Quick, Record};
 
-/// A property whose values are listed in a section.
+/// A property whose values are listed in a section. UAX #44, section 5.3.
 #[derive(Clone, Copy, Debug, PartialEq, Eq)]
 pub enum Listing {
+    /// A core property.
     Core(Core),
+    /// General_Category.
     Category,
+    /// Canonical_Combining_Class.
     Class,
+    /// Decomposition_Type.
     Decomposition,
+    /// Full_Composition_Exclusion.
     Exclusion,
+    /// The quick check of a form.
     Quick(Form),
+    /// NFKC_Casefold.
     Casefold,
+    /// Changes_When_NFKC_Casefolded.
     ChangesCasefold,
 }
 
@@ -89,6 +97,8 @@ impl Listing {
     }
 
     /// Makes `label` the label of a record in this section.
+    ///
+    /// - `Memory`: memory ran out. Nothing is told of the label then.
     pub fn set_label(
         self,
         alloc: Global,

@@ -6,7 +6,7 @@ ghost use Rattle.derived_writer.specs.Listings.{check_name};
 
 use ucd_model::{Category, Core, Form, Tag};
 
-/// The name of a core property.
+/// The name of a core property. UAX #44, section 5.3.
 pub fn core_name(core: Core) -> &'static [u8]
     ensures { result.now ≡ core_name core }
 {
@@ -33,7 +33,7 @@ pub fn core_name(core: Core) -> &'static [u8]
     }
 }
 
-/// The name of the quick check of a form.
+/// The name of the quick check of a form. UAX #15, section 9.
 pub fn check_name(form: Form) -> &'static [u8]
     ensures { result.now ≡ check_name form }
 {
@@ -45,7 +45,7 @@ pub fn check_name(form: Form) -> &'static [u8]
     }
 }
 
-/// The two letters of a general category.
+/// The two letters of a general category. UAX #44, section 5.7.1.
 pub fn category_code(category: Category) -> &'static [u8]
     ensures { result.now ≡ category_code category }
 {
@@ -83,7 +83,7 @@ pub fn category_code(category: Category) -> &'static [u8]
     }
 }
 
-/// The name of a compatibility tag, without its brackets.
+/// The name of a compatibility tag, without its brackets. UAX #44, section 5.7.3.
 pub fn tag_name(tag: Tag) -> &'static [u8]
     ensures { result.now ≡ tag_name tag }
 {

@@ -9,6 +9,8 @@ use std::alloc::Global;
 use ucd_model::{Memory, Records, Span, Spans, point_count};
 
 /// Spans that follow one another over all code points, in each of which the records are equal.
+///
+/// - `Memory`: memory ran out.
 pub fn equal_pieces<B: Records>(alloc: Global, bench: &B) -> Result<Spans, Memory>
     ensures { IfOk result (λ pieces. IsCut (B.record_of bench.now) 0 point_count pieces) }
 {

@@ -34,6 +34,8 @@ impl Run {
 
     /// Goes on to `end`, with the label of what is there. Where that is another label, the line of the run so far is
     /// put, and a new run begins. The answer is how many code points the line lists.
+    ///
+    /// - `Memory`: memory ran out. Nothing is told of the run and of the text then.
     pub fn go_on(&mut self, label: &mut LabelText, end: u32, text: &mut Text) -> Result<u32, Memory>
         requires inside { self.old.end ≤ 1114112 }
         requires some { IsSome self.old.label → self.old.first < self.old.end }
@@ -64,6 +66,8 @@ impl Run {
     }
 
     /// Puts the line of the run, if it has a label, and answers how many code points the line lists.
+    ///
+    /// - `Memory`: memory ran out. A part of the line may stand at the end of the text then.
     pub fn put(&self, text: &mut Text) -> Result<u32, Memory>
         requires inside { self.now.end ≤ 1114112 }
         requires some { IsSome self.now.label → self.now.first < self.now.end }

@@ -53,18 +53,21 @@ pub fn plain(category: Category) -> Record {
     }
 }
 
+/// A record with nothing but a category and a decomposition type.
 pub fn with_kind(category: Category, kind: Kind) -> Record {
     let mut record = plain(category);
     record.kind = kind;
     record
 }
 
+/// The record of a mark with this combining class.
 pub fn with_class(class: u8) -> Record {
     let mut record = plain(Category::Mn);
     record.class = class;
     record
 }
 
+/// A record with nothing but a category and these properties.
 pub fn with_core(category: Category, properties: &[Core]) -> Record {
     with_more(plain(category), properties)
 }
@@ -78,6 +81,8 @@ pub fn with_more(mut record: Record, properties: &[Core]) -> Record {
 }
 
 /// The record of a point that is folded into these.
+///
+/// - `Fail`: a number is no code point, or memory ran out.
 pub fn with_folding(alloc: Global, category: Category, points: &[u32]) -> Result<Record, Fail> {
     let mut to = Points::new(alloc);
     for point in points {
@@ -117,6 +122,7 @@ fn span(lo: u32, hi: u32) -> Result<Span, Fail> {
 }
 
 impl Sample {
+    /// No entries: all code points have the default.
     pub fn new(alloc: Global) -> Sample {
         Sample {
             entries: ListOf::new(alloc),
@@ -124,6 +130,9 @@ impl Sample {
         }
     }
 
+    /// Puts an entry behind the others.
+    ///
+    /// - `Fail`: a number is no code point, `lo` is greater than `hi`, or memory ran out.
     pub fn put(&mut self, lo: u32, hi: u32, record: Record) -> Result<(), Fail> {
         Ok(self.entries.push((span(lo, hi)?, record))?)
     }

@@ -18,6 +18,8 @@ use ucd_model::{Memory, Records, Span, Text};
 
 /// Puts a section at the end of a text: `# NAME`, a line for each maximal span of one value, `# total N` with the
 /// number of code points listed, and an empty line.
+///
+/// - `Memory`: memory ran out. A part of the section may stand at the end of the text then.
 #[tactic(auto, unfolding(ucd_model::specs::DerivedText::section_text))]
 pub fn put_section<B: Records>(
     alloc: Global,

@@ -1,5 +1,5 @@
-//! Whole files over a few records. The lines are those of Unicode 15.0.0 for these code points, but for their totals and
-//! for points that the sample leaves out.
+//! Whole files over a few records. The lines are those of Unicode 15.0.0 for these code points, but for their totals
+//! and for points that the sample leaves out.
 
 use crate::sample::{
     Sample, excluded, plain, with_checks, with_class, with_core, with_folding, with_kind, with_more,
@@ -68,8 +68,8 @@ fn decomposition_types_without_brackets(rt: HostRuntime) -> Result<(), Fail> {
     Ok(())
 }
 
-/// The core properties of `+`, of `A` to `Z`, of `a` to `z`, of GREEK YPOGEGRAMMENI and of DEVANAGARI SIGN VIRAMA; a sample
-/// of no other point.
+/// The core properties of `+`, of `A` to `Z`, of `a` to `z`, of GREEK YPOGEGRAMMENI and of DEVANAGARI SIGN VIRAMA; a
+/// sample of no other point.
 const CORE_TEXT: &[u8] = b"# Math\n002B ; Math\n# total 1\n\n\
       # Alphabetic\n0041..005A ; Alphabetic\n0061..007A ; Alphabetic\n037A ; Alphabetic\n# total 53\n\n\
       # Lowercase\n0061..007A ; Lowercase\n037A ; Lowercase\n# total 27\n\n\

@@ -12,10 +12,13 @@ use normalisation::nfkc;
 use std::alloc::Global;
 use ucd_model::{Bad, FactView, FactsRef, FormStop, Image, Point, Points};
 
-/// NFKC_Casefold of a code point: from the code point alone, the first list after 0 to 7 rounds that one more round leaves as
-/// it is. A round is the folding, without ignorable code points, of the Normalisation Form KC, in that form again. `V5` comes
-/// exactly where there is no such list, where a list has no Normalisation Form KC, and where a form or a folding has more than
-/// 255 code points; no other rule comes. The Unicode Standard, section 3.13, toNFKC_Casefold.
+/// NFKC_Casefold of a code point: from the code point alone, the first list after 0 to 7 rounds that one more round
+/// leaves as it is. A round is the folding, without ignorable code points, of the Normalisation Form KC, in that form
+/// again. The Unicode Standard, section 3.13, toNFKC_Casefold.
+///
+/// - `Bad(V5)`: there is no such list, a list has no Normalisation Form KC, or a form or a folding has more than 255
+///   code points. No other rule comes.
+/// - `Memory`: memory ran out.
 pub fn nfkc_casefold<W: FactView>(alloc: Global, view: &W, c: Point) -> Result<Image, FormStop>
     ensures { FormAnswers result (casefold_image (W.facts_of view.now) c) }
 {
@@ -26,8 +29,11 @@ pub fn nfkc_casefold<W: FactView>(alloc: Global, view: &W, c: Point) -> Result<I
     }
 }
 
-/// NFKC_Casefold of a code point with these facts, whose Normalisation Form KC is `form`; `V5` comes as for `nfkc_casefold`. It takes no
-/// memory where neither that form nor the folding changes the code point.
+/// NFKC_Casefold of a code point with these facts, whose Normalisation Form KC is `form`. It takes no memory where
+/// neither that form nor the folding changes the code point. The Unicode Standard, section 3.13, toNFKC_Casefold.
+///
+/// - `Bad(V5)`: as for [`nfkc_casefold`]. No other rule comes.
+/// - `Memory`: memory ran out.
 pub fn casefold_of<W: FactView>(
     alloc: Global,
     view: &W,

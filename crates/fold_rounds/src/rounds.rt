@@ -18,8 +18,10 @@ const MOST: usize = 255;
 /// How many lists are looked at for one that a round leaves as it is: after 0 to 7 rounds (real releases need 0 or 1).
 const LISTS: u8 = 8;
 
-/// The first list, after 0 to 7 rounds from a code point with this Normalisation Form KC, that one more round leaves as it
-/// is; `None` where there is none. The Unicode Standard, section 3.13, toNFKC_Casefold.
+/// The first list, after 0 to 7 rounds from a code point with this Normalisation Form KC, that one more round leaves as
+/// it is; `None` where there is none. The Unicode Standard, section 3.13, toNFKC_Casefold.
+///
+/// - `Memory`: memory ran out.
 pub(crate) fn fixed<W: FactView>(
     alloc: Global,
     view: &W,

@@ -11,8 +11,8 @@ use ucd_model::{
     Points, Tag,
 };
 
-/// A code point, its class, the kind of its mapping, the mapping, and the folding: no code points where that is the code point
-/// itself.
+/// A code point, its class, the kind of its mapping, the mapping, and the folding: no code points where that is the
+/// code point itself.
 type Row = (u32, u8, Kind, &'static [u32], &'static [u32]);
 
 const PLAIN: Kind = Kind::Plain;

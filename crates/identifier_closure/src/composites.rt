@@ -8,6 +8,7 @@ ghost use Rattle.identifier_closure.specs.Composites.{primary_of, hidden_of};
 use ucd_model::{FactView, FactsRef, Kind, Point};
 
 /// Whether a code point with these facts is a primary composite whose mapping a lesser one has too.
+/// The Unicode Standard, section 3.11, D114.
 pub fn is_hidden<W: FactView>(view: &W, c: Point, facts: &FactsRef<'_>) -> bool
     ensures { result ≡ hidden_of (W.facts_of view.now) c (shown_facts facts.now) }
 {

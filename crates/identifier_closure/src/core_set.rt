@@ -40,7 +40,7 @@ fn core_at(place: u32) -> Core
     }
 }
 
-/// The core properties of a code point with these facts, of whose forms this is told.
+/// The core properties of a code point with these facts, of whose forms this is told. UAX #44, section 5.3.
 #[tactic(auto, using(crate::proofs::CoreSteps::all_below))]
 pub fn core_set(c: Point, facts: &FactsRef<'_>, told: ToldByForms) -> CoreSet
     ensures { (core : Core) → has_core result core ≡ core_given c (shown_facts facts.now) told core }

@@ -30,8 +30,10 @@ pub struct Derived {
     pub asked: Queries,
 }
 
-/// Derives a code point: its record, in one step. A `Bad` comes exactly where the code point breaks a rule of a valid
-/// release, with the first rule that it breaks. UAX #44, section 5.3.
+/// Derives a code point: its record, in one step, which is counted where an error comes too. UAX #44, section 5.3.
+///
+/// - `Bad(rule)`: the code point breaks a rule of a valid release, and `rule`, V1 to V5, is the first that it breaks.
+/// - `Memory`: memory ran out.
 pub fn derive_point<W: FactView, L: Ledger>(
     alloc: Global,
     view: &W,
@@ -70,8 +72,8 @@ fn record_or_rule<W: FactView>(alloc: Global, view: &W, c: Point) -> Result<Reco
     }
 }
 
-/// The record of a code point that breaks none of the rules V1 to V3, with its facts and its forms; or the first rule that it
-/// breaks.
+/// The record of a code point that breaks none of the rules V1 to V3, with its facts and its forms; or the first rule
+/// that it breaks.
 #[tactic(auto, using(crate::proofs::RecordLemmas::hidden_stop, crate::proofs::RecordLemmas::folding_stop))]
 fn recorded<W: FactView>(
     alloc: Global,

@@ -25,8 +25,8 @@ pub fn id_continue<W: FactView>(view: &W, c: Point) -> bool
     is_id_continue(&view.facts(c))
 }
 
-/// Whether a code point has XID_Start: it has ID_Start, and its Normalisation Form KC, which is handed in, begins with a
-/// code point that has ID_Start and goes on with such as have ID_Continue. UAX #31, section 5.1.
+/// Whether a code point has XID_Start: it has ID_Start, and its Normalisation Form KC, which is handed in, begins with
+/// a code point that has ID_Start and goes on with such as have ID_Continue. UAX #31, section 5.1.
 #[tactic(auto, using(crate::proofs::ShownLemmas::form_is))]
 pub fn xid_start<W: FactView>(view: &W, c: Point, nfkc: &[Point]) -> bool
     requires { form_kc (W.facts_of view.now) (c ∷ []) ≡ Ok nfkc.now }
@@ -35,8 +35,8 @@ pub fn xid_start<W: FactView>(view: &W, c: Point, nfkc: &[Point]) -> bool
     id_start(view, c) && starts(view, nfkc)
 }
 
-/// Whether a code point has XID_Continue: it has ID_Continue, and so has each member of its Normalisation Form KC, which is
-/// handed in. UAX #31, section 5.1.
+/// Whether a code point has XID_Continue: it has ID_Continue, and so has each member of its Normalisation Form KC,
+/// which is handed in. UAX #31, section 5.1.
 #[tactic(auto, using(crate::proofs::ShownLemmas::form_is))]
 pub fn xid_continue<W: FactView>(view: &W, c: Point, nfkc: &[Point]) -> bool
     requires { form_kc (W.facts_of view.now) (c ∷ []) ≡ Ok nfkc.now }
@@ -45,15 +45,17 @@ pub fn xid_continue<W: FactView>(view: &W, c: Point, nfkc: &[Point]) -> bool
     id_continue(view, c) && continues(view, nfkc)
 }
 
-/// Whether a code point has XID_Start and XID_Continue.
+/// Whether a code point has XID_Start and XID_Continue. UAX #31, section 5.1.
 #[derive(Clone, Copy)]
 pub struct Closed {
+    /// XID_Start.
     pub start: bool,
+    /// XID_Continue.
     pub continues: bool,
 }
 
-/// Whether a code point with these facts and this Normalisation Form KC has XID_Start and XID_Continue. Where the form is the
-/// code point alone, its facts tell.
+/// Whether a code point with these facts and this Normalisation Form KC has XID_Start and XID_Continue. Where the form
+/// is the code point alone, its facts tell. UAX #31, section 5.1.
 #[tactic(auto, using(crate::proofs::ShownLemmas::start_shown, crate::proofs::ShownLemmas::continue_shown, crate::proofs::ShownLemmas::form_is, crate::proofs::ShownLemmas::start_alone, crate::proofs::ShownLemmas::continue_alone))]
 pub fn closure_of<W: FactView>(view: &W, c: Point, facts: &FactsRef<'_>, form: &[Point]) -> Closed
     requires facts { ShowsFacts facts.now (W.facts_of view.now c) }

@@ -1,5 +1,5 @@
-//! The derivation of a code point: its record, or the first rule of a valid release that it breaks. UAX #44, section 5.3;
-//! UAX #31, section 5.1.
+//! The derivation of a code point: its record, or the first rule of a valid release that it breaks. UAX #44,
+//! section 5.3; UAX #31, section 5.1.
 #![tactic(auto)]
 
 mod composites;

@@ -13,16 +13,22 @@ use ucd_model::{Bad, FactView, FormStop, Point, Points};
 /// Normalisation Forms D, C and KC of a code point alone. UAX #15, section 1.2.
 #[derive(Drop)]
 pub struct Forms {
+    /// Normalisation Form D.
     pub nfd: Points,
+    /// Normalisation Form C.
     pub nfc: Points,
+    /// Normalisation Form KC.
     pub nfkc: Points,
 }
 
 /// The same forms, as slices.
 #[derive(Clone, Copy)]
 pub struct FormsRef<'a> {
+    /// Normalisation Form D.
     pub nfd: &'a [Point],
+    /// Normalisation Form C.
     pub nfc: &'a [Point],
+    /// Normalisation Form KC.
     pub nfkc: &'a [Point],
 }
 
@@ -42,7 +48,7 @@ impl Forms {
 }
 
 impl<'a> FormsRef<'a> {
-    /// One list for all forms.
+    /// One list for all forms: that of a code point without a mapping.
     pub fn alone(points: &'a [Point]) -> FormsRef<'a>
         ensures nfd { result.nfd.now ≡ points.now }
         ensures nfc { result.nfc.now ≡ points.now }
@@ -63,8 +69,11 @@ struct Expansions {
     compat: Points,
 }
 
-/// The forms of a code point alone. `V2` comes where one of its expansions needs a chain of eight mappings, and else `V3`
-/// where one has more than 64 code points.
+/// The forms of a code point alone. UAX #15, section 1.2.
+///
+/// - `Bad(V2)`: one of its expansions needs a chain of eight mappings or more, or one without end.
+/// - `Bad(V3)`: none does, and one has more than 64 code points.
+/// - `Memory`: memory ran out.
 #[tactic(auto, using(crate::proofs::FormLemmas::forms_are))]
 pub fn forms_of<W: FactView>(alloc: Global, view: &W, c: Point) -> Result<Forms, FormStop>
     ensures { FormsAnswer (W.facts_of view.now) c result }

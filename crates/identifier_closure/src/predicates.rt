@@ -10,15 +10,18 @@ use case_derivation::{Changes, is_case_ignorable, is_cased, is_lowercase, is_upp
 use fold_rounds::is_default_ignorable;
 use ucd_model::{Category, Core, FactsRef, Flag, Point};
 
-/// What follows from the forms of a code point alone.
+/// What follows from the forms of a code point alone. UAX #44, section 5.3; UAX #31, section 5.1.
 #[derive(Clone, Copy)]
 pub struct ToldByForms {
+    /// Which mappings change its Normalisation Form D.
     pub changes: Changes,
+    /// XID_Start.
     pub xid_start: bool,
+    /// XID_Continue.
     pub xid_continue: bool,
 }
 
-/// Whether a code point with these facts, of whose forms this is told, has the property.
+/// Whether a code point with these facts, of whose forms this is told, has the property. UAX #44, section 5.3.
 pub fn holds(core: Core, c: Point, facts: &FactsRef<'_>, told: ToldByForms) -> bool
     ensures { result ≡ core_given c (shown_facts facts.now) told core }
 {
@@ -70,7 +73,7 @@ fn is_in_pattern(facts: &FactsRef<'_>) -> bool
     facts.flags.has(Flag::PatternSyntax) || facts.flags.has(Flag::PatternWhiteSpace)
 }
 
-/// UAX #31, section 2, table 2.
+/// Whether a code point with these facts has ID_Start. UAX #31, section 2, table 2.
 pub fn is_id_start(facts: &FactsRef<'_>) -> bool
     ensures { result ≡ id_start (shown_facts facts.now) }
 {
@@ -87,7 +90,7 @@ fn is_letter(facts: &FactsRef<'_>) -> bool
     )
 }
 
-/// UAX #31, section 2, table 2.
+/// Whether a code point with these facts has ID_Continue. UAX #31, section 2, table 2.
 pub fn is_id_continue(facts: &FactsRef<'_>) -> bool
     ensures { result ≡ id_continue (shown_facts facts.now) }
 {

@@ -5,8 +5,8 @@ ghost use Rattle.ucd_model.specs.CanonicalOrder.{class_of, with_next, order};
 
 use ucd_model::{FactView, Points};
 
-/// Puts a list into canonical order, in place: each code point of non-zero class is moved before the code points directly
-/// before it that have a greater class. It takes no memory. The Unicode Standard, section 3.11, D109.
+/// Puts a list into canonical order, in place: each code point of non-zero class is moved before the code points
+/// directly before it that have a greater class. It takes no memory. The Unicode Standard, section 3.11, D109.
 pub fn order<W: FactView>(view: &W, s: &mut Points)
     ensures { s.new ≡ order (class_of (W.facts_of view.now)) s.old }
 {

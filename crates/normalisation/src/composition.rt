@@ -9,7 +9,8 @@ ghost use Rattle.normalisation.specs.SoFar.{passes, highest_with, starter_behind
 
 use ucd_model::{FactView, Point, Points};
 
-/// The last starter of what is composed so far: its place, and the greatest class behind it, where anything stands there.
+/// The last starter of what is composed so far: its place, and the greatest class behind it, where anything stands
+/// there.
 #[derive(Clone, Copy)]
 struct Starter {
     at: usize,
@@ -76,7 +77,8 @@ fn put_next<W: FactView>(view: &W, s: &mut Points, so_far: SoFar, at: usize) -> 
     }
 }
 
-/// The composite of the last starter and a code point of this class, where there is one and the code point is not blocked.
+/// The composite of the last starter and a code point of this class, where there is one and the code point is not
+/// blocked.
 fn joined<W: FactView>(
     view: &W,
     s: &Points,

@@ -9,15 +9,20 @@ use decomposition::{counted, expand};
 use std::alloc::Global;
 use ucd_model::{FactView, FormStop, Point, Points};
 
-/// Normalisation Form D of a list: the canonical expansions of its members, in canonical order.
-/// UAX #15, section 1.2. A `Bad` comes exactly where a member has no expansion, with the rule of the first such member.
+/// Normalisation Form D of a list: the canonical expansions of its members, in canonical order. UAX #15, section 1.2.
+///
+/// - `Bad(rule)`: a member has no canonical expansion, and `rule`, V2 or V3, is that of the first such member.
+/// - `Memory`: memory ran out.
 pub fn nfd<W: FactView>(alloc: Global, view: &W, s: &[Point]) -> Result<Points, FormStop>
     ensures { FormAnswers result (nfd (W.facts_of view.now) s.now) }
 {
     decomposed(alloc, view, false, s)
 }
 
-/// Normalisation Form C of a list: its Normalisation Form D composed. UAX #15, section 1.2. A `Bad` comes as for `nfd`.
+/// Normalisation Form C of a list: its Normalisation Form D composed. UAX #15, section 1.2.
+///
+/// - `Bad(rule)`: a member has no canonical expansion, and `rule`, V2 or V3, is that of the first such member.
+/// - `Memory`: memory ran out.
 pub fn nfc<W: FactView>(alloc: Global, view: &W, s: &[Point]) -> Result<Points, FormStop>
     ensures { FormAnswers result (nfc (W.facts_of view.now) s.now) }
 {
@@ -25,14 +30,20 @@ pub fn nfc<W: FactView>(alloc: Global, view: &W, s: &[Point]) -> Result<Points, 
 }
 
 /// Normalisation Form KD of a list: the compatibility expansions of its members, in canonical order.
-/// UAX #15, section 1.2. A `Bad` comes exactly where a member has no expansion, with the rule of the first such member.
+/// UAX #15, section 1.2.
+///
+/// - `Bad(rule)`: a member has no compatibility expansion, and `rule`, V2 or V3, is that of the first such member.
+/// - `Memory`: memory ran out.
 pub fn nfkd<W: FactView>(alloc: Global, view: &W, s: &[Point]) -> Result<Points, FormStop>
     ensures { FormAnswers result (nfkd (W.facts_of view.now) s.now) }
 {
     decomposed(alloc, view, true, s)
 }
 
-/// Normalisation Form KC of a list: its Normalisation Form KD composed. UAX #15, section 1.2. A `Bad` comes as for `nfkd`.
+/// Normalisation Form KC of a list: its Normalisation Form KD composed. UAX #15, section 1.2.
+///
+/// - `Bad(rule)`: a member has no compatibility expansion, and `rule`, V2 or V3, is that of the first such member.
+/// - `Memory`: memory ran out.
 pub fn nfkc<W: FactView>(alloc: Global, view: &W, s: &[Point]) -> Result<Points, FormStop>
     ensures { FormAnswers result (nfkc (W.facts_of view.now) s.now) }
 {

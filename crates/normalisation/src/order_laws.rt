@@ -2,8 +2,8 @@
 
 ghost use Rattle.normalisation.specs.OrderLaws.{OrderIsReached, OrderIsOnly, OrderTwice, StartersStay, MarksMove, EqualsKeepOrder};
 
-/// The ordered list comes from the list by exchanging neighbours of which the first has the greater class and the second is
-/// no starter, and no such neighbours are left. The Unicode Standard, section 3.11, D109.
+/// The ordered list comes from the list by exchanging neighbours of which the first has the greater class and the
+/// second is no starter, and no such neighbours are left. The Unicode Standard, section 3.11, D109.
 pub fn order_is_reached()
     ensures { OrderIsReached }
 {}

@@ -23,8 +23,8 @@ pub fn is_fully_excluded<W: FactView>(view: &W, c: Point, facts: &FactsRef<'_>) 
         || (matches!(facts.kind, Kind::Canonical) && excludes_mapping(view, c, facts.mapping))
 }
 
-/// Whether composition never gives back a canonical mapping of a code point: the mapping has one member, or it has two, and
-/// the code point or the first member is no starter.
+/// Whether composition never gives back a canonical mapping of a code point: the mapping has one member, or it has two,
+/// and the code point or the first member is no starter.
 fn excludes_mapping<W: FactView>(view: &W, c: Point, mapping: &[Point]) -> bool
     ensures { result ≡ excludes_mapping (W.facts_of view.now) c mapping.now }
 {

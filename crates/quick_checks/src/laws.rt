@@ -7,14 +7,14 @@ pub fn kinds_tell()
     ensures { KindsTell }
 {}
 
-/// A code point whose four forms are all itself, and that is no second member of a primary composite's mapping, has `Yes`
-/// in each quick check, where a mapping is never empty.
+/// A code point whose four forms are all itself, and that is no second member of a primary composite's mapping, has
+/// `Yes` in each quick check, where a mapping is never empty.
 pub fn unchanged_is_yes()
     ensures { UnchangedIsYes }
 {}
 
-/// Where a quick check is `No`, the form of the code point is another list than the code point alone, where a mapping is
-/// never empty.
+/// Where a quick check is `No`, the form of the code point is another list than the code point alone, where a mapping
+/// is never empty.
 pub fn no_is_other()
     ensures { NoIsOther }
 {}

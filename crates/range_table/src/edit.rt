@@ -7,19 +7,23 @@ ghost use Rattle.range_table.specs.Edit.{edited};
 use crate::change::Change;
 use ucd_model::Memory;
 
-/// What is to be done to a layout to give a span a value.
-/// `first` is its first value then. The changes from the index `from` up to the index `behind` go.
-/// In their place come the change at the span's beginning and the one behind its end, where there are to be any.
+/// What is to be done to a layout to give a span a value: some changes go, and up to two come in their place.
 #[derive(Clone, Copy)]
 pub struct Edit<V> {
+    /// The first value of the layout then.
     pub first: V,
+    /// The index of the first change that goes.
     pub from: usize,
+    /// The index behind the last change that goes; `from` where none goes.
     pub behind: usize,
+    /// The change at the beginning of the span, where there is to be one.
     pub begins: Option<Change<V>>,
+    /// The change behind the end of the span, where there is to be one.
     pub ends: Option<Change<V>>,
 }
 
-/// What has to stand at `start` for values that are `before` up to there and `value` from there on.
+/// What has to stand at `start` for values that are `before` up to there and `value` from there on; `None` where they
+/// are equal.
 pub fn change_to<V: Copy + Eq>(before: V, start: u32, value: V) -> Option<Change<V>>
     ensures { result ≡ (if V.eq before value then None else Some (record { start = start; value = value })) }
 {
@@ -30,7 +34,9 @@ pub fn change_to<V: Copy + Eq>(before: V, start: u32, value: V) -> Option<Change
     }
 }
 
-/// Edits the changes. All memory is taken first: for want of it the changes stay as they were.
+/// Edits the changes. All memory is taken first.
+///
+/// - `Memory`: memory ran out. The changes stay as they were.
 pub fn splice<V: Copy>(changes: &mut Vec<Change<V>>, edit: &Edit<V>) -> Result<(), Memory>
     requires ordered { edit.now.from ≤ edit.now.behind }
     requires within { edit.now.behind ≤ vec_len changes.old }

@@ -42,6 +42,8 @@ impl<V: Copy + Eq> Layout<V> {
     }
 
     /// The same layout again.
+    ///
+    /// - `Memory`: memory ran out.
     pub fn copy(&self) -> Result<Layout<V>, Memory>
         ensures { IfOk result (λ copy. copy ≡ self.now) }
     {
@@ -76,9 +78,11 @@ impl<V: Copy + Eq> Layout<V> {
         Point::new(self.end_of_run(c) - 1).unwrap()
     }
 
-    /// Gives the points of a span the value. For want of memory the layout stays as it was.
+    /// Gives the points of a span the value.
     ///
     /// It takes time by the number of changes behind the span, so each of many spans in ascending order costs the same.
+    ///
+    /// - `Memory`: memory ran out. The layout stays as it was.
     pub fn set(&mut self, span: Span, value: V) -> Result<(), Memory>
         ensures ok { OnOk result (SameValues (values self.new) (with_span (values self.old) span.lo span.hi value)) }
         ensures err { OnErr result (SameValues (values self.new) (values self.old)) }

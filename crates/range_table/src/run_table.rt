@@ -12,8 +12,8 @@ use ucd_model::{Memory, Point, Span};
 /// A table that keeps each maximal run of equal values once.
 ///
 /// To look a value up takes time by the logarithm of the number of runs.
-/// The first `prepare` after a `commit` or a `discard` copies the runs. Each takes time by the runs that lie behind its span:
-/// spans in ascending order cost the same each, however many runs there are.
+/// The first `prepare` after a `commit` or a `discard` copies the runs. Each takes time by the runs that lie behind its
+/// span: spans in ascending order cost the same each, however many runs there are.
 #[derive(Drop)]
 pub struct RunTable<V: Copy + Eq> {
     committed: Layout<V>,

@@ -14,8 +14,10 @@ pub trait Table<V: Copy + Eq>: Sized + Drop {
 
     ghost next: { Self → ℕ → V };
 
-    /// The table whose values, now and next, are `value` throughout.
-    /// Values of `V` that are equal by `==` must be the same value. It answers Memory only for want of memory.
+    /// The table whose values, now and next, are `value` throughout. Values of `V` that are equal by `==` must be the
+    /// same value.
+    ///
+    /// - `Memory`: memory ran out.
     fn filled(alloc: Global, value: V) -> Result<Self, Memory>
         requires { (a b : V) → V.eq a b ≡ true → a ≡ b }
         ensures now { IfOk result (λ table. SameValues (now table) (λ _. value)) }
@@ -30,7 +32,8 @@ pub trait Table<V: Copy + Eq>: Sized + Drop {
         ensures { result ≡ next self.now c };
 
     /// Gives the points of a span the value next. What is now stays.
-    /// For want of memory it answers Memory, and what is next stays too.
+    ///
+    /// - `Memory`: memory ran out. What is next stays too.
     fn prepare(&mut self, span: Span, value: V) -> Result<(), Memory>
         ensures now { SameValues (now self.new) (now self.old) }
         ensures ok { OnOk result (SameValues (next self.new) (with_span (next self.old) span.lo span.hi value)) }

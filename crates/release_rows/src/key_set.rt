@@ -41,7 +41,8 @@ impl KeySet {
         }
     }
 
-    /// The rule that a row at a place, up to its last code point, breaks against these extents.
+    /// The rule that a row at a place, up to its last code point, breaks against these extents; `None` where it breaks
+    /// none.
     pub fn conflict(&self, place: Place, last: u32) -> Option<KeyRule>
         requires { place.code ≤ last }
         ensures { result ≡ conflict_with self.now (extent_at place last) }
@@ -60,7 +61,9 @@ impl KeySet {
         None
     }
 
-    /// Takes up the extent of a row that breaks no rule. For want of memory the set stays as it was.
+    /// Takes up the extent of a row that breaks no rule.
+    ///
+    /// - `Memory`: memory ran out. The set stays as it was.
     pub fn insert(&mut self, place: Place, last: u32) -> Result<(), Memory>
         requires ordered { place.code ≤ last }
         requires apart { conflict_with self.old (extent_at place last) ≡ None }

@@ -15,7 +15,10 @@ use std::alloc::Global;
 use ucd_lines::items;
 use ucd_model::{ListOf, SourceFile};
 
-/// The items of a file, in the order of the file, or the first line that breaks a rule.
+/// The items of a file, in the order of the file. UAX #44, section 4.2.
+///
+/// - `Fault { line, rule }`: the first line that breaks a rule, counted from 1, and the first rule that it breaks.
+/// - `Memory`: memory ran out.
 #[tactic(auto, unfolding(crate::specs::Loading::file_or_fault, ucd_model::specs::Limits::file_limit))]
 pub fn load_items(
     alloc: Global,

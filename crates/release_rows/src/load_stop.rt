@@ -10,19 +10,20 @@ use ucd_model::Memory;
 /// The rule that a file breaks.
 #[derive(Clone, Copy, Debug, PartialEq, Eq, Drop, Error)]
 pub enum LoadRule {
-    /// The file is longer than the limit.
+    /// The file has more than 16,777,216 bytes.
     #[error("the file is longer than the limit")]
     G02,
-    /// A line is no row of the file.
+    /// A line is no row of the file, by this rule.
     #[error("the line is no row: {0:?}")]
     Row(RowFault),
     /// A row above has the same key.
     #[error("a row above has this key")]
     K1,
-    /// The row overlaps a row above.
+    /// The row overlaps a row above: in UnicodeData.txt, Scripts.txt, WordBreakProperty.txt and
+    /// CompositionExclusions.txt any row, in PropList.txt one of the same property.
     #[error("the row overlaps a row above")]
     K4,
-    /// The row begins below the row before it.
+    /// In UnicodeData.txt the row begins below the row before it.
     #[error("the row begins below the row before it")]
     K5,
 }
@@ -38,6 +39,7 @@ pub enum LoadStop {
     Memory,
 }
 
+/// Want of memory is `LoadStop::Memory`.
 impl From<Memory> for LoadStop {
     ghost use Rattle.release_rows.specs.declared.load_stop.LoadStop.TheVariants.{Memory};
 
@@ -48,6 +50,7 @@ impl From<Memory> for LoadStop {
     }
 }
 
+/// The same, of a call that hands back what it could not put; that is dropped.
 impl<T: Drop> From<AllocFailed<T>> for LoadStop {
     ghost use Rattle.release_rows.specs.declared.load_stop.LoadStop.TheVariants.{Memory};
 

@@ -139,7 +139,11 @@ impl Loading {
         })
     }
 
-    /// With one more piece, or the piece's fault.
+    /// With one more piece.
+    ///
+    /// - `Fault { line, rule }`: the piece breaks a rule: the row's own come first, then K1, K4 and K5. The line is
+    ///   counted from 1.
+    /// - `Memory`: memory ran out.
     pub fn take(self, alloc: Global, piece: Piece<'_>) -> Result<Loading, LoadStop>
         requires { lines_of self.items + piece_lines (piece_of piece) + 1 < 2 ^ 32 }
         ensures { TakesPiece result self (piece_of piece.entry) }

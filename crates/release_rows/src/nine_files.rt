@@ -10,14 +10,23 @@ use ucd_model::{ListOf, SourceFile};
 /// The items of each source file, in the order of the file.
 #[derive(Debug, Drop)]
 pub struct NineFiles {
+    /// UnicodeData.txt.
     pub unicode_data: ListOf<StoredItem>,
+    /// PropList.txt.
     pub prop_list: ListOf<StoredItem>,
+    /// Scripts.txt.
     pub scripts: ListOf<StoredItem>,
+    /// WordBreakProperty.txt.
     pub word_break_property: ListOf<StoredItem>,
+    /// CompositionExclusions.txt.
     pub composition_exclusions: ListOf<StoredItem>,
+    /// CaseFolding.txt.
     pub case_folding: ListOf<StoredItem>,
+    /// SpecialCasing.txt.
     pub special_casing: ListOf<StoredItem>,
+    /// PropertyAliases.txt.
     pub property_aliases: ListOf<StoredItem>,
+    /// PropertyValueAliases.txt.
     pub property_value_aliases: ListOf<StoredItem>,
 }
 

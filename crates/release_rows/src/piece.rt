@@ -14,7 +14,9 @@ use ucd_model::{ListOf, Memory, SourceFile, Text};
 /// A line, or a line that opens a range and the one behind it. UAX #44, section 4.2.3.
 #[derive(Clone, Copy, Debug)]
 pub struct Piece<'a> {
+    /// The line, or the one that opens the range.
     pub first: Item<'a>,
+    /// The line behind one that opens a range; `None` of other lines, and where the file ends.
     pub last: Option<Item<'a>>,
 }
 
@@ -28,7 +30,7 @@ fn opens_range(file: SourceFile, content: &[u8]) -> bool
     }
 }
 
-/// Takes the first piece off the lines.
+/// Takes the first piece off the lines; `None` where there are no lines. UAX #44, section 4.2.3.
 pub fn next_piece<'a>(file: SourceFile, lines: &mut Items<'a>) -> Option<Piece<'a>>
     ensures piece { MatchOption result (pieces file lines.old ≡ []) (λ p. pieces file lines.old ≡ piece_of p ∷ pieces file lines.new) }
     ensures lines { MatchOption result (lines.old ≡ []) (λ p. length lines.old ≡ piece_lines (piece_of p) + length lines.new) }
@@ -42,6 +44,8 @@ pub fn next_piece<'a>(file: SourceFile, lines: &mut Items<'a>) -> Option<Piece<'
 }
 
 /// What stands before the ending.
+///
+/// - `Memory`: memory ran out.
 pub fn content_of(alloc: Global, piece: Piece<'_>) -> Result<Text, Memory>
     ensures { IfOk result (λ content. content ≡ piece_content (piece_of piece.entry)) }
 {
@@ -66,7 +70,7 @@ pub fn ending_of(piece: Piece<'_>) -> Ending
     }
 }
 
-/// How many lines there are.
+/// How many lines there are: 1 or 2.
 pub fn lines_of(piece: Piece<'_>) -> u32
     ensures count { result ≡ piece_lines (piece_of piece.entry) }
     ensures few { result ≤ 2 }

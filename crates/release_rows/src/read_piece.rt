@@ -54,7 +54,11 @@ fn stop_at(
     }
 }
 
-/// The item of a piece whose first line has this number, or the piece's own fault.
+/// The item of a piece whose first line has this number.
+///
+/// - `Fault { line, rule }`: the piece is no row, and `rule` is the first rule that it breaks by itself. The line is
+///   this one, and the next one where the fault is that of the second line of a range.
+/// - `Memory`: memory ran out.
 pub fn read_piece(
     alloc: Global,
     file: SourceFile,

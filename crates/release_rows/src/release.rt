@@ -68,6 +68,8 @@ impl Release {
     }
 
     /// The bytes of a file now. Of a file that was loaded they are the bytes that it was loaded from.
+    ///
+    /// - `Memory`: memory ran out.
     pub fn text(&self, alloc: Global, file: SourceFile) -> Result<Text, Memory>
         ensures { IfOk result (λ text. text ≡ bytes_of (items_now self.now file)) }
     {

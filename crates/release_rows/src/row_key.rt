@@ -141,6 +141,8 @@ fn condition_names(alloc: Global, conditions: &[u8]) -> Result<Vec<Vec<u8>>, All
 }
 
 /// The key of a row.
+///
+/// - `Memory`: memory ran out.
 pub fn place_of(alloc: Global, file: SourceFile, row: &Row) -> Result<Place, Memory>
     ensures names { IfOk result (λ place. names_in place ≡ key_names file row.now) }
     ensures code { IfOk result (λ place. place.code ≡ (row_span row.now).lo) }

@@ -55,7 +55,7 @@ impl StoredItem {
         }
     }
 
-    /// How many lines the item has.
+    /// How many lines the item has, at most 2.
     pub fn lines(&self) -> u32
         ensures count { result ≡ self.now.lines }
         ensures few { result ≤ 2 }
@@ -63,7 +63,9 @@ impl StoredItem {
         self.lines
     }
 
-    /// Appends the content and what ends it. For want of memory the text stays as it was.
+    /// Appends the content and what ends it.
+    ///
+    /// - `Memory`: memory ran out. The text stays as it was.
     pub fn join(&self, into: &mut Text) -> Result<(), Memory>
         ensures ok { OnOk result (into.new ≡ into.old ++ file_item_bytes self.now) }
         ensures err { OnErr result (into.new ≡ into.old) }

@@ -62,7 +62,9 @@ impl CallPlan {
         self.faults = self.faults.saturating_add(1);
     }
 
-    /// Makes the nth call fail as well. For want of memory nothing changes.
+    /// Makes the nth call fail as well, counted from 1.
+    ///
+    /// - `Memory`: memory ran out. Nothing changes.
     pub fn plan(&mut self, nth: u32) -> Result<(), Memory>
         ensures ok { OnOk result (self.new ≡ failing_too nth self.old) }
         ensures err { OnErr result (self.new ≡ self.old) }

@@ -12,7 +12,8 @@ use std::marker::Model;
 use std::rt::Files;
 use ucd_model::{Memory, Text};
 
-/// The files of the system. It tells nothing of what they hold, and counts what failed.
+/// The files of the system. It tells nothing of what they hold, and counts what failed. Each read and write of a path
+/// that is not UTF-8 fails. A write makes the folders that are missing.
 #[derive(Drop)]
 pub struct DiskShelf<R: Files> {
     runtime: R,

@@ -13,7 +13,9 @@ use ucd_model::{Memory, Text};
 /// A file.
 #[derive(Drop)]
 pub struct File {
+    /// The path, compared byte by byte.
     pub path: Text,
+    /// What the file holds.
     pub bytes: Text,
 }
 
@@ -34,6 +36,8 @@ impl Model for MemoryFiles {
 }
 
 /// A text of these bytes.
+///
+/// - `Memory`: memory ran out.
 pub fn text_of(alloc: Global, bytes: &[u8]) -> Result<Text, Memory>
     ensures { IfOk result (λ text. text ≡ bytes.now) }
 {
@@ -60,7 +64,7 @@ impl MemoryFiles {
         }
     }
 
-    /// The bytes of this path, or None where it is not held.
+    /// The bytes of this path, or `None` where it is not held.
     pub fn held(&self, path: &[u8]) -> Option<&[u8]>
         ensures { option_copied result ≡ held_in self.now path.now }
     {
@@ -70,8 +74,10 @@ impl MemoryFiles {
             .map(|file| file.bytes.as_slice())
     }
 
-    /// Replaces `into` by the first `most` bytes of this path. Absent comes where it is not held, and
-    /// leaves `into` as it was. No read fails; want of memory is the only stop.
+    /// Replaces `into` by the first `most` bytes of this path, and answers `Found`; or answers `Absent` where it is not
+    /// held, and leaves `into` as it was.
+    ///
+    /// - `Memory`: memory ran out, and `into` holds anything. It is the only stop: no read fails.
     pub fn read(&self, path: &[u8], most: usize, into: &mut Vec<u8>) -> Result<Found, ReadStop>
         ensures contents { Reads result (held_in self.now path.now) most into.new.items }
         ensures at_most { OnFound result (length into.new.items ≤ most) }
@@ -88,7 +94,9 @@ impl MemoryFiles {
         Ok(Found::Found)
     }
 
-    /// Makes room for so many more files. For want of memory nothing changes.
+    /// Makes room for so many more files.
+    ///
+    /// - `Memory`: memory ran out. Nothing changes.
     pub fn room(&mut self, files: usize) -> Result<(), Memory>
         ensures ok { OnOk result (files ≤ self.new.spare) }
         ensures enough { files ≤ self.old.spare → IsOk result }
@@ -114,8 +122,9 @@ impl MemoryFiles {
         }
     }
 
-    /// Replaces the bytes of this path by a copy of these, and leaves every other path. For want of
-    /// memory what is held stays as it was.
+    /// Replaces the bytes of this path by a copy of these, and leaves every other path.
+    ///
+    /// - `Memory`: memory ran out. What is held stays as it was.
     pub fn place(&mut self, path: &[u8], bytes: &[u8]) -> Result<(), Memory>
         ensures ok { OnOk result (ReplacedAt path.now bytes.now (held_in self.old) (held_in self.new)) }
         ensures spare_for_one { self.old.spare ≤ self.new.spare + 1 }

@@ -45,8 +45,9 @@ impl MemoryShelf {
         }
     }
 
-    /// Replaces the bytes of this path by a copy of these, and leaves every other path. It counts as no
-    /// write. For want of memory nothing changes.
+    /// Replaces the bytes of this path by a copy of these, and leaves every other path. It counts as no write.
+    ///
+    /// - `Memory`: memory ran out. Nothing changes.
     pub fn place(&mut self, path: &[u8], bytes: &[u8]) -> Result<(), Memory>
         ensures ok { OnOk result
             (ReplacedAt path.now bytes.now (held_in self.old.folder) (held_in self.new.folder)) }
@@ -57,16 +58,17 @@ impl MemoryShelf {
         self.files.place(path, bytes)
     }
 
-    /// The bytes of this path, or None where it is not held. It counts as no read.
+    /// The bytes of this path, or `None` where it is not held. It counts as no read.
     pub fn held(&self, path: &[u8]) -> Option<&[u8]>
         ensures { option_copied result ≡ held_in self.now.folder path.now }
     {
         self.files.held(path)
     }
 
-    /// Makes the nth read fail, counted from 1 and from the making of the shelf. A number joins those
-    /// that were given before. A read that wanted memory does not count. For want of memory nothing
-    /// changes.
+    /// Makes the nth read fail, counted from 1 and from the making of the shelf. A number joins those that were given
+    /// before. A read that wanted memory does not count.
+    ///
+    /// - `Memory`: memory ran out. Nothing changes.
     pub fn fail_read(&mut self, nth: u32) -> Result<(), Memory>
         ensures ok { OnOk result
             (self.new ≡ record self.old { reads = failing_too nth self.old.reads }) }
@@ -75,8 +77,10 @@ impl MemoryShelf {
         self.reads.plan(nth)
     }
 
-    /// Makes the nth write fail, counted from 1 and from the making of the shelf. A number joins those
-    /// that were given before. For want of memory nothing changes.
+    /// Makes the nth write fail, counted from 1 and from the making of the shelf. A number joins those that were given
+    /// before.
+    ///
+    /// - `Memory`: memory ran out. Nothing changes.
     pub fn fail_write(&mut self, nth: u32) -> Result<(), Memory>
         ensures ok { OnOk result
             (self.new ≡ record self.old { writes = failing_too nth self.old.writes }) }

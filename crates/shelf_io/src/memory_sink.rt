@@ -31,6 +31,8 @@ impl Model for MemorySink {
 
 impl MemorySink {
     /// A sink with room for so many bytes, to which nothing was written.
+    ///
+    /// - `Memory`: memory ran out.
     pub fn new(alloc: Global, room: usize) -> Result<MemorySink, Memory>
         ensures { IfOk result (λ sink. sink ≡ record { written = []; room = room; faults = 0 }) }
     {

@@ -35,8 +35,9 @@ impl PerfectShelf {
         }
     }
 
-    /// Replaces the bytes of this path by a copy of these, and leaves every other path. For want of
-    /// memory nothing changes.
+    /// Replaces the bytes of this path by a copy of these, and leaves every other path.
+    ///
+    /// - `Memory`: memory ran out. Nothing changes.
     pub fn place(&mut self, path: &[u8], bytes: &[u8]) -> Result<(), Memory>
         ensures ok { OnOk result (ReplacedAt path.now bytes.now (held_in self.old) (held_in self.new)) }
         ensures spare_for_one { self.old.spare ≤ self.new.spare + 1 }
@@ -45,7 +46,7 @@ impl PerfectShelf {
         self.files.place(path, bytes)
     }
 
-    /// The bytes of this path, or None where it is not held.
+    /// The bytes of this path, or `None` where it is not held.
     pub fn held(&self, path: &[u8]) -> Option<&[u8]>
         ensures { option_copied result ≡ held_in self.now path.now }
     {

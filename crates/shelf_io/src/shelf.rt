@@ -53,9 +53,13 @@ pub trait Shelf {
     // the number of writes for which there is room
     ghost spare: { Self → ℕ };
 
-    /// Replaces `into` by the first `most` bytes of what `path` holds. Absent comes where the path is
-    /// not held, and leaves `into` as it was; Failed only where the count of read faults rose; Memory
-    /// where memory was wanted. After Failed or Memory `into` holds anything.
+    /// Replaces `into` by the first `most` bytes of what `path` holds, and answers `Found`; or answers `Absent` where
+    /// the path is not held, and leaves `into` as it was.
+    ///
+    /// - `Failed`: the read failed. It comes only where the count of read faults rose.
+    /// - `Memory`: memory ran out.
+    ///
+    /// After either `into` holds anything.
     fn read(&mut self, path: &[u8], most: usize, into: &mut Vec<u8>) -> Result<Found, ReadStop>
         ensures contents { IsTrue tells → Reads result (holds self.old path.now) most into.new.items }
         ensures at_most { OnFound result (length into.new.items ≤ most) }
@@ -68,7 +72,9 @@ pub trait Shelf {
         ensures write_faults_stay { write_faults self.new ≡ write_faults self.old }
         ensures spare_stays { spare self.new ≡ spare self.old };
 
-    /// Makes room for so many writes. For want of memory it changes nothing.
+    /// Makes room for so many writes.
+    ///
+    /// - `Memory`: memory ran out. Nothing changes.
     fn room(&mut self, writes: usize) -> Result<(), Memory>
         ensures ok { OnOk result (writes ≤ spare self.new) }
         ensures spare_never_falls { spare self.old ≤ spare self.new }
@@ -79,8 +85,10 @@ pub trait Shelf {
         ensures last_failed_stays { IsTrue tells_failed →
             last_failed self.new ≡ last_failed self.old };
 
-    /// Replaces the bytes of `path`, and leaves every other path as it is. It takes no memory. Failed
-    /// comes only where the count of write faults rose; that path then holds anything, or is absent.
+    /// Replaces the bytes of `path`, and leaves every other path as it is. It takes no memory.
+    ///
+    /// - `Failed`: the write failed. It comes only where the count of write faults rose; that path then holds anything,
+    ///   or is absent.
     fn write(&mut self, path: Text, bytes: Text) -> Result<(), Failed>
         requires { 0 < spare self.old }
         ensures ok { IsTrue tells → OnOk result (holds self.new path ≡ Some bytes) }

@@ -17,8 +17,10 @@ pub trait Sink {
     // how many puts failed
     ghost faults: { Self → ℕ };
 
-    /// Appends all bytes. Failed comes only where the count of faults rose; a prefix of the bytes was
-    /// then appended.
+    /// Appends all bytes.
+    ///
+    /// - `Failed`: the put failed. It comes only where the count of faults rose; a prefix of the bytes was then
+    ///   appended.
     fn put(&mut self, bytes: &[u8]) -> Result<(), Failed>
         ensures ok { IsTrue tells → OnOk result (written self.new ≡ written self.old ++ bytes.now) }
         ensures err { IsTrue tells → OnErr result

@@ -44,8 +44,12 @@ fn read_at<F: Read>(file: &mut F, into: &mut Vec<u8>, at: usize) -> Result<usize
     }
 }
 
-/// Replaces `into` by the first `most` bytes that are left to read. Every error of reading is a failed
-/// read.
+/// Replaces `into` by the first `most` bytes that are left to read.
+///
+/// - `Failed`: there was an error of reading.
+/// - `Memory`: memory ran out.
+///
+/// After either `into` holds anything.
 pub fn read_most<F: Read>(file: &mut F, most: usize, into: &mut Vec<u8>) -> Result<(), ReadStop>
     ensures at_most { OnOk result (length into.new.items ≤ most) }
     ensures bytes { OnOk result (IfSome (F.remaining file.old) (λ left. into.new.items ≡ take most left)) }
@@ -67,8 +71,9 @@ pub fn read_most<F: Read>(file: &mut F, most: usize, into: &mut Vec<u8>) -> Resu
     Ok(())
 }
 
-/// Writes all bytes. A write that takes none of what is left is a fault, as is each error; a prefix of
-/// the bytes was then written.
+/// Writes all bytes.
+///
+/// - `Failed`: there was an error, or a write took none of what is left. A prefix of the bytes was then written.
 pub fn write_all<F: Write>(file: &mut F, bytes: &[u8]) -> Result<(), Failed>
     ensures ok { OnOk result (Appends (F.contents file.old) (F.contents file.new) bytes.now) }
     ensures err { OnErr result

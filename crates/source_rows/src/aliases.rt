@@ -40,7 +40,11 @@ fn names_of(alloc: Global, text: &[u8]) -> Result<Option<Texts>, Memory>
     Ok(Some(names))
 }
 
-/// The row of a line of at least so many names, or its first fault.
+/// The row of a line of at least so many names.
+///
+/// - `Fault(G03)`: there are fewer fields.
+/// - `Fault(G11)`: the first is no name, or a later one neither a name nor empty.
+/// - `Memory`: memory ran out.
 #[tactic(auto, unfolding(crate::specs::OtherFaults::alias_or_fault))]
 pub fn read_alias(alloc: Global, least: usize, content: &[u8]) -> Result<Row, RowStop>
     ensures { ReadsAs result (alias_or_fault least (fields_of (before_first is_hash content.now))) }

@@ -71,7 +71,13 @@ fn fourth_field(text: &[u8]) -> &[u8]
     three_fields(others).2
 }
 
-/// The row of a line, or its first fault.
+/// The row of a line.
+///
+/// - `Fault(G03)`: there are neither three fields nor four of which the last is empty.
+/// - `Fault(G04)`: the first is no code point.
+/// - `Fault(G08)`: the second is no status.
+/// - `Fault(G07)`: the third is no mapping, or not of as many code points as the status has.
+/// - `Memory`: memory ran out.
 #[tactic(auto, unfolding(crate::specs::OtherFaults::fold_or_fault))]
 pub fn read_fold(alloc: Global, content: &[u8]) -> Result<Row, RowStop>
     ensures { ReadsAs result (fold_or_fault (fields_of (before_first is_hash content.now))) }

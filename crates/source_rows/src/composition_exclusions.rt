@@ -11,7 +11,10 @@ use crate::fault::{RowFault, RowStop};
 use crate::fields::{field_count, first_field, without_comment};
 use ucd_model::{ExclusionRow, Row};
 
-/// The row of a line, or its first fault. It takes no memory.
+/// The row of a line. It takes no memory, and `Memory` does not come.
+///
+/// - `Fault(G03)`: there is more than one field.
+/// - `Fault(G04)`: it is no code point and no span.
 #[tactic(auto, unfolding(crate::specs::OtherFaults::exclusion_or_fault))]
 pub fn read_exclusion(content: &[u8]) -> Result<Row, RowStop>
     ensures { ReadsAs result (exclusion_or_fault (fields_of (before_first is_hash content.now))) }

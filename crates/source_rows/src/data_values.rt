@@ -17,11 +17,17 @@ use ucd_model::{Category, Point};
 /// What fields 2, 3, 5 and 12 to 14 hold.
 #[derive(Drop)]
 pub struct Values {
+    /// Field 2, General_Category.
     pub category: Category,
+    /// Field 3, Canonical_Combining_Class: 0 to 254.
     pub class: u8,
+    /// Field 5, Decomposition_Type and Decomposition_Mapping.
     pub decomposition: Decomposition,
+    /// Field 12, Simple_Uppercase_Mapping; `None` where the field is empty.
     pub upper: Option<Point>,
+    /// Field 13, Simple_Lowercase_Mapping; `None` where the field is empty.
     pub lower: Option<Point>,
+    /// Field 14, Simple_Titlecase_Mapping; `None` where the field is empty.
     pub title: Option<Point>,
 }
 
@@ -73,7 +79,13 @@ fn case_of(field: &[u8]) -> Option<Option<Point>>
     }
 }
 
-/// The values of a line's fields, or their first fault.
+/// The values of a line's fields. They are tested in this order:
+///
+/// - `Fault(G05)`: field 2 is no category that the file names.
+/// - `Fault(G06)`: field 3 is no decimal number from 0 to 254.
+/// - `Fault(G07)`, `Fault(G10)`: field 5 is bad, as [`read_decomposition`] tells it.
+/// - `Fault(G07)`: one of the fields 12 to 14 is neither a code point nor empty.
+/// - `Memory`: memory ran out.
 #[tactic(auto, unfolding(crate::specs::DataFaults::values_or_fault))]
 pub fn read_values(alloc: Global, line: DataFields<'_>) -> Result<Values, RowStop>
     ensures { ValuesReadAs result (values_or_fault (fields_in line.entry)) }

@@ -13,10 +13,12 @@ use ucd_model::{Kind, Points, Tag};
 /// The greatest number of code points in a canonical mapping.
 const CANONICAL: usize = 2;
 
-/// The kind and the mapping of a decomposition.
+/// The kind and the mapping of a decomposition. UAX #44, section 5.7.3.
 #[derive(Drop)]
 pub struct Decomposition {
+    /// The kind; `Plain` where the field is empty.
     pub kind: Kind,
+    /// The mapping: one or two code points of `Canonical`, 1 to 64 with a tag, and none of `Plain`.
     pub mapping: Points,
 }
 
@@ -145,7 +147,11 @@ fn read_canonical(alloc: Global, field: &[u8]) -> Result<Decomposition, RowStop>
     })
 }
 
-/// The decomposition of a field 5, or its first fault.
+/// The decomposition of a field 5.
+///
+/// - `Fault(G07)`: the tag is unknown, one of the words is no code point, or there are none or more than 64 of them.
+/// - `Fault(G10)`: there is no tag, and there are 3 to 64 code points.
+/// - `Memory`: memory ran out.
 #[tactic(auto, unfolding(crate::specs::DataFaults::decomposition_or_fault))]
 pub fn read_decomposition(alloc: Global, field: &[u8]) -> Result<Decomposition, RowStop>
     ensures { DecompositionReadsAs result (decomposition_or_fault field.now) }

@@ -8,23 +8,26 @@ use std::alloc::AllocError;
 /// fields in order, then `G09`.
 #[derive(Clone, Copy, Debug, PartialEq, Eq)]
 pub enum RowFault {
-    /// The number of fields is wrong, or the bytes hold a LF.
+    /// The number of fields is wrong, the fourth one of CaseFolding.txt or the sixth one of SpecialCasing.txt is not
+    /// empty, or a LF stands elsewhere than behind the first line of a range.
     G03,
-    /// No code point or span stands where one is due.
+    /// No code point or span stands where one is due, or that of the last line of a range is less than that of its
+    /// first.
     G04,
-    /// The General_Category is unknown. UAX #44, section 5.7.1.
+    /// The General_Category is unknown, or `Cn`. UAX #44, section 5.7.1.
     G05,
     /// No decimal number from 0 to 254, of one to three digits, stands where one is due.
     G06,
-    /// A mapping is bad.
+    /// A mapping is bad: its tag is unknown, a simple one is no code point, or another has a word that is none, more
+    /// than 64 code points, none behind a tag, or not as many as its status has.
     G07,
     /// The status of a folding is unknown.
     G08,
     /// The line is the first or the last one of a range, and the other one does not stand beside it.
     G09,
-    /// A canonical mapping has more than two code points.
+    /// A canonical mapping has 3 to 64 code points.
     G10,
-    /// No name stands where one is due.
+    /// No name stands where one is due, or the conditions of a casing have a byte that they may not have.
     G11,
 }
 
@@ -37,6 +40,7 @@ pub enum RowStop {
     Memory,
 }
 
+/// Want of memory, as an allocator answers it, is `RowStop::Memory`.
 impl From<AllocError> for RowStop {
     ghost use Rattle.source_rows.specs.declared.fault.RowStop.TheVariants.{Memory};
 
@@ -47,6 +51,7 @@ impl From<AllocError> for RowStop {
     }
 }
 
+/// Want of memory is `RowStop::Memory`.
 impl From<ucd_model::Memory> for RowStop {
     ghost use Rattle.source_rows.specs.declared.fault.RowStop.TheVariants.{Memory};
 

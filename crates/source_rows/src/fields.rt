@@ -10,6 +10,8 @@ use ucd_lines::{cut, trim};
 use ucd_model::{ListOf, Text};
 
 /// The text of the bytes.
+///
+/// - `AllocError`: memory ran out.
 pub fn text_of(alloc: Global, bytes: &[u8]) -> Result<Text, AllocError>
     ensures { IfOk result (λ text. text ≡ bytes.now) }
 {
@@ -30,14 +32,14 @@ fn semicolon_count(text: &[u8]) -> usize
     text.iter().filter(|b| **b == b';').count()
 }
 
-/// How many fields there are.
+/// How many fields there are, at least one.
 pub fn field_count(text: &[u8]) -> usize
     ensures { result ≡ length (fields_of text.now) }
 {
     semicolon_count(text) + 1
 }
 
-/// The first field, and the text of the fields behind it.
+/// The first field, and the text of the fields behind it, which is empty where there are none.
 pub fn first_field(text: &[u8]) -> (&[u8], &[u8])
     ensures first { result.0.now ≡ field (fields_of text.now) 0 }
     ensures others { (n : ℕ) → field (fields_of text.now) (n + 1) ≡ field (fields_of result.1.now) n }

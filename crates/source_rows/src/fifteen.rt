@@ -11,20 +11,35 @@ pub const FIELDS: usize = 15;
 /// The fields of a line, each a part of it.
 #[derive(Clone, Copy)]
 pub struct DataFields<'a> {
+    /// Code point.
     pub f0: &'a [u8],
+    /// Name.
     pub f1: &'a [u8],
+    /// General_Category.
     pub f2: &'a [u8],
+    /// Canonical_Combining_Class.
     pub f3: &'a [u8],
+    /// Bidi_Class.
     pub f4: &'a [u8],
+    /// Decomposition_Type and Decomposition_Mapping.
     pub f5: &'a [u8],
+    /// Numeric_Value where Numeric_Type is Decimal.
     pub f6: &'a [u8],
+    /// Numeric_Value where Numeric_Type is Decimal or Digit.
     pub f7: &'a [u8],
+    /// Numeric_Value.
     pub f8: &'a [u8],
+    /// Bidi_Mirrored.
     pub f9: &'a [u8],
+    /// Unicode_1_Name.
     pub f10: &'a [u8],
+    /// ISO_Comment.
     pub f11: &'a [u8],
+    /// Simple_Uppercase_Mapping.
     pub f12: &'a [u8],
+    /// Simple_Lowercase_Mapping.
     pub f13: &'a [u8],
+    /// Simple_Titlecase_Mapping.
     pub f14: &'a [u8],
 }
 

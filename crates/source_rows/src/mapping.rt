@@ -42,6 +42,8 @@ fn first_word(text: &[u8]) -> (&[u8], &[u8])
 }
 
 /// The mapping that the words of a text spell. `None` where a word is no code point, and above 64 words.
+///
+/// - `Memory`: memory ran out.
 pub fn mapping_of(alloc: Global, text: &[u8]) -> Result<Option<Points>, Memory>
     ensures { IfOk result (λ found. found ≡ mapping_of text.now) }
 {
@@ -64,7 +66,9 @@ pub fn mapping_of(alloc: Global, text: &[u8]) -> Result<Option<Points>, Memory>
     Ok(Some(points))
 }
 
-/// The same, of one code point or more.
+/// The same, of one code point or more. `None` also where there are none.
+///
+/// - `Memory`: memory ran out.
 pub fn some_mapping_of(alloc: Global, text: &[u8]) -> Result<Option<Points>, Memory>
     ensures { IfOk result (λ found. found ≡ at_least_one (mapping_of text.now)) }
 {
@@ -119,6 +123,8 @@ fn spaced_words(alloc: Global, text: &[u8]) -> Result<Text, Memory>
 }
 
 /// The conditions that a text holds. `None` where a byte may not stand in one.
+///
+/// - `Memory`: memory ran out.
 #[tactic(auto, unfolding(ucd_model::specs::Mappings::conditions_of))]
 pub fn conditions_of(alloc: Global, text: &[u8]) -> Result<Option<Text>, Memory>
     ensures { IfOk result (λ found. found ≡ conditions_of text.now) }

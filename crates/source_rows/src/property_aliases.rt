@@ -14,7 +14,11 @@ use ucd_model::Row;
 /// The short name and the long one; others may follow.
 const LEAST: usize = 2;
 
-/// The row of a line, or its first fault: the names of a property, its short one first.
+/// The row of a line: the names of a property, its short one first.
+///
+/// - `Fault(G03)`: there are fewer than two fields.
+/// - `Fault(G11)`: the first is no name, or a later one neither a name nor empty.
+/// - `Memory`: memory ran out.
 pub fn read_property_alias(alloc: Global, content: &[u8]) -> Result<Row, RowStop>
     ensures { ReadsAs result (alias_or_fault 2 (fields_of (before_first is_hash content.now))) }
 {

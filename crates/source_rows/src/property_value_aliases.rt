@@ -14,7 +14,11 @@ use ucd_model::Row;
 /// The name of the property, and the short name and the long one of its value; others may follow.
 const LEAST: usize = 3;
 
-/// The row of a line, or its first fault: the short name of a property, then the names of one of its values.
+/// The row of a line: the short name of a property, then the names of one of its values.
+///
+/// - `Fault(G03)`: there are fewer than three fields.
+/// - `Fault(G11)`: the first is no name, or a later one neither a name nor empty.
+/// - `Memory`: memory ran out.
 pub fn read_value_alias(alloc: Global, content: &[u8]) -> Result<Row, RowStop>
     ensures { ReadsAs result (alias_or_fault 3 (fields_of (before_first is_hash content.now))) }
 {

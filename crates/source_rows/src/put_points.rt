@@ -19,6 +19,8 @@ fn put_spaced(points: &[Point], into: &mut Text) -> Result<(), Memory>
 }
 
 /// Appends code points with one space between them.
+///
+/// - `Memory`: memory ran out. A part may stand at the end of the text then.
 pub fn put_mapping(points: &[Point], into: &mut Text) -> Result<(), Memory>
     ensures { OnOk result (into.new ≡ into.old ++ mapping_text points.now) }
 {
@@ -32,6 +34,8 @@ pub fn put_mapping(points: &[Point], into: &mut Text) -> Result<(), Memory>
 }
 
 /// Appends a code point, or the first and the last one joined by `..`.
+///
+/// - `Memory`: memory ran out. A part may stand at the end of the text then.
 #[tactic(auto, unfolding(ucd_model::specs::DerivedText::span_text))]
 pub fn put_span(span: Span, into: &mut Text) -> Result<(), Memory>
     ensures { OnOk result (into.new ≡ into.old ++ span_text span) }

@@ -10,6 +10,8 @@ use ucd_lines::put_hex;
 use ucd_model::{CasingRow, FoldRow, FoldStatus, Memory, Text, ValueRow};
 
 /// Appends a span and a value.
+///
+/// - `Memory`: memory ran out. A part may stand at the end of the text then.
 pub fn put_value(row: &ValueRow, into: &mut Text) -> Result<(), Memory>
     ensures { OnOk result (into.new ≡ into.old ++ value_text row.now) }
 {
@@ -31,6 +33,8 @@ fn status_code(status: FoldStatus) -> u8
 }
 
 /// Appends a folding.
+///
+/// - `Memory`: memory ran out. A part may stand at the end of the text then.
 pub fn put_fold(row: &FoldRow, into: &mut Text) -> Result<(), Memory>
     ensures { OnOk result (into.new ≡ into.old ++ fold_text row.now) }
 {
@@ -57,6 +61,8 @@ fn put_conditions(conditions: &[u8], into: &mut Text) -> Result<(), Memory>
 }
 
 /// Appends full case mappings and their conditions.
+///
+/// - `Memory`: memory ran out. A part may stand at the end of the text then.
 pub fn put_casing(row: &CasingRow, into: &mut Text) -> Result<(), Memory>
     ensures { OnOk result (into.new ≡ into.old ++ casing_text row.now) }
 {
@@ -83,6 +89,8 @@ fn put_named(names: &[Text], into: &mut Text) -> Result<(), Memory>
 }
 
 /// Appends names joined by ` ; `.
+///
+/// - `Memory`: memory ran out. A part may stand at the end of the text then.
 pub fn put_names(names: &[Text], into: &mut Text) -> Result<(), Memory>
     ensures { OnOk result (into.new ≡ into.old ++ names_text names.now) }
 {

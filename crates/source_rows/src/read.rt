@@ -18,7 +18,10 @@ use crate::word_break_property::read_word_break;
 use std::alloc::Global;
 use ucd_model::{Row, SourceFile};
 
-/// The row of the bytes, or their first fault.
+/// The row of the bytes.
+///
+/// - `Fault(fault)`: the bytes are no row, and `fault` is the first rule that they break.
+/// - `Memory`: memory ran out.
 #[tactic(auto, unfolding(crate::specs::Faults::row_or_fault, ucd_model::specs::Fields::fields))]
 pub fn read_bytes(alloc: Global, file: SourceFile, bytes: &[u8]) -> Result<Row, RowStop>
     ensures { ReadsAs result (row_or_fault file bytes.now) }

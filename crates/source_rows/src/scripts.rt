@@ -11,7 +11,12 @@ use crate::values::read_value;
 use std::alloc::Global;
 use ucd_model::Row;
 
-/// The row of a line, or its first fault: the code points, and the name of their script.
+/// The row of a line: the code points, and the name of their script.
+///
+/// - `Fault(G03)`: there are not two fields.
+/// - `Fault(G04)`: the first is no code point and no span.
+/// - `Fault(G11)`: the second is no name.
+/// - `Memory`: memory ran out.
 pub fn read_script(alloc: Global, content: &[u8]) -> Result<Row, RowStop>
     ensures { ReadsAs result (value_or_fault (fields_of (before_first is_hash content.now))) }
 {

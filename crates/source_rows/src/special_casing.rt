@@ -47,7 +47,13 @@ fn casing_fields(text: &[u8]) -> CasingFields<'_>
     }
 }
 
-/// The row of a line, or its first fault.
+/// The row of a line.
+///
+/// - `Fault(G03)`: there are not four to six fields, or the sixth is not empty.
+/// - `Fault(G04)`: the first is no code point.
+/// - `Fault(G07)`: the second, third or fourth is no mapping.
+/// - `Fault(G11)`: the fifth has a byte that no condition has.
+/// - `Memory`: memory ran out.
 #[tactic(auto, unfolding(crate::specs::OtherFaults::casing_or_fault))]
 pub fn read_casing(alloc: Global, content: &[u8]) -> Result<Row, RowStop>
     ensures { ReadsAs result (casing_or_fault (fields_of (before_first is_hash content.now))) }

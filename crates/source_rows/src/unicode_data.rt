@@ -105,6 +105,7 @@ fn read_single(alloc: Global, content: &[u8]) -> Result<Row, RowStop>
 }
 
 /// Whether a line of UnicodeData.txt begins a range: it has 15 fields and the name `<Label, First>`.
+/// UAX #44, section 4.2.3.
 #[tactic(auto, unfolding(ucd_model::specs::Fields::fields))]
 pub fn begins_range(content: &[u8]) -> bool
     ensures { result ≡ is_first_line content.now }
@@ -161,7 +162,16 @@ fn read_pair(alloc: Global, front: &[u8], last: &[u8]) -> Result<Row, RowStop>
     read_unit(alloc, line, true, label, pair_end(label, lo, last))
 }
 
-/// The row of one line or of two, or the first fault.
+/// The row of one line or of two. The rules are tested in this order:
+///
+/// - `Fault(G03)`: there are not 15 fields; or there are two lines, and the first begins no range or the second holds a
+///   LF.
+/// - `Fault(G04)`: field 0 is no code point.
+/// - `Fault(G11)`: field 1 of one line is no name.
+/// - `Fault(fault)`: one of the fields 2 to 14 breaks a rule, G05 to G07 or G10.
+/// - `Fault(G09)`: one line has the name of a range; or the second of two lines does not end the range.
+/// - `Fault(G04)`: field 0 of the second line is no code point, or less than that of the first.
+/// - `Memory`: memory ran out.
 #[tactic(auto, unfolding(crate::specs::Faults::row_or_fault))]
 pub fn read_data(alloc: Global, bytes: &[u8]) -> Result<Row, RowStop>
     ensures { ReadsAs result (row_or_fault SourceFile.UnicodeData bytes.now) }

@@ -15,7 +15,12 @@ use ucd_model::{Row, ValueRow};
 /// The number of fields of a line.
 const FIELDS: usize = 2;
 
-/// The row of a line, or its first fault.
+/// The row of a line.
+///
+/// - `Fault(G03)`: there are not two fields.
+/// - `Fault(G04)`: the first is no code point and no span.
+/// - `Fault(G11)`: the second is no name.
+/// - `Memory`: memory ran out.
 #[tactic(auto, unfolding(crate::specs::OtherFaults::value_or_fault))]
 pub fn read_value(alloc: Global, content: &[u8]) -> Result<Row, RowStop>
     ensures { ReadsAs result (value_or_fault (fields_of (before_first is_hash content.now))) }

@@ -6,8 +6,10 @@ ghost use Rattle.ucd_lines.specs.Digits.{six_digits};
 
 use ucd_model::{Memory, Point, Text};
 
-/// Appends the hexadecimal digits of a code point in upper case: at least four, and no more than it needs. For want
-/// of memory the text stays as it was. UAX #44, section 4.2.
+/// Appends the hexadecimal digits of a code point in upper case: at least four, and no more than it needs.
+/// UAX #44, section 4.2.
+///
+/// - `Memory`: memory ran out. The text stays as it was.
 pub fn put_hex(c: Point, into: &mut Text) -> Result<(), Memory>
     ensures ok { OnOk result (into.new ≡ into.old ++ hex_text c) }
     ensures err { OnErr result (into.new ≡ into.old) }

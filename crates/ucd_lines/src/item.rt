@@ -38,7 +38,9 @@ fn bytes_of(ending: Ending) -> &'static [u8]
     }
 }
 
-/// Appends a line's content and ending. For want of memory the text stays as it was.
+/// Appends a line's content and ending. UAX #44, section 4.2.
+///
+/// - `Memory`: memory ran out. The text stays as it was.
 pub fn join(item: Item<'_>, into: &mut Text) -> Result<(), Memory>
     ensures ok { OnOk result (into.new ≡ into.old ++ item_bytes (item_of item.entry)) }
     ensures err { OnErr result (into.new ≡ into.old) }

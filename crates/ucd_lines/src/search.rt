@@ -5,7 +5,7 @@ ghost use Rattle.std.specs.List.{position_or_len, before_first, after_first};
 
 use bstr::ByteSlice;
 
-/// The place of the first such byte, and the length of the text where there is none.
+/// The place of the first such byte, counted from 0, and the length of the text where there is none.
 pub fn first_at(text: &[u8], byte: u8) -> usize
     ensures place { result ≡ position_or_len (λ b. b == byte) text.now }
     ensures within { result ≤ length text.now }

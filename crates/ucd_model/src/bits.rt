@@ -3,7 +3,7 @@
 ghost use Rattle.std.specs.Prelude.{◌≡◌, ◌≢◌, ℕ, ◌<◌, ◌^◌};
 ghost use Rattle.ucd_model.specs.Sets.{has_bit};
 
-/// Whether the bit at a place is 1.
+/// Whether the bit at a place is 1. Places are counted from 0, the lowest bit, to 31.
 pub fn has_bit(bits: u32, place: u32) -> bool
     requires { place < 32 }
     ensures { result ≡ has_bit bits place }
@@ -11,7 +11,7 @@ pub fn has_bit(bits: u32, place: u32) -> bool
     (bits >> place) & 1 == 1
 }
 
-/// The word with the bit at a place put to 1 or to 0.
+/// The word with the bit at a place put to 1 or to 0. Places are counted from 0, the lowest bit, to 31.
 pub fn with_bit(bits: u32, place: u32, on: bool) -> u32
     requires { place < 32 }
     ensures put { has_bit result place ≡ on }

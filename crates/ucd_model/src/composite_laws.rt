@@ -2,7 +2,8 @@
 
 ghost use Rattle.ucd_model.specs.CompositeLaws.{PairIsLeast, PairIsOnly, SecondIsExact};
 
-/// The pair of two points is the least primary composite with their mapping, and there is none where no composite has it.
+/// The pair of two points is the least primary composite with their mapping, and there is none where no composite has
+/// it.
 pub fn pair_is_least()
     ensures { PairIsLeast }
 {}

@@ -11,8 +11,8 @@ use crate::list::ListOf;
 use crate::point::{Point, point_count};
 use crate::view::{FactView, FactsRef};
 
-/// The facts of a few code points. Of two entries of one code point the first counts, and every code point without an entry
-/// has the facts of one without a row.
+/// The facts of a few code points. Of two entries of one code point the first counts, and every code point without an
+/// entry has the facts of one without a row.
 pub type FactList = ListOf<(Point, Facts)>;
 
 impl FactView for ListOf<(Point, Facts)> {

@@ -17,26 +17,44 @@ use std::alloc::Global;
 /// The facts of a code point. UAX #44, sections 5.3, 5.6 and 5.7.
 #[derive(Debug, Drop)]
 pub struct Facts {
+    /// Whether a row of UnicodeData.txt covers the point.
     pub assigned: bool,
+    /// General_Category; `Cn` where there is no row.
     pub category: Category,
+    /// Canonical_Combining_Class, from 0 to 254; 0 where there is no row.
     pub class: u8,
+    /// Decomposition_Type; `Plain` where there is no mapping, and `Canonical` of a Hangul syllable whose row has none.
     pub kind: Kind,
+    /// Decomposition_Mapping; no code points where there is none. Of a Hangul syllable whose row has none it is that of
+    /// The Unicode Standard, section 3.12.
     pub mapping: Points,
+    /// Simple_Uppercase_Mapping; the point itself where there is none.
     pub simple_upper: Point,
+    /// Simple_Lowercase_Mapping; the point itself where there is none.
     pub simple_lower: Point,
+    /// Simple_Titlecase_Mapping; `simple_upper` where there is none.
     pub simple_title: Point,
+    /// Simple_Case_Folding: that of status S, else of C; the point itself where there is none.
     pub simple_fold: Point,
+    /// Uppercase_Mapping without conditions; `simple_upper` alone where SpecialCasing.txt has none.
     pub upper: Image,
+    /// Lowercase_Mapping without conditions; `simple_lower` alone where SpecialCasing.txt has none.
     pub lower: Image,
+    /// Titlecase_Mapping without conditions; `simple_title` alone where SpecialCasing.txt has none.
     pub title: Image,
+    /// Case_Folding: that of status F, else of C; the point itself where there is none.
     pub fold: Image,
+    /// Which of the properties in `Flag` the point has.
     pub flags: Flags,
+    /// Whether its Word_Break is MidLetter, MidNumLet or Single_Quote. UAX #29, section 4.1.
     pub mid_word: bool,
+    /// Composition_Exclusion: whether CompositionExclusions.txt covers the point.
     pub excluded: bool,
 }
 
 impl Facts {
-    /// The facts of a code point without a row.
+    /// The facts of a code point without a row: `Cn`, class 0, no mapping, no property, and each image the point
+    /// itself. It takes no memory.
     pub fn unassigned(alloc: Global, c: Point) -> Facts
         ensures { kept_facts result ≡ unassigned c }
     {
@@ -86,7 +104,8 @@ impl Facts {
 }
 
 impl FactsRef<'_> {
-    /// The facts of a code point without a row.
+    /// The facts of a code point without a row: `Cn`, class 0, no mapping, no property, and each image the point
+    /// itself.
     pub fn unassigned(c: Point) -> FactsRef<'static>
         ensures { ShowsFacts result (unassigned c) }
     {

@@ -10,49 +10,62 @@ use std::fmt;
 /// A normalisation form. UAX #15, section 1.2.
 #[derive(Clone, Copy, Debug, PartialEq, Eq)]
 pub enum Form {
+    /// Normalisation Form D: canonical decomposition.
     Nfd,
+    /// Normalisation Form C: canonical decomposition, then composition.
     Nfc,
+    /// Normalisation Form KD: compatibility decomposition.
     Nfkd,
+    /// Normalisation Form KC: compatibility decomposition, then composition.
     Nfkc,
 }
 
 /// The value of a quick check. UAX #15, section 9.
 #[derive(Clone, Copy, Debug, PartialEq, Eq)]
 pub enum Quick {
+    /// The code point can stand in the form.
     Yes,
+    /// The code point cannot stand in the form.
     No,
+    /// Of NFC and NFKC: the code point can stand in the form, unless it is composed with one before it.
     Maybe,
 }
 
-/// A rule that a code point breaks.
+/// A rule of a valid release that a code point breaks. The rules are tested in this order.
 #[derive(Clone, Copy, Debug, PartialEq, Eq)]
 pub enum Bad {
-    /// A member of one of its mappings has no row.
+    /// A member of one of its mappings has no row in UnicodeData.txt. A mapping that is the point itself alone is not
+    /// looked at.
     V1,
-    /// One of its expansions needs a chain of eight mappings.
+    /// One of its expansions needs a chain of eight mappings or more, or one without end.
     V2,
     /// One of its expansions has more than 64 code points.
     V3,
-    /// A lesser primary composite has the same mapping.
+    /// It is a primary composite, and a lesser primary composite has the same mapping.
     V4,
-    /// Its folding rounds reach no fixed point.
+    /// None of the lists after 0 to 7 folding rounds, of up to 255 code points each, stays as it is in one more round.
     V5,
 }
 
 /// A code point that breaks a rule, and the first rule that it breaks.
 #[derive(Clone, Copy, Debug, PartialEq, Eq)]
 pub struct Broken {
+    /// The code point.
     pub point: Point,
+    /// The first rule that it breaks, in the order of `Bad`.
     pub rule: Bad,
 }
 
 /// Why a form was not made.
 #[derive(Clone, Copy, Debug, PartialEq, Eq)]
 pub enum FormStop {
+    /// A code point breaks this rule.
     Bad(Bad),
+    /// Memory ran out.
     Memory,
 }
 
+/// Want of memory is `FormStop::Memory`.
 impl From<Memory> for FormStop {
     ghost use Rattle.ucd_model.specs.declared.form.FormStop.TheVariants.{Memory};
 
@@ -63,6 +76,7 @@ impl From<Memory> for FormStop {
     }
 }
 
+/// A few words on the rule, or `out of memory`.
 impl fmt::Display for FormStop {
     fn fmt<W: fmt::Write>(&self, f: &mut fmt::Formatter<W>) -> fmt::Result {
         f.write_str(match self {

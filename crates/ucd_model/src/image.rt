@@ -10,12 +10,15 @@ use crate::point::Point;
 /// What a code point is mapped to. `Same` stands exactly where that is the point itself alone.
 #[derive(Debug, Drop)]
 pub enum Image {
+    /// The point itself alone.
     Same,
+    /// These code points: possibly none, and never the point itself alone.
     To(Points),
 }
 
 impl Image {
-    /// The image of a code point that is mapped to these.
+    /// The image of a code point that is mapped to these: `Same` exactly where they are the point itself alone. It
+    /// takes no memory.
     pub fn of(c: Point, points: Points) -> Image
         ensures { result ≡ image c points }
     {

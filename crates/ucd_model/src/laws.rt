@@ -1,4 +1,5 @@
-//! The laws of maximal spans and of the text of code points: each function here does nothing, and its contract is a law.
+//! The laws of maximal spans and of the text of code points: each function here does nothing, and its contract is a
+//! law.
 
 ghost use Rattle.ucd_model.specs.HexTextLaws.{HexTextHasFourToSixDigits, HexTextHasNoSpareDigit, HexTextIsUpperCase, HexTextSpellsItsNumber, HexTextSpellsItsPoint, SpanTextSpellsItsSpan};
 ghost use Rattle.ucd_model.specs.LabelLaws.{SpansLieBelow, SpansHaveOneLabel, SpansAreMaximal, StretchesAreSpans, SpansAscend, SpansDoNotTouch, SpansAreDisjoint, LabelledLieInASpan, OthersLieInNoSpan, LabelledIsTheirLength};

@@ -11,6 +11,8 @@ use std::marker::Model;
 /// A value that can be copied where memory suffices.
 pub trait Copied: Sized {
     /// The same value.
+    ///
+    /// - `Memory`: memory ran out.
     fn copied(&self, alloc: Global) -> Result<Self, Memory>
         ensures { IfOk result (λ copy. copy ≡ self.now) };
 }
@@ -94,7 +96,9 @@ impl<T> ListOf<T> {
         self.items.as_slice()
     }
 
-    /// Puts an item at the end. For want of memory the list stays as it was, and the item is dropped.
+    /// Puts an item at the end.
+    ///
+    /// - `Memory`: memory ran out. The list stays as it was, and the item is dropped.
     pub fn push(&mut self, item: T) -> Result<(), Memory>
     where
         T: Drop,
@@ -105,7 +109,9 @@ impl<T> ListOf<T> {
         Ok(())
     }
 
-    /// Puts copies of the items at the end. For want of memory the list stays as it was.
+    /// Puts copies of the items at the end.
+    ///
+    /// - `Memory`: memory ran out. The list stays as it was.
     pub fn append(&mut self, items: &[T]) -> Result<(), Memory>
     where
         T: Copy,
@@ -116,7 +122,9 @@ impl<T> ListOf<T> {
         Ok(())
     }
 
-    /// The same list again.
+    /// The same list again, on this allocator.
+    ///
+    /// - `Memory`: memory ran out.
     pub fn copy(&self, alloc: Global) -> Result<ListOf<T>, Memory>
     where
         T: Copied + Drop,
@@ -129,7 +137,7 @@ impl<T> ListOf<T> {
         Ok(ListOf { items })
     }
 
-    /// Puts an item in the place of the one at `at`. It takes no memory.
+    /// Puts an item in the place of the one at `at`, which is counted from 0. It takes no memory.
     pub fn replace(&mut self, at: usize, item: T)
     where
         T: Drop,

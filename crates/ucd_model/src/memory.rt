@@ -10,6 +10,7 @@ use std::fmt;
 #[derive(Clone, Copy, Debug, PartialEq, Eq)]
 pub struct Memory;
 
+/// The words `out of memory`.
 impl fmt::Display for Memory {
     fn fmt<W: fmt::Write>(&self, f: &mut fmt::Formatter<W>) -> fmt::Result {
         f.write_str("out of memory")
@@ -18,12 +19,14 @@ impl fmt::Display for Memory {
 
 impl Error for Memory {}
 
+/// Want of memory, as an allocator answers it.
 impl From<AllocError> for Memory {
     fn from(_e: AllocError) -> Memory {
         Memory
     }
 }
 
+/// The same, of a call that hands back what it could not put; that is dropped.
 impl<T: Drop> From<AllocFailed<T>> for Memory {
     fn from(_e: AllocFailed<T>) -> Memory {
         Memory

@@ -26,7 +26,7 @@ impl Model for Point {
 }
 
 impl Point {
-    /// The number of code points.
+    /// The number of code points: 1114112.
     pub const COUNT: u32 = 0x11_0000;
 
     /// The code point of a number, and `None` exactly above 10FFFF.

@@ -17,7 +17,7 @@ pub struct Record {
     pub category: Category,
     /// Canonical_Combining_Class, from 0 to 254.
     pub class: u8,
-    /// Decomposition_Type.
+    /// Decomposition_Type; `Plain` where there is no mapping.
     pub kind: Kind,
     /// The core properties that the code point has.
     pub core: CoreSet,
@@ -31,7 +31,7 @@ pub struct Record {
     pub nfkd: Quick,
     /// NFKC_Quick_Check.
     pub nfkc: Quick,
-    /// NFKC_Casefold.
+    /// NFKC_Casefold; `Same` where it is the point itself alone.
     pub casefold: Image,
     /// Changes_When_NFKC_Casefolded.
     pub changes_casefold: bool,

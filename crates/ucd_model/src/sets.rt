@@ -35,7 +35,7 @@ impl Flags {
         Flags { bits: 0 }
     }
 
-    /// The set of these bits: bit `i` is the flag at place `i` of `Flag`.
+    /// The set of these bits: bit `i` is the flag at place `i` of `Flag`, from 0 to 13, and no other bit is 1.
     pub fn of_bits(bits: u32) -> Flags
         requires { bits < 2 ^ 14 }
         ensures { result ≡ bits }

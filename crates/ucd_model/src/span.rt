@@ -10,7 +10,9 @@ use std::marker::Model;
 /// The code points from `lo` to `hi`, both of them in it. Contracts see the two numbers.
 #[derive(Clone, Copy, Debug, PartialEq, Eq)]
 pub struct Span {
+    /// The first code point.
     pub lo: Point,
+    /// The last code point, not less than the first.
     pub hi: Point,
 }
 

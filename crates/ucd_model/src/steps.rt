@@ -5,8 +5,8 @@ ghost use Rattle.std.specs.Prelude.{◌≡◌, ◌+◌};
 use std::marker::Model;
 use std::sync::ledger::{Blank, Book, Ledger, Share};
 
-/// How many steps were taken: a step is one call of `tick`, and a code point is derived in one step. It takes no room when
-/// the program runs. Contracts see the number.
+/// How many steps were taken: a step is one call of `tick`, and a code point is derived in one step. It takes no room
+/// when the program runs. Contracts see the number.
 #[derive(Drop)]
 pub struct Steps<L: Ledger> {
     book: Book<L>,

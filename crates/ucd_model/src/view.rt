@@ -10,29 +10,47 @@ use crate::decomposition::Kind;
 use crate::point::Point;
 use crate::sets::Flags;
 
-/// The facts of a code point. UAX #44, sections 5.3, 5.6 and 5.7. Of an image, `None` stands for the point itself alone.
+/// The facts of a code point. UAX #44, sections 5.3, 5.6 and 5.7. Of `upper`, `lower`, `title` and `fold`, `None`
+/// stands for the point itself alone.
 #[derive(Clone, Copy, Debug)]
 pub struct FactsRef<'a> {
+    /// Whether a row of UnicodeData.txt covers the point.
     pub assigned: bool,
+    /// General_Category; `Cn` where there is no row.
     pub category: Category,
+    /// Canonical_Combining_Class, from 0 to 254; 0 where there is no row.
     pub class: u8,
+    /// Decomposition_Type; `Plain` where there is no mapping, and `Canonical` of a Hangul syllable whose row has none.
     pub kind: Kind,
+    /// Decomposition_Mapping; no code points where there is none. Of a Hangul syllable whose row has none it is that of
+    /// The Unicode Standard, section 3.12.
     pub mapping: &'a [Point],
+    /// Simple_Uppercase_Mapping; the point itself where there is none.
     pub simple_upper: Point,
+    /// Simple_Lowercase_Mapping; the point itself where there is none.
     pub simple_lower: Point,
+    /// Simple_Titlecase_Mapping; `simple_upper` where there is none.
     pub simple_title: Point,
+    /// Simple_Case_Folding: that of status S, else of C; the point itself where there is none.
     pub simple_fold: Point,
+    /// Uppercase_Mapping without conditions; `simple_upper` alone where SpecialCasing.txt has none.
     pub upper: Option<&'a [Point]>,
+    /// Lowercase_Mapping without conditions; `simple_lower` alone where SpecialCasing.txt has none.
     pub lower: Option<&'a [Point]>,
+    /// Titlecase_Mapping without conditions; `simple_title` alone where SpecialCasing.txt has none.
     pub title: Option<&'a [Point]>,
+    /// Case_Folding: that of status F, else of C; the point itself where there is none.
     pub fold: Option<&'a [Point]>,
+    /// Which of the properties in `Flag` the point has.
     pub flags: Flags,
+    /// Whether its Word_Break is MidLetter, MidNumLet or Single_Quote. UAX #29, section 4.1.
     pub mid_word: bool,
+    /// Composition_Exclusion: whether CompositionExclusions.txt covers the point.
     pub excluded: bool,
 }
 
-/// The facts of all code points, as they are now. No call takes memory. What is asked of single facts may be found sooner
-/// than all of them.
+/// The facts of all code points, as they are now. No call takes memory. What is asked of single facts may be found
+/// sooner than all of them.
 pub trait FactView {
     // the facts of each code point
     ghost facts_of: { Self → ℕ → Facts };
@@ -46,7 +64,7 @@ pub trait FactView {
     fn pair(&self, s: Point, y: Point) -> Option<Point>
         ensures { result ≡ pair_of (facts_of self.now) s y };
 
-    /// Whether `y` is the second member of a primary composite's mapping.
+    /// Whether `y` is the second member of a primary composite's mapping. The Unicode Standard, section 3.11, D114.
     fn second(&self, y: Point) -> bool
         ensures { result ≡ second_of (facts_of self.now) y };
 
@@ -57,21 +75,21 @@ pub trait FactView {
         self.facts(c).assigned
     }
 
-    /// The canonical combining class of a code point.
+    /// The canonical combining class of a code point. UAX #44, section 5.7.4.
     fn class(&self, c: Point) -> u8
         ensures { result ≡ (facts_of self.now c).class }
     {
         self.facts(c).class
     }
 
-    /// The kind of a code point's decomposition mapping.
+    /// The kind of a code point's decomposition mapping; `Plain` where it has none. UAX #44, section 5.7.3.
     fn kind(&self, c: Point) -> Kind
         ensures { result ≡ (facts_of self.now c).kind }
     {
         self.facts(c).kind
     }
 
-    /// The decomposition mapping of a code point; no code points where it has none.
+    /// The decomposition mapping of a code point; no code points where it has none. UAX #44, section 5.7.3.
     fn mapping(&self, c: Point) -> &[Point]
         ensures { result.now ≡ (facts_of self.now c).mapping }
     {

@@ -9,7 +9,7 @@ use ucd_model::Text;
 /// What the words of a run ask for.
 #[derive(Clone, Copy, Debug)]
 pub enum Command<'a> {
-    /// Derive the files of one folder into another.
+    /// Derive the files of the folder `input` into the folder `output`.
     Derive { input: &'a [u8], output: &'a [u8] },
 }
 

@@ -12,8 +12,10 @@ use release_rows::{LoadStop, Release};
 use std::alloc::Global;
 use ucd_model::{SourceFile, Text};
 
-/// The release whose files hold these bytes at their paths; or the line that refuses the first file that is absent, too
-/// long, or breaks a rule.
+/// The release whose files hold these bytes at their paths.
+///
+/// - `Refused(line)`: a file is absent, too long, or breaks a rule; the line refuses the first such file.
+/// - `Memory`: memory ran out.
 pub fn judge(alloc: Global, paths: &[Text], held: &[Option<Text>]) -> Result<Release, Stop>
     requires paths { length paths.now ≡ 9 }
     requires held { length held.now ≡ 9 }

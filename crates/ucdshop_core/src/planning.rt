@@ -39,7 +39,9 @@ use ucd_model::{DerivedFile, FactView, Memory, Span, Steps, Text, Texts};
 /// What is left to be done: the files to be written, and the summary to be told.
 #[derive(Drop)]
 pub struct Plan {
+    /// The files, in the order in which they are written.
     pub outputs: Vec<Output>,
+    /// The line that is told once they are.
     pub summary: Text,
 }
 
@@ -236,6 +238,10 @@ fn derive<S: Shelf>(alloc: Global, input: &[u8], output: &[u8], shelf: &mut S) -
 }
 
 /// Does all of a command that comes before the first write.
+///
+/// - `Refused(line)`: a file is absent, too long, or breaks a rule, or a code point breaks a rule of a valid release.
+/// - `ReadFailed(line)`: a file could not be read.
+/// - `Memory`: memory ran out.
 pub fn prepare<S: Shelf>(alloc: Global, command: Command<'_>, shelf: &mut S) -> Result<Plan, Stop>
     ensures planned { IfOk result (λ plan. (rows : Sources) × HasPlan (job_of command.entry) rows plan
         × Sees S.tells (S.holds shelf.old) (λ seen. job_verdict (job_of command.entry) seen ≡ Ok rows)) }

@@ -19,13 +19,19 @@ pub const OUT_OF_MEMORY: &[u8] = b"out of memory\n";
 /// What a run counts for its summary.
 #[derive(Clone, Copy, Debug, PartialEq, Eq)]
 pub struct RunCounts {
+    /// How many groups were accepted.
     pub accepted: usize,
+    /// How many commands were refused.
     pub refused: usize,
+    /// How many sets were answered.
     pub answered: usize,
+    /// How many policies were broken.
     pub broken: usize,
 }
 
-/// The line that refuses a file: its path, the number of the line, and the rule's code.
+/// The line that refuses a file: its path, the number of the line, 0 for the file as a whole, and the rule's code.
+///
+/// - `Memory`: memory ran out.
 pub fn refused(alloc: Global, path: &[u8], line: usize, rule: &[u8]) -> Result<Text, Memory>
     ensures { IfOk result (λ text. text ≡ refused path.now line rule.now) }
 {
@@ -48,6 +54,8 @@ fn put_rule(text: &mut Text, rule: &[u8]) -> Result<(), Memory>
 }
 
 /// The line that refuses a release: its folder, the code point that breaks a rule, and the rule's code.
+///
+/// - `Memory`: memory ran out.
 pub fn refused_point(alloc: Global, folder: &[u8], broken: Broken) -> Result<Text, Memory>
     ensures { IfOk result (λ text. text ≡ refused_point folder.now broken) }
 {
@@ -74,6 +82,8 @@ fn bad_code(rule: Bad) -> &'static [u8]
 }
 
 /// The line for a file that could not be read.
+///
+/// - `Memory`: memory ran out.
 pub fn read_failed(alloc: Global, path: &[u8]) -> Result<Text, Memory>
     ensures { IfOk result (λ text. text ≡ read_failed path.now) }
 {
@@ -85,6 +95,8 @@ pub fn read_failed(alloc: Global, path: &[u8]) -> Result<Text, Memory>
 }
 
 /// The line for a file that could not be written.
+///
+/// - `Memory`: memory ran out.
 pub fn write_failed(alloc: Global, path: &[u8]) -> Result<Text, Memory>
     ensures { IfOk result (λ text. text ≡ write_failed path.now) }
 {
@@ -96,6 +108,8 @@ pub fn write_failed(alloc: Global, path: &[u8]) -> Result<Text, Memory>
 }
 
 /// The line of a run that wrote all files.
+///
+/// - `Memory`: memory ran out.
 pub fn summary(alloc: Global, counts: RunCounts) -> Result<Text, Memory>
     ensures { IfOk result (λ text. text ≡ summary (record { accepted = counts.accepted; refused = counts.refused; answered = counts.answered; broken = counts.broken })) }
 {

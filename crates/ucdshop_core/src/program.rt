@@ -24,9 +24,9 @@ use ucd_model::Texts;
 /// The words are `derive DATA OUT`. All files are read before any is judged, and all texts are made before the first
 /// is written. Nothing is written unless the status is [`Status::Clean`] or [`Status::WriteFault`].
 pub fn run<S: Shelf, K: Sink>(alloc: Global, words: &Texts, shelf: &mut S, out: &mut K) -> Status
-    // If the words have a form, the source files load, each code point keeps the rules of a valid release, no outside call
-    // fails and memory suffices, the shelf is the old one with just the derived files replaced, each exactly what the
-    // definitions give.
+    // If the words have a form, the source files load, each code point keeps the rules of a valid release, no outside
+    // call fails and memory suffices, the shelf is the old one with just the derived files replaced, each exactly what
+    // the definitions give.
     ensures headline { IsTrue S.tells → (files : List NewFile) → expected words.now (S.holds shelf.old) ≡ Writes files
         → ¬ Rose (S.read_faults shelf.old) (S.read_faults shelf.new)
         → ¬ Rose (S.write_faults shelf.old) (S.write_faults shelf.new)
@@ -38,7 +38,8 @@ pub fn run<S: Shelf, K: Sink>(alloc: Global, words: &Texts, shelf: &mut S, out: 
         → ¬ Rose (K.faults out.old) (K.faults out.new)
         → (result ≡ Status.Clean) ⊎ (result ≡ Status.Memory) }
 
-    // Clean and WriteFault: only where nothing of what was seen is refused; that is what is held, where the shelf tells it.
+    // Clean and WriteFault: only where nothing of what was seen is refused; that is what is held, where the shelf tells
+    // it.
     ensures fine_only { MayWrite result → Sees S.tells (S.holds shelf.old) (IsFine words.now) }
 
     // Clean: every file is written, and the summary is told.
@@ -64,8 +65,8 @@ pub fn run<S: Shelf, K: Sink>(alloc: Global, words: &Texts, shelf: &mut S, out: 
         → ¬ Rose (S.read_faults shelf.old) (S.read_faults shelf.new)
         → (result ≡ Status.LoadRefused) ⊎ (result ≡ Status.Memory) }
 
-    // ReadFault: only where a read failed; the line names a path that is needed, and the last failed one where the shelf
-    // tells it.
+    // ReadFault: only where a read failed; the line names a path that is needed, and the last failed one where the
+    // shelf tells it.
     ensures read_fault_only { result ≡ Status.ReadFault → Rose (S.read_faults shelf.old) (S.read_faults shelf.new) }
     ensures read_fault_told { result ≡ Status.ReadFault → (path : List ℕ) × IsNeeded words.now path
         × (IsTrue S.tells_failed → path ≡ S.last_failed shelf.new) × Told (read_failed path)

@@ -11,14 +11,20 @@ use shelf_io::{Found, ReadStop, Shelf};
 use std::alloc::Global;
 use ucd_model::{Text, file_limit};
 
-/// Why reading stopped: the path at a place could not be read, or memory was wanted.
+/// Why reading stopped.
 #[derive(Clone, Copy, Debug, PartialEq, Eq)]
 pub enum ReadingStop {
+    /// The path at this place, counted from 0, could not be read.
     FailedAt(usize),
+    /// Memory ran out.
     Memory,
 }
 
-/// What a shelf holds at each of the paths, in order: the bytes, up to one more than a file may have.
+/// What a shelf holds at each of the paths, in order: the bytes, up to one more than a file may have; `None` where the
+/// path is not held.
+///
+/// - `FailedAt(at)`: the path at this place could not be read.
+/// - `Memory`: memory ran out.
 pub fn read_all<S: Shelf>(
     alloc: Global,
     shelf: &mut S,

@@ -28,6 +28,8 @@ impl Model for RecordList {
 
 impl RecordList {
     /// No records yet, with room for the places of so many points.
+    ///
+    /// - `Memory`: memory ran out.
     pub fn with_room(alloc: Global, count: usize) -> Result<RecordList, Memory>
         ensures { IfOk result (λ list. count_of list ≡ 0) }
     {
@@ -38,6 +40,8 @@ impl RecordList {
     }
 
     /// Gives the next points, so many, their record.
+    ///
+    /// - `Memory`: memory ran out. Nothing is told of the list then.
     #[tactic(auto, using(crate::proofs::RecordSteps::still_places, crate::proofs::RecordSteps::more_places, crate::proofs::RecordSteps::added_record, crate::proofs::RecordSteps::other_records))]
     pub fn push_run(&mut self, added: Record, times: usize) -> Result<(), Memory>
         requires { count_of self.old + times < 2 ^ 32 }
@@ -50,7 +54,7 @@ impl RecordList {
         Ok(())
     }
 
-    /// The record of a point.
+    /// The record of the point of this number, which has one.
     pub fn record(&self, at: usize) -> &Record
         requires { at < count_of self.now }
         ensures { kept_record result.now ≡ record_of self.now at }

@@ -13,6 +13,7 @@ pub enum RecordsStop {
     Memory,
 }
 
+/// Want of memory is `RecordsStop::Memory`.
 impl From<Memory> for RecordsStop {
     ghost use Rattle.ucdshop_core.specs.declared.record_stop.RecordsStop.TheVariants.{Memory};
 

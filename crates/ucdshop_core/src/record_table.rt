@@ -34,8 +34,11 @@ impl Model for RecordTable {
 }
 
 impl RecordTable {
-    /// The records that are derived of the facts of all code points, or the least code point that breaks a rule of a valid
-    /// release. Code points that stand together and are uniform are derived in one step.
+    /// The records that are derived of the facts of all code points. Code points that stand together and are uniform
+    /// are derived in one step. UAX #44, section 5.3.
+    ///
+    /// - `Broken(broken)`: a code point breaks a rule of a valid release: the least one, with its first rule.
+    /// - `Memory`: memory ran out.
     #[tactic(auto, using(crate::proofs::PointRecords::none_below))]
     pub fn of<L: Ledger>(
         alloc: Global,

@@ -37,7 +37,9 @@ fn source_path(file: SourceFile) -> &'static [u8]
     }
 }
 
-/// A path below a folder.
+/// A path below a folder: the folder, `/`, and the path.
+///
+/// - `Memory`: memory ran out.
 pub fn path_in(alloc: Global, folder: &[u8], path: &[u8]) -> Result<Text, Memory>
     ensures { IfOk result (λ text. text ≡ path_in folder.now path.now) }
 {
@@ -49,6 +51,8 @@ pub fn path_in(alloc: Global, folder: &[u8], path: &[u8]) -> Result<Text, Memory
 }
 
 /// The paths of the source files of a folder, in their order.
+///
+/// - `Memory`: memory ran out.
 pub fn source_paths(alloc: Global, folder: &[u8]) -> Result<Texts, Memory>
     ensures { IfOk result (λ paths. paths ≡ sources_in folder.now) }
 {

@@ -15,6 +15,7 @@ pub enum Stop {
     Memory,
 }
 
+/// Want of memory is `Stop::Memory`.
 impl From<Memory> for Stop {
     ghost use Rattle.ucdshop_core.specs.declared.stop.Stop.TheVariants.{Memory};
 

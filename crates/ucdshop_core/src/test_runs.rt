@@ -5,9 +5,11 @@ use shelf_io::{MemoryShelf, MemorySink};
 use std::alloc::Global;
 use ucd_model::{Memory, Text, Texts};
 
+/// Two letters, as UnicodeData.txt has them.
 pub const LETTERS: &[u8] =
     b"0041;LATIN CAPITAL LETTER A;Lu;0;L;;;;;N;;;;0061;\n0061;LATIN SMALL LETTER A;Ll;0;L;;;;;N;;;0041;;0041\n";
 
+/// The summary of a run that wrote all files.
 pub const SUMMARY: &[u8] =
     b"ucdshop: 0 groups accepted, 0 commands refused, 0 sets answered, 0 policy breaks\n";
 
@@ -24,9 +26,12 @@ pub const SOURCE_PATHS: [&[u8]; 9] = [
     b"d/PropertyValueAliases.txt",
 ];
 
+/// The path of a derived file.
 pub const CORE_PATH: &[u8] = b"o/DerivedCoreProperties.txt";
 
 /// The words of a run.
+///
+/// - `Memory`: memory ran out.
 pub fn words_of(alloc: Global, words: &[&[u8]]) -> Result<Texts, Memory> {
     let mut texts = Texts::new(alloc);
     for word in words {
@@ -38,6 +43,8 @@ pub fn words_of(alloc: Global, words: &[&[u8]]) -> Result<Texts, Memory> {
 }
 
 /// A shelf with the nine source files in `d`, seven of them empty, and an older derived file and a stranger in `o`.
+///
+/// - `Memory`: memory ran out.
 pub fn shelf_of(alloc: Global, data: &[u8], properties: &[u8]) -> Result<MemoryShelf, Memory> {
     let mut shelf = MemoryShelf::new(alloc);
     for path in SOURCE_PATHS {
@@ -51,6 +58,8 @@ pub fn shelf_of(alloc: Global, data: &[u8], properties: &[u8]) -> Result<MemoryS
 }
 
 /// How a run of these words over a shelf ends, and what a sink with room for so many bytes has then.
+///
+/// - `Memory`: memory ran out.
 pub fn run_words(
     alloc: Global,
     words: &[&[u8]],
@@ -63,8 +72,10 @@ pub fn run_words(
     Ok((status, out))
 }
 
-/// Whether `derive d o` over a shelf ends so, prints so into a sink with room for so many bytes, and leaves this derived
-/// file.
+/// Whether `derive d o` over a shelf ends so, prints so into a sink with room for so many bytes, and leaves this
+/// derived file.
+///
+/// - `Memory`: memory ran out.
 pub fn derives(
     alloc: Global,
     shelf: &mut MemoryShelf,

@@ -11,13 +11,18 @@ use ucd_model::Text;
 /// A file to be written, and the line for the case that it cannot be.
 #[derive(Drop)]
 pub struct Output {
+    /// Where it is written.
     pub path: Text,
+    /// What it is to hold.
     pub bytes: Text,
+    /// The line that names its path as one that could not be written.
     pub fault_line: Text,
 }
 
-/// Writes files in order. Where one cannot be written, the line is answered that names it; the files before it are
-/// then written, and those after it are not touched. It takes no memory.
+/// Writes files in order. It takes no memory.
+///
+/// - a line of text: the file that it names could not be written. The files before it are written, it holds anything or
+///   is absent, and those after it are not touched.
 pub fn write_all<S: Shelf>(shelf: &mut S, outputs: Vec<Output>) -> Result<(), Text>
     requires { length outputs.items ≤ S.spare shelf.old }
     ensures ok { IsTrue S.tells → OnOk result (Replaced (files_of outputs.items) (S.holds shelf.old) (S.holds shelf.new)) }

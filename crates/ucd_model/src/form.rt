@@ -81,7 +81,7 @@ impl fmt::Display for FormStop {
     fn fmt<W: fmt::Write>(&self, f: &mut fmt::Formatter<W>) -> fmt::Result {
         f.write_str(match self {
             FormStop::Bad(Bad::V1) => "a mapping has a code point without a row",
-            FormStop::Bad(Bad::V2) => "an expansion needs a chain of eight mappings",
+            FormStop::Bad(Bad::V2) => "an expansion needs a chain of eight mappings or more",
             FormStop::Bad(Bad::V3) => "an expansion has more than 64 code points",
             FormStop::Bad(Bad::V4) => "a lesser primary composite has the same mapping",
             FormStop::Bad(Bad::V5) => "folding rounds reach no fixed point",

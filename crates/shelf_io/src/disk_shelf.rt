@@ -1,15 +1,16 @@
 //! The shelf of the files of the system.
 
-ghost use Rattle.std.specs.Prelude.{◌≤◌, ◌-◌, ◌^◌, [], None, false, OnOk, IsOk, is_err, length, ◌≡◌};
+ghost use Rattle.std.specs.Prelude.{◌≤◌, ◌-◌, ◌^◌, [], None, false, OnOk, IfOk, IfErr, IfSome, IsOk, IsErr, is_err, length, take, ◌≡◌};
+ghost use Rattle.std.specs.IoError.{error_kind};
 ghost use Rattle.shelf_io.specs.Counts.{faults_after};
 ghost use Rattle.shelf_io.specs.Answers.{OnFound, OnAbsent, has_failed};
 
 use crate::shelf::{Failed, Found, ReadStop, Shelf};
 use crate::transfer::{read_most, write_all};
-use std::fs;
-use std::io::ErrorKind;
+use std::io::{ErrorKind, Read};
 use std::marker::Model;
 use std::rt::Files;
+use std::{fs, io};
 use ucd_model::{Memory, Text};
 
 /// The files of the system. It tells nothing of what they hold, and counts what failed. Each read and write of a path
@@ -43,6 +44,9 @@ impl<R: Files> DiskShelf<R> {
 }
 
 /// Reads a file. A missing one is Absent, and every other error is a failed read.
+///
+/// - `Failed`: the path is not UTF-8, or the file could not be opened or read.
+/// - `Memory`: memory ran out.
 fn read_file<R: Files>(
     runtime: &R,
     path: &[u8],
@@ -55,7 +59,28 @@ fn read_file<R: Files>(
     let Ok(path) = std::str::from_utf8(path) else {
         return Err(ReadStop::Failed);
     };
-    match fs::open(runtime, path) {
+    read_opened(fs::open(runtime, path), most, into)
+}
+
+/// Replaces `into` by the first `most` bytes of a file that was opened. It is Absent only where opening says that there
+/// is no such file.
+///
+/// - `Failed`: the file could not be opened for another reason, or could not be read.
+/// - `Memory`: memory ran out.
+fn read_opened<F: Read + Drop>(
+    opened: io::Result<F>,
+    most: usize,
+    into: &mut Vec<u8>,
+) -> Result<Found, ReadStop>
+    ensures at_most { OnFound result (length into.new.items ≤ most) }
+    ensures found { OnFound result (IsOk opened) }
+    ensures absent { OnAbsent result (into.new.items ≡ into.old.items) }
+    ensures missing { OnAbsent result (IsErr opened) }
+    ensures kind { OnAbsent result (IfErr opened (λ e. error_kind e ≡ ErrorKind.NotFound)) }
+    ensures bytes { OnFound result (IfOk opened (λ file.
+        IfSome (F.remaining file) (λ left. into.new.items ≡ take most left))) }
+{
+    match opened {
         Ok(mut file) => {
             read_most(&mut file, most, into)?;
             Ok(Found::Found)

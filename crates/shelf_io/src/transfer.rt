@@ -53,6 +53,7 @@ fn read_at<F: Read>(file: &mut F, into: &mut Vec<u8>, at: usize) -> Result<usize
 pub fn read_most<F: Read>(file: &mut F, most: usize, into: &mut Vec<u8>) -> Result<(), ReadStop>
     ensures at_most { OnOk result (length into.new.items ≤ most) }
     ensures bytes { OnOk result (IfSome (F.remaining file.old) (λ left. into.new.items ≡ take most left)) }
+    ensures err { OnErr result (0 < most) }
 {
     into.clear();
     let mut filled = 0;
@@ -73,11 +74,12 @@ pub fn read_most<F: Read>(file: &mut F, most: usize, into: &mut Vec<u8>) -> Resu
 
 /// Writes all bytes.
 ///
-/// - `Failed`: there was an error, or a write took none of what is left. A prefix of the bytes was then written.
+/// - `Failed`: there was an error, or a write took none of what is left. A prefix of the bytes, and not all of them, was
+///   then written.
 pub fn write_all<F: Write>(file: &mut F, bytes: &[u8]) -> Result<(), Failed>
     ensures ok { OnOk result (Appends (F.contents file.old) (F.contents file.new) bytes.now) }
     ensures err { OnErr result
-        ((k : ℕ) × Appends (F.contents file.old) (F.contents file.new) (take k bytes.now)) }
+        ((k : ℕ) × (k < length bytes.now) × Appends (F.contents file.old) (F.contents file.new) (take k bytes.now)) }
 {
     let mut done = 0;
     'rests: while done < bytes.len() {

@@ -4,7 +4,7 @@ use Rattle.shelf_io.specs.Counts.{Rose}
 use Rattle.shelf_io.specs.Contents.{SameContents}
 use Rattle.ucdshop_core.specs.Printed.{usage, read_failed, write_failed, out_of_memory, summary, no_counts}
 use Rattle.ucdshop_core.specs.Run.{Contents, Job, form, NewFile, Expected, NoForm, Refuses, Writes, expected, expected_of, Replaced, Sees, IsFine}
-use Rattle.ucdshop_core.specs.Outcome.{ShelfSeen, SinkSeen, Told, GrewInPart, IsClean, Outcome, IsNeeded, IsOutput, MayWrite, WritesNothing, WrittenUpTo, WrittenWhole}
+use Rattle.ucdshop_core.specs.Outcome.{ShelfSeen, SinkSeen, Told, GrewInPart, IsClean, Outcome, IsNeeded, IsOutput, MayWrite, PassesReads, WritesNothing, WrittenUpTo, WrittenWhole}
 use Rattle.ucdshop_core.specs.declared.status.Status.{Status}
 use Rattle.ucdshop_core.proofs.RunLemmas.{seen_held}
 use Rattle.ucdshop_core.specs.declared.status.Status.TheVariants.{Clean, Done, BadWords, LoadRefused, ReadFault, WriteFault, Memory}
@@ -87,8 +87,26 @@ fine_only words shelf sink LoadRefused o may = absurd may
 fine_only words shelf sink ReadFault o may = absurd may
 fine_only words shelf sink Memory o may = absurd may
 
-pub refused_read : (words : List (List ℕ)) (shelf : ShelfSeen) (sink : SinkSeen) (status : Status) → Outcome words shelf sink status → IsTrue shelf.tells_failed → status ≡ LoadRefused → shelf.failed ≡ shelf.failed_old
-refused_read words shelf sink status o tells e = let c : Outcome words shelf sink LoadRefused = subst (Outcome words shelf sink) e o in c.read tells
+pub no_failed_read : (words : List (List ℕ)) (shelf : ShelfSeen) (sink : SinkSeen) (status : Status) → Outcome words shelf sink status → IsTrue shelf.tells_failed → PassesReads status → shelf.failed ≡ shelf.failed_old
+no_failed_read words shelf sink Clean o tells passes = o.read tells
+no_failed_read words shelf sink Done o tells passes = absurd o
+no_failed_read words shelf sink BadWords o tells passes = o.read tells
+no_failed_read words shelf sink LoadRefused o tells passes = o.read tells
+no_failed_read words shelf sink ReadFault o tells passes = absurd passes
+no_failed_read words shelf sink WriteFault o tells passes = o.read tells
+no_failed_read words shelf sink Memory o tells passes = absurd passes
+
+pub bad_words_unread : (words : List (List ℕ)) (shelf : ShelfSeen) (sink : SinkSeen) (status : Status) → Outcome words shelf sink status → status ≡ BadWords → shelf.reads_new ≡ shelf.reads_old
+bad_words_unread words shelf sink status o e = let c : Outcome words shelf sink BadWords = subst (Outcome words shelf sink) e o in c.unread
+
+pub no_write_fault : (words : List (List ℕ)) (shelf : ShelfSeen) (sink : SinkSeen) (status : Status) → Outcome words shelf sink status → WritesNothing status → shelf.writes_new ≡ shelf.writes_old
+no_write_fault words shelf sink Clean o w = absurd w
+no_write_fault words shelf sink Done o w = absurd w
+no_write_fault words shelf sink BadWords o w = o.writes
+no_write_fault words shelf sink LoadRefused o w = o.writes
+no_write_fault words shelf sink ReadFault o w = o.writes
+no_write_fault words shelf sink WriteFault o w = absurd w
+no_write_fault words shelf sink Memory o w = o.writes
 
 pub refused : (words : List (List ℕ)) (shelf : ShelfSeen) (sink : SinkSeen) (status : Status) → Outcome words shelf sink status
     → IsTrue shelf.tells → (line : List ℕ) → expected words shelf.old ≡ Refuses line → ¬ Rose shelf.reads_old shelf.reads_new → (status ≡ LoadRefused) ⊎ (status ≡ Memory)

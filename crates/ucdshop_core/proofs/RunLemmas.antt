@@ -63,20 +63,22 @@ replaced_from files others old mid new e same replaced path =
     replaced path ∙ ap (λ (fs : List NewFile). after fs mid path) e ∙ ap (λ (h : Contents). after files h path) (fun_ext same)
 
 pub outcome_finished : (words : List (List ℕ)) (job : Job) (rows : Sources) (plan : Plan) (tells tells_failed : Bool) (old mid new : Contents) (reads_old reads_mid reads_new writes_old writes_mid writes_new : ℕ) (failed_old failed_mid failed : List ℕ) (sink : SinkSeen) (status : Status)
-    → form words ≡ Some job → HasPlan job rows plan → Sees tells old (λ seen. job_verdict job seen ≡ Ok rows) → (IsTrue tells → SameContents old mid) → writes_mid ≡ writes_old
+    → form words ≡ Some job → HasPlan job rows plan → Sees tells old (λ seen. job_verdict job seen ≡ Ok rows) → (IsTrue tells → SameContents old mid) → writes_mid ≡ writes_old → (IsTrue tells_failed → failed ≡ failed_old)
     → Finished plan (record { tells = tells; tells_failed = tells_failed; old = mid; new = new; reads_old = reads_mid; reads_new = reads_new; writes_old = writes_mid; writes_new = writes_new; failed_old = failed_mid; failed = failed }) sink status
     → Outcome words (record { tells = tells; tells_failed = tells_failed; old = old; new = new; reads_old = reads_old; reads_new = reads_new; writes_old = writes_old; writes_new = writes_new; failed_old = failed_old; failed = failed }) sink status
-outcome_finished words job rows plan tells tells_failed old mid new reads_old reads_mid reads_new writes_old writes_mid writes_new failed_old failed_mid failed sink Clean formed has fine same writes f = record {
+outcome_finished words job rows plan tells tells_failed old mid new reads_old reads_mid reads_new writes_old writes_mid writes_new failed_old failed_mid failed sink Clean formed has fine same writes read f = record {
   job = job;
   formed = formed;
   fine = sees_fine words job rows tells old formed fine;
+  read = read;
   written = λ told. (outputs job rows, expected_writes words job rows old formed (seen_held tells old (λ seen. job_verdict job seen ≡ Ok rows) fine told), replaced_from (outputs job rows) (files_of plan.outputs.items) old mid new has.files (same told) (f.0.written told));
   told = λ told. f.1 told ∙ ap (λ (line : List ℕ). sink.old ++ line) has.summary;
 }
-outcome_finished words job rows plan tells tells_failed old mid new reads_old reads_mid reads_new writes_old writes_mid writes_new failed_old failed_mid failed sink WriteFault formed has fine same writes (inl stops) = record {
+outcome_finished words job rows plan tells tells_failed old mid new reads_old reads_mid reads_new writes_old writes_mid writes_new failed_old failed_mid failed sink WriteFault formed has fine same writes read (inl stops) = record {
   job = job;
   formed = formed;
   fine = sees_fine words job rows tells old formed fine;
+  read = read;
   cause = inl (
       let place = stops.written.0 in
       let output = stops.written.1 in
@@ -96,38 +98,40 @@ outcome_finished words job rows plan tells tells_failed old mid new reads_old re
         told = subst (λ (line : List ℕ). Told line sink) (at.told ∙ output_line plan.outputs.items place output has.lines at.here) stops.told;
       });
 }
-outcome_finished words job rows plan tells tells_failed old mid new reads_old reads_mid reads_new writes_old writes_mid writes_new failed_old failed_mid failed sink WriteFault formed has fine same writes (inr untold) = record {
+outcome_finished words job rows plan tells tells_failed old mid new reads_old reads_mid reads_new writes_old writes_mid writes_new failed_old failed_mid failed sink WriteFault formed has fine same writes read (inr untold) = record {
   job = job;
   formed = formed;
   fine = sees_fine words job rows tells old formed fine;
+  read = read;
   cause = inr (record {
     written = λ told. (outputs job rows, expected_writes words job rows old formed (seen_held tells old (λ seen. job_verdict job seen ≡ Ok rows) fine told), replaced_from (outputs job rows) (files_of plan.outputs.items) old mid new has.files (same told) (untold.0.written told));
     told = subst (λ (line : List ℕ). GrewInPart line sink) has.summary untold.1;
   });
 }
-outcome_finished words job rows plan tells tells_failed old mid new reads_old reads_mid reads_new writes_old writes_mid writes_new failed_old failed_mid failed sink Done formed has fine same writes f = absurd f
-outcome_finished words job rows plan tells tells_failed old mid new reads_old reads_mid reads_new writes_old writes_mid writes_new failed_old failed_mid failed sink BadWords formed has fine same writes f = absurd f
-outcome_finished words job rows plan tells tells_failed old mid new reads_old reads_mid reads_new writes_old writes_mid writes_new failed_old failed_mid failed sink LoadRefused formed has fine same writes f = absurd f
-outcome_finished words job rows plan tells tells_failed old mid new reads_old reads_mid reads_new writes_old writes_mid writes_new failed_old failed_mid failed sink ReadFault formed has fine same writes f = absurd f
-outcome_finished words job rows plan tells tells_failed old mid new reads_old reads_mid reads_new writes_old writes_mid writes_new failed_old failed_mid failed sink Memory formed has fine same writes f = absurd f
+outcome_finished words job rows plan tells tells_failed old mid new reads_old reads_mid reads_new writes_old writes_mid writes_new failed_old failed_mid failed sink Done formed has fine same writes read f = absurd f
+outcome_finished words job rows plan tells tells_failed old mid new reads_old reads_mid reads_new writes_old writes_mid writes_new failed_old failed_mid failed sink BadWords formed has fine same writes read f = absurd f
+outcome_finished words job rows plan tells tells_failed old mid new reads_old reads_mid reads_new writes_old writes_mid writes_new failed_old failed_mid failed sink LoadRefused formed has fine same writes read f = absurd f
+outcome_finished words job rows plan tells tells_failed old mid new reads_old reads_mid reads_new writes_old writes_mid writes_new failed_old failed_mid failed sink ReadFault formed has fine same writes read f = absurd f
+outcome_finished words job rows plan tells tells_failed old mid new reads_old reads_mid reads_new writes_old writes_mid writes_new failed_old failed_mid failed sink Memory formed has fine same writes read f = absurd f
 
 pub outcome_stopped : (words : List (List ℕ)) (job : Job) (stop : Stop) (shelf : ShelfSeen) (sink : SinkSeen) (status : Status) → form words ≡ Some job
     → OnRefused {A = Plan} (Err stop) (λ line. Sees shelf.tells shelf.old (λ seen. job_verdict job seen ≡ Err line))
     → OnUnread {A = Plan} (Err stop) (NamesUnread (needed job) shelf.tells_failed shelf.failed)
     → OnUnread {A = Plan} (Err stop) (λ _. Rose shelf.reads_old shelf.reads_new)
     → (IsTrue shelf.tells_failed → NoneFailed {A = Plan} (Err stop) shelf.failed_old shelf.failed)
-    → Unchanged shelf → StoppedWith stop sink status → Outcome words shelf sink status
-outcome_stopped words job (stops.Refused line) shelf sink status formed refused unread rose read unchanged told =
+    → shelf.writes_new ≡ shelf.writes_old → Unchanged shelf → StoppedWith stop sink status → Outcome words shelf sink status
+outcome_stopped words job (stops.Refused line) shelf sink status formed refused unread rose read writes unchanged told =
     subst (Outcome words shelf sink) (sym told.0) (record {
       job = job;
       formed = formed;
       line = line;
       refused = (refused.0, refused.1, expected_refuses words job line refused.0 formed refused.2);
       read = read;
+      writes = writes;
       unchanged = unchanged;
       told = told.1;
     })
-outcome_stopped words job (stops.ReadFailed line) shelf sink status formed refused unread rose read unchanged told =
+outcome_stopped words job (stops.ReadFailed line) shelf sink status formed refused unread rose read writes unchanged told =
     subst (Outcome words shelf sink) (sym told.0) (record {
       job = job;
       formed = formed;
@@ -136,8 +140,9 @@ outcome_stopped words job (stops.ReadFailed line) shelf sink status formed refus
       place = unread.place;
       needed = unread.needed;
       last = unread.last;
+      writes = writes;
       unchanged = unchanged;
       told = subst (λ (l : List ℕ). Told l sink) unread.told told.1;
     })
-outcome_stopped words job stops.Memory shelf sink status formed refused unread rose read unchanged told =
-    subst (Outcome words shelf sink) (sym told.0) (record { job = job; formed = formed; unchanged = unchanged; told = told.1 })
+outcome_stopped words job stops.Memory shelf sink status formed refused unread rose read writes unchanged told =
+    subst (Outcome words shelf sink) (sym told.0) (record { job = job; formed = formed; writes = writes; unchanged = unchanged; told = told.1 })

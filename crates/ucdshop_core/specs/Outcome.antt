@@ -3,6 +3,8 @@
 -- ShelfSeen, SinkSeen               what is seen of the shelf and the sink before and after the run
 -- sink_seen ..                      of a sink: whether it tells, what was written and its count of faults, each before and after
 -- Unchanged shelf                   every path holds what it held; nothing is said of a shelf that does not tell what it holds
+-- LastFailedStays shelf             the path of the last failed read is as it was; nothing is said of a shelf that does not tell
+--                                   it
 -- Grew line sink                    what was written grew by exactly the line; nothing is said of a sink that does not tell it
 -- GrewInPart line sink              the sink's count of faults rose, and what was written grew by a prefix of the line
 -- Told line sink                    one of the two
@@ -37,6 +39,7 @@
 --                                   that are written
 -- WritesNothing status              BadWords, LoadRefused, ReadFault or Memory: the statuses with which nothing was written
 -- MayWrite status                   Clean or WriteFault: the statuses with which files were written, or the first one was tried
+-- PassesReads status                Clean, BadWords, LoadRefused or WriteFault: the statuses that no failed read gives
 -- WrittenUpTo words place path old new   the files before the place are written, its path holds anything or is absent, and every
 --                                   other path holds what it held
 -- WrittenWhole words old new        every file is written, and every other path holds what it held
@@ -78,6 +81,9 @@ sink_seen tells old new faults_old faults_new = record { tells = tells; old = ol
 abbrev pub Unchanged : ShelfSeen → Type 0
 Unchanged shelf = IsTrue shelf.tells → SameContents shelf.old shelf.new
 
+abbrev pub LastFailedStays : ShelfSeen → Type 0
+LastFailedStays shelf = IsTrue shelf.tells_failed → shelf.failed ≡ shelf.failed_old
+
 abbrev pub Grew : List ℕ → SinkSeen → Type 0
 Grew line sink = IsTrue sink.tells → sink.new ≡ sink.old ++ line
 
@@ -92,11 +98,15 @@ pub record IsClean (words : List (List ℕ)) (shelf : ShelfSeen) (sink : SinkSee
   pub job : Job
   pub formed : form words ≡ Some job
   pub fine : Sees shelf.tells shelf.old (IsFine words)
+  pub read : LastFailedStays shelf
   pub written : IsTrue shelf.tells → (files : List NewFile) × (expected words shelf.old ≡ Writes files) × Replaced files shelf.old shelf.new
   pub told : Grew (summary no_counts) sink
 
 pub record IsBadWords (words : List (List ℕ)) (shelf : ShelfSeen) (sink : SinkSeen) : Type 0 where
   pub unformed : form words ≡ None
+  pub unread : shelf.reads_new ≡ shelf.reads_old
+  pub read : LastFailedStays shelf
+  pub writes : shelf.writes_new ≡ shelf.writes_old
   pub unchanged : Unchanged shelf
   pub told : Told usage sink
 
@@ -105,7 +115,8 @@ pub record IsRefused (words : List (List ℕ)) (shelf : ShelfSeen) (sink : SinkS
   pub formed : form words ≡ Some job
   pub line : List ℕ
   pub refused : Sees shelf.tells shelf.old (λ seen. expected words seen ≡ Refuses line)
-  pub read : IsTrue shelf.tells_failed → shelf.failed ≡ shelf.failed_old
+  pub read : LastFailedStays shelf
+  pub writes : shelf.writes_new ≡ shelf.writes_old
   pub unchanged : Unchanged shelf
   pub told : Told line sink
 
@@ -117,6 +128,7 @@ pub record IsReadFault (words : List (List ℕ)) (shelf : ShelfSeen) (sink : Sin
   pub place : ℕ
   pub needed : slice_get (needed job) place ≡ Some path
   pub last : IsTrue shelf.tells_failed → path ≡ shelf.failed
+  pub writes : shelf.writes_new ≡ shelf.writes_old
   pub unchanged : Unchanged shelf
   pub told : Told (read_failed path) sink
 
@@ -137,11 +149,13 @@ pub record IsWriteFault (words : List (List ℕ)) (shelf : ShelfSeen) (sink : Si
   pub job : Job
   pub formed : form words ≡ Some job
   pub fine : Sees shelf.tells shelf.old (IsFine words)
+  pub read : LastFailedStays shelf
   pub cause : IsWriteStopped words job shelf sink ⊎ IsUntold words shelf sink
 
 pub record IsMemory (words : List (List ℕ)) (shelf : ShelfSeen) (sink : SinkSeen) : Type 0 where
   pub job : Job
   pub formed : form words ≡ Some job
+  pub writes : shelf.writes_new ≡ shelf.writes_old
   pub unchanged : Unchanged shelf
   pub told : Told out_of_memory sink
 
@@ -194,6 +208,13 @@ abbrev pub MayWrite : Status → Type 0
 MayWrite Clean = Unit {0}
 MayWrite WriteFault = Unit {0}
 MayWrite _ = ⊥
+
+abbrev pub PassesReads : Status → Type 0
+PassesReads Clean = Unit {0}
+PassesReads BadWords = Unit {0}
+PassesReads LoadRefused = Unit {0}
+PassesReads WriteFault = Unit {0}
+PassesReads _ = ⊥
 
 abbrev pub WrittenUpTo : List (List ℕ) → ℕ → List ℕ → Contents → Contents → Type 0
 WrittenUpTo words place path old new = (files : List NewFile) × (expected words old ≡ Writes files)

@@ -4,7 +4,7 @@ ghost use Rattle.std.specs.Prelude.{◌≡◌, ◌≢◌, ◌≤◌, ◌⊎◌, 
 ghost use Rattle.shelf_io.specs.Counts.{Rose};
 ghost use Rattle.ucdshop_core.specs.Commands.{job_of};
 ghost use Rattle.shelf_io.specs.Contents.{SameContents};
-ghost use Rattle.ucdshop_core.specs.Outcome.{Outcome, Told, GrewInPart, StoppedWith, Finished, IsNeeded, IsOutput, MayWrite, WritesNothing, WrittenUpTo, WrittenWhole, sink_seen};
+ghost use Rattle.ucdshop_core.specs.Outcome.{Outcome, Told, GrewInPart, StoppedWith, Finished, IsNeeded, IsOutput, MayWrite, PassesReads, WritesNothing, WrittenUpTo, WrittenWhole, sink_seen};
 ghost use Rattle.ucdshop_core.specs.Printed.{usage, read_failed, write_failed, out_of_memory, summary, no_counts};
 ghost use Rattle.ucdshop_core.specs.Run.{NewFile, Refuses, Writes, Replaced, Sees, IsFine, expected, form};
 
@@ -51,19 +51,22 @@ pub fn run<S: Shelf, K: Sink>(alloc: Global, words: &Texts, shelf: &mut S, out: 
 
     // BadWords: exactly where the words have no listed form.
     ensures bad_words { (result ≡ Status.BadWords) ↔ (form words.now ≡ None) }
+    ensures bad_words_unread { result ≡ Status.BadWords → S.read_faults shelf.new ≡ S.read_faults shelf.old }
     ensures bad_words_told { result ≡ Status.BadWords → Told usage
         (sink_seen K.tells (K.written out.old) (K.written out.new) (K.faults out.old) (K.faults out.new)) }
 
-    // LoadRefused: only where what was seen is refused, by the line that is told, and no other path became that of the
-    // last failed read; what is refused gives no other status unless a read failed or memory was wanted.
+    // LoadRefused: only where what was seen is refused, by the line that is told; what is refused gives no other status
+    // unless a read failed or memory was wanted.
     ensures refused_only { result ≡ Status.LoadRefused → Sees S.tells (S.holds shelf.old) (λ seen.
         (line : List ℕ) × (expected words.now seen ≡ Refuses line) × Told line
         (sink_seen K.tells (K.written out.old) (K.written out.new) (K.faults out.old) (K.faults out.new))) }
-    ensures refused_read { IsTrue S.tells_failed → result ≡ Status.LoadRefused
-        → S.last_failed shelf.new ≡ S.last_failed shelf.old }
     ensures refused { IsTrue S.tells → (line : List ℕ) → expected words.now (S.holds shelf.old) ≡ Refuses line
         → ¬ Rose (S.read_faults shelf.old) (S.read_faults shelf.new)
         → (result ≡ Status.LoadRefused) ⊎ (result ≡ Status.Memory) }
+
+    // Any status but ReadFault and Memory: no other path became that of the last failed read, where the shelf tells it.
+    ensures no_failed_read { IsTrue S.tells_failed → PassesReads result
+        → S.last_failed shelf.new ≡ S.last_failed shelf.old }
 
     // ReadFault: only where a read failed; the line names a path that is needed, and the last failed one where the
     // shelf tells it.
@@ -87,6 +90,7 @@ pub fn run<S: Shelf, K: Sink>(alloc: Global, words: &Texts, shelf: &mut S, out: 
     ensures memory_told { result ≡ Status.Memory → Told out_of_memory
         (sink_seen K.tells (K.written out.old) (K.written out.new) (K.faults out.old) (K.faults out.new)) }
     ensures unchanged { IsTrue S.tells → WritesNothing result → SameContents (S.holds shelf.old) (S.holds shelf.new) }
+    ensures no_write_fault { WritesNothing result → S.write_faults shelf.new ≡ S.write_faults shelf.old }
 {
     run_words(alloc, words, shelf, out)
 }
@@ -166,7 +170,8 @@ fn tell_stop<K: Sink>(stop: Stop, out: &mut K) -> Status
 /// Writes all files, and tells the summary.
 fn finish<S: Shelf, K: Sink>(plan: Plan, shelf: &mut S, out: &mut K) -> Status
     requires { length plan.outputs.items ≤ S.spare shelf.old }
-    ensures { Finished plan
+    ensures last_failed_stays { IsTrue S.tells_failed → S.last_failed shelf.new ≡ S.last_failed shelf.old }
+    ensures outcome { Finished plan
         (record {
           tells = S.tells;
           tells_failed = S.tells_failed;

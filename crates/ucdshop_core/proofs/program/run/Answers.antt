@@ -28,8 +28,14 @@ returns-clause-fine_only g c = clauses.fine_only _ _ _ _ c.run_words.ensures
 pub returns-clause-refused_only : goal.returns-clause-refused_only
 returns-clause-refused_only g c = clauses.refused_only _ _ _ _ c.run_words.ensures
 
-pub returns-clause-refused_read : goal.returns-clause-refused_read
-returns-clause-refused_read g c = clauses.refused_read _ _ _ _ c.run_words.ensures
+pub returns-clause-no_failed_read : goal.returns-clause-no_failed_read
+returns-clause-no_failed_read g c = clauses.no_failed_read _ _ _ _ c.run_words.ensures
+
+pub returns-clause-bad_words_unread : goal.returns-clause-bad_words_unread
+returns-clause-bad_words_unread g c = clauses.bad_words_unread _ _ _ _ c.run_words.ensures
+
+pub returns-clause-no_write_fault : goal.returns-clause-no_write_fault
+returns-clause-no_write_fault g c = clauses.no_write_fault _ _ _ _ c.run_words.ensures
 
 pub returns-clause-refused : goal.returns-clause-refused
 returns-clause-refused g c = clauses.refused _ _ _ _ c.run_words.ensures

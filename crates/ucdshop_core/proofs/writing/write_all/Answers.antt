@@ -21,6 +21,7 @@ outputs-preserved g c =
           (c.in-Ok.ensures.ok tells) (c.in-Ok.ensures.others tells);
       room = omega (arith, c.outputs.invariant.room, ap length taken, c.in-Ok.ensures.spare_for_one);
       reads = c.in-Ok.ensures.read_faults_stay ∙ c.outputs.invariant.reads;
+      failed = λ tells. c.in-Ok.ensures.last_failed_stays tells ∙ c.outputs.invariant.failed tells;
       writes = omega (arith, c.outputs.invariant.writes, c.in-Ok.ensures.write_faults_never_fall);
     }
 
@@ -37,3 +38,6 @@ returns-in_default-clause-stopped g c =
     stops_here outputs rest output shelf.tells old now (shelf.holds c.write.new.self) left
     (subst (λ (r : List Output). IsTrue shelf.tells → (path : List ℕ) → now path ≡ after (done_of outputs r) old path) taken c.outputs.invariant.contents)
     c.write.ensures.others
+
+pub returns-in_default-clause-last_failed_stays : goal.returns-in_default-clause-last_failed_stays
+returns-in_default-clause-last_failed_stays g c = λ tells. c.write.ensures.last_failed_stays tells ∙ c.outputs.invariant.failed tells

@@ -12,6 +12,7 @@ invariant-outputs g l =
       contents : IsTrue shelf.tells → (path : List ℕ) → shelf.holds l.shelf path ≡ after (done_of l.initial.rest.items l.rest.items) (shelf.holds l.initial.shelf) path;
       room : length l.rest.items ≤ shelf.spare l.shelf;
       reads : shelf.read_faults l.shelf ≡ shelf.read_faults l.initial.shelf;
+      failed : IsTrue shelf.tells_failed → shelf.last_failed l.shelf ≡ shelf.last_failed l.initial.shelf;
       writes : shelf.write_faults l.initial.shelf ≤ shelf.write_faults l.shelf;
     }
 

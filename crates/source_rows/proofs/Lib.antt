@@ -3,7 +3,6 @@ pub mod Digits
 pub mod Spans
 pub mod Words
 pub mod Spaced
-pub mod AliasFields
 pub mod FieldTakes
 pub mod DataSteps
 pub mod Seams

@@ -1,18 +1,19 @@
 //! Lines of names: PropertyAliases.txt and PropertyValueAliases.txt. UAX #44, section 5.8.
 
-ghost use Rattle.std.specs.Prelude.{◌≡◌, IfOk, length};
-ghost use Rattle.std.specs.List.{before_first};
+ghost use Rattle.std.specs.Prelude.{◌≡◌, IfOk};
+ghost use Rattle.std.specs.List.{before_first, list_all};
 ghost use Rattle.ucd_model.specs.Fields.{is_hash};
 ghost use Rattle.ucd_model.specs.OtherLines.{is_name_or_empty};
-ghost use Rattle.source_rows.specs.Faults.{ReadsAs};
+ghost use Rattle.source_rows.specs.Faults.{NamesAs, ReadsAs};
 ghost use Rattle.source_rows.specs.Fields.{fields_of};
-ghost use Rattle.source_rows.specs.OtherFaults.{alias_or_fault, names_of};
+ghost use Rattle.source_rows.specs.OtherFaults.{alias_or_fault};
 
 use crate::code_point::is_name;
 use crate::fault::{RowFault, RowStop};
 use crate::fields::{field_count, first_field, text_of, without_comment};
 use std::alloc::Global;
-use ucd_model::{AliasRow, Memory, Row, Texts};
+use ucd_lines::{Fields, fields};
+use ucd_model::{AliasRow, Memory, Row, SourceFile, Texts};
 
 /// Whether a field is a name or empty.
 fn is_name_or_empty(field: &[u8]) -> bool
@@ -21,23 +22,48 @@ fn is_name_or_empty(field: &[u8]) -> bool
     field.is_empty() || is_name(field)
 }
 
-/// The names that the fields are. `None` where a field is neither a name nor empty.
-fn names_of(alloc: Global, text: &[u8]) -> Result<Option<Texts>, Memory>
-    ensures { IfOk result (λ found. found ≡ names_of (fields_of text.now)) }
+/// The fields of a line, in order and without a copy. Both files cut off a comment.
+#[tactic(auto, unfolding(ucd_model::specs::Fields::fields))]
+fn names_in(content: &[u8]) -> Fields<'_>
+    ensures { result ≡ fields_of (before_first is_hash content.now) }
 {
-    let mut names = Texts::new(alloc);
-    let mut rest = text;
-    let mut left = field_count(text);
-    'fields: while left > 0 {
-        let (field, behind) = first_field(rest);
-        if !is_name_or_empty(field) {
-            return Ok(None);
-        }
-        names.push(text_of(alloc, field)?)?;
-        rest = behind;
-        left -= 1;
+    fields(SourceFile::PropertyAliases, content)
+}
+
+/// Whether each field of a line is a name or empty.
+fn are_names_or_empty(content: &[u8]) -> bool
+    ensures { result ≡ list_all is_name_or_empty (fields_of (before_first is_hash content.now)) }
+{
+    names_in(content).all(|field| is_name_or_empty(field))
+}
+
+/// The names of a line of at least so many, in order and without a copy.
+///
+/// - `G03`: there are fewer fields.
+/// - `G11`: the first is no name, or a later one neither a name nor empty.
+#[tactic(auto, unfolding(crate::specs::OtherFaults::alias_or_fault))]
+pub fn names_or_fault(least: usize, content: &[u8]) -> Result<Fields<'_>, RowFault>
+    ensures { NamesAs result (alias_or_fault least (fields_of (before_first is_hash content.now))) }
+{
+    let text = without_comment(content);
+    if field_count(text) < least {
+        return Err(RowFault::G03);
     }
-    Ok(Some(names))
+    if !is_name(first_field(text).0) || !are_names_or_empty(content) {
+        return Err(RowFault::G11);
+    }
+    Ok(names_in(content))
+}
+
+/// The names, copied.
+fn copied(alloc: Global, names: Fields<'_>) -> Result<Texts, Memory>
+    ensures { IfOk result (λ copy. copy ≡ names.entry) }
+{
+    let mut copy = Texts::new(alloc);
+    'names: for name in names {
+        copy.push(text_of(alloc, name)?)?;
+    }
+    Ok(copy)
 }
 
 /// The row of a line of at least so many names.
@@ -45,19 +71,9 @@ fn names_of(alloc: Global, text: &[u8]) -> Result<Option<Texts>, Memory>
 /// - `Fault(G03)`: there are fewer fields.
 /// - `Fault(G11)`: the first is no name, or a later one neither a name nor empty.
 /// - `Memory`: memory ran out.
-#[tactic(auto, unfolding(crate::specs::OtherFaults::alias_or_fault))]
 pub fn read_alias(alloc: Global, least: usize, content: &[u8]) -> Result<Row, RowStop>
     ensures { ReadsAs result (alias_or_fault least (fields_of (before_first is_hash content.now))) }
 {
-    let text = without_comment(content);
-    if field_count(text) < least {
-        return Err(RowStop::Fault(RowFault::G03));
-    }
-    if !is_name(first_field(text).0) {
-        return Err(RowStop::Fault(RowFault::G11));
-    }
-    let Some(names) = names_of(alloc, text)? else {
-        return Err(RowStop::Fault(RowFault::G11));
-    };
+    let names = copied(alloc, names_or_fault(least, content)?)?;
     Ok(Row::Alias(AliasRow { names }))
 }

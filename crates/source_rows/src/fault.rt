@@ -40,6 +40,17 @@ pub enum RowStop {
     Memory,
 }
 
+/// A broken rule is `RowStop::Fault`.
+impl From<RowFault> for RowStop {
+    ghost use Rattle.source_rows.specs.declared.fault.RowStop.TheVariants.{Fault};
+
+    ghost from_gives = { λ fault e. e ≡ Fault fault };
+
+    fn from(fault: RowFault) -> RowStop {
+        RowStop::Fault(fault)
+    }
+}
+
 /// Want of memory, as an allocator answers it, is `RowStop::Memory`.
 impl From<AllocError> for RowStop {
     ghost use Rattle.source_rows.specs.declared.fault.RowStop.TheVariants.{Memory};

@@ -11,6 +11,7 @@ mod decomposition;
 mod fault;
 mod fields;
 mod fifteen;
+mod in_place;
 mod laws;
 mod lines;
 mod mapping;
@@ -29,6 +30,7 @@ mod values;
 mod word_break_property;
 
 pub use fault::{RowFault, RowStop};
+pub use in_place::{read_names, read_value_text};
 pub use laws::{
     categories_are_named, first_lines_begin, rows_are_ok, rows_are_read, spans_are_spelled,
     spellings_are_one, texts_read_back,
@@ -36,6 +38,7 @@ pub use laws::{
 pub use read::read_row;
 pub use text::row_text;
 pub use unicode_data::begins_range;
+pub use values::ValueText;
 
 #[cfg(test)]
 mod tests;

@@ -268,6 +268,42 @@ fn a_mapping_has_at_most_64_code_points(rt: HostRuntime) {
     );
 }
 
+/// Whether a line of PropertyAliases.txt has these names.
+fn has_names(bytes: &[u8], expected: &[&[u8]]) -> bool {
+    let Ok(mut names) = read_names(SourceFile::PropertyAliases, bytes) else {
+        return false;
+    };
+    for name in expected {
+        if names.next() != Some(*name) {
+            return false;
+        }
+    }
+    names.next().is_none()
+}
+
+/// Whether a line of Scripts.txt gives this script to the code points from the first to the last one.
+fn has_script(bytes: &[u8], first: u32, last: u32, expected: &[u8]) -> bool {
+    match read_value_text(SourceFile::Scripts, bytes) {
+        Ok(text) => {
+            text.span.first() == first && text.span.last() == last && text.value == expected
+        }
+        Err(_) => false,
+    }
+}
+
+#[test]
+fn real_lines_without_a_copy(rt: HostRuntime) {
+    assert!(rt; has_names(b"gc ; General_Category", &[b"gc", b"General_Category"]));
+    assert!(rt;
+        has_script(
+            b"0041..005A    ; Latin # L&  [26] LATIN CAPITAL LETTER A..LATIN CAPITAL LETTER Z",
+            0x41,
+            0x5A,
+            b"Latin",
+        )
+    );
+}
+
 #[test]
 fn first_lines(rt: HostRuntime) {
     let lines: [(&[u8], bool); 5] = [

@@ -2,7 +2,7 @@
 
 ghost use Rattle.ucd_model.specs.Fields.{is_hash};
 ghost use Rattle.std.specs.List.{before_first};
-ghost use Rattle.source_rows.specs.Faults.{ReadsAs};
+ghost use Rattle.source_rows.specs.Faults.{ReadsAs, ValueTextAs};
 ghost use Rattle.source_rows.specs.Fields.{fields_of};
 ghost use Rattle.source_rows.specs.OtherFaults.{value_or_fault};
 
@@ -10,10 +10,42 @@ use crate::code_point::{is_name, span_of};
 use crate::fault::{RowFault, RowStop};
 use crate::fields::{field_count, text_of, two_fields, without_comment};
 use std::alloc::Global;
-use ucd_model::{Row, ValueRow};
+use ucd_model::{Row, Span, ValueRow};
 
 /// The number of fields of a line.
 const FIELDS: usize = 2;
+
+/// A row of PropList.txt, Scripts.txt or WordBreakProperty.txt as it stands in its line. UAX #44, section 4.2.
+#[derive(Clone, Copy, Debug)]
+pub struct ValueText<'a> {
+    /// The code points.
+    pub span: Span,
+    /// In PropList.txt the name of a property that they have, else that of their Script or Word_Break.
+    pub value: &'a [u8],
+}
+
+/// The span and the value of a line, without a copy.
+///
+/// - `G03`: there are not two fields.
+/// - `G04`: the first is no code point and no span.
+/// - `G11`: the second is no name.
+#[tactic(auto, unfolding(crate::specs::OtherFaults::value_or_fault))]
+pub fn value_text(content: &[u8]) -> Result<ValueText<'_>, RowFault>
+    ensures { ValueTextAs result (value_or_fault (fields_of (before_first is_hash content.now))) }
+{
+    let text = without_comment(content);
+    if field_count(text) != FIELDS {
+        return Err(RowFault::G03);
+    }
+    let (span, value) = two_fields(text);
+    let Some(span) = span_of(span) else {
+        return Err(RowFault::G04);
+    };
+    if !is_name(value) {
+        return Err(RowFault::G11);
+    }
+    Ok(ValueText { span, value })
+}
 
 /// The row of a line.
 ///
@@ -21,21 +53,16 @@ const FIELDS: usize = 2;
 /// - `Fault(G04)`: the first is no code point and no span.
 /// - `Fault(G11)`: the second is no name.
 /// - `Memory`: memory ran out.
-#[tactic(auto, unfolding(crate::specs::OtherFaults::value_or_fault))]
 pub fn read_value(alloc: Global, content: &[u8]) -> Result<Row, RowStop>
     ensures { ReadsAs result (value_or_fault (fields_of (before_first is_hash content.now))) }
 {
-    let text = without_comment(content);
-    if field_count(text) != FIELDS {
-        return Err(RowStop::Fault(RowFault::G03));
-    }
-    let (span, name) = two_fields(text);
-    let Some(span) = span_of(span) else {
-        return Err(RowStop::Fault(RowFault::G04));
+    let text = match value_text(content) {
+        Ok(text) => text,
+        Err(fault) => return Err(RowStop::Fault(fault)),
     };
-    if !is_name(name) {
-        return Err(RowStop::Fault(RowFault::G11));
-    }
-    let value = text_of(alloc, name)?;
-    Ok(Row::Value(ValueRow { span, value }))
+    let value = text_of(alloc, text.value)?;
+    Ok(Row::Value(ValueRow {
+        span: text.span,
+        value,
+    }))
 }

@@ -3,6 +3,7 @@ pub mod PaintLemmas
 pub mod RowLemmas
 pub mod DataLemmas
 pub mod MarkLemmas
+pub mod FlagLemmas
 pub mod CaseLemmas
 pub mod FactLemmas
 pub mod IndexLemmas

@@ -1,5 +1,5 @@
 -- Sums of marks.
-use Rattle.std.proofs.Common.{◌≡◌, ℕ, ◌+◌, ◌*◌, ◌<◌, ◌≤◌, Bool, true, false, cond, ◌||◌, ◌&&◌, List, [], ◌∷◌, length, take, get_or, refl, ap, ◌∙◌, arith, Result, Ok, Err, sum_by, codes}
+use Rattle.std.proofs.Common.{◌≡◌, ℕ, ◌+◌, ◌*◌, ◌<◌, ◌≤◌, Bool, true, false, cond, ◌||◌, ◌&&◌, List, [], ◌∷◌, length, take, get_or, refl, sym, ap, ◌∙◌, arith, Result, Ok, Err, sum_by, codes}
 use Rattle.std.specs.List.{list_any}
 use Rattle.std.specs.Result.{IfOk}
 use Rattle.std.specs.Str.{bytes_eq}
@@ -10,6 +10,8 @@ use Rattle.ucd_model.specs.declared.property.Flag.TheVariants.{WhiteSpace, Other
 use Rattle.ucd_model.specs.declared.files.SourceFile.TheVariants.{PropList, WordBreakProperty, CompositionExclusions}
 use Rattle.ucd_model.specs.declared.row.Row.{Row}
 use Rattle.ucd_model.specs.declared.row.Row.TheVariants.{Unit as DataLine, Value as ValueLine, Exclusion as ExclusionLine, Fold as FoldLine, Casing as CasingLine, Alias as AliasLine}
+use Rattle.ucd_model.specs.Bounds.{Bounds}
+use Rattle.code_facts.specs.MarkRows.{IsMarked}
 use Rattle.code_facts.specs.Word.{one_if, mark_part}
 use Rattle.code_facts.specs.Marks.{word_of, mark_bit, marks_before, all_marks, gives_mid_word, puts}
 use Rattle.code_facts.specs.declared.mark.Mark.{Mark}
@@ -22,6 +24,18 @@ if_ok_map (Err e) P Q f p = p
 pub cond_bit : (b : Bool) (v : ℕ) → cond b v 0 ≡ v * one_if b
 cond_bit true v = omega arith
 cond_bit false v = omega arith
+
+pub cond_small : (b : Bool) (v : ℕ) → cond b v 0 ≤ v
+cond_small true v = omega arith
+cond_small false v = omega arith
+
+-- what spans of a mark add
+pub bit_of : (spans : List Bounds) (mark : Mark) (sources : Sources) (c word : ℕ) → IsMarked mark spans sources → word ≡ word_of mark → cond (list_any (within c) spans) word 0 ≡ mark_bit sources mark c
+bit_of spans mark sources c word marked is = cond_bit (list_any (within c) spans) word ∙ rw (is, marked c) refl
+
+pub no_bit : (spans : List Bounds) (mark : Mark) (sources : Sources) (c : ℕ) → IsMarked mark spans sources → length spans ≡ 0 → mark_bit sources mark c ≡ 0
+no_bit [] mark sources c marked none = sym (bit_of [] mark sources c (word_of mark) marked refl)
+no_bit (s ∷ spans) mark sources c marked none = absurd (omega (arith, none))
 
 word_small : (mark : Mark) → word_of mark < 274877906944
 word_small Excluded = omega arith

@@ -1,7 +1,6 @@
 -- Rows of UnicodeData.txt, and the row that covers a code point.
-use Rattle.std.proofs.Common.{◌≡◌, ℕ, zero, suc, ◌+◌, ◌<◌, Bool, true, false, cond, ◌&&◌, ◌||◌, leb, List, [], ◌∷◌, ◌++◌, map, length, take, get_or, find, Option, Some, None, refl, sym, ap, subst, ◌∙◌, append_assoc, arith}
+use Rattle.std.proofs.Common.{◌≡◌, ℕ, zero, suc, ◌+◌, ◌<◌, Bool, true, false, cond, ◌&&◌, ◌||◌, leb, List, [], ◌∷◌, ◌++◌, length, take, get_or, find, Option, Some, None, refl, ap, subst, ◌∙◌, append_assoc, arith}
 use Rattle.std.specs.List.{list_any}
-use Rattle.std.specs.Borrow.{Bor}
 use Rattle.std.proofs.lemmas.List.{take_more, append-nil}
 use Rattle.std.proofs.lemmas.Bool.Decides.{nat_tests}
 use Rattle.ucd_model.specs.Facts.{is_data_of, within, data_in, data_row}
@@ -14,7 +13,7 @@ use Rattle.release_rows.specs.Keys.{key_rule, same_key, overlaps}
 use Rattle.release_rows.specs.FileItems.{FileItem, rows_in, onto_rows}
 use Rattle.release_rows.specs.Releases.{AreKept, AreKeptBelow}
 use Rattle.release_rows.specs.declared.key_rule.KeyRule.TheVariants.{K1, K4}
-use Rattle.code_facts.specs.Rows.{Apart, pointed}
+use Rattle.code_facts.specs.Rows.{Apart}
 
 -- ---- rows that do not overlap
 
@@ -112,25 +111,6 @@ pub data_step : (rows : List Row) (i c : ℕ) (d : Row) → Apart rows → i < l
 data_step rows i c d apart h =
     rw (take_more rows i d h) (data_step_by rows i c (get_or rows i d) (is_data_of c (get_or rows i d)) refl (apart i c d h))
 
-pub pointed_at : (rows : List (Bor Row)) (i : ℕ) (d : Bor Row) → get_or (pointed rows) i d.now ≡ (get_or rows i d).now
-pointed_at [] i d = refl
-pointed_at (r ∷ rows) zero d = refl
-pointed_at (r ∷ rows) (suc i) d = pointed_at rows i d
-
-pub pointed_take : (rows : List (Bor Row)) (i : ℕ) → pointed (take i rows) ≡ take i (pointed rows)
-pointed_take [] zero = refl
-pointed_take [] (suc i) = refl
-pointed_take (r ∷ rows) zero = refl
-pointed_take (r ∷ rows) (suc i) = ap (λ (xs : List Row). r.now ∷ xs) (pointed_take rows i)
-
-pub pointed_length : (rows : List (Bor Row)) → length (pointed rows) ≡ length rows
-pointed_length [] = refl
-pointed_length (r ∷ rows) = ap suc (pointed_length rows)
-
--- the row behind the reference that a loop has
-pub pointed_item : (rows : List (Bor Row)) (i : ℕ) (r : Bor Row) → r ≡ get_or rows i r → get_or (pointed rows) i r.now ≡ r.now
-pointed_item rows i r is = pointed_at rows i r ∙ ap (λ (x : Bor Row). x.now) (sym is)
-
 pub not_data : (row : Row) → ((x : DataRow) → row ≡ DataLine x → ⊥) → (c : ℕ) → is_data_of c row ≡ false
 not_data (DataLine x) other c = absurd (other x refl)
 not_data (ValueLine x) other c = refl
@@ -138,16 +118,3 @@ not_data (ExclusionLine x) other c = refl
 not_data (FoldLine x) other c = refl
 not_data (CasingLine x) other c = refl
 not_data (AliasLine x) other c = refl
-
--- ---- a test of the rows so far
-
-or_right_id : (b : Bool) → (b || false) ≡ b
-or_right_id true = refl
-or_right_id false = refl
-
-any_push : (p : Row → Bool) (xs : List Row) (y : Row) → list_any p (xs ++ y ∷ []) ≡ (list_any p xs || p y)
-any_push p [] y = or_right_id (p y)
-any_push p (x ∷ xs) y = elim (p x) as (λ b. (b || list_any p (xs ++ y ∷ [])) ≡ ((b || list_any p xs) || p y)) [ true ↦ refl | false ↦ any_push p xs y ]
-
-pub any_more : (p : Row → Bool) (rows : List Row) (i : ℕ) (d : Row) → i < length rows → list_any p (take (i + 1) rows) ≡ (list_any p (take i rows) || p (get_or rows i d))
-any_more p rows i d h = rw (take_more rows i d h) (any_push p (take i rows) (get_or rows i d))

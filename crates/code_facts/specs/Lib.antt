@@ -4,6 +4,7 @@ pub mod PointLists
 pub mod Rows
 pub mod DataTables
 pub mod Marks
+pub mod MarkRows
 pub mod Found
 pub mod CaseMaps
 pub mod KeptFacts

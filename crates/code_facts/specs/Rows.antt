@@ -1,7 +1,6 @@
 -- The rows of a release, and what a row of UnicodeData.txt gives to a code point that it covers.
 --
 -- release_sources release   the rows of each file now
--- pointed rows              the rows that references point to
 -- Apart rows                no row of UnicodeData.txt covers a code point that a row above it covers
 -- PointData                 what the row gives: its part of the word, the mapping, and the simple mappings, each a list of one
 --                           code point, or an empty one where the row has none
@@ -9,9 +8,8 @@
 -- lower_list row            the same of the lower mapping
 -- title_list row            the same of the title mapping
 -- row_data c row            what the row that covers c gives; without a row category Cn and nothing else
-use Rattle.std.specs.Prelude.{◌≡◌, ℕ, ◌<◌, true, List, [], map, length, take, find, Option, Some, None, is_some, slice_index_or}
+use Rattle.std.specs.Prelude.{◌≡◌, ℕ, ◌<◌, true, List, [], length, take, find, Option, Some, None, is_some, slice_index_or}
 use Rattle.std.specs.Option.{option_to_list}
-use Rattle.std.specs.Borrow.{Bor}
 use Rattle.ucd_model.specs.Facts.{Sources, is_data_of, category_in, class_in, kind_in, mapping_in}
 use Rattle.ucd_model.specs.declared.row.Row.{Row}
 use Rattle.ucd_model.specs.declared.row.DataRow.{DataRow}
@@ -21,9 +19,6 @@ use Rattle.code_facts.specs.Word.{data_part}
 
 abbrev pub release_sources : ReleaseItems → Sources
 release_sources release file = rows_in (items_now release file)
-
-abbrev pub pointed : List (Bor Row) → List Row
-pointed rows = map (λ row. row.now) rows
 
 abbrev pub Apart : List Row → Type 0
 Apart rows = (i c : ℕ) (other : Row) → i < length rows → is_data_of c (slice_index_or rows i other) ≡ true → find (is_data_of c) (take i rows) ≡ None

@@ -2,22 +2,26 @@
 
 ghost use Rattle.std.specs.Prelude.{◌≡◌, ℕ, ◌==◌, Some, None, IfOk, OnOk, if◌then◌else◌};
 ghost use Rattle.code_facts.specs.Found.{found, first_some, given_to, image_by};
-ghost use Rattle.code_facts.specs.Rows.{pointed};
 
 use crate::case::Case;
+use release_rows::RowText;
 use std::alloc::Global;
 use std::collections::BTreeMap;
-use ucd_model::{Memory, Point, Points, Row};
+use ucd_model::{Memory, Point, Points};
 
 /// The images of a case. Of several rows that give a code point one, the first counts.
 ///
 /// - `Memory`: memory ran out.
-pub fn case_map(alloc: Global, rows: &[&Row], case: Case) -> Result<BTreeMap<Point, Points>, Memory>
-    ensures { IfOk result (λ map. (c : ℕ) → found map c ≡ image_by case (pointed rows.now) c) }
+pub fn case_map(
+    alloc: Global,
+    rows: &[RowText<'_>],
+    case: Case,
+) -> Result<BTreeMap<Point, Points>, Memory>
+    ensures { IfOk result (λ map. (c : ℕ) → found map c ≡ image_by case rows.now c) }
 {
     let mut map = BTreeMap::new(alloc);
     'rows: for row in rows {
-        let image = case.image(alloc, row)?;
+        let image = case.image(row.read(alloc)?);
         put_first(&mut map, image)?;
     }
     Ok(map)

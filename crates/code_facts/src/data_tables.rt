@@ -5,7 +5,7 @@ ghost use Rattle.std.specs.Option.{option_to_list};
 ghost use Rattle.range_table.specs.Values.{SameValues, with_span};
 ghost use Rattle.range_table.specs.RunTable.{values_next};
 ghost use Rattle.ucd_model.specs.Facts.{within, mapping_in, data_row, class_in, is_hangul_syllable, hangul_mapping};
-ghost use Rattle.code_facts.specs.Rows.{row_data, pointed, Apart};
+ghost use Rattle.code_facts.specs.Rows.{row_data, Apart};
 ghost use Rattle.code_facts.specs.DataTables.{data_now, data_next};
 ghost use Rattle.code_facts.specs.PointLists.{lists_now, lists_next};
 
@@ -14,6 +14,7 @@ use crate::point_lists::PointLists;
 use crate::points::point;
 use crate::word::{NO_ROW, data_word};
 use range_table::{RunTable, Table};
+use release_rows::RowText;
 use std::alloc::Global;
 use ucd_model::{DataRow, Kind, Memory, Point, Row, Span};
 
@@ -36,15 +37,16 @@ impl DataTables {
     /// The tables of these rows.
     ///
     /// - `Memory`: memory ran out.
-    pub fn of_rows(alloc: Global, rows: &[&Row]) -> Result<DataTables, Memory>
-        requires { Apart (pointed rows.now) }
+    pub fn of_rows(alloc: Global, rows: &[RowText<'_>]) -> Result<DataTables, Memory>
+        requires { Apart rows.now }
         ensures gives { IfOk result (λ tables. (c : ℕ) → c < 1114112
-            → data_now tables c ≡ row_data c (data_row (pointed rows.now) c)) }
-        ensures class { OnOk result ((c : ℕ) → class_in (data_row (pointed rows.now) c) < 256) }
+            → data_now tables c ≡ row_data c (data_row rows.now c)) }
+        ensures class { OnOk result ((c : ℕ) → class_in (data_row rows.now c) < 256) }
     {
         let mut tables = DataTables::new(alloc)?;
         'rows: for row in rows {
-            if let Row::Unit(row) = row {
+            let row = row.read(alloc)?;
+            if let Row::Unit(row) = &row {
                 tables.add(row)?;
             }
         }

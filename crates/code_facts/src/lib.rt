@@ -16,6 +16,7 @@ mod kept_facts;
 mod kept_view;
 mod list_calls;
 mod mark;
+mod mark_rows;
 mod marks;
 mod painting;
 mod place;

@@ -1,11 +1,11 @@
 //! The marks that rows of other files than UnicodeData.txt put on code points.
 
-ghost use Rattle.std.specs.Prelude.{◌≡◌, ℕ, ◌+◌, ◌<◌, ◌^◌};
+ghost use Rattle.std.specs.Prelude.{◌≡◌, ◌+◌, ◌<◌, ◌^◌};
 ghost use Rattle.ucd_model.specs.Names.{flag_name};
 ghost use Rattle.ucd_model.specs.Sets.{flag_place};
-ghost use Rattle.code_facts.specs.Marks.{covers, puts, is_mid_word_value, file_of, word_of};
+ghost use Rattle.code_facts.specs.Marks.{is_mid_word_value, word_of};
 
-use ucd_model::{Flag, Row, SourceFile, Span};
+use ucd_model::Flag;
 
 /// A mark of a code point.
 #[derive(Clone, Copy)]
@@ -19,17 +19,6 @@ pub enum Mark {
 }
 
 impl Mark {
-    /// The file whose rows put the mark.
-    pub fn file(self) -> SourceFile
-        ensures { result ≡ file_of self }
-    {
-        match self {
-            Mark::Excluded => SourceFile::CompositionExclusions,
-            Mark::MidWord => SourceFile::WordBreakProperty,
-            Mark::Flagged(_) => SourceFile::PropList,
-        }
-    }
-
     /// The bit of the mark in the word: bit 1, 2, or 24 to 37.
     pub fn word(self) -> u64
         ensures value { result ≡ word_of self }
@@ -39,17 +28,6 @@ impl Mark {
             Mark::Excluded => 2,
             Mark::MidWord => 4,
             Mark::Flagged(flag) => flag_word(flag),
-        }
-    }
-
-    /// The code points on which a row puts the mark; `None` where it puts it on none.
-    pub fn span(self, row: &Row) -> Option<Span>
-        ensures { (c : ℕ) → covers c result ≡ puts self c row.now }
-    {
-        match self {
-            Mark::Excluded => excluded_span(row),
-            Mark::MidWord => mid_word_span(row),
-            Mark::Flagged(flag) => flagged_span(row, flag),
         }
     }
 }
@@ -62,38 +40,8 @@ fn flag_word(flag: Flag) -> u64
     1 << (24 + flag as u32)
 }
 
-/// The code points of a row of CompositionExclusions.txt.
-fn excluded_span(row: &Row) -> Option<Span>
-    ensures { (c : ℕ) → covers c result ≡ puts (Mark.Excluded) c row.now }
-{
-    match row {
-        Row::Exclusion(row) => Some(row.span),
-        _ => None,
-    }
-}
-
-/// The code points of a row with a value in the middle of a word.
-fn mid_word_span(row: &Row) -> Option<Span>
-    ensures { (c : ℕ) → covers c result ≡ puts (Mark.MidWord) c row.now }
-{
-    match row {
-        Row::Value(row) if is_mid_word_value(row.value.as_slice()) => Some(row.span),
-        _ => None,
-    }
-}
-
-/// The code points of a row with the name of a flag.
-fn flagged_span(row: &Row, flag: Flag) -> Option<Span>
-    ensures { (c : ℕ) → covers c result ≡ puts (Mark.Flagged flag) c row.now }
-{
-    match row {
-        Row::Value(row) if row.value.as_slice() == flag_name(flag) => Some(row.span),
-        _ => None,
-    }
-}
-
 /// Whether a value of Word_Break is MidLetter, MidNumLet or Single_Quote.
-fn is_mid_word_value(value: &[u8]) -> bool
+pub fn is_mid_word_value(value: &[u8]) -> bool
     ensures { result ≡ is_mid_word_value value.now }
 {
     value == b"MidLetter".as_slice()
@@ -102,7 +50,7 @@ fn is_mid_word_value(value: &[u8]) -> bool
 }
 
 /// The name of a flag in PropList.txt.
-fn flag_name(flag: Flag) -> &'static [u8]
+pub fn flag_name(flag: Flag) -> &'static [u8]
     ensures { result.now ≡ flag_name flag }
 {
     match flag {

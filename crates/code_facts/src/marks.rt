@@ -1,16 +1,17 @@
 //! What the rows of other files than UnicodeData.txt add to the word of each code point.
 
-ghost use Rattle.std.specs.Prelude.{◌≡◌, ℕ, ◌<◌, ◌^◌, ◌||◌, IfOk, OnOk};
+ghost use Rattle.std.specs.Prelude.{◌≡◌, ℕ, ◌+◌, ◌<◌, ◌^◌, IfOk};
 ghost use Rattle.std.specs.List.{list_any};
 ghost use Rattle.range_table.specs.Values.{SameValues};
 ghost use Rattle.range_table.specs.RunTable.{values_now};
-ghost use Rattle.ucd_model.specs.Facts.{within};
+ghost use Rattle.ucd_model.specs.Facts.{Sources, within};
 ghost use Rattle.code_facts.specs.Rows.{release_sources};
-ghost use Rattle.code_facts.specs.Marks.{covers, mark_bit, marks_before};
+ghost use Rattle.code_facts.specs.Marks.{mark_bit, marks_before};
+ghost use Rattle.code_facts.specs.MarkRows.{IsMarked, KeepsMarkRows, is_flagged};
 
 use crate::mark::Mark;
+use crate::mark_rows::{Flagged, MarkRows};
 use crate::painting::{painted, summed};
-use crate::rows::rows_of;
 use range_table::{RunTable, Table};
 use release_rows::Release;
 use std::alloc::Global;
@@ -42,33 +43,52 @@ const MARKS: [Mark; 16] = [
 pub fn marks(alloc: Global, release: &Release) -> Result<RunTable<u64>, Memory>
     ensures { IfOk result (λ table. SameValues (values_now table) (marks_before 16 (release_sources release.now))) }
 {
+    let rows = MarkRows::of(alloc, release)?;
     let mut table = RunTable::filled(alloc, 0)?;
     'marks: for mark in MARKS {
-        let one = marked(alloc, release, mark)?;
-        table = summed(alloc, &table, &one)?;
+        table = with_mark(alloc, table, &rows, mark)?;
     }
     Ok(table)
 }
 
-/// One mark of each code point.
-fn marked(alloc: Global, release: &Release, mark: Mark) -> Result<RunTable<u64>, Memory>
-    ensures bit { IfOk result (λ table. SameValues (values_now table) (mark_bit (release_sources release.now) mark)) }
-    ensures small { IfOk result (λ table. (c : ℕ) → c < 1114112 → values_now table c < 2 ^ 38) }
+/// The sum with one more mark. It takes no time where no row puts the mark.
+fn with_mark(
+    alloc: Global,
+    table: RunTable<u64>,
+    rows: &MarkRows,
+    mark: Mark,
+) -> Result<RunTable<u64>, Memory>
+    requires { (c : ℕ) → c < 1114112 → values_now table c < 2 ^ 63 }
+    ensures { (sources : Sources) → KeepsMarkRows rows.now sources → IfOk result (λ sum. SameValues (values_now sum) (λ c. values_now table c + mark_bit sources mark c)) }
 {
-    let rows = rows_of(alloc, release, mark.file())?;
-    let mut spans = Vec::new(alloc);
-    'rows: for row in rows.as_slice() {
-        push_some(&mut spans, mark.span(row))?;
+    let spans = spans_of(alloc, rows, mark)?;
+    if spans.is_empty() {
+        return Ok(table);
     }
-    painted(alloc, spans, mark.word())
+    let one = painted(alloc, spans, mark.word())?;
+    summed(alloc, &table, &one)
 }
 
-/// Puts the span, where there is one, at the end.
-fn push_some(spans: &mut Vec<Span>, span: Option<Span>) -> Result<(), Memory>
-    ensures { OnOk result ((c : ℕ) → list_any (within c) spans.new.items ≡ (list_any (within c) spans.old.items || covers c span)) }
+/// The spans on which rows put a mark.
+fn spans_of(alloc: Global, rows: &MarkRows, mark: Mark) -> Result<Vec<Span>, Memory>
+    ensures { (sources : Sources) → KeepsMarkRows rows.now sources → IfOk result (λ spans. IsMarked mark spans.items sources) }
 {
-    if let Some(span) = span {
-        spans.push(span)?;
+    match mark {
+        Mark::Excluded => Ok(Vec::from_slice(alloc, &rows.excluded)?),
+        Mark::MidWord => Ok(Vec::from_slice(alloc, &rows.mid_word)?),
+        Mark::Flagged(flag) => flag_spans(alloc, &rows.flagged, flag),
     }
-    Ok(())
+}
+
+/// The spans of a flag.
+fn flag_spans(alloc: Global, flagged: &[Flagged], flag: Flag) -> Result<Vec<Span>, Memory>
+    ensures { IfOk result (λ spans. (c : ℕ) → list_any (within c) spans.items ≡ list_any (is_flagged flag c) flagged.now) }
+{
+    let mut spans = Vec::new(alloc);
+    'flagged: for row in flagged {
+        if row.flag as u32 == flag as u32 {
+            spans.push(row.span)?;
+        }
+    }
+    Ok(spans)
 }

@@ -1,17 +1,40 @@
 -- Items with one more behind them.
-use Rattle.std.proofs.Common.{◌≡◌, ℕ, ◌+◌, ◌≤◌, Bool, true, false, ◌||◌, List, [], ◌∷◌, ◌++◌, map, Option, Some, None, refl, sym, ap, ◌∙◌, arith}
+use Rattle.std.proofs.Common.{◌≡◌, ℕ, ◌+◌, Bool, true, false, ◌||◌, List, [], ◌∷◌, ◌++◌, map, Option, Some, None, refl, sym, ap, ◌∙◌, arith}
 use Rattle.std.specs.List.{list_any}
 use Rattle.std.proofs.lemmas.List.{append-nil}
 use Rattle.std.proofs.lemmas.List.Sums.{sum_by-append}
 use Rattle.std.proofs.lemmas.List.Folds.{list_any-append}
 use Rattle.ucd_model.specs.declared.files.SourceFile.{SourceFile}
 use Rattle.ucd_model.specs.declared.row.Row.{Row}
-use Rattle.ucd_model.specs.Lines.{LineItem}
 use Rattle.release_rows.specs.Extents.{Extent}
 use Rattle.release_rows.specs.Keys.{row_span, extent_in, last_start}
-use Rattle.release_rows.specs.Pieces.{Lines, piece_lines}
 use Rattle.release_rows.specs.FileItems.{FileItem, onto_rows, rows_in, lines_of}
-use Rattle.release_rows.specs.Progress.{row_extents, start_with, IsProgress}
+use Rattle.release_rows.specs.Entries.{EntersSome}
+use Rattle.release_rows.specs.Progress.{entry_extents, start_of_entry, IsProgress}
+use Rattle.release_rows.specs.declared.entry.Entry.{Entry}
+use Rattle.release_rows.proofs.RowRules.{extent_is}
+
+-- the extent of a row, where there is one
+abbrev row_extents : SourceFile → Option Row → List Extent
+row_extents file None = []
+row_extents file (Some row) = extent_in file row ∷ []
+
+-- the first code point of the last row, with one more row or none
+abbrev start_with : Option ℕ → Option Row → Option ℕ
+start_with before None = before
+start_with before (Some row) = Some (row_span row).lo
+
+extents_are : (file : SourceFile) (entry : Option Entry) (row : Option Row) → EntersSome file entry row → entry_extents entry ≡ row_extents file row
+extents_are file None None h = refl
+extents_are file (Some e) (Some row) h = ap (λ (x : Extent). x ∷ []) (extent_is file row e.place e.last h.names h.code h.last)
+extents_are file None (Some row) h = absurd h
+extents_are file (Some e) None h = absurd h
+
+start_is : (file : SourceFile) (before : Option ℕ) (entry : Option Entry) (row : Option Row) → EntersSome file entry row → start_of_entry before entry ≡ start_with before row
+start_is file before None None h = refl
+start_is file before (Some e) (Some row) h = ap (λ (n : ℕ). Some n) h.code
+start_is file before None (Some row) h = absurd h
+start_is file before (Some e) None h = absurd h
 
 onto_more : (row : Option Row) (rows more : List Row) → onto_rows row (rows ++ more) ≡ onto_rows row rows ++ more
 onto_more None rows more = refl
@@ -44,18 +67,11 @@ map_more file [] None = refl
 map_more file [] (Some row) = refl
 map_more file (r ∷ rows) row = ap (λ (es : List Extent). extent_in file r ∷ es) (map_more file rows row)
 
-pub grows : (file : SourceFile) (items : List FileItem) (item : FileItem) (kept kept' : List Extent) (start : Option ℕ) (count : ℕ) → IsProgress file items kept start count → ((p : Extent → Bool) → list_any p kept' ≡ (list_any p (row_extents file item.row) || list_any p kept)) → IsProgress file (items ++ item ∷ []) kept' (start_with start item.row) (count + item.lines)
-grows file items item kept kept' start count h more = record {
+pub grows : (file : SourceFile) (items : List FileItem) (item : FileItem) (kept kept' : List Extent) (start : Option ℕ) (count : ℕ) (entry : Option Entry) → IsProgress file items kept start count → EntersSome file entry item.row → ((p : Extent → Bool) → list_any p kept' ≡ (list_any p (entry_extents entry) || list_any p kept)) → IsProgress file (items ++ item ∷ []) kept' (start_of_entry start entry) (count + item.lines)
+grows file items item kept kept' start count entry h enters more = record {
   keys = λ p.
       let parts : list_any p (map (extent_in file) (rows_in items ++ onto_rows item.row [])) ≡ (list_any p (map (extent_in file) (rows_in items)) || list_any p (row_extents file item.row)) = rw (map_more file (rows_in items) item.row) (list_any-append p (map (extent_in file) (rows_in items)) (row_extents file item.row)) in
-      more p ∙ ap (λ (b : Bool). list_any p (row_extents file item.row) || b) (h.keys p) ∙ swap_any (list_any p (row_extents file item.row)) (list_any p (map (extent_in file) (rows_in items))) ∙ sym parts ∙ ap (λ (rows : List Row). list_any p (map (extent_in file) rows)) (sym (rows_with items item));
-  before = ap (λ (o : Option ℕ). start_with o item.row) h.before ∙ start_grows (rows_in items) item.row ∙ ap last_start (sym (rows_with items item));
+      more p ∙ ap (λ (es : List Extent). list_any p es || list_any p kept) (extents_are file entry item.row enters) ∙ ap (λ (b : Bool). list_any p (row_extents file item.row) || b) (h.keys p) ∙ swap_any (list_any p (row_extents file item.row)) (list_any p (map (extent_in file) (rows_in items))) ∙ sym parts ∙ ap (λ (rows : List Row). list_any p (map (extent_in file) rows)) (sym (rows_with items item));
+  before = start_is file start entry item.row enters ∙ ap (λ (o : Option ℕ). start_with o item.row) h.before ∙ start_grows (rows_in items) item.row ∙ ap last_start (sym (rows_with items item));
   lines = ap (λ (n : ℕ). n + item.lines) h.lines ∙ sym (lines_with items item);
 }
-
-pub some_lines : (p : Lines) → 1 ≤ piece_lines p
-some_lines p = some_by p.last
-  where
-    some_by : (o : Option LineItem) → 1 ≤ piece_lines (record { first = p.first; last = o })
-    some_by None = omega arith
-    some_by (Some last) = omega arith

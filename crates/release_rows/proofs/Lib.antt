@@ -1,8 +1,10 @@
 pub mod Texts
+pub mod KeyTexts
 pub mod PlaceOrder
 pub mod Found
 pub mod Apart
 pub mod RowRules
 pub mod Growing
+pub mod Standing
 pub mod Kept
 pub mod Faults

@@ -4,26 +4,28 @@ use Rattle.std.specs.declared.cmp.Ordering.{Ordering}
 use Rattle.std.specs.declared.cmp.Ordering.TheVariants.{Less, Equal, Greater}
 use Rattle.std.specs.Ordering.{nat_cmp, is_eq, is_lt, is_gt}
 use Rattle.std.specs.Cmp.{IsTotalOrder}
+use Rattle.std.specs.Cmp.Lexicographic.{slice_cmp}
 use Rattle.std.proofs.lemmas.Bool.{and_parts, eqb-true}
 use Rattle.std.proofs.lemmas.Bool.Decides.{nat_tests}
-use Rattle.std.proofs.lemmas.Cmp.{then_total, on_total, lists_total, nat_list_cmp_total, nat_cmp_total, tied_itself, alike_right}
+use Rattle.std.proofs.lemmas.Cmp.{then_total, on_total, nat_list_cmp_total, nat_cmp_total, tied_itself, alike_right}
+use Rattle.std.proofs.lemmas.Map.Text.{is_eq-slice_cmp}
 use Rattle.release_rows.specs.Extents.{same_texts, same_start}
 use Rattle.release_rows.specs.Places.{names_in, place_cmp, extent_at}
 use Rattle.release_rows.specs.declared.place.Place.{Place}
-use Rattle.release_rows.proofs.Texts.{texts_cmp, is_eq-then, equal_is, texts_tell, texts_same}
+use Rattle.release_rows.proofs.Texts.{is_eq-then, equal_is, texts_same, texts_tell_names}
 
 pub place_total : IsTotalOrder place_cmp
-place_total = then_total (on_total (λ (p : Place). p.names.items) (lists_total (on_total (λ v. v.items) nat_list_cmp_total))) (on_total (λ (p : Place). p.code) nat_cmp_total)
+place_total = then_total (on_total (λ (p : Place). p.names.items) nat_list_cmp_total) (on_total (λ (p : Place). p.code) nat_cmp_total)
 
 -- by the names alone
 abbrev pub by_names : Place → Place → Ordering
-by_names a b = texts_cmp (λ v. v.items) a.names.items b.names.items
+by_names a b = slice_cmp nat_cmp a.names.items b.names.items
 
 names_total : IsTotalOrder by_names
-names_total = on_total (λ (p : Place). p.names.items) (lists_total (on_total (λ v. v.items) nat_list_cmp_total))
+names_total = on_total (λ (p : Place). p.names.items) nat_list_cmp_total
 
 pub names_tell : (a b : Place) → is_eq (by_names a b) ≡ same_texts (names_in a) (names_in b)
-names_tell a b = texts_tell (λ v. v.items) a.names.items b.names.items
+names_tell a b = is_eq-slice_cmp a.names.items b.names.items ∙ texts_tell_names a.names.items b.names.items
 
 nat_tells : (x y : ℕ) → is_eq (nat_cmp x y) ≡ (x == y)
 nat_tells x y = grind (arith, nat_tests)
@@ -32,7 +34,7 @@ nat_tells x y = grind (arith, nat_tests)
 pub starts_tell : (a b : Place) (x y : ℕ) → is_eq (place_cmp a b) ≡ same_start (extent_at a x) (extent_at b y)
 starts_tell a b x y = is_eq-then (by_names a b) (nat_cmp a.code b.code) ∙ rw (names_tell a b, nat_tells a.code b.code) refl
 
--- texts are the same as themselves
+-- the names of a place are the same as themselves
 pub itself : (a : Place) → same_texts (names_in a) (names_in a) ≡ true
 itself a = sym (names_tell a a) ∙ ap is_eq (tied_itself names_total a)
 

@@ -1,16 +1,17 @@
 -- The rules that a row breaks, told by extents.
-use Rattle.std.proofs.Common.{Bor, subst, ◌≡◌, ℕ, Bool, true, false, cond, ◌&&◌, leb, eqb, List, [], ◌∷◌, map, Option, Some, None, refl, sym, ap, ◌∙◌, arith}
+use Rattle.std.proofs.Common.{◌≡◌, ℕ, Bool, true, false, cond, ◌&&◌, leb, eqb, List, [], ◌∷◌, map, Option, Some, None, refl, ap, ◌∙◌, arith}
 use Rattle.std.specs.List.{list_any}
-use Rattle.std.specs.Option.{option_map, MatchOption}
 use Rattle.std.proofs.lemmas.Bool.Decides.{nat_tests}
 use Rattle.ucd_model.specs.declared.files.SourceFile.{SourceFile}
 use Rattle.ucd_model.specs.declared.row.Row.{Row}
 use Rattle.release_rows.specs.Extents.{Extent, same_start, meets, conflict_with}
 use Rattle.release_rows.specs.Places.{names_in, extent_at}
-use Rattle.release_rows.specs.Keys.{row_span, row_end, key_names, has_spans, same_key, overlaps, key_rule, extent_in, falls_back}
+use Rattle.release_rows.specs.Keys.{row_span, row_end, key_names, has_spans, same_key, overlaps, key_rule, extent_in, is_back, last_start, falls_back}
 use Rattle.release_rows.specs.FileItems.{FileItem, rows_in}
 use Rattle.release_rows.specs.Loading.{row_rule, load_rule}
-use Rattle.release_rows.specs.Progress.{BreaksNoRule}
+use Rattle.release_rows.specs.Entries.{EntersSome}
+use Rattle.release_rows.specs.Progress.{BreaksNoRule, IsFreeEntry}
+use Rattle.release_rows.specs.declared.entry.Entry.{Entry}
 use Rattle.release_rows.specs.declared.place.Place.{Place}
 use Rattle.release_rows.specs.declared.key_rule.KeyRule.{KeyRule}
 use Rattle.release_rows.specs.declared.key_rule.KeyRule.TheVariants.{K1, K4}
@@ -67,6 +68,9 @@ rule_from file row above rule h = rw (← h) refl
 pub back_from : (file : SourceFile) (row : Row) (above : List Row) (back : Bool) → None ≡ key_rule file above row → back ≡ falls_back file above row → cond back (Some K5) None ≡ row_rule file above row
 back_from file row above back h k = rw (← h, ← k) refl
 
+pub back_is : (file : SourceFile) (row : Row) (above : List Row) (before : Option ℕ) (code : ℕ) (back : Bool) → back ≡ is_back file before code → before ≡ last_start above → code ≡ (row_span row).lo → back ≡ falls_back file above row
+back_is file row above before code back h start same = h ∙ rw (start, same) refl
+
 pub no_key_rule : (o : Option KeyRule) (back : Bool) (file : SourceFile) (row : Row) (above : List Row) → key_rule file above row ≡ o → row_rule file above row ≡ None → o ≡ None
 no_key_rule None back file row above h k = refl
 no_key_rule (Some rule) back file row above h k = absurd (let e : Some (load_rule rule) ≡ None = rw h at k in cc)
@@ -81,8 +85,9 @@ rule_told file row above kept place last same names code end =
     ap (conflict_with kept) (extent_is file row place last names code end) ∙ same_conflicts kept (map (extent_in file) above) (extent_in file row) same ∙ by_extents file row above
 
 -- a row that breaks no rule, where there is one, has no extent against it
-pub may_stand : (file : SourceFile) (items : List FileItem) (row : Option Row) (kept : List Extent) (o : Option (Bor Row)) → ((p : Extent → Bool) → list_any p kept ≡ list_any p (map (extent_in file) (rows_in items))) → option_map (λ r. r.now) o ≡ row → BreaksNoRule file items row → MatchOption o (Unit {0}) (λ r. conflict_with kept (extent_in file r.now) ≡ None)
-may_stand file items row kept None same h rule = tt
-may_stand file items row kept (Some r) same h rule =
-    let none : row_rule file (rows_in items) r.now ≡ None = subst (BreaksNoRule file items) (sym h) rule in
-    same_conflicts kept (map (extent_in file) (rows_in items)) (extent_in file r.now) same ∙ free file r.now (rows_in items) none
+pub may_stand : (file : SourceFile) (items : List FileItem) (row : Option Row) (kept : List Extent) (entry : Option Entry) → ((p : Extent → Bool) → list_any p kept ≡ list_any p (map (extent_in file) (rows_in items))) → EntersSome file entry row → BreaksNoRule file items row → IsFreeEntry kept entry
+may_stand file items None kept None same enters rule = tt
+may_stand file items (Some row) kept (Some e) same enters rule =
+    (enters.ordered, ap (conflict_with kept) (extent_is file row e.place e.last enters.names enters.code enters.last) ∙ same_conflicts kept (map (extent_in file) (rows_in items)) (extent_in file row) same ∙ free file row (rows_in items) rule)
+may_stand file items (Some row) kept None same enters rule = absurd enters
+may_stand file items None kept (Some e) same enters rule = absurd enters

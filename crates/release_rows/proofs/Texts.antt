@@ -1,14 +1,15 @@
--- Lists of texts: their order, and when they are the same.
-use Rattle.std.proofs.Common.{◌≡◌, ℕ, true, ◌&&◌, List, [], ◌∷◌, map, refl, ◌∙◌}
+-- Texts and the names that stand in them: when they are the same.
+use Rattle.std.proofs.Common.{◌≡◌, ℕ, Bool, true, false, ◌&&◌, List, [], ◌∷◌, refl, sym, ap, ◌∙◌}
 use Rattle.std.specs.declared.cmp.Ordering.{Ordering}
 use Rattle.std.specs.declared.cmp.Ordering.TheVariants.{Less, Equal, Greater}
-use Rattle.std.specs.Ordering.{ordering_then, nat_cmp, is_eq}
-use Rattle.std.specs.Cmp.Lexicographic.{slice_cmp, pointwise}
+use Rattle.std.specs.Ordering.{ordering_then, is_eq}
+use Rattle.std.specs.List.{join_with_byte}
 use Rattle.std.specs.Str.{bytes_eq}
-use Rattle.std.proofs.lemmas.Bool.{and_parts}
+use Rattle.std.proofs.lemmas.Bool.{and_parts, and_from}
+use Rattle.std.proofs.lemmas.List.Splits.{join_with_byte-slice_split}
 use Rattle.std.proofs.lemmas.Slice.Eq.{bytes_eq-Decides}
-use Rattle.std.proofs.lemmas.Map.Text.{is_eq-slice_cmp}
 use Rattle.release_rows.specs.Extents.{same_texts}
+use Rattle.release_rows.specs.Places.{names_of}
 
 -- what is equal in two steps is equal in both
 pub is_eq-then : (a b : Ordering) → is_eq (ordering_then a b) ≡ (is_eq a && is_eq b)
@@ -21,16 +22,6 @@ equal_is Less h = absurd cc
 equal_is Equal h = refl
 equal_is Greater h = absurd cc
 
-module _ {V : Type 0} (items : V → List ℕ) where
-  abbrev pub texts_cmp : List V → List V → Ordering
-  texts_cmp a b = slice_cmp (λ x y. slice_cmp nat_cmp (items x) (items y)) a b
-
-  pub texts_tell : (a b : List V) → is_eq (texts_cmp a b) ≡ same_texts (map items a) (map items b)
-  texts_tell [] [] = refl
-  texts_tell [] (y ∷ b) = refl
-  texts_tell (x ∷ a) [] = refl
-  texts_tell (x ∷ a) (y ∷ b) = is_eq-then (slice_cmp nat_cmp (items x) (items y)) (texts_cmp a b) ∙ rw (is_eq-slice_cmp (items x) (items y), texts_tell a b) refl
-
 pub same_text : (a b : List ℕ) → bytes_eq a b ≡ true → a ≡ b
 same_text a b h = (bytes_eq-Decides a b).0 h
 
@@ -42,10 +33,26 @@ texts_same (x ∷ a) (y ∷ b) h =
     let parts = and_parts (bytes_eq x y) (same_texts a b) h in
     rw (same_text x y parts.0, texts_same a b parts.1) refl
 
-module _ {V : Type 0} (items : V → List ℕ) where
-  -- texts are compared by their bytes
-  pub texts_by_bytes : (a b : List V) → pointwise (λ x y. bytes_eq (items x) (items y)) a b ≡ same_texts (map items a) (map items b)
-  texts_by_bytes [] [] = refl
-  texts_by_bytes [] (y ∷ b) = refl
-  texts_by_bytes (x ∷ a) [] = refl
-  texts_by_bytes (x ∷ a) (y ∷ b) = rw (texts_by_bytes a b) refl
+-- texts are the same as themselves
+pub texts_itself : (a : List (List ℕ)) → same_texts a a ≡ true
+texts_itself [] = refl
+texts_itself (x ∷ a) = and_from (bytes_eq x x) (same_texts a a) ((bytes_eq-Decides x x).1 refl) (texts_itself a)
+
+-- the names of a text, put together again, are the text
+joined_again : (a : List ℕ) → join_with_byte 59 (names_of a) ≡ a
+joined_again [] = refl
+joined_again (b ∷ bs) = join_with_byte-slice_split 59 (b ∷ bs)
+
+pub names_tell_text : (a b : List ℕ) → names_of a ≡ names_of b → a ≡ b
+names_tell_text a b h = sym (joined_again a) ∙ ap (λ (ns : List (List ℕ)). join_with_byte 59 ns) h ∙ joined_again b
+
+both_or_none : (p q : Bool) → (p ≡ true → q ≡ true) → (q ≡ true → p ≡ true) → p ≡ q
+both_or_none true q h k = sym (h refl)
+both_or_none false true h k = k refl
+both_or_none false false h k = refl
+
+-- texts are the same where their names are
+pub texts_tell_names : (a b : List ℕ) → bytes_eq a b ≡ same_texts (names_of a) (names_of b)
+texts_tell_names a b = both_or_none (bytes_eq a b) (same_texts (names_of a) (names_of b))
+    (λ h. ap (λ (x : List ℕ). same_texts (names_of a) (names_of x)) (sym (same_text a b h)) ∙ texts_itself (names_of a))
+    (λ h. (bytes_eq-Decides a b).1 (names_tell_text a b (texts_same (names_of a) (names_of b) h)))

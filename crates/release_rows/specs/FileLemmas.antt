@@ -3,9 +3,9 @@
 -- each_with_items             what holds of each file's items, and of the new ones of a file, holds of each file's once they are
 --                             there
 -- items_at-with_items_same    the file in which the items were put has them
--- items_at-with_items_other   every other file has the items that it had
 -- rows_of_numbered            without their lines, numbered rows are the rows
-use Rattle.std.proofs.Common.{◌≡◌, ◌≢◌, ℕ, ◌+◌, List, [], ◌∷◌, map, Option, Some, None, refl, ap}
+-- numbered_one                the same of one item before others of which it holds
+use Rattle.std.proofs.Common.{◌≡◌, ℕ, ◌+◌, List, [], ◌∷◌, map, Option, Some, None, refl, ap}
 use Rattle.ucd_model.specs.declared.files.SourceFile.{SourceFile}
 use Rattle.ucd_model.specs.declared.files.SourceFile.TheVariants.{UnicodeData, PropList, Scripts, WordBreakProperty, CompositionExclusions, CaseFolding, SpecialCasing, PropertyAliases, PropertyValueAliases}
 use Rattle.ucd_model.specs.declared.row.Row.{Row}
@@ -106,10 +106,6 @@ items_at-with_items_same files CaseFolding items = refl
 items_at-with_items_same files SpecialCasing items = refl
 items_at-with_items_same files PropertyAliases items = refl
 items_at-with_items_same files PropertyValueAliases items = refl
-
-pub items_at-with_items_other : (files : NineFiles) (file other : SourceFile) (items : List FileItem) → other ≢ file → items_at (with_items files file items) other ≡ items_at files other
-items_at-with_items_other files file other items differs =
-    each_with_items (λ f xs. f ≢ file → xs ≡ items_at files f) files file items (λ f _. refl) (λ same. absurd (same refl)) other differs
 
 -- ---- rows with their lines
 

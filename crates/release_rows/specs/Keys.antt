@@ -2,6 +2,7 @@
 --
 -- row_span row                the code points that the row speaks of; the one of a folding or a casing. A row of names has 0
 -- RowKey                      names, and a code point
+-- one_point c                 the code points from c to c
 -- condition_names bs          the conditions as one name; no name where there are none
 -- value_names file value      the value as one name in PropList.txt; no name in every other file
 -- alias_count file            how many names of an alias row its key has: two in PropertyAliases.txt, three in
@@ -16,6 +17,7 @@
 -- key_rule file above row     the rule that the row breaks against the rows above it, K1 before K4
 -- last_start rows             the first code point of the last row; None where there is no row
 -- is_below c before           c is less than the one before; never where there is none
+-- is_back file before c       in UnicodeData.txt c is less than the one before
 -- falls_back file above row   in UnicodeData.txt the row begins below the row before it: K5
 -- row_end file row            the last code point that may not be shared: the last of the row's span, or the first in a file
 --                             without spans
@@ -99,9 +101,12 @@ abbrev pub is_below : ℕ → Option ℕ → Bool
 is_below c (Some before) = nat_lt c before
 is_below c None = false
 
+abbrev pub is_back : SourceFile → Option ℕ → ℕ → Bool
+is_back UnicodeData before c = is_below c before
+is_back _ before c = false
+
 abbrev pub falls_back : SourceFile → List Row → Row → Bool
-falls_back UnicodeData above row = is_below (row_span row).lo (last_start above)
-falls_back _ above row = false
+falls_back file above row = is_back file (last_start above) (row_span row).lo
 
 -- ---- as extents
 

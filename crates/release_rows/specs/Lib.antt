@@ -1,11 +1,14 @@
 pub mod Extents
 pub mod Places
+pub mod Names
 pub mod Keys
+pub mod Entries
 pub mod Pieces
 pub mod FileItems
-pub mod StoredItems
 pub mod Loading
+pub mod StoredItems
 pub mod Progress
+pub mod Walking
 pub mod Releases
 pub mod Laws
 pub mod FileLemmas

@@ -1,7 +1,9 @@
 -- The items of a file, or the first line that breaks a rule.
 --
 -- LoadFault                          the number of a line, and the rule that is broken there
+-- some_row result                    the same result, with the row as one that is there
 -- content_row file content           nothing of trivia; else the row that the content stands for, or its first fault
+-- row_read result                    the row that was read; none of trivia, and none where there is a fault
 -- file_item file piece               the item of a piece: its content, ending and number of lines, and its row; no row for
 --                                    trivia, and none where the content has a fault
 -- is_g04 fault                       the fault is G04
@@ -11,8 +13,12 @@
 -- fault_line file line piece fault   the line of the fault of a piece that begins at this line: the next one where the fault is
 --                                    that of the second line of a range, else this one
 -- load_rule rule                     K1 and K4 as rules of loading
+-- rule_by rule back                  the rule of keys and spans; K5 where there is none and the row falls back
 -- row_rule file above row            the rule that a row breaks against the rows above it: K1, then K4, then K5
+-- at_line line rule                  the fault of this rule on the line; None where there is no rule
+-- fault_by file above piece result   the fault of a piece whose content is read so
 -- piece_fault file above piece       the fault of a piece below the items above it: the row's own comes first
+-- or_later fault later               the fault where there is one, else the later one
 -- first_fault file above pieces      of the first piece that has one, below the items above it; None where no piece has
 -- unless_fault fault items           the fault where there is one, else the items
 -- items_or_fault file above pieces   the items above and those of the pieces below them, or the first fault of the pieces
@@ -47,7 +53,7 @@ some_row (Err fault) = Err fault
 abbrev pub content_row : SourceFile → List ℕ → Result (Option Row) RowFault
 content_row file content = if is_trivia content then Ok None else some_row (row_or_fault file content)
 
-abbrev row_read : Result (Option Row) RowFault → Option Row
+abbrev pub row_read : Result (Option Row) RowFault → Option Row
 row_read (Ok row) = row
 row_read (Err fault) = None
 

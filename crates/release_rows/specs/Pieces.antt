@@ -9,8 +9,11 @@
 -- piece_content p            what stands before the piece's ending: of two lines both, with what ends the first between
 -- piece_ending p             what ends its last line
 -- piece_lines p              how many lines it has
+-- content_by, ending_by      piece_content and piece_ending, by the first line and the second, where there is one
+-- lines_by                   piece_lines, by the second line, where there is one
+-- piece_bytes p              its content and the bytes of its ending
 use Rattle.std.specs.Prelude.{ℕ, Bool, false, ◌&&◌, not, List, [], ◌∷◌, ◌++◌, Option, Some, None, if◌then◌else◌}
-use Rattle.ucd_model.specs.Lines.{LineItem, LineEnding, item_bytes, is_trivia}
+use Rattle.ucd_model.specs.Lines.{LineItem, LineEnding, item_bytes, ending_bytes, is_trivia}
 use Rattle.ucd_model.specs.declared.files.SourceFile.{SourceFile}
 use Rattle.ucd_model.specs.declared.files.SourceFile.TheVariants.{UnicodeData}
 use Rattle.source_rows.specs.Lines.{is_first_line}
@@ -54,3 +57,6 @@ lines_by (Some last) = 2
 
 abbrev pub piece_lines : Lines → ℕ
 piece_lines p = lines_by p.last
+
+abbrev pub piece_bytes : Lines → List ℕ
+piece_bytes p = piece_content p ++ ending_bytes (piece_ending p)

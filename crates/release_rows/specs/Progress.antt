@@ -1,40 +1,66 @@
 -- How far a file is loaded.
 --
--- Progress                      the file, and its items so far
+-- Progress                      the file, its text, and its items so far
 -- IsProgress file items kept start count   what is kept beside the items, by their rows: extents of which some pass a test
 --                               exactly where some of the rows' do, the first code point of the last row, and the number of lines
+-- IsLoading file text stretches kept start count end   the items stand at the stretches of the text, what is kept beside them is
+--                               IsProgress, and they end at this place; the text has fewer than 2^32 bytes
+-- Stands text items p           in the text the piece stands behind the items
+-- item_by file line p result    the item of a piece whose content is read so, or the fault on its line
 -- item_or_fault file line p     the item of a piece whose first line has this number, by itself, or its fault
--- ReadsPiece result expected    the result is the item, or the fault, that was expected; want of memory says nothing
+-- ReadsPiece file line p result   the result is what is kept of the piece's row, or its fault; want of memory says nothing
 -- StopsAs stop fault            the stop is that fault; want of memory says nothing
 -- TakesPiece result above p     the piece has no fault below the items so far, and its item is behind them; or the result is its
 --                               fault; want of memory says nothing
 -- LoadsItems result expected    the result is the items, or the fault, that were expected; want of memory says nothing
--- row_extents file row          the extent of a row; none where there is no row
--- start_with before row         the first code point of the last row, with one more row or none
+-- entry_extents entry           the extent of a row, by what is kept of it; none where there is no row
+-- start_of_entry before entry   the first code point of the last row, with one more row or none
 -- BreaksNoRule file above row   the row breaks none of K1, K4 and K5 against the rows of the items above; so it is where there is
 --                               no row
-use Rattle.std.specs.Prelude.{◌≡◌, ℕ, Bool, List, [], ◌∷◌, ◌++◌, map, Option, Some, None, Result, Ok, Err}
-use Rattle.std.specs.List.{list_any}
+-- IsOrdered entry               the extent of a row does not end before it begins; so it is where there is no row
+-- IsFreeEntry kept entry        the extent of a row does not end before it begins, and breaks no rule against those that are kept; so
+--                               it is where there is no row
+-- IsFreeOf result entry rule    the entry is handed back where there is no rule, else the result is the rule
+-- FreesSome file above row result entry   the same of the rule that a row breaks below the items above it; where there is no row,
+--                               there is no rule
+use Rattle.std.specs.Prelude.{◌≡◌, ℕ, ◌<◌, ◌≤◌, ◌^◌, Bool, List, [], ◌∷◌, ◌++◌, length, map, Option, Some, None, Result, Ok, Err}
+use Rattle.std.specs.List.{list_any, All}
 use Rattle.ucd_model.specs.declared.files.SourceFile.{SourceFile}
 use Rattle.ucd_model.specs.declared.row.Row.{Row}
 use Rattle.source_rows.specs.declared.fault.RowFault.{RowFault}
-use Rattle.release_rows.specs.Extents.{Extent}
-use Rattle.release_rows.specs.Keys.{extent_in, last_start, row_span}
-use Rattle.release_rows.specs.Pieces.{Lines, piece_content, piece_ending, piece_lines}
-use Rattle.release_rows.specs.FileItems.{FileItem, rows_in, lines_of}
+use Rattle.release_rows.specs.Extents.{Extent, conflict_with}
+use Rattle.release_rows.specs.Entries.{EntersSome}
+use Rattle.release_rows.specs.Keys.{extent_in, last_start}
+use Rattle.release_rows.specs.Pieces.{Lines, piece_bytes, piece_content, piece_ending, piece_lines}
+use Rattle.release_rows.specs.Places.{extent_at}
+use Rattle.release_rows.specs.FileItems.{FileItem, bytes_of, rows_in, lines_of}
 use Rattle.release_rows.specs.Loading.{LoadFault, content_row, file_item, fault_line, piece_fault, row_rule}
+use Rattle.release_rows.specs.StoredItems.{item_at, IsItem}
+use Rattle.release_rows.specs.declared.entry.Entry.{Entry}
+use Rattle.release_rows.specs.declared.load_stop.LoadRule.{LoadRule}
 use Rattle.release_rows.specs.declared.load_stop.LoadRule.TheVariants.{Row as RowRule}
 use Rattle.release_rows.specs.declared.load_stop.LoadStop.{LoadStop}
 use Rattle.release_rows.specs.declared.load_stop.LoadStop.TheVariants.{Fault, Memory}
+use Rattle.release_rows.specs.declared.stretch.Stretch.{Stretch}
 
 pub record Progress : Type 0 where
   pub file : SourceFile
+  pub text : List ℕ
   pub items : List FileItem
 
 pub record IsProgress (file : SourceFile) (items : List FileItem) (kept : List Extent) (start : Option ℕ) (count : ℕ) : Type 0 where
   pub keys : (p : Extent → Bool) → list_any p kept ≡ list_any p (map (extent_in file) (rows_in items))
   pub before : start ≡ last_start (rows_in items)
   pub lines : count ≡ lines_of items
+
+pub record IsLoading (file : SourceFile) (text : List ℕ) (stretches : List Stretch) (kept : List Extent) (start : Option ℕ) (count end : ℕ) : Type 0 where
+  pub each : All (IsItem file text) stretches
+  pub rows : IsProgress file (map (item_at file text) stretches) kept start count
+  pub ends : end ≡ length (bytes_of (map (item_at file text) stretches))
+  pub small : length text < 2 ^ 32
+
+abbrev pub Stands : List ℕ → List FileItem → Lines → Type 0
+Stands text items p = (rest : List ℕ) × (text ≡ bytes_of items ++ (piece_bytes p ++ rest))
 
 abbrev item_by : SourceFile → ℕ → Lines → Result (Option Row) RowFault → Result FileItem LoadFault
 item_by file line p (Ok row) = Ok (record { content = piece_content p; ending = piece_ending p; lines = piece_lines p; row = row })
@@ -43,17 +69,17 @@ item_by file line p (Err fault) = Err (record { line = fault_line file line p fa
 abbrev pub item_or_fault : SourceFile → ℕ → Lines → Result FileItem LoadFault
 item_or_fault file line p = item_by file line p (content_row file (piece_content p))
 
-abbrev pub ReadsPiece : Result FileItem LoadStop → Result FileItem LoadFault → Type 0
-ReadsPiece (Ok item) expected = expected ≡ Ok item
-ReadsPiece (Err (Fault line rule)) expected = expected ≡ Err (record { line = line; rule = rule })
-ReadsPiece (Err Memory) expected = Unit {0}
+abbrev pub ReadsPiece : SourceFile → ℕ → Lines → Result (Option Entry) LoadStop → Type 0
+ReadsPiece file line p (Ok entry) = (content_row file (piece_content p) ≡ Ok (file_item file p).row) × EntersSome file entry (file_item file p).row
+ReadsPiece file line p (Err (Fault at rule)) = item_or_fault file line p ≡ Err (record { line = at; rule = rule })
+ReadsPiece file line p (Err Memory) = Unit {0}
 
 abbrev pub StopsAs : LoadStop → LoadFault → Type 0
 StopsAs (Fault line rule) fault = fault ≡ record { line = line; rule = rule }
 StopsAs Memory fault = Unit {0}
 
 abbrev pub TakesPiece : Result Progress LoadStop → Progress → Lines → Type 0
-TakesPiece (Ok next) above p = (piece_fault above.file above.items p ≡ None) × (next ≡ record { file = above.file; items = above.items ++ file_item above.file p ∷ [] })
+TakesPiece (Ok next) above p = (piece_fault above.file above.items p ≡ None) × (next ≡ record { file = above.file; text = above.text; items = above.items ++ file_item above.file p ∷ [] })
 TakesPiece (Err (Fault line rule)) above p = piece_fault above.file above.items p ≡ Some (record { line = line; rule = rule })
 TakesPiece (Err Memory) above p = Unit {0}
 
@@ -64,14 +90,31 @@ LoadsItems (Err Memory) expected = Unit {0}
 
 -- ---- one more item
 
-abbrev pub row_extents : SourceFile → Option Row → List Extent
-row_extents file None = []
-row_extents file (Some row) = extent_in file row ∷ []
+abbrev pub entry_extents : Option Entry → List Extent
+entry_extents None = []
+entry_extents (Some e) = extent_at e.place e.last ∷ []
 
-abbrev pub start_with : Option ℕ → Option Row → Option ℕ
-start_with before None = before
-start_with before (Some row) = Some (row_span row).lo
+abbrev pub start_of_entry : Option ℕ → Option Entry → Option ℕ
+start_of_entry before None = before
+start_of_entry before (Some e) = Some e.place.code
 
 abbrev pub BreaksNoRule : SourceFile → List FileItem → Option Row → Type 0
 BreaksNoRule file above None = Unit {0}
 BreaksNoRule file above (Some row) = row_rule file (rows_in above) row ≡ None
+
+abbrev pub IsOrdered : Option Entry → Type 0
+IsOrdered None = Unit {0}
+IsOrdered (Some e) = e.place.code ≤ e.last
+
+abbrev pub IsFreeEntry : List Extent → Option Entry → Type 0
+IsFreeEntry kept None = Unit {0}
+IsFreeEntry kept (Some e) = (e.place.code ≤ e.last) × (conflict_with kept (extent_at e.place e.last) ≡ None)
+
+abbrev pub IsFreeOf : Result Entry LoadRule → Entry → Option LoadRule → Type 0
+IsFreeOf (Ok free) entry rule = (free ≡ entry) × (rule ≡ None)
+IsFreeOf (Err broken) entry rule = rule ≡ Some broken
+
+abbrev pub FreesSome : SourceFile → List FileItem → Option Row → Result (Option Entry) LoadRule → Option Entry → Type 0
+FreesSome file above row (Ok free) entry = (free ≡ entry) × BreaksNoRule file above row
+FreesSome file above (Some row) (Err broken) entry = row_rule file (rows_in above) row ≡ Some broken
+FreesSome file above None (Err broken) entry = ⊥

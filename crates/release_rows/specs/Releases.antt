@@ -9,6 +9,8 @@
 -- onto_numbered line row rows     the row with the number of its line before the others; the others alone where there is no row
 -- numbered_rows line items        the rows in order, each with the number of its first line; the first item's line is given
 -- rows_at items                   the same, with lines counted from 1
+-- StandsBelow file above row      the row has another key than the rows of the items above and overlaps none of them where the file
+--                                 forbids it; so it is where there is no row
 -- IsKept file above item          the item's row is the one that its content is read as, and has another key than the rows of the
 --                                 items above and overlaps none of them where the file forbids it (K1, K4)
 -- AreKeptBelow file above items   IsKept of each of the items, below the items above them all

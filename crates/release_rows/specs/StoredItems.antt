@@ -1,10 +1,56 @@
--- The pieces and items that the code keeps, as the definitions name them.
+-- The pieces and items of the code, as the definitions name them.
 --
--- piece_of p   the lines of a kept piece: its first one, and the second where it has one
+-- piece_of p                the lines of a piece: its first one, and the second where it has one
+-- content_at text s         the content that stands at a stretch of the text
+-- item_at file text s       the item that stands there: the row is read from the content
+-- IsItem file text s        the stretch lies within the text, has at most two lines, and its content is trivia or reads as a row
+-- IsCut file text items     each stretch is an item, and the items put together are the text
+-- row_or_none result        the row that was read; where there is a fault, a row that nothing rests on
+-- read_as file content      the row that the content is read as, by row_or_none
+-- ShowsValue value row      the value is that of a row of a span and a value; None of other rows
+use Rattle.std.specs.Prelude.{◌≡◌, ℕ, ◌+◌, ◌≤◌, List, map, length, take, drop, Option, Some, None, Result, Ok, Err}
+use Rattle.std.specs.List.{All}
 use Rattle.std.specs.Option.{option_map}
-use Rattle.ucd_lines.specs.Items.{item_of}
+use Rattle.ucd_model.specs.declared.files.SourceFile.{SourceFile}
+use Rattle.ucd_model.specs.declared.row.Row.{Row}
+use Rattle.ucd_model.specs.declared.row.Row.TheVariants.{Value as ValueLine, Exclusion as ExclusionLine}
+use Rattle.ucd_lines.specs.Items.{item_of, ending_of}
+use Rattle.source_rows.specs.Faults.{row_or_fault}
+use Rattle.source_rows.specs.declared.fault.RowFault.{RowFault}
+use Rattle.source_rows.specs.declared.values.ValueText.{ValueText}
 use Rattle.release_rows.specs.Pieces.{Lines}
+use Rattle.release_rows.specs.FileItems.{FileItem, bytes_of}
+use Rattle.release_rows.specs.Loading.{content_row, row_read}
 use Rattle.release_rows.specs.declared.piece.Piece.{Piece}
+use Rattle.release_rows.specs.declared.stretch.Stretch.{Stretch}
 
 abbrev pub piece_of : Piece → Lines
 piece_of p = record { first = item_of p.first; last = option_map item_of p.last }
+
+abbrev pub content_at : List ℕ → Stretch → List ℕ
+content_at text s = take s.len (drop s.start text)
+
+abbrev pub item_at : SourceFile → List ℕ → Stretch → FileItem
+item_at file text s = record { content = content_at text s; ending = ending_of s.ending; lines = s.lines; row = row_read (content_row file (content_at text s)) }
+
+pub record IsItem (file : SourceFile) (text : List ℕ) (s : Stretch) : Type 0 where
+  pub fits : s.start + s.len ≤ length text
+  pub few : s.lines ≤ 2
+  pub is_read : content_row file (content_at text s) ≡ Ok (row_read (content_row file (content_at text s)))
+
+pub record IsCut (file : SourceFile) (text : List ℕ) (items : List Stretch) : Type 0 where
+  pub each : All (IsItem file text) items
+  pub whole : bytes_of (map (item_at file text) items) ≡ text
+
+abbrev row_or_none : Result Row RowFault → Row
+row_or_none (Ok row) = row
+row_or_none (Err fault) = ExclusionLine (record { span = record { lo = 0; hi = 0 } })
+
+abbrev pub read_as : SourceFile → List ℕ → Row
+read_as file content = row_or_none (row_or_fault file content)
+
+abbrev pub ShowsValue : Option ValueText → Row → Type 0
+ShowsValue (Some v) (ValueLine row) = row ≡ record { span = v.span; value = v.value.now }
+ShowsValue None (ValueLine row) = ⊥
+ShowsValue (Some v) _ = ⊥
+ShowsValue None _ = Unit {0}

@@ -4,6 +4,7 @@ ghost use Rattle.std.specs.Prelude.{◌≡◌, ◌≤◌, ◌||◌, Bool, None, 
 ghost use Rattle.std.specs.List.{list_any};
 ghost use Rattle.release_rows.specs.Extents.{Extent, conflict_with};
 ghost use Rattle.release_rows.specs.Places.{extent_at};
+ghost use Rattle.release_rows.specs.Entries.{IsFree};
 
 use crate::key_rule::KeyRule;
 use crate::place::Place;
@@ -41,24 +42,32 @@ impl KeySet {
         }
     }
 
-    /// The rule that a row at a place, up to its last code point, breaks against these extents; `None` where it breaks
-    /// none.
-    pub fn conflict(&self, place: Place, last: u32) -> Option<KeyRule>
+    /// Hands the place of a row back where the row, up to its last code point, breaks no rule against these extents,
+    /// and else answers the rule. It takes no memory.
+    pub fn checked_place(&self, place: Place, last: u32) -> Result<Place, KeyRule>
         requires { place.code ≤ last }
-        ensures { result ≡ conflict_with self.now (extent_at place last) }
+        ensures { IsFree result place (conflict_with self.now (extent_at place last)) }
     {
         if self.ends.contains_key(&place) {
-            return Some(KeyRule::K1);
+            return Err(KeyRule::K1);
         }
+        // extents of the same names lie apart: of those that begin no later than this one ends, only the last one can
+        // reach it
         let Place { names, code } = place;
         let end = Place { names, code: last };
         let Some((before, reached)) = self.ends.range(..=&end).next_back() else {
-            return None;
+            return Ok(Place {
+                names: end.names,
+                code,
+            });
         };
         if before.names == end.names && code <= *reached {
-            return Some(KeyRule::K4);
+            return Err(KeyRule::K4);
         }
-        None
+        Ok(Place {
+            names: end.names,
+            code,
+        })
     }
 
     /// Takes up the extent of a row that breaks no rule.

@@ -1,6 +1,8 @@
-//! Loads the source files of a release and keeps their rows and bytes.
+//! Loads the source files of a release and keeps their text, from which their rows are read again.
 #![tactic(auto)]
 
+mod entry;
+mod file_text;
 mod key_rule;
 mod key_set;
 mod laws;
@@ -10,17 +12,20 @@ mod loading;
 mod nine_files;
 mod piece;
 mod place;
+mod read_entry;
 mod read_piece;
 mod release;
 mod row_iter;
 mod row_key;
-mod stored_item;
+mod row_text;
+mod stretch;
 
 pub use key_rule::KeyRule;
 pub use laws::{bytes_are_kept, faults_are_first, loads_exactly};
 pub use load_stop::{LoadRule, LoadStop};
 pub use release::Release;
 pub use row_iter::Rows;
+pub use row_text::RowText;
 
 #[cfg(test)]
 mod tests;

@@ -7,33 +7,38 @@ ghost use Rattle.release_rows.specs.Loading.{file_or_fault};
 ghost use Rattle.release_rows.specs.Progress.{LoadsItems};
 ghost use Rattle.release_rows.specs.Releases.{AreKept};
 
+use crate::file_text::FileText;
 use crate::load_stop::LoadStop;
 use crate::loading::Loading;
 use crate::piece::next_piece;
-use crate::stored_item::StoredItem;
 use std::alloc::Global;
 use ucd_lines::items;
-use ucd_model::{ListOf, SourceFile};
+use ucd_model::{ListOf, Memory, SourceFile, Text};
 
 /// The items of a file, in the order of the file. UAX #44, section 4.2.
 ///
 /// - `Fault { line, rule }`: the first line that breaks a rule, counted from 1, and the first rule that it breaks.
 /// - `Memory`: memory ran out.
 #[tactic(auto, unfolding(crate::specs::Loading::file_or_fault, ucd_model::specs::Limits::file_limit))]
-pub fn load_items(
-    alloc: Global,
-    file: SourceFile,
-    bytes: &[u8],
-) -> Result<ListOf<StoredItem>, LoadStop>
+pub fn load_items(alloc: Global, file: SourceFile, bytes: &[u8]) -> Result<FileText, LoadStop>
     requires { length bytes.now ≤ file_limit }
     ensures answer { LoadsItems result (file_or_fault file bytes.now) }
     ensures kept { IfOk result (AreKept file) }
     ensures lossless { IfOk result (λ items. bytes_of items ≡ bytes.now) }
 {
     let mut lines = items(bytes);
-    let mut loading = Loading::new(alloc, file);
+    let mut loading = Loading::new(alloc, file, bytes);
     'pieces: while let Some(piece) = next_piece(file, &mut lines) {
         loading = loading.take(alloc, piece)?;
     }
-    Ok(loading.into_items())
+    let items = loading.into_items();
+    let text = text_of(alloc, bytes)?;
+    Ok(FileText::new(file, text, items))
+}
+
+/// A copy of these bytes.
+fn text_of(alloc: Global, bytes: &[u8]) -> Result<Text, Memory>
+    ensures { IfOk result (λ text. text ≡ bytes.now) }
+{
+    Ok(ListOf::from_vec(Vec::from_slice(alloc, bytes)?))
 }

@@ -1,160 +1,195 @@
 //! A file that is loaded piece by piece.
 
-ghost use Rattle.std.specs.Prelude.{◌≡◌, ◌+◌, ◌<◌, ◌^◌, ◌∷◌, ◌++◌, ◌||◌, [], Bool, IfOk};
-ghost use Rattle.std.specs.List.{list_any};
-ghost use Rattle.std.specs.Option.{option_map, MatchOption};
-ghost use Rattle.release_rows.specs.Extents.{Extent, conflict_with};
-ghost use Rattle.release_rows.specs.Keys.{extent_in, falls_back, is_below, last_start};
+ghost use Rattle.std.specs.Prelude.{◌≡◌, ◌+◌, ◌<◌, ◌≤◌, ◌^◌, ◌∷◌, ◌++◌, ◌||◌, [], Bool, IfOk, Option, length, map};
+ghost use Rattle.std.specs.List.{list_any, All};
+ghost use Rattle.ucd_model.specs.declared.row.Row.{Row as RowValue};
+ghost use Rattle.release_rows.specs.Extents.{Extent};
+ghost use Rattle.release_rows.specs.Entries.{IsEntry, EntersSome};
+ghost use Rattle.release_rows.specs.Keys.{is_back};
 ghost use Rattle.release_rows.specs.Pieces.{piece_lines};
-ghost use Rattle.release_rows.specs.FileItems.{rows_in, lines_of};
-ghost use Rattle.release_rows.specs.Loading.{load_rule, row_rule};
-ghost use Rattle.release_rows.specs.Progress.{Progress, TakesPiece, row_extents, start_with, BreaksNoRule};
-ghost use Rattle.release_rows.specs.StoredItems.{piece_of};
+ghost use Rattle.release_rows.specs.FileItems.{bytes_of, file_item_bytes, rows_in, lines_of};
+ghost use Rattle.release_rows.specs.Loading.{row_rule};
+ghost use Rattle.release_rows.specs.Progress.{Progress, TakesPiece, Stands, BreaksNoRule, IsFreeEntry, IsFreeOf, IsOrdered, FreesSome, entry_extents, start_of_entry};
+ghost use Rattle.release_rows.specs.StoredItems.{piece_of, item_at, IsItem};
 
+use crate::entry::Entry;
 use crate::key_rule::KeyRule;
 use crate::key_set::KeySet;
 use crate::load_stop::{LoadRule, LoadStop};
-use crate::piece::Piece;
+use crate::piece::{Piece, ending_len, stretch_of};
 use crate::read_piece::read_piece;
-use crate::row_key::{place_of, row_end, row_start};
-use crate::stored_item::StoredItem;
+use crate::stretch::{Stretch, content_in};
 use std::alloc::Global;
 use std::marker::Model;
-use ucd_model::{ListOf, Memory, Row, SourceFile};
+use ucd_model::{ListOf, Memory, SourceFile};
 
-/// The items of a file so far, and what is kept of their rows. Contracts see the file and the items.
+/// The items of a file so far, and what is kept of their rows. Contracts see the file, its text and the items.
 #[derive(Drop)]
-pub struct Loading {
+pub struct Loading<'a> {
     file: SourceFile,
-    items: ListOf<StoredItem>,
+    text: &'a [u8],
+    items: ListOf<Stretch>,
+    /// Where the items end in the text.
+    end: u32,
+    /// The keys and the spans of the rows.
     keys: KeySet,
+    /// The first code point of the last row; `None` where there is no row yet.
     before: Option<u32>,
+    /// How many lines the items have.
     lines: u32,
 }
 
-impl Model for Loading {
-    ghost use Rattle.release_rows.specs.Progress.{Progress, IsProgress};
+impl<'a> Model for Loading<'a> {
+    ghost use Rattle.std.specs.Prelude.{map};
+    ghost use Rattle.release_rows.specs.Progress.{Progress, IsLoading};
+    ghost use Rattle.release_rows.specs.StoredItems.{item_at};
 
     ghost Value = { Progress };
 
-    ghost view = { λ l. record { file = l.file; items = l.items } };
+    ghost view = { λ l. record { file = l.file; text = l.text.now; items = map (item_at l.file l.text.now) l.items } };
 
-    ghost invariant = { λ l. IsProgress l.file l.items l.keys l.before l.lines };
+    ghost invariant = { λ l. IsLoading l.file l.text.now l.items l.keys l.before l.lines l.end };
 }
 
 /// The extents of the rows above and of one more row, where there is one.
-fn keys_with(
-    alloc: Global,
-    file: SourceFile,
-    mut keys: KeySet,
-    row: Option<&Row>,
-) -> Result<KeySet, Memory>
-    requires { MatchOption row Unit (λ r. conflict_with keys (extent_in file r.now) ≡ None) }
-    ensures { IfOk result (λ new. (p : Extent → Bool) → list_any p new ≡ (list_any p (row_extents file (option_map (λ r. r.now) row.entry)) || list_any p keys)) }
+fn keys_with(mut keys: KeySet, entry: Option<Entry>) -> Result<KeySet, Memory>
+    requires { IsFreeEntry keys entry }
+    ensures { IfOk result (λ new. (p : Extent → Bool) → list_any p new ≡ (list_any p (entry_extents entry) || list_any p keys)) }
 {
-    if let Some(row) = row {
-        let place = place_of(alloc, file, row)?;
-        keys.insert(place, row_end(file, row))?;
+    if let Some(Entry { place, last }) = entry {
+        keys.insert(place, last)?;
     }
     Ok(keys)
 }
 
 /// The first code point of the last row, with one more row, where there is one.
-fn start_with(before: Option<u32>, row: Option<&Row>) -> Option<u32>
-    ensures { result ≡ start_with before (option_map (λ r. r.now) row.entry) }
+fn start_with(before: Option<u32>, entry: &Option<Entry>) -> Option<u32>
+    ensures { result ≡ start_of_entry before entry.now }
 {
-    match row {
-        Some(row) => Some(row_start(row)),
+    match entry {
+        Some(entry) => Some(entry.place.code),
         None => before,
     }
 }
 
-/// Whether a row of a file begins below the row before it, in a file where that is a fault.
-fn falls_back(file: SourceFile, before: Option<u32>, row: &Row) -> bool
-    ensures { (above : _) → before ≡ last_start above → result ≡ falls_back file above row.now }
+/// Whether a code point is less than the first one of the row before, in a file where that is a fault.
+fn is_back(file: SourceFile, before: Option<u32>, code: u32) -> bool
+    ensures { result ≡ is_back file before code }
 {
     match (file, before) {
-        (SourceFile::UnicodeData, Some(before)) => row_start(row) < before,
+        (SourceFile::UnicodeData, Some(before)) => code < before,
         _ => false,
     }
 }
 
-impl Loading {
+impl<'a> Loading<'a> {
     /// No items yet. It takes no memory.
-    pub fn new(alloc: Global, file: SourceFile) -> Loading
-        ensures { result ≡ record { file = file; items = [] } }
+    pub fn new(alloc: Global, file: SourceFile, text: &'a [u8]) -> Loading<'a>
+        requires { length text.now < 2 ^ 32 }
+        ensures { result ≡ record { file = file; text = text.now; items = [] } }
     {
         Loading {
             file,
+            text,
             items: ListOf::new(alloc),
+            end: 0,
             keys: KeySet::new(alloc),
             before: None,
             lines: 0,
         }
     }
 
-    /// The items.
-    pub fn into_items(self) -> ListOf<StoredItem>
-        ensures { result ≡ self.items }
+    /// Where the items stand in the text.
+    pub fn into_items(self) -> ListOf<Stretch>
+        ensures items { map (item_at self.entry.file self.entry.text) result ≡ self.entry.items }
+        ensures each { All (IsItem self.entry.file self.entry.text) result }
     {
         self.items
     }
 
-    /// The rule that a row breaks against the rows above it.
-    fn rule_of(&self, alloc: Global, row: &Row) -> Result<Option<LoadRule>, Memory>
-        ensures { IfOk result (λ rule. rule ≡ row_rule self.now.file (rows_in self.now.items) row.now) }
+    /// Hands what is kept of a row back where the row breaks no rule against the rows above it, and else answers the
+    /// rule. It takes no memory.
+    fn checked_entry(&self, entry: Entry) -> Result<Entry, LoadRule>
+        requires { entry.place.code ≤ entry.last }
+        ensures { (row : RowValue) → IsEntry self.now.file row entry → IsFreeOf result entry (row_rule self.now.file (rows_in self.now.items) row) }
     {
-        let place = place_of(alloc, self.file, row)?;
-        match self.keys.conflict(place, row_end(self.file, row)) {
-            Some(KeyRule::K1) => Ok(Some(LoadRule::K1)),
-            Some(KeyRule::K4) => Ok(Some(LoadRule::K4)),
-            None if falls_back(self.file, self.before, row) => Ok(Some(LoadRule::K5)),
+        let Entry { place, last } = entry;
+        let place = match self.keys.checked_place(place, last) {
+            Ok(place) => place,
+            Err(KeyRule::K1) => return Err(LoadRule::K1),
+            Err(KeyRule::K4) => return Err(LoadRule::K4),
+        };
+        if is_back(self.file, self.before, place.code) {
+            return Err(LoadRule::K5);
+        }
+        Ok(Entry { place, last })
+    }
+
+    /// The same of a row that may not be there.
+    fn checked_optional(&self, entry: Option<Entry>) -> Result<Option<Entry>, LoadRule>
+        requires { IsOrdered entry }
+        ensures { (row : Option RowValue) → EntersSome self.now.file entry row → FreesSome self.now.file self.now.items row result entry }
+    {
+        match entry {
             None => Ok(None),
+            Some(entry) => match self.checked_entry(entry) {
+                Ok(entry) => Ok(Some(entry)),
+                Err(rule) => Err(rule),
+            },
         }
     }
 
     /// With one more item, whose row breaks no rule.
-    fn with_item(self, alloc: Global, item: StoredItem) -> Result<Loading, Memory>
-        requires fits { lines_of self.items + item.lines < 2 ^ 32 }
-        requires rule { BreaksNoRule self.file self.items item.row }
-        ensures { IfOk result (λ next. next ≡ record { file = self.file; items = self.items ++ item ∷ [] }) }
+    fn with_item(self, stretch: Stretch, entry: Option<Entry>) -> Result<Loading<'a>, Memory>
+        requires item { IsItem self.file self.text stretch }
+        requires ends { length (bytes_of self.items) + length (file_item_bytes (item_at self.file self.text stretch)) < 2 ^ 32 }
+        requires fits { lines_of self.items + stretch.lines < 2 ^ 32 }
+        requires enters { EntersSome self.file entry (item_at self.file self.text stretch).row }
+        requires rule { BreaksNoRule self.file self.items (item_at self.file self.text stretch).row }
+        ensures { IfOk result (λ next. next ≡ record { file = self.entry.file; text = self.entry.text; items = self.entry.items ++ item_at self.entry.file self.entry.text stretch ∷ [] }) }
     {
         let Loading {
             file,
+            text,
             mut items,
+            end,
             keys,
             before,
             lines,
         } = self;
-        let keys = keys_with(alloc, file, keys, item.row())?;
-        let before = start_with(before, item.row());
-        let lines = lines + item.lines();
-        items.push(item)?;
+        let before = start_with(before, &entry);
+        let keys = keys_with(keys, entry)?;
+        let end = end + (stretch.len + ending_len(stretch.ending));
+        let lines = lines + u32::from(stretch.lines);
+        items.push(stretch)?;
         Ok(Loading {
             file,
+            text,
             items,
+            end,
             keys,
             before,
             lines,
         })
     }
 
-    /// With one more piece.
+    /// With one more piece, which stands in the text behind the items so far.
     ///
     /// - `Fault { line, rule }`: the piece breaks a rule: the row's own come first, then K1, K4 and K5. The line is
     ///   counted from 1.
     /// - `Memory`: memory ran out.
-    pub fn take(self, alloc: Global, piece: Piece<'_>) -> Result<Loading, LoadStop>
-        requires { lines_of self.items + piece_lines (piece_of piece) + 1 < 2 ^ 32 }
-        ensures { TakesPiece result self (piece_of piece.entry) }
+    pub fn take(self, alloc: Global, piece: Piece<'_>) -> Result<Loading<'a>, LoadStop>
+        requires fits { lines_of self.items + piece_lines (piece_of piece) + 1 < 2 ^ 32 }
+        requires stands { Stands self.text self.items (piece_of piece) }
+        ensures { TakesPiece result self.entry (piece_of piece.entry) }
     {
         let line = self.lines + 1;
-        let item = read_piece(alloc, self.file, line, piece)?;
-        if let Some(row) = item.row() {
-            if let Some(rule) = self.rule_of(alloc, row)? {
-                return Err(LoadStop::Fault { line, rule });
-            }
+        let stretch = stretch_of(self.end, piece);
+        let content = content_in(self.text, stretch);
+        let entry = read_piece(alloc, self.file, line, piece, content)?;
+        match self.checked_optional(entry) {
+            Ok(entry) => Ok(self.with_item(stretch, entry)?),
+            Err(rule) => Err(LoadStop::Fault { line, rule }),
         }
-        Ok(self.with_item(alloc, item)?)
     }
 }

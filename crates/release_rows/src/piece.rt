@@ -1,15 +1,16 @@
 //! Cuts a file into pieces: a line each, or the two lines of a range.
 
-ghost use Rattle.std.specs.Prelude.{◌≡◌, ◌+◌, ◌≤◌, ◌∷◌, [], length, IfOk};
+ghost use Rattle.std.specs.Prelude.{◌≡◌, ◌+◌, ◌<◌, ◌≤◌, ◌^◌, ◌∷◌, ◌++◌, [], length};
 ghost use Rattle.std.specs.Option.{MatchOption};
+ghost use Rattle.ucd_model.specs.Lines.{ending_bytes, joined};
 ghost use Rattle.ucd_lines.specs.Items.{ending_of};
-ghost use Rattle.release_rows.specs.Pieces.{pieces, opens_range, piece_content, piece_ending, piece_lines};
+ghost use Rattle.release_rows.specs.Pieces.{pieces, opens_range, piece_bytes, piece_content, piece_ending, piece_lines};
 ghost use Rattle.release_rows.specs.StoredItems.{piece_of};
 
+use crate::stretch::Stretch;
 use source_rows::begins_range;
-use std::alloc::Global;
-use ucd_lines::{Ending, Item, Items, is_trivia, join};
-use ucd_model::{ListOf, Memory, SourceFile, Text};
+use ucd_lines::{Ending, Item, Items, is_trivia};
+use ucd_model::SourceFile;
 
 /// A line, or a line that opens a range and the one behind it. UAX #44, section 4.2.3.
 #[derive(Clone, Copy, Debug)]
@@ -33,6 +34,7 @@ fn opens_range(file: SourceFile, content: &[u8]) -> bool
 /// Takes the first piece off the lines; `None` where there are no lines. UAX #44, section 4.2.3.
 pub fn next_piece<'a>(file: SourceFile, lines: &mut Items<'a>) -> Option<Piece<'a>>
     ensures piece { MatchOption result (pieces file lines.old ≡ []) (λ p. pieces file lines.old ≡ piece_of p ∷ pieces file lines.new) }
+    ensures bytes { MatchOption result (joined lines.old ≡ []) (λ p. joined lines.old ≡ piece_bytes (piece_of p) ++ joined lines.new) }
     ensures lines { MatchOption result (lines.old ≡ []) (λ p. length lines.old ≡ piece_lines (piece_of p) + length lines.new) }
 {
     let first = lines.next()?;
@@ -43,25 +45,33 @@ pub fn next_piece<'a>(file: SourceFile, lines: &mut Items<'a>) -> Option<Piece<'
     Some(Piece { first, last: None })
 }
 
-/// What stands before the ending.
-///
-/// - `Memory`: memory ran out.
-pub fn content_of(alloc: Global, piece: Piece<'_>) -> Result<Text, Memory>
-    ensures { IfOk result (λ content. content ≡ piece_content (piece_of piece.entry)) }
+/// How many bytes an ending has.
+pub fn ending_len(ending: Ending) -> u32
+    ensures { result ≡ length (ending_bytes (ending_of ending)) }
+{
+    match ending {
+        Ending::None => 0,
+        Ending::Lf => 1,
+        Ending::CrLf => 2,
+    }
+}
+
+/// How many bytes stand before the ending.
+fn content_len(piece: Piece<'_>) -> usize
+    requires { length (piece_content (piece_of piece)) < 2 ^ 32 }
+    ensures { result ≡ length (piece_content (piece_of piece.entry)) }
 {
     match piece.last {
-        None => Ok(ListOf::from_vec(Vec::from_slice(alloc, piece.first.content)?)),
+        None => piece.first.content.len(),
         Some(last) => {
-            let mut content = Text::new(alloc);
-            join(piece.first, &mut content)?;
-            content.append(last.content)?;
-            Ok(content)
+            let first = piece.first.content.len() + ending_len(piece.first.ending) as usize;
+            first + last.content.len()
         }
     }
 }
 
 /// What ends the last line.
-pub fn ending_of(piece: Piece<'_>) -> Ending
+fn ending_of(piece: Piece<'_>) -> Ending
     ensures { ending_of result ≡ piece_ending (piece_of piece.entry) }
 {
     match piece.last {
@@ -71,12 +81,29 @@ pub fn ending_of(piece: Piece<'_>) -> Ending
 }
 
 /// How many lines there are: 1 or 2.
-pub fn lines_of(piece: Piece<'_>) -> u32
+fn lines_of(piece: Piece<'_>) -> u8
     ensures count { result ≡ piece_lines (piece_of piece.entry) }
     ensures few { result ≤ 2 }
 {
     match piece.last {
         None => 1,
         Some(_) => 2,
+    }
+}
+
+/// Where a piece stands whose first byte has this place.
+pub fn stretch_of(start: u32, piece: Piece<'_>) -> Stretch
+    requires { length (piece_content (piece_of piece)) < 2 ^ 32 }
+    ensures start { result.start ≡ start }
+    ensures len { result.len ≡ length (piece_content (piece_of piece.entry)) }
+    ensures ending { ending_of result.ending ≡ piece_ending (piece_of piece.entry) }
+    ensures lines { result.lines ≡ piece_lines (piece_of piece.entry) }
+    ensures few { result.lines ≤ 2 }
+{
+    Stretch {
+        start,
+        len: content_len(piece) as u32,
+        ending: ending_of(piece),
+        lines: lines_of(piece),
     }
 }

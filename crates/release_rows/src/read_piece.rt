@@ -1,13 +1,15 @@
 //! Reads a piece of a file by itself.
 
 ghost use Rattle.std.specs.Prelude.{◌≡◌, ◌+◌, ◌<◌, ◌^◌, IfOk};
-ghost use Rattle.release_rows.specs.Loading.{faulty_last, fault_line, is_g04};
-ghost use Rattle.release_rows.specs.Progress.{ReadsPiece, StopsAs, item_or_fault};
+ghost use Rattle.release_rows.specs.Loading.{faulty_last, fault_line};
+ghost use Rattle.release_rows.specs.Pieces.{piece_content};
+ghost use Rattle.release_rows.specs.Progress.{ReadsPiece, StopsAs};
 ghost use Rattle.release_rows.specs.StoredItems.{piece_of};
 
+use crate::entry::Entry;
 use crate::load_stop::{LoadRule, LoadStop};
-use crate::piece::{Piece, content_of, ending_of, lines_of};
-use crate::stored_item::StoredItem;
+use crate::piece::Piece;
+use crate::read_entry::read_entry;
 use source_rows::{RowFault, RowStop, read_row};
 use std::alloc::Global;
 use ucd_lines::is_trivia;
@@ -54,7 +56,7 @@ fn stop_at(
     }
 }
 
-/// The item of a piece whose first line has this number.
+/// What is kept of the row of a piece, whose first line has this number, and nothing where the piece is trivia.
 ///
 /// - `Fault { line, rule }`: the piece is no row, and `rule` is the first rule that it breaks by itself. The line is
 ///   this one, and the next one where the fault is that of the second line of a range.
@@ -64,21 +66,17 @@ pub fn read_piece(
     file: SourceFile,
     line: u32,
     piece: Piece<'_>,
-) -> Result<StoredItem, LoadStop>
-    requires { line + 1 < 2 ^ 32 }
-    ensures { ReadsPiece result (item_or_fault file line (piece_of piece.entry)) }
+    content: &[u8],
+) -> Result<Option<Entry>, LoadStop>
+    requires fits { line + 1 < 2 ^ 32 }
+    requires content { content.now ≡ piece_content (piece_of piece) }
+    ensures { ReadsPiece file line (piece_of piece.entry) result }
 {
-    let content = content_of(alloc, piece)?;
-    let ending = ending_of(piece);
-    let lines = lines_of(piece);
-    if is_trivia(content.as_slice()) {
-        return Ok(StoredItem::new(content, ending, lines, None));
+    if is_trivia(content) {
+        return Ok(None);
     }
-    match read_row(alloc, file, content.as_slice()) {
-        Ok(row) => {
-            let row = Box::new(alloc, row)?;
-            Ok(StoredItem::new(content, ending, lines, Some(row)))
-        }
+    match read_entry(alloc, file, content) {
+        Ok(entry) => Ok(Some(entry)),
         Err(RowStop::Fault(fault)) => Err(stop_at(alloc, file, line, piece, fault)),
         Err(RowStop::Memory) => Err(LoadStop::Memory),
     }

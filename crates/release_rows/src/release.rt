@@ -9,7 +9,6 @@ use crate::load_items::load_items;
 use crate::load_stop::{LoadRule, LoadStop};
 use crate::nine_files::{NineFiles, items_at, no_items, put};
 use crate::row_iter::Rows;
-use crate::stored_item::StoredItem;
 use std::alloc::Global;
 use std::marker::Model;
 use ucd_model::{Memory, SourceFile, Text, file_limit};
@@ -73,7 +72,7 @@ impl Release {
     pub fn text(&self, alloc: Global, file: SourceFile) -> Result<Text, Memory>
         ensures { IfOk result (λ text. text ≡ bytes_of (items_now self.now file)) }
     {
-        text_of(alloc, items_at(&self.files, file))
+        items_at(&self.files, file).text().copy(alloc)
     }
 
     /// The rows of a file now, in the order of the file, each with the number of its first line.
@@ -81,7 +80,7 @@ impl Release {
         ensures rows { result ≡ rows_at (items_now self.now file) }
         ensures kept { AreKept file (items_now self.now file) }
     {
-        Rows::new(items_at(&self.files, file))
+        items_at(&self.files, file).rows()
     }
 
     /// The rows of a file next, in the order of the file, each with the number of its first line.
@@ -89,17 +88,6 @@ impl Release {
         ensures rows { result ≡ rows_at (items_next self.now file) }
         ensures kept { AreKept file (items_next self.now file) }
     {
-        Rows::new(items_at(&self.files, file))
+        items_at(&self.files, file).rows()
     }
-}
-
-/// The contents and endings of items, put together.
-fn text_of(alloc: Global, items: &[StoredItem]) -> Result<Text, Memory>
-    ensures { IfOk result (λ text. text ≡ bytes_of items.now) }
-{
-    let mut text = Text::new(alloc);
-    for item in items {
-        item.join(&mut text)?;
-    }
-    Ok(text)
 }

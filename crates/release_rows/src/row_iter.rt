@@ -1,57 +1,72 @@
 //! Goes over the rows of a file.
 
-ghost use Rattle.std.specs.Prelude.{◌≡◌, ◌+◌};
-ghost use Rattle.release_rows.specs.Releases.{rows_at, numbered_rows};
+ghost use Rattle.std.specs.Prelude.{◌≡◌, map};
+ghost use Rattle.std.specs.List.{All};
+ghost use Rattle.release_rows.specs.Releases.{rows_at};
+ghost use Rattle.release_rows.specs.StoredItems.{item_at, IsItem};
 
-use crate::stored_item::StoredItem;
+use crate::row_text::RowText;
+use crate::stretch::{Stretch, content_in};
 use std::marker::Model;
-use ucd_model::Row;
+use ucd_lines::is_trivia;
+use ucd_model::SourceFile;
 
 /// The rows of a file that are left, in the order of the file, each with the number of its first line, counted from 1.
 /// Contracts see the list of these pairs.
 #[derive(Drop)]
 pub struct Rows<'a> {
-    items: &'a [StoredItem],
+    file: SourceFile,
+    text: &'a [u8],
+    items: &'a [Stretch],
     line: u64,
 }
 
 impl<'a> Model for Rows<'a> {
-    ghost use Rattle.std.specs.Prelude.{List, ℕ, ◌+◌, ◌*◌, ◌<◌, ◌^◌, length};
+    ghost use Rattle.std.specs.Prelude.{List, ℕ, map};
     ghost use Rattle.ucd_model.specs.declared.row.Row.{Row};
     ghost use Rattle.release_rows.specs.Releases.{numbered_rows};
+    ghost use Rattle.release_rows.specs.StoredItems.{item_at};
+    ghost use Rattle.release_rows.specs.Walking.{IsWalk};
 
     ghost Value = { List (ℕ × Row) };
 
-    ghost view = { λ r. numbered_rows r.line r.items.now };
+    ghost view = { λ r. numbered_rows r.line (map (item_at r.file r.text.now) r.items.now) };
 
-    ghost invariant = { λ r. r.line + 2 * length r.items.now < 2 ^ 64 };
+    ghost invariant = { λ r. IsWalk r.file r.text.now r.items.now r.line };
 }
 
 impl<'a> Rows<'a> {
-    /// The rows of these items.
-    pub(crate) fn new(items: &'a [StoredItem]) -> Rows<'a>
-        ensures { result ≡ rows_at items.now }
+    /// The rows of these items of a text.
+    pub(crate) fn new(file: SourceFile, text: &'a [u8], items: &'a [Stretch]) -> Rows<'a>
+        requires { All (IsItem file text.now) items.now }
+        ensures { result ≡ rows_at (map (item_at file text.now) items.now) }
     {
-        Rows { items, line: 1 }
+        Rows {
+            file,
+            text,
+            items,
+            line: 1,
+        }
     }
 }
 
 impl<'a> Iterator for Rows<'a> {
-    ghost use Rattle.std.specs.Iterator.{YieldsFirstBy, item_count};
+    ghost use Rattle.std.specs.Iterator.{YieldsFirst, item_count};
 
-    type Item = (u64, &'a Row);
+    type Item = (u64, RowText<'a>);
 
-    ghost next_gives = { YieldsFirstBy (λ x. (x.0, x.1.now)) (λ rest. rest) };
+    ghost next_gives = { YieldsFirst (λ rest. rest) };
 
     ghost remaining = { item_count (λ rest. rest) };
 
-    fn next(&mut self) -> Option<(u64, &'a Row)> {
+    fn next(&mut self) -> Option<(u64, RowText<'a>)> {
         'items: while let [item, rest @ ..] = self.items {
             let line = self.line;
+            let content = content_in(self.text, *item);
             self.items = rest;
-            self.line += u64::from(item.lines());
-            if let Some(row) = item.row() {
-                return Some((line, row));
+            self.line += u64::from(item.lines);
+            if !is_trivia(content) {
+                return Some((line, RowText::new(self.file, content)));
             }
         }
         None

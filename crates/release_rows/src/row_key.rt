@@ -1,13 +1,15 @@
 //! The keys and the spans of rows.
 
-ghost use Rattle.std.specs.Prelude.{◌≡◌, ◌≤◌, ◌∷◌, [], IfOk, map, take};
+ghost use Rattle.std.specs.Prelude.{◌≡◌, ◌≤◌, true, IfOk, IsTrue};
+ghost use Rattle.ucd_model.specs.Fields.{is_name};
 ghost use Rattle.ucd_model.specs.Names.{status_code};
-ghost use Rattle.release_rows.specs.Keys.{row_span, row_end, has_spans, alias_count, key_names, value_names, condition_names};
-ghost use Rattle.release_rows.specs.Places.{names_in};
+ghost use Rattle.ucd_model.specs.RowValues.{RowOk};
+ghost use Rattle.release_rows.specs.Keys.{row_span, row_end, has_spans, alias_count, key_names, value_names};
+ghost use Rattle.release_rows.specs.Names.{has_names};
+ghost use Rattle.release_rows.specs.Places.{names_of};
 
-use crate::place::Place;
 use std::alloc::{AllocError, Global};
-use ucd_model::{FoldStatus, Memory, Row, SourceFile, Text};
+use ucd_model::{FoldStatus, Row, SourceFile};
 
 /// The first code point of a row. A row of names has none, which 0 stands for.
 pub fn row_start(row: &Row) -> u32
@@ -77,8 +79,9 @@ fn status_code(status: FoldStatus) -> u8
 }
 
 /// How many names of an alias row its key has.
-fn alias_count(file: SourceFile) -> usize
-    ensures { result ≡ alias_count file }
+pub fn alias_count(file: SourceFile) -> usize
+    ensures count { result ≡ alias_count file }
+    ensures some { 1 ≤ result }
 {
     match file {
         SourceFile::PropertyAliases => 2,
@@ -86,69 +89,29 @@ fn alias_count(file: SourceFile) -> usize
     }
 }
 
-/// The list of one name.
-fn one_name(alloc: Global, name: &[u8]) -> Result<Vec<Vec<u8>>, AllocError>
-    ensures { IfOk result (λ names. map (λ n. n.items) names.items ≡ name.now ∷ []) }
-{
-    let mut names = Vec::new(alloc);
-    names.push(Vec::from_slice(alloc, name)?)?;
-    Ok(names)
-}
-
-/// The first names of a list, up to a number of them.
-fn first_names(alloc: Global, texts: &[Text], count: usize) -> Result<Vec<Vec<u8>>, AllocError>
-    ensures { IfOk result (λ names. map (λ n. n.items) names.items ≡ take count texts.now) }
-{
-    let first = &texts[..texts.len().min(count)];
-    let mut names = Vec::with_capacity(alloc, first.len())?;
-    for text in first {
-        names.push(Vec::from_slice(alloc, text.as_slice())?)?;
-    }
-    Ok(names)
-}
-
-/// The names in the key of a row.
-fn key_names(alloc: Global, file: SourceFile, row: &Row) -> Result<Vec<Vec<u8>>, AllocError>
-    ensures { IfOk result (λ names. map (λ n. n.items) names.items ≡ key_names file row.now) }
+/// The text of the names in the key of a row that is no row of names.
+///
+/// - `AllocError`: memory ran out.
+pub fn key_text(alloc: Global, file: SourceFile, row: &Row) -> Result<Vec<u8>, AllocError>
+    requires ok { RowOk file row.now }
+    requires no_names { IsTrue (has_names file) → ⊥ }
+    ensures { IfOk result (λ text. names_of text.items ≡ key_names file row.now) }
 {
     match row {
-        Row::Unit(_) | Row::Exclusion(_) => Ok(Vec::new(alloc)),
-        Row::Value(row) => value_names(alloc, file, row.value.as_slice()),
-        Row::Fold(row) => one_name(alloc, &[status_code(row.status)]),
-        Row::Casing(row) => condition_names(alloc, row.conditions.as_slice()),
-        Row::Alias(row) => first_names(alloc, row.names.as_slice(), alias_count(file)),
+        Row::Value(row) => value_text(alloc, file, row.value.as_slice()),
+        Row::Fold(row) => Vec::from_slice(alloc, &[status_code(row.status)]),
+        Row::Casing(row) => Vec::from_slice(alloc, row.conditions.as_slice()),
+        Row::Unit(_) | Row::Exclusion(_) | Row::Alias(_) => Ok(Vec::new(alloc)),
     }
 }
 
 /// The value of a row of PropList.txt, and no name in the other files.
-fn value_names(alloc: Global, file: SourceFile, value: &[u8]) -> Result<Vec<Vec<u8>>, AllocError>
-    ensures { IfOk result (λ names. map (λ n. n.items) names.items ≡ value_names file value.now) }
+fn value_text(alloc: Global, file: SourceFile, value: &[u8]) -> Result<Vec<u8>, AllocError>
+    requires { is_name value.now ≡ true }
+    ensures { IfOk result (λ text. names_of text.items ≡ value_names file value.now) }
 {
     match file {
-        SourceFile::PropList => one_name(alloc, value),
+        SourceFile::PropList => Vec::from_slice(alloc, value),
         _ => Ok(Vec::new(alloc)),
     }
-}
-
-/// The conditions of a casing, and no name where there are none.
-fn condition_names(alloc: Global, conditions: &[u8]) -> Result<Vec<Vec<u8>>, AllocError>
-    ensures { IfOk result (λ names. map (λ n. n.items) names.items ≡ condition_names conditions.now) }
-{
-    match conditions {
-        [] => Ok(Vec::new(alloc)),
-        [_, ..] => one_name(alloc, conditions),
-    }
-}
-
-/// The key of a row.
-///
-/// - `Memory`: memory ran out.
-pub fn place_of(alloc: Global, file: SourceFile, row: &Row) -> Result<Place, Memory>
-    ensures names { IfOk result (λ place. names_in place ≡ key_names file row.now) }
-    ensures code { IfOk result (λ place. place.code ≡ (row_span row.now).lo) }
-{
-    Ok(Place {
-        names: key_names(alloc, file, row)?,
-        code: row_start(row),
-    })
 }

@@ -196,11 +196,20 @@ fn are_on(mut rows: Rows<'_>, first: u64, second: u64) -> bool {
     }
 }
 
-/// Whether the first row gives a value from a code point on.
-fn gives(mut rows: Rows<'_>, first: u32, value: &[u8]) -> bool {
-    match rows.next() {
-        Some((_, Row::Value(row))) => row.span.first() == first && row.value.as_slice() == value,
-        _ => false,
+/// Whether the first row gives a value from a code point on, read with a copy and without.
+fn gives(alloc: Global, mut rows: Rows<'_>, first: u32, value: &[u8]) -> Result<bool, Memory> {
+    let Some((_, row)) = rows.next() else {
+        return Ok(false);
+    };
+    let in_place = match row.value() {
+        Some(text) => text.span.first() == first && text.value == value,
+        None => false,
+    };
+    match row.read(alloc)? {
+        Row::Value(row) => {
+            Ok(in_place && row.span.first() == first && row.value.as_slice() == value)
+        }
+        _ => Ok(false),
     }
 }
 
@@ -211,7 +220,7 @@ fn rows_have_their_lines(rt: HostRuntime) -> Result<(), Fail> {
     let release = release_of(rt.alloc(), file, bytes)?;
     assert!(rt; are_on(release.rows(file), 2, 4));
     assert!(rt; are_on(release.next_rows(file), 2, 4));
-    assert!(rt; gives(release.rows(file), 0x20, b"White_Space"));
+    assert!(rt; gives(rt.alloc(), release.rows(file), 0x20, b"White_Space")?);
     assert!(rt; release.rows(SourceFile::Scripts).next().is_none());
     assert!(rt; is_answered(rt.alloc(), file, bytes, Ok(()))?);
     Ok(())

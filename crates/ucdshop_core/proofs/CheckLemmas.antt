@@ -1,5 +1,5 @@
 -- The least point that breaks a rule.
-use Rattle.std.proofs.Common.{◌≡◌, ℕ, ◌<◌, Bool, false, Option, Some, None, is_some, ap, ◌∙◌}
+use Rattle.std.proofs.Common.{◌≡◌, ℕ, ◌<◌, false, Some, None, is_some, ap, ◌∙◌}
 use Rattle.std.specs.Option.{option_map}
 use Rattle.ucd_model.specs.CompositeProofs.{find_first, find_none_below}
 use Rattle.ucd_model.specs.Facts.{Facts}

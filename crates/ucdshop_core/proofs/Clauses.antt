@@ -1,5 +1,5 @@
 -- What each status says, from what a run leaves.
-use Rattle.std.proofs.Common.{◌≡◌, ◌≢◌, ◌⊎◌, ◌↔◌, ℕ, IsTrue, List, ◌++◌, Option, Some, None, refl, sym, ap, subst, ◌∙◌, inl, inr}
+use Rattle.std.proofs.Common.{◌≡◌, ◌≢◌, ◌⊎◌, ◌↔◌, ℕ, IsTrue, List, ◌++◌, Option, Some, None, refl, ap, subst, inl, inr}
 use Rattle.shelf_io.specs.Counts.{Rose}
 use Rattle.shelf_io.specs.Contents.{SameContents}
 use Rattle.ucdshop_core.specs.Printed.{usage, read_failed, write_failed, out_of_memory, summary, no_counts}

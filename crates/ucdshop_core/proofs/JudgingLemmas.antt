@@ -1,7 +1,7 @@
 -- The verdict on files of which no more was read than decides it.
 use Rattle.std.proofs.Common.{◌≡◌, ◌≢◌, ℕ, zero, suc, IsTrue, ◌+◌, ◌<◌, ◌≤◌, Bool, true, false, List, [], ◌∷◌, length, take, drop, map, get_or, nat_lt, if◌then◌else◌, codes, ◌++◌, Option, Some, None, Result, Ok, Err, refl, sym, ap, subst, ◌∙◌, arith, lit<, inl, inr}
 use mathlib.Core.Path.{fun_ext}
-use Rattle.std.proofs.lemmas.Bool.{cases_lt, lt-ltb, le-ltb}
+use Rattle.std.proofs.lemmas.Bool.{cases_lt, lt-ltb}
 use Rattle.std.proofs.lemmas.List.{length-take, take_all, drop_more}
 use Rattle.std.specs.List.{slice_get}
 use Rattle.std.specs.Str.{bytes_eq}
@@ -13,7 +13,6 @@ use Rattle.ucd_model.specs.declared.files.SourceFile.{SourceFile}
 use Rattle.ucd_model.specs.declared.files.SourceFile.TheVariants.{UnicodeData, PropList, Scripts, WordBreakProperty, CompositionExclusions, CaseFolding, SpecialCasing, PropertyAliases, PropertyValueAliases}
 use Rattle.ucd_model.specs.declared.row.Row.{Row}
 use Rattle.release_rows.specs.FileItems.{FileItem, rows_in}
-use Rattle.release_rows.specs.Loading.{LoadFault, load_or_fault}
 use Rattle.release_rows.specs.Releases.{ReleaseItems, items_now}
 use Rattle.ucdshop_core.specs.Judging.{JudgedAs, LoadsFile, held_at, place_of, release_rows, verdict_at}
 use Rattle.ucdshop_core.specs.Planning.{LoadedAs, NamesUnread, OnRefused}
@@ -171,6 +170,12 @@ pub verdict_refused : (verdict_on : SourceFile → Result (List Row) (List ℕ))
 verdict_refused verdict_on at release line lt loaded here =
     ap (λ (first : Option (List ℕ)). refused_or first (λ file. rows_or_none (verdict_on file)))
     (loaded.later ∙ ap (first_refusal verdict_on) (drop_more source_files at UnicodeData (omega arith)) ∙ ap (λ (r : Result (List Row) (List ℕ)). or_refusal r (first_refusal verdict_on (drop (at + 1) source_files))) here)
+
+-- a file that is not loaded stops the whole
+pub judged_stop : (verdict_on : SourceFile → Result (List Row) (List ℕ)) (at : ℕ) (release old new : ReleaseItems) (file : SourceFile) (expected : Result (List Row) (List ℕ)) (stop : Stop) → at < 9 → IsLoadedTo verdict_on at release → verdict_on (file_at at) ≡ expected → LoadsFile (Err stop) expected file old new → JudgedAs release_rows (Err stop) (verdict_by verdict_on)
+judged_stop verdict_on at release old new file expected (Refused line) lt loaded same h = verdict_refused verdict_on at release line lt loaded (same ∙ h)
+judged_stop verdict_on at release old new file expected (ReadFailed line) lt loaded same h = absurd h
+judged_stop verdict_on at release old new file expected Memory lt loaded same h = tt
 
 pub loaded_from_judged : {A B : Type 0} (view : A → B) (result : Result A Stop) (expected : Result B (List ℕ)) → JudgedAs view result expected → LoadedAs view result expected
 loaded_from_judged view (Ok rows) expected h = h

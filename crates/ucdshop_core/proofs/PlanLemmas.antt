@@ -1,5 +1,5 @@
 -- The derived files of a plan.
-use Rattle.std.proofs.Common.{◌≡◌, ℕ, ◌<◌, List, subst}
+use Rattle.std.proofs.Common.{◌≡◌, ℕ, subst}
 use Rattle.ucd_model.specs.Facts.{Sources, Facts, facts}
 use Rattle.ucd_model.specs.Limits.{point_count}
 use Rattle.ucd_model.specs.DerivedFiles.{derived_text}

@@ -1,5 +1,5 @@
 -- What a run leaves, from what its parts leave.
-use Rattle.std.proofs.Common.{◌≡◌, ◌≢◌, ◌⊎◌, ℕ, Bool, IsTrue, List, [], ◌∷◌, ◌++◌, take, map, Option, Some, None, Result, Ok, Err, IfOk, refl, sym, ap, subst, ◌∙◌, inl, inr}
+use Rattle.std.proofs.Common.{◌≡◌, ℕ, Bool, IsTrue, List, ◌++◌, take, map, Option, Some, Ok, Err, refl, sym, ap, subst, ◌∙◌, inl, inr}
 use mathlib.Core.Path.{fun_ext}
 use Rattle.std.specs.List.{slice_get}
 use Rattle.std.specs.Option.{option_map}
@@ -7,11 +7,11 @@ use Rattle.std.proofs.lemmas.Option.{slice_get-map}
 use Rattle.shelf_io.specs.Counts.{Rose}
 use Rattle.shelf_io.specs.Contents.{SameContents}
 use Rattle.ucd_model.specs.Facts.{Sources}
-use Rattle.ucdshop_core.specs.Printed.{read_failed, write_failed, summary, no_counts, out_of_memory}
-use Rattle.ucdshop_core.specs.Run.{Contents, Job, Derive, form, needed, NewFile, outputs, output_paths, Expected, NoForm, Refuses, Writes, expected, expected_of, judged, job_verdict, after, Replaced, Sees, IsFine}
+use Rattle.ucdshop_core.specs.Printed.{write_failed}
+use Rattle.ucdshop_core.specs.Run.{Contents, Job, Derive, form, needed, NewFile, outputs, output_paths, Refuses, Writes, expected, expected_of, judged, job_verdict, after, Replaced, Sees, IsFine}
 use Rattle.ucdshop_core.specs.Planning.{HasPlan, HaveLines, OnRefused, OnUnread, NamesUnread, NoneFailed}
-use Rattle.ucdshop_core.specs.Writing.{file_of, files_of, StopsAt, StoppedAt}
-use Rattle.ucdshop_core.specs.Outcome.{ShelfSeen, SinkSeen, Unchanged, Grew, GrewInPart, Told, IsClean, IsRefused, IsReadFault, IsWriteStopped, IsUntold, IsWriteFault, IsMemory, Outcome, StoppedWith, StopsWriting, WritesAll, Finished}
+use Rattle.ucdshop_core.specs.Writing.{file_of, files_of}
+use Rattle.ucdshop_core.specs.Outcome.{ShelfSeen, SinkSeen, Unchanged, GrewInPart, Told, Outcome, StoppedWith, Finished}
 use Rattle.ucdshop_core.specs.declared.planning.Plan.{Plan}
 use Rattle.ucdshop_core.specs.declared.writing.Output.{Output}
 use Rattle.ucdshop_core.specs.declared.stop.Stop.{Stop}

@@ -1,5 +1,5 @@
 -- The verdict on a release whose files load: its code points decide.
-use Rattle.std.proofs.Common.{◌≡◌, List, ℕ, Option, Some, None, Result, Ok, Err, ap, ◌∙◌}
+use Rattle.std.proofs.Common.{◌≡◌, List, ℕ, Some, None, Ok, Err, ap, ◌∙◌}
 use Rattle.ucd_model.specs.Facts.{Sources}
 use Rattle.ucdshop_core.specs.Planning.{ChecksAs, LoadedAs}
 use Rattle.ucdshop_core.specs.Run.{Contents, and_valid, files_verdict, point_refusal, refused_or, verdict}

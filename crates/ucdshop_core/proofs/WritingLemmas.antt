@@ -1,12 +1,12 @@
 -- Files that are put one after the other.
-use Rattle.std.proofs.Common.{◌≡◌, ◌≢◌, ℕ, zero, suc, IsTrue, ◌+◌, ◌-◌, ◌<◌, ◌≤◌, Bool, true, false, cond, List, [], ◌∷◌, ◌++◌, length, take, drop, map, get_or, Option, Some, None, refl, sym, ap, subst, ◌∙◌, arith, add-one}
+use Rattle.std.proofs.Common.{◌≡◌, ◌≢◌, ℕ, zero, suc, IsTrue, ◌+◌, ◌-◌, ◌<◌, ◌≤◌, Bool, true, false, cond, List, [], ◌∷◌, ◌++◌, length, take, drop, map, get_or, Some, refl, sym, ap, ◌∙◌, arith}
 use Rattle.std.specs.List.{slice_get}
 use Rattle.std.specs.Str.{bytes_eq}
-use Rattle.std.proofs.lemmas.List.{drop_more, take_more, drop_all, length-drop, length-map, take_all, get_or_default}
+use Rattle.std.proofs.lemmas.List.{drop_more, take_more, length-map, take_all}
 use Rattle.std.proofs.lemmas.Slice.Eq.{bytes_eq-Decides}
 use Rattle.std.proofs.lemmas.Option.{slice_get-get_or}
-use Rattle.ucdshop_core.specs.Run.{Contents, NewFile, put, after, Replaced}
-use Rattle.ucdshop_core.specs.Writing.{file_of, files_of, StopsAt, StoppedAt}
+use Rattle.ucdshop_core.specs.Run.{Contents, NewFile, put, after}
+use Rattle.ucdshop_core.specs.Writing.{file_of, files_of, StoppedAt}
 use Rattle.ucdshop_core.specs.declared.writing.Output.{Output}
 
 after_push : (files : List NewFile) (file : NewFile) (holds : Contents) → after (files ++ file ∷ []) holds ≡ put file (after files holds)

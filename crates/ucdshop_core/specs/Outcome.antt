@@ -43,11 +43,11 @@
 -- WrittenUpTo words place path old new   the files before the place are written, its path holds anything or is absent, and every
 --                                   other path holds what it held
 -- WrittenWhole words old new        every file is written, and every other path holds what it held
-use Rattle.std.specs.Prelude.{◌≡◌, ◌≢◌, ◌⊎◌, ℕ, ◌<◌, Bool, IsTrue, List, [], ◌∷◌, ◌++◌, length, take, Option, Some, None, slice_get}
+use Rattle.std.specs.Prelude.{◌≡◌, ◌≢◌, ◌⊎◌, ℕ, Bool, IsTrue, List, ◌++◌, take, Some, None, slice_get}
 use Rattle.shelf_io.specs.Counts.{Rose}
 use Rattle.shelf_io.specs.Contents.{SameContents, AddsPrefix}
 use Rattle.ucdshop_core.specs.Printed.{usage, read_failed, write_failed, out_of_memory, summary, no_counts}
-use Rattle.ucdshop_core.specs.Run.{Contents, Job, form, needed, NewFile, output_paths, Expected, NoForm, Refuses, Writes, expected, after, Replaced, Sees, IsFine}
+use Rattle.ucdshop_core.specs.Run.{Contents, Job, form, needed, NewFile, output_paths, Refuses, Writes, expected, after, Replaced, Sees, IsFine}
 use Rattle.ucdshop_core.specs.Writing.{files_of, StoppedAt}
 use Rattle.ucdshop_core.specs.declared.planning.Plan.{Plan}
 use Rattle.ucdshop_core.specs.declared.stop.Stop.{Stop}

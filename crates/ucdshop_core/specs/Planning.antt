@@ -12,10 +12,10 @@
 -- HaveLines outputs               each output has the line that names its path as the one that could not be written
 -- HasPlan job rows plan           the plan writes the outputs of the job on these rows, each with the line that names its path,
 --                                 and tells the summary
-use Rattle.std.specs.Prelude.{◌≡◌, ◌≤◌, ℕ, List, length, map, IsTrue, Bool, Option, Some, None, Result, Ok, Err, ⊤, slice_get}
+use Rattle.std.specs.Prelude.{◌≡◌, ℕ, List, map, IsTrue, Bool, Option, Some, None, Result, Ok, Err, ⊤, slice_get}
 use Rattle.ucd_model.specs.Facts.{Sources}
 use Rattle.ucdshop_core.specs.Printed.{read_failed, write_failed, summary, no_counts}
-use Rattle.ucdshop_core.specs.Run.{Contents, Job, NewFile, outputs}
+use Rattle.ucdshop_core.specs.Run.{Job, outputs}
 use Rattle.ucdshop_core.specs.Writing.{files_of}
 use Rattle.ucdshop_core.specs.Judging.{release_rows}
 use Rattle.ucdshop_core.specs.declared.planning.Loaded.{Loaded}

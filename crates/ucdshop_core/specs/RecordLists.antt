@@ -13,8 +13,9 @@
 -- RecordsAs result F           the result is the records of all points, none of which breaks a rule, or in their place the least
 --                              point that does; want of memory says nothing
 -- HavePlaces places records    each place is that of a record
--- Keeps old new place added    the new list has the old one's records and one that is `added` at the place
-use Rattle.std.specs.Prelude.{◌≡◌, ℕ, ◌<◌, ◌≤◌, List, length, Option, Some, None, Result, Ok, Err, ⊤, slice_get, slice_index_or}
+-- IsRecordList places records    each place is that of a record, and there are no more records than places
+-- Keeps old new place added    the new list has the old one's records, at most one more, and one that is `added` at the place
+use Rattle.std.specs.Prelude.{◌≡◌, ℕ, ◌+◌, ◌<◌, ◌≤◌, List, length, Option, Some, None, Result, Ok, Err, ⊤, slice_get, slice_index_or}
 use Rattle.ucd_model.specs.Facts.{Facts, unassigned}
 use Rattle.ucd_model.specs.Limits.{point_count}
 use Rattle.ucd_model.specs.Records.{Record, kept_record, record_at, derived}
@@ -60,8 +61,13 @@ RecordsAs (Err Memory) F = ⊤
 abbrev pub HavePlaces : List ℕ → List KeptRecord → Type 0
 HavePlaces places records = (i : ℕ) → i < length places → slice_index_or places i 0 < length records
 
+pub record IsRecordList (places : List ℕ) (records : List KeptRecord) : Type 0 where
+  pub have : HavePlaces places records
+  pub few : length records ≤ length places
+
 pub record Keeps (old new : List KeptRecord) (place : ℕ) (added : KeptRecord) : Type 0 where
   pub longer : length old ≤ length new
+  pub one_more : length new ≤ length old + 1
   pub below : place < length new
   pub others : (i : ℕ) → i < length old → slice_get new i ≡ slice_get old i
   pub here : (other : Record) → kept_or other (slice_get new place) ≡ kept_record added

@@ -47,10 +47,10 @@
 -- What was seen
 -- Sees tells holds P               P of the contents that were seen: those that are held, where the shelf tells them
 -- IsFine words seen                over these contents files are to be written
-use Rattle.std.specs.Prelude.{◌≡◌, ℕ, Bool, IsTrue, List, [], ◌∷◌, ◌++◌, map, length, Option, Some, None, Result, Ok, Err, if◌then◌else◌, nat_lt, codes}
+use Rattle.std.specs.Prelude.{◌≡◌, ℕ, Bool, IsTrue, List, [], ◌∷◌, ◌++◌, map, Option, Some, None, Result, Ok, Err, if◌then◌else◌, codes}
 use Rattle.std.specs.Str.{bytes_eq}
 use Rattle.std.specs.Option.{option_map}
-use Rattle.ucd_model.specs.Limits.{point_count, file_limit}
+use Rattle.ucd_model.specs.Limits.{point_count}
 use Rattle.ucd_model.specs.Names.{source_path, derived_path}
 use Rattle.ucd_model.specs.Facts.{Sources, Facts, facts}
 use Rattle.ucd_model.specs.DerivedFiles.{derived_files, derived_text}

@@ -6,7 +6,7 @@
 --                                        are told, the files before it are put in order, its path holds anything or is absent,
 --                                        and every other path holds what it held
 -- StoppedAt line outputs tells old new   so it is at some place, of some output
-use Rattle.std.specs.Prelude.{◌≡◌, ◌≢◌, ℕ, Bool, IsTrue, List, length, take, map, slice_get, Option, Some}
+use Rattle.std.specs.Prelude.{◌≡◌, ◌≢◌, ℕ, Bool, IsTrue, List, take, map, slice_get, Some}
 use Rattle.ucdshop_core.specs.Run.{Contents, NewFile, after}
 use Rattle.ucdshop_core.specs.declared.writing.Output.{Output}
 

@@ -1,6 +1,6 @@
 //! The records of the first code points, one after the other.
 
-ghost use Rattle.std.specs.Prelude.{◌≡◌, ◌+◌, ◌<◌, ◌≤◌, ◌^◌, ℕ, OnOk, OnErr, IfOk};
+ghost use Rattle.std.specs.Prelude.{◌≡◌, ◌+◌, ◌<◌, ◌≤◌, ◌^◌, ℕ, OnOk, OnErr, IfOk, length};
 ghost use Rattle.ucd_model.specs.Records.{kept_record};
 ghost use Rattle.ucdshop_core.specs.RecordLists.{count_of, record_of, Keeps};
 
@@ -12,18 +12,18 @@ use ucd_model::{Memory, Record};
 /// Contracts see how many points have a record, and the record of each.
 #[derive(Drop)]
 pub struct RecordList {
-    places: Vec<usize>,
+    places: Vec<u32>,
     records: Vec<Record>,
 }
 
 impl Model for RecordList {
-    ghost use Rattle.ucdshop_core.specs.RecordLists.{RecordsOf, HavePlaces};
+    ghost use Rattle.ucdshop_core.specs.RecordLists.{RecordsOf, IsRecordList};
 
     ghost Value = { RecordsOf };
 
     ghost view = { λ l. record { places = l.places.items; kept = l.records.items } };
 
-    ghost invariant = { λ l. HavePlaces l.places.items l.records.items };
+    ghost invariant = { λ l. IsRecordList l.places.items l.records.items };
 }
 
 impl RecordList {
@@ -39,16 +39,19 @@ impl RecordList {
         })
     }
 
-    /// Gives the next points, so many, their record.
+    /// Gives the next points, so many, one or more, their record.
     ///
     /// - `Memory`: memory ran out. Nothing is told of the list then.
     #[tactic(auto, using(crate::proofs::RecordSteps::still_places, crate::proofs::RecordSteps::more_places, crate::proofs::RecordSteps::added_record, crate::proofs::RecordSteps::other_records))]
     pub fn push_run(&mut self, added: Record, times: usize) -> Result<(), Memory>
-        requires { count_of self.old + times < 2 ^ 32 }
+        requires some { 1 ≤ times }
+        requires few { count_of self.old + times < 2 ^ 32 }
         ensures count { OnOk result (count_of self.new ≡ count_of self.old + times) }
         ensures added { OnOk result ((c : ℕ) → count_of self.old ≤ c → c < count_of self.old + times → record_of self.new c ≡ kept_record added) }
         ensures others { OnOk result ((c : ℕ) → c < count_of self.old → record_of self.new c ≡ record_of self.old c) }
     {
+        // with room for the places no record is kept that no place is of
+        self.places.reserve(times)?;
         let place = keep(&mut self.records, added)?;
         self.places.resize(self.places.len() + times, place)?;
         Ok(())
@@ -59,12 +62,13 @@ impl RecordList {
         requires { at < count_of self.now }
         ensures { kept_record result.now ≡ record_of self.now at }
     {
-        &self.records[self.places[at]]
+        &self.records[self.places[at] as usize]
     }
 }
 
 /// Keeps a record, where it is not the last one already, and answers its place.
-fn keep(records: &mut Vec<Record>, added: Record) -> Result<usize, Memory>
+fn keep(records: &mut Vec<Record>, added: Record) -> Result<u32, Memory>
+    requires { length records.old.items < 2 ^ 32 }
     ensures ok { IfOk result (λ place. Keeps records.old.items records.new.items place added) }
     ensures err { OnErr result (records.new.items ≡ records.old.items) }
 {
@@ -72,8 +76,8 @@ fn keep(records: &mut Vec<Record>, added: Record) -> Result<usize, Memory>
     if let Some(last) = records.last()
         && last.is_same(&added)
     {
-        return Ok(count - 1);
+        return Ok((count - 1) as u32);
     }
     records.push(added)?;
-    Ok(count)
+    Ok(count as u32)
 }

@@ -1,4 +1,3 @@
-use Rattle.std.proofs.Common.{rules}
 use Rattle.ucdshop_core.specs.Planning.{loaded_rows}
 use Rattle.ucdshop_core.proofs.planning.derive.Goals as goal
 

@@ -1,5 +1,5 @@
-use Rattle.std.proofs.Common.{◌≡◌, ◌-◌, ◌∷◌, suc, ℕ, IsTrue, List, length, ap, subst, ◌∙◌, arith}
-use Rattle.ucdshop_core.specs.Run.{Contents, after}
+use Rattle.std.proofs.Common.{◌≡◌, ◌∷◌, ℕ, IsTrue, List, length, ap, subst, ◌∙◌, arith}
+use Rattle.ucdshop_core.specs.Run.{after}
 use Rattle.ucdshop_core.proofs.WritingLemmas.{IsLeft, done_of, left_next, contents_next, stops_here}
 use Rattle.ucdshop_core.specs.declared.writing.Output.{Output}
 use Rattle.ucdshop_core.proofs.writing.write_all.Goals as goal

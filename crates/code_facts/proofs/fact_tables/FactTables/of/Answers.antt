@@ -2,7 +2,7 @@ use Rattle.std.proofs.Common.{◌≡◌, ◌<◌, List, ap, subst, ◌∙◌, re
 use Rattle.ucd_model.specs.Facts.{data_row, class_in}
 use Rattle.ucd_model.specs.declared.row.Row.{Row}
 use Rattle.ucd_model.specs.declared.files.SourceFile.TheVariants.{UnicodeData}
-use Rattle.code_facts.specs.Rows.{pointed, release_sources, row_data}
+use Rattle.code_facts.specs.Rows.{release_sources, row_data}
 use Rattle.code_facts.specs.DataTables.{data_now}
 use Rattle.code_facts.proofs.MarkLemmas.{marks_small}
 use Rattle.code_facts.proofs.FactLemmas.{tables_keep, row_kept, word_small, below_point}
@@ -13,7 +13,7 @@ pub summed-requires : goal.summed-requires
 summed-requires g c k lt =
     let sources = release_sources c.args.release.now in
     let given = ap (λ d. d.word) (c.in_ok-data_tables.ensures.gives k lt) in
-    let small = word_small k (data_row (pointed c.deref.result.now) k) (c.in_ok-data_tables.ensures.class k) in
+    let small = word_small k (data_row c.deref.result.now k) (c.in_ok-data_tables.ensures.class k) in
     let marked = c.in_ok-marked.ensures k lt in
     omega (arith, marks_small 16 sources k)
 
@@ -26,7 +26,7 @@ invariant_of-result g c = record {
 pub returns : goal.returns
 returns g c =
     let sources = release_sources c.args.release.now in
-    let rows : pointed c.deref.result.now ≡ sources UnicodeData = ap pointed c.deref.ensures.value ∙ c.in_ok-rows.ensures.rows in
+    let rows : c.deref.result.now ≡ sources UnicodeData = c.deref.ensures.value ∙ c.in_ok-rows.ensures.rows in
     tables_keep g.T.Table.now _ sources
     (λ k inside.
     let lt = below_point k inside in

@@ -1,4 +1,4 @@
-use Rattle.std.proofs.Common.{◌≡◌, ℕ, ◌-◌, ◌≤◌}
+use Rattle.std.proofs.Common.{◌-◌, ◌≤◌}
 use Rattle.code_facts.specs.FactTables.{tables_facts}
 use Rattle.range_table.specs.RunTable.{values_now}
 use Rattle.ucdshop_core.specs.RecordLists.{DerivedBelow}

@@ -1,0 +1,166 @@
+//! The rows that put marks on code points.
+
+ghost use Rattle.std.specs.Prelude.{◌≡◌, ℕ, ◌&&◌, ◌||◌, IfOk, OnOk};
+ghost use Rattle.std.specs.List.{list_any};
+ghost use Rattle.std.specs.Str.{bytes_eq};
+ghost use Rattle.ucd_model.specs.Facts.{within};
+ghost use Rattle.ucd_model.specs.Names.{flag_name};
+ghost use Rattle.ucd_model.specs.declared.property.Flag.{Flag as FlagValue};
+ghost use Rattle.code_facts.specs.MarkRows.{IsMarked, AreFlagged, KeepsMarkRows, is_flagged, names_flag};
+ghost use Rattle.code_facts.specs.Marks.{covers, puts};
+ghost use Rattle.code_facts.specs.Rows.{release_sources};
+
+use crate::mark::{Mark, flag_name, is_mid_word_value};
+use release_rows::{Release, RowText};
+use source_rows::ValueText;
+use std::alloc::Global;
+use ucd_model::{Flag, Memory, Row, SourceFile, Span};
+
+/// The flags, in the order of their places.
+const FLAGS: [Flag; 14] = [
+    Flag::WhiteSpace,
+    Flag::OtherMath,
+    Flag::OtherLowercase,
+    Flag::OtherUppercase,
+    Flag::OtherAlphabetic,
+    Flag::OtherIdStart,
+    Flag::OtherIdContinue,
+    Flag::PatternSyntax,
+    Flag::PatternWhiteSpace,
+    Flag::OtherDefaultIgnorableCodePoint,
+    Flag::VariationSelector,
+    Flag::PrependedConcatenationMark,
+    Flag::OtherGraphemeExtend,
+    Flag::NoncharacterCodePoint,
+];
+
+/// The code points of a row of PropList.txt that has the name of a flag.
+#[derive(Clone, Copy)]
+pub struct Flagged {
+    /// The flag.
+    pub flag: Flag,
+    /// The code points.
+    pub span: Span,
+}
+
+/// The code points on which rows put marks, row by row.
+#[derive(Drop)]
+pub struct MarkRows {
+    /// Those of the rows of CompositionExclusions.txt.
+    pub excluded: Vec<Span>,
+    /// Those of the rows of WordBreakProperty.txt whose value stands in the middle of a word.
+    pub mid_word: Vec<Span>,
+    /// Those of the rows of PropList.txt that have the name of a flag.
+    pub flagged: Vec<Flagged>,
+}
+
+impl MarkRows {
+    /// The code points on which the rows of a release put marks now.
+    ///
+    /// - `Memory`: memory ran out.
+    pub fn of(alloc: Global, release: &Release) -> Result<MarkRows, Memory>
+        ensures { IfOk result (λ rows. KeepsMarkRows rows (release_sources release.now)) }
+    {
+        Ok(MarkRows {
+            excluded: excluded_of(alloc, release)?,
+            mid_word: mid_words_of(alloc, release)?,
+            flagged: flagged_of(alloc, release)?,
+        })
+    }
+}
+
+/// The code points that are excluded from composition.
+fn excluded_of(alloc: Global, release: &Release) -> Result<Vec<Span>, Memory>
+    ensures { IfOk result (λ spans. IsMarked Mark.Excluded spans.items (release_sources release.now)) }
+{
+    let mut spans = Vec::new(alloc);
+    let mut rows = release.rows(SourceFile::CompositionExclusions);
+    'rows: while let Some((_, row)) = rows.next() {
+        push_some(&mut spans, excluded_span(&row.read(alloc)?))?;
+    }
+    Ok(spans)
+}
+
+/// The code points of a row of CompositionExclusions.txt.
+fn excluded_span(row: &Row) -> Option<Span>
+    ensures { (c : ℕ) → covers c result ≡ puts (Mark.Excluded) c row.now }
+{
+    match row {
+        Row::Exclusion(row) => Some(row.span),
+        _ => None,
+    }
+}
+
+/// The code points that stand in the middle of a word.
+fn mid_words_of(alloc: Global, release: &Release) -> Result<Vec<Span>, Memory>
+    ensures { IfOk result (λ spans. IsMarked Mark.MidWord spans.items (release_sources release.now)) }
+{
+    let mut spans = Vec::new(alloc);
+    let mut rows = release.rows(SourceFile::WordBreakProperty);
+    'rows: while let Some((_, row)) = rows.next() {
+        push_some(&mut spans, mid_word_span(&row))?;
+    }
+    Ok(spans)
+}
+
+/// The code points of a row with a value in the middle of a word.
+fn mid_word_span(row: &RowText<'_>) -> Option<Span>
+    ensures { (c : ℕ) → covers c result ≡ puts (Mark.MidWord) c row.now }
+{
+    match row.value() {
+        Some(ValueText { span, value }) if is_mid_word_value(value) => Some(span),
+        _ => None,
+    }
+}
+
+/// Puts the span, where there is one, at the end.
+fn push_some(spans: &mut Vec<Span>, span: Option<Span>) -> Result<(), Memory>
+    ensures { OnOk result ((c : ℕ) → list_any (within c) spans.new.items ≡ (list_any (within c) spans.old.items || covers c span)) }
+{
+    if let Some(span) = span {
+        spans.push(span)?;
+    }
+    Ok(())
+}
+
+/// The code points that have flags.
+fn flagged_of(alloc: Global, release: &Release) -> Result<Vec<Flagged>, Memory>
+    ensures { IfOk result (λ flagged. AreFlagged flagged.items (release_sources release.now)) }
+{
+    let mut flagged = Vec::new(alloc);
+    let mut rows = release.rows(SourceFile::PropList);
+    'rows: while let Some((_, row)) = rows.next() {
+        push_row(&mut flagged, &row)?;
+    }
+    Ok(flagged)
+}
+
+/// Puts the code points of a row with the flag that it names at the end.
+fn push_row(flagged: &mut Vec<Flagged>, row: &RowText<'_>) -> Result<(), Memory>
+    ensures { OnOk result ((flag : FlagValue) (c : ℕ) → list_any (is_flagged flag c) flagged.new.items ≡ (list_any (is_flagged flag c) flagged.old.items || puts (Mark.Flagged flag) c row.now)) }
+{
+    if let Some(ValueText { span, value }) = row.value() {
+        push_flags(flagged, span, value)?;
+    }
+    Ok(())
+}
+
+/// Puts code points with each flag of this name at the end.
+fn push_flags(flagged: &mut Vec<Flagged>, span: Span, value: &[u8]) -> Result<(), Memory>
+    ensures { OnOk result ((flag : FlagValue) (c : ℕ) → list_any (is_flagged flag c) flagged.new.items ≡ (list_any (is_flagged flag c) flagged.old.items || (bytes_eq value.now (flag_name flag) && within c span))) }
+{
+    'flags: for flag in FLAGS {
+        push_flag(flagged, flag, span, value)?;
+    }
+    Ok(())
+}
+
+/// Puts code points with a flag at the end, if it has this name.
+fn push_flag(flagged: &mut Vec<Flagged>, flag: Flag, span: Span, value: &[u8]) -> Result<(), Memory>
+    ensures { OnOk result ((other : FlagValue) (c : ℕ) → list_any (is_flagged other c) flagged.new.items ≡ (list_any (is_flagged other c) flagged.old.items || names_flag value.now c span other flag)) }
+{
+    if value == flag_name(flag) {
+        flagged.push(Flagged { flag, span })?;
+    }
+    Ok(())
+}

@@ -1,0 +1,151 @@
+-- The texts of the names of keys.
+use Rattle.std.proofs.Common.{◌≡◌, ℕ, zero, suc, ◌-◌, ◌<◌, ◌≤◌, Bool, true, false, not, ◌&&◌, ◌||◌, leb, eqb, List, [], ◌∷◌, ◌++◌, take, Result, Ok, Err, refl, ap, ◌∙◌, arith, append_assoc, lit≤, cond, Vec, Global}
+use Rattle.std.specs.List.{All, list_all, list_any, slice_split}
+use Rattle.std.specs.Result.{IfOk}
+use Rattle.std.proofs.lemmas.Bool.{and_parts}
+use Rattle.std.proofs.lemmas.List.{append-nil}
+use Rattle.std.proofs.lemmas.List.Elements.{All-nil, All-cons, All-head, All-tail, All-take}
+use Rattle.std.proofs.lemmas.List.Splits.{slice_split_none, slice_split_at}
+use Rattle.ucd_model.specs.Fields.{field, is_semicolon, is_name, is_name_byte}
+use Rattle.ucd_model.specs.OtherLines.{is_name_or_empty}
+use Rattle.ucd_model.specs.RowValues.{IsAliasName, AliasOk, RowOk}
+use Rattle.ucd_model.specs.declared.files.SourceFile.{SourceFile}
+use Rattle.ucd_model.specs.declared.files.SourceFile.TheVariants.{UnicodeData, PropList, Scripts, WordBreakProperty, CompositionExclusions, CaseFolding, SpecialCasing, PropertyAliases, PropertyValueAliases}
+use Rattle.ucd_model.specs.declared.row.AliasRow.{AliasRow}
+use Rattle.ucd_model.specs.declared.row.CasingRow.{CasingRow}
+use Rattle.ucd_model.specs.declared.row.Row.TheVariants.{Casing as CasingLine, Alias as AliasLine}
+use Rattle.source_rows.specs.Faults.{row_or_fault, HasNames}
+use Rattle.source_rows.specs.Laws.{RowsAreRead, RowsAreOk}
+use Rattle.release_rows.specs.Entries.{EntersAs}
+use Rattle.release_rows.specs.Keys.{condition_names, alias_count, key_names, has_spans, row_end}
+use Rattle.release_rows.specs.Names.{has_names, names_behind, first_names}
+use Rattle.release_rows.specs.Places.{names_of}
+
+-- what follows of a value that is there
+pub if_ok_map : {A E : Type 0} (r : Result A E) (P Q : A → Type 0) → ((x : A) → P x → Q x) → IfOk r P → IfOk r Q
+if_ok_map (Ok x) P Q f p = f x p
+if_ok_map (Err e) P Q f p = p
+
+-- no byte is a `;`
+abbrev pub Plain : List ℕ → Type 0
+Plain n = All (λ b. is_semicolon b ≡ false) n
+
+not_true : (b : Bool) → not b ≡ true → b ≡ false
+not_true false h = refl
+not_true true h = absurd cc
+
+plain_byte : (b : ℕ) → is_name_byte b ≡ true → is_semicolon b ≡ false
+plain_byte b h = not_true (eqb b 59) (and_parts (leb 32 b && leb b 126) (not (eqb b 59)) h).1
+
+plain_bytes : (bs : List ℕ) → list_all is_name_byte bs ≡ true → Plain bs
+plain_bytes [] h = All-nil (λ b. is_semicolon b ≡ false)
+plain_bytes (b ∷ bs) h = let parts = and_parts (is_name_byte b) (list_all is_name_byte bs) h in All-cons (λ b. is_semicolon b ≡ false) b bs (plain_byte b parts.0) (plain_bytes bs parts.1)
+
+or_none : (a b : Bool) → (a || b) ≡ false → (a ≡ false) × (b ≡ false)
+or_none false b h = (refl, h)
+or_none true b h = absurd cc
+
+plain_from : (bs : List ℕ) → list_any is_semicolon bs ≡ false → Plain bs
+plain_from [] h = All-nil (λ b. is_semicolon b ≡ false)
+plain_from (b ∷ bs) h = let parts = or_none (is_semicolon b) (list_any is_semicolon bs) h in All-cons (λ b. is_semicolon b ≡ false) b bs parts.0 (plain_from bs parts.1)
+
+plain_name : (n : List ℕ) → is_name_or_empty n ≡ true → Plain n
+plain_name [] h = All-nil (λ b. is_semicolon b ≡ false)
+plain_name (b ∷ bs) h = plain_bytes (b ∷ bs) h
+
+-- a value is the one name of its text
+pub one_name : (n : List ℕ) → is_name n ≡ true → names_of n ≡ n ∷ []
+one_name [] h = absurd cc
+one_name (b ∷ bs) h = slice_split_none is_semicolon (b ∷ bs) (plain_bytes (b ∷ bs) h)
+
+-- so are conditions, and there is no name where there are none
+pub some_conditions : (n : List ℕ) → list_any is_semicolon n ≡ false → names_of n ≡ condition_names n
+some_conditions [] h = refl
+some_conditions (b ∷ bs) h = slice_split_none is_semicolon (b ∷ bs) (plain_from (b ∷ bs) h)
+
+-- ---- names with `;` between them
+
+split_names : (n : List ℕ) (ns : List (List ℕ)) → Plain n → All Plain ns → slice_split is_semicolon (n ++ names_behind ns) ≡ n ∷ ns
+split_names n [] one more = ap (λ (bs : List ℕ). slice_split is_semicolon bs) (append-nil n) ∙ slice_split_none is_semicolon n one
+split_names n (m ∷ ms) one more = slice_split_at is_semicolon n 59 (m ++ names_behind ms) one refl ∙ ap (λ (rest : List (List ℕ)). n ∷ rest) (split_names m ms (All-head Plain m ms more) (All-tail Plain m ms more))
+
+all_plain : (ns : List (List ℕ)) → All IsAliasName ns → All Plain ns
+all_plain [] h = All-nil Plain
+all_plain (n ∷ ns) h = All-cons Plain n ns (plain_name n (All-head IsAliasName n ns h).name) (all_plain ns (All-tail IsAliasName n ns h))
+
+pub first_names_are : (count : ℕ) (n : List ℕ) (ns : List (List ℕ)) → 1 ≤ count → is_name n ≡ true → All IsAliasName (n ∷ ns) → names_of (first_names count (n ∷ ns)) ≡ take count (n ∷ ns)
+first_names_are zero n ns some name all = absurd (omega (arith, some))
+first_names_are (suc count) [] ns some name all = absurd cc
+first_names_are (suc count) (b ∷ bs) ns some name all =
+    let less : suc count - 1 ≡ count = omega arith in
+    rw less (split_names (b ∷ bs) (take count ns) (plain_bytes (b ∷ bs) name) (All-take Plain count ns (all_plain ns (All-tail IsAliasName (b ∷ bs) ns all))))
+
+-- one more name behind those so far
+pub more_names : (text n : List ℕ) (left : ℕ) (ns : List (List ℕ)) → 0 < left → ((text ++ 59 ∷ []) ++ n) ++ names_behind (take (left - 1) ns) ≡ text ++ names_behind (take left (n ∷ ns))
+more_names text n zero ns some = absurd (omega (arith, some))
+more_names text n (suc left) ns some =
+    let less : suc left - 1 ≡ left = omega arith in
+    rw less (append_assoc (text ++ 59 ∷ []) n (names_behind (take left ns)) ∙ append_assoc text (59 ∷ []) (n ++ names_behind (take left ns)))
+
+-- the conditions of a casing that its file can have
+pub casing_text : (file : SourceFile) (row : CasingRow) → RowOk file (CasingLine row) → names_of row.conditions ≡ condition_names row.conditions
+casing_text SpecialCasing row ok = some_conditions row.conditions ok.no_semicolon
+casing_text UnicodeData row ok = absurd ok
+casing_text PropList row ok = absurd ok
+casing_text Scripts row ok = absurd ok
+casing_text WordBreakProperty row ok = absurd ok
+casing_text CompositionExclusions row ok = absurd ok
+casing_text CaseFolding row ok = absurd ok
+casing_text PropertyAliases row ok = absurd ok
+casing_text PropertyValueAliases row ok = absurd ok
+
+-- ---- rows of names
+
+alias_by : (count : ℕ) (row : AliasRow) → 1 ≤ count → AliasOk count row → names_of (first_names count row.names) ≡ take count row.names
+alias_by count row some ok = by_names row.names ok.first ok.each
+  where
+    by_names : (ns : List (List ℕ)) → is_name (field ns 0) ≡ true → All IsAliasName ns → names_of (first_names count ns) ≡ take count ns
+    by_names [] first each = absurd cc
+    by_names (n ∷ ns) first each = first_names_are count n ns some first each
+
+-- the names in the key of a row of names that its file can have
+pub alias_text : (file : SourceFile) (row : AliasRow) → has_names file ≡ true → RowOk file (AliasLine row) → names_of (first_names (alias_count file) row.names) ≡ key_names file (AliasLine row)
+alias_text PropertyAliases row has ok = alias_by 2 row (lit≤ tt) ok
+alias_text PropertyValueAliases row has ok = alias_by 3 row (lit≤ tt) ok
+alias_text UnicodeData row has ok = absurd cc
+alias_text PropList row has ok = absurd cc
+alias_text Scripts row has ok = absurd cc
+alias_text WordBreakProperty row has ok = absurd cc
+alias_text CompositionExclusions row has ok = absurd cc
+alias_text CaseFolding row has ok = absurd cc
+alias_text SpecialCasing row has ok = absurd cc
+
+alias_end : (file : SourceFile) (row : AliasRow) → ◌≡◌ {A = ℕ} 0 (row_end file (AliasLine row))
+alias_end file row = by_spans (has_spans file)
+  where
+    by_spans : (b : Bool) → ◌≡◌ {A = ℕ} 0 (cond b 0 0)
+    by_spans true = refl
+    by_spans false = refl
+
+-- what is kept of a row of names
+pub alias_entry : (file : SourceFile) (bytes : List ℕ) (names : List (List ℕ)) (text : Vec ℕ Global) → has_names file ≡ true → RowsAreRead → RowsAreOk → row_or_fault file bytes ≡ Ok (AliasLine (record { names = names })) → (count : ℕ) → count ≡ alias_count file → text.items ≡ first_names count names → EntersAs file (Ok (record { place = record { names = text; code = 0 }; last = 0 })) (row_or_fault file bytes)
+alias_entry file bytes names text has read ok h count is same =
+    let row : AliasRow = record { names = names } in
+    let fine : RowOk file (AliasLine row) = (ok file (AliasLine row)).1 (bytes, (read file bytes (AliasLine row)).0 h) in
+    rw h (record {
+      names = ap (λ (bs : List ℕ). names_of bs) (same ∙ ap (λ (n : ℕ). first_names n names) is) ∙ alias_text file row has fine;
+      code = refl;
+      last = alias_end file row;
+      ordered = omega arith;
+    })
+
+pub are_names : (file : SourceFile) → has_names file ≡ true → HasNames file
+are_names PropertyAliases has = tt
+are_names PropertyValueAliases has = tt
+are_names UnicodeData has = absurd cc
+are_names PropList has = absurd cc
+are_names Scripts has = absurd cc
+are_names WordBreakProperty has = absurd cc
+are_names CompositionExclusions has = absurd cc
+are_names CaseFolding has = absurd cc
+are_names SpecialCasing has = absurd cc

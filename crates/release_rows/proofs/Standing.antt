@@ -1,0 +1,65 @@
+-- Where the items of a file stand in its text.
+use Rattle.std.proofs.Common.{◌≡◌, ℕ, ◌+◌, ◌≤◌, Bool, ◌||◌, List, [], ◌∷◌, ◌++◌, length, take, drop, map, Option, Some, None, Ok, refl, ap, ◌∙◌, arith, append_assoc, length-append, length-drop}
+use Rattle.std.specs.List.{list_any}
+use Rattle.std.proofs.Math.Seq.{take-append_seam, drop-append_seam}
+use Rattle.std.proofs.lemmas.List.{append-nil, map-append, length-take}
+use Rattle.std.proofs.lemmas.List.Elements.{All-nil, All-cons, All-append}
+use Rattle.std.proofs.lemmas.Grind.{flat_map-append}
+use Rattle.ucd_model.specs.declared.files.SourceFile.{SourceFile}
+use Rattle.ucd_model.specs.declared.row.Row.{Row}
+use Rattle.ucd_model.specs.Lines.{ending_bytes}
+use Rattle.ucd_lines.specs.Items.{ending_of}
+use Rattle.release_rows.specs.Pieces.{Lines, piece_content, piece_ending, piece_lines}
+use Rattle.release_rows.specs.Entries.{EntersSome}
+use Rattle.release_rows.specs.Extents.{Extent}
+use Rattle.release_rows.specs.FileItems.{FileItem, bytes_of, file_item_bytes}
+use Rattle.release_rows.specs.Loading.{content_row, file_item, piece_fault}
+use Rattle.release_rows.specs.Progress.{Stands, IsLoading, IsProgress, BreaksNoRule, entry_extents, start_of_entry}
+use Rattle.release_rows.specs.StoredItems.{content_at, item_at, IsItem}
+use Rattle.release_rows.specs.declared.entry.Entry.{Entry}
+use Rattle.release_rows.specs.declared.stretch.Stretch.{Stretch}
+use Rattle.release_rows.proofs.Growing.{grows}
+
+part_is : (front content ending rest : List ℕ) → take (length content) (drop (length front) (front ++ ((content ++ ending) ++ rest))) ≡ content
+part_is front content ending rest =
+    ap (λ (bs : List ℕ). take (length content) bs) (drop-append_seam front ((content ++ ending) ++ rest) ∙ append_assoc content ending rest)
+    ∙ take-append_seam content (ending ++ rest)
+
+-- the content of a piece that stands behind the items
+pub content_is : (text : List ℕ) (items : List FileItem) (p : Lines) (s : Stretch) → Stands text items p → s.start ≡ length (bytes_of items) → s.len ≡ length (piece_content p) → content_at text s ≡ piece_content p
+content_is text items p s stands start len =
+    rw (start, len, stands.1) (part_is (bytes_of items) (piece_content p) (ending_bytes (piece_ending p)) stands.0)
+
+pub item_is : (file : SourceFile) (text : List ℕ) (s : Stretch) (p : Lines) → content_at text s ≡ piece_content p → ending_of s.ending ≡ piece_ending p → s.lines ≡ piece_lines p → item_at file text s ≡ file_item file p
+item_is file text s p content ending lines = rw (content, ending, lines) refl
+
+pub bytes_with : (items : List FileItem) (item : FileItem) → bytes_of (items ++ item ∷ []) ≡ bytes_of items ++ file_item_bytes item
+bytes_with items item = flat_map-append file_item_bytes items (item ∷ []) ∙ ap (λ (bs : List ℕ). bytes_of items ++ bs) (append-nil (file_item_bytes item))
+
+length_content : (text : List ℕ) (s : Stretch) → s.start + s.len ≤ length text → length (content_at text s) ≡ s.len
+length_content text s fits = omega (arith, length-take s.len (drop s.start text), length-drop s.start text, fits)
+
+item_length : (file : SourceFile) (text : List ℕ) (s : Stretch) → s.start + s.len ≤ length text → length (file_item_bytes (item_at file text s)) ≡ s.len + length (ending_bytes (ending_of s.ending))
+item_length file text s fits = length-append (content_at text s) (ending_bytes (ending_of s.ending)) ∙ ap (λ (n : ℕ). n + length (ending_bytes (ending_of s.ending))) (length_content text s fits)
+
+-- one more item behind those that are loaded
+pub loads : (file : SourceFile) (text : List ℕ) (stretches : List Stretch) (s : Stretch) (kept kept' : List Extent) (start : Option ℕ) (count end : ℕ) (entry : Option Entry) → IsLoading file text stretches kept start count end → IsItem file text s → EntersSome file entry (item_at file text s).row → ((p : Extent → Bool) → list_any p kept' ≡ (list_any p (entry_extents entry) || list_any p kept)) → IsLoading file text (stretches ++ s ∷ []) kept' (start_of_entry start entry) (count + s.lines) (end + (s.len + length (ending_bytes (ending_of s.ending))))
+loads file text stretches s kept kept' start count end entry h item enters more =
+    let items = map (item_at file text) stretches in
+    let new = item_at file text s in
+    let pushed : map (item_at file text) (stretches ++ s ∷ []) ≡ items ++ new ∷ [] = map-append (item_at file text) stretches (s ∷ []) in
+    let rows : IsProgress file (items ++ new ∷ []) kept' (start_of_entry start entry) (count + s.lines) = grows file items new kept kept' start count entry h.rows enters more in
+    let bytes : length (bytes_of (items ++ new ∷ [])) ≡ length (bytes_of items) + length (file_item_bytes new) = ap length (bytes_with items new) ∙ length-append (bytes_of items) (file_item_bytes new) in
+    record {
+      each = All-append (IsItem file text) stretches (s ∷ []) h.each (All-cons (IsItem file text) s [] item (All-nil (IsItem file text)));
+      rows = rw pushed rows;
+      ends = rw pushed (omega (arith, h.ends, bytes, item_length file text s item.fits));
+      small = h.small;
+    }
+
+-- ---- a piece
+
+-- a piece whose row breaks no rule has no fault
+pub no_fault : (file : SourceFile) (items : List FileItem) (p : Lines) (row : Option Row) → content_row file (piece_content p) ≡ Ok row → BreaksNoRule file items row → piece_fault file items p ≡ None
+no_fault file items p None read rule = rw read refl
+no_fault file items p (Some row) read rule = rw (read, rule) refl

@@ -1,0 +1,10 @@
+use Rattle.std.proofs.Common.{ℕ, List, ◌++◌, take, sym, ap, ◌∙◌}
+use Rattle.release_rows.specs.Names.{names_behind}
+use Rattle.release_rows.proofs.KeyTexts.{more_names}
+use Rattle.release_rows.proofs.read_entry.first_names.Goals as goal
+
+pub names-preserved : goal.names-preserved
+names-preserved c =
+    let left = c.names.left in
+    let more = more_names c.names.text.items c.in-Some-next.name.now left c.next-in-names.new.self c.names-test.true in
+    rw (c.in_ok-extend_from_slice.ensures.items, c.in_ok-push.ensures.items) (more ∙ ap (λ (ns : List (List ℕ)). c.names.text.items ++ names_behind (take left ns)) (sym c.in-Some-next.ensures.steps) ∙ c.names.invariant)

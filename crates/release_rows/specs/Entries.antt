@@ -1,0 +1,39 @@
+-- What is kept of a row while its file is loaded: its key, and the last code point that no other row may have.
+--
+-- IsFree result place rule     the place is handed back where there is no rule, else the result is the rule
+-- IsEntry file row e           e has the names of the row's key, its first code point, and the last one that may not be shared
+-- EntersAs file result row     the result is what is kept of the row, or the fault; want of memory says nothing
+-- EntersSome file o row        o is what is kept of the row, where there is one; None where there is none
+use Rattle.std.specs.Prelude.{◌≡◌, ◌≤◌, Option, Some, None, Result, Ok, Err}
+use Rattle.ucd_model.specs.declared.files.SourceFile.{SourceFile}
+use Rattle.ucd_model.specs.declared.row.Row.{Row}
+use Rattle.source_rows.specs.declared.fault.RowFault.{RowFault}
+use Rattle.source_rows.specs.declared.fault.RowStop.{RowStop}
+use Rattle.source_rows.specs.declared.fault.RowStop.TheVariants.{Fault, Memory}
+use Rattle.release_rows.specs.Keys.{row_span, row_end, key_names}
+use Rattle.release_rows.specs.Places.{names_in}
+use Rattle.release_rows.specs.declared.entry.Entry.{Entry}
+use Rattle.release_rows.specs.declared.key_rule.KeyRule.{KeyRule}
+use Rattle.release_rows.specs.declared.place.Place.{Place}
+
+abbrev pub IsFree : Result Place KeyRule → Place → Option KeyRule → Type 0
+IsFree (Ok free) place rule = (free ≡ place) × (rule ≡ None)
+IsFree (Err broken) place rule = rule ≡ Some broken
+
+pub record IsEntry (file : SourceFile) (row : Row) (e : Entry) : Type 0 where
+  pub names : names_in e.place ≡ key_names file row
+  pub code : e.place.code ≡ (row_span row).lo
+  pub last : e.last ≡ row_end file row
+  pub ordered : e.place.code ≤ e.last
+
+abbrev pub EntersAs : SourceFile → Result Entry RowStop → Result Row RowFault → Type 0
+EntersAs file (Ok e) (Ok row) = IsEntry file row e
+EntersAs file (Ok e) (Err fault) = ⊥
+EntersAs file (Err (Fault fault)) row = row ≡ Err fault
+EntersAs file (Err Memory) row = Unit {0}
+
+abbrev pub EntersSome : SourceFile → Option Entry → Option Row → Type 0
+EntersSome file None None = Unit {0}
+EntersSome file (Some e) (Some row) = IsEntry file row e
+EntersSome file None (Some row) = ⊥
+EntersSome file (Some e) None = ⊥

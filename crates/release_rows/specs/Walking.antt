@@ -1,0 +1,13 @@
+-- The rows of a file, one after the other.
+--
+-- IsWalk file text items line   the items that are left stand in the text, the first on this line, and with two lines each their line
+--                               numbers stay below 2^64
+use Rattle.std.specs.Prelude.{ℕ, ◌+◌, ◌*◌, ◌<◌, ◌^◌, List, length}
+use Rattle.std.specs.List.{All}
+use Rattle.ucd_model.specs.declared.files.SourceFile.{SourceFile}
+use Rattle.release_rows.specs.StoredItems.{IsItem}
+use Rattle.release_rows.specs.declared.stretch.Stretch.{Stretch}
+
+pub record IsWalk (file : SourceFile) (text : List ℕ) (items : List Stretch) (line : ℕ) : Type 0 where
+  pub each : All (IsItem file text) items
+  pub fits : line + 2 * length items < 2 ^ 64

@@ -1,0 +1,29 @@
+//! Where an item of a file stands in the text of the file.
+
+ghost use Rattle.std.specs.Prelude.{◌≡◌, ◌+◌, ◌≤◌, length};
+ghost use Rattle.release_rows.specs.StoredItems.{content_at};
+
+use ucd_lines::Ending;
+
+/// A line of trivia, or the lines of a row: where the content stands in the text of the file, what ends it, and how
+/// many lines it has, 1 or 2.
+#[derive(Clone, Copy, Debug)]
+pub struct Stretch {
+    /// The place of the first byte, counted from 0.
+    pub start: u32,
+    /// How many bytes the content has.
+    pub len: u32,
+    /// What ends the last line.
+    pub ending: Ending,
+    /// How many lines there are.
+    pub lines: u8,
+}
+
+/// The content of an item in the text of its file.
+pub fn content_in(text: &[u8], stretch: Stretch) -> &[u8]
+    requires { stretch.start + stretch.len ≤ length text.now }
+    ensures { result.now ≡ content_at text.now stretch }
+{
+    let start = stretch.start as usize;
+    &text[start..start + stretch.len as usize]
+}

@@ -8,7 +8,7 @@ use std::alloc::Global;
 use std::marker::Model;
 use ucd_model::{Memory, Record};
 
-/// The records of the first code points. A record that equals the one before it is kept once.
+/// The records of the first code points. A record that equals one of the two kept last is not kept again.
 /// Contracts see how many points have a record, and the record of each.
 #[derive(Drop)]
 pub struct RecordList {
@@ -66,17 +66,19 @@ impl RecordList {
     }
 }
 
-/// Keeps a record, where it is not the last one already, and answers its place.
+/// Keeps a record, where it is none of the last two already, and answers its place.
 fn keep(records: &mut Vec<Record>, added: Record) -> Result<u32, Memory>
     requires { length records.old.items < 2 ^ 32 }
     ensures ok { IfOk result (λ place. Keeps records.old.items records.new.items place added) }
     ensures err { OnErr result (records.new.items ≡ records.old.items) }
 {
     let count = records.len();
-    if let Some(last) = records.last()
-        && last.is_same(&added)
-    {
+    if count >= 1 && records[count - 1].is_same(&added) {
         return Ok((count - 1) as u32);
+    }
+    // letters of two cases stand in turns
+    if count >= 2 && records[count - 2].is_same(&added) {
+        return Ok((count - 2) as u32);
     }
     records.push(added)?;
     Ok(count as u32)

@@ -1,5 +1,9 @@
 //! Facts of small releases, made of lines of the real files.
 
+ghost use Rattle.std.specs.Prelude.{◌≡◌, [], IfOk};
+ghost use Rattle.ucd_model.specs.declared.files.SourceFile.TheVariants.{SpecialCasing, WordBreakProperty, CompositionExclusions};
+ghost use Rattle.release_rows.specs.Releases.{items_now};
+
 use crate::FactTables;
 use range_table::RunTable;
 use release_rows::Release;
@@ -29,7 +33,25 @@ fn is_image(image: Option<&[Point]>, numbers: &[u32]) -> bool {
     }
 }
 
-/// The tables of a release of four files.
+/// A release of three files; the others have no items yet.
+fn three_files(
+    alloc: Global,
+    data_lines: &[u8],
+    properties: &[u8],
+    foldings: &[u8],
+) -> Result<Release, Fail>
+    ensures casings { IfOk result (λ release. items_now release SpecialCasing ≡ []) }
+    ensures words { IfOk result (λ release. items_now release WordBreakProperty ≡ []) }
+    ensures exclusions { IfOk result (λ release. items_now release CompositionExclusions ≡ []) }
+{
+    let mut release = Release::empty(alloc);
+    release.load_file(SourceFile::UnicodeData, data_lines)?;
+    release.load_file(SourceFile::PropList, properties)?;
+    release.load_file(SourceFile::CaseFolding, foldings)?;
+    Ok(release)
+}
+
+/// The tables of a release of six files.
 fn tables(
     alloc: Global,
     data_lines: &[u8],
@@ -37,10 +59,7 @@ fn tables(
     foldings: &[u8],
     casings: &[u8],
 ) -> Result<Tables, Fail> {
-    let mut release = Release::empty(alloc);
-    release.load_file(SourceFile::UnicodeData, data_lines)?;
-    release.load_file(SourceFile::PropList, properties)?;
-    release.load_file(SourceFile::CaseFolding, foldings)?;
+    let mut release = three_files(alloc, data_lines, properties, foldings)?;
     release.load_file(SourceFile::SpecialCasing, casings)?;
     release.load_file(
         SourceFile::WordBreakProperty,

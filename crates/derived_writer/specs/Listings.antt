@@ -4,7 +4,7 @@
 -- listing_section l   the section that l stands for
 -- listing_labels l R  the label of each code point in that section, over the records R
 -- text_shown t        the label with the text t
-use Rattle.std.specs.Prelude.{ℕ, List, ◌∷◌, Option, Some, None, codes}
+use Rattle.std.specs.Prelude.{ℕ, List, Option, Some, None, codes}
 use Rattle.std.specs.Borrow.{Bor}
 use Rattle.ucd_model.specs.Labels.{Label}
 use Rattle.ucd_model.specs.DerivedFiles.{Section, core_listing, category_listing, class_listing, type_listing, exclusion_listing, quick_listing, casefold_listing, changes_listing}

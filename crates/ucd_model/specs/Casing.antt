@@ -11,7 +11,7 @@
 -- casemaps F s             whether it changes when it is lowercased, uppercased or titlecased
 -- where_form p r           p of the list r; false where r is a rule
 -- changes_when test F c    the test of the canonical decomposition of c
-use Rattle.std.specs.Prelude.{ℕ, Bool, true, false, ◌||◌, not, List, [], ◌∷◌, ◌++◌, Result, Ok, Err, if◌then◌else◌}
+use Rattle.std.specs.Prelude.{ℕ, Bool, false, ◌||◌, not, List, [], ◌∷◌, ◌++◌, Result, Ok, Err, if◌then◌else◌}
 use Rattle.std.specs.List.{flat_map}
 use Rattle.std.specs.Str.{bytes_eq}
 use Rattle.ucd_model.specs.Facts.{Facts, image_points}

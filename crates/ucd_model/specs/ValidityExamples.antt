@@ -3,14 +3,14 @@
 -- mapped k points c   the facts of c, which has a row, the kind k and this decomposition mapping
 -- sample              1 maps to 2, which has no row; 3 maps to 4 and 4 to 3; 5 maps by a compatibility mapping to 64 times 6,
 --                     and 7 to 64 times 6 and to 6 once more; 6 has no mapping; 8 maps to itself in all its case mappings
-use Rattle.std.proofs.Common.{◌≡◌, ℕ, true, false, List, [], ◌∷◌, ◌++◌, Some, get_or, refl, replicate}
+use Rattle.std.proofs.Common.{◌≡◌, ℕ, true, false, List, [], ◌∷◌, get_or, refl, replicate}
 use Rattle.ucd_model.specs.Expansion.{full}
 use Rattle.ucd_model.specs.Facts.{Facts, unassigned}
 use Rattle.ucd_model.specs.Validity.{lacks_row, lacks_a_row, is_endless, is_too_long}
 use Rattle.ucd_model.specs.declared.decomposition.Kind.{Kind}
 use Rattle.ucd_model.specs.declared.decomposition.Kind.TheVariants.{Plain, Canonical, Compat}
 use Rattle.ucd_model.specs.declared.decomposition.Tag.TheVariants.{Compat as CompatTag}
-use Rattle.ucd_model.specs.declared.image.Image.TheVariants.{Same, To}
+use Rattle.ucd_model.specs.declared.image.Image.TheVariants.{To}
 
 abbrev mapped : Kind → List ℕ → ℕ → Facts
 mapped kind points c = record (unassigned c) { assigned = true; kind = kind; mapping = points }

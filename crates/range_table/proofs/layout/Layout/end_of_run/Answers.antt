@@ -1,4 +1,4 @@
-use Rattle.std.proofs.Common.{◌≡◌, ◌+◌, ◌<◌, suc, length, sym, arith, ap, subst, ◌∙◌, ℕ}
+use Rattle.std.proofs.Common.{◌≡◌, ◌+◌, ◌<◌, suc, length, sym, arith, ap, subst, ◌∙◌}
 use Rattle.range_table.specs.Layout.{count_before, value_at, IsEnd}
 use Rattle.range_table.proofs.Lookups.{count_before-le}
 use Rattle.range_table.proofs.RunEnds.{end_of_run, end_of_run-all, end_of_run-start, ends_at}

@@ -32,7 +32,8 @@ impl PointLists {
         &self.pool[place.start..place.end]
     }
 
-    /// The last code point up to which all code points have now the list of this one.
+    /// The end of a stretch from a code point on in which all code points have now its list. Equal lists that were given
+    /// apart may stand in two stretches.
     pub fn last_of_run(&self, c: Point) -> Point
         ensures from { c ≤ result }
         ensures same { (k : ℕ) → c ≤ k → k ≤ result → lists_now self.now k ≡ lists_now self.now c }

@@ -1,6 +1,6 @@
 -- The texts of the names of keys.
-use Rattle.std.proofs.Common.{◌≡◌, ℕ, zero, suc, ◌-◌, ◌<◌, ◌≤◌, Bool, true, false, not, ◌&&◌, ◌||◌, leb, eqb, List, [], ◌∷◌, ◌++◌, take, Result, Ok, Err, refl, ap, ◌∙◌, arith, append_assoc, lit≤, cond, Vec, Global}
-use Rattle.std.specs.List.{All, list_all, list_any, slice_split}
+use Rattle.std.proofs.Common.{◌≡◌, ℕ, zero, suc, ◌-◌, ◌<◌, ◌≤◌, Bool, true, false, not, ◌&&◌, ◌||◌, leb, eqb, List, [], ◌∷◌, ◌++◌, take, Result, Ok, Err, refl, ap, ◌∙◌, arith, append_assoc, lit≤, cond, Vec, Global, sym}
+use Rattle.std.specs.List.{All, list_all, list_any, slice_split, flat_map, join_with_byte}
 use Rattle.std.specs.Result.{IfOk}
 use Rattle.std.proofs.lemmas.Bool.{and_parts}
 use Rattle.std.proofs.lemmas.List.{append-nil}
@@ -18,7 +18,7 @@ use Rattle.source_rows.specs.Faults.{row_or_fault, HasNames}
 use Rattle.source_rows.specs.Laws.{RowsAreRead, RowsAreOk}
 use Rattle.release_rows.specs.Entries.{EntersAs}
 use Rattle.release_rows.specs.Keys.{condition_names, alias_count, key_names, has_spans, row_end}
-use Rattle.release_rows.specs.Names.{has_names, names_behind, first_names}
+use Rattle.release_rows.specs.Names.{has_names, first_names}
 use Rattle.release_rows.specs.Places.{names_of}
 
 -- what follows of a value that is there
@@ -65,6 +65,22 @@ some_conditions (b ∷ bs) h = slice_split_none is_semicolon (b ∷ bs) (plain_f
 
 -- ---- names with `;` between them
 
+-- each name behind a `;`
+abbrev pub names_behind : List (List ℕ) → List ℕ
+names_behind ns = flat_map (λ n. 59 ∷ n) ns
+
+-- a name, and those behind it
+joined_names : (n : List ℕ) (ns : List (List ℕ)) → n ++ names_behind ns ≡ join_with_byte 59 (n ∷ ns)
+joined_names n [] = append-nil n
+joined_names n (m ∷ ms) = ap (λ (bs : List ℕ). n ++ 59 ∷ bs) (joined_names m ms)
+
+-- a name, and as many of those behind it as the count leaves
+pub first_and_behind : (count : ℕ) (n : List ℕ) (ns : List (List ℕ)) → 1 ≤ count → n ++ names_behind (take (count - 1) ns) ≡ first_names count (n ∷ ns)
+first_and_behind zero n ns some = absurd (omega (arith, some))
+first_and_behind (suc count) n ns some =
+    let less : suc count - 1 ≡ count = omega arith in
+    rw less (joined_names n (take count ns))
+
 split_names : (n : List ℕ) (ns : List (List ℕ)) → Plain n → All Plain ns → slice_split is_semicolon (n ++ names_behind ns) ≡ n ∷ ns
 split_names n [] one more = ap (λ (bs : List ℕ). slice_split is_semicolon bs) (append-nil n) ∙ slice_split_none is_semicolon n one
 split_names n (m ∷ ms) one more = slice_split_at is_semicolon n 59 (m ++ names_behind ms) one refl ∙ ap (λ (rest : List (List ℕ)). n ∷ rest) (split_names m ms (All-head Plain m ms more) (All-tail Plain m ms more))
@@ -77,8 +93,8 @@ pub first_names_are : (count : ℕ) (n : List ℕ) (ns : List (List ℕ)) → 1 
 first_names_are zero n ns some name all = absurd (omega (arith, some))
 first_names_are (suc count) [] ns some name all = absurd cc
 first_names_are (suc count) (b ∷ bs) ns some name all =
-    let less : suc count - 1 ≡ count = omega arith in
-    rw less (split_names (b ∷ bs) (take count ns) (plain_bytes (b ∷ bs) name) (All-take Plain count ns (all_plain ns (All-tail IsAliasName (b ∷ bs) ns all))))
+    let cut = split_names (b ∷ bs) (take count ns) (plain_bytes (b ∷ bs) name) (All-take Plain count ns (all_plain ns (All-tail IsAliasName (b ∷ bs) ns all))) in
+    ap (λ (text : List ℕ). names_of text) (sym (joined_names (b ∷ bs) (take count ns))) ∙ cut
 
 -- one more name behind those so far
 pub more_names : (text n : List ℕ) (left : ℕ) (ns : List (List ℕ)) → 0 < left → ((text ++ 59 ∷ []) ++ n) ++ names_behind (take (left - 1) ns) ≡ text ++ names_behind (take left (n ∷ ns))

@@ -1,7 +1,12 @@
 use Rattle.std.proofs.Common.{ℕ, List, ◌++◌, take, sym, ap, ◌∙◌}
-use Rattle.release_rows.specs.Names.{names_behind}
-use Rattle.release_rows.proofs.KeyTexts.{more_names}
+use Rattle.release_rows.specs.Names.{first_names}
+use Rattle.release_rows.proofs.KeyTexts.{names_behind, first_and_behind, more_names}
 use Rattle.release_rows.proofs.read_entry.first_names.Goals as goal
+
+pub names-init : goal.names-init
+names-init c =
+    let whole = first_and_behind c.args.count c.in-Some.first.now c.next.new.self c.requires in
+    rw c.in_ok-text.ensures.items (whole ∙ ap (λ (ns : List (List ℕ)). first_names c.args.count ns) (sym c.in-Some.ensures.steps))
 
 pub names-preserved : goal.names-preserved
 names-preserved c =

@@ -4,7 +4,7 @@ ghost use Rattle.std.specs.Prelude.{◌≡◌, Ok, IfOk};
 ghost use Rattle.source_rows.specs.Faults.{row_or_fault};
 ghost use Rattle.release_rows.specs.StoredItems.{ShowsValue, read_as};
 
-use source_rows::{ValueText, read_row, read_value_text, rows_are_ok, rows_are_read};
+use source_rows::{RowStop, ValueText, read_row, read_value_text, rows_are_ok, rows_are_read};
 use std::alloc::Global;
 use std::marker::Model;
 use ucd_model::{Memory, Row, SourceFile};
@@ -46,7 +46,8 @@ impl<'a> RowText<'a> {
     {
         match read_row(alloc, self.file, self.content) {
             Ok(row) => Ok(row),
-            Err(_) => Err(Memory),
+            Err(RowStop::Fault(_)) => unreachable!(),
+            Err(RowStop::Memory) => Err(Memory),
         }
     }
 

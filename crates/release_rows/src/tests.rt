@@ -213,6 +213,14 @@ fn gives(alloc: Global, mut rows: Rows<'_>, first: u32, value: &[u8]) -> Result<
     }
 }
 
+/// Whether there is a first row, and it is none of a span and a value.
+fn gives_no_value(mut rows: Rows<'_>) -> bool {
+    match rows.next() {
+        Some((_, row)) => row.value().is_none(),
+        None => false,
+    }
+}
+
 #[test]
 fn rows_have_their_lines(rt: HostRuntime) -> Result<(), Fail> {
     let file = SourceFile::PropList;
@@ -233,6 +241,7 @@ fn a_range_has_two_lines(rt: HostRuntime) -> Result<(), Fail> {
         b"AC00;<Hangul Syllable, First>;Lo;0;L;;;;;N;;;;;\nD7A3;<Hangul Syllable, Last>;Lo;0;L;;;;;N;;;;;\r\n\nE000;<Private Use, First>;Co;0;L;;;;;N;;;;;\nF8FF;<Private Use, Last>;Co;0;L;;;;;N;;;;;";
     let release = release_of(rt.alloc(), file, bytes)?;
     assert!(rt; are_on(release.rows(file), 1, 4));
+    assert!(rt; gives_no_value(release.rows(file)));
     assert!(rt; is_answered(rt.alloc(), file, bytes, Ok(()))?);
     Ok(())
 }

@@ -1,6 +1,7 @@
 pub mod Limits
 pub mod Bounds
 pub mod Names
+pub mod SourceFiles
 pub mod Lines
 pub mod Fields
 pub mod Mappings

@@ -2,6 +2,7 @@
 
 ghost use Rattle.std.specs.Prelude.{◌≡◌, ◌<◌, ◌^◌};
 ghost use Rattle.ucd_model.specs.Limits.{file_limit};
+ghost use Rattle.ucd_model.specs.SourceFiles.{file_place};
 
 /// A source file of the database, in the order in which the bench reads them. UAX #44, section 5.3.
 #[derive(Clone, Copy, Debug, PartialEq, Eq)]
@@ -24,6 +25,39 @@ pub enum SourceFile {
     PropertyAliases,
     /// PropertyValueAliases.txt.
     PropertyValueAliases,
+}
+
+/// The source files, each at its place in the order in which the bench reads them.
+pub const SOURCE_FILES: [SourceFile; 9] = [
+    SourceFile::UnicodeData,
+    SourceFile::PropList,
+    SourceFile::Scripts,
+    SourceFile::WordBreakProperty,
+    SourceFile::CompositionExclusions,
+    SourceFile::CaseFolding,
+    SourceFile::SpecialCasing,
+    SourceFile::PropertyAliases,
+    SourceFile::PropertyValueAliases,
+];
+
+impl SourceFile {
+    /// Its place in the order in which the bench reads the files, from 0.
+    pub fn place(self) -> usize
+        ensures place { result ≡ file_place self }
+        ensures below { result < 9 }
+    {
+        match self {
+            SourceFile::UnicodeData => 0,
+            SourceFile::PropList => 1,
+            SourceFile::Scripts => 2,
+            SourceFile::WordBreakProperty => 3,
+            SourceFile::CompositionExclusions => 4,
+            SourceFile::CaseFolding => 5,
+            SourceFile::SpecialCasing => 6,
+            SourceFile::PropertyAliases => 7,
+            SourceFile::PropertyValueAliases => 8,
+        }
+    }
 }
 
 /// A derived file, in the order in which the bench writes them. UAX #44, sections 5.3 and 5.4.

@@ -28,7 +28,7 @@ pub use category::Category;
 pub use decomposition::{Kind, Tag};
 pub use fact_list::FactList;
 pub use facts::Facts;
-pub use files::{DerivedFile, FILE_LIMIT, SourceFile, file_limit};
+pub use files::{DerivedFile, FILE_LIMIT, SOURCE_FILES, SourceFile, file_limit};
 pub use form::{Bad, Broken, Form, FormStop, Quick};
 pub use image::Image;
 pub use list::{Copied, ListOf, Points, Spans, Text, Texts};

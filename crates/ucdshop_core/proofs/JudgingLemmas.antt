@@ -7,6 +7,7 @@ use Rattle.std.specs.List.{slice_get}
 use Rattle.std.specs.Str.{bytes_eq}
 use Rattle.std.proofs.Math.Seq.{drop-append_seam}
 use Rattle.ucd_model.specs.Limits.{file_limit}
+use Rattle.ucd_model.specs.SourceFiles.{source_files, file_place, file_at, file_place_small, file_at-place, file_place-at}
 use Rattle.ucd_model.specs.Names.{source_path}
 use Rattle.ucd_model.specs.Facts.{Sources}
 use Rattle.ucd_model.specs.declared.files.SourceFile.{SourceFile}
@@ -14,12 +15,12 @@ use Rattle.ucd_model.specs.declared.files.SourceFile.TheVariants.{UnicodeData, P
 use Rattle.ucd_model.specs.declared.row.Row.{Row}
 use Rattle.release_rows.specs.FileItems.{FileItem, rows_in}
 use Rattle.release_rows.specs.Releases.{ReleaseItems, items_now}
-use Rattle.ucdshop_core.specs.Judging.{JudgedAs, LoadsFile, held_at, place_of, release_rows, verdict_at}
+use Rattle.ucdshop_core.specs.Judging.{JudgedAs, LoadsFile, held_at, release_rows, verdict_at}
 use Rattle.ucdshop_core.specs.Planning.{LoadedAs, NamesUnread, OnRefused}
 use Rattle.ucdshop_core.specs.Printed.{read_failed}
 use Rattle.std.proofs.lemmas.Option.{slice_get-get_or}
 use Rattle.ucdshop_core.specs.Reading.{cut, text_at}
-use Rattle.ucdshop_core.specs.Run.{Contents, Sees, file_rows, told_rows, first_refusal, or_refusal, refused_or, rows_or_none, source_files, source_in, sources_in, verdict_by, files_verdict}
+use Rattle.ucdshop_core.specs.Run.{Contents, Sees, file_rows, told_rows, first_refusal, or_refusal, refused_or, rows_or_none, source_in, sources_in, verdict_by, files_verdict}
 use Rattle.ucdshop_core.specs.declared.stop.Stop.{Stop}
 use Rattle.ucdshop_core.specs.declared.stop.Stop.TheVariants.{Refused, ReadFailed, Memory}
 
@@ -76,7 +77,7 @@ read_of : (folder : List ℕ) (held : SourceFile → Option (List ℕ)) (file : 
 read_of folder held file =
     ap (λ (name : List ℕ). named_in held name source_files) (drop-append_seam (folder ++ codes "/") (source_path file)) ∙ named held file
 
-path_at : (folder : List ℕ) (file : SourceFile) → text_at (sources_in folder) (place_of file) ≡ source_in folder file
+path_at : (folder : List ℕ) (file : SourceFile) → text_at (sources_in folder) (file_place file) ≡ source_in folder file
 path_at folder UnicodeData = refl
 path_at folder PropList = refl
 path_at folder Scripts = refl
@@ -87,74 +88,36 @@ path_at folder SpecialCasing = refl
 path_at folder PropertyAliases = refl
 path_at folder PropertyValueAliases = refl
 
-verdict_read : (folder : List ℕ) (held : List (Option (List ℕ))) → verdict_by (verdict_at (sources_in folder) held) ≡ files_verdict folder (read_contents folder (λ file. held_at held (place_of file)))
+verdict_read : (folder : List ℕ) (held : List (Option (List ℕ))) → verdict_by (verdict_at (sources_in folder) held) ≡ files_verdict folder (read_contents folder (λ file. held_at held (file_place file)))
 verdict_read folder held = ap verdict_by (fun_ext (λ file.
-    ap (λ (path : List ℕ). file_rows path file (held_at held (place_of file))) (path_at folder file)
-    ∙ ap (file_rows (source_in folder file) file) (sym (read_of folder (λ f. held_at held (place_of f)) file))))
+    ap (λ (path : List ℕ). file_rows path file (held_at held (file_place file))) (path_at folder file)
+    ∙ ap (file_rows (source_in folder file) file) (sym (read_of folder (λ f. held_at held (file_place f)) file))))
 
 -- the verdict on what was read is that on what was seen
 pub verdict_seen : (tells : Bool) (holds : Contents) (folder : List ℕ) (held : List (Option (List ℕ))) → (IsTrue tells → verdict_by (verdict_at (sources_in folder) held) ≡ files_verdict folder holds)
     → Sees tells holds (λ seen. verdict_by (verdict_at (sources_in folder) held) ≡ files_verdict folder seen)
 verdict_seen true holds folder held same = (holds, λ _. refl, same refl)
-verdict_seen false holds folder held same = (read_contents folder (λ file. held_at held (place_of file)), λ none. absurd cc, verdict_read folder held)
+verdict_seen false holds folder held same = (read_contents folder (λ file. held_at held (file_place file)), λ none. absurd cc, verdict_read folder held)
 
 -- ---- file by file
 
--- the file at a place
-abbrev pub file_at : ℕ → SourceFile
-file_at at = get_or source_files at UnicodeData
-
-pub place_of_file : (at : ℕ) → at < 9 → place_of (file_at at) ≡ at
-place_of_file zero lt = refl
-place_of_file (suc zero) lt = refl
-place_of_file (suc (suc zero)) lt = refl
-place_of_file (suc (suc (suc zero))) lt = refl
-place_of_file (suc (suc (suc (suc zero)))) lt = refl
-place_of_file (suc (suc (suc (suc (suc zero))))) lt = refl
-place_of_file (suc (suc (suc (suc (suc (suc zero)))))) lt = refl
-place_of_file (suc (suc (suc (suc (suc (suc (suc zero))))))) lt = refl
-place_of_file (suc (suc (suc (suc (suc (suc (suc (suc zero)))))))) lt = refl
-place_of_file (suc (suc (suc (suc (suc (suc (suc (suc (suc n))))))))) lt = absurd (omega arith)
-
-place_small : (file : SourceFile) → place_of file < 9
-place_small UnicodeData = lit< tt
-place_small PropList = lit< tt
-place_small Scripts = lit< tt
-place_small WordBreakProperty = lit< tt
-place_small CompositionExclusions = lit< tt
-place_small CaseFolding = lit< tt
-place_small SpecialCasing = lit< tt
-place_small PropertyAliases = lit< tt
-place_small PropertyValueAliases = lit< tt
-
-file_at_place : (file : SourceFile) → file_at (place_of file) ≡ file
-file_at_place UnicodeData = refl
-file_at_place PropList = refl
-file_at_place Scripts = refl
-file_at_place WordBreakProperty = refl
-file_at_place CompositionExclusions = refl
-file_at_place CaseFolding = refl
-file_at_place SpecialCasing = refl
-file_at_place PropertyAliases = refl
-file_at_place PropertyValueAliases = refl
-
 -- files before a place are loaded as their verdict says, and those from it on have no items
 pub record IsLoadedTo (verdict_on : SourceFile → Result (List Row) (List ℕ)) (at : ℕ) (release : ReleaseItems) : Type 0 where
-  pub rows : (file : SourceFile) → place_of file < at → verdict_on file ≡ Ok (release_rows release file)
-  pub empty : (file : SourceFile) → at ≤ place_of file → items_now release file ≡ []
+  pub rows : (file : SourceFile) → file_place file < at → verdict_on file ≡ Ok (release_rows release file)
+  pub empty : (file : SourceFile) → at ≤ file_place file → items_now release file ≡ []
   pub later : first_refusal verdict_on source_files ≡ first_refusal verdict_on (drop at source_files)
 
 pub loaded_to_next : (verdict_on : SourceFile → Result (List Row) (List ℕ)) (at : ℕ) (old new : ReleaseItems) → at < 9 → IsLoadedTo verdict_on at old
     → verdict_on (file_at at) ≡ Ok (release_rows new (file_at at)) → ((other : SourceFile) → other ≢ file_at at → items_now new other ≡ items_now old other)
     → IsLoadedTo verdict_on (at + 1) new
 loaded_to_next verdict_on at old new lt loaded here others =
-    let differs : (file : SourceFile) → place_of file ≢ at → file ≢ file_at at = λ file apart same. apart (ap place_of same ∙ place_of_file at lt) in
+    let differs : (file : SourceFile) → file_place file ≢ at → file ≢ file_at at = λ file apart same. apart (ap file_place same ∙ file_place-at at lt) in
     record {
-      rows = λ file below. elim (cases_lt (place_of file) at) [
+      rows = λ file below. elim (cases_lt (file_place file) at) [
         | inl before ↦ loaded.rows file before ∙ ap (λ (items : List FileItem). Ok (rows_in items)) (sym (others file (differs file (λ same. absurd (omega arith)))))
         | inr not_before ↦
-            let same_place : place_of file ≡ at = omega arith in
-            let same : file_at at ≡ file = ap file_at (sym same_place) ∙ file_at_place file in
+            let same_place : file_place file ≡ at = omega arith in
+            let same : file_at at ≡ file = ap file_at (sym same_place) ∙ file_at-place file in
             subst (λ (f : SourceFile). verdict_on f ≡ Ok (release_rows new f)) same here
       ];
       empty = λ file above. others file (differs file (λ same. absurd (omega arith))) ∙ loaded.empty file (omega arith);
@@ -164,7 +127,7 @@ loaded_to_next verdict_on at old new lt loaded here others =
 pub verdict_all : (verdict_on : SourceFile → Result (List Row) (List ℕ)) (release : ReleaseItems) → IsLoadedTo verdict_on 9 release → verdict_by verdict_on ≡ Ok (release_rows release)
 verdict_all verdict_on release loaded =
     ap (λ (line : Option (List ℕ)). refused_or line (λ file. rows_or_none (verdict_on file))) loaded.later
-    ∙ ap (λ (rows : Sources). Ok rows) (fun_ext (λ file. ap rows_or_none (loaded.rows file (place_small file))))
+    ∙ ap (λ (rows : Sources). Ok rows) (fun_ext (λ file. ap rows_or_none (loaded.rows file (file_place_small file))))
 
 pub verdict_refused : (verdict_on : SourceFile → Result (List Row) (List ℕ)) (at : ℕ) (release : ReleaseItems) (line : List ℕ) → at < 9 → IsLoadedTo verdict_on at release → verdict_on (file_at at) ≡ Err line → verdict_by verdict_on ≡ Err line
 verdict_refused verdict_on at release line lt loaded here =

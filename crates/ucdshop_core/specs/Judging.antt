@@ -1,7 +1,6 @@
 -- Judging the files that were read.
 --
 -- release_rows release            the rows of a release now, file by file
--- place_of file                   the place of a file in the order in which files are read and judged
 -- held_at held at                 what is held at a place; None where nothing is, and past the last
 -- verdict_at paths held file      the verdict on what the path of a file holds
 -- JudgedAs view result expected   a result, seen by view, is what was expected; want of memory says nothing
@@ -9,7 +8,7 @@
 use Rattle.std.specs.Prelude.{◌≡◌, ◌≢◌, ℕ, List, Option, None, Result, Ok, Err, slice_index_or}
 use Rattle.ucd_model.specs.Facts.{Sources}
 use Rattle.ucd_model.specs.declared.files.SourceFile.{SourceFile}
-use Rattle.ucd_model.specs.declared.files.SourceFile.TheVariants.{UnicodeData, PropList, Scripts, WordBreakProperty, CompositionExclusions, CaseFolding, SpecialCasing, PropertyAliases, PropertyValueAliases}
+use Rattle.ucd_model.specs.SourceFiles.{file_place}
 use Rattle.ucd_model.specs.declared.row.Row.{Row}
 use Rattle.release_rows.specs.FileItems.{rows_in}
 use Rattle.release_rows.specs.Releases.{ReleaseItems, items_now}
@@ -21,22 +20,11 @@ use Rattle.ucdshop_core.specs.declared.stop.Stop.TheVariants.{Refused, ReadFaile
 abbrev pub release_rows : ReleaseItems → Sources
 release_rows release file = rows_in (items_now release file)
 
-abbrev pub place_of : SourceFile → ℕ
-place_of UnicodeData = 0
-place_of PropList = 1
-place_of Scripts = 2
-place_of WordBreakProperty = 3
-place_of CompositionExclusions = 4
-place_of CaseFolding = 5
-place_of SpecialCasing = 6
-place_of PropertyAliases = 7
-place_of PropertyValueAliases = 8
-
 abbrev pub held_at : List (Option (List ℕ)) → ℕ → Option (List ℕ)
 held_at held at = slice_index_or held at None
 
 abbrev pub verdict_at : List (List ℕ) → List (Option (List ℕ)) → SourceFile → Result (List Row) (List ℕ)
-verdict_at paths held file = file_rows (text_at paths (place_of file)) file (held_at held (place_of file))
+verdict_at paths held file = file_rows (text_at paths (file_place file)) file (held_at held (file_place file))
 
 abbrev pub JudgedAs : {A B : Type 0} → (A → B) → Result A Stop → Result B (List ℕ) → Type 0
 JudgedAs view (Ok rows) expected = expected ≡ Ok (view rows)

@@ -4,7 +4,6 @@
 -- Job                              what is asked for: Derive input output, to derive the files of one folder into another
 -- form words                       what the words ask for; None where they have no listed form
 -- path_in folder path              the folder, `/`, and the path
--- source_files                     the source files, in the order in which they are read and judged
 -- source_in folder file            the path of a source file of a folder
 -- sources_in folder                the paths of the source files of a folder, in order
 -- needed job                       the paths that are read, in order
@@ -57,7 +56,7 @@ use Rattle.ucd_model.specs.DerivedFiles.{derived_files, derived_text}
 use Rattle.ucd_model.specs.Records.{record_at}
 use Rattle.ucd_model.specs.Validity.{first_broken}
 use Rattle.ucd_model.specs.declared.files.SourceFile.{SourceFile}
-use Rattle.ucd_model.specs.declared.files.SourceFile.TheVariants.{UnicodeData, PropList, Scripts, WordBreakProperty, CompositionExclusions, CaseFolding, SpecialCasing, PropertyAliases, PropertyValueAliases}
+use Rattle.ucd_model.specs.SourceFiles.{source_files}
 use Rattle.ucd_model.specs.declared.files.DerivedFile.{DerivedFile}
 use Rattle.ucd_model.specs.declared.row.Row.{Row}
 use Rattle.release_rows.specs.FileItems.{FileItem, rows_in}
@@ -80,9 +79,6 @@ form _ = None
 
 abbrev pub path_in : List ℕ → List ℕ → List ℕ
 path_in folder path = folder ++ codes "/" ++ path
-
-abbrev pub source_files : List SourceFile
-source_files = UnicodeData ∷ PropList ∷ Scripts ∷ WordBreakProperty ∷ CompositionExclusions ∷ CaseFolding ∷ SpecialCasing ∷ PropertyAliases ∷ PropertyValueAliases ∷ []
 
 abbrev pub source_in : List ℕ → SourceFile → List ℕ
 source_in folder file = path_in folder (source_path file)

@@ -6,11 +6,10 @@ ghost use Rattle.ucdshop_core.specs.Judging.{JudgedAs, LoadsFile, release_rows, 
 ghost use Rattle.ucdshop_core.specs.Run.{file_rows, verdict_by};
 
 use crate::printed::{refused, rule_code};
-use crate::source_path::SOURCE_FILES;
 use crate::stop::Stop;
 use release_rows::{LoadStop, Release};
 use std::alloc::Global;
-use ucd_model::{SourceFile, Text};
+use ucd_model::{SOURCE_FILES, SourceFile, Text};
 
 /// The release whose files hold these bytes at their paths.
 ///

@@ -5,20 +5,7 @@ ghost use Rattle.ucd_model.specs.Names.{source_path};
 ghost use Rattle.ucdshop_core.specs.Run.{path_in, source_in, sources_in};
 
 use std::alloc::Global;
-use ucd_model::{Memory, SourceFile, Text, Texts};
-
-/// The source files, in the order in which they are read and judged.
-pub const SOURCE_FILES: [SourceFile; 9] = [
-    SourceFile::UnicodeData,
-    SourceFile::PropList,
-    SourceFile::Scripts,
-    SourceFile::WordBreakProperty,
-    SourceFile::CompositionExclusions,
-    SourceFile::CaseFolding,
-    SourceFile::SpecialCasing,
-    SourceFile::PropertyAliases,
-    SourceFile::PropertyValueAliases,
-];
+use ucd_model::{Memory, SOURCE_FILES, SourceFile, Text, Texts};
 
 /// Where a source file lies below the folder of a release.
 fn source_path(file: SourceFile) -> &'static [u8]

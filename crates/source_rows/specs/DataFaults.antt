@@ -8,6 +8,7 @@
 --                                   are no mapping, and `<` as the first byte begins a tag
 -- values_or_fault fs                fields 2, 3, 5 and 12 to 14 in order: G05, G06, G07 or G10, G07
 -- unit_of fs range name values span   the row of these fields, values and span; its kept fields are those of fs
+-- with_kept old new                  each of the new kept fields behind the old one
 -- unit_or_fault fs range name end   the row of these fields; last, what was found of its span
 -- single_end c name                 the span of c alone; G09 where the name is that of a range
 -- single_or_fault fs                one line: G03, G04, G11, fields 2 to 14, and G09 for the name of a range
@@ -18,7 +19,7 @@
 -- pair_or_fault first last          two lines: G03 where the first one is not that of a range, G04, fields 2 to 14, `pair_end`
 -- ValuesReadAs result expected      the result is the values, or the fault, that were expected; want of memory says nothing
 -- DecompositionReadsAs result expected   the same of field 5
-use Rattle.std.specs.Prelude.{◌≡◌, ℕ, Bool, true, false, ◌&&◌, List, [], ◌∷◌, length, Option, Some, None, Result, Ok, Err, ◌==◌, nat_le, if◌then◌else◌, codes}
+use Rattle.std.specs.Prelude.{◌≡◌, ℕ, Bool, true, false, ◌&&◌, List, [], ◌∷◌, length, ◌++◌, Option, Some, None, Result, Ok, Err, ◌==◌, nat_le, if◌then◌else◌, codes}
 use Rattle.std.specs.List.{before_first, after_first}
 use Rattle.std.specs.Str.{bytes_eq}
 use Rattle.ucd_model.specs.Bounds.{Bounds}
@@ -27,6 +28,7 @@ use Rattle.ucd_model.specs.Fields.{field, point_of, is_name, is_range_name, labe
 use Rattle.ucd_model.specs.Mappings.{mapping_of}
 use Rattle.ucd_model.specs.DataLines.{kept_of}
 use Rattle.ucd_model.specs.declared.decomposition.Kind.TheVariants.{Plain, Canonical, Compat}
+use Rattle.ucd_model.specs.declared.row.Kept.{Kept}
 use Rattle.ucd_model.specs.declared.row.Row.{Row}
 use Rattle.ucd_model.specs.declared.row.Row.TheVariants.{Unit as DataLine}
 use Rattle.source_rows.specs.Lines.{has_last_name, are_first_fields}
@@ -64,6 +66,9 @@ values_or_fault fs = or_fault G05 (category_of (field fs 2)) (λ category. or_fa
 
 abbrev pub unit_of : List (List ℕ) → Bool → List ℕ → Values → Bounds → Row
 unit_of fs range name v span = DataLine (record { span = span; range = range; name = name; category = v.category; class = v.class; kind = v.decomposition.kind; mapping = v.decomposition.mapping; upper = v.upper; lower = v.lower; title = v.title; kept = kept_of fs })
+
+abbrev pub with_kept : Kept → Kept → Kept
+with_kept old new = record { f4 = old.f4 ++ new.f4; f6 = old.f6 ++ new.f6; f7 = old.f7 ++ new.f7; f8 = old.f8 ++ new.f8; f9 = old.f9 ++ new.f9; f10 = old.f10 ++ new.f10; f11 = old.f11 ++ new.f11 }
 
 unfoldable pub unit_or_fault : List (List ℕ) → Bool → List ℕ → Result Bounds RowFault → Result Row RowFault
 unit_or_fault fs range name end = and_then (values_or_fault fs) (λ v. and_then end (λ span. Ok (unit_of fs range name v span)))

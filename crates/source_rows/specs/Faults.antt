@@ -6,11 +6,12 @@
 -- row_or_fault file bytes          of the bytes; bytes with a LF have G03, but for two lines of UnicodeData.txt of which the
 --                                  first one is that of a range. One CR before that LF is no part of the line
 -- ReadsAs result expected          a result is what was expected; want of memory says nothing
+-- IsDue fault result found         a result is what was found, or the fault where nothing was; want of memory says nothing
 -- NamesAs result expected          the names, or the fault, are what was expected, of lines of names
 -- ValueTextAs result expected      the span and the value, or the fault, are what was expected, of lines of a span and a value
 -- HasNames file                    the lines are names: PropertyAliases.txt and PropertyValueAliases.txt
 -- HasValues file                   the lines are a span and a value: PropList.txt, Scripts.txt and WordBreakProperty.txt
-use Rattle.std.specs.Prelude.{◌≡◌, ℕ, List, Result, Ok, Err, if◌then◌else◌}
+use Rattle.std.specs.Prelude.{◌≡◌, ℕ, List, Option, Some, None, Result, Ok, Err, if◌then◌else◌}
 use Rattle.std.specs.List.{before_first, after_first}
 use Rattle.ucd_model.specs.Lines.{is_lf, holds_line_feed, without_return}
 use Rattle.ucd_model.specs.Fields.{fields}
@@ -67,3 +68,8 @@ HasValues PropList = Unit {0}
 HasValues Scripts = Unit {0}
 HasValues WordBreakProperty = Unit {0}
 HasValues _ = ⊥
+
+abbrev pub IsDue : {A : Type 0} → RowFault → Result A RowStop → Option A → Type 0
+IsDue fault (Ok a) found = found ≡ Some a
+IsDue fault (Err (Fault f)) found = (f ≡ fault) × (found ≡ None)
+IsDue fault (Err Memory) found = Unit {0}

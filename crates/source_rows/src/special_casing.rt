@@ -3,7 +3,9 @@
 ghost use Rattle.std.specs.Prelude.{◌≡◌};
 ghost use Rattle.std.specs.List.{before_first};
 ghost use Rattle.ucd_model.specs.Fields.{field, is_hash};
-ghost use Rattle.source_rows.specs.Faults.{ReadsAs};
+ghost use Rattle.ucd_model.specs.Mappings.{mapping_of};
+ghost use Rattle.source_rows.specs.Faults.{IsDue, ReadsAs};
+ghost use Rattle.source_rows.specs.declared.fault.RowFault.TheVariants.{G07};
 ghost use Rattle.source_rows.specs.Fields.{fields_of};
 ghost use Rattle.source_rows.specs.OtherFaults.{casing_or_fault, has_casing_fields};
 
@@ -12,7 +14,7 @@ use crate::fields::{field_count, first_field, three_fields, without_comment};
 use crate::mapping::{conditions_of, mapping_of};
 use std::alloc::Global;
 use ucd_lines::hex;
-use ucd_model::{CasingRow, Row};
+use ucd_model::{CasingRow, Memory, Points, Row};
 
 /// The fields of a line, each a part of it. A field that is not there is empty.
 #[derive(Clone, Copy)]
@@ -47,6 +49,20 @@ fn casing_fields(text: &[u8]) -> CasingFields<'_>
     }
 }
 
+/// The mapping that a field spells.
+///
+/// - `Fault(G07)`: it is no mapping.
+/// - `Memory`: memory ran out.
+fn due_mapping(alloc: Global, text: &[u8]) -> Result<Points, RowStop>
+    ensures { IsDue G07 result (mapping_of text.now) }
+{
+    match mapping_of(alloc, text) {
+        Ok(Some(points)) => Ok(points),
+        Ok(None) => Err(RowStop::Fault(RowFault::G07)),
+        Err(Memory) => Err(RowStop::Memory),
+    }
+}
+
 /// The row of a line.
 ///
 /// - `Fault(G03)`: there are not four to six fields, or the sixth is not empty.
@@ -67,15 +83,9 @@ pub fn read_casing(alloc: Global, content: &[u8]) -> Result<Row, RowStop>
     let Some(code) = hex(line.code) else {
         return Err(RowStop::Fault(RowFault::G04));
     };
-    let Some(lower) = mapping_of(alloc, line.lower)? else {
-        return Err(RowStop::Fault(RowFault::G07));
-    };
-    let Some(title) = mapping_of(alloc, line.title)? else {
-        return Err(RowStop::Fault(RowFault::G07));
-    };
-    let Some(upper) = mapping_of(alloc, line.upper)? else {
-        return Err(RowStop::Fault(RowFault::G07));
-    };
+    let lower = due_mapping(alloc, line.lower)?;
+    let title = due_mapping(alloc, line.title)?;
+    let upper = due_mapping(alloc, line.upper)?;
     let Some(conditions) = conditions_of(alloc, line.conditions)? else {
         return Err(RowStop::Fault(RowFault::G11));
     };

@@ -1,13 +1,13 @@
 //! UnicodeData.txt. UAX #44, section 5.3, table 9, and section 4.2.3 for ranges.
 
-ghost use Rattle.std.specs.Prelude.{◌≡◌, true, length, IfOk};
+ghost use Rattle.std.specs.Prelude.{◌≡◌, true, length, IfOk, OnOk};
 ghost use Rattle.ucd_model.specs.Bounds.{Bounds};
 ghost use Rattle.ucd_model.specs.Fields.{fields, field};
 ghost use Rattle.ucd_model.specs.Lines.{without_return};
 ghost use Rattle.ucd_model.specs.DataLines.{kept_of};
 ghost use Rattle.source_rows.specs.Fields.{fields_of, fields_in};
 ghost use Rattle.source_rows.specs.Lines.{is_first_line};
-ghost use Rattle.source_rows.specs.DataFaults.{unit_or_fault, single_or_fault, single_end, are_last_fields, pair_end};
+ghost use Rattle.source_rows.specs.DataFaults.{with_kept, unit_or_fault, single_or_fault, single_end, are_last_fields, pair_end};
 ghost use Rattle.source_rows.specs.Faults.{ReadsAs, lines_or_fault, row_or_fault};
 
 use crate::code_point::{has_first_name, has_last_name, is_name, is_range_name, label_of};
@@ -16,23 +16,38 @@ use crate::fault::{RowFault, RowStop};
 use crate::fields::{field_count, text_of, two_fields};
 use crate::fifteen::{DataFields, FIELDS, fifteen_fields};
 use crate::lines::{holds_line_feed, without_return};
-use std::alloc::{AllocError, Global};
+use std::alloc::Global;
 use ucd_lines::{cut, hex};
-use ucd_model::{DataRow, Kept, Point, Row, SourceFile, Span};
+use ucd_model::{DataRow, Kept, Memory, Point, Row, SourceFile, Span, Text};
 
 /// Fields 4 and 6 to 11, as they stand.
-fn kept_of(alloc: Global, line: DataFields<'_>) -> Result<Kept, AllocError>
+fn kept_of(alloc: Global, line: DataFields<'_>) -> Result<Kept, Memory>
     ensures { IfOk result (λ kept. kept ≡ kept_of (fields_in line.entry)) }
 {
-    Ok(Kept {
-        f4: text_of(alloc, line.f4)?,
-        f6: text_of(alloc, line.f6)?,
-        f7: text_of(alloc, line.f7)?,
-        f8: text_of(alloc, line.f8)?,
-        f9: text_of(alloc, line.f9)?,
-        f10: text_of(alloc, line.f10)?,
-        f11: text_of(alloc, line.f11)?,
-    })
+    let mut kept = Kept {
+        f4: Text::new(alloc),
+        f6: Text::new(alloc),
+        f7: Text::new(alloc),
+        f8: Text::new(alloc),
+        f9: Text::new(alloc),
+        f10: Text::new(alloc),
+        f11: Text::new(alloc),
+    };
+    put_kept(line, &mut kept)?;
+    Ok(kept)
+}
+
+/// Puts fields 4 and 6 to 11 behind what is kept of each.
+fn put_kept(line: DataFields<'_>, kept: &mut Kept) -> Result<(), Memory>
+    ensures { OnOk result (kept.new ≡ with_kept kept.old (kept_of (fields_in line.entry))) }
+{
+    kept.f4.append(line.f4)?;
+    kept.f6.append(line.f6)?;
+    kept.f7.append(line.f7)?;
+    kept.f8.append(line.f8)?;
+    kept.f9.append(line.f9)?;
+    kept.f10.append(line.f10)?;
+    kept.f11.append(line.f11)
 }
 
 /// The row of a line's fields 2 to 14, of a name, and of what was found of its span; or the first fault.

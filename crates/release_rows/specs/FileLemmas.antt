@@ -3,109 +3,43 @@
 -- each_with_items             what holds of each file's items, and of the new ones of a file, holds of each file's once they are
 --                             there
 -- items_at-with_items_same    the file in which the items were put has them
+-- items_at-none               where no file has an item, none has
 -- rows_of_numbered            without their lines, numbered rows are the rows
 -- numbered_one                the same of one item before others of which it holds
-use Rattle.std.proofs.Common.{◌≡◌, ℕ, ◌+◌, List, [], ◌∷◌, map, Option, Some, None, refl, ap}
+use Rattle.std.proofs.Common.{◌≡◌, ℕ, ◌+◌, List, [], ◌∷◌, map, Option, Some, None, length, refl, sym, ap, subst, ◌∙◌, inl, inr, arith}
 use Rattle.ucd_model.specs.declared.files.SourceFile.{SourceFile}
 use Rattle.ucd_model.specs.declared.files.SourceFile.TheVariants.{UnicodeData, PropList, Scripts, WordBreakProperty, CompositionExclusions, CaseFolding, SpecialCasing, PropertyAliases, PropertyValueAliases}
 use Rattle.ucd_model.specs.declared.row.Row.{Row}
 use Rattle.release_rows.specs.FileItems.{FileItem, rows_in, onto_rows}
-use Rattle.release_rows.specs.Releases.{items_at, with_items, numbered_rows, onto_numbered}
-use Rattle.release_rows.specs.declared.nine_files.NineFiles.{NineFiles}
+use Rattle.release_rows.specs.Releases.{items_at, with_items, no_items, numbered_rows, onto_numbered}
+use Rattle.ucd_model.specs.SourceFiles.{file_at, file_at-place, file_place, file_place_small}
+use Rattle.std.proofs.lemmas.Bool.{cases_eq}
+use Rattle.std.proofs.lemmas.List.{get_or-set_same, get_or-set_other}
 
-pub each_with_items : (P : SourceFile → List FileItem → Type 0) (files : NineFiles) (file : SourceFile) (items : List FileItem) → ((other : SourceFile) → P other (items_at files other)) → P file items → (other : SourceFile) → P other (items_at (with_items files file items) other)
-each_with_items P files UnicodeData items all new UnicodeData = new
-each_with_items P files UnicodeData items all new PropList = all PropList
-each_with_items P files UnicodeData items all new Scripts = all Scripts
-each_with_items P files UnicodeData items all new WordBreakProperty = all WordBreakProperty
-each_with_items P files UnicodeData items all new CompositionExclusions = all CompositionExclusions
-each_with_items P files UnicodeData items all new CaseFolding = all CaseFolding
-each_with_items P files UnicodeData items all new SpecialCasing = all SpecialCasing
-each_with_items P files UnicodeData items all new PropertyAliases = all PropertyAliases
-each_with_items P files UnicodeData items all new PropertyValueAliases = all PropertyValueAliases
-each_with_items P files PropList items all new UnicodeData = all UnicodeData
-each_with_items P files PropList items all new PropList = new
-each_with_items P files PropList items all new Scripts = all Scripts
-each_with_items P files PropList items all new WordBreakProperty = all WordBreakProperty
-each_with_items P files PropList items all new CompositionExclusions = all CompositionExclusions
-each_with_items P files PropList items all new CaseFolding = all CaseFolding
-each_with_items P files PropList items all new SpecialCasing = all SpecialCasing
-each_with_items P files PropList items all new PropertyAliases = all PropertyAliases
-each_with_items P files PropList items all new PropertyValueAliases = all PropertyValueAliases
-each_with_items P files Scripts items all new UnicodeData = all UnicodeData
-each_with_items P files Scripts items all new PropList = all PropList
-each_with_items P files Scripts items all new Scripts = new
-each_with_items P files Scripts items all new WordBreakProperty = all WordBreakProperty
-each_with_items P files Scripts items all new CompositionExclusions = all CompositionExclusions
-each_with_items P files Scripts items all new CaseFolding = all CaseFolding
-each_with_items P files Scripts items all new SpecialCasing = all SpecialCasing
-each_with_items P files Scripts items all new PropertyAliases = all PropertyAliases
-each_with_items P files Scripts items all new PropertyValueAliases = all PropertyValueAliases
-each_with_items P files WordBreakProperty items all new UnicodeData = all UnicodeData
-each_with_items P files WordBreakProperty items all new PropList = all PropList
-each_with_items P files WordBreakProperty items all new Scripts = all Scripts
-each_with_items P files WordBreakProperty items all new WordBreakProperty = new
-each_with_items P files WordBreakProperty items all new CompositionExclusions = all CompositionExclusions
-each_with_items P files WordBreakProperty items all new CaseFolding = all CaseFolding
-each_with_items P files WordBreakProperty items all new SpecialCasing = all SpecialCasing
-each_with_items P files WordBreakProperty items all new PropertyAliases = all PropertyAliases
-each_with_items P files WordBreakProperty items all new PropertyValueAliases = all PropertyValueAliases
-each_with_items P files CompositionExclusions items all new UnicodeData = all UnicodeData
-each_with_items P files CompositionExclusions items all new PropList = all PropList
-each_with_items P files CompositionExclusions items all new Scripts = all Scripts
-each_with_items P files CompositionExclusions items all new WordBreakProperty = all WordBreakProperty
-each_with_items P files CompositionExclusions items all new CompositionExclusions = new
-each_with_items P files CompositionExclusions items all new CaseFolding = all CaseFolding
-each_with_items P files CompositionExclusions items all new SpecialCasing = all SpecialCasing
-each_with_items P files CompositionExclusions items all new PropertyAliases = all PropertyAliases
-each_with_items P files CompositionExclusions items all new PropertyValueAliases = all PropertyValueAliases
-each_with_items P files CaseFolding items all new UnicodeData = all UnicodeData
-each_with_items P files CaseFolding items all new PropList = all PropList
-each_with_items P files CaseFolding items all new Scripts = all Scripts
-each_with_items P files CaseFolding items all new WordBreakProperty = all WordBreakProperty
-each_with_items P files CaseFolding items all new CompositionExclusions = all CompositionExclusions
-each_with_items P files CaseFolding items all new CaseFolding = new
-each_with_items P files CaseFolding items all new SpecialCasing = all SpecialCasing
-each_with_items P files CaseFolding items all new PropertyAliases = all PropertyAliases
-each_with_items P files CaseFolding items all new PropertyValueAliases = all PropertyValueAliases
-each_with_items P files SpecialCasing items all new UnicodeData = all UnicodeData
-each_with_items P files SpecialCasing items all new PropList = all PropList
-each_with_items P files SpecialCasing items all new Scripts = all Scripts
-each_with_items P files SpecialCasing items all new WordBreakProperty = all WordBreakProperty
-each_with_items P files SpecialCasing items all new CompositionExclusions = all CompositionExclusions
-each_with_items P files SpecialCasing items all new CaseFolding = all CaseFolding
-each_with_items P files SpecialCasing items all new SpecialCasing = new
-each_with_items P files SpecialCasing items all new PropertyAliases = all PropertyAliases
-each_with_items P files SpecialCasing items all new PropertyValueAliases = all PropertyValueAliases
-each_with_items P files PropertyAliases items all new UnicodeData = all UnicodeData
-each_with_items P files PropertyAliases items all new PropList = all PropList
-each_with_items P files PropertyAliases items all new Scripts = all Scripts
-each_with_items P files PropertyAliases items all new WordBreakProperty = all WordBreakProperty
-each_with_items P files PropertyAliases items all new CompositionExclusions = all CompositionExclusions
-each_with_items P files PropertyAliases items all new CaseFolding = all CaseFolding
-each_with_items P files PropertyAliases items all new SpecialCasing = all SpecialCasing
-each_with_items P files PropertyAliases items all new PropertyAliases = new
-each_with_items P files PropertyAliases items all new PropertyValueAliases = all PropertyValueAliases
-each_with_items P files PropertyValueAliases items all new UnicodeData = all UnicodeData
-each_with_items P files PropertyValueAliases items all new PropList = all PropList
-each_with_items P files PropertyValueAliases items all new Scripts = all Scripts
-each_with_items P files PropertyValueAliases items all new WordBreakProperty = all WordBreakProperty
-each_with_items P files PropertyValueAliases items all new CompositionExclusions = all CompositionExclusions
-each_with_items P files PropertyValueAliases items all new CaseFolding = all CaseFolding
-each_with_items P files PropertyValueAliases items all new SpecialCasing = all SpecialCasing
-each_with_items P files PropertyValueAliases items all new PropertyAliases = all PropertyAliases
-each_with_items P files PropertyValueAliases items all new PropertyValueAliases = new
+pub items_at-with_items_same : (files : List (List FileItem)) (file : SourceFile) (items : List FileItem) → length files ≡ 9 → items_at (with_items files file items) file ≡ items
+items_at-with_items_same files file items nine = get_or-set_same files (file_place file) items [] (omega (arith, nine, file_place_small file))
 
-pub items_at-with_items_same : (files : NineFiles) (file : SourceFile) (items : List FileItem) → items_at (with_items files file items) file ≡ items
-items_at-with_items_same files UnicodeData items = refl
-items_at-with_items_same files PropList items = refl
-items_at-with_items_same files Scripts items = refl
-items_at-with_items_same files WordBreakProperty items = refl
-items_at-with_items_same files CompositionExclusions items = refl
-items_at-with_items_same files CaseFolding items = refl
-items_at-with_items_same files SpecialCasing items = refl
-items_at-with_items_same files PropertyAliases items = refl
-items_at-with_items_same files PropertyValueAliases items = refl
+-- two files at one place are one file
+same_file : (file other : SourceFile) → file_place other ≡ file_place file → other ≡ file
+same_file file other same = sym (file_at-place other) ∙ ap file_at same ∙ file_at-place file
+
+pub each_with_items : (P : SourceFile → List FileItem → Type 0) (files : List (List FileItem)) (file : SourceFile) (items : List FileItem) → length files ≡ 9 → ((other : SourceFile) → P other (items_at files other)) → P file items → (other : SourceFile) → P other (items_at (with_items files file items) other)
+each_with_items P files file items nine all new other = elim (cases_eq (file_place other) (file_place file)) [
+  | inl same ↦ subst (λ (f : SourceFile). P f (items_at (with_items files file items) f)) (sym (same_file file other same)) (subst (P file) (sym (items_at-with_items_same files file items nine)) new)
+  | inr apart ↦ subst (P other) (sym (get_or-set_other files (file_place file) (file_place other) items [] apart)) (all other)
+]
+
+-- no file has an item
+pub items_at-none : (file : SourceFile) → items_at no_items file ≡ []
+items_at-none UnicodeData = refl
+items_at-none PropList = refl
+items_at-none Scripts = refl
+items_at-none WordBreakProperty = refl
+items_at-none CompositionExclusions = refl
+items_at-none CaseFolding = refl
+items_at-none SpecialCasing = refl
+items_at-none PropertyAliases = refl
+items_at-none PropertyValueAliases = refl
 
 -- ---- rows with their lines
 

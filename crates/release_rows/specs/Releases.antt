@@ -1,6 +1,6 @@
 -- What a release keeps.
 --
--- items_at files file             those of one file
+-- items_at files file             those of one file, which stands at its place in the list of the files
 -- with_items files file items     the same with other items in one file
 -- no_items                        no file has an item
 -- ReleaseItems                    the items now, and the items that are prepared to be the next ones
@@ -16,47 +16,30 @@
 -- AreKeptBelow file above items   IsKept of each of the items, below the items above them all
 -- AreKept file items              each item is read from its content, and each row has another key than the rows above it and
 --                                 overlaps none of them where the file forbids it
--- AllAreKept files                AreKept of the items of every file
+-- AllAreKept files                there are nine files, and of each the items are AreKept
 -- AnswersLoad                     what `load_file` answers, and what it leaves
-use Rattle.std.specs.Prelude.{◌≡◌, ℕ, ◌+◌, List, [], ◌∷◌, ◌++◌, Option, Some, None, Result, Ok, Err}
+use Rattle.std.specs.Prelude.{◌≡◌, ℕ, ◌+◌, List, [], ◌∷◌, ◌++◌, length, slice_index_or, slice_set, Option, Some, None, Result, Ok, Err}
 use Rattle.ucd_model.specs.declared.files.SourceFile.{SourceFile}
-use Rattle.ucd_model.specs.declared.files.SourceFile.TheVariants.{UnicodeData, PropList, Scripts, WordBreakProperty, CompositionExclusions, CaseFolding, SpecialCasing, PropertyAliases, PropertyValueAliases}
+use Rattle.ucd_model.specs.SourceFiles.{file_place}
 use Rattle.ucd_model.specs.declared.row.Row.{Row}
 use Rattle.release_rows.specs.Keys.{key_rule}
 use Rattle.release_rows.specs.FileItems.{FileItem, rows_in}
 use Rattle.release_rows.specs.Loading.{LoadFault, content_row}
 use Rattle.release_rows.specs.declared.load_stop.LoadStop.{LoadStop}
 use Rattle.release_rows.specs.declared.load_stop.LoadStop.TheVariants.{Fault, Memory}
-use Rattle.release_rows.specs.declared.nine_files.NineFiles.{NineFiles}
 
-abbrev pub items_at : NineFiles → SourceFile → List FileItem
-items_at files UnicodeData = files.unicode_data
-items_at files PropList = files.prop_list
-items_at files Scripts = files.scripts
-items_at files WordBreakProperty = files.word_break_property
-items_at files CompositionExclusions = files.composition_exclusions
-items_at files CaseFolding = files.case_folding
-items_at files SpecialCasing = files.special_casing
-items_at files PropertyAliases = files.property_aliases
-items_at files PropertyValueAliases = files.property_value_aliases
+abbrev pub items_at : List (List FileItem) → SourceFile → List FileItem
+items_at files file = slice_index_or files (file_place file) []
 
-abbrev pub with_items : NineFiles → SourceFile → List FileItem → NineFiles
-with_items files UnicodeData items = record files { unicode_data = items }
-with_items files PropList items = record files { prop_list = items }
-with_items files Scripts items = record files { scripts = items }
-with_items files WordBreakProperty items = record files { word_break_property = items }
-with_items files CompositionExclusions items = record files { composition_exclusions = items }
-with_items files CaseFolding items = record files { case_folding = items }
-with_items files SpecialCasing items = record files { special_casing = items }
-with_items files PropertyAliases items = record files { property_aliases = items }
-with_items files PropertyValueAliases items = record files { property_value_aliases = items }
+abbrev pub with_items : List (List FileItem) → SourceFile → List FileItem → List (List FileItem)
+with_items files file items = slice_set files (file_place file) items
 
-abbrev pub no_items : NineFiles
-no_items = record { unicode_data = []; prop_list = []; scripts = []; word_break_property = []; composition_exclusions = []; case_folding = []; special_casing = []; property_aliases = []; property_value_aliases = [] }
+abbrev pub no_items : List (List FileItem)
+no_items = [] ∷ [] ∷ [] ∷ [] ∷ [] ∷ [] ∷ [] ∷ [] ∷ [] ∷ []
 
 pub record ReleaseItems : Type 0 where
-  pub current : NineFiles
-  pub prepared : NineFiles
+  pub current : List (List FileItem)
+  pub prepared : List (List FileItem)
 
 abbrev pub items_now : ReleaseItems → SourceFile → List FileItem
 items_now release file = items_at release.current file
@@ -97,8 +80,9 @@ AreKeptBelow file above (item ∷ items) = IsKept file above item × AreKeptBelo
 abbrev pub AreKept : SourceFile → List FileItem → Type 0
 AreKept file items = AreKeptBelow file [] items
 
-abbrev pub AllAreKept : NineFiles → Type 0
-AllAreKept files = (file : SourceFile) → AreKept file (items_at files file)
+pub record AllAreKept (files : List (List FileItem)) : Type 0 where
+  pub nine : length files ≡ 9
+  pub each : (file : SourceFile) → AreKept file (items_at files file)
 
 -- ---- loading
 

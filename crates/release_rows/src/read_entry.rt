@@ -1,9 +1,9 @@
 //! Reads what is kept of a row while its file is loaded.
 
-ghost use Rattle.std.specs.Prelude.{◌≡◌, ◌≤◌, IfOk, IsTrue};
+ghost use Rattle.std.specs.Prelude.{◌≡◌, ◌≤◌, IfOk, IsTrue, Ok};
 ghost use Rattle.ucd_model.specs.RowValues.{RowOk};
 ghost use Rattle.source_rows.specs.Faults.{row_or_fault};
-ghost use Rattle.release_rows.specs.Entries.{EntersAs, IsEntry};
+ghost use Rattle.release_rows.specs.Entries.{EntersAs};
 ghost use Rattle.release_rows.specs.Names.{has_names, first_names};
 
 use crate::entry::Entry;
@@ -12,7 +12,7 @@ use crate::row_key::{alias_count, key_text, row_end, row_start};
 use source_rows::{RowStop, read_names, read_row, rows_are_ok, rows_are_read};
 use std::alloc::{AllocError, Global};
 use ucd_lines::Fields;
-use ucd_model::{Memory, Row, SourceFile};
+use ucd_model::{Row, SourceFile};
 
 /// Whether the rows of a file are rows of names.
 fn has_names(file: SourceFile) -> bool
@@ -60,18 +60,28 @@ fn names_entry(alloc: Global, file: SourceFile, content: &[u8]) -> Result<Entry,
 }
 
 /// What is kept of a row that is no row of names.
-fn entry_of(alloc: Global, file: SourceFile, row: &Row) -> Result<Entry, Memory>
+fn entry_of(alloc: Global, file: SourceFile, row: &Row) -> Result<Entry, RowStop>
     requires ok { RowOk file row.now }
     requires no_names { IsTrue (has_names file) → ⊥ }
-    ensures { IfOk result (λ entry. IsEntry file row.now entry) }
+    ensures { EntersAs file result (Ok row.now) }
 {
+    let names = key_text(alloc, file, row)?;
     Ok(Entry {
         place: Place {
-            names: key_text(alloc, file, row)?,
+            names,
             code: row_start(row),
         },
         last: row_end(file, row),
     })
+}
+
+/// The same of a row that is let go.
+fn entry_of_row(alloc: Global, file: SourceFile, row: Row) -> Result<Entry, RowStop>
+    requires ok { RowOk file row }
+    requires no_names { IsTrue (has_names file) → ⊥ }
+    ensures { EntersAs file result (Ok row) }
+{
+    entry_of(alloc, file, &row)
 }
 
 /// What is kept of the row of a content.
@@ -84,6 +94,8 @@ pub fn read_entry(alloc: Global, file: SourceFile, content: &[u8]) -> Result<Ent
     if has_names(file) {
         return names_entry(alloc, file, content);
     }
-    let row = read_row(alloc, file, content)?;
-    Ok(entry_of(alloc, file, &row)?)
+    match read_row(alloc, file, content) {
+        Ok(row) => entry_of_row(alloc, file, row),
+        Err(stop) => Err(stop),
+    }
 }

@@ -27,9 +27,9 @@ fn is_faulty_last(
     if !matches!(fault, RowFault::G04) || piece.last.is_none() {
         return Ok(false);
     }
-    match read_row(alloc, file, piece.first.content) {
-        Err(RowStop::Fault(RowFault::G09)) => Ok(true),
-        Err(RowStop::Memory) => Err(Memory),
+    match read_row(alloc, file, piece.first.content).err() {
+        Some(RowStop::Fault(RowFault::G09)) => Ok(true),
+        Some(RowStop::Memory) => Err(Memory),
         _ => Ok(false),
     }
 }

@@ -5,7 +5,10 @@ use Rattle.release_rows.specs.Releases.{AreKept}
 use Rattle.release_rows.proofs.release.Release.load_file.Goals as goal
 
 pub invariant_of-self : goal.invariant_of-self
-invariant_of-self c = rw c.put.ensures (each_with_items AreKept c.self.inside.files c.args.file c.in_ok-items.items c.self.invariant c.in_ok-items.ensures.kept)
+invariant_of-self c = record {
+  nine = c.put.ensures.nine;
+  each = rw c.put.ensures.files (each_with_items AreKept c.self.inside.files c.args.file c.in_ok-items.items c.self.invariant.nine c.self.invariant.each c.in_ok-items.ensures.kept);
+}
 
 pub returns-clause-lossless : goal.returns-clause-lossless
-returns-clause-lossless c = rw c.put.ensures (ap bytes_of (items_at-with_items_same c.self.inside.files c.args.file c.in_ok-items.items) ∙ c.in_ok-items.ensures.lossless)
+returns-clause-lossless c = rw c.put.ensures.files (ap bytes_of (items_at-with_items_same c.self.inside.files c.args.file c.in_ok-items.items c.self.invariant.nine) ∙ c.in_ok-items.ensures.lossless)

@@ -1,11 +1,12 @@
 -- What the rows so far give to each code point.
-use Rattle.std.proofs.Common.{◌≡◌, ℕ, ◌+◌, ◌<◌, ◌≤◌, Bool, true, false, cond, List, [], ◌∷◌, length, take, get_or, Option, Some, None, sym, ap, subst, ◌∙◌, arith}
+use Rattle.std.proofs.Common.{◌≡◌, ℕ, ◌+◌, ◌<◌, ◌≤◌, Bool, true, false, cond, List, [], ◌∷◌, length, take, get_or, Option, Some, None, refl, sym, ap, subst, ◌∙◌, arith}
 use Rattle.std.proofs.lemmas.List.{take_all}
 use Rattle.ucd_model.specs.Facts.{is_data_of, within, data_row, class_in}
 use Rattle.ucd_model.specs.declared.row.Row.{Row}
 use Rattle.ucd_model.specs.declared.row.DataRow.{DataRow}
-use Rattle.ucd_model.specs.declared.row.Row.TheVariants.{Unit as DataLine}
+use Rattle.ucd_model.specs.declared.row.Row.TheVariants.{Unit as DataLine, Value as ValueLine, Exclusion as ExclusionLine, Fold as FoldLine, Casing as CasingLine, Alias as AliasLine}
 use Rattle.code_facts.specs.Rows.{Apart, PointData, row_data}
+use Rattle.code_facts.specs.DataTables.{Adds}
 use Rattle.code_facts.proofs.RowLemmas.{data_step}
 
 -- the first n rows give what the table shows
@@ -26,7 +27,7 @@ gives_by true c row o new old is was = is
 gives_by false c row o new old is was = is ∙ was
 
 -- one more row of UnicodeData.txt
-pub rows_taken : (rows : List Row) (i : ℕ) (d : Row) (row : DataRow) (shows new : ℕ → PointData) → Apart rows → i < length rows → get_or rows i d ≡ DataLine row → row.class < 256
+rows_taken : (rows : List Row) (i : ℕ) (d : Row) (row : DataRow) (shows new : ℕ → PointData) → Apart rows → i < length rows → get_or rows i d ≡ DataLine row → row.class < 256
     → ((c : ℕ) → c < 1114112 → new c ≡ cond (within c row.span) (row_data c (Some row)) (shows c)) → RowsGive rows i shows → RowsGive rows (i + 1) new
 rows_taken rows i d row shows new apart h is small add old =
     let step : (c : ℕ) → data_row (take (i + 1) rows) c ≡ cond (within c row.span) (Some row) (data_row (take i rows) c) = λ c. rw is at (data_step rows i c d apart h) in
@@ -36,13 +37,29 @@ rows_taken rows i d row shows new apart h is small add old =
     }
 
 -- a row of another kind gives nothing
-pub rows_skipped : (rows : List Row) (i : ℕ) (d : Row) (shows : ℕ → PointData) → Apart rows → i < length rows → ((c : ℕ) → is_data_of c (get_or rows i d) ≡ false) → RowsGive rows i shows → RowsGive rows (i + 1) shows
+rows_skipped : (rows : List Row) (i : ℕ) (d : Row) (shows : ℕ → PointData) → Apart rows → i < length rows → ((c : ℕ) → is_data_of c (get_or rows i d) ≡ false) → RowsGive rows i shows → RowsGive rows (i + 1) shows
 rows_skipped rows i d shows apart h none old =
     let step : (c : ℕ) → data_row (take (i + 1) rows) c ≡ data_row (take i rows) c = λ c. rw (none c) at (data_step rows i c d apart h) in
     record {
       gives = λ c lt. old.gives c lt ∙ ap (row_data c) (sym (step c));
       class = λ c. subst (λ (o : Option DataRow). class_in o < 256) (sym (step c)) (old.class c);
     }
+
+-- what is shown in the same way is given too
+rows_same : (rows : List Row) (n : ℕ) (shows new : ℕ → PointData) → ((c : ℕ) → c < 1114112 → new c ≡ shows c) → RowsGive rows n shows → RowsGive rows n new
+rows_same rows n shows new same old = record { gives = λ c lt. same c lt ∙ old.gives c lt; class = old.class }
+
+-- one more row of any kind
+added_by : (rows : List Row) (i : ℕ) (d row : Row) (shows new : ℕ → PointData) → Apart rows → i < length rows → get_or rows i d ≡ row → Adds row shows new → RowsGive rows i shows → RowsGive rows (i + 1) new
+added_by rows i d (DataLine row) shows new apart h is adds old = rows_taken rows i d row shows new apart h is adds.0 adds.1 old
+added_by rows i d (ValueLine row) shows new apart h is adds old = rows_same rows (i + 1) shows new adds (rows_skipped rows i d shows apart h (λ c. ap (is_data_of c) is) old)
+added_by rows i d (ExclusionLine row) shows new apart h is adds old = rows_same rows (i + 1) shows new adds (rows_skipped rows i d shows apart h (λ c. ap (is_data_of c) is) old)
+added_by rows i d (FoldLine row) shows new apart h is adds old = rows_same rows (i + 1) shows new adds (rows_skipped rows i d shows apart h (λ c. ap (is_data_of c) is) old)
+added_by rows i d (CasingLine row) shows new apart h is adds old = rows_same rows (i + 1) shows new adds (rows_skipped rows i d shows apart h (λ c. ap (is_data_of c) is) old)
+added_by rows i d (AliasLine row) shows new apart h is adds old = rows_same rows (i + 1) shows new adds (rows_skipped rows i d shows apart h (λ c. ap (is_data_of c) is) old)
+
+pub rows_added : (rows : List Row) (i : ℕ) (d : Row) (shows new : ℕ → PointData) → Apart rows → i < length rows → Adds (get_or rows i d) shows new → RowsGive rows i shows → RowsGive rows (i + 1) new
+rows_added rows i d shows new apart h adds old = added_by rows i d (get_or rows i d) shows new apart h refl adds old
 
 pub rows_all : (rows : List Row) (n : ℕ) (shows : ℕ → PointData) → length rows ≤ n → RowsGive rows n shows → ((c : ℕ) → c < 1114112 → shows c ≡ row_data c (data_row rows c)) × ((c : ℕ) → class_in (data_row rows c) < 256)
 rows_all rows n shows h old =

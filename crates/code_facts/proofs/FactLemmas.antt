@@ -50,7 +50,7 @@ point_below c lt = lt
 pub kept_word : {T : Type 0} (now : T → ℕ → ℕ) (t : KeptFacts T) (c : ℕ) → c < 1114112 → ReadsBack (now t.words c) (all_kept now t c)
 kept_word now t c inside = rw (kept_inside now t c (point_below c inside)) (word_back now t c)
 
-pub kept_mapping : {T : Type 0} (now : T → ℕ → ℕ) (t : KeptFacts T) (c : ℕ) → c < 1114112 → lists_now t.mappings c ≡ (all_kept now t c).mapping
+pub kept_mapping : {T : Type 0} (now : T → ℕ → ℕ) (t : KeptFacts T) (c : ℕ) → c < 1114112 → lists_now t.lists.value.mappings c ≡ (all_kept now t c).mapping
 kept_mapping now t c inside = rw (kept_inside now t c (point_below c inside)) refl
 
 pub below_point : (c : ℕ) → c < point_count → c < 1114112
@@ -90,35 +90,35 @@ title_image c s (Some r) = refl
 -- what is kept of UnicodeData.txt and of the marks
 pub record KeepsRows {T : Type 0} (now : T → ℕ → ℕ) (t : KeptFacts T) (rows : Sources) (c : ℕ) : Type 0 where
   pub word : now t.words c ≡ (row_data c (data_row (rows UnicodeData) c)).word + marks_before 16 rows c
-  pub mapping : lists_now t.mappings c ≡ (row_data c (data_row (rows UnicodeData) c)).mapping
-  pub upper : lists_now t.uppers c ≡ upper_list (data_row (rows UnicodeData) c)
-  pub lower : lists_now t.lowers c ≡ lower_list (data_row (rows UnicodeData) c)
-  pub title : lists_now t.titles c ≡ title_list (data_row (rows UnicodeData) c)
+  pub mapping : lists_now t.lists.value.mappings c ≡ (row_data c (data_row (rows UnicodeData) c)).mapping
+  pub upper : lists_now t.lists.value.uppers c ≡ upper_list (data_row (rows UnicodeData) c)
+  pub lower : lists_now t.lists.value.lowers c ≡ lower_list (data_row (rows UnicodeData) c)
+  pub title : lists_now t.lists.value.titles c ≡ title_list (data_row (rows UnicodeData) c)
   pub class : class_in (data_row (rows UnicodeData) c) < 256
 
-kept_given : {T : Type 0} (now : T → ℕ → ℕ) (t : KeptFacts T) (rows : Sources) (c : ℕ) → KeepsRows now t rows c → KeepsImages t.cases rows → kept_at now t c ≡ given rows c
+kept_given : {T : Type 0} (now : T → ℕ → ℕ) (t : KeptFacts T) (rows : Sources) (c : ℕ) → KeepsRows now t rows c → KeepsImages t.cases.value rows → kept_at now t c ≡ given rows c
 kept_given now t rows c keeps images =
     let row = data_row (rows UnicodeData) c in
     let casing = casing_row (rows SpecialCasing) c in
     let back : ReadsBack (packed (given rows c)) (given rows c) = reads_back (given rows c) keeps.class in
     let word : now t.words c ≡ packed (given rows c) = keeps.word ∙ ap (λ n. (row_data c row).word + n) (marks_are rows c) in
-    let upper : only_or c (lists_now t.uppers c) ≡ upper_in c row = ap (only_or c) keeps.upper ∙ only_upper c row in
-    let lower : only_or c (lists_now t.lowers c) ≡ lower_in c row = ap (only_or c) keeps.lower ∙ only_lower c row in
-    let title : only_or (only_or c (lists_now t.uppers c)) (lists_now t.titles c) ≡ title_in c row =
-    ap (λ d. only_or d (lists_now t.titles c)) upper ∙ ap (only_or (upper_in c row)) keeps.title ∙ only_title c row in
-    let common : found t.cases.common c ≡ folding (rows CaseFolding) status.C c = images.common c in
-    let simple_fold : only_or c (unwrap_or (found t.cases.simple c) (unwrap_or (found t.cases.common c) [])) ≡ simple_folding (rows CaseFolding) c =
-    ap (λ o. only_or c (unwrap_or o (unwrap_or (found t.cases.common c) []))) (images.simple c)
+    let upper : only_or c (lists_now t.lists.value.uppers c) ≡ upper_in c row = ap (only_or c) keeps.upper ∙ only_upper c row in
+    let lower : only_or c (lists_now t.lists.value.lowers c) ≡ lower_in c row = ap (only_or c) keeps.lower ∙ only_lower c row in
+    let title : only_or (only_or c (lists_now t.lists.value.uppers c)) (lists_now t.lists.value.titles c) ≡ title_in c row =
+    ap (λ d. only_or d (lists_now t.lists.value.titles c)) upper ∙ ap (only_or (upper_in c row)) keeps.title ∙ only_title c row in
+    let common : found t.cases.value.common c ≡ folding (rows CaseFolding) status.C c = images.common c in
+    let simple_fold : only_or c (unwrap_or (found t.cases.value.simple c) (unwrap_or (found t.cases.value.common c) [])) ≡ simple_folding (rows CaseFolding) c =
+    ap (λ o. only_or c (unwrap_or o (unwrap_or (found t.cases.value.common c) []))) (images.simple c)
     ∙ ap (λ o. only_or c (unwrap_or (folding (rows CaseFolding) status.S c) (unwrap_or o []))) common in
-    let fold : image c (unwrap_or (found t.cases.full c) (unwrap_or (found t.cases.common c) (c ∷ []))) ≡ image c (full_folding (rows CaseFolding) c) =
-    ap (λ o. image c (unwrap_or o (unwrap_or (found t.cases.common c) (c ∷ [])))) (images.full c)
+    let fold : image c (unwrap_or (found t.cases.value.full c) (unwrap_or (found t.cases.value.common c) (c ∷ []))) ≡ image c (full_folding (rows CaseFolding) c) =
+    ap (λ o. image c (unwrap_or o (unwrap_or (found t.cases.value.common c) (c ∷ [])))) (images.full c)
     ∙ ap (λ o. image c (unwrap_or (folding (rows CaseFolding) status.F c) (unwrap_or o (c ∷ [])))) common in
-    let full_up : full_image c (only_or c (lists_now t.uppers c)) (found t.cases.upper c) ≡ full_upper c (upper_in c row) casing =
-    ap (λ s. full_image c s (found t.cases.upper c)) upper ∙ ap (full_image c (upper_in c row)) (images.upper c) ∙ upper_image c (upper_in c row) casing in
-    let full_low : full_image c (only_or c (lists_now t.lowers c)) (found t.cases.lower c) ≡ full_lower c (lower_in c row) casing =
-    ap (λ s. full_image c s (found t.cases.lower c)) lower ∙ ap (full_image c (lower_in c row)) (images.lower c) ∙ lower_image c (lower_in c row) casing in
-    let full_ti : full_image c (only_or (only_or c (lists_now t.uppers c)) (lists_now t.titles c)) (found t.cases.title c) ≡ full_title c (title_in c row) casing =
-    ap (λ s. full_image c s (found t.cases.title c)) title ∙ ap (full_image c (title_in c row)) (images.title c) ∙ title_image c (title_in c row) casing in
+    let full_up : full_image c (only_or c (lists_now t.lists.value.uppers c)) (found t.cases.value.upper c) ≡ full_upper c (upper_in c row) casing =
+    ap (λ s. full_image c s (found t.cases.value.upper c)) upper ∙ ap (full_image c (upper_in c row)) (images.upper c) ∙ upper_image c (upper_in c row) casing in
+    let full_low : full_image c (only_or c (lists_now t.lists.value.lowers c)) (found t.cases.value.lower c) ≡ full_lower c (lower_in c row) casing =
+    ap (λ s. full_image c s (found t.cases.value.lower c)) lower ∙ ap (full_image c (lower_in c row)) (images.lower c) ∙ lower_image c (lower_in c row) casing in
+    let full_ti : full_image c (only_or (only_or c (lists_now t.lists.value.uppers c)) (lists_now t.lists.value.titles c)) (found t.cases.value.title c) ≡ full_title c (title_in c row) casing =
+    ap (λ s. full_image c s (found t.cases.value.title c)) title ∙ ap (full_image c (title_in c row)) (images.title c) ∙ title_image c (title_in c row) casing in
     let assigned = ap assigned_of_word word ∙ back.assigned in
     let category = ap category_of_word word ∙ back.category in
     let class = ap class_of_word word ∙ back.class in
@@ -145,7 +145,7 @@ kept_given now t rows c keeps images =
       excluded = excluded i;
     }
 
-pub tables_keep : {T : Type 0} (now : T → ℕ → ℕ) (t : KeptFacts T) (rows : Sources) → ((c : ℕ) → c < point_count → KeepsRows now t rows c) → KeepsImages t.cases rows → all_kept now t ≡ facts rows
+pub tables_keep : {T : Type 0} (now : T → ℕ → ℕ) (t : KeptFacts T) (rows : Sources) → ((c : ℕ) → c < point_count → KeepsRows now t rows c) → KeepsImages t.cases.value rows → all_kept now t ≡ facts rows
 tables_keep now t rows keeps images =
     fun_ext (λ c. elim (cases_lt c point_count) [
       | inl inside ↦ kept_inside now t c inside ∙ kept_given now t rows c (keeps c inside) images ∙ sym (facts_inside rows c inside)
@@ -159,7 +159,7 @@ word_small c row small = omega (arith, one_small (is_some row), category_small (
 
 pub row_kept : {T : Type 0} (now : T → ℕ → ℕ) (t : KeptFacts T) (rows : Sources) (c : ℕ) (d : PointData) (marked : ℕ)
     → d ≡ row_data c (data_row (rows UnicodeData) c) → now t.words c ≡ d.word + marked → marked ≡ marks_before 16 rows c
-    → lists_now t.mappings c ≡ d.mapping → lists_now t.uppers c ≡ d.upper → lists_now t.lowers c ≡ d.lower → lists_now t.titles c ≡ d.title
+    → lists_now t.lists.value.mappings c ≡ d.mapping → lists_now t.lists.value.uppers c ≡ d.upper → lists_now t.lists.value.lowers c ≡ d.lower → lists_now t.lists.value.titles c ≡ d.title
     → class_in (data_row (rows UnicodeData) c) < 256 → KeepsRows now t rows c
 row_kept now t rows c d marked is sum marks mapping upper lower title small = record {
   word = sum ∙ ap (λ (p : PointData). p.word + marked) is ∙ ap (λ n. (row_data c (data_row (rows UnicodeData) c)).word + n) marks;
@@ -171,7 +171,7 @@ row_kept now t rows c d marked is sum marks mapping upper lower title small = re
 }
 
 -- what tells composites apart is the same where the word and the mapping are
-pub same_composite : {T : Type 0} (now : T → ℕ → ℕ) (t : KeptFacts T) (a k : ℕ) → a < 1114112 → k < 1114112 → now t.words k ≡ now t.words a → lists_now t.mappings k ≡ lists_now t.mappings a → SameComposite (all_kept now t) a k
+pub same_composite : {T : Type 0} (now : T → ℕ → ℕ) (t : KeptFacts T) (a k : ℕ) → a < 1114112 → k < 1114112 → now t.words k ≡ now t.words a → lists_now t.lists.value.mappings k ≡ lists_now t.lists.value.mappings a → SameComposite (all_kept now t) a k
 same_composite now t a k la lk word mapping =
     let at = kept_inside now t a (point_below a la) in
     let here = kept_inside now t k (point_below k lk) in

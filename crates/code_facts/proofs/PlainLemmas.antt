@@ -41,22 +41,22 @@ second_absent index next d lt least = not_true (second_in index d) (λ some. ome
 itself : (c : ℕ) → image c (c ∷ []) ≡ Same
 itself c = rw ((bytes_eq-Decides (c ∷ []) (c ∷ [])).1 refl) refl
 
-kept_plain : {T : Type 0} (now : T → ℕ → ℕ) (t : KeptFacts T) (c : ℕ) → HasNoLists t c → HasNoImages t.cases c → IsPlain c (kept_at now t c)
+kept_plain : {T : Type 0} (now : T → ℕ → ℕ) (t : KeptFacts T) (c : ℕ) → HasNoLists t c → HasNoImages t.cases.value c → IsPlain c (kept_at now t c)
 kept_plain now t c lists images =
-    let upper : only_or c (lists_now t.uppers c) ≡ c = ap (only_or c) lists.upper in
-    let lower : only_or c (lists_now t.lowers c) ≡ c = ap (only_or c) lists.lower in
-    let title : only_or (only_or c (lists_now t.uppers c)) (lists_now t.titles c) ≡ c = ap (only_or (only_or c (lists_now t.uppers c))) lists.title ∙ upper in
+    let upper : only_or c (lists_now t.lists.value.uppers c) ≡ c = ap (only_or c) lists.upper in
+    let lower : only_or c (lists_now t.lists.value.lowers c) ≡ c = ap (only_or c) lists.lower in
+    let title : only_or (only_or c (lists_now t.lists.value.uppers c)) (lists_now t.lists.value.titles c) ≡ c = ap (only_or (only_or c (lists_now t.lists.value.uppers c))) lists.title ∙ upper in
     record {
       mapping = lists.mapping;
       simple_upper = upper;
       simple_lower = lower;
       simple_title = title;
-      simple_fold = ap (λ o. only_or c (unwrap_or o (unwrap_or (found t.cases.common c) []))) images.simple ∙ ap (λ o. only_or c (unwrap_or o [])) images.common;
-      upper = ap (full_image c (only_or c (lists_now t.uppers c))) images.upper ∙ ap (λ s. image c (s ∷ [])) upper ∙ itself c;
-      lower = ap (full_image c (only_or c (lists_now t.lowers c))) images.lower ∙ ap (λ s. image c (s ∷ [])) lower ∙ itself c;
-      title = ap (full_image c (only_or (only_or c (lists_now t.uppers c)) (lists_now t.titles c))) images.title ∙ ap (λ s. image c (s ∷ [])) title ∙ itself c;
-      fold = ap (λ o. image c (unwrap_or o (unwrap_or (found t.cases.common c) (c ∷ [])))) images.full ∙ ap (λ o. image c (unwrap_or o (c ∷ []))) images.common ∙ itself c;
+      simple_fold = ap (λ o. only_or c (unwrap_or o (unwrap_or (found t.cases.value.common c) []))) images.simple ∙ ap (λ o. only_or c (unwrap_or o [])) images.common;
+      upper = ap (full_image c (only_or c (lists_now t.lists.value.uppers c))) images.upper ∙ ap (λ s. image c (s ∷ [])) upper ∙ itself c;
+      lower = ap (full_image c (only_or c (lists_now t.lists.value.lowers c))) images.lower ∙ ap (λ s. image c (s ∷ [])) lower ∙ itself c;
+      title = ap (full_image c (only_or (only_or c (lists_now t.lists.value.uppers c)) (lists_now t.lists.value.titles c))) images.title ∙ ap (λ s. image c (s ∷ [])) title ∙ itself c;
+      fold = ap (λ o. image c (unwrap_or o (unwrap_or (found t.cases.value.common c) (c ∷ [])))) images.full ∙ ap (λ o. image c (unwrap_or o (c ∷ []))) images.common ∙ itself c;
     }
 
-pub unmapped_plain : {T : Type 0} (now : T → ℕ → ℕ) (t : KeptFacts T) (c : ℕ) → c < 1114112 → HasNoLists t c → HasNoImages t.cases c → IsPlain c (all_kept now t c)
+pub unmapped_plain : {T : Type 0} (now : T → ℕ → ℕ) (t : KeptFacts T) (c : ℕ) → c < 1114112 → HasNoLists t c → HasNoImages t.cases.value c → IsPlain c (all_kept now t c)
 unmapped_plain now t c inside lists images = rw (kept_inside now t c (point_below c inside)) (kept_plain now t c lists images)

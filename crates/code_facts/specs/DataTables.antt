@@ -1,26 +1,43 @@
 -- What the tables of UnicodeData.txt keep for each code point.
 --
 -- data_now t c, data_next t c   now and next
-use Rattle.std.specs.Prelude.{ℕ}
+-- HasNoneNext l c               each list of c is empty next
+-- Adds row old new              what is new is what the row gives where it covers a code point, and else what was; a row of another
+--                               file gives nothing
+use Rattle.std.specs.Prelude.{◌≡◌, ℕ, ◌<◌, [], Some, if◌then◌else◌}
+use Rattle.ucd_model.specs.Facts.{within}
+use Rattle.ucd_model.specs.declared.row.Row.{Row}
+use Rattle.ucd_model.specs.declared.row.Row.TheVariants.{Unit as DataLine}
 use Rattle.range_table.specs.RunTable.{values_now, values_next}
-use Rattle.code_facts.specs.Rows.{PointData}
+use Rattle.code_facts.specs.Rows.{PointData, row_data}
 use Rattle.code_facts.specs.PointLists.{lists_now, lists_next}
+use Rattle.code_facts.specs.declared.data_lists.DataLists.{DataLists}
 use Rattle.code_facts.specs.declared.data_tables.DataTables.{DataTables}
 
 abbrev pub data_now : DataTables → ℕ → PointData
 data_now t c = record {
   word = values_now t.words c;
-  mapping = lists_now t.mappings c;
-  upper = lists_now t.uppers c;
-  lower = lists_now t.lowers c;
-  title = lists_now t.titles c;
+  mapping = lists_now t.lists.value.mappings c;
+  upper = lists_now t.lists.value.uppers c;
+  lower = lists_now t.lists.value.lowers c;
+  title = lists_now t.lists.value.titles c;
 }
 
 abbrev pub data_next : DataTables → ℕ → PointData
 data_next t c = record {
   word = values_next t.words c;
-  mapping = lists_next t.mappings c;
-  upper = lists_next t.uppers c;
-  lower = lists_next t.lowers c;
-  title = lists_next t.titles c;
+  mapping = lists_next t.lists.value.mappings c;
+  upper = lists_next t.lists.value.uppers c;
+  lower = lists_next t.lists.value.lowers c;
+  title = lists_next t.lists.value.titles c;
 }
+
+pub record HasNoneNext (l : DataLists) (c : ℕ) : Type 0 where
+  pub mapping : lists_next l.mappings c ≡ []
+  pub upper : lists_next l.uppers c ≡ []
+  pub lower : lists_next l.lowers c ≡ []
+  pub title : lists_next l.titles c ≡ []
+
+abbrev pub Adds : Row → (ℕ → PointData) → (ℕ → PointData) → Type 0
+Adds (DataLine row) old new = (row.class < 256) × ((c : ℕ) → c < 1114112 → new c ≡ (if within c row.span then row_data c (Some row) else old c))
+Adds _ old new = (c : ℕ) → c < 1114112 → new c ≡ old c

@@ -28,10 +28,10 @@ pub record HoldsTo (P : ℕ → Type 0) (c last : ℕ) : Type 0 where
   pub each : (d : ℕ) → c ≤ d → d ≤ last → P d
 
 pub record HasNoLists {T : Type 0} (t : KeptFacts T) (c : ℕ) : Type 0 where
-  pub mapping : lists_now t.mappings c ≡ []
-  pub upper : lists_now t.uppers c ≡ []
-  pub lower : lists_now t.lowers c ≡ []
-  pub title : lists_now t.titles c ≡ []
+  pub mapping : lists_now t.lists.value.mappings c ≡ []
+  pub upper : lists_now t.lists.value.uppers c ≡ []
+  pub lower : lists_now t.lists.value.lowers c ≡ []
+  pub title : lists_now t.lists.value.titles c ≡ []
 
 pub record HasNoImages (maps : CaseMaps) (c : ℕ) : Type 0 where
   pub common : found maps.common c ≡ None

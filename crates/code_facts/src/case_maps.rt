@@ -1,14 +1,14 @@
 //! The images of all cases.
 
-ghost use Rattle.std.specs.Prelude.{◌≡◌, ℕ, IfOk};
+ghost use Rattle.std.specs.Prelude.{◌≡◌, ℕ, IfOk, OnOk};
 ghost use Rattle.code_facts.specs.Found.{found};
-ghost use Rattle.code_facts.specs.CaseMaps.{KeepsImages};
+ghost use Rattle.code_facts.specs.CaseMaps.{KeepsImages, KeepsFoldings, KeepsCasings, SameFoldings};
 ghost use Rattle.code_facts.specs.Rows.{release_sources};
 
 use crate::case::Case;
 use crate::case_map::case_map;
 use crate::rows::rows_of;
-use release_rows::Release;
+use release_rows::{Release, RowText};
 use std::alloc::Global;
 use std::collections::BTreeMap;
 use ucd_model::{FoldStatus, Memory, Point, Points, SourceFile};
@@ -37,15 +37,51 @@ impl CaseMaps {
     pub fn of(alloc: Global, release: &Release) -> Result<CaseMaps, Memory>
         ensures { IfOk result (λ maps. KeepsImages maps (release_sources release.now)) }
     {
+        let mut maps = CaseMaps::empty(alloc);
+        maps.put(alloc, release)?;
+        Ok(maps)
+    }
+
+    /// The maps without an image. It takes no memory.
+    fn empty(alloc: Global) -> CaseMaps {
+        CaseMaps {
+            common: BTreeMap::new(alloc),
+            full: BTreeMap::new(alloc),
+            simple: BTreeMap::new(alloc),
+            lower: BTreeMap::new(alloc),
+            title: BTreeMap::new(alloc),
+            upper: BTreeMap::new(alloc),
+        }
+    }
+
+    /// Puts the images that the rows of a release give now in the place of what is there.
+    fn put(&mut self, alloc: Global, release: &Release) -> Result<(), Memory>
+        ensures { OnOk result (KeepsImages self.new (release_sources release.now)) }
+    {
         let foldings = rows_of(alloc, release, SourceFile::CaseFolding)?;
+        self.put_foldings(alloc, &foldings)?;
         let casings = rows_of(alloc, release, SourceFile::SpecialCasing)?;
-        Ok(CaseMaps {
-            common: case_map(alloc, &foldings, Case::Fold(FoldStatus::C))?,
-            full: case_map(alloc, &foldings, Case::Fold(FoldStatus::F))?,
-            simple: case_map(alloc, &foldings, Case::Fold(FoldStatus::S))?,
-            lower: case_map(alloc, &casings, Case::Lower)?,
-            title: case_map(alloc, &casings, Case::Title)?,
-            upper: case_map(alloc, &casings, Case::Upper)?,
-        })
+        self.put_casings(alloc, &casings)
+    }
+
+    /// Puts the images that these rows of CaseFolding.txt give in the place of what is there.
+    fn put_foldings(&mut self, alloc: Global, rows: &[RowText<'_>]) -> Result<(), Memory>
+        ensures { OnOk result (KeepsFoldings self.new rows.now) }
+    {
+        self.common = case_map(alloc, rows, Case::Fold(FoldStatus::C))?;
+        self.full = case_map(alloc, rows, Case::Fold(FoldStatus::F))?;
+        self.simple = case_map(alloc, rows, Case::Fold(FoldStatus::S))?;
+        Ok(())
+    }
+
+    /// Puts the images that these rows of SpecialCasing.txt give in the place of what is there. Foldings stay.
+    fn put_casings(&mut self, alloc: Global, rows: &[RowText<'_>]) -> Result<(), Memory>
+        ensures casings { OnOk result (KeepsCasings self.new rows.now) }
+        ensures foldings { OnOk result (SameFoldings self.old self.new) }
+    {
+        self.lower = case_map(alloc, rows, Case::Lower)?;
+        self.title = case_map(alloc, rows, Case::Title)?;
+        self.upper = case_map(alloc, rows, Case::Upper)?;
+        Ok(())
     }
 }

@@ -5,16 +5,19 @@ ghost use Rattle.std.specs.Option.{option_to_list};
 ghost use Rattle.range_table.specs.Values.{SameValues, with_span};
 ghost use Rattle.range_table.specs.RunTable.{values_next};
 ghost use Rattle.ucd_model.specs.Facts.{within, mapping_in, data_row, class_in, is_hangul_syllable, hangul_mapping};
-ghost use Rattle.code_facts.specs.Rows.{row_data, Apart};
-ghost use Rattle.code_facts.specs.DataTables.{data_now, data_next};
+ghost use Rattle.ucd_model.specs.declared.files.SourceFile.TheVariants.{UnicodeData};
+ghost use Rattle.code_facts.specs.Rows.{release_sources, row_data, Apart};
+ghost use Rattle.code_facts.specs.DataTables.{Adds, data_now, data_next};
 ghost use Rattle.code_facts.specs.PointLists.{lists_now, lists_next};
 
+use crate::data_lists::DataLists;
 use crate::hangul::{hangul_mapping, syllables};
 use crate::point_lists::PointLists;
 use crate::points::point;
+use crate::rows::data_rows_of;
 use crate::word::{NO_ROW, data_word};
 use range_table::{RunTable, Table};
-use release_rows::RowText;
+use release_rows::{Release, RowText};
 use std::alloc::Global;
 use ucd_model::{DataRow, Kind, Memory, Point, Row, Span};
 
@@ -23,33 +26,34 @@ use ucd_model::{DataRow, Kind, Memory, Point, Row, Span};
 pub struct DataTables {
     /// The parts of the packed words.
     pub words: RunTable<u64>,
-    /// The decomposition mappings.
-    pub mappings: PointLists,
-    /// The simple mappings to upper case: one point, or none.
-    pub uppers: PointLists,
-    /// The simple mappings to lower case: one point, or none.
-    pub lowers: PointLists,
-    /// The simple mappings to title case: one point, or none.
-    pub titles: PointLists,
+    /// The mappings.
+    pub lists: Box<DataLists>,
 }
 
 impl DataTables {
+    /// The tables of the rows of a release now.
+    ///
+    /// - `Memory`: memory ran out.
+    pub fn of(alloc: Global, release: &Release) -> Result<DataTables, Memory>
+        ensures gives { IfOk result (λ tables. (c : ℕ) → c < 1114112
+            → data_now tables c ≡ row_data c (data_row (release_sources release.now UnicodeData) c)) }
+        ensures class { OnOk result ((c : ℕ) → class_in (data_row (release_sources release.now UnicodeData) c) < 256) }
+    {
+        let rows = data_rows_of(alloc, release)?;
+        DataTables::of_rows(alloc, &rows)
+    }
+
     /// The tables of these rows.
     ///
     /// - `Memory`: memory ran out.
-    pub fn of_rows(alloc: Global, rows: &[RowText<'_>]) -> Result<DataTables, Memory>
+    fn of_rows(alloc: Global, rows: &[RowText<'_>]) -> Result<DataTables, Memory>
         requires { Apart rows.now }
         ensures gives { IfOk result (λ tables. (c : ℕ) → c < 1114112
             → data_now tables c ≡ row_data c (data_row rows.now c)) }
         ensures class { OnOk result ((c : ℕ) → class_in (data_row rows.now c) < 256) }
     {
         let mut tables = DataTables::new(alloc)?;
-        'rows: for row in rows {
-            let row = row.read(alloc)?;
-            if let Row::Unit(row) = &row {
-                tables.add(row)?;
-            }
-        }
+        tables.add_rows(alloc, rows)?;
         tables.commit();
         Ok(tables)
     }
@@ -58,13 +62,43 @@ impl DataTables {
     fn new(alloc: Global) -> Result<DataTables, Memory>
         ensures { IfOk result (λ tables. (c : ℕ) → c < 1114112 → data_next tables c ≡ row_data c None) }
     {
+        let lists = Box::new(alloc, DataLists::new(alloc)?)?;
         Ok(DataTables {
             words: RunTable::filled(alloc, NO_ROW)?,
-            mappings: PointLists::new(alloc)?,
-            uppers: PointLists::new(alloc)?,
-            lowers: PointLists::new(alloc)?,
-            titles: PointLists::new(alloc)?,
+            lists,
         })
+    }
+
+    /// Gives the points of these rows what the rows give, where no row has given them anything.
+    fn add_rows(&mut self, alloc: Global, rows: &[RowText<'_>]) -> Result<(), Memory>
+        requires apart { Apart rows.now }
+        requires fresh { (c : ℕ) → c < 1114112 → data_next self.old c ≡ row_data c None }
+        ensures gives { OnOk result ((c : ℕ) → c < 1114112
+            → data_next self.new c ≡ row_data c (data_row rows.now c)) }
+        ensures class { OnOk result ((c : ℕ) → class_in (data_row rows.now c) < 256) }
+    {
+        'rows: for row in rows {
+            self.add_text(alloc, row)?;
+        }
+        Ok(())
+    }
+
+    /// Gives the points of a row what the row gives, if it is a row of UnicodeData.txt.
+    fn add_text(&mut self, alloc: Global, row: &RowText<'_>) -> Result<(), Memory>
+        ensures { OnOk result (Adds row.now (data_next self.old) (data_next self.new)) }
+    {
+        let row = row.read(alloc)?;
+        self.add_row(&row)
+    }
+
+    /// The same of a row that was read.
+    fn add_row(&mut self, row: &Row) -> Result<(), Memory>
+        ensures { OnOk result (Adds row.now (data_next self.old) (data_next self.new)) }
+    {
+        match row {
+            Row::Unit(row) => self.add(row),
+            _ => Ok(()),
+        }
     }
 
     /// Gives the points of a row what the row gives.
@@ -74,10 +108,10 @@ impl DataTables {
         ensures class { row.now.class < 256 }
     {
         add_word(&mut self.words, row)?;
-        add_mapping(&mut self.mappings, row)?;
-        add_simple(&mut self.uppers, row.span, row.upper)?;
-        add_simple(&mut self.lowers, row.span, row.lower)?;
-        add_simple(&mut self.titles, row.span, row.title)
+        add_mapping(&mut self.lists.mappings, row)?;
+        add_simple(&mut self.lists.uppers, row.span, row.upper)?;
+        add_simple(&mut self.lists.lowers, row.span, row.lower)?;
+        add_simple(&mut self.lists.titles, row.span, row.title)
     }
 
     /// What is next becomes now. It takes no memory.
@@ -85,10 +119,10 @@ impl DataTables {
         ensures { (c : ℕ) → c < 1114112 → data_now self.new c ≡ data_next self.old c }
     {
         self.words.commit();
-        self.mappings.commit();
-        self.uppers.commit();
-        self.lowers.commit();
-        self.titles.commit();
+        self.lists.mappings.commit();
+        self.lists.uppers.commit();
+        self.lists.lowers.commit();
+        self.lists.titles.commit();
     }
 }
 

@@ -30,7 +30,7 @@ pub fn index_of<T: Table<u64>>(
     let mut at = 0;
     'stretches: while let Some(first) = Point::new(at) {
         let same_word = lesser(a.last_of_run(first), b.last_of_run(first));
-        let last = lesser(same_word, kept.mappings.last_of_run(first));
+        let last = lesser(same_word, kept.lists.mappings.last_of_run(first));
         index.add(kept.members(first), first)?;
         at = last.number() + 1;
     }

@@ -1,7 +1,7 @@
 //! What is kept of the facts of code points.
 
 use crate::case_maps::CaseMaps;
-use crate::point_lists::PointLists;
+use crate::data_lists::DataLists;
 use range_table::Table;
 
 /// What is kept of the facts of all code points, the packed words in a table of type `T`.
@@ -9,14 +9,8 @@ use range_table::Table;
 pub struct KeptFacts<T: Table<u64>> {
     /// The packed words.
     pub words: T,
-    /// The decomposition mappings.
-    pub mappings: PointLists,
-    /// The simple mappings to upper case: one point, or none.
-    pub uppers: PointLists,
-    /// The simple mappings to lower case: one point, or none.
-    pub lowers: PointLists,
-    /// The simple mappings to title case: one point, or none.
-    pub titles: PointLists,
+    /// The mappings that the rows of UnicodeData.txt give.
+    pub lists: Box<DataLists>,
     /// The images of CaseFolding.txt and SpecialCasing.txt.
-    pub cases: CaseMaps,
+    pub cases: Box<CaseMaps>,
 }

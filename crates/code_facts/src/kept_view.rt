@@ -29,16 +29,16 @@ impl<T: Table<u64>> KeptFacts<T> {
         ensures { ShowsFacts result (kept_at T.now self.now c) }
     {
         let word = self.words.get(c);
-        let upper = self.uppers.get(c);
-        let lower = self.lowers.get(c);
-        let title = first_list(self.titles.get(c), upper);
+        let upper = self.lists.uppers.get(c);
+        let lower = self.lists.lowers.get(c);
+        let title = first_list(self.lists.titles.get(c), upper);
         let cases = &self.cases;
         FactsRef {
             assigned: is_assigned(word),
             category: category_of(word),
             class: class_of(word),
             kind: kind_of(word),
-            mapping: self.mappings.get(c),
+            mapping: self.lists.mappings.get(c),
             simple_upper: first_or(c, upper),
             simple_lower: first_or(c, lower),
             simple_title: first_or(c, title),
@@ -79,7 +79,7 @@ impl<T: Table<u64>> KeptFacts<T> {
         ensures { result.now ≡ (all_kept T.now self.now c).mapping }
     {
         let _number = c.number();
-        self.mappings.get(c)
+        self.lists.mappings.get(c)
     }
 
     /// The packed word of a code point.

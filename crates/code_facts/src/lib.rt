@@ -7,6 +7,7 @@ mod case;
 mod case_map;
 mod case_maps;
 mod composites;
+mod data_lists;
 mod data_tables;
 mod fact_tables;
 mod hangul;

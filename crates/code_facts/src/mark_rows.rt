@@ -76,9 +76,17 @@ fn excluded_of(alloc: Global, release: &Release) -> Result<Vec<Span>, Memory>
     let mut spans = Vec::new(alloc);
     let mut rows = release.rows(SourceFile::CompositionExclusions);
     'rows: while let Some((_, row)) = rows.next() {
-        push_some(&mut spans, excluded_span(&row.read(alloc)?))?;
+        push_some(&mut spans, excluded_in(alloc, &row)?)?;
     }
     Ok(spans)
+}
+
+/// The code points of a row of CompositionExclusions.txt, as its bytes stand for it.
+fn excluded_in(alloc: Global, row: &RowText<'_>) -> Result<Option<Span>, Memory>
+    ensures { IfOk result (λ span. (c : ℕ) → covers c span ≡ puts (Mark.Excluded) c row.now) }
+{
+    let row = row.read(alloc)?;
+    Ok(excluded_span(&row))
 }
 
 /// The code points of a row of CompositionExclusions.txt.

@@ -50,7 +50,7 @@ impl FactTables<RunTable<u64>> {
 impl KeptFacts<RunTable<u64>> {
     /// The last code point up to which nothing is kept of mappings from `c` on.
     fn last_unmapped(&self, c: Point) -> Option<Point>
-        ensures { IfSome result (HoldsTo (λ d. HasNoLists self.now d × HasNoImages self.now.cases d) c) }
+        ensures { IfSome result (HoldsTo (λ d. HasNoLists self.now d × HasNoImages self.now.cases.value d) c) }
     {
         let lists = self.last_without_lists(c)?;
         let images = self.cases.last_without_images(c)?;
@@ -61,10 +61,10 @@ impl KeptFacts<RunTable<u64>> {
     fn last_without_lists(&self, c: Point) -> Option<Point>
         ensures { IfSome result (HoldsTo (HasNoLists self.now) c) }
     {
-        let mapping = self.mappings.last_empty(c)?;
-        let upper = self.uppers.last_empty(c)?;
-        let lower = self.lowers.last_empty(c)?;
-        let title = self.titles.last_empty(c)?;
+        let mapping = self.lists.mappings.last_empty(c)?;
+        let upper = self.lists.uppers.last_empty(c)?;
+        let lower = self.lists.lowers.last_empty(c)?;
+        let title = self.lists.titles.last_empty(c)?;
         Some(lesser(lesser(mapping, upper), lesser(lower, title)))
     }
 }

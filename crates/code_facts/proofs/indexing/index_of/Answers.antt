@@ -5,6 +5,7 @@ use Rattle.code_facts.specs.PointLists.{lists_now}
 use Rattle.code_facts.specs.Index.{Indexes}
 use Rattle.code_facts.proofs.FactLemmas.{same_composite, all_points}
 use Rattle.code_facts.proofs.IndexLemmas.{SameComposite, indexes_more, indexes_none}
+use Rattle.code_facts.specs.declared.data_lists.DataLists.{DataLists}
 use Rattle.code_facts.proofs.indexing.index_of.Goals as goal
 
 pub stretches-init : goal.stretches-init
@@ -25,7 +26,7 @@ stretches-preserved g c =
     let same : (k : ℕ) → a ≤ k → k < n → SameComposite F a k = λ k le lt.
     let word_a : values_now c.args.a.now k ≡ values_now c.args.a.now a = c.last_of_run.ensures.same k le (omega arith) in
     let word_b : values_now c.args.b.now k ≡ values_now c.args.b.now a = c.last_of_run-in-Some.ensures.same k le (omega arith) in
-    let mapping : lists_now kept.mappings k ≡ lists_now kept.mappings a = c.last_of_run-in-Some-2.ensures.same k le (omega arith) in
+    let mapping : lists_now kept.lists.value.mappings k ≡ lists_now kept.lists.value.mappings a = subst (λ (lists : DataLists). lists_now lists.mappings k ≡ lists_now lists.mappings a) c.deref.ensures (c.last_of_run-in-Some-2.ensures.same k le (omega arith)) in
     same_composite g.T.Table.now kept a k (omega arith) (omega arith)
     (c.requires k (omega arith) ∙ ap₂ (λ x y. x + y) word_a word_b ∙ sym (c.requires a (omega arith))) mapping in
     record {

@@ -1,7 +1,7 @@
 use Rattle.code_facts.proofs.DataLemmas.{RowsGive}
 use Rattle.code_facts.specs.DataTables.{data_next}
-use Rattle.code_facts.proofs.data_tables.DataTables.of_rows.Given as goal
+use Rattle.code_facts.proofs.data_tables.DataTables.add_rows.Given as goal
 
 -- what the rows before this one give
 abbrev pub invariant-rows : goal.invariant-rows
-invariant-rows l = RowsGive l.rows l.row-index (data_next l.tables)
+invariant-rows l = RowsGive l.rows l.row-index (data_next l.self)

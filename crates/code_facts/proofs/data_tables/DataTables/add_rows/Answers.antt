@@ -1,0 +1,21 @@
+use Rattle.std.proofs.Common.{◌<◌, ◌≤◌, sym, arith, length}
+use Rattle.code_facts.specs.DataTables.{data_next}
+use Rattle.code_facts.proofs.DataLemmas.{rows_none, rows_added, rows_all}
+use Rattle.code_facts.proofs.data_tables.DataTables.add_rows.Goals as goal
+
+pub rows-init : goal.rows-init
+rows-init c = rows_none c.args.rows.now (data_next c.args.self.now) c.requires.fresh
+
+pub rows-preserved : goal.rows-preserved
+rows-preserved c =
+    let rows = c.args.rows.now in
+    let i = c.rows.row-index in
+    let inside : i < length rows = omega arith in
+    rows_added rows i c.row-item.result (data_next c.rows.self) (data_next c.add_text.new.self) c.requires.apart inside (rw (sym c.row-item.is) c.in_ok-add_text.ensures) c.rows.invariant
+
+pub returns : goal.returns
+returns c =
+    let rows = c.args.rows.now in
+    let past : length rows ≤ c.rows.row-index = omega arith in
+    let all = rows_all rows c.rows.row-index (data_next c.rows.self) past c.rows.invariant in
+    record { gives = all.0; class = all.1 }

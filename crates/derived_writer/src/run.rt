@@ -65,10 +65,22 @@ impl Run {
         mem::swap(&mut self.label, label);
     }
 
+    /// Puts the line of the last run, and answers how many code points it lists.
+    ///
+    /// - `Memory`: memory ran out. A part of the line may stand at the end of the text then.
+    pub fn end(self, text: &mut Text) -> Result<u32, Memory>
+        requires inside { self.end ≤ 1114112 }
+        requires some { IsSome self.label → self.first < self.end }
+        ensures line { OnOk result (text.new ≡ text.old ++ run_line self.first self.end self.label) }
+        ensures length { IfOk result (λ count. count ≡ run_length self.first self.end self.label) }
+    {
+        self.put(text)
+    }
+
     /// Puts the line of the run, if it has a label, and answers how many code points the line lists.
     ///
     /// - `Memory`: memory ran out. A part of the line may stand at the end of the text then.
-    pub fn put(&self, text: &mut Text) -> Result<u32, Memory>
+    fn put(&self, text: &mut Text) -> Result<u32, Memory>
         requires inside { self.now.end ≤ 1114112 }
         requires some { IsSome self.now.label → self.now.first < self.now.end }
         ensures line { OnOk result (text.new ≡ text.old ++ run_line self.now.first self.now.end self.now.label) }

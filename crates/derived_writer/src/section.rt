@@ -57,7 +57,7 @@ fn put_spans<B: Records>(
         listing.set_label(alloc, bench.record(piece.lo), &mut label)?;
         total += run.go_on(&mut label, piece.last() + 1, text)?;
     }
-    total += run.put(text)?;
+    total += run.end(text)?;
     Ok(total)
 }
 

@@ -39,8 +39,8 @@ pieces-preserved g c =
       few = omega arith;
     }
 
-pub put-requires-clause-inside : goal.put-requires-clause-inside
-put-requires-clause-inside g c = let inside = c.pieces.invariant.run.inside in omega (arith, point_count-is)
+pub end-requires-clause-inside : goal.end-requires-clause-inside
+end-requires-clause-inside g c = let inside = c.pieces.invariant.run.inside in omega (arith, point_count-is)
 
 -- the run is as long as it lists, or it lists nothing
 run_length-le : (first end : ℕ) (label : Label) → run_length first end label ≤ end - first

@@ -45,8 +45,8 @@ pub fn words_of(alloc: Global, words: &[&[u8]]) -> Result<Texts, Memory> {
 /// A shelf with the nine source files in `d`, seven of them empty, and an older derived file and a stranger in `o`.
 ///
 /// - `Memory`: memory ran out.
-pub fn shelf_of(alloc: Global, data: &[u8], properties: &[u8]) -> Result<MemoryShelf, Memory> {
-    let mut shelf = MemoryShelf::new(alloc);
+pub fn shelf_of(alloc: Global, data: &[u8], properties: &[u8]) -> Result<Box<MemoryShelf>, Memory> {
+    let mut shelf = Box::new(alloc, MemoryShelf::new(alloc))?;
     for path in SOURCE_PATHS {
         shelf.place(path, b"")?;
     }

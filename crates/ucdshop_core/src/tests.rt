@@ -180,7 +180,7 @@ fn an_absent_file_is_refused(rt: HostRuntime) -> Result<(), Fail> {
         (1, 9, b"refused: d/PropList.txt line 0 G01\n"),
     ];
     for (from, to, line) in cases {
-        let mut shelf = MemoryShelf::new(alloc);
+        let mut shelf = Box::new(alloc, MemoryShelf::new(alloc))?;
         for at in 0..SOURCE_PATHS.len() {
             if at < from || to <= at {
                 shelf.place(SOURCE_PATHS[at], b"")?;
@@ -267,7 +267,7 @@ fn a_short_sink_keeps_the_files(rt: HostRuntime) -> Result<(), Fail> {
 fn a_failed_read_is_told_before_a_refusal(rt: HostRuntime) -> Result<(), Fail> {
     let alloc = rt.alloc();
     for path in [b"d/UnicodeData.txt".as_slice(), b"d/other"] {
-        let mut shelf = MemoryShelf::new(alloc);
+        let mut shelf = Box::new(alloc, MemoryShelf::new(alloc))?;
         shelf.place(path, b"0041\n")?;
         shelf.fail_read(2)?;
         let (status, out) = run_words(alloc, &[b"derive", b"d", b"o"], &mut shelf, 1000)?;

@@ -5,9 +5,11 @@ mod change;
 mod edit;
 mod layout;
 mod run_table;
+mod stretches;
 mod table;
 #[cfg(test)]
 mod tests;
 
 pub use run_table::RunTable;
+pub use stretches::Stretches;
 pub use table::Table;

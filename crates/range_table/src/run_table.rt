@@ -5,6 +5,7 @@ ghost use Rattle.range_table.specs.Values.{run_count};
 ghost use Rattle.ucd_model.specs.Limits.{point_count};
 
 use crate::layout::Layout;
+use crate::stretches::Stretches;
 use crate::table::Table;
 use std::alloc::Global;
 use ucd_model::{Memory, Point, Span};
@@ -84,5 +85,18 @@ impl<V: Copy + Eq> Table<V> for RunTable<V> {
 
     fn discard(&mut self) {
         self.prepared = None;
+    }
+}
+
+impl<V: Copy + Eq> Stretches<V> for RunTable<V> {
+    fn last_of_stretch(&self, c: Point) -> Point {
+        self.committed.last_of_run(c)
+    }
+
+    fn last_of_stretch_next(&self, c: Point) -> Point {
+        match &self.prepared {
+            Some(next) => next.last_of_run(c),
+            None => self.committed.last_of_run(c),
+        }
     }
 }

@@ -3,7 +3,7 @@
 ghost use Rattle.std.specs.Prelude.{◌≡◌, IfOk};
 ghost use Rattle.range_table.specs.Values.{with_span};
 
-use crate::{RunTable, Table};
+use crate::{RunTable, Stretches, Table};
 use std::alloc::Global;
 use std::test::Fail;
 use ucd_model::{Memory, Point, Span};
@@ -112,5 +112,29 @@ fn what_is_discarded_is_gone(rt: HostRuntime) -> Result<(), Fail> {
     assert_eq!(rt; (table.get(c), table.get_next(c)), (2, 2));
     table.commit();
     assert_eq!(rt; (table.get(c), table.get_next(c)), (2, 2));
+    Ok(())
+}
+
+#[test]
+fn stretches_reach_to_the_next_change(rt: HostRuntime) -> Result<(), Fail> {
+    let mut table = RunTable::filled(rt.alloc(), 0u64)?;
+    table.prepare(span(0x41, 0x5A)?, 1)?;
+    table.commit();
+    table.prepare(span(0x45, 0x45)?, 2)?;
+    for (number, now, next) in [
+        (0x0, 0x40, 0x40),
+        (0x41, 0x5A, 0x44),
+        (0x45, 0x5A, 0x45),
+        (0x46, 0x5A, 0x5A),
+        (0x5B, 0x10_FFFF, 0x10_FFFF),
+    ] {
+        let c = point(number)?;
+        assert_eq!(rt; table.last_of_stretch(c), point(now)?, "now at {number:x}");
+        assert_eq!(rt;
+            table.last_of_stretch_next(c),
+            point(next)?,
+            "next at {number:x}"
+        );
+    }
     Ok(())
 }

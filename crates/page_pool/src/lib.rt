@@ -1,0 +1,10 @@
+//! Pages of 256 words, cut from one block of raw memory.
+#![tactic(auto)]
+
+mod block;
+mod free;
+mod pool;
+#[cfg(test)]
+mod tests;
+
+pub use pool::PagePool;

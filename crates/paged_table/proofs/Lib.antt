@@ -1,0 +1,5 @@
+pub mod Parts
+pub mod Apart
+pub mod Touched
+pub mod Steps
+pub mod Counts

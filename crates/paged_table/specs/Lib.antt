@@ -1,0 +1,5 @@
+pub mod Blocks
+pub mod Puts
+pub mod Layers
+pub mod Pages
+pub mod Paged

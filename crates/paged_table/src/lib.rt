@@ -1,0 +1,12 @@
+//! Tables of words that keep pages for the blocks of 256 code points that have several values.
+#![tactic(auto)]
+
+mod block;
+mod layers;
+mod paged_table;
+mod part;
+mod span;
+mod stretches;
+mod value;
+
+pub use paged_table::PagedTable;

@@ -66,7 +66,7 @@ page-of pool xs ys b p ok is =
     }
 
 pub count-page : (pool : Pool) (xs ys : List Block) (b p : ℕ) → IsApart pool xs ys → block_at xs b ≡ Page p → uneven_count (values pool xs) (b + 1) ≡ uneven_count (values pool xs) b + 1
-count-page pool xs ys b p ok is = rw (add-one, even_block-false (values pool xs) b (page-of pool xs ys b p ok is).uneven) refl
+count-page pool xs ys b p ok is = rw (add-one b, even_block-false (values pool xs) b (page-of pool xs ys b p ok is).uneven) refl
 
 -- a block without one
 pub even-one : (pool : Pool) (xs : List Block) (b v : ℕ) → block_at xs b ≡ One v → IsEvenBlock (values pool xs) b
@@ -74,4 +74,4 @@ even-one pool xs b v is a d la ld =
     in_block-is pool xs b a la ∙ ap (λ x. value_of pool x a) is ∙ sym (in_block-is pool xs b d ld ∙ ap (λ x. value_of pool x d) is)
 
 pub count-one : (pool : Pool) (xs : List Block) (b v : ℕ) → block_at xs b ≡ One v → uneven_count (values pool xs) (b + 1) ≡ uneven_count (values pool xs) b
-count-one pool xs b v is = rw (add-one, even_block-true (values pool xs) b (even-one pool xs b v is)) (omega arith)
+count-one pool xs b v is = rw (add-one b, even_block-true (values pool xs) b (even-one pool xs b v is)) (omega arith)

@@ -7,6 +7,8 @@ mod paged_table;
 mod part;
 mod span;
 mod stretches;
+#[cfg(test)]
+mod tests;
 mod value;
 
 pub use paged_table::PagedTable;

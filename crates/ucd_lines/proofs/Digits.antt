@@ -6,15 +6,17 @@ use Rattle.ucd_model.specs.Fields.{with_digit}
 pub with_more : (i n d : ℕ) → n < 16 ^ i → d < 16 → 16 * n + d < 16 ^ (i + 1)
 with_more i n d lt small = omega (arith, pow-add 16 i 1)
 
--- before a sixth digit
-pub five_digits : (i n : ℕ) → i < 6 → n < 16 ^ i → n < 1048576
-five_digits zero n le lt = omega arith
-five_digits (suc zero) n le lt = omega arith
-five_digits (suc (suc zero)) n le lt = omega arith
-five_digits (suc (suc (suc zero))) n le lt = omega arith
-five_digits (suc (suc (suc (suc zero)))) n le lt = omega arith
-five_digits (suc (suc (suc (suc (suc zero))))) n le lt = omega arith
-five_digits (suc (suc (suc (suc (suc (suc i)))))) n le lt = absurd (omega arith)
+-- before an eighth digit
+pub seven_digits : (i n : ℕ) → i < 8 → n < 16 ^ i → n < 268435456
+seven_digits zero n le lt = omega arith
+seven_digits (suc zero) n le lt = omega arith
+seven_digits (suc (suc zero)) n le lt = omega arith
+seven_digits (suc (suc (suc zero))) n le lt = omega arith
+seven_digits (suc (suc (suc (suc zero)))) n le lt = omega arith
+seven_digits (suc (suc (suc (suc (suc zero))))) n le lt = omega arith
+seven_digits (suc (suc (suc (suc (suc (suc zero)))))) n le lt = omega arith
+seven_digits (suc (suc (suc (suc (suc (suc (suc zero))))))) n le lt = omega arith
+seven_digits (suc (suc (suc (suc (suc (suc (suc (suc i)))))))) n le lt = absurd (omega arith)
 
 pub no_digit : (n : Option ℕ) → with_digit n None ≡ None
 no_digit (Some n) = refl

@@ -19,9 +19,10 @@ fn digit_of(byte: u8) -> Option<u32>
     }
 }
 
-/// The number that at most six hexadecimal digits write.
-fn hex_number(digits: &[u8]) -> Option<u32>
-    requires { length digits.now ≤ 6 }
+/// The number that at most eight hexadecimal digits of either case write, and 0 for no digits. `None` exactly where a
+/// byte is no digit.
+pub fn hex_number(digits: &[u8]) -> Option<u32>
+    requires { length digits.now ≤ 8 }
     ensures { result ≡ hex_number digits.now }
 {
     let mut number = 0;

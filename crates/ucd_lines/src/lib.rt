@@ -14,7 +14,7 @@ mod split;
 mod trivia;
 
 pub use blank::{is_blank, trim};
-pub use code_point::hex;
+pub use code_point::{hex, hex_number};
 pub use field_iter::Fields;
 pub use hex_text::put_hex;
 pub use item::{Ending, Item, join};

@@ -209,6 +209,20 @@ fn is_written(alloc: Global, number: u32, digits: &[u8]) -> Result<bool, Memory>
 }
 
 #[test]
+fn numbers_that_are_read(rt: HostRuntime) {
+    let texts: [(&[u8], Option<u32>); 5] = [
+        (b"", Some(0)),
+        (b"4a", Some(0x4a)),
+        (b"0010FFFF", Some(0x10_ffff)),
+        (b"ffffFFFF", Some(u32::MAX)),
+        (b"4g", None),
+    ];
+    for (digits, number) in texts {
+        assert_eq!(rt; hex_number(digits), number, "{digits:?}");
+    }
+}
+
+#[test]
 fn code_points_that_are_written(rt: HostRuntime) {
     let texts: [(u32, &[u8]); 8] = [
         (0, b"0000"),

@@ -1,14 +1,14 @@
 use Rattle.std.proofs.Common.{◌≡◌, ℕ, Option, Some, None, get_or, take, arith, refl, sym, ap, ◌∙◌}
 use Rattle.std.proofs.lemmas.List.Folds.{fold_stuck}
 use Rattle.ucd_model.specs.Fields.{digit_of, with_digit, hex_number}
-use Rattle.ucd_lines.proofs.Digits.{five_digits, no_digit}
+use Rattle.ucd_lines.proofs.Digits.{seven_digits, no_digit}
 use Rattle.ucd_lines.proofs.code_point.hex_number.Goals as goal
 
 pub overflow_mul-number : goal.overflow_mul-number
-overflow_mul-number c = omega (arith, five_digits c.loop-byte.byte-index c.loop-byte.number (omega arith) c.loop-byte.invariant.1)
+overflow_mul-number c = omega (arith, seven_digits c.loop-byte.byte-index c.loop-byte.number (omega arith) c.loop-byte.invariant.1)
 
 pub overflow_add-number : goal.overflow_add-number
-overflow_add-number c = omega (arith, five_digits c.loop-byte.byte-index c.loop-byte.number (omega arith) c.loop-byte.invariant.1, c.in_ok-number.ensures.small)
+overflow_add-number c = omega (arith, seven_digits c.loop-byte.byte-index c.loop-byte.number (omega arith) c.loop-byte.invariant.1, c.in_ok-number.ensures.small)
 
 pub returns-in_err-number : goal.returns-in_err-number
 returns-in_err-number c =

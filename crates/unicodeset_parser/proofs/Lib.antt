@@ -1,0 +1,9 @@
+pub mod Sizes
+pub mod Found
+pub mod White
+pub mod Cutting
+pub mod Encoding
+pub mod Complete
+pub mod Sound
+pub mod FaultPlaces
+pub mod FirstFaults

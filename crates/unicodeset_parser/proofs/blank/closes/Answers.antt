@@ -1,0 +1,11 @@
+use Rattle.std.proofs.Common.{◌≡◌, ◌<◌, ◌≤◌, drop, length, sym, ap, ◌∙◌, arith}
+use Rattle.unicodeset_parser.specs.Blanks.{closes}
+use Rattle.unicodeset_parser.proofs.White.{closes_step, closes_none}
+use Rattle.unicodeset_parser.proofs.blank.closes.Goals as goal
+
+pub blanks-preserved : goal.blanks-preserved
+blanks-preserved c = (
+  sym c.blank_size-blanks-in-blanks.ensures.size,
+  c.blank_size-blanks-in-blanks.ensures.within,
+  c.blanks.invariant.2 ∙ closes_step c.blanks.blanks c.blanks.rest.now c.blanks.invariant.0 c.blanks-test.true ∙ ap (closes 0) (sym c.behind-rest.ensures),
+)

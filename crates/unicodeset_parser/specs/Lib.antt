@@ -1,0 +1,14 @@
+pub mod Trees
+pub mod Views
+pub mod Bytes
+pub mod Blanks
+pub mod Tokens
+pub mod Escapes
+pub mod Properties
+pub mod Lexing
+pub mod TokenViews
+pub mod Machine
+pub mod Grammar
+pub mod Laws
+pub mod Parsed
+pub mod StateViews

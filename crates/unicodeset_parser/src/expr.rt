@@ -1,0 +1,90 @@
+//! The tree of a UnicodeSet.
+
+ghost use Rattle.std.specs.Prelude.{◌≡◌, [], ◌∷◌, ◌++◌, map, OnOk, OnErr};
+ghost use Rattle.unicodeset_parser.specs.Views.{part_view, parts_view};
+
+use std::alloc::Global;
+use ucd_model::{Memory, Span, Text};
+
+/// How a set is joined to what stands before it in its bracket set.
+#[derive(Clone, Copy, Debug, PartialEq, Eq)]
+pub enum Join {
+    /// The members of both.
+    Union,
+    /// The members of both at once: `&`.
+    Meet,
+    /// Those members of the first that the second has not: `-`.
+    Minus,
+}
+
+/// A UnicodeSet, or an element of one. UTS #35, "Unicode Sets".
+///
+/// Places are bytes of the text, counted from 0, where a property begins: its `\` or its `[`.
+#[cycle(tree)]
+#[derive(Debug, Drop)]
+pub enum Expr {
+    /// The characters of a span.
+    Chars(Span),
+    /// A property that is named alone, such as `\p{Lu}`.
+    Named {
+        name: Text,
+        at: usize,
+    },
+    /// A property with a value, such as `\p{gc=Lu}`.
+    Valued {
+        property: Text,
+        value: Text,
+        at: usize,
+    },
+    /// The complement.
+    Not(Box<Expr>),
+    /// The steps of a bracket set from left to right, beginning with no members.
+    Bracket(Parts),
+}
+
+/// A step of a bracket set.
+#[cycle(tree)]
+#[derive(Debug, Drop)]
+pub struct Part {
+    /// How it is joined to what stands before it.
+    pub join: Join,
+    /// What is joined.
+    pub part: Expr,
+}
+
+/// The steps of a bracket set, from left to right.
+#[cycle(tree)]
+#[derive(Debug, Drop)]
+pub struct Parts {
+    /// The steps.
+    pub items: Vec<Part>,
+}
+
+impl Parts {
+    /// No steps. It takes no memory.
+    pub fn new(alloc: Global) -> Parts
+        ensures { parts_view result ≡ [] }
+    {
+        Parts {
+            items: Vec::new(alloc),
+        }
+    }
+
+    /// Puts a step at the end.
+    ///
+    /// - `Memory`: memory ran out. The steps stay as they were, and the new one is dropped.
+    pub fn push(&mut self, part: Part) -> Result<(), Memory>
+        ensures ok { OnOk result (parts_view self.new ≡ parts_view self.old ++ part_view part ∷ []) }
+        ensures err { OnErr result (parts_view self.new ≡ parts_view self.old) }
+    {
+        self.items.push(part)?;
+        Ok(())
+    }
+
+    /// The steps in order.
+    pub fn as_slice(&self) -> &[Part]
+        ensures { map part_view result.now ≡ parts_view self.now }
+    {
+        self.items.as_slice()
+    }
+}

@@ -1,0 +1,60 @@
+//! The rule that a token breaks which stands in no text, by the place where it stands.
+
+ghost use Rattle.std.specs.Prelude.{◌≡◌, ℕ};
+ghost use Rattle.unicodeset_parser.specs.Machine.{fault, set_fault, element_fault, range_fault, late_fault};
+ghost use Rattle.unicodeset_parser.specs.Parsed.{stop_of};
+
+use crate::stop::{SetRule, SetStop};
+use crate::token::Wrong;
+
+/// The fault of a rule at a place.
+pub(crate) fn fault(rule: SetRule, at: usize) -> SetStop
+    ensures { result ≡ stop_of (fault rule at) }
+{
+    SetStop::Fault { rule, at }
+}
+
+/// Where a set is due: at the beginning of the text, which is `end` bytes long, and behind an operator.
+pub(crate) fn set_fault(end: usize, at: usize, wrong: Wrong) -> SetStop
+    ensures { result ≡ stop_of (set_fault end at wrong) }
+{
+    match wrong {
+        Wrong::Unclosed | Wrong::Cut => fault(SetRule::S2, end),
+        Wrong::RefusedName | Wrong::CharacterName => fault(SetRule::S7, at),
+        Wrong::BadEscape => fault(SetRule::S5, at),
+        Wrong::Special | Wrong::Other => fault(SetRule::S3, at),
+    }
+}
+
+/// Where an element is due.
+pub(crate) fn element_fault(end: usize, at: usize, wrong: Wrong) -> SetStop
+    ensures { result ≡ stop_of (element_fault end at wrong) }
+{
+    match wrong {
+        Wrong::Special => fault(SetRule::S7, at),
+        _ => set_fault(end, at, wrong),
+    }
+}
+
+/// Where the last character of a range is due. No set may stand here, so that no name is looked at.
+pub(crate) fn range_fault(end: usize, at: usize, wrong: Wrong) -> SetStop
+    ensures { result ≡ stop_of (range_fault end at wrong) }
+{
+    match wrong {
+        Wrong::Cut => fault(SetRule::S2, end),
+        Wrong::CharacterName => fault(SetRule::S7, at),
+        Wrong::BadEscape => fault(SetRule::S5, at),
+        _ => fault(SetRule::S3, at),
+    }
+}
+
+/// Behind the whole set, where nothing may stand.
+pub(crate) fn late_fault(at: usize, wrong: Wrong) -> SetStop
+    ensures { result ≡ stop_of (late_fault at wrong) }
+{
+    match wrong {
+        Wrong::RefusedName | Wrong::CharacterName => fault(SetRule::S7, at),
+        Wrong::BadEscape => fault(SetRule::S5, at),
+        _ => fault(SetRule::S3, at),
+    }
+}

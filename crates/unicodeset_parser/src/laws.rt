@@ -1,0 +1,19 @@
+//! Laws of the grammar.
+
+ghost use Rattle.unicodeset_parser.specs.Laws.{ReadsExactly, OneTree, FaultsAreFirst};
+
+/// Tokens are read as a tree exactly where the grammar spells that tree.
+pub fn reads_exactly()
+    ensures { ReadsExactly }
+{}
+
+/// No tokens spell two trees.
+pub fn one_tree()
+    ensures { OneTree }
+{}
+
+/// What is refused stops at the least place: what stands before begins a text, and no text begins with it too; or all
+/// of it begins a text, and the fault is S2 at the end.
+pub fn faults_are_first()
+    ensures { FaultsAreFirst }
+{}

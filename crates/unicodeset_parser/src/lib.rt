@@ -1,0 +1,25 @@
+//! Reads UnicodeSets. UTS #35, "Unicode Sets".
+#![tactic(auto)]
+
+mod blank;
+mod bytes;
+mod escape;
+mod expr;
+mod faults;
+mod frames;
+mod laws;
+mod lexing;
+mod machine;
+mod parsing;
+mod property;
+mod state;
+mod stop;
+mod token;
+
+pub use expr::{Expr, Join, Part, Parts};
+pub use laws::{faults_are_first, one_tree, reads_exactly};
+pub use parsing::parse;
+pub use stop::{SetRule, SetStop};
+
+#[cfg(test)]
+mod tests;

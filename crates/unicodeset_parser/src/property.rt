@@ -1,0 +1,128 @@
+//! Properties.
+
+ghost use Rattle.std.specs.Prelude.{◌≡◌, ◌<◌, ◌≤◌, ◌+◌, ◌^◌, length, IfOk};
+ghost use Rattle.unicodeset_parser.specs.Trees.{named, valued, negated_by};
+ghost use Rattle.unicodeset_parser.specs.Tokens.{property};
+ghost use Rattle.unicodeset_parser.specs.Properties.{parted, property_sign, property_at, braces};
+ghost use Rattle.unicodeset_parser.specs.TokenViews.{sign_view, lexeme_view};
+ghost use Rattle.unicodeset_parser.specs.Views.{tree_view};
+
+use crate::bytes::{begins_with, behind, found_at};
+use crate::escape::bad_escape;
+use crate::expr::Expr;
+use crate::token::{Lexeme, Token, Wrong};
+use std::alloc::Global;
+use ucd_lines::{cut, first_at};
+use ucd_model::{Memory, Text};
+
+/// The bytes of 2260, the not-equal sign.
+const NOT_EQUAL: &[u8] = b"\xe2\x89\xa0";
+
+/// A copy of the bytes.
+fn copied(alloc: Global, bytes: &[u8]) -> Result<Text, Memory>
+    ensures { IfOk result (λ text. text ≡ bytes.now) }
+{
+    let mut text = Text::new(alloc);
+    text.append(bytes)?;
+    Ok(text)
+}
+
+/// The set, or its complement.
+pub(crate) fn negated_by(alloc: Global, negated: bool, expr: Expr) -> Result<Expr, Memory>
+    ensures { IfOk result (λ made. tree_view made ≡ negated_by negated (tree_view expr)) }
+{
+    if negated {
+        Ok(Expr::Not(Box::new(alloc, expr)?))
+    } else {
+        Ok(expr)
+    }
+}
+
+/// The property that is named alone.
+fn named(alloc: Global, negated: bool, name: &[u8], at: usize) -> Result<Token, Memory>
+    ensures { IfOk result
+        (λ token. sign_view token ≡ property (negated_by negated (named name.now at))) }
+{
+    let name = copied(alloc, name)?;
+    Ok(Token::Property(negated_by(alloc, negated, Expr::Named { name, at })?))
+}
+
+/// The property of a name with a `=`, which parts property and value.
+#[tactic(auto, unfolding(crate::specs::Properties::parted))]
+fn parted(alloc: Global, negated: bool, name: &[u8], at: usize) -> Result<Token, Memory>
+    ensures { IfOk result (λ token. sign_view token ≡ parted negated name.now at) }
+{
+    let (property, value) = cut(name, b'=');
+    if begins_with(value, b'/') {
+        return Ok(Token::Wrong(Wrong::RefusedName));
+    }
+    let property = copied(alloc, property)?;
+    let value = copied(alloc, value)?;
+    Ok(Token::Property(negated_by(
+        alloc,
+        negated,
+        Expr::Valued {
+            property,
+            value,
+            at,
+        },
+    )?))
+}
+
+/// The property of a name.
+#[tactic(auto, unfolding(crate::specs::Properties::property_sign))]
+fn property_token(alloc: Global, negated: bool, name: &[u8], at: usize) -> Result<Token, Memory>
+    ensures { IfOk result (λ token. sign_view token ≡ property_sign negated name.now at) }
+{
+    if found_at(name, NOT_EQUAL).is_some() {
+        return Ok(Token::Wrong(Wrong::RefusedName));
+    }
+    if first_at(name, b'=') < name.len() {
+        parted(alloc, negated, name, at)
+    } else {
+        named(alloc, negated, name, at)
+    }
+}
+
+/// The property whose name goes to the first `closing`. So many bytes, `before`, stand before the name.
+#[tactic(auto, unfolding(crate::specs::Properties::property_at))]
+pub(crate) fn property_at(
+    alloc: Global,
+    at: usize,
+    negated: bool,
+    before: usize,
+    closing: &[u8],
+    text: &[u8],
+) -> Result<Lexeme, Memory>
+    requires some { 0 < length closing.now }
+    requires small { before ≤ 3 }
+    ensures { IfOk result
+        (λ l. lexeme_view l ≡ property_at at negated before closing.now text.now) }
+{
+    let Some(len) = found_at(text, closing) else {
+        return Ok(Lexeme {
+            token: Token::Wrong(Wrong::Unclosed),
+            size: 1,
+        });
+    };
+    Ok(Lexeme {
+        token: property_token(alloc, negated, &text[..len], at)?,
+        size: before + len + closing.len(),
+    })
+}
+
+/// The form `\p{NAME}` or `\P{NAME}`, from what stands behind its `p`.
+pub(crate) fn braces(alloc: Global, at: usize, negated: bool, text: &[u8]) -> Result<Lexeme, Memory>
+    ensures { IfOk result (λ l. lexeme_view l ≡ braces at negated text.now) }
+{
+    if text.is_empty() {
+        return Ok(Lexeme {
+            token: Token::Wrong(Wrong::Unclosed),
+            size: 1,
+        });
+    }
+    if !begins_with(text, b'{') {
+        return Ok(bad_escape());
+    }
+    property_at(alloc, at, negated, 3, b"}", behind(text, 1))
+}

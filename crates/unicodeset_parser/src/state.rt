@@ -1,0 +1,43 @@
+//! How far a text is read.
+
+use crate::expr::{Expr, Join, Parts};
+use ucd_model::Point;
+
+/// A bracket set that is open.
+#[derive(Debug, Drop)]
+pub(crate) struct Frame {
+    /// Whether its complement is meant.
+    pub(crate) negated: bool,
+    /// How it is joined to the bracket set around it.
+    pub(crate) join: Join,
+    /// Its steps so far.
+    pub(crate) parts: Parts,
+}
+
+/// What may follow in the innermost bracket set.
+#[derive(Clone, Copy, Debug)]
+pub(crate) enum Mode {
+    /// Its first element.
+    First,
+    /// An element, or an operator, since a set stands before.
+    BehindSet,
+    /// An element.
+    Elsewhere,
+    /// The same, or a `-` that makes a range of the character, which stands before.
+    Pending(Point),
+    /// The last character of a range that begins with this one.
+    Lacking(Point),
+    /// A set, behind an operator.
+    Due(Join),
+}
+
+/// How far a text is read.
+#[derive(Debug, Drop)]
+pub(crate) enum State {
+    /// Nothing stands yet.
+    Before,
+    /// In a bracket set. Around it are others, the innermost last.
+    Within(Mode, Frame, Vec<Frame>),
+    /// The whole set is read.
+    After(Expr),
+}

@@ -7,3 +7,5 @@ pub mod Complete
 pub mod Sound
 pub mod FaultPlaces
 pub mod FirstFaults
+pub mod Lexemes
+pub mod ReadBack

@@ -10,5 +10,6 @@ pub mod TokenViews
 pub mod Machine
 pub mod Grammar
 pub mod Laws
+pub mod Spelling
 pub mod Parsed
 pub mod StateViews

@@ -1,6 +1,7 @@
 //! Laws of the grammar.
 
 ghost use Rattle.unicodeset_parser.specs.Laws.{ReadsExactly, OneTree, FaultsAreFirst};
+ghost use Rattle.unicodeset_parser.specs.Spelling.{TextsReadBack};
 
 /// Tokens are read as a tree exactly where the grammar spells that tree.
 pub fn reads_exactly()
@@ -16,4 +17,9 @@ pub fn one_tree()
 /// of it begins a text, and the fault is S2 at the end.
 pub fn faults_are_first()
     ensures { FaultsAreFirst }
+{}
+
+/// The text of a tree that can be written is read as that tree, the places of its properties aside.
+pub fn texts_read_back()
+    ensures { TextsReadBack }
 {}

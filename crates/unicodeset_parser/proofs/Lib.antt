@@ -9,3 +9,5 @@ pub mod FaultPlaces
 pub mod FirstFaults
 pub mod Lexemes
 pub mod ReadBack
+pub mod Closings
+pub mod Written

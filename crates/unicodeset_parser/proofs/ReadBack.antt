@@ -48,7 +48,7 @@ property_token at b negated lead closing name rest low plain lex found =
       is = tokens_ascii at b bs low plain
           ∙ ap (λ x. placed at x.sign ∷ tokens (x.size - 1) (suc at) bs) (lex ∙ named_at at negated (suc (length lead)) closing name rest found)
           ∙ ap (λ xs. placed at (property_sign negated name at) ∷ tokens (n - 1) (suc at) xs) whole
-          ∙ ap (λ ts. placed at (property_sign negated name at) ∷ ts) (behind_token front rest (n - 1) at len)
+          ∙ ap (λ ts. placed at (property_sign negated name at) ∷ ts) (behind_token front rest (n - 1) at len);
     }
 
 escape_is : (at b : ℕ) (bs : List ℕ) → b < 128 → escape at (b ∷ bs) ≡ escape_by at (Some b) 1 bs
@@ -132,7 +132,7 @@ letter_read at c rest lt =
       is = tokens_ascii at 92 bs (omega arith) escape_plain
           ∙ ap (λ x. placed at x.sign ∷ tokens (x.size - 1) (suc at) bs) (escape_is at 117 (123 ∷ (xs ++ 125 ∷ rest)) (omega arith) ∙ letter_digits c rest lt)
           ∙ ap (λ ys. placed at (letter c) ∷ tokens (n - 1) (suc at) ys) whole
-          ∙ ap (λ ts. placed at (letter c) ∷ ts) (behind_token front rest (n - 1) at len)
+          ∙ ap (λ ts. placed at (letter c) ∷ ts) (behind_token front rest (n - 1) at len);
     }
 
 -- ---- sets and steps

@@ -20,6 +20,7 @@
 -- unplaced t                   the tree with each place of a property left out
 -- TextsReadBack                the text of a tree that can be written, where it is UTF-8, is read as that tree, the places of its properties
 --                              aside
+-- ReadTreesCanBeWritten        each tree that a text is read as can be written
 use Rattle.std.specs.Prelude.{◌≡◌, ℕ, suc, ◌<◌, ◌≤◌, Bool, true, false, List, [], ◌∷◌, ◌++◌, length, Option, Some, Ok, if◌then◌else◌}
 use Rattle.std.specs.Option.{is_some}
 use Rattle.std.specs.Str.{IsUtf8}
@@ -129,3 +130,6 @@ pub record ReadsAs (text : List ℕ) (t : Tree) : Type 0 where
 
 abbrev pub TextsReadBack : Type 0
 TextsReadBack = (t : Tree) → CanBeWritten t → IsUtf8 (text_of t) → ReadsAs (text_of t) t
+
+abbrev pub ReadTreesCanBeWritten : Type 0
+ReadTreesCanBeWritten = (text : List ℕ) (t : Tree) → parsed text ≡ Ok t → CanBeWritten t

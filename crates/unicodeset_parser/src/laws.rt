@@ -1,7 +1,7 @@
 //! Laws of the grammar.
 
 ghost use Rattle.unicodeset_parser.specs.Laws.{ReadsExactly, OneTree, FaultsAreFirst};
-ghost use Rattle.unicodeset_parser.specs.Spelling.{TextsReadBack};
+ghost use Rattle.unicodeset_parser.specs.Spelling.{TextsReadBack, ReadTreesCanBeWritten};
 
 /// Tokens are read as a tree exactly where the grammar spells that tree.
 pub fn reads_exactly()
@@ -22,4 +22,9 @@ pub fn faults_are_first()
 /// The text of a tree that can be written is read as that tree, the places of its properties aside.
 pub fn texts_read_back()
     ensures { TextsReadBack }
+{}
+
+/// Each tree that a text is read as can be written.
+pub fn read_trees_can_be_written()
+    ensures { ReadTreesCanBeWritten }
 {}

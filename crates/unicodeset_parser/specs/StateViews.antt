@@ -25,5 +25,5 @@ mode_view (Due join) = machine.due join
 
 abbrev pub state_view : State → machine.State
 state_view Before = machine.before
-state_view (Within mode frame around) = machine.within (mode_view mode) (frame_view frame) (frames_view around.items)
+state_view (Within mode nest) = machine.within (mode_view mode) (frame_view nest.frame) (frames_view nest.around.items)
 state_view (After expr) = machine.after (tree_view expr)

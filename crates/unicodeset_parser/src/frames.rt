@@ -11,12 +11,12 @@ ghost use Rattle.unicodeset_parser.specs.Views.{tree_view, parts_view};
 use crate::expr::{Expr, Join, Part, Parts};
 use crate::faults::fault;
 use crate::property::negated_by;
-use crate::state::{Frame, Mode, State};
+use crate::state::{Frame, Mode, Nest, State};
 use crate::stop::{SetRule, SetStop};
 use std::alloc::Global;
 use ucd_model::{Memory, Point, Span};
 
-/// How many bracket sets may stand around an open one. UTS #35 has no limit; expressions of real locales need 3.
+/// How many bracket sets may stand around an open one. UTS #35 has no limit; this one is the project's.
 const AROUND: usize = 63;
 
 /// A bracket set without steps.
@@ -31,9 +31,9 @@ pub(crate) fn fresh(alloc: Global, negated: bool, join: Join) -> Frame
 }
 
 /// The bracket set with one more step.
-pub(crate) fn put(join: Join, part: Expr, frame: Frame) -> Result<Frame, Memory>
+fn with_step(join: Join, part: Expr, frame: Frame) -> Result<Frame, Memory>
     ensures { IfOk result
-        (λ frame_new. frame_view frame_new ≡ put join (tree_view part) (frame_view frame)) }
+        (λ more. frame_view more ≡ put join (tree_view part) (frame_view frame)) }
 {
     let Frame {
         negated,
@@ -48,32 +48,53 @@ pub(crate) fn put(join: Join, part: Expr, frame: Frame) -> Result<Frame, Memory>
     })
 }
 
-/// The bracket set with one more character, in union.
-pub(crate) fn put_letter(letter: Point, frame: Frame) -> Result<Frame, Memory>
-    ensures { IfOk result
-        (λ frame_new. frame_view frame_new ≡ put Union (range_of letter letter) (frame_view frame)) }
+/// One more step of the innermost bracket set.
+pub(crate) fn put(join: Join, part: Expr, nest: Nest) -> Result<Nest, Memory>
+    ensures frame { IfOk result
+        (λ more. frame_view more.frame ≡ put join (tree_view part) (frame_view nest.frame)) }
+    ensures around { IfOk result
+        (λ more. frames_view more.around.items ≡ frames_view nest.around.items) }
 {
-    put(Join::Union, Expr::Chars(Span::one(letter)), frame)
+    let Nest { frame, around } = nest;
+    Ok(Nest {
+        frame: with_step(join, part, frame)?,
+        around,
+    })
 }
 
-/// Opens a bracket set in the innermost one, `frame`.
+/// One more character of the innermost bracket set, in union.
+pub(crate) fn put_letter(letter: Point, nest: Nest) -> Result<Nest, Memory>
+    ensures frame { IfOk result
+        (λ more. frame_view more.frame ≡ put Union (range_of letter letter) (frame_view nest.frame)) }
+    ensures around { IfOk result
+        (λ more. frames_view more.around.items ≡ frames_view nest.around.items) }
+{
+    put(Join::Union, Expr::Chars(Span::one(letter)), nest)
+}
+
+/// Opens a bracket set in the innermost one.
 pub(crate) fn opened(
     alloc: Global,
     at: usize,
     negated: bool,
     join: Join,
-    frame: Frame,
-    around: Vec<Frame>,
+    nest: Nest,
 ) -> Result<State, SetStop>
     ensures { Gives state_view result
-        (opened at negated join (frame_view frame) (frames_view around.items)) }
+        (opened at negated join (frame_view nest.frame) (frames_view nest.around.items)) }
 {
+    let Nest { frame, mut around } = nest;
     if around.len() >= AROUND {
         return Err(fault(SetRule::S6, at));
     }
-    let mut around = around;
     around.push(frame)?;
-    Ok(State::Within(Mode::First, fresh(alloc, negated, join), around))
+    Ok(State::Within(
+        Mode::First,
+        Nest {
+            frame: fresh(alloc, negated, join),
+            around,
+        },
+    ))
 }
 
 /// The bracket set that ends.
@@ -85,19 +106,25 @@ fn bracket_of(alloc: Global, negated: bool, parts: Parts) -> Result<Expr, Memory
 }
 
 /// Closes the innermost bracket set, and makes it a step of the one around it.
-pub(crate) fn closed(alloc: Global, frame: Frame, around: Vec<Frame>) -> Result<State, SetStop>
+pub(crate) fn closed(alloc: Global, nest: Nest) -> Result<State, SetStop>
     ensures { Gives state_view result
-        (Ok (closed (frame_view frame) (frames_view around.items))) }
+        (Ok (closed (frame_view nest.frame) (frames_view nest.around.items))) }
 {
+    let Nest { frame, mut around } = nest;
     let Frame {
         negated,
         join,
         parts,
     } = frame;
     let expr = bracket_of(alloc, negated, parts)?;
-    let mut around = around;
     match around.pop() {
-        Some(outer) => Ok(State::Within(Mode::BehindSet, put(join, expr, outer)?, around)),
+        Some(outer) => Ok(State::Within(
+            Mode::BehindSet,
+            Nest {
+                frame: with_step(join, expr, outer)?,
+                around,
+            },
+        )),
         None => Ok(State::After(expr)),
     }
 }

@@ -11,7 +11,7 @@ ghost use Rattle.unicodeset_parser.specs.Views.{tree_view};
 use crate::expr::{Expr, Join};
 use crate::faults::{element_fault, fault, late_fault, range_fault, set_fault};
 use crate::frames::{closed, fresh, opened, put, put_letter};
-use crate::state::{Frame, Mode, State};
+use crate::state::{Mode, Nest, State};
 use crate::stop::{SetRule, SetStop};
 use crate::token::Token;
 use std::alloc::Global;
@@ -24,8 +24,10 @@ fn begun(alloc: Global, end: usize, at: usize, token: Token) -> Result<State, Se
     match token {
         Token::Open(negated) => Ok(State::Within(
             Mode::First,
-            fresh(alloc, negated, Join::Union),
-            Vec::new(alloc),
+            Nest {
+                frame: fresh(alloc, negated, Join::Union),
+                around: Vec::new(alloc),
+            },
         )),
         Token::Property(expr) => Ok(State::After(expr)),
         Token::Wrong(wrong) => Err(set_fault(end, at, wrong)),
@@ -38,47 +40,31 @@ fn operand(
     alloc: Global,
     end: usize,
     join: Join,
-    frame: Frame,
-    around: Vec<Frame>,
+    nest: Nest,
     at: usize,
     token: Token,
 ) -> Result<State, SetStop>
     ensures { Gives state_view result
-        (operand join end (frame_view frame) (frames_view around.items) (placed at (sign_view token))) }
+        (operand join end (frame_view nest.frame) (frames_view nest.around.items) (placed at (sign_view token))) }
 {
     match token {
-        Token::Open(negated) => opened(alloc, at, negated, join, frame, around),
-        Token::Property(expr) => Ok(State::Within(
-            Mode::BehindSet,
-            put(join, expr, frame)?,
-            around,
-        )),
+        Token::Open(negated) => opened(alloc, at, negated, join, nest),
+        Token::Property(expr) => Ok(State::Within(Mode::BehindSet, put(join, expr, nest)?)),
         Token::Wrong(wrong) => Err(set_fault(end, at, wrong)),
         _ => Err(fault(SetRule::S3, at)),
     }
 }
 
 /// A token where an element is due.
-fn element(
-    alloc: Global,
-    end: usize,
-    frame: Frame,
-    around: Vec<Frame>,
-    at: usize,
-    token: Token,
-) -> Result<State, SetStop>
+fn element(alloc: Global, end: usize, nest: Nest, at: usize, token: Token) -> Result<State, SetStop>
     ensures { Gives state_view result
-        (element end (frame_view frame) (frames_view around.items) (placed at (sign_view token))) }
+        (element end (frame_view nest.frame) (frames_view nest.around.items) (placed at (sign_view token))) }
 {
     match token {
-        Token::Open(negated) => opened(alloc, at, negated, Join::Union, frame, around),
-        Token::Property(expr) => Ok(State::Within(
-            Mode::BehindSet,
-            put(Join::Union, expr, frame)?,
-            around,
-        )),
-        Token::Close => closed(alloc, frame, around),
-        Token::Letter(letter) => Ok(State::Within(Mode::Pending(letter), frame, around)),
+        Token::Open(negated) => opened(alloc, at, negated, Join::Union, nest),
+        Token::Property(expr) => Ok(State::Within(Mode::BehindSet, put(Join::Union, expr, nest)?)),
+        Token::Close => closed(alloc, nest),
+        Token::Letter(letter) => Ok(State::Within(Mode::Pending(letter), nest)),
         Token::Wrong(wrong) => Err(element_fault(end, at, wrong)),
         Token::Dash | Token::And => Err(fault(SetRule::S3, at)),
     }
@@ -95,17 +81,16 @@ fn hyphen() -> Point
 fn first_element(
     alloc: Global,
     end: usize,
-    frame: Frame,
-    around: Vec<Frame>,
+    nest: Nest,
     at: usize,
     token: Token,
 ) -> Result<State, SetStop>
     ensures { Gives state_view result
-        (first_element end (frame_view frame) (frames_view around.items) (placed at (sign_view token))) }
+        (first_element end (frame_view nest.frame) (frames_view nest.around.items) (placed at (sign_view token))) }
 {
     match token {
-        Token::Dash => Ok(State::Within(Mode::Pending(hyphen()), frame, around)),
-        _ => element(alloc, end, frame, around, at, token),
+        Token::Dash => Ok(State::Within(Mode::Pending(hyphen()), nest)),
+        _ => element(alloc, end, nest, at, token),
     }
 }
 
@@ -113,18 +98,17 @@ fn first_element(
 fn operator(
     alloc: Global,
     end: usize,
-    frame: Frame,
-    around: Vec<Frame>,
+    nest: Nest,
     at: usize,
     token: Token,
 ) -> Result<State, SetStop>
     ensures { Gives state_view result
-        (operator end (frame_view frame) (frames_view around.items) (placed at (sign_view token))) }
+        (operator end (frame_view nest.frame) (frames_view nest.around.items) (placed at (sign_view token))) }
 {
     match token {
-        Token::Dash => Ok(State::Within(Mode::Due(Join::Minus), frame, around)),
-        Token::And => Ok(State::Within(Mode::Due(Join::Meet), frame, around)),
-        _ => element(alloc, end, frame, around, at, token),
+        Token::Dash => Ok(State::Within(Mode::Due(Join::Minus), nest)),
+        Token::And => Ok(State::Within(Mode::Due(Join::Meet), nest)),
+        _ => element(alloc, end, nest, at, token),
     }
 }
 
@@ -133,18 +117,17 @@ fn behind_letter(
     alloc: Global,
     end: usize,
     letter: Point,
-    frame: Frame,
-    around: Vec<Frame>,
+    nest: Nest,
     at: usize,
     token: Token,
 ) -> Result<State, SetStop>
     ensures { Gives state_view result
-        (behind_letter letter end (frame_view frame) (frames_view around.items)
+        (behind_letter letter end (frame_view nest.frame) (frames_view nest.around.items)
         (placed at (sign_view token))) }
 {
     match token {
-        Token::Dash => Ok(State::Within(Mode::Lacking(letter), frame, around)),
-        _ => element(alloc, end, put_letter(letter, frame)?, around, at, token),
+        Token::Dash => Ok(State::Within(Mode::Lacking(letter), nest)),
+        _ => element(alloc, end, put_letter(letter, nest)?, at, token),
     }
 }
 
@@ -152,13 +135,12 @@ fn behind_letter(
 fn range_end(
     end: usize,
     first: Point,
-    frame: Frame,
-    around: Vec<Frame>,
+    nest: Nest,
     at: usize,
     token: Token,
 ) -> Result<State, SetStop>
     ensures { Gives state_view result
-        (range_end first end (frame_view frame) (frames_view around.items)
+        (range_end first end (frame_view nest.frame) (frames_view nest.around.items)
         (placed at (sign_view token))) }
 {
     match token {
@@ -166,11 +148,7 @@ fn range_end(
             let Some(span) = Span::new(first, last) else {
                 return Err(fault(SetRule::S4, at));
             };
-            Ok(State::Within(
-                Mode::Elsewhere,
-                put(Join::Union, Expr::Chars(span), frame)?,
-                around,
-            ))
+            Ok(State::Within(Mode::Elsewhere, put(Join::Union, Expr::Chars(span), nest)?))
         }
         Token::Wrong(wrong) => Err(range_fault(end, at, wrong)),
         _ => Err(fault(SetRule::S3, at)),
@@ -182,22 +160,21 @@ fn inside(
     alloc: Global,
     end: usize,
     mode: Mode,
-    frame: Frame,
-    around: Vec<Frame>,
+    nest: Nest,
     at: usize,
     token: Token,
 ) -> Result<State, SetStop>
     ensures { Gives state_view result
-        (inside (mode_view mode) end (frame_view frame) (frames_view around.items)
+        (inside (mode_view mode) end (frame_view nest.frame) (frames_view nest.around.items)
         (placed at (sign_view token))) }
 {
     match mode {
-        Mode::First => first_element(alloc, end, frame, around, at, token),
-        Mode::BehindSet => operator(alloc, end, frame, around, at, token),
-        Mode::Elsewhere => element(alloc, end, frame, around, at, token),
-        Mode::Pending(letter) => behind_letter(alloc, end, letter, frame, around, at, token),
-        Mode::Lacking(first) => range_end(end, first, frame, around, at, token),
-        Mode::Due(join) => operand(alloc, end, join, frame, around, at, token),
+        Mode::First => first_element(alloc, end, nest, at, token),
+        Mode::BehindSet => operator(alloc, end, nest, at, token),
+        Mode::Elsewhere => element(alloc, end, nest, at, token),
+        Mode::Pending(letter) => behind_letter(alloc, end, letter, nest, at, token),
+        Mode::Lacking(first) => range_end(end, first, nest, at, token),
+        Mode::Due(join) => operand(alloc, end, join, nest, at, token),
     }
 }
 
@@ -223,7 +200,7 @@ pub(crate) fn step(
 {
     match state {
         State::Before => begun(alloc, end, at, token),
-        State::Within(mode, frame, around) => { inside(alloc, end, mode, frame, around, at, token) }
+        State::Within(mode, nest) => { inside(alloc, end, mode, nest, at, token) }
         State::After(_) => Err(too_late(at, token)),
     }
 }

@@ -14,6 +14,15 @@ pub(crate) struct Frame {
     pub(crate) parts: Parts,
 }
 
+/// The bracket sets that are open.
+#[derive(Debug, Drop)]
+pub(crate) struct Nest {
+    /// The innermost one.
+    pub(crate) frame: Frame,
+    /// Those around it, from the outside in.
+    pub(crate) around: Vec<Frame>,
+}
+
 /// What may follow in the innermost bracket set.
 #[derive(Clone, Copy, Debug)]
 pub(crate) enum Mode {
@@ -36,8 +45,8 @@ pub(crate) enum Mode {
 pub(crate) enum State {
     /// Nothing stands yet.
     Before,
-    /// In a bracket set. Around it are others, the innermost last.
-    Within(Mode, Frame, Vec<Frame>),
+    /// In a bracket set.
+    Within(Mode, Nest),
     /// The whole set is read.
     After(Expr),
 }

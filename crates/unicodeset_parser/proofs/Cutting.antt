@@ -1,8 +1,8 @@
 -- The tokens behind those that are read.
-use Rattle.std.proofs.Common.{◌≡◌, ℕ, zero, suc, ◌+◌, ◌-◌, ◌<◌, ◌≤◌, max, Bool, List, [], ◌∷◌, length, drop, Ok, refl, sym, ap, ◌∙◌, arith}
+use Rattle.std.proofs.Common.{◌≡◌, ℕ, zero, suc, ◌-◌, ◌<◌, ◌≤◌, max, List, [], ◌∷◌, length, drop, Ok, refl, sym, ap, ◌∙◌, arith}
 use Rattle.unicodeset_parser.specs.Blanks.{blank_size}
 use Rattle.unicodeset_parser.specs.Lexing.{tokens, tokens_by, lexed}
-use Rattle.unicodeset_parser.specs.Tokens.{Token, placed, Lexed}
+use Rattle.unicodeset_parser.specs.Tokens.{placed, Lexed}
 use Rattle.unicodeset_parser.specs.Machine.{State, step, run, then_run}
 
 one_on : (l n : ℕ) → suc n ≤ l → suc (l - suc n) ≡ l - n

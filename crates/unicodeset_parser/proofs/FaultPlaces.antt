@@ -1,5 +1,5 @@
 -- Where the fault of a token stands.
-use Rattle.std.proofs.Common.{◌≡◌, ◌⊎◌, ℕ, Bool, true, false, cond, List, [], ◌∷◌, length, Result, Ok, Err, inl, inr, refl, sym, ap, subst, ◌∙◌}
+use Rattle.std.proofs.Common.{◌≡◌, ℕ, Bool, true, false, cond, List, ◌∷◌, length, Result, Ok, Err, inl, inr, refl, subst}
 use Rattle.std.specs.Prelude.{nat_lt, nat_le}
 use Rattle.unicodeset_parser.specs.Laws.{StopsAt}
 use Rattle.unicodeset_parser.specs.Machine as m

@@ -1,8 +1,8 @@
 -- What is refused has its first fault.
-use Rattle.std.proofs.Common.{◌≡◌, ◌⊎◌, ℕ, Bool, true, false, List, [], ◌∷◌, ◌++◌, Result, Ok, Err, inl, inr, refl, sym, ap, ◌∙◌, arith, append_assoc}
+use Rattle.std.proofs.Common.{◌≡◌, ◌⊎◌, ℕ, true, List, [], ◌∷◌, ◌++◌, Result, Ok, Err, inl, inr, refl, sym, ap, ◌∙◌, arith, append_assoc}
 use Rattle.std.proofs.lemmas.Bool.Decides.{nat_tests}
 use Rattle.std.specs.Prelude.{nat_le}
-use Rattle.unicodeset_parser.specs.Laws.{Begins, StopsIn, StopsBehind, FirstFault, FaultsAreFirst}
+use Rattle.unicodeset_parser.specs.Laws.{Begins, FirstFault, FaultsAreFirst}
 use Rattle.unicodeset_parser.specs.Machine as m
 use Rattle.unicodeset_parser.specs.Machine.{Fault, fault, State, Frame, within, before, after, first, behind_set, elsewhere, pending, lacking, due, put, range_of, step, run, finished, then_run}
 use Rattle.unicodeset_parser.specs.Tokens.{Token, placed, close, letter, property}

@@ -1,8 +1,8 @@
 -- Where a word stands first in a text.
-use Rattle.std.proofs.Common.{◌≡◌, ℕ, zero, suc, ◌+◌, ◌<◌, ◌≤◌, Bool, true, false, cond, ◌==◌, ◌&&◌, List, [], ◌∷◌, length, get_or, slice_index, Option, Some, None, MatchOption, refl, sym, ap, subst, ◌∙◌, arith}
+use Rattle.std.proofs.Common.{◌≡◌, ℕ, zero, suc, ◌+◌, ◌<◌, ◌≤◌, Bool, true, false, cond, ◌==◌, List, [], ◌∷◌, length, slice_index, Option, Some, None, refl, ap, subst, arith}
 use Rattle.std.proofs.lemmas.Bool.{and_parts}
 use Rattle.std.proofs.lemmas.Bool.Decides.{nat_tests}
-use Rattle.bstr.specs.Find.{OccursAt, IsFirst, NoneBefore, Nowhere, FindsNeedle}
+use Rattle.bstr.specs.Find.{OccursAt, IsFirst, Nowhere, FindsNeedle}
 use Rattle.unicodeset_parser.specs.Bytes.{begins, found_at, one_more}
 
 occurs_later : (b : ℕ) (bs word : List ℕ) (k : ℕ) → OccursAt (b ∷ bs) word (suc k) → OccursAt bs word k

@@ -1,14 +1,13 @@
 -- The first token of a text that begins with a known byte.
-use Rattle.std.proofs.Common.{◌≡◌, ℕ, zero, suc, ◌+◌, ◌-◌, ◌*◌, ◌<◌, ◌≤◌, Bool, true, false, cond, List, [], ◌∷◌, ◌++◌, length, take, drop, slice_index, Option, Some, None, refl, sym, ap, subst, ◌∙◌, arith, append_assoc}
+use Rattle.std.proofs.Common.{◌≡◌, ℕ, suc, ◌+◌, ◌-◌, ◌<◌, Bool, true, false, cond, List, [], ◌∷◌, ◌++◌, length, take, slice_index, Some, refl, ap, ◌∙◌, arith}
 use Rattle.std.specs.Prelude.{◌==◌}
-use Rattle.bstr.specs.Utf8.{Decoded, decoded, good}
+use Rattle.bstr.specs.Utf8.{decoded, good}
 use Rattle.bstr.proofs.lemmas.PieceLemmas.{value-1}
 use Rattle.unicodeset_parser.specs.Blanks.{is_white, white_size, blank_size, closes, closes_by}
 use Rattle.unicodeset_parser.specs.Bytes.{begins_with, found_at}
-use Rattle.unicodeset_parser.specs.Escapes.{any_digits}
-use Rattle.unicodeset_parser.specs.Lexing.{tokens, tokens_by, lexed, lexed_by, opening, escape, escape_by, colon}
-use Rattle.unicodeset_parser.specs.Properties.{property_at, braces, closed_at, property_sign}
-use Rattle.unicodeset_parser.specs.Tokens.{Token, placed, Lexed, sized, open_set, close, dash, meet, letter, property}
+use Rattle.unicodeset_parser.specs.Lexing.{tokens, tokens_by, lexed, lexed_by, opening}
+use Rattle.unicodeset_parser.specs.Properties.{property_at, closed_at, property_sign}
+use Rattle.unicodeset_parser.specs.Tokens.{placed, sized, open_set, close, dash, meet, letter}
 
 pub ascii : (b : ℕ) (bs : List ℕ) → b < 128 → decoded (b ∷ bs) ≡ good b 1
 ascii b bs low = let l = b ∷ bs in value-1 (length l) b (slice_index l 1) (slice_index l 2) (slice_index l 3) (omega arith, low)

@@ -1,11 +1,10 @@
 -- The text of a tree is read as the tree.
-use Rattle.std.proofs.Common.{◌≡◌, ◌⊎◌, ℕ, zero, suc, ◌+◌, ◌-◌, ◌<◌, ◌≤◌, Bool, true, false, cond, List, [], ◌∷◌, ◌++◌, length, take, Option, Some, None, Ok, refl, sym, ap, subst, ◌∙◌, arith, append_assoc, length-append}
+use Rattle.std.proofs.Common.{◌≡◌, ℕ, suc, ◌+◌, ◌-◌, ◌<◌, Bool, true, false, cond, List, [], ◌∷◌, ◌++◌, length, take, Some, None, Ok, refl, sym, ap, subst, ◌∙◌, arith, append_assoc, length-append}
 use Rattle.std.proofs.lemmas.Bool.Decides.{nat_tests}
 use Rattle.std.proofs.lemmas.Str.{is_utf8-from_IsUtf8}
 use Rattle.std.specs.Prelude.{◌==◌, ◌||◌, nat_le, nat_lt, not}
 use Rattle.std.specs.List.{All, position_or_len}
 use Rattle.std.specs.Str.{IsUtf8}
-use Rattle.ucd_model.specs.Bounds.{Bounds}
 use Rattle.ucd_model.specs.DerivedText.{hex_text}
 use Rattle.ucd_model.specs.Fields.{hex_number, if_point}
 use Rattle.ucd_model.specs.HexTextLaws.{IsUpperHex}
@@ -19,9 +18,9 @@ use Rattle.unicodeset_parser.specs.Lexing.{tokens, lexed_by, escape, escape_by, 
 use Rattle.unicodeset_parser.specs.Machine.{before, run}
 use Rattle.unicodeset_parser.specs.Parsed.{parsed}
 use Rattle.unicodeset_parser.specs.Properties.{property_at, property_sign}
-use Rattle.unicodeset_parser.specs.Spelling.{letter_onto, holds_brace, colons_onto, braces_onto, property_onto, joined_name, element_onto, steps_onto, text_of, closing_of, IsProperty, IsSetTree, a_name, a_value, no_name, no_value, a_bracket, no_bracket, AreSteps, none, united, met, taken, spelled, CanBeWritten, unplaced, unplaced_steps, ReadsAs, TextsReadBack}
-use Rattle.unicodeset_parser.specs.Tokens.{Token, placed, Lexed, sized, open_set, close, dash, meet, letter, property}
-use Rattle.unicodeset_parser.specs.Trees.{Tree, chars, named, valued, complement, bracket, Step, Steps, no_steps, step_then, steps_of, negated_by, bracket_of}
+use Rattle.unicodeset_parser.specs.Spelling.{letter_onto, holds_brace, colons_onto, braces_onto, property_onto, joined_name, element_onto, steps_onto, text_of, IsProperty, IsSetTree, a_name, a_value, no_name, no_value, a_bracket, no_bracket, AreSteps, none, united, met, taken, spelled, unplaced, unplaced_steps, TextsReadBack}
+use Rattle.unicodeset_parser.specs.Tokens.{Token, placed, sized, open_set, dash, letter, property}
+use Rattle.unicodeset_parser.specs.Trees.{Tree, chars, named, valued, complement, bracket, Step, Steps, step_then, steps_of, negated_by, bracket_of}
 use Rattle.unicodeset_parser.specs.declared.expr.Join.{Join}
 use Rattle.unicodeset_parser.specs.declared.expr.Join.TheVariants.{Union, Meet, Minus}
 use Rattle.unicodeset_parser.proofs.Complete.{complete}

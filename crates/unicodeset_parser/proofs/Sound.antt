@@ -1,12 +1,12 @@
 -- What is read, the grammar spells.
-use Rattle.std.proofs.Common.{◌≡◌, ℕ, zero, suc, ◌+◌, ◌<◌, ◌≤◌, Bool, true, false, cond, List, [], ◌∷◌, ◌++◌, length, Result, Ok, Err, refl, sym, ap, subst, ◌∙◌, arith}
+use Rattle.std.proofs.Common.{◌≡◌, ℕ, zero, suc, ◌+◌, ◌<◌, ◌≤◌, Bool, true, false, cond, List, [], ◌∷◌, length, Ok, Err, refl, sym, ap, subst, ◌∙◌, arith}
 use Rattle.std.proofs.lemmas.Bool.Decides.{nat_tests}
 use Rattle.std.specs.Prelude.{nat_lt, nat_le}
 use Rattle.unicodeset_parser.specs.Grammar.{Stand, nothing, a_set, other, range, step_of, IsLetter, spelled_out, first_hyphen, IsChars, one as one_letter, up_to, IsSet, a_property, a_bracket, IsBody, closed, joined, met, taken, spelled, IsText}
 use Rattle.unicodeset_parser.specs.Machine as m
 use Rattle.unicodeset_parser.specs.Machine.{Fault, State, Frame, Mode, within, before, after, first, behind_set, elsewhere, pending, lacking, due, fresh, put, range_of, step, run, then_run}
 use Rattle.unicodeset_parser.specs.Tokens.{Token, placed, Sign, open_set, close, dash, meet, letter, property, wrong}
-use Rattle.unicodeset_parser.specs.Trees.{Tree, chars, Step, bracket_of}
+use Rattle.unicodeset_parser.specs.Trees.{Tree, Step, bracket_of}
 use Rattle.unicodeset_parser.specs.declared.expr.Join.{Join}
 use Rattle.unicodeset_parser.specs.declared.stop.SetRule.TheVariants.{S4, S6}
 use Rattle.unicodeset_parser.specs.declared.expr.Join.TheVariants.{Union, Meet, Minus}

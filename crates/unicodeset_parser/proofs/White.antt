@@ -1,5 +1,5 @@
 -- White space that is passed over.
-use Rattle.std.proofs.Common.{◌≡◌, ℕ, zero, suc, ◌<◌, ◌≤◌, Bool, List, [], ◌∷◌, length, drop, refl, sym, ap, ◌∙◌, arith}
+use Rattle.std.proofs.Common.{◌≡◌, ℕ, zero, suc, ◌<◌, List, [], ◌∷◌, drop, refl, ap, ◌∙◌, arith}
 use Rattle.unicodeset_parser.specs.Blanks.{blank_size, closes, closes_by}
 use Rattle.unicodeset_parser.specs.Bytes.{begins_with}
 

@@ -1,5 +1,5 @@
 -- Each tree that is read can be written.
-use Rattle.std.proofs.Common.{◌≡◌, ℕ, zero, suc, ◌+◌, ◌-◌, ◌<◌, ◌≤◌, Bool, true, false, cond, List, [], ◌∷◌, ◌++◌, length, take, drop, get_or, Option, Some, None, Result, Ok, Err, refl, sym, ap, subst, ◌∙◌, arith}
+use Rattle.std.proofs.Common.{◌≡◌, ℕ, zero, suc, ◌+◌, ◌-◌, ◌<◌, ◌≤◌, Bool, true, false, cond, List, [], ◌∷◌, ◌++◌, length, take, drop, get_or, Option, Some, None, Ok, Err, refl, sym, ap, subst, ◌∙◌, arith}
 use Rattle.std.proofs.lemmas.Bool.Decides.{nat_tests}
 use Rattle.std.proofs.lemmas.List.Sums.{split_at_first, passes_at_first}
 use Rattle.std.specs.Prelude.{◌==◌, ◌||◌, ◌⊎◌, nat_le, nat_lt}
@@ -17,13 +17,13 @@ use Rattle.unicodeset_parser.specs.Bytes.{begins_with, found_at}
 use Rattle.unicodeset_parser.specs.Escapes.{bad_escape, spelled as spelled_letter, fixed_digits, braced_digits, any_digits, control_of, control_or, is_letter_or_digit, plain_escape, brace_at}
 use Rattle.unicodeset_parser.specs.Grammar.{Stand, nothing, a_set, other, step_of, IsLetter, spelled_out, first_hyphen, IsChars, one, up_to, IsSet, a_property, IsBody, closed, joined, IsText}
 use Rattle.unicodeset_parser.specs.Grammar as g
-use Rattle.unicodeset_parser.specs.Lexing.{tokens, tokens_by, lexed, lexed_by, hyphen, opening, colon, escape, escape_by}
+use Rattle.unicodeset_parser.specs.Lexing.{tokens, tokens_by, lexed, lexed_by, opening, escape, escape_by}
 use Rattle.unicodeset_parser.specs.Machine.{Fault, before, run}
 use Rattle.unicodeset_parser.specs.Parsed.{parsed}
 use Rattle.unicodeset_parser.specs.Properties.{not_equal, is_equals, property_at, closed_at, property_sign, parted, braces}
-use Rattle.unicodeset_parser.specs.Spelling.{holds_brace, joined_name, closing_of, IsProperty, IsSetTree, a_name, a_value, no_name, no_value, a_bracket, no_bracket, AreSteps, none, united, met, taken, spelled, CanBeWritten, ReadTreesCanBeWritten}
-use Rattle.unicodeset_parser.specs.Tokens.{Sign, Token, placed, Lexed, sized, open_set, close, dash, meet, letter, property, wrong}
-use Rattle.unicodeset_parser.specs.Trees.{Tree, chars, named, valued, complement, bracket, Step, Steps, steps_of, negated_by, bracket_of}
+use Rattle.unicodeset_parser.specs.Spelling.{holds_brace, joined_name, closing_of, IsProperty, IsSetTree, a_name, a_value, no_name, no_value, a_bracket, no_bracket, AreSteps, none, united, met, taken, spelled, ReadTreesCanBeWritten}
+use Rattle.unicodeset_parser.specs.Tokens.{Sign, Token, placed, Lexed, sized, dash, letter, property, wrong}
+use Rattle.unicodeset_parser.specs.Trees.{Tree, named, valued, Step, steps_of, negated_by, bracket_of}
 use Rattle.unicodeset_parser.specs.declared.token.Wrong.TheVariants.{RefusedName}
 use Rattle.unicodeset_parser.proofs.Closings.{brace_behind_name, no_brace_before, colon_front, front_plain}
 use Rattle.unicodeset_parser.proofs.Sound.{sound}

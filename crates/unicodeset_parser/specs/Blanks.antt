@@ -4,8 +4,8 @@
 -- white_size d          how many bytes a character takes that is white space; 0 for another, and for what is no character
 -- blank_size bs         the same of the first character of the bytes; 0 for no bytes
 -- closes k bs           behind k bytes, and then any white space, stands a `]`
-use Rattle.std.specs.Prelude.{ℕ, zero, suc, ◌-◌, Bool, false, ◌&&◌, ◌||◌, ◌==◌, nat_le, List, [], ◌∷◌, Option, Some, None, if◌then◌else◌}
-use Rattle.bstr.specs.Utf8.{Decoded, decoded}
+use Rattle.std.specs.Prelude.{ℕ, zero, suc, Bool, false, ◌&&◌, ◌||◌, ◌==◌, nat_le, List, [], ◌∷◌, Option, Some, None, if◌then◌else◌}
+use Rattle.bstr.specs.Utf8.{decoded}
 
 unfoldable pub is_white : ℕ → Bool
 is_white c = (nat_le 9 c && nat_le c 13) || (c == 32 || (c == 133 || (c == 8206 || (c == 8207 || (c == 8232 || c == 8233)))))

@@ -8,7 +8,7 @@
 -- is_letter_or_digit c     the code point is an ASCII letter or digit
 -- plain_escape c size      the escape of a code point that takes so many bytes: a control character, a bad escape for other ASCII letters and
 --                          digits, else that code point
-use Rattle.std.specs.Prelude.{ℕ, ◌+◌, Bool, ◌&&◌, ◌||◌, ◌==◌, nat_le, List, [], length, take, drop, Option, Some, None, if◌then◌else◌}
+use Rattle.std.specs.Prelude.{ℕ, ◌+◌, Bool, ◌&&◌, ◌||◌, ◌==◌, nat_le, List, length, take, drop, Option, Some, None, if◌then◌else◌}
 use Rattle.std.specs.List.{position_or_len}
 use Rattle.ucd_model.specs.Fields.{hex_number, if_point}
 use Rattle.unicodeset_parser.specs.Bytes.{begins_with}

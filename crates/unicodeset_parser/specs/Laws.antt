@@ -10,15 +10,12 @@
 --                            fault stands there; or all of them begin a text, and the fault is S2 at the end
 -- FaultsAreFirst             what is refused has its first fault
 -- NotUtf8                    S1 comes exactly where the text is not UTF-8, at the greatest place to which it is
-use Rattle.std.specs.Prelude.{◌≡◌, ◌↔◌, ◌⊎◌, ℕ, ◌<◌, List, [], ◌∷◌, ◌++◌, length, Ok, Err}
-use Rattle.std.specs.Str.{IsUtf8}
-use Rattle.std.specs.Str.Lossy.{utf8_valid_len}
+use Rattle.std.specs.Prelude.{◌≡◌, ◌↔◌, ◌⊎◌, ℕ, List, [], ◌∷◌, ◌++◌, Ok, Err}
 use Rattle.unicodeset_parser.specs.Grammar.{IsText}
 use Rattle.unicodeset_parser.specs.Machine.{Fault, fault, before, run}
-use Rattle.unicodeset_parser.specs.Parsed.{parsed}
 use Rattle.unicodeset_parser.specs.Tokens.{Token, placed, wrong}
 use Rattle.unicodeset_parser.specs.Trees.{Tree}
-use Rattle.unicodeset_parser.specs.declared.stop.SetRule.TheVariants.{S1, S2}
+use Rattle.unicodeset_parser.specs.declared.stop.SetRule.TheVariants.{S2}
 use Rattle.unicodeset_parser.specs.declared.token.Wrong.TheVariants.{Unclosed, Cut}
 
 abbrev pub ReadsExactly : Type 0

@@ -5,7 +5,7 @@
 -- escape at bs       the token that begins with `\`, from what stands behind it
 -- lexed at bs        the first token of bytes that begin at that place of the text, which is UTF-8, with no white space
 -- tokens k at bs     the tokens of bytes that begin at that place of the text, of which k are passed over
-use Rattle.std.specs.Prelude.{ℕ, zero, suc, ◌+◌, ◌-◌, Bool, true, false, ◌==◌, ◌||◌, List, [], ◌∷◌, drop, Option, Some, None, if◌then◌else◌}
+use Rattle.std.specs.Prelude.{ℕ, zero, suc, ◌-◌, true, false, ◌==◌, ◌||◌, List, [], ◌∷◌, drop, Option, Some, None, if◌then◌else◌}
 use Rattle.bstr.specs.Utf8.{decoded}
 use Rattle.unicodeset_parser.specs.Blanks.{blank_size, closes}
 use Rattle.unicodeset_parser.specs.Bytes.{begins_with}

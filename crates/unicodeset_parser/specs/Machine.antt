@@ -13,10 +13,9 @@
 --   before            nothing stands yet
 --   within mode frame around   in a bracket set; around it are others, from the inside out
 --   after t           the whole set is read
-use Rattle.std.specs.Prelude.{ℕ, suc, ◌+◌, Bool, true, false, nat_lt, nat_le, List, [], ◌∷◌, ◌++◌, length, Result, Ok, Err, if◌then◌else◌}
-use Rattle.ucd_model.specs.Bounds.{Bounds}
+use Rattle.std.specs.Prelude.{ℕ, Bool, nat_lt, nat_le, List, [], ◌∷◌, ◌++◌, length, Result, Ok, Err, if◌then◌else◌}
 use Rattle.unicodeset_parser.specs.Trees.{Tree, chars, Step, bracket_of}
-use Rattle.unicodeset_parser.specs.Tokens.{Sign, open_set, close, dash, meet, letter, property, wrong, Token, placed}
+use Rattle.unicodeset_parser.specs.Tokens.{open_set, close, dash, meet, letter, property, wrong, Token, placed}
 use Rattle.unicodeset_parser.specs.declared.expr.Join.{Join}
 use Rattle.unicodeset_parser.specs.declared.expr.Join.TheVariants.{Union, Meet, Minus}
 use Rattle.unicodeset_parser.specs.declared.stop.SetRule.{SetRule}

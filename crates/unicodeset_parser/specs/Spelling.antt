@@ -21,7 +21,7 @@
 -- TextsReadBack                the text of a tree that can be written, where it is UTF-8, is read as that tree, the places of its properties
 --                              aside
 -- ReadTreesCanBeWritten        each tree that a text is read as can be written
-use Rattle.std.specs.Prelude.{◌≡◌, ℕ, suc, ◌<◌, ◌≤◌, Bool, true, false, List, [], ◌∷◌, ◌++◌, length, Option, Some, Ok, if◌then◌else◌}
+use Rattle.std.specs.Prelude.{◌≡◌, ℕ, suc, ◌<◌, ◌≤◌, Bool, true, false, List, [], ◌∷◌, ◌++◌, length, Some, Ok, if◌then◌else◌}
 use Rattle.std.specs.Option.{is_some}
 use Rattle.std.specs.Str.{IsUtf8}
 use Rattle.ucd_model.specs.Bounds.{Bounds}

@@ -4,7 +4,7 @@
 -- tree_view x     the tree of an expression
 -- part_view p     the step of a part
 -- parts_view ps   the steps of parts, in order
-use Rattle.std.specs.Prelude.{ℕ, List, map}
+use Rattle.std.specs.Prelude.{List}
 use Rattle.unicodeset_parser.specs.Trees.{Tree, chars, named, valued, complement, bracket, Step, steps_of}
 use Rattle.unicodeset_parser.specs.declared.expr.Expr.{Expr}
 use Rattle.unicodeset_parser.specs.declared.expr.Expr.TheOpen.{Expr-F, Part-F, Parts-F}

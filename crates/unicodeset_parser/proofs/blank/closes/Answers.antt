@@ -1,6 +1,6 @@
-use Rattle.std.proofs.Common.{◌≡◌, ◌<◌, ◌≤◌, drop, length, sym, ap, ◌∙◌, arith}
+use Rattle.std.proofs.Common.{sym, ap, ◌∙◌}
 use Rattle.unicodeset_parser.specs.Blanks.{closes}
-use Rattle.unicodeset_parser.proofs.White.{closes_step, closes_none}
+use Rattle.unicodeset_parser.proofs.White.{closes_step}
 use Rattle.unicodeset_parser.proofs.blank.closes.Goals as goal
 
 pub blanks-preserved : goal.blanks-preserved

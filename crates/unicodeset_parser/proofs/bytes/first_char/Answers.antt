@@ -1,4 +1,3 @@
-use Rattle.std.proofs.Common.{◌≡◌, ◌≤◌, length, arith}
 use Rattle.unicodeset_parser.proofs.Sizes.{at_most_four, at_most_all}
 use Rattle.unicodeset_parser.proofs.bytes.first_char.Goals as goal
 

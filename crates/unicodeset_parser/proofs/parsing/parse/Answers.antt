@@ -1,4 +1,4 @@
-use Rattle.std.proofs.Common.{◌≡◌, ◌∙◌, ap, sym, length, Err, refl}
+use Rattle.std.proofs.Common.{◌∙◌, ap, sym, Err}
 use Rattle.std.proofs.lemmas.Str.{is_utf8-from_IsUtf8}
 use Rattle.unicodeset_parser.specs.Machine.{fault}
 use Rattle.unicodeset_parser.specs.Parsed.{parsed}

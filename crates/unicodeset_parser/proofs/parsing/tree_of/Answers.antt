@@ -1,4 +1,4 @@
-use Rattle.std.proofs.Common.{rules, ◌≡◌, ◌<◌, ◌≤◌, ◌-◌, length, drop, max, sym, ap, ◌∙◌, arith, length-drop}
+use Rattle.std.proofs.Common.{rules, ◌≡◌, ◌<◌, ◌-◌, length, sym, ap, ◌∙◌, arith, length-drop}
 use Rattle.unicodeset_parser.specs.Lexing.{tokens}
 use Rattle.unicodeset_parser.specs.Machine.{run}
 use Rattle.unicodeset_parser.specs.StateViews.{state_view}

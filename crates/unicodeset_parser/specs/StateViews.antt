@@ -1,4 +1,9 @@
 -- The states that the code holds, as the definitions name them.
+--
+-- frame_view f      an open bracket set
+-- frames_view fs    those around the innermost one, which the code keeps from the outside in
+-- mode_view m       what may follow
+-- state_view s      how far a text is read
 use Rattle.std.specs.Prelude.{List, map, reverse}
 use Rattle.unicodeset_parser.specs.Machine as machine
 use Rattle.unicodeset_parser.specs.Views.{tree_view, parts_view}

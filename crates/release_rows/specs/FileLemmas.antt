@@ -3,10 +3,11 @@
 -- each_with_items             what holds of each file's items, and of the new ones of a file, holds of each file's once they are
 --                             there
 -- items_at-with_items_same    the file in which the items were put has them
+-- items_at-with_items_other   the other files keep theirs
 -- items_at-none               where no file has an item, none has
 -- rows_of_numbered            without their lines, numbered rows are the rows
 -- numbered_one                the same of one item before others of which it holds
-use Rattle.std.proofs.Common.{◌≡◌, ℕ, ◌+◌, List, [], ◌∷◌, map, Option, Some, None, length, refl, sym, ap, subst, ◌∙◌, inl, inr, arith}
+use Rattle.std.proofs.Common.{◌≡◌, ◌≢◌, ℕ, ◌+◌, List, [], ◌∷◌, map, Option, Some, None, length, refl, sym, ap, subst, ◌∙◌, inl, inr, arith}
 use Rattle.ucd_model.specs.declared.files.SourceFile.{SourceFile}
 use Rattle.ucd_model.specs.declared.files.SourceFile.TheVariants.{UnicodeData, PropList, Scripts, WordBreakProperty, CompositionExclusions, CaseFolding, SpecialCasing, PropertyAliases, PropertyValueAliases}
 use Rattle.ucd_model.specs.declared.row.Row.{Row}
@@ -28,6 +29,10 @@ each_with_items P files file items nine all new other = elim (cases_eq (file_pla
   | inl same ↦ subst (λ (f : SourceFile). P f (items_at (with_items files file items) f)) (sym (same_file file other same)) (subst (P file) (sym (items_at-with_items_same files file items nine)) new)
   | inr apart ↦ subst (P other) (sym (get_or-set_other files (file_place file) (file_place other) items [] apart)) (all other)
 ]
+
+-- the other files keep their items
+pub items_at-with_items_other : (files : List (List FileItem)) (file other : SourceFile) (items : List FileItem) → other ≢ file → items_at (with_items files file items) other ≡ items_at files other
+items_at-with_items_other files file other items apart = get_or-set_other files (file_place file) (file_place other) items [] (λ same. apart (same_file file other same))
 
 -- no file has an item
 pub items_at-none : (file : SourceFile) → items_at no_items file ≡ []

@@ -75,15 +75,6 @@ fn entry_of(alloc: Global, file: SourceFile, row: &Row) -> Result<Entry, RowStop
     })
 }
 
-/// The same of a row that is let go.
-fn entry_of_row(alloc: Global, file: SourceFile, row: Row) -> Result<Entry, RowStop>
-    requires ok { RowOk file row }
-    requires no_names { IsTrue (has_names file) → ⊥ }
-    ensures { EntersAs file result (Ok row) }
-{
-    entry_of(alloc, file, &row)
-}
-
 /// What is kept of the row of a content.
 ///
 /// - `Fault(fault)`: the content is no row, and `fault` is the first rule that it breaks.
@@ -94,8 +85,6 @@ pub fn read_entry(alloc: Global, file: SourceFile, content: &[u8]) -> Result<Ent
     if has_names(file) {
         return names_entry(alloc, file, content);
     }
-    match read_row(alloc, file, content) {
-        Ok(row) => entry_of_row(alloc, file, row),
-        Err(stop) => Err(stop),
-    }
+    let row = read_row(alloc, file, content)?;
+    entry_of(alloc, file, &row)
 }

@@ -1,6 +1,7 @@
 //! The source files of a release.
 
-ghost use Rattle.std.specs.Prelude.{◌≡◌, [], IfOk, OnOk};
+ghost use Rattle.std.specs.Prelude.{◌≡◌, ◌≢◌, [], IfOk, OnOk};
+ghost use Rattle.ucd_model.specs.declared.files.SourceFile.{SourceFile as FileValue};
 ghost use Rattle.release_rows.specs.FileItems.{bytes_of};
 ghost use Rattle.release_rows.specs.Loading.{load_or_fault};
 ghost use Rattle.release_rows.specs.Releases.{AnswersLoad, AreKept, items_now, items_next, no_items, rows_at};
@@ -54,6 +55,7 @@ impl Release {
         requires { items_now self.old file ≡ [] }
         ensures answer { AnswersLoad result (load_or_fault file bytes.now) file self.old self.new }
         ensures lossless { OnOk result (bytes_of (items_now self.new file) ≡ bytes.now) }
+        ensures others { (other : FileValue) → other ≢ file → items_now self.new other ≡ items_now self.old other }
     {
         if bytes.len() > file_limit() {
             return Err(LoadStop::Fault {

@@ -1,7 +1,7 @@
 use Rattle.std.proofs.Common.{ap, ◌∙◌}
-use Rattle.release_rows.specs.FileLemmas.{each_with_items, items_at-with_items_same}
+use Rattle.release_rows.specs.FileLemmas.{each_with_items, items_at-with_items_same, items_at-with_items_other}
 use Rattle.release_rows.specs.FileItems.{bytes_of}
-use Rattle.release_rows.specs.Releases.{AreKept}
+use Rattle.release_rows.specs.Releases.{AreKept, ReleaseItems, items_now}
 use Rattle.release_rows.proofs.release.Release.load_file.Goals as goal
 
 pub invariant_of-self : goal.invariant_of-self
@@ -12,3 +12,6 @@ invariant_of-self c = record {
 
 pub returns-clause-lossless : goal.returns-clause-lossless
 returns-clause-lossless c = rw c.put.ensures.files (ap bytes_of (items_at-with_items_same c.self.inside.files c.args.file c.in_ok-items.items c.self.invariant.nine) ∙ c.in_ok-items.ensures.lossless)
+
+pub returns-clause-others : goal.returns-clause-others
+returns-clause-others c other apart = rw c.put.ensures.files (items_at-with_items_other c.self.inside.files c.args.file other c.in_ok-items.items apart) ∙ ap (λ (r : ReleaseItems). items_now r other) c.self.view_is

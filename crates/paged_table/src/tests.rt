@@ -221,7 +221,7 @@ fn prepare(table: &mut PagedTable, plain: &mut Plain, state: u64) -> u64 {
 
 fn steps(rt: &impl Abort, table: &mut PagedTable, plain: &mut Plain) {
     let mut state = 1;
-    for _ in 0..400 {
+    for _ in 0..120 {
         state = step(table, plain, state);
         agree(rt, table, plain);
     }

@@ -1,13 +1,13 @@
 -- A block is changed, and no two blocks have one page then.
-use Rattle.std.proofs.Common.{◌≡◌, ◌≢◌, ℕ, ◌+◌, ◌*◌, ◌/◌, ◌%◌, ◌<◌, ◌≤◌, ◌⊎◌, inl, inr, Bool, true, false, eqb, leb, ◌&&◌, ◌||◌, cond, List, length, get_or, set, refl, sym, ap, subst, ◌∙◌, arith}
-use Rattle.std.proofs.lemmas.Bool.{cases_eq, cases_Bool, or_cases, true≢false, eq-eqb, eqb-true}
+use Rattle.std.proofs.Common.{◌≡◌, ◌≢◌, ℕ, ◌+◌, ◌*◌, ◌/◌, ◌%◌, ◌<◌, ◌⊎◌, inl, inr, Bool, true, false, leb, ◌&&◌, ◌||◌, cond, List, length, set, refl, sym, ap, subst, ◌∙◌, arith}
+use Rattle.std.proofs.lemmas.Bool.{cases_eq, cases_Bool, or_cases, true≢false, eq-eqb}
 use Rattle.std.proofs.lemmas.Bool.Decides.{nat_tests}
 use Rattle.std.proofs.Math.ListN.{length-set}
 use Rattle.std.proofs.lemmas.List.{get_or-set_same, get_or-set_other}
 use Rattle.page_pool.specs.Pool.{Pool, is_live, word_of}
 use Rattle.paged_table.specs.declared.block.Block.{Block}
 use Rattle.paged_table.specs.declared.block.Block.TheVariants.{One, Page}
-use Rattle.paged_table.specs.Blocks.{block_at, value_of, values, is_page, with_part, IsEven}
+use Rattle.paged_table.specs.Blocks.{block_at, value_of, values, is_page, IsEven}
 use Rattle.paged_table.specs.Puts.{StaysPage, Puts}
 use Rattle.paged_table.specs.Layers.{IsApart, uses}
 use Rattle.range_table.specs.Values.{with_span}

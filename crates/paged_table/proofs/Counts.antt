@@ -1,10 +1,10 @@
 -- Which blocks have several values, and how many.
-use Rattle.std.proofs.Common.{◌≡◌, ℕ, zero, suc, ◌+◌, ◌*◌, ◌/◌, ◌%◌, ◌<◌, ◌≤◌, Bool, true, false, eqb, ◌&&◌, cond, List, refl, sym, ap, ◌∙◌, add-one, arith, inl, inr}
-use Rattle.std.proofs.lemmas.Bool.{cases_lt, cases_Bool, and_from, and_parts, eq-eqb, eqb-true, true≢false}
-use Rattle.page_pool.specs.Pool.{Pool, is_live, word_of}
+use Rattle.std.proofs.Common.{◌≡◌, ℕ, zero, suc, ◌+◌, ◌*◌, ◌/◌, ◌%◌, ◌<◌, true, false, eqb, List, refl, sym, ap, ◌∙◌, add-one, arith, inl, inr}
+use Rattle.std.proofs.lemmas.Bool.{cases_lt, cases_Bool, and_from, and_parts, eq-eqb, eqb-true}
+use Rattle.page_pool.specs.Pool.{Pool, word_of}
 use Rattle.paged_table.specs.declared.block.Block.{Block}
 use Rattle.paged_table.specs.declared.block.Block.TheVariants.{One, Page}
-use Rattle.paged_table.specs.Blocks.{block_at, value_of, values, is_page, IsEven}
+use Rattle.paged_table.specs.Blocks.{block_at, value_of, values, is_page}
 use Rattle.paged_table.specs.Layers.{IsApart}
 use Rattle.paged_table.specs.Pages.{block_width, in_block, IsEvenBlock, all_same, even_block, uneven_count, IsPageOf}
 use Rattle.paged_table.proofs.Apart.{or_left}

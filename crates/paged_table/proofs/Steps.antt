@@ -1,10 +1,10 @@
 -- Spans are set one behind the other, and pools keep what blocks need.
-use Rattle.std.proofs.Common.{◌≡◌, ◌≢◌, ℕ, ◌+◌, ◌*◌, ◌/◌, ◌%◌, ◌<◌, ◌≤◌, true, cond, leb, ltb, ◌&&◌, List, ◌++◌, length, take, subst, refl, sym, ◌∙◌, arith, Result, Ok, Err, OnOk, OnErr}
+use Rattle.std.proofs.Common.{◌≡◌, ℕ, ◌+◌, ◌*◌, ◌/◌, ◌%◌, ◌<◌, ◌≤◌, true, cond, leb, ltb, ◌&&◌, List, ◌++◌, length, take, subst, refl, sym, ◌∙◌, arith, Result, Ok, Err, OnOk, OnErr}
 use Rattle.std.proofs.lemmas.Bool.Decides.{nat_tests}
 use Rattle.page_pool.specs.Pool.{Pool, is_live, word_of}
 use Rattle.paged_table.specs.declared.block.Block.{Block}
-use Rattle.paged_table.specs.Blocks.{block_at, values, is_page, IsEven}
-use Rattle.paged_table.specs.Layers.{IsApart, uses}
+use Rattle.paged_table.specs.Blocks.{block_at, values, is_page}
+use Rattle.paged_table.specs.Layers.{IsApart}
 use Rattle.std.proofs.Math.Seq.{take-append_seam}
 use Rattle.paged_table.proofs.Apart.{value_of-stays, or_left, or_right}
 

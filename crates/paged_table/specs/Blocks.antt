@@ -8,7 +8,7 @@
 -- IsEven f                 the 256 values of f are equal
 -- with_part f lo hi v      v at the places from lo to hi, both of them in it, and f elsewhere
 -- IsOutside f lo hi v      f is v at each place outside of lo to hi
-use Rattle.std.specs.Prelude.{◌≡◌, ℕ, ◌/◌, ◌%◌, ◌<◌, ◌≤◌, ◌⊎◌, Bool, true, false, ◌==◌, ◌&&◌, nat_le, List, slice_index_or, if◌then◌else◌}
+use Rattle.std.specs.Prelude.{◌≡◌, ℕ, ◌/◌, ◌%◌, ◌<◌, ◌⊎◌, Bool, false, ◌==◌, ◌&&◌, nat_le, List, slice_index_or, if◌then◌else◌}
 use Rattle.page_pool.specs.Pool.{Pool, word_of}
 use Rattle.paged_table.specs.declared.block.Block.{Block}
 use Rattle.paged_table.specs.declared.block.Block.TheVariants.{One, Page}

@@ -3,7 +3,7 @@
 -- StaysPage pool pool' p                   page p is live in the pool after, and has the words that it had
 -- Puts pool pool' now next new lo hi v     next is set to v from lo to hi, and is new then; the pool was pool, and is pool';
 --                                          now stays as it is
-use Rattle.std.specs.Prelude.{◌≡◌, ℕ, ◌<◌, Bool, true, false}
+use Rattle.std.specs.Prelude.{◌≡◌, ℕ, ◌<◌, true, false}
 use Rattle.page_pool.specs.Pool.{Pool, is_live, word_of}
 use Rattle.paged_table.specs.declared.block.Block.{Block}
 use Rattle.paged_table.specs.Blocks.{value_of, is_page, with_part, IsEven}

@@ -1,4 +1,4 @@
-use Rattle.std.proofs.Common.{◌<◌, inl, inr, subst, refl, arith}
+use Rattle.std.proofs.Common.{inl, inr, subst, arith}
 use Rattle.std.proofs.lemmas.Bool.{cases_lt, eq-eqb}
 use Rattle.paged_table.specs.Blocks.{value_of, IsOutside}
 use Rattle.paged_table.proofs.part.is_one_then.Goals as goal

@@ -1,6 +1,6 @@
-use Rattle.std.proofs.Common.{◌≡◌, ap, sym, ◌∙◌, cond, leb, ◌&&◌, arith}
+use Rattle.std.proofs.Common.{ap, sym, ◌∙◌, cond, leb, ◌&&◌, arith}
 use Rattle.std.proofs.lemmas.Bool.{eqb-true, ne_eqb, true≢false}
-use Rattle.page_pool.specs.Pool.{is_live, word_of}
+use Rattle.page_pool.specs.Pool.{word_of}
 use Rattle.paged_table.specs.Blocks.{value_of}
 use Rattle.paged_table.proofs.Parts.{outside_from_even}
 use Rattle.paged_table.proofs.part.put_part.Goals as goal

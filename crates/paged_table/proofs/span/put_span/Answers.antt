@@ -1,4 +1,4 @@
-use Rattle.std.proofs.Common.{◌≡◌, ◌+◌, ◌*◌, ◌/◌, ◌%◌, ◌<◌, ◌&&◌, cond, leb, ltb, ap, refl, ◌∙◌, arith}
+use Rattle.std.proofs.Common.{◌+◌, ◌*◌, ◌/◌, ◌%◌, ◌&&◌, cond, leb, ltb, ap, refl, ◌∙◌, arith}
 use Rattle.range_table.specs.Values.{with_span}
 use Rattle.paged_table.specs.Blocks.{values}
 use Rattle.paged_table.proofs.Steps.{span-three}

@@ -1,4 +1,4 @@
-use Rattle.std.proofs.Common.{◌≡◌, ◌++◌, length, take, drop, ap, ◌∙◌, arith}
+use Rattle.std.proofs.Common.{◌≡◌, length, drop, ap, ◌∙◌, arith}
 use Rattle.range_table.specs.Values.{with_span}
 use Rattle.paged_table.specs.Blocks.{values}
 use Rattle.paged_table.specs.Paged.{Paged, values_next}

@@ -1,5 +1,5 @@
 -- Spans are set one behind the other, and pools keep what blocks need.
-use Rattle.std.proofs.Common.{◌≡◌, ℕ, ◌+◌, ◌*◌, ◌/◌, ◌%◌, ◌<◌, ◌≤◌, true, cond, leb, ltb, ◌&&◌, List, ◌++◌, length, take, subst, refl, sym, ◌∙◌, arith, Result, Ok, Err, OnOk, OnErr}
+use Rattle.std.proofs.Common.{◌≡◌, ℕ, ◌+◌, ◌*◌, ◌/◌, ◌%◌, ◌<◌, ◌≤◌, true, cond, leb, ltb, ◌&&◌, List, ◌++◌, length, take, subst, sym, ◌∙◌, arith, Result, Ok, Err, OnOk, OnErr}
 use Rattle.std.proofs.lemmas.Bool.Decides.{nat_tests}
 use Rattle.page_pool.specs.Pool.{Pool, is_live, word_of}
 use Rattle.paged_table.specs.declared.block.Block.{Block}
@@ -8,18 +8,9 @@ use Rattle.paged_table.specs.Layers.{IsApart}
 use Rattle.std.proofs.Math.Seq.{take-append_seam}
 use Rattle.paged_table.proofs.Apart.{value_of-stays, or_left, or_right}
 
-pub one_block : (lo hi first v w c : ℕ) → first ≡ lo / 256 → first ≡ hi / 256 → cond (leb (first * 256 + lo % 256) c && leb c (first * 256 + hi % 256)) v w ≡ cond (leb lo c && leb c hi) v w
-one_block lo hi first v w c is too =
-    let low : first * 256 + lo % 256 ≡ lo = omega arith in
-    let high : first * 256 + hi % 256 ≡ hi = omega arith in
-    rw (low, high) refl
-
 -- the first block, those between, and the last one
 three_spans : (lo hi f l v w c : ℕ) → lo < f + 256 → f + 256 ≤ l → l ≤ hi → cond (leb l c && leb c hi) v (cond (leb (f + 256) c && ltb c l) v (cond (leb lo c && leb c (f + 255)) v w)) ≡ cond (leb lo c && leb c hi) v w
 three_spans lo hi f l v w c a b d = grind (arith, nat_tests)
-
-pub more_blocks : (from b v w c : ℕ) → from ≤ b → cond (leb (b * 256) c && leb c (b * 256 + 255)) v (cond (leb (from * 256) c && ltb c (b * 256)) v w) ≡ cond (leb (from * 256) c && ltb c ((b + 1) * 256)) v w
-more_blocks from b v w c h = grind (arith, nat_tests)
 
 pub span-three : (lo hi first last v w c : ℕ) → first ≡ lo / 256 → last ≡ hi / 256 → first < last → cond (leb (last * 256 + 0) c && leb c (last * 256 + hi % 256)) v (cond (leb ((first + 1) * 256) c && ltb c (last * 256)) v (cond (leb (first * 256 + lo % 256) c && leb c (first * 256 + 255)) v w)) ≡ cond (leb lo c && leb c hi) v w
 span-three lo hi first last v w c is too lt =

@@ -14,9 +14,9 @@ use types.Logic.{Logic}
 use contract.Monad.{Fun}
 use contract.Running.{tables, tables_of}
 use sound.WpLaws.{WpFn-mono}
-use types.Kit.{‵, ◌⊛◌, ⋆, at_ret, ◌$◌, ◌∵◌, !, qed, by, move, keep, use1, use2, drop, split, join, fsplit, fjoin, feq_i, flt_i, rewrite, suffices, frame, done}
+use types.Kit.{‵, ◌⊛◌, ⋆, at_ret, ◌$◌, ◌∵◌, !, qed, by, move, keep, use1, use2, drop, split, join, fsplit, fjoin, feq_i, rewrite, suffices, frame, done}
 use types.Part.{whole, sub}
-use types.Run.{look, store, stop, fld, load, addr, hop, from, lit, unit_lit, of_opd, bin, assigns_last, first, blocks, exec, returns, enter, well_typed}
+use types.Run.{store, stop, fld, addr, hop, from, lit, unit_lit, of_opd, bin, assigns_last, first, blocks, exec, returns, enter, well_typed}
 use types.ByLocal.{alloc_all, pass_all, free_all, look_at, look_in_at, get, through, sets, env}
 use denote.Exit.{yes}
 use denote.RattleType.{owns}

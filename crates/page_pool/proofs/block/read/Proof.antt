@@ -1,11 +1,11 @@
 -- `read` reads one word through a raw pointer into the slice: a walk of its MIR by hand.
 -- A walk is a list of steps over a context, the things that are owned, which comments show as [first; second; ..].
-use Rattle.std.proofs.Common.{◌≡◌, ℕ, ◌+◌, ◌*◌, ◌^◌, ◌<◌, List, [], ◌∷◌, length, get_or, sym, refl, arith, w64}
+use Rattle.std.proofs.Common.{ℕ, ◌+◌, ◌*◌, ◌^◌, ◌<◌, List, [], ◌∷◌, length, get_or, sym, refl, arith, w64}
 use seplogic.Ra.Ura.{Ura}
 use mir.Syntax.{Body, ty_int, named, seq, assign, place, rv_opd, copy, return}
 use mir.Val.{Val, vint}
 use base.Logic.{SProp, ent}
-use base.Fml.{Fml, Lft, Share, ftrue, fat, flft}
+use base.Fml.{Lft, Share, ftrue, fat, flft}
 use prog.Memory.{Memory}
 use prog.Routine.{Routine}
 use prog.Wp.{Env, Calls, Loops, WpFn, Tables}

@@ -1,6 +1,6 @@
 //! The source files of a release.
 
-ghost use Rattle.std.specs.Prelude.{◌≡◌, ◌≢◌, [], IfOk, OnOk};
+ghost use Rattle.std.specs.Prelude.{◌≡◌, ◌≢◌, [], Ok, IfOk, OnOk};
 ghost use Rattle.ucd_model.specs.declared.files.SourceFile.{SourceFile as FileValue};
 ghost use Rattle.release_rows.specs.FileItems.{bytes_of};
 ghost use Rattle.release_rows.specs.Loading.{load_or_fault};
@@ -54,6 +54,7 @@ impl Release {
     pub fn load_file(&mut self, file: SourceFile, bytes: &[u8]) -> Result<(), LoadStop>
         requires { items_now self.old file ≡ [] }
         ensures answer { AnswersLoad result (load_or_fault file bytes.now) file self.old self.new }
+        ensures items { OnOk result (load_or_fault file bytes.now ≡ Ok (items_now self.new file)) }
         ensures lossless { OnOk result (bytes_of (items_now self.new file) ≡ bytes.now) }
         ensures others { (other : FileValue) → other ≢ file → items_now self.new other ≡ items_now self.old other }
     {

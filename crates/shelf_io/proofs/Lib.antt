@@ -1,2 +1,3 @@
+mod FolderLemmas
 mod HeldLemmas
 mod TransferLemmas

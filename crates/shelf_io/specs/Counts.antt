@@ -2,7 +2,6 @@
 --   Rose before now      a count rose: it is greater than before, or it stands at 2 ^ 64 - 1
 --   one_more n           a count of 64 bits one higher, or the greatest where there is no higher one
 --   faults_after failed before   a count of faults after a call that failed, or did not
---   DiskView             a DiskShelf as its callers see it: its counts of faults
 --   Calls                the calls of one kind: how many were made, which ones fail, how many failed
 --   no_calls             none was made, none fails
 --   fails_next calls     whether the next call is one of those that fail
@@ -20,10 +19,6 @@ one_more n = min (n + 1) (2 ^ 64 - 1)
 
 abbrev pub faults_after : Bool → ℕ → ℕ
 faults_after failed before = if failed then one_more before else before
-
-pub record DiskView : Type 0 where
-  pub read_faults : ℕ
-  pub write_faults : ℕ
 
 pub record Calls : Type 0 where
   pub made : ℕ

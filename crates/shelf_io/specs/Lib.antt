@@ -3,3 +3,4 @@ pub mod Contents
 pub mod Answers
 pub mod Folders
 pub mod Sinks
+pub mod Systems

@@ -10,6 +10,11 @@ mod out_sink;
 mod perfect_shelf;
 mod shelf;
 mod sink;
+mod standard_output;
+mod system;
+mod system_calls;
+#[cfg(test)]
+mod system_tests;
 #[cfg(test)]
 mod tests;
 mod transfer;
@@ -21,3 +26,6 @@ pub use out_sink::OutSink;
 pub use perfect_shelf::PerfectShelf;
 pub use shelf::{Failed, Found, ReadStop, Shelf};
 pub use sink::Sink;
+pub use standard_output::StandardOutput;
+pub use system::System;
+pub use system_calls::SystemCalls;

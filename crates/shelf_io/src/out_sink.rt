@@ -1,4 +1,4 @@
-//! The sink of standard output.
+//! The sink of a writer, as standard output is one.
 
 ghost use Rattle.std.specs.Prelude.{◌≡◌, ◌<◌, ◌≤◌, ℕ, [], false, is_err, length, take, OnOk, OnErr};
 ghost use Rattle.std.specs.Io.KnownBytes.{Appends};
@@ -6,63 +6,63 @@ ghost use Rattle.shelf_io.specs.Counts.{faults_after};
 
 use crate::shelf::Failed;
 use crate::sink::Sink;
+use crate::standard_output::StandardOutput;
 use crate::transfer::write_all;
-use std::io;
 use std::io::Write;
 use std::marker::Model;
 
-/// Standard output. It tells nothing of what was written. Contracts see how many puts failed.
+/// A writer, to which all that is put is written. As a sink it tells nothing of what was written. Contracts see the
+/// writer, and how many puts failed.
 #[derive(Drop)]
-pub struct OutSink<R: Print> {
-    runtime: R,
+pub struct OutSink<W: Write> {
+    writer: W,
     faults: u64,
 }
 
-impl<R: Print> Model for OutSink<R> {
-    ghost use Rattle.std.specs.Prelude.{ℕ};
+impl<W: Write> Model for OutSink<W> {
+    ghost use Rattle.shelf_io.specs.Systems.{OutView};
 
-    ghost Value = { ℕ };
+    ghost Value = { OutView W };
 
-    ghost view = { λ a. a.faults };
+    ghost view = { λ a. record { writer = a.writer; faults = a.faults } };
 }
 
-impl<R: Print> OutSink<R> {
+impl<R: Print> OutSink<StandardOutput<R>> {
     /// The standard output of this runtime. Nothing has failed yet.
-    pub fn new(runtime: R) -> OutSink<R>
-        ensures { result ≡ 0 }
+    pub fn new(runtime: R) -> OutSink<StandardOutput<R>>
+        ensures { result.faults ≡ 0 }
     {
-        OutSink { runtime, faults: 0 }
+        OutSink::to(StandardOutput::new(runtime))
     }
 }
 
-impl<R: Print> Sink for OutSink<R> {
+impl<W: Write> OutSink<W> {
+    /// This writer. Nothing has failed yet.
+    pub fn to(writer: W) -> OutSink<W>
+        ensures { result ≡ record { writer = writer; faults = 0 } }
+    {
+        OutSink { writer, faults: 0 }
+    }
+}
+
+impl<W: Write> Sink for OutSink<W> {
     ghost tells = { false };
 
     ghost written = { λ _. [] };
 
-    ghost faults = { λ sink. sink };
+    ghost faults = { λ sink. sink.faults };
 
     fn put(&mut self, bytes: &[u8]) -> Result<(), Failed>
-        ensures counted { self.new ≡ faults_after (is_err result) self.old }
-        ensures faults_never_fall { self.old ≤ self.new }
+        ensures ok { OnOk result (Appends (W.contents self.old.writer) (W.contents self.new.writer) bytes.now) }
+        ensures err { OnErr result ((k : ℕ) × (k < length bytes.now)
+            × Appends (W.contents self.old.writer) (W.contents self.new.writer) (take k bytes.now)) }
+        ensures counted { self.new.faults ≡ faults_after (is_err result) self.old.faults }
+        ensures faults_never_fall { self.old.faults ≤ self.new.faults }
     {
-        put_to(&mut io::writer(&self.runtime), bytes, &mut self.faults)
+        let answer = write_all(&mut self.writer, bytes);
+        if answer.is_err() {
+            self.faults = self.faults.saturating_add(1);
+        }
+        answer
     }
-}
-
-/// Writes all bytes, or counts a fault.
-///
-/// - `Failed`: there was an error, or a write took none of what is left. A prefix of the bytes was then written.
-fn put_to<W: Write>(writer: &mut W, bytes: &[u8], faults: &mut u64) -> Result<(), Failed>
-    ensures ok { OnOk result (Appends (W.contents writer.old) (W.contents writer.new) bytes.now) }
-    ensures err { OnErr result
-        ((k : ℕ) × (k < length bytes.now) × Appends (W.contents writer.old) (W.contents writer.new) (take k bytes.now)) }
-    ensures counted { faults.new ≡ faults_after (is_err result) faults.old }
-    ensures faults_never_fall { faults.old ≤ faults.new }
-{
-    let answer = write_all(writer, bytes);
-    if answer.is_err() {
-        *faults = faults.saturating_add(1);
-    }
-    answer
 }

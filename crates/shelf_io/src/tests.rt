@@ -1,17 +1,12 @@
-//! Shelves and sinks at work: what the two in memory answer, and what reaches the system.
+//! Shelves and sinks in memory at work. Each is owned by a function that makes one call on it.
 
 ghost use Rattle.std.specs.Prelude.{◌≡◌, ◌≢◌, ◌++◌, [], List, Some, IsTrue, take, ℕ};
 ghost use Rattle.shelf_io.specs.Counts.{Rose};
 ghost use Rattle.shelf_io.specs.Contents.{ReplacedAt};
 
 use crate::memory_files::text_of;
-use crate::transfer::{read_most, write_all};
-use crate::{
-    DiskShelf, Failed, Found, MemoryShelf, MemorySink, OutSink, PerfectShelf, ReadStop, Shelf, Sink,
-};
+use crate::{Failed, Found, MemoryShelf, MemorySink, PerfectShelf, ReadStop, Shelf, Sink};
 use std::alloc::Global;
-use std::io::{Read, Write};
-use std::{fs, io};
 use ucd_model::{Memory, Text};
 
 /// What became of two files that were to be joined.
@@ -117,249 +112,180 @@ fn are_bytes(held: Option<&[u8]>, bytes: &[u8]) -> bool {
     }
 }
 
-/// A shelf in memory with two files.
-fn two_files(alloc: Global) -> Result<MemoryShelf, Memory> {
-    let mut shelf = MemoryShelf::new(alloc);
+/// A path, how much of it is read, the answer, and what was read where the file is found.
+pub type ReadCase<'a> = (&'a [u8], usize, Result<Found, ReadStop>, &'a [u8]);
+
+/// Whether a read of this path gives this.
+fn read_gives<S: Shelf>(alloc: Global, shelf: &mut S, case: &ReadCase<'_>) -> bool {
+    let (path, most, answer, bytes) = *case;
+    let mut into = Vec::new(alloc);
+    shelf.read(path, most, &mut into) == answer
+        && (answer != Ok(Found::Found) || into.as_slice() == bytes)
+}
+
+/// The number of the first of these reads that gives something else.
+pub fn first_wrong_read<S: Shelf>(
+    alloc: Global,
+    shelf: &mut S,
+    cases: &[ReadCase<'_>],
+) -> Option<usize> {
+    for (at, case) in cases.iter().enumerate() {
+        if !read_gives(alloc, shelf, case) {
+            return Some(at);
+        }
+    }
+    None
+}
+
+/// What a write of these bytes answers, for which room is made.
+pub fn write_once<S: Shelf>(
+    alloc: Global,
+    shelf: &mut S,
+    path: &[u8],
+    bytes: &[u8],
+) -> Result<Result<(), Failed>, Memory> {
+    shelf.room(1)?;
+    let path = text_of(alloc, path)?;
+    let bytes = text_of(alloc, bytes)?;
+    Ok(shelf.write(path, bytes))
+}
+
+/// Whether two files are joined, of which at most three bytes count each.
+fn joins_two(alloc: Global, shelf: &mut MemoryShelf) -> Result<bool, Memory> {
     shelf.place(b"d/a", b"front")?;
     shelf.place(b"d/b", b"back")?;
-    Ok(shelf)
+    Ok(
+        join_files(alloc, shelf, b"d/a", b"d/b", 3, b"o/c") == Joined::Joined
+            && are_bytes(shelf.held(b"o/c"), b"frobac")
+            && are_bytes(shelf.held(b"d/a"), b"front"),
+    )
+}
+
+/// The same, of a shelf that was made for it.
+fn joins_in_memory(alloc: Global) -> Result<bool, Memory> {
+    joins_two(alloc, &mut MemoryShelf::new(alloc))
 }
 
 #[test]
 fn joins_files_in_memory(rt: HostRuntime) -> Result<(), Memory> {
-    let mut shelf = two_files(rt.alloc())?;
-    let joined = join_files(rt.alloc(), &mut shelf, b"d/a", b"d/b", 3, b"o/c");
-    assert_eq!(rt; joined, Joined::Joined);
-    assert!(rt; are_bytes(shelf.held(b"o/c"), b"frobac"));
-    assert!(rt; are_bytes(shelf.held(b"d/a"), b"front"));
+    assert!(rt; joins_in_memory(rt.alloc())?);
     Ok(())
 }
 
-/// A shelf that never fails, on which a file was joined with itself.
-fn joined_perfectly(alloc: Global) -> Result<(Joined, PerfectShelf), Memory> {
-    let mut shelf = PerfectShelf::new(alloc);
+/// Whether a file is joined with itself and then moved, on a shelf that never fails.
+fn joins_and_moves(alloc: Global, shelf: &mut PerfectShelf) -> Result<bool, Memory> {
     shelf.place(b"d/a", b"front")?;
-    let joined = join_files(alloc, &mut shelf, b"d/a", b"d/a", 9, b"d/a");
-    Ok((joined, shelf))
+    let joined = join_files(alloc, shelf, b"d/a", b"d/a", 9, b"d/a");
+    let to = text_of(alloc, b"d/b")?;
+    let is_joined = are_bytes(shelf.held(b"d/a"), b"frontfront") && shelf.held(b"d/b").is_none();
+    let moved = move_perfectly(alloc, shelf, b"d/a", to)?;
+    Ok(
+        joined == Joined::Joined
+            && is_joined
+            && moved == Found::Found
+            && are_bytes(shelf.held(b"d/b"), b"frontfron"),
+    )
+}
+
+/// The same, of a shelf that was made for it.
+fn joins_perfectly(alloc: Global) -> Result<bool, Memory> {
+    joins_and_moves(alloc, &mut PerfectShelf::new(alloc))
 }
 
 #[test]
 fn joins_files_that_never_fail(rt: HostRuntime) -> Result<(), Memory> {
-    let (joined, mut shelf) = joined_perfectly(rt.alloc())?;
-    assert_eq!(rt; joined, Joined::Joined);
-    assert!(rt; are_bytes(shelf.held(b"d/a"), b"frontfront"));
-    assert!(rt; shelf.held(b"d/b").is_none());
-    let to = text_of(rt.alloc(), b"d/b")?;
-    let moved = move_perfectly(rt.alloc(), &mut shelf, b"d/a", to)?;
-    assert_eq!(rt; moved, Found::Found);
-    assert!(rt; are_bytes(shelf.held(b"d/b"), b"frontfron"));
+    assert!(rt; joins_perfectly(rt.alloc())?);
     Ok(())
+}
+
+/// What a read of a new file answers, where no read is to fail.
+fn read_placed(alloc: Global, shelf: &mut MemoryShelf) -> Result<Found, Memory>
+    requires { shelf.old.reads.failing ≡ [] }
+{
+    shelf.place(b"a", b"text")?;
+    read_planned(shelf, b"a", &mut Vec::new(alloc))
+}
+
+/// The same, of a shelf that was made for it.
+fn read_of_a_new_shelf(alloc: Global) -> Result<Found, Memory> {
+    read_placed(alloc, &mut MemoryShelf::new(alloc))
 }
 
 #[test]
 fn reads_without_planned_faults(rt: HostRuntime) -> Result<(), Memory> {
-    let mut shelf = MemoryShelf::new(rt.alloc());
-    shelf.place(b"a", b"text")?;
-    let mut held = Vec::new(rt.alloc());
-    assert_eq!(rt; read_planned(&mut shelf, b"a", &mut held)?, Found::Found);
+    assert_eq!(rt; read_of_a_new_shelf(rt.alloc())?, Found::Found);
     Ok(())
 }
 
-/// A shelf with a file that was replaced, whose second and fifth reads fail.
-fn failing_reads(alloc: Global) -> Result<MemoryShelf, Memory> {
-    let mut shelf = MemoryShelf::new(alloc);
+/// The first wrong read of a file that was replaced, where the second and the fifth read fail.
+fn first_wrong_of_failing(alloc: Global, shelf: &mut MemoryShelf) -> Result<Option<usize>, Memory> {
     shelf.place(b"a", b"old")?;
     shelf.place(b"a", b"text")?;
     shelf.fail_read(2)?;
     shelf.fail_read(5)?;
-    Ok(shelf)
+    let cases: [ReadCase<'_>; 6] = [
+        (b"a", 9, Ok(Found::Found), b"text"),
+        (b"a", 9, Err(ReadStop::Failed), b""),
+        (b"a", 3, Ok(Found::Found), b"tex"),
+        (b"b", 9, Ok(Found::Absent), b""),
+        (b"b", 9, Err(ReadStop::Failed), b""),
+        (b"a", 0, Ok(Found::Found), b""),
+    ];
+    Ok(first_wrong_read(alloc, shelf, &cases))
 }
 
-/// What a read answers, and the bytes that it gave.
-fn read_once(
-    alloc: Global,
-    shelf: &mut MemoryShelf,
-    path: &[u8],
-    most: usize,
-) -> (Result<Found, ReadStop>, Vec<u8>) {
-    let mut into = Vec::new(alloc);
-    let answer = shelf.read(path, most, &mut into);
-    (answer, into)
+/// The same, of a shelf that was made for it.
+fn first_wrong_in_memory(alloc: Global) -> Result<Option<usize>, Memory> {
+    first_wrong_of_failing(alloc, &mut MemoryShelf::new(alloc))
 }
 
 #[test]
 fn named_reads_fail(rt: HostRuntime) -> Result<(), Memory> {
-    let mut shelf = failing_reads(rt.alloc())?;
-    let rows = [
-        (b"a", 9, Ok(Found::Found), b"text".as_slice()),
-        (b"a", 9, Err(ReadStop::Failed), b"".as_slice()),
-        (b"a", 3, Ok(Found::Found), b"tex".as_slice()),
-        (b"b", 9, Ok(Found::Absent), b"".as_slice()),
-        (b"b", 9, Err(ReadStop::Failed), b"".as_slice()),
-        (b"a", 0, Ok(Found::Found), b"".as_slice()),
-    ];
-    for (path, most, answer, bytes) in rows {
-        let (answered, given) = read_once(rt.alloc(), &mut shelf, path, most);
-        assert_eq!(rt; answered, answer);
-        assert_eq!(rt; given.as_slice(), bytes);
-    }
+    assert_eq!(rt; first_wrong_in_memory(rt.alloc())?, None);
     Ok(())
 }
 
-/// Writes three bytes to a path, for which room is made.
-fn write_once(alloc: Global, shelf: &mut MemoryShelf, path: &[u8]) -> Result<bool, Memory> {
-    shelf.room(1)?;
-    let path = text_of(alloc, path)?;
-    let bytes = text_of(alloc, b"new")?;
-    Ok(shelf.write(path, bytes).is_ok())
+/// Whether the second of three writes fails, and leaves the other two.
+fn fails_second(alloc: Global, shelf: &mut MemoryShelf) -> Result<bool, Memory> {
+    shelf.fail_write(2)?;
+    for (path, answer) in [(b"a", Ok(())), (b"b", Err(Failed)), (b"c", Ok(()))] {
+        if write_once(alloc, shelf, path, b"new")? != answer {
+            return Ok(false);
+        }
+    }
+    Ok(
+        are_bytes(shelf.held(b"a"), b"new")
+            && shelf.held(b"b").is_none()
+            && are_bytes(shelf.held(b"c"), b"new"),
+    )
 }
 
-/// A shelf whose second write fails.
-fn failing_write(alloc: Global) -> Result<MemoryShelf, Memory> {
-    let mut shelf = MemoryShelf::new(alloc);
-    shelf.fail_write(2)?;
-    Ok(shelf)
+/// The same, of a shelf that was made for it.
+fn fails_second_in_memory(alloc: Global) -> Result<bool, Memory> {
+    fails_second(alloc, &mut MemoryShelf::new(alloc))
 }
 
 #[test]
 fn named_writes_fail(rt: HostRuntime) -> Result<(), Memory> {
-    let mut shelf = failing_write(rt.alloc())?;
-    for (path, written) in [(b"a", true), (b"b", false), (b"c", true)] {
-        assert_eq!(rt; write_once(rt.alloc(), &mut shelf, path)?, written);
-    }
-    assert!(rt; are_bytes(shelf.held(b"a"), b"new"));
-    assert!(rt; shelf.held(b"b").is_none());
-    assert!(rt; are_bytes(shelf.held(b"c"), b"new"));
+    assert!(rt; fails_second_in_memory(rt.alloc())?);
     Ok(())
+}
+
+/// Whether a sink with room for five bytes takes five of six.
+fn takes_five(sink: &mut MemorySink) -> bool {
+    put_both(sink, b"a", b"bc") == Ok(())
+        && sink.put(b"def") == Err(Failed)
+        && sink.put(b"") == Ok(())
+        && sink.written() == b"abcde".as_slice()
+}
+
+/// The same, of a sink that was made for it.
+fn takes_what_fits(alloc: Global) -> Result<bool, Memory> {
+    Ok(takes_five(&mut MemorySink::new(alloc, 5)?))
 }
 
 #[test]
 fn a_sink_takes_what_fits(rt: HostRuntime) -> Result<(), Memory> {
-    let mut sink = MemorySink::new(rt.alloc(), 5)?;
-    assert_eq!(rt; put_both(&mut sink, b"a", b"bc"), Ok(()));
-    assert_eq!(rt; sink.put(b"def"), Err(Failed));
-    assert_eq!(rt; sink.put(b""), Ok(()));
-    assert_eq!(rt; sink.written(), b"abcde".as_slice());
+    assert!(rt; takes_what_fits(rt.alloc())?);
     Ok(())
-}
-
-#[test]
-fn files_of_the_system(rt: HostRuntime) -> Result<(), Memory> {
-    let _ = fs::remove_dir_all(&rt, "shelf_io_files");
-    let mut shelf = DiskShelf::new(rt);
-    let mut into = Vec::new(rt.alloc());
-    let path = b"shelf_io_files/deep/file";
-    assert_eq!(rt; shelf.read(path, 9, &mut into), Ok(Found::Absent));
-    for bytes in [b"longer text".as_slice(), b"text".as_slice()] {
-        let answer = shelf.write(text_of(rt.alloc(), path)?, text_of(rt.alloc(), bytes)?);
-        assert_eq!(rt; answer, Ok(()));
-    }
-    let rows = [
-        (path.as_slice(), 9, Ok(Found::Found), b"text".as_slice()),
-        (path.as_slice(), 2, Ok(Found::Found), b"te".as_slice()),
-        (
-            b"shelf_io_files/deep".as_slice(),
-            9,
-            Err(ReadStop::Failed),
-            b"".as_slice(),
-        ),
-        (
-            b"shelf_io_files/deep/file/below".as_slice(),
-            9,
-            Err(ReadStop::Failed),
-            b"".as_slice(),
-        ),
-        (
-            b"shelf_io_files/\xff".as_slice(),
-            9,
-            Err(ReadStop::Failed),
-            b"".as_slice(),
-        ),
-    ];
-    for (path, most, answer, bytes) in rows {
-        assert_eq!(rt; shelf.read(path, most, &mut into), answer);
-        if answer.is_ok() {
-            assert_eq!(rt; into.as_slice(), bytes);
-        }
-    }
-    let answer = shelf.write(text_of(rt.alloc(), b"\xff")?, Text::new(rt.alloc()));
-    assert_eq!(rt; answer, Err(Failed));
-    let _ = fs::remove_dir_all(&rt, "shelf_io_files");
-    Ok(())
-}
-
-/// A reader of a few bytes a time, which fails at one of its reads.
-#[derive(Drop)]
-struct Drip {
-    left: usize,
-    fails: usize,
-}
-
-impl Read for Drip {
-    fn read(&mut self, buf: &mut [u8]) -> io::Result<usize> {
-        if self.fails == 0 {
-            return Err(io::Error::from(io::ErrorKind::Other));
-        }
-        self.fails -= 1;
-        let taken = self.left.min(2).min(buf.len());
-        for byte in &mut buf[..taken] {
-            *byte = b'x';
-        }
-        self.left -= taken;
-        Ok(taken)
-    }
-}
-
-#[test]
-fn reads_in_parts(rt: HostRuntime) {
-    let rows = [
-        (5, 9, 9, Ok(()), b"xxxxx".as_slice()),
-        (5, 9, 3, Ok(()), b"xxx".as_slice()),
-        (5, 2, 9, Err(ReadStop::Failed), b"".as_slice()),
-        (5, 2, 4, Ok(()), b"xxxx".as_slice()),
-        (0, 1, 9, Ok(()), b"".as_slice()),
-    ];
-    for (left, fails, most, answer, bytes) in rows {
-        let mut into = Vec::new(rt.alloc());
-        assert_eq!(rt;
-            read_most(&mut Drip { left, fails }, most, &mut into),
-            answer
-        );
-        if answer.is_ok() {
-            assert_eq!(rt; into.as_slice(), bytes);
-        }
-    }
-}
-
-/// A writer of a few bytes a time, which takes none once it is full.
-#[derive(Drop)]
-struct Narrow {
-    room: usize,
-}
-
-impl Write for Narrow {
-    fn write(&mut self, buf: &[u8]) -> io::Result<usize> {
-        let taken = self.room.min(2).min(buf.len());
-        self.room -= taken;
-        Ok(taken)
-    }
-
-    fn flush(&mut self) -> io::Result<()> {
-        Ok(())
-    }
-}
-
-#[test]
-fn writes_in_parts(rt: HostRuntime) {
-    for (room, answer, left) in [(7, Ok(()), 2), (5, Ok(()), 0), (3, Err(Failed), 0)] {
-        let mut narrow = Narrow { room };
-        assert_eq!(rt; write_all(&mut narrow, b"abcde"), answer);
-        assert_eq!(rt; narrow.room, left);
-    }
-}
-
-#[test]
-fn standard_output_takes_bytes(rt: HostRuntime) {
-    let mut out = OutSink::new(rt);
-    assert_eq!(rt; out.put(b"a line\n"), Ok(()));
 }

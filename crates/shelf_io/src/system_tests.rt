@@ -64,15 +64,22 @@ fn first_wrong_write<S: Shelf>(
     Ok(None)
 }
 
+/// The first wrong read of a missing folder, and then the first wrong write and read, by their numbers.
+fn first_wrong_of_files<S: Shelf>(
+    alloc: Global,
+    shelf: &mut S,
+) -> Result<[Option<usize>; 3], Memory> {
+    let absent = first_wrong_read(alloc, shelf, &READS[5..6]);
+    let written = first_wrong_write(alloc, shelf, &WRITES)?;
+    Ok([absent, written, first_wrong_read(alloc, shelf, &READS)])
+}
+
 #[test]
 fn files_of_the_system(rt: HostRuntime) -> Result<(), Memory> {
-    let alloc = rt.alloc();
     let _ = fs::remove_dir_all(&rt, FOLDER);
-    let mut shelf = DiskShelf::new(rt);
-    assert_eq!(rt; first_wrong_read(alloc, &mut shelf, &READS[5..6]), None);
-    assert_eq!(rt; first_wrong_write(alloc, &mut shelf, &WRITES)?, None);
-    assert_eq!(rt; first_wrong_read(alloc, &mut shelf, &READS), None);
+    let wrong = first_wrong_of_files(rt.alloc(), &mut DiskShelf::new(rt))?;
     let _ = fs::remove_dir_all(&rt, FOLDER);
+    assert_eq!(rt; wrong, [None, None, None]);
     Ok(())
 }
 
@@ -98,28 +105,28 @@ impl Read for Drip {
     }
 }
 
-/// What a reader of so many bytes gives, which fails at one of its reads: the answer, and whether `bytes` were read.
+/// What a reader of so many bytes gives, which fails at one of its reads: the answer, and whether `bytes` were read
+/// where it is Ok.
 fn drips(alloc: Global, mut drip: Drip, most: usize, bytes: &[u8]) -> (Result<(), ReadStop>, bool) {
     let mut into = Vec::new(alloc);
     let answer = read_most(&mut drip, most, &mut into);
-    (answer, into.as_slice() == bytes)
+    (answer, answer.is_err() || into.as_slice() == bytes)
 }
 
 #[test]
 fn reads_in_parts(rt: HostRuntime) {
-    for (left, fails, most, bytes) in [
-        (5, 9, 9, b"xxxxx".as_slice()),
-        (5, 9, 3, b"xxx".as_slice()),
-        (5, 2, 4, b"xxxx".as_slice()),
-        (0, 1, 9, b"".as_slice()),
+    for (left, fails, most, answer, bytes) in [
+        (5, 9, 9, Ok(()), b"xxxxx".as_slice()),
+        (5, 9, 3, Ok(()), b"xxx".as_slice()),
+        (5, 2, 9, Err(ReadStop::Failed), b"".as_slice()),
+        (5, 2, 4, Ok(()), b"xxxx".as_slice()),
+        (0, 1, 9, Ok(()), b"".as_slice()),
     ] {
         assert_eq!(rt;
             drips(rt.alloc(), Drip { left, fails }, most, bytes),
-            (Ok(()), true)
+            (answer, true)
         );
     }
-    let failing = Drip { left: 5, fails: 2 };
-    assert_eq!(rt; drips(rt.alloc(), failing, 9, b"").0, Err(ReadStop::Failed));
 }
 
 /// A writer of a few bytes a time, which takes none once it is full.
@@ -140,18 +147,22 @@ impl Write for Narrow {
     }
 }
 
-/// What a sink of a writer with room for so many bytes answers to five of them, and whether that was counted.
-fn puts_five(room: usize) -> Result<(), Failed> {
-    OutSink::to(Narrow { room }).put(b"abcde")
+/// What a writer with room for so many bytes answers to five of them, for how many it has room then, and what a sink
+/// of such a writer answers.
+fn writes_five(room: usize) -> (Result<(), Failed>, usize, Result<(), Failed>) {
+    let mut narrow = Narrow { room };
+    let written = write_all(&mut narrow, b"abcde");
+    (
+        written,
+        narrow.room,
+        OutSink::to(Narrow { room }).put(b"abcde"),
+    )
 }
 
 #[test]
 fn writes_in_parts(rt: HostRuntime) {
     for (room, answer, left) in [(7, Ok(()), 2), (5, Ok(()), 0), (3, Err(Failed), 0)] {
-        let mut narrow = Narrow { room };
-        assert_eq!(rt; write_all(&mut narrow, b"abcde"), answer);
-        assert_eq!(rt; narrow.room, left);
-        assert_eq!(rt; puts_five(room), answer);
+        assert_eq!(rt; writes_five(room), (answer, left, answer));
     }
 }
 

@@ -176,8 +176,8 @@ fn joins_files_in_memory(rt: HostRuntime) -> Result<(), Memory> {
 fn joins_and_moves(alloc: Global, shelf: &mut PerfectShelf) -> Result<bool, Memory> {
     shelf.place(b"d/a", b"front")?;
     let joined = join_files(alloc, shelf, b"d/a", b"d/a", 9, b"d/a");
-    let to = text_of(alloc, b"d/b")?;
     let is_joined = are_bytes(shelf.held(b"d/a"), b"frontfront") && shelf.held(b"d/b").is_none();
+    let to = text_of(alloc, b"d/b")?;
     let moved = move_perfectly(alloc, shelf, b"d/a", to)?;
     Ok(
         joined == Joined::Joined

@@ -1,4 +1,3 @@
-use Rattle.std.proofs.Common.{rules}
 use Rattle.shelf_io.proofs.FolderLemmas.{folder_of-None, folder_of-Some}
 use Rattle.shelf_io.proofs.disk_shelf.make_folders_of.Goals as goal
 

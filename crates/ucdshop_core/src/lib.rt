@@ -4,6 +4,7 @@
 mod command;
 mod derived_path;
 mod judging;
+mod perfect_run;
 mod planning;
 mod printed;
 mod program;
@@ -16,6 +17,7 @@ mod status;
 mod stop;
 mod writing;
 
+pub use perfect_run::run_perfectly;
 pub use printed::OUT_OF_MEMORY;
 pub use program::run;
 pub use status::Status;

@@ -51,11 +51,13 @@ fn put_spans<B: Records>(
     ensures total { IfOk result (λ total. total ≡ labelled point_count (listing_labels listing (B.record_of bench.now))) }
 {
     let mut run = Run::start(alloc);
-    let mut label = LabelText::none(alloc);
     let mut total = 0;
-    'pieces: for piece in pieces {
-        listing.set_label(alloc, bench.record(piece.lo), &mut label)?;
-        total += run.go_on(&mut label, piece.last() + 1, text)?;
+    {
+        let mut label = LabelText::none(alloc);
+        'pieces: for piece in pieces {
+            listing.set_label(alloc, bench.record(piece.lo), &mut label)?;
+            total += run.go_on(&mut label, piece.last() + 1, text)?;
+        }
     }
     total += run.end(text)?;
     Ok(total)

@@ -6,8 +6,6 @@ pub mod laws;
 mod mapping;
 mod matching;
 mod predicates;
-#[cfg(test)]
-mod tests;
 mod titling;
 
 pub use changes::{Changes, changes_when};

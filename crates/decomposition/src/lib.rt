@@ -3,7 +3,5 @@
 
 mod expansion;
 pub mod laws;
-#[cfg(test)]
-mod tests;
 
 pub use expansion::{counted, expand};

@@ -5,8 +5,6 @@ mod casefold;
 mod ignorable;
 pub mod laws;
 mod rounds;
-#[cfg(test)]
-mod tests;
 
 pub use casefold::{casefold_of, nfkc_casefold};
 pub use ignorable::{default_ignorable, is_default_ignorable, is_visible_format};

@@ -7,8 +7,6 @@ pub mod composition_laws;
 pub mod form_laws;
 mod forms;
 pub mod order_laws;
-#[cfg(test)]
-mod tests;
 
 pub use canonical_order::order;
 pub use composition::compose;

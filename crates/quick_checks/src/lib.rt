@@ -4,8 +4,6 @@
 mod checks;
 mod exclusion;
 pub mod laws;
-#[cfg(test)]
-mod tests;
 
 pub use checks::{quick, quick_composed, quick_decomposed};
 pub use exclusion::{full_exclusion, is_fully_excluded};

@@ -1,6 +1,7 @@
 //! Worked mappings, over a view that lists a few rows of the Unicode Character Database.
 
-use crate::{
+use crate::test_facts::{PLAIN, facts_of, point, points, put_flagged};
+use case_derivation::{
     Changes, case_ignorable, cased, changes_when, fold, is_case_ignorable, is_cased, is_lowercase,
     is_uppercase, lower, title, upper,
 };
@@ -9,7 +10,7 @@ use std::test::Fail;
 use ucd_model::{Category, FactList, FactView, Facts, Flag, Flags, Image, Memory, Point, Points};
 
 /// A code point, its category, and its full mappings: lower, upper, title, and the folding.
-type Row = (
+type CaseRow = (
     u32,
     Category,
     &'static [u32],
@@ -18,9 +19,14 @@ type Row = (
     &'static [u32],
 );
 
+/// A capital s, a sharp s, and a small s.
+const SHARP: [u32; 3] = [0x53, 0xDF, 0x73];
+
+const BOTH: [u32; 2] = [0x1000, 0x1001];
+
 /// LATIN CAPITAL LETTER S, LATIN SMALL LETTER S, LATIN SMALL LETTER SHARP S, and LATIN CAPITAL LETTER D WITH SMALL
 /// LETTER Z WITH CARON.
-const LETTERS: [Row; 4] = [
+const LETTERS: [CaseRow; 4] = [
     (
         0x0053,
         Category::Lu,
@@ -64,37 +70,71 @@ enum Mapping {
     Fold,
 }
 
-fn point(number: u32) -> Result<Point, Fail> {
-    Ok(Point::new(number).ok_or("a code point")?)
-}
+const MAPPING_CASES: [(Mapping, &'static [u32], &'static [u32]); 6] = [
+    // a sharp s has two letters in upper case
+    (Mapping::Lower, &SHARP, &[0x73, 0xDF, 0x73]),
+    (Mapping::Upper, &SHARP, &[0x53, 0x53, 0x53, 0x53]),
+    (Mapping::Fold, &SHARP, &[0x73, 0x73, 0x73, 0x73]),
+    // only the first cased member of a title is a capital
+    (
+        Mapping::Title,
+        &[0x2E, 0xDF, 0x53],
+        &[0x2E, 0x53, 0x73, 0x73],
+    ),
+    (Mapping::Title, &[0x1C5, 0x53], &[0x1C5, 0x73]),
+    (Mapping::Title, &[0x2E, 0x2E], &[0x2E, 0x2E]),
+];
 
-fn points(alloc: Global, numbers: &[u32]) -> Result<Points, Fail> {
-    let mut points = Points::new(alloc);
-    for number in numbers {
-        points.push(point(*number)?)?;
-    }
-    Ok(points)
-}
+/// A list, and what changes of it: lower, upper, title, folding, and one of the first three.
+type ChangeCase = (&'static [u32], [bool; 5]);
+
+/// As DerivedCoreProperties.txt lists them.
+const CHANGE_CASES: [ChangeCase; 6] = [
+    (&[0x0053], [true, false, false, true, true]),
+    (&[0x0073], [false, true, true, false, true]),
+    (&[0x00DF], [false, true, true, true, true]),
+    (&[0x002E], [false; 5]),
+    (&[0x002E, 0x0053], [true, false, false, true, true]),
+    (&[], [false; 5]),
+];
+
+/// 1000 is mapped to nothing and 1001 to both: the joined images are the list, although no image is that of its point.
+const CUT_OTHERWISE: [CaseRow; 2] = [
+    (0x1000, Category::Lu, &[], &[], &[], &[]),
+    (0x1001, Category::Lu, &BOTH, &BOTH, &BOTH, &BOTH),
+];
+
+const CUT_CASES: [ChangeCase; 3] = [
+    (&[0x1000, 0x1001], [false; 5]),
+    (&[0x1000], [true; 5]),
+    (&[0x1001], [true; 5]),
+];
 
 fn image(alloc: Global, c: u32, numbers: &[u32]) -> Result<Image, Fail> {
     Ok(Image::of(point(c)?, points(alloc, numbers)?))
 }
 
-fn put(alloc: Global, list: &mut FactList, row: Row) -> Result<(), Fail> {
-    let mut facts = Facts::unassigned(alloc, point(row.0)?);
+fn put_cased(alloc: Global, list: &mut FactList, row: CaseRow) -> Result<(), Fail> {
+    let (c, category, lower, upper, title, fold) = row;
+    let lower = image(alloc, c, lower)?;
+    let upper = image(alloc, c, upper)?;
+    let title = image(alloc, c, title)?;
+    let fold = image(alloc, c, fold)?;
+    let c = point(c)?;
+    let mut facts = Facts::unassigned(alloc, c);
     facts.assigned = true;
-    facts.category = row.1;
-    facts.lower = image(alloc, row.0, row.2)?;
-    facts.upper = image(alloc, row.0, row.3)?;
-    facts.title = image(alloc, row.0, row.4)?;
-    facts.fold = image(alloc, row.0, row.5)?;
-    Ok(list.push((point(row.0)?, facts))?)
+    facts.category = category;
+    facts.lower = lower;
+    facts.upper = upper;
+    facts.title = title;
+    facts.fold = fold;
+    Ok(list.push((c, facts))?)
 }
 
-fn listed(alloc: Global, rows: &[Row]) -> Result<FactList, Fail> {
+fn listed_cased(alloc: Global, rows: &[CaseRow]) -> Result<FactList, Fail> {
     let mut list = FactList::new(alloc);
     for row in rows {
-        put(alloc, &mut list, *row)?;
+        put_cased(alloc, &mut list, *row)?;
     }
     Ok(list)
 }
@@ -133,93 +173,46 @@ fn changes(alloc: Global, list: &FactList, s: &[u32]) -> Result<[bool; 5], Fail>
 }
 
 #[test]
-fn a_sharp_s_has_two_letters_in_upper_case(rt: HostRuntime) -> Result<(), Fail> {
+fn letters_are_mapped(rt: HostRuntime) -> Result<(), Fail> {
     let alloc = rt.alloc();
-    let list = listed(alloc, &LETTERS)?;
-    let s = [0x0053, 0x00DF, 0x0073];
-    assert!(rt; maps_to(alloc, &list, Mapping::Lower, &s, &[0x73, 0xDF, 0x73])?);
-    assert!(rt; maps_to(alloc, &list, Mapping::Upper, &s, &[0x53, 0x53, 0x53, 0x53])?);
-    assert!(rt; maps_to(alloc, &list, Mapping::Fold, &s, &[0x73, 0x73, 0x73, 0x73])?);
+    let list = listed_cased(alloc, &LETTERS)?;
+    for (mapping, s, wanted) in MAPPING_CASES {
+        assert!(rt; maps_to(alloc, &list, mapping, s, wanted)?);
+    }
     Ok(())
 }
 
 #[test]
-fn only_the_first_cased_member_of_a_title_is_a_capital(rt: HostRuntime) -> Result<(), Fail> {
+fn lists_change_by_their_joined_images(rt: HostRuntime) -> Result<(), Fail> {
     let alloc = rt.alloc();
-    let list = listed(alloc, &LETTERS)?;
-    let word = [0x2E, 0xDF, 0x53];
-    assert!(rt;
-        maps_to(
-            alloc,
-            &list,
-            Mapping::Title,
-            &word,
-            &[0x2E, 0x53, 0x73, 0x73]
-        )?
-    );
-    assert!(rt; maps_to(alloc, &list, Mapping::Title, &[0x1C5, 0x53], &[0x1C5, 0x73])?);
-    assert!(rt; maps_to(alloc, &list, Mapping::Title, &[0x2E, 0x2E], &[0x2E, 0x2E])?);
+    let letters = listed_cased(alloc, &LETTERS)?;
+    for (s, wanted) in CHANGE_CASES {
+        assert_eq!(rt; changes(alloc, &letters, s)?, wanted);
+    }
+    let cut = listed_cased(alloc, &CUT_OTHERWISE)?;
+    for (s, wanted) in CUT_CASES {
+        assert_eq!(rt; changes(alloc, &cut, s)?, wanted);
+    }
     Ok(())
 }
 
-/// As DerivedCoreProperties.txt lists them.
-#[test]
-fn the_changes_of_letters(rt: HostRuntime) -> Result<(), Fail> {
-    let alloc = rt.alloc();
-    let list = listed(alloc, &LETTERS)?;
-    assert_eq!(rt;
-        changes(alloc, &list, &[0x0053])?,
-        [true, false, false, true, true]
-    );
-    assert_eq!(rt;
-        changes(alloc, &list, &[0x0073])?,
-        [false, true, true, false, true]
-    );
-    assert_eq!(rt;
-        changes(alloc, &list, &[0x00DF])?,
-        [false, true, true, true, true]
-    );
-    assert_eq!(rt; changes(alloc, &list, &[0x002E])?, [false; 5]);
-    assert_eq!(rt;
-        changes(alloc, &list, &[0x002E, 0x0053])?,
-        [true, false, false, true, true]
-    );
-    assert_eq!(rt; changes(alloc, &list, &[])?, [false; 5]);
-    Ok(())
-}
-
-/// 1000 is mapped to nothing and 1001 to both: the joined images are the list, although no image is that of its point.
-#[test]
-fn images_that_are_cut_otherwise_change_nothing(rt: HostRuntime) -> Result<(), Fail> {
-    let alloc = rt.alloc();
-    let both: &'static [u32] = &[0x1000, 0x1001];
-    let rows: [Row; 2] = [
-        (0x1000, Category::Lu, &[], &[], &[], &[]),
-        (0x1001, Category::Lu, both, both, both, both),
-    ];
-    let list = listed(alloc, &rows)?;
-    assert_eq!(rt; changes(alloc, &list, &[0x1000, 0x1001])?, [false; 5]);
-    assert_eq!(rt; changes(alloc, &list, &[0x1000])?, [true; 5]);
-    assert_eq!(rt; changes(alloc, &list, &[0x1001])?, [true; 5]);
-    Ok(())
+/// Puts APOSTROPHE, which stands in the middle of words.
+fn put_apostrophe(alloc: Global, list: &mut FactList) -> Result<(), Fail> {
+    let c = point(0x0027)?;
+    let mut facts = facts_of(alloc, (0x0027, Category::Po, 0, PLAIN, &[], &[]))?;
+    facts.mid_word = true;
+    Ok(list.push((c, facts))?)
 }
 
 #[test]
 fn which_points_are_cased_and_ignored_around_them(rt: HostRuntime) -> Result<(), Fail> {
     let alloc = rt.alloc();
-    let mut list = listed(alloc, &LETTERS)?;
-    // FEMININE ORDINAL INDICATOR, SOFT HYPHEN, and APOSTROPHE
-    let mut ordinal = Facts::unassigned(alloc, point(0x00AA)?);
-    ordinal.category = Category::Lo;
-    ordinal.flags = Flags::none().with(Flag::OtherLowercase, true);
-    list.push((point(0x00AA)?, ordinal))?;
-    let mut hyphen = Facts::unassigned(alloc, point(0x00AD)?);
-    hyphen.category = Category::Cf;
-    list.push((point(0x00AD)?, hyphen))?;
-    let mut apostrophe = Facts::unassigned(alloc, point(0x0027)?);
-    apostrophe.category = Category::Po;
-    apostrophe.mid_word = true;
-    list.push((point(0x0027)?, apostrophe))?;
+    let mut list = listed_cased(alloc, &LETTERS)?;
+    // FEMININE ORDINAL INDICATOR and SOFT HYPHEN
+    let lowercase = Flags::none().with(Flag::OtherLowercase, true);
+    put_flagged(alloc, &mut list, 0x00AA, Category::Lo, lowercase)?;
+    put_flagged(alloc, &mut list, 0x00AD, Category::Cf, Flags::none())?;
+    put_apostrophe(alloc, &mut list)?;
     for (c, is_one, is_passed) in [
         (0x0053, true, false),
         (0x01C5, true, false),
@@ -247,7 +240,7 @@ fn shown_case<W: FactView>(view: &W, c: Point) -> [bool; 4] {
 
 #[test]
 fn which_facts_are_lowercase_and_uppercase(rt: HostRuntime) -> Result<(), Fail> {
-    let list = listed(rt.alloc(), &LETTERS)?;
+    let list = listed_cased(rt.alloc(), &LETTERS)?;
     assert_eq!(rt;
         shown_case(&list, point(0x0053)?),
         [false, true, true, false]

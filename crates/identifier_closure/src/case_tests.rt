@@ -182,17 +182,21 @@ fn letters_are_mapped(rt: HostRuntime) -> Result<(), Fail> {
     Ok(())
 }
 
+/// Whether of each list just the wanted changes.
+fn are_changed(alloc: Global, list: &FactList, cases: &[ChangeCase]) -> Result<bool, Fail> {
+    for (s, wanted) in cases {
+        if changes(alloc, list, s)? != *wanted {
+            return Ok(false);
+        }
+    }
+    Ok(true)
+}
+
 #[test]
 fn lists_change_by_their_joined_images(rt: HostRuntime) -> Result<(), Fail> {
     let alloc = rt.alloc();
-    let letters = listed_cased(alloc, &LETTERS)?;
-    for (s, wanted) in CHANGE_CASES {
-        assert_eq!(rt; changes(alloc, &letters, s)?, wanted);
-    }
-    let cut = listed_cased(alloc, &CUT_OTHERWISE)?;
-    for (s, wanted) in CUT_CASES {
-        assert_eq!(rt; changes(alloc, &cut, s)?, wanted);
-    }
+    assert!(rt; are_changed(alloc, &listed_cased(alloc, &LETTERS)?, &CHANGE_CASES)?);
+    assert!(rt; are_changed(alloc, &listed_cased(alloc, &CUT_OTHERWISE)?, &CUT_CASES)?);
     Ok(())
 }
 
@@ -204,6 +208,25 @@ fn put_apostrophe(alloc: Global, list: &mut FactList) -> Result<(), Fail> {
     Ok(list.push((c, facts))?)
 }
 
+/// A code point, whether it is cased, and whether it is ignored around cased ones.
+type CasedCase = (u32, bool, bool);
+
+const CASED_CASES: [CasedCase; 6] = [
+    (0x0053, true, false),
+    (0x01C5, true, false),
+    (0x00AA, true, false),
+    (0x00AD, false, true),
+    (0x0027, false, true),
+    (0x0031, false, false),
+];
+
+/// Whether a view tells this of the code point.
+fn is_told(list: &FactList, case: CasedCase) -> Result<bool, Fail> {
+    let (c, is_one, is_passed) = case;
+    let c = point(c)?;
+    Ok(cased(list, c) == is_one && case_ignorable(list, c) == is_passed)
+}
+
 #[test]
 fn which_points_are_cased_and_ignored_around_them(rt: HostRuntime) -> Result<(), Fail> {
     let alloc = rt.alloc();
@@ -213,16 +236,8 @@ fn which_points_are_cased_and_ignored_around_them(rt: HostRuntime) -> Result<(),
     put_flagged(alloc, &mut list, 0x00AA, Category::Lo, lowercase)?;
     put_flagged(alloc, &mut list, 0x00AD, Category::Cf, Flags::none())?;
     put_apostrophe(alloc, &mut list)?;
-    for (c, is_one, is_passed) in [
-        (0x0053, true, false),
-        (0x01C5, true, false),
-        (0x00AA, true, false),
-        (0x00AD, false, true),
-        (0x0027, false, true),
-        (0x0031, false, false),
-    ] {
-        assert_eq!(rt; cased(&list, point(c)?), is_one);
-        assert_eq!(rt; case_ignorable(&list, point(c)?), is_passed);
+    for case in CASED_CASES {
+        assert!(rt; is_told(&list, case)?);
     }
     Ok(())
 }
@@ -241,17 +256,12 @@ fn shown_case<W: FactView>(view: &W, c: Point) -> [bool; 4] {
 #[test]
 fn which_facts_are_lowercase_and_uppercase(rt: HostRuntime) -> Result<(), Fail> {
     let list = listed_cased(rt.alloc(), &LETTERS)?;
-    assert_eq!(rt;
-        shown_case(&list, point(0x0053)?),
-        [false, true, true, false]
-    );
-    assert_eq!(rt;
-        shown_case(&list, point(0x00DF)?),
-        [true, false, true, false]
-    );
-    assert_eq!(rt;
-        shown_case(&list, point(0x01C5)?),
-        [false, false, true, false]
-    );
+    for (c, wanted) in [
+        (0x0053, [false, true, true, false]),
+        (0x00DF, [true, false, true, false]),
+        (0x01C5, [false, false, true, false]),
+    ] {
+        assert!(rt; shown_case(&list, point(c)?) == wanted);
+    }
     Ok(())
 }

@@ -18,18 +18,41 @@ const LETTERS: [Row<'static>; 6] = [
     (0x01C4, 0, COMPAT, &[0x0044, 0x017D]),
 ];
 
-/// Whether an expansion is one by compatibility mappings too, the code point, and its expansion.
-type Case = (bool, u32, &'static [u32]);
+/// Whether an expansion is one by compatibility mappings too, the code point, and the answer: its expansion, or the rule
+/// that it breaks.
+type Case = (bool, u32, Result<&'static [u32], Bad>);
 
 const LETTER_CASES: [Case; 6] = [
-    (false, 0x1E09, &[0x0063, 0x0327, 0x0301]),
-    (false, 0x212B, &[0x0041, 0x030A]),
-    (true, 0x1E09, &[0x0063, 0x0327, 0x0301]),
-    (false, 0x0061, &[0x0061]),
+    (false, 0x1E09, Ok(&[0x0063, 0x0327, 0x0301])),
+    (false, 0x212B, Ok(&[0x0041, 0x030A])),
+    (true, 0x1E09, Ok(&[0x0063, 0x0327, 0x0301])),
+    (false, 0x0061, Ok(&[0x0061])),
     // compatibility mappings count for their expansion alone
-    (false, 0x0132, &[0x0132]),
-    (true, 0x0132, &[0x0049, 0x004A]),
+    (false, 0x0132, Ok(&[0x0132])),
+    (true, 0x0132, Ok(&[0x0049, 0x004A])),
 ];
+
+const HANGUL_CASES: [Case; 1] = [(false, 0xAC01, Ok(&[0x1100, 0x1161, 0x11A8]))];
+
+const SEVEN_CASES: [Case; 3] = [
+    (false, 0x1000, Ok(&[0x1007])),
+    (true, 0x1000, Err(Bad::V2)),
+    (true, 0x1001, Ok(&[0x0061])),
+];
+
+const EIGHT_CASES: [Case; 2] = [
+    (false, 0x1000, Err(Bad::V2)),
+    (false, 0x1001, Ok(&[0x1008])),
+];
+
+const CYCLE: [Row<'static>; 2] = [
+    (0x1000, 0, CANONICAL, &[0x0061, 0x1001]),
+    (0x1001, 0, CANONICAL, &[0x1000]),
+];
+
+const CYCLE_CASES: [Case; 2] = [(false, 0x1000, Err(Bad::V2)), (false, 0x1001, Err(Bad::V2))];
+
+const LONG_CASES: [Case; 2] = [(true, 0x2000, Err(Bad::V3)), (false, 0x2000, Ok(&[0x2000]))];
 
 /// Whether the expansion is exactly these code points.
 fn expands_to(
@@ -48,22 +71,25 @@ fn rule(alloc: Global, list: &FactList, compat: bool, c: u32) -> Result<Option<B
     rule_of(expand(alloc, list, compat, point(c)?))
 }
 
+/// Whether each answer is the wanted one.
+fn are_answered(alloc: Global, list: &FactList, cases: &[Case]) -> Result<bool, Fail> {
+    for (compat, c, wanted) in cases {
+        let same = match wanted {
+            Ok(wanted) => expands_to(alloc, list, *compat, *c, wanted)?,
+            Err(bad) => rule(alloc, list, *compat, *c)? == Some(*bad),
+        };
+        if !same {
+            return Ok(false);
+        }
+    }
+    Ok(true)
+}
+
 #[test]
 fn members_are_expanded_in_turn(rt: HostRuntime) -> Result<(), Fail> {
-    let letters = listed(rt.alloc(), &LETTERS)?;
-    for (compat, c, wanted) in LETTER_CASES {
-        assert!(rt; expands_to(rt.alloc(), &letters, compat, c, wanted)?);
-    }
-    let hangul = listed(rt.alloc(), &HANGUL)?;
-    assert!(rt;
-        expands_to(
-            rt.alloc(),
-            &hangul,
-            false,
-            0xAC01,
-            &[0x1100, 0x1161, 0x11A8]
-        )?
-    );
+    let alloc = rt.alloc();
+    assert!(rt; are_answered(alloc, &listed(alloc, &LETTERS)?, &LETTER_CASES)?);
+    assert!(rt; are_answered(alloc, &listed(alloc, &HANGUL)?, &HANGUL_CASES)?);
     Ok(())
 }
 
@@ -85,27 +111,16 @@ fn chain(alloc: Global, links: u8) -> Result<FactList, Fail> {
 
 #[test]
 fn a_chain_has_at_most_seven_mappings(rt: HostRuntime) -> Result<(), Fail> {
-    let seven = chain(rt.alloc(), 7)?;
-    assert!(rt; expands_to(rt.alloc(), &seven, false, 0x1000, &[0x1007])?);
-    assert_eq!(rt; rule(rt.alloc(), &seven, true, 0x1000)?, Some(Bad::V2));
-    assert!(rt; expands_to(rt.alloc(), &seven, true, 0x1001, &[0x0061])?);
-    let eight = chain(rt.alloc(), 8)?;
-    assert_eq!(rt; rule(rt.alloc(), &eight, false, 0x1000)?, Some(Bad::V2));
-    assert_eq!(rt; rule(rt.alloc(), &eight, false, 0x1001)?, None);
+    let alloc = rt.alloc();
+    assert!(rt; are_answered(alloc, &chain(alloc, 7)?, &SEVEN_CASES)?);
+    assert!(rt; are_answered(alloc, &chain(alloc, 8)?, &EIGHT_CASES)?);
     Ok(())
 }
 
 #[test]
 fn a_cycle_has_no_expansion(rt: HostRuntime) -> Result<(), Fail> {
-    let mut list = listed(rt.alloc(), &LETTERS)?;
-    put(
-        rt.alloc(),
-        &mut list,
-        (0x1000, 0, CANONICAL, &[0x0061, 0x1001]),
-    )?;
-    put(rt.alloc(), &mut list, (0x1001, 0, CANONICAL, &[0x1000]))?;
-    assert_eq!(rt; rule(rt.alloc(), &list, false, 0x1000)?, Some(Bad::V2));
-    assert_eq!(rt; rule(rt.alloc(), &list, false, 0x1001)?, Some(Bad::V2));
+    let alloc = rt.alloc();
+    assert!(rt; are_answered(alloc, &listed(alloc, &CYCLE)?, &CYCLE_CASES)?);
     Ok(())
 }
 
@@ -117,26 +132,26 @@ fn doubled(alloc: Global, times: u32) -> Result<FactList, Fail> {
     Ok(list)
 }
 
+/// How many code points the expansion of 2000 has.
+fn expanded_length(alloc: Global, list: &FactList) -> Result<usize, Fail> {
+    Ok(expand(alloc, list, true, point(0x2000)?)?.len())
+}
+
 #[test]
 fn an_expansion_has_at_most_64_points(rt: HostRuntime) -> Result<(), Fail> {
-    let most = doubled(rt.alloc(), 32)?;
-    assert_eq!(rt; expand(rt.alloc(), &most, true, point(0x2000)?)?.len(), 64);
-    let more = doubled(rt.alloc(), 33)?;
-    assert_eq!(rt; rule(rt.alloc(), &more, true, 0x2000)?, Some(Bad::V3));
-    assert_eq!(rt; rule(rt.alloc(), &more, false, 0x2000)?, None);
+    let alloc = rt.alloc();
+    assert!(rt; expanded_length(alloc, &doubled(alloc, 32)?)? == 64);
+    assert!(rt; are_answered(alloc, &doubled(alloc, 33)?, &LONG_CASES)?);
     Ok(())
 }
 
 #[test]
 fn a_long_chain_is_named_before_a_long_expansion(rt: HostRuntime) -> Result<(), Fail> {
-    let mut list = doubled(rt.alloc(), 64)?;
-    put(
-        rt.alloc(),
-        &mut list,
-        (0x3000, 0, COMPAT, &[0x2000, 0x3001]),
-    )?;
-    assert_eq!(rt; rule(rt.alloc(), &list, true, 0x3000)?, Some(Bad::V3));
-    put(rt.alloc(), &mut list, (0x3001, 0, COMPAT, &[0x3001]))?;
-    assert_eq!(rt; rule(rt.alloc(), &list, true, 0x3000)?, Some(Bad::V2));
+    let alloc = rt.alloc();
+    let mut list = doubled(alloc, 64)?;
+    put(alloc, &mut list, (0x3000, 0, COMPAT, &[0x2000, 0x3001]))?;
+    assert!(rt; are_answered(alloc, &list, &[(true, 0x3000, Err(Bad::V3))])?);
+    put(alloc, &mut list, (0x3001, 0, COMPAT, &[0x3001]))?;
+    assert!(rt; are_answered(alloc, &list, &[(true, 0x3000, Err(Bad::V2))])?);
     Ok(())
 }

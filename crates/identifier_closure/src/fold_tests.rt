@@ -173,25 +173,41 @@ fn ignored<W: FactView>(view: &W, c: Point) -> [bool; 2] {
     ]
 }
 
-#[test]
-fn some_format_characters_are_shown(rt: HostRuntime) -> Result<(), Fail> {
-    let alloc = rt.alloc();
-    let mut list = FactList::new(alloc);
+/// Format characters and marks, and a letter that is not listed, with whether they are ignored.
+const FORMAT_CASES: [(u32, bool); 7] = [
+    (0x00AD, true),
+    (0x180B, true),
+    (0x034F, true),
+    (0xFFF9, false),
+    (0x13430, false),
+    (0x0600, false),
+    (0x0061, false),
+];
+
+fn put_formats(alloc: Global, list: &mut FactList) -> Result<(), Fail> {
     let prepended = Flags::none().with(Flag::PrependedConcatenationMark, true);
     let selector = Flags::none().with(Flag::VariationSelector, true);
     let other = Flags::none().with(Flag::OtherDefaultIgnorableCodePoint, true);
-    put_flagged(alloc, &mut list, 0x00AD, Category::Cf, Flags::none())?;
-    put_flagged(alloc, &mut list, 0xFFF9, Category::Cf, Flags::none())?;
-    put_flagged(alloc, &mut list, 0x13430, Category::Cf, Flags::none())?;
-    put_flagged(alloc, &mut list, 0x0600, Category::Cf, prepended)?;
-    put_flagged(alloc, &mut list, 0x180B, Category::Mn, selector)?;
-    put_flagged(alloc, &mut list, 0x034F, Category::Mn, other)?;
-    for c in [0x00AD, 0x180B, 0x034F] {
-        assert!(rt; ignored(&list, point(c)?) == [true, true]);
+    put_flagged(alloc, list, 0x00AD, Category::Cf, Flags::none())?;
+    put_flagged(alloc, list, 0xFFF9, Category::Cf, Flags::none())?;
+    put_flagged(alloc, list, 0x13430, Category::Cf, Flags::none())?;
+    put_flagged(alloc, list, 0x0600, Category::Cf, prepended)?;
+    put_flagged(alloc, list, 0x180B, Category::Mn, selector)?;
+    put_flagged(alloc, list, 0x034F, Category::Mn, other)
+}
+
+#[test]
+fn some_format_characters_are_shown(rt: HostRuntime) -> Result<(), Fail> {
+    let mut list = FactList::new(rt.alloc());
+    put_formats(rt.alloc(), &mut list)?;
+    for (c, wanted) in FORMAT_CASES {
+        assert!(rt; ignored(&list, point(c)?) == [wanted, wanted]);
     }
-    for c in [0xFFF9, 0x13430, 0x0600, 0x0061] {
-        assert!(rt; ignored(&list, point(c)?) == [false, false]);
-    }
+    Ok(())
+}
+
+#[test]
+fn the_last_annotation_character_is_shown(rt: HostRuntime) -> Result<(), Fail> {
     assert!(rt; is_visible_format(point(0xFFFB)?));
     assert!(rt; !is_visible_format(point(0xFFFC)?));
     Ok(())

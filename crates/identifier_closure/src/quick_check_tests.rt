@@ -43,17 +43,21 @@ fn four(alloc: Global, list: &FactList, c: u32) -> Result<[Quick; 4], Fail> {
     ])
 }
 
+/// Whether the quick checks of each code point are the wanted ones.
+fn are_checked(alloc: Global, list: &FactList, cases: &[Case]) -> Result<bool, Fail> {
+    for (c, wanted) in cases {
+        if four(alloc, list, *c)? != *wanted {
+            return Ok(false);
+        }
+    }
+    Ok(true)
+}
+
 #[test]
 fn letters_and_syllables_are_checked(rt: HostRuntime) -> Result<(), Fail> {
     let alloc = rt.alloc();
-    let letters = listed(alloc, &LETTERS)?;
-    for (c, wanted) in LETTER_CASES {
-        assert!(rt; four(alloc, &letters, c)? == wanted);
-    }
-    let hangul = listed(alloc, &HANGUL)?;
-    for (c, wanted) in HANGUL_CASES {
-        assert!(rt; four(alloc, &hangul, c)? == wanted);
-    }
+    assert!(rt; are_checked(alloc, &listed(alloc, &LETTERS)?, &LETTER_CASES)?);
+    assert!(rt; are_checked(alloc, &listed(alloc, &HANGUL)?, &HANGUL_CASES)?);
     Ok(())
 }
 

@@ -80,11 +80,14 @@ fn a_point_with_rows_in_every_file(rt: HostRuntime) -> Result<(), Fail> {
         b"0149; T; 0041;\n0149; F; 02BC 006E;\n0148; C; 0148;\n",
         b"0149; 0149; 02BC 004E; 02BC 004E; tr;\n0149; 0149; 02BC 004E; 02BC 004F;\n",
     )?;
-    let c = point(0x149)?;
-    assert!(rt; has_values_of_0149(&tables.facts(c)));
-    assert!(rt; has_flags_of_0149(&tables.facts(c)));
-    assert!(rt; has_images_of_0149(&tables.facts(c)));
+    assert!(rt; shows_0149(&*tables)?);
     Ok(())
+}
+
+/// Whether a view shows the facts of 0149.
+fn shows_0149<W: FactView>(view: &W) -> Result<bool, Fail> {
+    let facts = view.facts(point(0x149)?);
+    Ok(has_values_of_0149(&facts) && has_flags_of_0149(&facts) && has_images_of_0149(&facts))
 }
 
 fn has_values_of_0149(facts: &FactsRef<'_>) -> bool {
@@ -124,6 +127,11 @@ fn is_plain(tables: &Tables, number: u32) -> Result<bool, Fail> {
     Ok(facts.kind == Kind::Plain && facts.mapping.is_empty())
 }
 
+/// Whether a consonant and the neighbours of the block have no mapping.
+fn are_plain(tables: &Tables) -> Result<bool, Fail> {
+    Ok(is_plain(tables, 0x1100)? && is_plain(tables, 0xABFF)? && is_plain(tables, 0xD7A4)?)
+}
+
 #[test]
 fn syllables_have_their_mappings(rt: HostRuntime) -> Result<(), Fail> {
     let tables = tables(
@@ -142,9 +150,7 @@ fn syllables_have_their_mappings(rt: HostRuntime) -> Result<(), Fail> {
     ] {
         assert!(rt; maps_to(&tables, syllable, first, second)?);
     }
-    for other in [0x1100, 0xABFF, 0xD7A4] {
-        assert!(rt; is_plain(&tables, other)?);
-    }
+    assert!(rt; are_plain(&tables)?);
     Ok(())
 }
 
@@ -158,13 +164,26 @@ fn composites_are_found(rt: HostRuntime) -> Result<(), Fail> {
         b"",
         b"",
     )?;
-    assert!(rt; pairs_to(&tables, 0x6E, 0x30C, 0x148)?);
-    assert!(rt; pairs_to(&tables, 0x4E, 0x30C, 0x147)?);
-    // 0149 is excluded
-    assert!(rt; tables.pair(point(0x41)?, point(0x300)?).is_none());
-    assert!(rt; tables.second(point(0x30C)?));
-    assert!(rt; !tables.second(point(0x300)?));
+    assert!(rt; pairs_are_found(&tables)?);
+    assert!(rt; seconds_are_found(&tables)?);
     Ok(())
+}
+
+/// Whether the pairs of 0147 and 0148 are found, and that of 0149, which is excluded, is not.
+fn pairs_are_found(tables: &Tables) -> Result<bool, Fail> {
+    let excluded = tables.pair(point(0x41)?, point(0x300)?);
+    Ok(
+        pairs_to(tables, 0x6E, 0x30C, 0x148)?
+            && pairs_to(tables, 0x4E, 0x30C, 0x147)?
+            && excluded.is_none(),
+    )
+}
+
+/// Whether 030C is a second member, and 0300 is none.
+fn seconds_are_found(tables: &Tables) -> Result<bool, Fail> {
+    let caron = tables.second(point(0x30C)?);
+    let grave = tables.second(point(0x300)?);
+    Ok(caron && !grave)
 }
 
 /// Whether the pair of two code points is the third, also in the view of the facts now.

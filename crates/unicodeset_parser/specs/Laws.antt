@@ -9,7 +9,6 @@
 -- FirstFault e ps fault      the tokens are no text. Either the tokens before some token begin a text, and no text begins with it too, and the
 --                            fault stands there; or all of them begin a text, and the fault is S2 at the end
 -- FaultsAreFirst             what is refused has its first fault
--- NotUtf8                    S1 comes exactly where the text is not UTF-8, at the greatest place to which it is
 use Rattle.std.specs.Prelude.{◌≡◌, ◌↔◌, ◌⊎◌, ℕ, List, [], ◌∷◌, ◌++◌, Ok, Err}
 use Rattle.unicodeset_parser.specs.Grammar.{IsText}
 use Rattle.unicodeset_parser.specs.Machine.{Fault, fault, before, run}

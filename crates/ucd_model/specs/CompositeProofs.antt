@@ -1,6 +1,8 @@
 -- Proofs of the laws of primary composites, over the points below a variable bound.
 --
 -- pair_is_least, pair_is_only, second_is_exact   the laws of the same names
+-- Least p a b r     r is the least number from a on and below b that passes the test p; None, and none of them does
+-- find_least        what the search among n numbers from a on finds is the least of them
 -- find_first        where q, below n, passes a test and no number below q does, the search among the numbers below n finds q
 -- find_none_below   where no number below n passes, it finds none
 -- pair_of_first     where q composes s and y and no number below q does, the pair of s and y is q
@@ -18,8 +20,7 @@ use Rattle.ucd_model.specs.CompositeLaws.{Composes, IsPair, IsSecond, PairIsLeas
 
 -- ---- the least number that passes a test
 
--- r is the least number from a on and below b that passes
-abbrev Least : (ℕ → Bool) → ℕ → ℕ → Option ℕ → Type 0
+abbrev pub Least : (ℕ → Bool) → ℕ → ℕ → Option ℕ → Type 0
 Least p a b None = (k : ℕ) → a ≤ k → k < b → p k ≡ false
 Least p a b (Some q) = (a ≤ q) × (q < b) × (p q ≡ true) × ((k : ℕ) → a ≤ k → k < q → p k ≡ false)
 
@@ -49,7 +50,7 @@ Least_step : (p : ℕ → Bool) (a b : ℕ) (r : Option ℕ) → a < b → Least
 Least_step p a b r lt least true here = Least_here p a b lt here
 Least_step p a b r lt least false here = Least_next p a b r here least
 
-find_least : (p : ℕ → Bool) (a n b : ℕ) → a + n ≡ b → Least p a b (find p (range_with_len a n))
+pub find_least : (p : ℕ → Bool) (a n b : ℕ) → a + n ≡ b → Least p a b (find p (range_with_len a n))
 find_least p a zero b e = λ k from below. absurd (omega arith)
 find_least p a (suc n) b e = Least_step p a b (find p (range_with_len (a + 1) n)) (omega arith) (find_least p (a + 1) n b (omega arith)) (p a) refl
 

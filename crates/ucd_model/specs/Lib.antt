@@ -27,6 +27,8 @@ pub mod QuickChecks
 pub mod FoldRounds
 pub mod Identifiers
 pub mod Validity
+pub mod ValidityLaws
+pub mod ValidityProofs
 pub mod Uniform
 pub mod Labels
 pub mod DerivedText

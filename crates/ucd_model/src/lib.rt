@@ -22,6 +22,7 @@ mod row;
 mod sets;
 mod span;
 mod steps;
+pub mod validity_laws;
 mod view;
 
 pub use category::Category;

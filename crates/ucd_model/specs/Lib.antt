@@ -39,6 +39,10 @@ pub mod LabelLaws
 pub mod LabelLawProofs
 pub mod HexTextLaws
 pub mod HexTextProofs
+pub mod Enumerations
+pub mod EnumerationProofs
+pub mod NameLaws
+pub mod NameProofs
 pub mod FactsLaws
 pub mod FactsLemmas
 pub mod Examples

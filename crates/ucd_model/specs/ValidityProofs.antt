@@ -9,10 +9,10 @@
 -- broken-rules          a code point that breaks no rule keeps each of them
 -- first_broken-valid    in a valid release no code point is found
 -- first_broken-least    the least code point without a record is found, with its first rule
-use Rattle.std.proofs.Common.{◌≡◌, ℕ, zero, suc, ◌+◌, ◌<◌, ◌≤◌, Bool, true, false, ◌&&◌, ◌||◌, ◌==◌, not, if◌then◌else◌, ◌≢◌, List, [], ◌∷◌, length, slice_index_or, Option, Some, None, is_some, Result, Ok, Err, find, refl, sym, ap, subst, ◌∙◌, arith, ◌⊎◌, inl, inr}
+use Rattle.std.proofs.Common.{◌≡◌, ℕ, zero, suc, ◌<◌, Bool, true, false, if◌then◌else◌, ◌≢◌, List, [], ◌∷◌, length, slice_index_or, Option, Some, None, is_some, Ok, Err, find, refl, sym, ap, subst, ◌∙◌, arith, ◌⊎◌, inl, inr}
 use Rattle.std.specs.List.{Contains, range_with_len}
 use Rattle.std.specs.Option.{option_map}
-use Rattle.std.proofs.lemmas.Bool.{cases_lt, and_parts, and_from, or_parts, or_cases, or_left, or_right, both_ways, true≢false, true_from_ne_false, false_from_ne_true}
+use Rattle.std.proofs.lemmas.Bool.{cases_lt, and_parts, and_from, or_parts, true≢false}
 use Rattle.std.proofs.lemmas.Bool.Decides.{nat_tests}
 use Rattle.ucd_model.specs.Limits.{point_count}
 use Rattle.ucd_model.specs.Facts.{Facts}
@@ -258,7 +258,7 @@ module _ (F : ℕ → Facts) where
   hidden_shown : (c : ℕ) → HasLesser F c → is_hidden F c ≡ true
   hidden_shown c (s, y, q, own, lesser, lt) =
       and_from (primary F c) (is_other c (composite_of F (F c).mapping)) own.primary
-          (ap (λ m. is_other c (composite_of F m)) own.mapping ∙ other_pair s y c q (pair_of F s y) (pair_is_least F s y) lesser lt)
+      (ap (λ m. is_other c (composite_of F m)) own.mapping ∙ other_pair s y c q (pair_of F s y) (pair_is_least F s y) lesser lt)
 
   none_lesser : IsValid F → (s y q r : ℕ) → Composes F s y q → Composes F s y r → q < r → ⊥
   none_lesser valid s y q r first second lt =

@@ -5,6 +5,7 @@ mod bits;
 mod category;
 pub mod composite_laws;
 mod decomposition;
+pub mod enumeration_laws;
 mod fact_list;
 mod facts;
 pub mod facts_laws;

@@ -1,0 +1,57 @@
+-- The laws of the names of values, properties and files, and of the labels under which the derived files list values.
+--
+-- HasPoints i          the points of an image are code points
+--
+-- CategoriesAreSpelled the two bytes that name a category are its code, and no code names Cn
+-- StatusesAreSpelled   the byte that names a status is its code
+-- TagTextsAreNames     the text of a tag is its name between `<` and `>`
+-- NamesTellValues      two values with one name are one: categories, statuses, tags, properties and files
+-- LabelsTellValues     two values with one label are one: categories, classes, kinds, quick checks, images, and whether a point has
+--                      a property
+use Rattle.std.specs.Prelude.{◌≡◌, ◌≢◌, ◌↔◌, ℕ, ◌≤◌, Bool, List, [], ◌∷◌, ◌++◌, Some, ⊤, codes}
+use Rattle.std.specs.List.{All}
+use Rattle.ucd_model.specs.Names.{category_of, category_code, status_of, status_code, tag_text, tag_name, flag_name, core_name, source_path, derived_path}
+use Rattle.ucd_model.specs.DerivedFiles.{binary_label, category_label, class_label, kind_label, quick_label, casefold_label}
+use Rattle.ucd_model.specs.RowValues.{IsPoint}
+use Rattle.ucd_model.specs.declared.category.Category.{Category}
+use Rattle.ucd_model.specs.declared.category.Category.TheVariants.{Cn}
+use Rattle.ucd_model.specs.declared.decomposition.Kind.{Kind}
+use Rattle.ucd_model.specs.declared.decomposition.Tag.{Tag}
+use Rattle.ucd_model.specs.declared.files.SourceFile.{SourceFile}
+use Rattle.ucd_model.specs.declared.files.DerivedFile.{DerivedFile}
+use Rattle.ucd_model.specs.declared.form.Quick.{Quick}
+use Rattle.ucd_model.specs.declared.image.Image.{Image}
+use Rattle.ucd_model.specs.declared.image.Image.TheVariants.{Same, To}
+use Rattle.ucd_model.specs.declared.property.Flag.{Flag}
+use Rattle.ucd_model.specs.declared.property.Core.{Core}
+use Rattle.ucd_model.specs.declared.row.FoldStatus.{FoldStatus}
+
+abbrev pub HasPoints : Image → Type 0
+HasPoints Same = ⊤
+HasPoints (To points) = All IsPoint points
+
+abbrev pub CategoriesAreSpelled : Type 0
+CategoriesAreSpelled = (bs : List ℕ) (k : Category) → (category_of bs ≡ Some k) ↔ ((k ≢ Cn) × (bs ≡ category_code k))
+
+abbrev pub StatusesAreSpelled : Type 0
+StatusesAreSpelled = (bs : List ℕ) (s : FoldStatus) → (status_of bs ≡ Some s) ↔ (bs ≡ status_code s ∷ [])
+
+abbrev pub TagTextsAreNames : Type 0
+TagTextsAreNames = (t : Tag) → tag_text t ≡ codes "<" ++ tag_name t ++ codes ">"
+
+pub record NamesTellValues : Type 0 where
+  pub category : (a b : Category) → category_code a ≡ category_code b → a ≡ b
+  pub status : (a b : FoldStatus) → status_code a ≡ status_code b → a ≡ b
+  pub tag : (a b : Tag) → tag_name a ≡ tag_name b → a ≡ b
+  pub flag : (a b : Flag) → flag_name a ≡ flag_name b → a ≡ b
+  pub core : (a b : Core) → core_name a ≡ core_name b → a ≡ b
+  pub source : (a b : SourceFile) → source_path a ≡ source_path b → a ≡ b
+  pub derived : (a b : DerivedFile) → derived_path a ≡ derived_path b → a ≡ b
+
+pub record LabelsTellValues : Type 0 where
+  pub category : (a b : Category) → category_label a ≡ category_label b → a ≡ b
+  pub class : (m n : ℕ) → m ≤ 254 → n ≤ 254 → class_label m ≡ class_label n → m ≡ n
+  pub kind : (a b : Kind) → kind_label a ≡ kind_label b → a ≡ b
+  pub quick : (name : List ℕ) (a b : Quick) → quick_label name a ≡ quick_label name b → a ≡ b
+  pub image : (i j : Image) → HasPoints i → HasPoints j → casefold_label i ≡ casefold_label j → i ≡ j
+  pub binary : (name : List ℕ) (a b : Bool) → binary_label name a ≡ binary_label name b → a ≡ b

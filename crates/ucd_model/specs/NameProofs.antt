@@ -1,0 +1,263 @@
+-- Proofs of the laws of names and labels. No word but those of the laws is defined here for others.
+--
+-- categories_are_spelled, statuses_are_spelled, tag_texts_are_names, names_tell_values, labels_tell_values
+--                      the laws of the same names
+-- mapping_text-injective   two mappings of one code point or more with one text are one
+use Rattle.std.proofs.Common.{◌≡◌, ◌≢◌, ℕ, ◌≤◌, Bool, true, false, ◌&&◌, ◌||◌, not, ◌==◌, if◌then◌else◌, List, [], ◌∷◌, ◌++◌, map, Option, Some, None, refl, sym, ap, ◌∙◌, arith, ◌⊎◌, inl, inr, codes}
+use Rattle.std.specs.Fmt.{decimal}
+use Rattle.std.specs.List.{All, list_all, slice_split, join_with_byte}
+use Rattle.std.specs.Str.{bytes_eq}
+use Rattle.std.proofs.lemmas.Bool.{true≢false, and_parts, or_cases, eqb-true, ne_eqb, not-true, cases_eq}
+use Rattle.std.proofs.lemmas.Fmt.{decimal_injective}
+use Rattle.std.proofs.lemmas.List.{append_cancel_left}
+use Rattle.std.proofs.lemmas.List.Elements.{All-weaker, All-head, All-tail}
+use Rattle.std.proofs.lemmas.List.Splits.{slice_split_none, slice_split_at}
+use Rattle.std.proofs.lemmas.Slice.Eq.{bytes_eq-Decides}
+use Rattle.ucd_model.specs.Fields.{point_of}
+use Rattle.ucd_model.specs.Names.{category_of, category_code, status_of, status_code, tag_text, tag_name, flag_name, core_name, source_path, derived_path}
+use Rattle.ucd_model.specs.Labels.{Label}
+use Rattle.ucd_model.specs.DerivedText.{hex_text}
+use Rattle.ucd_model.specs.DerivedFiles.{listed, binary_label, category_label, class_label, kind_label, quick_label, casefold_label, derived_files}
+use Rattle.ucd_model.specs.HexTextLaws.{IsUpperHex}
+use Rattle.ucd_model.specs.HexTextProofs.{hex_text_is_upper_case, hex_text_spells_its_point}
+use Rattle.ucd_model.specs.RowTexts.{mapping_text}
+use Rattle.ucd_model.specs.RowValues.{IsPoint}
+use Rattle.ucd_model.specs.Facts.{status_place}
+use Rattle.ucd_model.specs.Predicates.{category_place, core_properties}
+use Rattle.ucd_model.specs.Sets.{flag_place, core_place}
+use Rattle.ucd_model.specs.SourceFiles.{source_files, file_place}
+use Rattle.ucd_model.specs.Enumerations.{categories, statuses, tags, place_of_tag, kinds, place_of_kind, flags, place_of_derived}
+use Rattle.ucd_model.specs.EnumerationProofs.{enumerates_categories, enumerates_statuses, enumerates_tags, enumerates_kinds, enumerates_flags, enumerates_core_properties, enumerates_source_files, enumerates_derived_files, true_of_each, place-injective, text-injective}
+use Rattle.ucd_model.specs.NameLaws.{HasPoints, CategoriesAreSpelled, StatusesAreSpelled, TagTextsAreNames, NamesTellValues, LabelsTellValues}
+use Rattle.ucd_model.specs.declared.category.Category.{Category}
+use Rattle.ucd_model.specs.declared.category.Category.TheVariants.{Lu, Ll, Lt, Lm, Lo, Mn, Mc, Me, Nd, Nl, No, Pc, Pd, Ps, Pe, Pi, Pf, Po, Sm, Sc, Sk, So, Zs, Zl, Zp, Cc, Cf, Cs, Co, Cn}
+use Rattle.ucd_model.specs.declared.form.Quick.{Quick}
+use Rattle.ucd_model.specs.declared.form.Quick.TheVariants.{Yes, No as NoValue, Maybe}
+use Rattle.ucd_model.specs.declared.image.Image.{Image}
+use Rattle.ucd_model.specs.declared.image.Image.TheVariants.{Same, To}
+use Rattle.ucd_model.specs.declared.row.FoldStatus.{FoldStatus}
+use Rattle.ucd_model.specs.declared.row.FoldStatus.TheVariants as status
+
+-- ---- what a ladder of tests gives: a list of numbers, each with its value
+
+some_same : {X : Type 0} (a b : X) → Some a ≡ Some b → a ≡ b
+some_same a b e = cc
+
+if_some : {X : Type 0} (a n : ℕ) (r s : Option X) (x : X) (t : Bool) → (a == n) ≡ t → (if t then r else s) ≡ Some x → ((a ≡ n) × (r ≡ Some x)) ⊎ (s ≡ Some x)
+if_some a n r s x true e is = inl (eqb-true a n e, is)
+if_some a n r s x false e is = inr is
+
+abbrev named : {X : Type 0} → List (ℕ × X) → ℕ → Option X
+named [] b = None
+named (e ∷ rest) b = if b == e.0 then Some e.1 else named rest b
+
+named-true : {X : Type 0} (p : ℕ → X → Bool) (ladder : List (ℕ × X)) (b : ℕ) (x : X) → list_all (λ e. p e.0 e.1) ladder ≡ true → named ladder b ≡ Some x → p b x ≡ true
+named-true p [] b x all is = cc
+named-true p (e ∷ rest) b x all is =
+    let parts = and_parts (p e.0 e.1) (list_all (λ e. p e.0 e.1) rest) all in
+    elim (if_some b e.0 (Some e.1) (named rest b) x (b == e.0) refl is) [
+      | inl here ↦ ap (λ n. p n x) here.0 ∙ ap (p e.0) (sym (some_same e.1 x here.1)) ∙ parts.0
+      | inr later ↦ named-true p rest b x parts.1 later
+    ]
+
+abbrev grouped : {X : Type 0} → List (ℕ × List (ℕ × X)) → ℕ → ℕ → Option X
+grouped [] a b = None
+grouped (g ∷ rest) a b = if a == g.0 then named g.1 b else grouped rest a b
+
+grouped-true : {X : Type 0} (p : ℕ → ℕ → X → Bool) (groups : List (ℕ × List (ℕ × X))) (a b : ℕ) (x : X) → list_all (λ g. list_all (λ e. p g.0 e.0 e.1) g.1) groups ≡ true
+    → grouped groups a b ≡ Some x → p a b x ≡ true
+grouped-true p [] a b x all is = cc
+grouped-true p (g ∷ rest) a b x all is =
+    let parts = and_parts (list_all (λ e. p g.0 e.0 e.1) g.1) (list_all (λ g. list_all (λ e. p g.0 e.0 e.1) g.1) rest) all in
+    elim (if_some a g.0 (named g.1 b) (grouped rest a b) x (a == g.0) refl is) [
+      | inl here ↦ ap (λ n. p n b x) here.0 ∙ named-true (p g.0) g.1 b x parts.0 here.1
+      | inr later ↦ grouped-true p rest a b x parts.1 later
+    ]
+
+-- ---- categories
+
+abbrev category_ladders : List (ℕ × List (ℕ × Category))
+category_ladders =
+    (76, (117, Lu) ∷ (108, Ll) ∷ (116, Lt) ∷ (109, Lm) ∷ (111, Lo) ∷ []) ∷ (77, (110, Mn) ∷ (99, Mc) ∷ (101, Me) ∷ [])
+    ∷ (78, (100, Nd) ∷ (108, Nl) ∷ (111, No) ∷ [])
+    ∷ (80, (99, Pc) ∷ (100, Pd) ∷ (115, Ps) ∷ (101, Pe) ∷ (105, Pi) ∷ (102, Pf) ∷ (111, Po) ∷ [])
+    ∷ (83, (109, Sm) ∷ (99, Sc) ∷ (107, Sk) ∷ (111, So) ∷ []) ∷ (90, (115, Zs) ∷ (108, Zl) ∷ (112, Zp) ∷ [])
+    ∷ (67, (99, Cc) ∷ (102, Cf) ∷ (115, Cs) ∷ (111, Co) ∷ []) ∷ []
+
+abbrev spells_category : ℕ → ℕ → Category → Bool
+spells_category a b k = bytes_eq (a ∷ b ∷ []) (category_code k) && not (category_place k == 29)
+
+ladders_spell : (a b : ℕ) (k : Category) → category_of (a ∷ b ∷ []) ≡ Some k → spells_category a b k ≡ true
+ladders_spell a b k is = grouped-true spells_category category_ladders a b k refl is
+
+category_spelled : (bs : List ℕ) (k : Category) → category_of bs ≡ Some k → (k ≢ Cn) × (bs ≡ category_code k)
+category_spelled [] k is = cc
+category_spelled (a ∷ []) k is = cc
+category_spelled (a ∷ b ∷ c ∷ bs) k is = cc
+category_spelled (a ∷ b ∷ []) k is =
+    let parts = and_parts (bytes_eq (a ∷ b ∷ []) (category_code k)) (not (category_place k == 29)) (ladders_spell a b k is) in
+    (λ last. true≢false (sym (ap (λ j. category_place j == 29) last) ∙ not-true (category_place k == 29) parts.1), (bytes_eq-Decides (a ∷ b ∷ []) (category_code k)).0 parts.0)
+
+abbrev is_place_of : Option Category → Category → Bool
+is_place_of None k = false
+is_place_of (Some j) k = category_place j == category_place k
+
+is_place_of-some : (o : Option Category) (k : Category) → is_place_of o k ≡ true → o ≡ Some k
+is_place_of-some None k e = absurd (true≢false (sym e))
+is_place_of-some (Some j) k e = ap (λ (x : Category). Some x) (place-injective categories category_place enumerates_categories j k (eqb-true (category_place j) (category_place k) e))
+
+abbrev is_named : Category → Bool
+is_named k = (category_place k == 29) || is_place_of (category_of (category_code k)) k
+
+code_names : (k : Category) → k ≢ Cn → category_of (category_code k) ≡ Some k
+code_names k other =
+    elim (or_cases (category_place k == 29) (is_place_of (category_of (category_code k)) k) (true_of_each categories category_place enumerates_categories is_named refl k)) [
+      | inl last ↦ absurd (other (place-injective categories category_place enumerates_categories k Cn (eqb-true (category_place k) 29 last)))
+      | inr own ↦ is_place_of-some (category_of (category_code k)) k own
+    ]
+
+pub categories_are_spelled : CategoriesAreSpelled
+categories_are_spelled bs k = (category_spelled bs k, λ is. ap category_of is.1 ∙ code_names k is.0)
+
+-- ---- statuses
+
+abbrev status_ladder : List (ℕ × FoldStatus)
+status_ladder = (67, status.C) ∷ (70, status.F) ∷ (83, status.S) ∷ (84, status.T) ∷ []
+
+status_spelled : (bs : List ℕ) (s : FoldStatus) → status_of bs ≡ Some s → bs ≡ status_code s ∷ []
+status_spelled [] s is = cc
+status_spelled (a ∷ b ∷ bs) s is = cc
+status_spelled (b ∷ []) s is = ap (λ n. n ∷ []) (eqb-true b (status_code s) (named-true (λ n x. n == status_code x) status_ladder b s refl is))
+
+code_is_status : (s : FoldStatus) → status_of (status_code s ∷ []) ≡ Some s
+code_is_status status.C = refl
+code_is_status status.F = refl
+code_is_status status.S = refl
+code_is_status status.T = refl
+
+pub statuses_are_spelled : StatusesAreSpelled
+statuses_are_spelled bs s = (status_spelled bs s, λ is. ap status_of is ∙ code_is_status s)
+
+-- ---- names
+
+pub tag_texts_are_names : TagTextsAreNames
+tag_texts_are_names t =
+    (bytes_eq-Decides (tag_text t) (codes "<" ++ tag_name t ++ codes ">")).0
+    (true_of_each tags place_of_tag enumerates_tags (λ x. bytes_eq (tag_text x) (codes "<" ++ tag_name x ++ codes ">")) refl t)
+
+pub names_tell_values : NamesTellValues
+names_tell_values = record {
+  category = text-injective categories category_place category_code enumerates_categories refl;
+  status = λ a b e. text-injective statuses status_place (λ s. status_code s ∷ []) enumerates_statuses refl a b (ap (λ n. n ∷ []) e);
+  tag = text-injective tags place_of_tag tag_name enumerates_tags refl;
+  flag = text-injective flags flag_place flag_name enumerates_flags refl;
+  core = text-injective core_properties core_place core_name enumerates_core_properties refl;
+  source = text-injective source_files file_place source_path enumerates_source_files refl;
+  derived = text-injective derived_files place_of_derived derived_path enumerates_derived_files refl;
+}
+
+-- ---- labels
+
+abbrev text_of : Label → List ℕ
+text_of None = []
+text_of (Some text) = text
+
+class_zero : (n : ℕ) → n ≢ 0 → class_label n ≡ listed (decimal n)
+class_zero n other = rw (ne_eqb n 0 other) refl
+
+class_told : (m n : ℕ) → m ≤ 254 → n ≤ 254 → class_label m ≡ class_label n → m ≡ n
+class_told m n small below e =
+    elim (cases_eq m 0) [
+      | inl zero ↦ elim (cases_eq n 0) [
+        | inl none ↦ zero ∙ sym none
+        | inr other ↦ let wrong : None ≡ listed (decimal n) = sym (ap class_label zero) ∙ e ∙ class_zero n other in cc
+      ]
+      | inr some ↦ elim (cases_eq n 0) [
+        | inl none ↦ let wrong : listed (decimal m) ≡ None = sym (class_zero m some) ∙ e ∙ ap class_label none in cc
+        | inr other ↦ decimal_injective m n (omega (arith, small)) (omega (arith, below))
+            (append_cancel_left (codes " ; ") (decimal m) (decimal n) (some_same (codes " ; " ++ decimal m) (codes " ; " ++ decimal n) (sym (class_zero m some) ∙ e ∙ class_zero n other)))
+      ]
+    ]
+
+no_is_maybe : (name : List ℕ) → quick_label name NoValue ≡ quick_label name Maybe → ⊥
+no_is_maybe name e =
+    let behind = append_cancel_left (codes " ; ") (name ++ codes " ; N") (name ++ codes " ; M") (some_same (codes " ; " ++ name ++ codes " ; N") (codes " ; " ++ name ++ codes " ; M") e) in
+    let letters = append_cancel_left name (codes " ; N") (codes " ; M") behind in
+    true≢false (ap (bytes_eq (codes " ; N")) letters)
+
+quick_told : (name : List ℕ) (a b : Quick) → quick_label name a ≡ quick_label name b → a ≡ b
+quick_told name Yes Yes e = refl
+quick_told name Yes NoValue e = cc
+quick_told name Yes Maybe e = cc
+quick_told name NoValue Yes e = cc
+quick_told name NoValue NoValue e = refl
+quick_told name NoValue Maybe e = absurd (no_is_maybe name e)
+quick_told name Maybe Yes e = cc
+quick_told name Maybe NoValue e = absurd (no_is_maybe name (sym e))
+quick_told name Maybe Maybe e = refl
+
+binary_told : (name : List ℕ) (a b : Bool) → binary_label name a ≡ binary_label name b → a ≡ b
+binary_told name true true e = refl
+binary_told name true false e = cc
+binary_told name false true e = cc
+binary_told name false false e = refl
+
+-- ---- images
+
+upper_no_space : (b : ℕ) → IsUpperHex b → (b == 32) ≡ false
+upper_no_space b (inl digit) = ne_eqb b 32 (λ e. absurd (omega (arith, e, digit.0)))
+upper_no_space b (inr letter) = ne_eqb b 32 (λ e. absurd (omega (arith, e, letter.0)))
+
+no_space : (c : ℕ) → All (λ b. (b == 32) ≡ false) (hex_text c)
+no_space c = All-weaker IsUpperHex (λ b. (b == 32) ≡ false) upper_no_space (hex_text c) (hex_text_is_upper_case c)
+
+split_points : (c : ℕ) (cs : List ℕ) → slice_split (λ b. b == 32) (join_with_byte 32 (map hex_text (c ∷ cs))) ≡ map hex_text (c ∷ cs)
+split_points c [] = slice_split_none (λ b. b == 32) (hex_text c) (no_space c)
+split_points c (d ∷ ds) = slice_split_at (λ b. b == 32) (hex_text c) 32 (join_with_byte 32 (map hex_text (d ∷ ds))) (no_space c) refl ∙ ap (λ (xs : List (List ℕ)). hex_text c ∷ xs) (split_points d ds)
+
+same_head : (x y : List ℕ) (xs ys : List (List ℕ)) → x ∷ xs ≡ y ∷ ys → (x ≡ y) × (xs ≡ ys)
+same_head x y xs ys e = (cc, cc)
+
+same_points : (cs ds : List ℕ) → All IsPoint cs → All IsPoint ds → map hex_text cs ≡ map hex_text ds → cs ≡ ds
+same_points [] [] p q e = refl
+same_points [] (d ∷ ds) p q e = cc
+same_points (c ∷ cs) [] p q e = cc
+same_points (c ∷ cs) (d ∷ ds) p q e =
+    let parts = same_head (hex_text c) (hex_text d) (map hex_text cs) (map hex_text ds) e in
+    let first : c ≡ d = some_same c d (sym (hex_text_spells_its_point c (All-head IsPoint c cs p)) ∙ ap point_of parts.0 ∙ hex_text_spells_its_point d (All-head IsPoint d ds q)) in
+    let rest : cs ≡ ds = same_points cs ds (All-tail IsPoint c cs p) (All-tail IsPoint d ds q) parts.1 in
+    cc
+
+pub mapping_text-injective : (c d : ℕ) (cs ds : List ℕ) → All IsPoint (c ∷ cs) → All IsPoint (d ∷ ds) → mapping_text (c ∷ cs) ≡ mapping_text (d ∷ ds) → c ∷ cs ≡ d ∷ ds
+unfolding mapping_text
+mapping_text-injective c d cs ds p q e =
+    same_points (c ∷ cs) (d ∷ ds) p q (sym (split_points c cs) ∙ ap (slice_split (λ b. b == 32)) e ∙ split_points d ds)
+
+no_points : (d : ℕ) (ds : List ℕ) → casefold_label (To []) ≡ casefold_label (To (d ∷ ds)) → ⊥
+no_points d ds e =
+    let behind = append_cancel_left (codes " ; NFKC_CF ;") [] (32 ∷ mapping_text (d ∷ ds)) (some_same (codes " ; NFKC_CF ;") (codes " ; NFKC_CF ; " ++ mapping_text (d ∷ ds)) e) in
+    cc
+
+image_told : (i j : Image) → HasPoints i → HasPoints j → casefold_label i ≡ casefold_label j → i ≡ j
+image_told Same Same p q e = refl
+image_told Same (To []) p q e = cc
+image_told Same (To (d ∷ ds)) p q e = cc
+image_told (To []) Same p q e = cc
+image_told (To []) (To []) p q e = refl
+image_told (To []) (To (d ∷ ds)) p q e = absurd (no_points d ds e)
+image_told (To (c ∷ cs)) Same p q e = cc
+image_told (To (c ∷ cs)) (To []) p q e = absurd (no_points c cs (sym e))
+image_told (To (c ∷ cs)) (To (d ∷ ds)) p q e =
+    ap (λ (xs : List ℕ). To xs) (mapping_text-injective c d cs ds p q
+    (append_cancel_left (codes " ; NFKC_CF ; ") (mapping_text (c ∷ cs)) (mapping_text (d ∷ ds))
+    (some_same (codes " ; NFKC_CF ; " ++ mapping_text (c ∷ cs)) (codes " ; NFKC_CF ; " ++ mapping_text (d ∷ ds)) e)))
+
+pub labels_tell_values : LabelsTellValues
+labels_tell_values = record {
+  category = λ a b e. text-injective categories category_place (λ k. text_of (category_label k)) enumerates_categories refl a b (ap text_of e);
+  class = class_told;
+  kind = λ a b e. text-injective kinds place_of_kind (λ k. text_of (kind_label k)) enumerates_kinds refl a b (ap text_of e);
+  quick = quick_told;
+  image = image_told;
+  binary = binary_told;
+}

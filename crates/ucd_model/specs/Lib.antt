@@ -9,6 +9,7 @@ pub mod DataLines
 pub mod OtherLines
 pub mod Grammar
 pub mod Facts
+pub mod Values
 pub mod Sets
 pub mod Predicates
 pub mod Records
@@ -49,6 +50,8 @@ pub mod Examples
 pub mod RowTexts
 pub mod RowTextLemmas
 pub mod RowValues
+pub mod RowLaws
+pub mod RowLawProofs
 pub mod FactsExamples
 pub mod FormExamples
 pub mod ValidityExamples

@@ -20,6 +20,7 @@ mod property;
 mod query;
 mod records;
 mod row;
+pub mod row_laws;
 mod sets;
 mod span;
 mod steps;

@@ -2,7 +2,7 @@
 --
 -- letters     LATIN CAPITAL LETTER S and SMALL LETTER S, LATIN SMALL LETTER SHARP S, SOFT HYPHEN, LATIN CAPITAL LETTER A WITH
 --             GRAVE, and COMBINING GRAVE TONE MARK with its canonical mapping of one member; all others have no row
--- cycle       1 folds to 2, and 2 to 1; 3 folds to 3 twice
+-- cycle       1 folds to 2, and 2 to 1
 use Rattle.std.proofs.Common.{◌≡◌, ℕ, true, false, [], ◌∷◌, Some, None, Ok, Err, ◌==◌, if◌then◌else◌, get_or, refl}
 use Rattle.ucd_model.specs.Casing.{lower, upper, title, fold, lowers, uppers, titles, folds, casemaps, changes_when}
 use Rattle.ucd_model.specs.Expansion.{full}

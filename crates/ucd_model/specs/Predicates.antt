@@ -13,8 +13,8 @@
 -- default_ignorable c F            of the point c with the facts F, since two ranges of format characters are left out by number
 -- grapheme_extend, grapheme_base   The Unicode Standard, section 3.6, Combination; no point has both
 -- grapheme_link                    the combining class is 9, Virama
--- holds core c F                   whether the point c with the facts F has the property; absent for a property that needs the
---                                  facts of other points too
+-- holds core c F                   whether the point c with the facts F has the property; false for the seven properties that
+--                                  need the facts of other points too
 -- core_properties                  the core properties, in the order of DerivedCoreProperties.txt
 use Rattle.std.specs.Prelude.{ℕ, Bool, false, ◌||◌, ◌&&◌, not, List, [], ◌∷◌, ◌==◌, nat_le}
 use Rattle.std.specs.List.{list_any}
@@ -117,7 +117,13 @@ holds DefaultIgnorableCodePoint c F = default_ignorable c F
 holds GraphemeExtend c F = grapheme_extend F
 holds GraphemeBase c F = grapheme_base F
 holds GraphemeLink c F = grapheme_link F
-holds _ c F = false
+holds ChangesWhenLowercased c F = false
+holds ChangesWhenUppercased c F = false
+holds ChangesWhenTitlecased c F = false
+holds ChangesWhenCasefolded c F = false
+holds ChangesWhenCasemapped c F = false
+holds XidStart c F = false
+holds XidContinue c F = false
 
 abbrev pub core_properties : List Core
 core_properties =

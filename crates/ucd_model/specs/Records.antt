@@ -26,7 +26,7 @@ use Rattle.ucd_model.specs.declared.form.Bad.{Bad as Rule}
 use Rattle.ucd_model.specs.declared.form.Form.TheVariants.{Nfd, Nfc, Nfkd, Nfkc}
 use Rattle.ucd_model.specs.declared.image.Image.{Image}
 use Rattle.ucd_model.specs.declared.property.Core.{Core}
-use Rattle.ucd_model.specs.declared.property.Core.TheVariants.{ChangesWhenLowercased, ChangesWhenUppercased, ChangesWhenTitlecased, ChangesWhenCasefolded, ChangesWhenCasemapped, XidStart, XidContinue}
+use Rattle.ucd_model.specs.declared.property.Core.TheVariants.{Math, Alphabetic, Lowercase, Uppercase, Cased, CaseIgnorable, ChangesWhenLowercased, ChangesWhenUppercased, ChangesWhenTitlecased, ChangesWhenCasefolded, ChangesWhenCasemapped, IdStart, IdContinue, XidStart, XidContinue, DefaultIgnorableCodePoint, GraphemeExtend, GraphemeBase, GraphemeLink}
 use Rattle.ucd_model.specs.declared.records.Record.{Record as KeptRecord}
 
 pub record Record : Type 0 where
@@ -78,7 +78,18 @@ core_at F c ChangesWhenCasefolded = changes_when folds F c
 core_at F c ChangesWhenCasemapped = changes_when casemaps F c
 core_at F c XidStart = xid_start F c
 core_at F c XidContinue = xid_continue F c
-core_at F c core = holds core c (F c)
+core_at F c Math = holds Math c (F c)
+core_at F c Alphabetic = holds Alphabetic c (F c)
+core_at F c Lowercase = holds Lowercase c (F c)
+core_at F c Uppercase = holds Uppercase c (F c)
+core_at F c Cased = holds Cased c (F c)
+core_at F c CaseIgnorable = holds CaseIgnorable c (F c)
+core_at F c IdStart = holds IdStart c (F c)
+core_at F c IdContinue = holds IdContinue c (F c)
+core_at F c DefaultIgnorableCodePoint = holds DefaultIgnorableCodePoint c (F c)
+core_at F c GraphemeExtend = holds GraphemeExtend c (F c)
+core_at F c GraphemeBase = holds GraphemeBase c (F c)
+core_at F c GraphemeLink = holds GraphemeLink c (F c)
 
 abbrev pub changes_image : ℕ → Image → Bool
 changes_image c i = not (bytes_eq (image_points c i) (c ∷ []))

@@ -2,7 +2,8 @@
 --
 -- mapped k points c   the facts of c, which has a row, the kind k and this decomposition mapping
 -- sample              1 maps to 2, which has no row; 3 maps to 4 and 4 to 3; 5 maps by a compatibility mapping to 64 times 6,
---                     and 7 to 64 times 6 and to 6 once more; 6 has no mapping; 8 maps to itself in all its case mappings
+--                     and 7 to 64 times 6 and to 6 once more; 6 has no mapping; 8 folds to 6 and 2, of which 2 has no row, and its
+--                     other case mappings are 8 itself
 use Rattle.std.proofs.Common.{◌≡◌, ℕ, true, false, List, [], ◌∷◌, get_or, refl, replicate}
 use Rattle.ucd_model.specs.Expansion.{full}
 use Rattle.ucd_model.specs.Facts.{Facts, unassigned}

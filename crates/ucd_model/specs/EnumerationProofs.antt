@@ -5,6 +5,8 @@
 -- true_of_each             a test that is true of the list's values is true of each value
 -- place-below              each place lies below the length of the list
 -- place-injective          two values at one place are one
+-- place-at                 the value at a place of the list has that place
+-- place-decides            equal places decide whether two values are equal
 -- value-at                 the value that stands at a value's place is that value, whatever stands for a place past the list
 -- are_apart text values place   a test: the text of each value stands first at its place among the texts of the values
 -- text-injective           then two values with one text are one
@@ -12,7 +14,10 @@ use Rattle.std.proofs.Common.{◌≡◌, ℕ, zero, suc, ◌+◌, ◌<◌, Bool,
 use Rattle.std.specs.List.{list_all, position_or_len}
 use Rattle.std.specs.Option.{option_map}
 use Rattle.std.specs.Str.{bytes_eq}
-use Rattle.std.proofs.lemmas.Bool.{and_parts, eqb-true}
+use Rattle.std.specs.Bool.{Decides}
+use Rattle.std.proofs.lemmas.Bool.{and_parts, eqb-true, eq-eqb}
+use Rattle.std.proofs.lemmas.List.FromFn.{get_or-range_with_len}
+use Rattle.std.proofs.Math.ListN.{get_or-map}
 use Rattle.std.proofs.lemmas.Option.{get_or_from_slice_get, slice_get-map}
 use Rattle.ucd_model.specs.DerivedFiles.{derived_files}
 use Rattle.ucd_model.specs.Facts.{status_place}
@@ -257,6 +262,14 @@ module _ {X : Type 0} (values : List X) (place : X → ℕ) (whole : IsEnumerati
 
   pub value-at : (x d : X) → get_or values (place x) d ≡ x
   value-at x d = get_or_from_slice_get values (place x) x d (whole.each x)
+
+  pub place-at : (k : ℕ) (d : X) → k < length values → place (get_or values k d) ≡ k
+  place-at k d lt =
+      let first : 0 + k ≡ k = omega arith in
+      sym (get_or-map place values k d) ∙ ap (λ xs. get_or xs k (place d)) whole.order ∙ get_or-range_with_len 0 (length values) k (place d) lt ∙ first
+
+  pub place-decides : (x y : X) → Decides (place x == place y) (x ≡ y)
+  place-decides x y = (λ t. place-injective x y (eqb-true (place x) (place y) t), λ e. eq-eqb (place x) (place y) (ap place e))
 
 abbrev pub are_apart : {X : Type 0} → (X → List ℕ) → List X → (X → ℕ) → Bool
 are_apart text values place = list_all (λ x. position_or_len (bytes_eq (text x)) (map text values) == place x) values

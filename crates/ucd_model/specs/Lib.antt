@@ -42,6 +42,8 @@ pub mod HexTextLaws
 pub mod HexTextProofs
 pub mod Enumerations
 pub mod EnumerationProofs
+pub mod Sameness
+pub mod SamenessProofs
 pub mod NameLaws
 pub mod NameProofs
 pub mod FactsLaws

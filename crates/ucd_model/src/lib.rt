@@ -21,7 +21,9 @@ mod query;
 mod records;
 mod row;
 pub mod row_laws;
+pub mod sameness_laws;
 mod sets;
+mod shown;
 mod span;
 mod steps;
 pub mod validity_laws;
@@ -43,6 +45,7 @@ pub use records::{Record, Records};
 pub use row::{
     AliasRow, CasingRow, DataRow, ExclusionRow, FoldRow, FoldStatus, Kept, Row, Rows, ValueRow,
 };
+pub use shown::same_facts;
 pub use sets::{CoreSet, Flags};
 pub use span::Span;
 pub use steps::Steps;

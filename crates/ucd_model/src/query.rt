@@ -5,8 +5,9 @@ use crate::memory::Memory;
 use crate::point::Point;
 use std::alloc::Global;
 
-/// A question that the derivation of a code point asks.
-#[derive(Clone, Copy, Debug, PartialEq, Eq)]
+/// A question that the derivation of a code point asks. Questions are ordered by their kind, and then by their code
+/// points.
+#[derive(Clone, Copy, Debug, PartialEq, Eq, PartialOrd, Ord)]
 pub enum Query {
     /// The facts of a code point.
     Row(Point),

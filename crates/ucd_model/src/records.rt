@@ -1,7 +1,8 @@
 //! What is derived of each code point.
 
 ghost use Rattle.std.specs.Prelude.{◌≡◌, ℕ, IsTrue};
-ghost use Rattle.ucd_model.specs.Records.{Record, ShowsRecord};
+ghost use Rattle.std.specs.Bool.{Decides};
+ghost use Rattle.ucd_model.specs.Records.{Record, ShowsRecord, kept_record};
 
 use crate::category::Category;
 use crate::decomposition::Kind;
@@ -43,20 +44,31 @@ impl Record {
     pub fn is_same(&self, other: &Record) -> bool
         ensures equal { IsTrue result → self.now ≡ other.now }
         ensures same { self.now ≡ other.now → IsTrue result }
+        ensures told { Decides result (kept_record self.now ≡ kept_record other.now) }
     {
-        has_same_facts(self, other) && has_same_checks(self, other) && has_same_folding(self, other)
+        has_same_core(self, other)
+            && has_same_facts(self, other)
+            && has_same_checks(self, other)
+            && has_same_folding(self, other)
     }
 }
 
-/// Whether two records are equal in what follows from the facts of the code point alone.
+/// Whether two records are equal in what the row of UnicodeData.txt says.
 fn has_same_facts(a: &Record, b: &Record) -> bool
     ensures category { IsTrue result → a.now.category ≡ b.now.category }
     ensures class { IsTrue result → a.now.class ≡ b.now.class }
     ensures kind { IsTrue result → a.now.kind ≡ b.now.kind }
-    ensures core { IsTrue result → a.now.core ≡ b.now.core }
-    ensures same { a.now ≡ b.now → IsTrue result }
+    ensures same { kept_record a.now ≡ kept_record b.now → IsTrue result }
 {
-    a.core == b.core && a.category == b.category && a.class == b.class && a.kind == b.kind
+    a.category == b.category && a.class == b.class && a.kind == b.kind
+}
+
+/// Whether two records have the same core properties.
+fn has_same_core(a: &Record, b: &Record) -> bool
+    ensures core { IsTrue result → a.now.core ≡ b.now.core }
+    ensures same { kept_record a.now ≡ kept_record b.now → IsTrue result }
+{
+    a.core.is_same(b.core)
 }
 
 /// Whether two records are equal in the exclusion and the quick checks.
@@ -66,7 +78,7 @@ fn has_same_checks(a: &Record, b: &Record) -> bool
     ensures nfc { IsTrue result → a.now.nfc ≡ b.now.nfc }
     ensures nfkd { IsTrue result → a.now.nfkd ≡ b.now.nfkd }
     ensures nfkc { IsTrue result → a.now.nfkc ≡ b.now.nfkc }
-    ensures same { a.now ≡ b.now → IsTrue result }
+    ensures same { kept_record a.now ≡ kept_record b.now → IsTrue result }
 {
     a.exclusion == b.exclusion
         && a.nfd == b.nfd
@@ -79,7 +91,7 @@ fn has_same_checks(a: &Record, b: &Record) -> bool
 fn has_same_folding(a: &Record, b: &Record) -> bool
     ensures casefold { IsTrue result → a.now.casefold ≡ b.now.casefold }
     ensures changes { IsTrue result → a.now.changes_casefold ≡ b.now.changes_casefold }
-    ensures same { a.now ≡ b.now → IsTrue result }
+    ensures same { kept_record a.now ≡ kept_record b.now → IsTrue result }
 {
     a.changes_casefold == b.changes_casefold && a.casefold.is_same(&b.casefold)
 }

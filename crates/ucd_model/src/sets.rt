@@ -1,6 +1,7 @@
 //! Sets of properties, each in one word.
 
-ghost use Rattle.std.specs.Prelude.{◌≡◌, ◌≢◌, ◌<◌, ◌^◌, false};
+ghost use Rattle.std.specs.Prelude.{◌≡◌, ◌≢◌, ◌<◌, ◌^◌, false, IsTrue};
+ghost use Rattle.std.specs.Bool.{Decides};
 ghost use Rattle.ucd_model.specs.Sets.{flag_place, has_flag, core_place, has_core};
 ghost use Rattle.ucd_model.specs.declared.property.Flag.{Flag};
 ghost use Rattle.ucd_model.specs.declared.property.Core.{Core};
@@ -59,6 +60,15 @@ impl Flags {
     {
         has_bit(self.bits, flag_place(flag))
     }
+
+    /// Whether two sets have the same flags.
+    #[tactic(auto, using(crate::specs::SamenessProofs::flag_sets_are_told))]
+    pub fn is_same(self, other: Flags) -> bool
+        ensures equal { IsTrue result → self ≡ other }
+        ensures told { Decides result ((flag : Flag) → has_flag self flag ≡ has_flag other flag) }
+    {
+        self.bits == other.bits
+    }
 }
 
 /// A set of core properties: bit `i` is the property at place `i` of `Core`.
@@ -102,6 +112,15 @@ impl CoreSet {
         ensures { result ≡ has_core self core }
     {
         has_bit(self.bits, core_place(core))
+    }
+
+    /// Whether two sets have the same core properties.
+    #[tactic(auto, using(crate::specs::SamenessProofs::core_sets_are_told))]
+    pub fn is_same(self, other: CoreSet) -> bool
+        ensures equal { IsTrue result → self ≡ other }
+        ensures told { Decides result ((core : Core) → has_core self core ≡ has_core other core) }
+    {
+        self.bits == other.bits
     }
 }
 

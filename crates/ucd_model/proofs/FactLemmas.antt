@@ -1,6 +1,5 @@
 -- Facts that views show.
 use Rattle.std.proofs.Common.{◌≡◌}
-use mathlib.Core.Path.{fun_ext}
 use Rattle.ucd_model.specs.Sets.{has_flag}
 use Rattle.ucd_model.specs.Shown.{shown_facts}
 use Rattle.ucd_model.specs.View.{image_shown}

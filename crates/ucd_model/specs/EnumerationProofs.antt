@@ -2,6 +2,7 @@
 --
 -- enumerations_are_whole   the law of the same name
 -- enumerates_categories .. enumerates_rules   its parts
+-- kinds_behind             behind Plain and Canonical stand the kinds with a tag, in the order of the tags
 -- true_of_each             a test that is true of the list's values is true of each value
 -- place-below              each place lies below the length of the list
 -- place-injective          two values at one place are one
@@ -10,7 +11,7 @@
 -- value-at                 the value that stands at a value's place is that value, whatever stands for a place past the list
 -- are_apart text values place   a test: the text of each value stands first at its place among the texts of the values
 -- text-injective           then two values with one text are one
-use Rattle.std.proofs.Common.{◌≡◌, ℕ, zero, suc, ◌+◌, ◌<◌, Bool, true, ◌==◌, List, [], ◌∷◌, map, length, get_or, slice_get, Some, refl, sym, ap, ◌∙◌, arith}
+use Rattle.std.proofs.Common.{◌≡◌, ℕ, zero, suc, ◌+◌, ◌-◌, ◌<◌, ◌≤◌, Bool, true, ◌==◌, List, [], ◌∷◌, map, length, get_or, slice_get, Some, refl, sym, ap, ◌∙◌, arith}
 use Rattle.std.specs.List.{list_all, position_or_len}
 use Rattle.std.specs.Option.{option_map}
 use Rattle.std.specs.Str.{bytes_eq}
@@ -108,6 +109,11 @@ tag_at Compat = refl
 
 behind_two : (a b : Kind) (rest : List Kind) (n : ℕ) → slice_get (a ∷ b ∷ rest) (2 + n) ≡ slice_get rest n
 behind_two a b rest n = let next : 2 + n ≡ suc (suc n) = omega arith in ap (slice_get (a ∷ b ∷ rest)) next
+
+pub kinds_behind : (n : ℕ) → 2 ≤ n → slice_get kinds n ≡ option_map kind.Compat (slice_get tags (n - 2))
+kinds_behind n le =
+    let from : n ≡ 2 + (n - 2) = omega (arith, le) in
+    ap (slice_get kinds) from ∙ behind_two kind.Plain kind.Canonical (map kind.Compat tags) (n - 2) ∙ slice_get-map kind.Compat tags (n - 2)
 
 kind_at : (x : Kind) → slice_get kinds (place_of_kind x) ≡ Some x
 kind_at kind.Plain = refl

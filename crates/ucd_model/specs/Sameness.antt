@@ -17,7 +17,7 @@
 -- FactsAreTold            `same_facts` tells whether the facts of two code points are equal
 -- SetsAreTold             two kept sets with the same properties are one
 -- KeptRecordsAreTold      two kept records that keep one record are one
-use Rattle.std.specs.Prelude.{◌≡◌, ℕ, ◌<◌, ◌^◌, Bool, true, false, ◌&&◌, ◌==◌, List, [], ◌∷◌}
+use Rattle.std.specs.Prelude.{◌≡◌, ℕ, ◌<◌, ◌^◌, Bool, true, false, ◌&&◌, ◌==◌, List}
 use Rattle.std.specs.Bool.{Decides, beq}
 use Rattle.std.specs.List.{Contains, list_any, list_all}
 use Rattle.std.specs.Str.{bytes_eq}

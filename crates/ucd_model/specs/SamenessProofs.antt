@@ -3,7 +3,7 @@
 -- members_are_told, records_are_told, facts_are_told, sets_are_told, kept_records_are_told   the laws of the same names
 -- same_image-decides, same_cores-decides, same_flags-decides, same_kind-decides   the parts of the tests decide equality
 -- core_sets_are_told, flag_sets_are_told   the parts of sets_are_told
-use Rattle.std.proofs.Common.{◌≡◌, ℕ, zero, suc, ◌<◌, ◌^◌, Bool, true, false, ◌&&◌, ◌==◌, List, [], ◌∷◌, length, get_or, slice_index_or, refl, sym, ap, subst, ◌∙◌, arith, inl, inr}
+use Rattle.std.proofs.Common.{◌≡◌, ℕ, zero, suc, ◌<◌, ◌^◌, Bool, true, ◌&&◌, ◌==◌, List, [], ◌∷◌, length, get_or, slice_index_or, refl, sym, ap, subst, arith, inl, inr}
 use mathlib.Core.Path.{fun_ext}
 use Rattle.std.specs.Bool.{Decides, beq}
 use Rattle.std.specs.Cmp.{booleans_Decides}
@@ -14,11 +14,11 @@ use Rattle.std.proofs.lemmas.Bool.{true≢false, eqb-true, eq-eqb, or_cases, or_
 use Rattle.std.proofs.lemmas.Bool.Decides.{Decides-and}
 use Rattle.std.proofs.lemmas.Nat.Bits.{bit_at-lt, same_from_bits_below}
 use Rattle.std.proofs.lemmas.Slice.Eq.{bytes_eq-Decides}
-use Rattle.ucd_model.specs.Enumerations.{IsEnumeration, categories, kinds, place_of_kind, flags, quick_values, place_of_quick}
+use Rattle.ucd_model.specs.Enumerations.{categories, kinds, place_of_kind, flags, quick_values, place_of_quick}
 use Rattle.ucd_model.specs.EnumerationProofs.{enumerates_categories, enumerates_kinds, enumerates_flags, enumerates_core_properties, enumerates_quick_values, true_of_each, place-at, place-decides}
 use Rattle.ucd_model.specs.Facts.{Facts}
 use Rattle.ucd_model.specs.Predicates.{category_place, core_properties}
-use Rattle.ucd_model.specs.Records.{Record, kept_record}
+use Rattle.ucd_model.specs.Records.{Record}
 use Rattle.ucd_model.specs.Sets.{has_bit, has_flag, has_core, flag_place, core_place}
 use Rattle.ucd_model.specs.Sameness.{is_in, same_image, same_cores, same_flags, same_record, same_row, same_simple, same_images, same_marks, same_facts, MembersAreTold, RecordsAreTold, FactsAreTold, SetsAreTold, KeptRecordsAreTold}
 use Rattle.ucd_model.specs.declared.category.Category.{Category}
@@ -30,7 +30,6 @@ use Rattle.ucd_model.specs.declared.property.Flag.{Flag}
 use Rattle.ucd_model.specs.declared.property.Flag.TheVariants.{WhiteSpace}
 use Rattle.ucd_model.specs.declared.property.Core.{Core}
 use Rattle.ucd_model.specs.declared.property.Core.TheVariants.{Math}
-use Rattle.ucd_model.specs.declared.records.Record.{Record as KeptRecord}
 
 -- ---- members
 
@@ -99,7 +98,7 @@ SameFields R S =
     (R.category ≡ S.category) × ((R.class ≡ S.class) × ((R.kind ≡ S.kind) × ((R.core ≡ S.core) × ((R.exclusion ≡ S.exclusion) × ((R.nfd ≡ S.nfd) × ((R.nfc ≡ S.nfc) × ((R.nfkd ≡ S.nfkd) × ((R.nfkc ≡ S.nfkc) × ((R.casefold ≡ S.casefold) × ((R.changes_casefold ≡ S.changes_casefold)))))))))))
 
 record_from : (R S : Record) → SameFields R S → R ≡ S
-record_from R S p = λ i. record { category = p.0 i; class = p.1.0 i; kind = p.1.1.0 i; core = p.1.1.1.0 i; exclusion = p.1.1.1.1.0 i; nfd = p.1.1.1.1.1.0 i; nfc = p.1.1.1.1.1.1.0 i; nfkd = p.1.1.1.1.1.1.1.0 i; nfkc = p.1.1.1.1.1.1.1.1.0 i; casefold = p.1.1.1.1.1.1.1.1.1.0 i; changes_casefold = p.1.1.1.1.1.1.1.1.1.1 i; }
+record_from R S p = λ i. record { category = p.0 i; class = p.1.0 i; kind = p.1.1.0 i; core = p.1.1.1.0 i; exclusion = p.1.1.1.1.0 i; nfd = p.1.1.1.1.1.0 i; nfc = p.1.1.1.1.1.1.0 i; nfkd = p.1.1.1.1.1.1.1.0 i; nfkc = p.1.1.1.1.1.1.1.1.0 i; casefold = p.1.1.1.1.1.1.1.1.1.0 i; changes_casefold = p.1.1.1.1.1.1.1.1.1.1 i }
 
 record_fields : (R S : Record) → R ≡ S → SameFields R S
 record_fields R S e =
@@ -108,11 +107,11 @@ record_fields R S e =
 pub records_are_told : RecordsAreTold
 records_are_told R S =
     decides_as (same_record R S)
-        (both_decide (category_decides R.category S.category) (both_decide (nat_decides R.class S.class) (both_decide (same_kind-decides R.kind S.kind)
-        (both_decide (same_cores-decides R.core S.core) (both_decide (booleans_Decides R.exclusion S.exclusion)
-        (both_decide (quick_decides R.nfd S.nfd) (both_decide (quick_decides R.nfc S.nfc) (both_decide (quick_decides R.nfkd S.nfkd) (both_decide (quick_decides R.nfkc S.nfkc)
-        (both_decide (same_image-decides R.casefold S.casefold) (booleans_Decides R.changes_casefold S.changes_casefold)))))))))))
-        (record_from R S) (record_fields R S)
+    (both_decide (category_decides R.category S.category) (both_decide (nat_decides R.class S.class) (both_decide (same_kind-decides R.kind S.kind)
+    (both_decide (same_cores-decides R.core S.core) (both_decide (booleans_Decides R.exclusion S.exclusion)
+    (both_decide (quick_decides R.nfd S.nfd) (both_decide (quick_decides R.nfc S.nfc) (both_decide (quick_decides R.nfkd S.nfkd) (both_decide (quick_decides R.nfkc S.nfkc)
+    (both_decide (same_image-decides R.casefold S.casefold) (booleans_Decides R.changes_casefold S.changes_casefold)))))))))))
+    (record_from R S) (record_fields R S)
 
 -- ---- facts
 
@@ -144,7 +143,7 @@ abbrev SameParts : Facts → Facts → Type 0
 SameParts F G = SameRow F G × (SameSimple F G × (SameImages F G × SameMarks F G))
 
 facts_from : (F G : Facts) → SameParts F G → F ≡ G
-facts_from F G p = λ i. record { assigned = p.0.0 i; category = p.0.1.0 i; class = p.0.1.1.0 i; kind = p.0.1.1.1.0 i; mapping = p.0.1.1.1.1 i; simple_upper = p.1.0.0 i; simple_lower = p.1.0.1.0 i; simple_title = p.1.0.1.1.0 i; simple_fold = p.1.0.1.1.1 i; upper = p.1.1.0.0 i; lower = p.1.1.0.1.0 i; title = p.1.1.0.1.1.0 i; fold = p.1.1.0.1.1.1 i; flag = p.1.1.1.0 i; mid_word = p.1.1.1.1.0 i; excluded = p.1.1.1.1.1 i; }
+facts_from F G p = λ i. record { assigned = p.0.0 i; category = p.0.1.0 i; class = p.0.1.1.0 i; kind = p.0.1.1.1.0 i; mapping = p.0.1.1.1.1 i; simple_upper = p.1.0.0 i; simple_lower = p.1.0.1.0 i; simple_title = p.1.0.1.1.0 i; simple_fold = p.1.0.1.1.1 i; upper = p.1.1.0.0 i; lower = p.1.1.0.1.0 i; title = p.1.1.0.1.1.0 i; fold = p.1.1.0.1.1.1 i; flag = p.1.1.1.0 i; mid_word = p.1.1.1.1.0 i; excluded = p.1.1.1.1.1 i }
 
 facts_parts : (F G : Facts) → F ≡ G → SameParts F G
 facts_parts F G e =
@@ -170,12 +169,12 @@ same_bit m n i e = bit_or_none (bit_at m i) (bit_at n i) (bit_at-lt m i) (bit_at
 pub core_sets_are_told : (m n : ℕ) → m < 2 ^ 19 → n < 2 ^ 19 → ((core : Core) → has_core m core ≡ has_core n core) → m ≡ n
 core_sets_are_told m n small below same =
     same_from_bits_below 19 m n small below (λ i lt.
-        same_bit m n i (subst (λ k. has_bit m k ≡ has_bit n k) (place-at core_properties core_place enumerates_core_properties i Math lt) (same (get_or core_properties i Math))))
+    same_bit m n i (subst (λ k. has_bit m k ≡ has_bit n k) (place-at core_properties core_place enumerates_core_properties i Math lt) (same (get_or core_properties i Math))))
 
 pub flag_sets_are_told : (m n : ℕ) → m < 2 ^ 14 → n < 2 ^ 14 → ((flag : Flag) → has_flag m flag ≡ has_flag n flag) → m ≡ n
 flag_sets_are_told m n small below same =
     same_from_bits_below 14 m n small below (λ i lt.
-        same_bit m n i (subst (λ k. has_bit m k ≡ has_bit n k) (place-at flags flag_place enumerates_flags i WhiteSpace lt) (same (get_or flags i WhiteSpace))))
+    same_bit m n i (subst (λ k. has_bit m k ≡ has_bit n k) (place-at flags flag_place enumerates_flags i WhiteSpace lt) (same (get_or flags i WhiteSpace))))
 
 pub sets_are_told : SetsAreTold
 sets_are_told = record { core = core_sets_are_told; flag = flag_sets_are_told }

@@ -2,7 +2,10 @@
 
 ghost use Rattle.std.specs.Prelude.{◌≡◌, ◌<◌, ◌^◌};
 ghost use Rattle.ucd_model.specs.Limits.{file_limit};
-ghost use Rattle.ucd_model.specs.SourceFiles.{file_place};
+ghost use Rattle.ucd_model.specs.DerivedFiles.{derived_files};
+ghost use Rattle.ucd_model.specs.Enumerations.{place_of_derived};
+ghost use Rattle.ucd_model.specs.Names.{source_path, derived_path};
+ghost use Rattle.ucd_model.specs.SourceFiles.{source_files, file_place};
 
 /// A source file of the database, in the order in which the bench reads them. UAX #44, section 5.3.
 #[derive(Clone, Copy, Debug, PartialEq, Eq)]
@@ -58,6 +61,30 @@ impl SourceFile {
             SourceFile::PropertyValueAliases => 8,
         }
     }
+
+    /// The source files in the order of their places.
+    pub fn all() -> &'static [SourceFile]
+        ensures { result.now ≡ source_files }
+    {
+        &SOURCE_FILES
+    }
+
+    /// Where it lies below the folder of a release.
+    pub fn path(self) -> &'static [u8]
+        ensures { result.now ≡ source_path self }
+    {
+        match self {
+            SourceFile::UnicodeData => b"UnicodeData.txt",
+            SourceFile::PropList => b"PropList.txt",
+            SourceFile::Scripts => b"Scripts.txt",
+            SourceFile::WordBreakProperty => b"auxiliary/WordBreakProperty.txt",
+            SourceFile::CompositionExclusions => b"CompositionExclusions.txt",
+            SourceFile::CaseFolding => b"CaseFolding.txt",
+            SourceFile::SpecialCasing => b"SpecialCasing.txt",
+            SourceFile::PropertyAliases => b"PropertyAliases.txt",
+            SourceFile::PropertyValueAliases => b"PropertyValueAliases.txt",
+        }
+    }
 }
 
 /// A derived file, in the order in which the bench writes them. UAX #44, sections 5.3 and 5.4.
@@ -73,6 +100,45 @@ pub enum DerivedFile {
     CombiningClass,
     /// extracted/DerivedDecompositionType.txt.
     DecompositionType,
+}
+
+/// The derived files, each at its place in the order in which the bench writes them.
+pub const DERIVED_FILES: [DerivedFile; 5] = [
+    DerivedFile::CoreProperties,
+    DerivedFile::NormalizationProps,
+    DerivedFile::GeneralCategory,
+    DerivedFile::CombiningClass,
+    DerivedFile::DecompositionType,
+];
+
+impl DerivedFile {
+    /// The derived files in the order of their places.
+    pub fn all() -> &'static [DerivedFile]
+        ensures { result.now ≡ derived_files }
+    {
+        &DERIVED_FILES
+    }
+
+    /// Its place in the order in which the bench writes the files, from 0.
+    pub fn place(self) -> usize
+        ensures place { result ≡ place_of_derived self }
+        ensures below { result < 5 }
+    {
+        self as usize
+    }
+
+    /// Where it lies below the folder of the output.
+    pub fn path(self) -> &'static [u8]
+        ensures { result.now ≡ derived_path self }
+    {
+        match self {
+            DerivedFile::CoreProperties => b"DerivedCoreProperties.txt",
+            DerivedFile::NormalizationProps => b"DerivedNormalizationProps.txt",
+            DerivedFile::GeneralCategory => b"extracted/DerivedGeneralCategory.txt",
+            DerivedFile::CombiningClass => b"extracted/DerivedCombiningClass.txt",
+            DerivedFile::DecompositionType => b"extracted/DerivedDecompositionType.txt",
+        }
+    }
 }
 
 /// The greatest number of bytes of a source file: 16 MiB.

@@ -5,6 +5,7 @@ mod bits;
 mod category;
 pub mod composite_laws;
 mod decomposition;
+mod enumeration;
 pub mod enumeration_laws;
 mod fact_list;
 mod facts;
@@ -29,24 +30,24 @@ mod steps;
 pub mod validity_laws;
 mod view;
 
-pub use category::Category;
-pub use decomposition::{Kind, Tag};
+pub use category::{CATEGORIES, Category};
+pub use decomposition::{Kind, TAGS, Tag};
 pub use fact_list::FactList;
 pub use facts::Facts;
-pub use files::{DerivedFile, FILE_LIMIT, SOURCE_FILES, SourceFile, file_limit};
+pub use files::{DERIVED_FILES, DerivedFile, FILE_LIMIT, SOURCE_FILES, SourceFile, file_limit};
 pub use form::{Bad, Broken, Form, FormStop, Quick};
 pub use image::Image;
 pub use list::{Copied, ListOf, Points, Spans, Text, Texts};
 pub use memory::Memory;
 pub use point::{Point, point_count};
-pub use property::{Core, Flag};
+pub use property::{CORE_PROPERTIES, Core, FLAGS, Flag};
 pub use query::{Queries, Query};
 pub use records::{Record, Records};
 pub use row::{
     AliasRow, CasingRow, DataRow, ExclusionRow, FoldRow, FoldStatus, Kept, Row, Rows, ValueRow,
 };
-pub use shown::same_facts;
 pub use sets::{CoreSet, Flags};
+pub use shown::same_facts;
 pub use span::Span;
 pub use steps::Steps;
 pub use view::{FactView, FactsRef};

@@ -1,5 +1,8 @@
 //! Rows: what a line of a source file stands for.
 
+ghost use Rattle.std.specs.Prelude.{◌≡◌};
+ghost use Rattle.ucd_model.specs.Names.{status_code};
+
 use crate::category::Category;
 use crate::decomposition::Kind;
 use crate::list::{ListOf, Points, Text, Texts};
@@ -81,6 +84,20 @@ pub enum FoldStatus {
     S,
     /// Turkic: for Turkic languages alone. The facts leave it out.
     T,
+}
+
+impl FoldStatus {
+    /// The letter that names it in CaseFolding.txt.
+    pub fn letter(self) -> u8
+        ensures { result ≡ status_code self }
+    {
+        match self {
+            FoldStatus::C => b'C',
+            FoldStatus::F => b'F',
+            FoldStatus::S => b'S',
+            FoldStatus::T => b'T',
+        }
+    }
 }
 
 /// A row of CaseFolding.txt. The Unicode Standard, section 5.18, and the head of the file.

@@ -9,10 +9,9 @@
 -- pair_of_none      where no code point composes them, they have no pair
 -- second_of_some    where y is the second member of a composite's mapping, second_of tells so
 -- second_of_none    where y is that of no composite's mapping, second_of is false
-use Rattle.std.proofs.Common.{◌≡◌, ℕ, zero, suc, ◌+◌, ◌<◌, ◌≤◌, Bool, true, false, cond, ◌&&◌, ◌||◌, ◌==◌, List, [], ◌∷◌, Option, Some, None, find, refl, ap, ◌∙◌, arith, ◌⊎◌, inl, inr}
+use Rattle.std.proofs.Common.{◌≡◌, ℕ, zero, suc, ◌+◌, ◌<◌, ◌≤◌, Bool, true, false, cond, ◌==◌, List, [], ◌∷◌, Option, Some, None, find, refl, sym, ap, ◌∙◌, arith, inl, inr}
 use Rattle.std.specs.List.{list_any, range_with_len}
-use Rattle.std.proofs.lemmas.Bool.Decides.{nat_tests}
-use Rattle.std.proofs.lemmas.Bool.{cases_lt}
+use Rattle.std.proofs.lemmas.Bool.{true≢false, both_ways, cases_lt, and_parts, and_from, or_cases, or_right, eqb-true, eq-eqb, false_from_ne_true}
 use Rattle.ucd_model.specs.Limits.{point_count}
 use Rattle.ucd_model.specs.Facts.{Facts}
 use Rattle.ucd_model.specs.Composites.{primary, is_pair, is_second, composes, ends_with, pair_of, second_of}
@@ -23,13 +22,6 @@ use Rattle.ucd_model.specs.CompositeLaws.{Composes, IsPair, IsSecond, PairIsLeas
 abbrev pub Least : (ℕ → Bool) → ℕ → ℕ → Option ℕ → Type 0
 Least p a b None = (k : ℕ) → a ≤ k → k < b → p k ≡ false
 Least p a b (Some q) = (a ≤ q) × (q < b) × (p q ≡ true) × ((k : ℕ) → a ≤ k → k < q → p k ≡ false)
-
-true_false : (b : Bool) → b ≡ true → b ≡ false → ⊥
-true_false b t f = cc
-
-not_true : (b : Bool) → ¬ (b ≡ true) → b ≡ false
-not_true true other = absurd (other refl)
-not_true false other = refl
 
 -- a number that is not a comes after it
 from_next : (p : ℕ → Bool) (a q : ℕ) → p a ≡ false → ((k : ℕ) → a + 1 ≤ k → k < q → p k ≡ false) → (k : ℕ) → a ≤ k → k < q → p k ≡ false
@@ -56,60 +48,46 @@ find_least p a (suc n) b e = Least_step p a b (find p (range_with_len (a + 1) n)
 
 Least_only : (p : ℕ → Bool) (a b : ℕ) (r r' : Option ℕ) → Least p a b r → Least p a b r' → r ≡ r'
 Least_only p a b None None l m = refl
-Least_only p a b None (Some q) l m = absurd (true_false (p q) m.2 (l q m.0 m.1))
-Least_only p a b (Some q) None l m = absurd (true_false (p q) l.2 (m q l.0 l.1))
+Least_only p a b None (Some q) l m = absurd (both_ways (p q) (l q m.0 m.1) m.2)
+Least_only p a b (Some q) None l m = absurd (both_ways (p q) (m q l.0 l.1) l.2)
 Least_only p a b (Some q) (Some q') l m =
     elim (cases_lt q q') [
-      | inl lt ↦ absurd (true_false (p q) l.2 (m.3 q l.0 lt))
+      | inl lt ↦ absurd (both_ways (p q) (m.3 q l.0 lt) l.2)
       | inr le ↦ elim (cases_lt q' q) [
-        | inl lt ↦ absurd (true_false (p q') m.2 (l.3 q' m.0 lt))
+        | inl lt ↦ absurd (both_ways (p q') (l.3 q' m.0 lt) m.2)
         | inr le' ↦ let same : q ≡ q' = omega arith in ap (λ n. Some n) same
       ]
     ]
 
 -- ---- tests on mappings
 
-and_both : (a b : Bool) → a && b ≡ true → (a ≡ true) × (b ≡ true)
-and_both true b e = (refl, e)
-and_both false b e = absurd (true_false false e refl)
-
-both_and : (a b : Bool) → a ≡ true → b ≡ true → a && b ≡ true
-both_and true b p q = q
-both_and false b p q = p
-
-eqb_same : (a b : ℕ) → (a == b) ≡ true → a ≡ b
-eqb_same a b e = grind (arith, nat_tests)
-
-eqb_self : (a : ℕ) → (a == a) ≡ true
-eqb_self a = grind (arith, nat_tests)
-
 pair_mapping : (s y : ℕ) (m : List ℕ) → is_pair s y m ≡ true → m ≡ s ∷ y ∷ []
-pair_mapping s y [] e = absurd (true_false false e refl)
-pair_mapping s y (a ∷ []) e = absurd (true_false false e refl)
-pair_mapping s y (a ∷ b ∷ c ∷ m) e = absurd (true_false false e refl)
+pair_mapping s y [] e = absurd (true≢false (sym e))
+pair_mapping s y (a ∷ []) e = absurd (true≢false (sym e))
+pair_mapping s y (a ∷ b ∷ c ∷ m) e = absurd (true≢false (sym e))
 pair_mapping s y (a ∷ b ∷ []) e =
-    let t = and_both (a == s) (b == y) e in
-    let first : a ≡ s = eqb_same a s t.0 in
-    let second : b ≡ y = eqb_same b y t.1 in
+    let t = and_parts (a == s) (b == y) e in
+    let first : a ≡ s = eqb-true a s t.0 in
+    let second : b ≡ y = eqb-true b y t.1 in
     cc
 
 mapping_pair : (s y : ℕ) (m : List ℕ) → m ≡ s ∷ y ∷ [] → is_pair s y m ≡ true
-mapping_pair s y m e = rw e (both_and (s == s) (y == y) (eqb_self s) (eqb_self y))
+mapping_pair s y m e = rw e (and_from (s == s) (y == y) (eq-eqb s s refl) (eq-eqb y y refl))
 
 second_mapping : (y : ℕ) (m : List ℕ) → is_second y m ≡ true → (s : ℕ) × (m ≡ s ∷ y ∷ [])
-second_mapping y [] e = absurd (true_false false e refl)
-second_mapping y (a ∷ []) e = absurd (true_false false e refl)
-second_mapping y (a ∷ b ∷ c ∷ m) e = absurd (true_false false e refl)
-second_mapping y (a ∷ b ∷ []) e = let second : b ≡ y = eqb_same b y e in (a, ap (λ n. a ∷ n ∷ []) second)
+second_mapping y [] e = absurd (true≢false (sym e))
+second_mapping y (a ∷ []) e = absurd (true≢false (sym e))
+second_mapping y (a ∷ b ∷ c ∷ m) e = absurd (true≢false (sym e))
+second_mapping y (a ∷ b ∷ []) e = let second : b ≡ y = eqb-true b y e in (a, ap (λ n. a ∷ n ∷ []) second)
 
 module _ (F : ℕ → Facts) (s y : ℕ) where
   composes_from : (q : ℕ) → q < point_count → composes F s y q ≡ true → Composes F s y q
   composes_from q lt e =
-      let t = and_both (primary F q) (is_pair s y (F q).mapping) e in
+      let t = and_parts (primary F q) (is_pair s y (F q).mapping) e in
       record { point = lt; primary = t.0; mapping = pair_mapping s y (F q).mapping t.1 }
 
   composes_test : (q : ℕ) → Composes F s y q → composes F s y q ≡ true
-  composes_test q is = both_and (primary F q) (is_pair s y (F q).mapping) is.primary (mapping_pair s y (F q).mapping is.mapping)
+  composes_test q is = and_from (primary F q) (is_pair s y (F q).mapping) is.primary (mapping_pair s y (F q).mapping is.mapping)
 
   not_composes : (q : ℕ) → ¬ Composes F s y q → q < point_count → composes F s y q ≡ false
   not_composes q absent lt =
@@ -117,8 +95,8 @@ module _ (F : ℕ → Facts) (s y : ℕ) where
       by (composes F s y q) refl
 
   pair_from : (r : Option ℕ) → Least (composes F s y) 0 point_count r → IsPair F s y r
-  pair_from None l = λ q is. true_false (composes F s y q) (composes_test q is) (l q (omega arith) is.point)
-  pair_from (Some q) l = (composes_from q l.1 l.2, λ k lt is. true_false (composes F s y k) (composes_test k is) (l.3 k (omega arith) lt))
+  pair_from None l = λ q is. both_ways (composes F s y q) (l q (omega arith) is.point) (composes_test q is)
+  pair_from (Some q) l = (composes_from q l.1 l.2, λ k lt is. both_ways (composes F s y k) (l.3 k (omega arith) lt) (composes_test k is))
 
   pair_least : (r : Option ℕ) → IsPair F s y r → Least (composes F s y) 0 point_count r
   pair_least None absent = λ k from below. not_composes k (absent k) below
@@ -136,16 +114,8 @@ pair_is_only F s y r is = Least_only (composes F s y) 0 point_count (pair_of F s
 
 -- ---- some number that passes a test
 
-or_cases : (a b : Bool) → a || b ≡ true → (a ≡ true) ⊎ (b ≡ true)
-or_cases true b e = inl refl
-or_cases false b e = inr e
-
-or_right : (a b : Bool) → b ≡ true → a || b ≡ true
-or_right true b e = refl
-or_right false b e = e
-
 any_some : (p : ℕ → Bool) (a n b : ℕ) → a + n ≡ b → list_any p (range_with_len a n) ≡ true → (q : ℕ) × (q < b) × (p q ≡ true)
-any_some p a zero b e any = absurd (true_false false any refl)
+any_some p a zero b e any = absurd (true≢false (sym any))
 any_some p a (suc n) b e any =
     elim (or_cases (p a) (list_any p (range_with_len (a + 1) n)) any) [
       | inl here ↦ (a, omega arith, here)
@@ -163,12 +133,12 @@ some_any p a (suc n) b q e from below is =
 module _ (F : ℕ → Facts) (y : ℕ) where
   second_from : (q : ℕ) → q < point_count → ends_with F y q ≡ true → IsSecond F y
   second_from q lt e =
-      let t = and_both (primary F q) (is_second y (F q).mapping) e in
+      let t = and_parts (primary F q) (is_second y (F q).mapping) e in
       let m = second_mapping y (F q).mapping t.1 in
       (m.0, q, record { point = lt; primary = t.0; mapping = m.1 })
 
   second_test : (s q : ℕ) → Composes F s y q → ends_with F y q ≡ true
-  second_test s q is = both_and (primary F q) (is_second y (F q).mapping) is.primary (rw is.mapping (eqb_self y))
+  second_test s q is = and_from (primary F q) (is_second y (F q).mapping) is.primary (rw is.mapping (eq-eqb y y refl))
 
   second_found : second_of F y ≡ true → IsSecond F y
   unfolding second_of
@@ -205,5 +175,5 @@ pub second_of_none : (F : ℕ → Facts) (y : ℕ) → ((k : ℕ) → k < point_
 unfolding second_of
 second_of_none F y absent =
     let found : list_any (ends_with F y) (range_with_len 0 point_count) ≡ true → ⊥ = λ (e : list_any (ends_with F y) (range_with_len 0 point_count) ≡ true).
-    let t = any_some (ends_with F y) 0 point_count point_count (omega arith) e in true_false (ends_with F y t.0) t.2 (absent t.0 t.1) in
-    not_true (second_of F y) found
+    let t = any_some (ends_with F y) 0 point_count point_count (omega arith) e in both_ways (ends_with F y t.0) (absent t.0 t.1) t.2 in
+    false_from_ne_true (second_of F y) found

@@ -19,12 +19,12 @@ use Rattle.std.specs.Bool.{Decides}
 use Rattle.std.proofs.lemmas.Bool.{and_parts, eqb-true, eq-eqb}
 use Rattle.std.proofs.lemmas.List.FromFn.{get_or-range_with_len}
 use Rattle.std.proofs.Math.ListN.{get_or-map}
-use Rattle.std.proofs.lemmas.Option.{get_or_from_slice_get, slice_get-map}
+use Rattle.std.proofs.lemmas.Option.{get_or_from_slice_get, slice_get-get_or, slice_get-map}
 use Rattle.ucd_model.specs.DerivedFiles.{derived_files}
 use Rattle.ucd_model.specs.Facts.{status_place}
 use Rattle.ucd_model.specs.Predicates.{category_place, core_properties}
 use Rattle.ucd_model.specs.Sets.{flag_place, core_place}
-use Rattle.ucd_model.specs.SourceFiles.{source_files, file_place}
+use Rattle.ucd_model.specs.SourceFiles.{source_files, file_place, file_place_small, file_at-place}
 use Rattle.ucd_model.specs.Enumerations.{IsEnumeration, EnumerationsAreWhole, categories, statuses, tags, place_of_tag, kinds, place_of_kind, flags, place_of_derived, forms, place_of_form, quick_values, place_of_quick, rules, place_of_rule}
 use Rattle.ucd_model.specs.declared.category.Category.{Category}
 use Rattle.ucd_model.specs.declared.category.Category.TheVariants.{Lu, Ll, Lt, Lm, Lo, Mn, Mc, Me, Nd, Nl, No, Pc, Pd, Ps, Pe, Pi, Pf, Po, Sm, Sc, Sk, So, Zs, Zl, Zp, Cc, Cf, Cs, Co, Cn}
@@ -33,7 +33,7 @@ use Rattle.ucd_model.specs.declared.decomposition.Kind.TheVariants as kind
 use Rattle.ucd_model.specs.declared.decomposition.Tag.{Tag}
 use Rattle.ucd_model.specs.declared.decomposition.Tag.TheVariants.{Font, NoBreak, Initial, Medial, Final, Isolated, Circle, Super, Sub, Vertical, Wide, Narrow, Small, Square, Fraction, Compat}
 use Rattle.ucd_model.specs.declared.files.SourceFile.{SourceFile}
-use Rattle.ucd_model.specs.declared.files.SourceFile.TheVariants.{UnicodeData, PropList, Scripts, WordBreakProperty, CompositionExclusions, CaseFolding, SpecialCasing, PropertyAliases, PropertyValueAliases}
+use Rattle.ucd_model.specs.declared.files.SourceFile.TheVariants.{UnicodeData}
 use Rattle.ucd_model.specs.declared.files.DerivedFile.{DerivedFile}
 use Rattle.ucd_model.specs.declared.files.DerivedFile.TheVariants.{CoreProperties, NormalizationProps, GeneralCategory, CombiningClass, DecompositionType}
 use Rattle.ucd_model.specs.declared.form.Bad.{Bad as Rule}
@@ -158,15 +158,7 @@ core_at GraphemeBase = refl
 core_at GraphemeLink = refl
 
 source_at : (x : SourceFile) → slice_get source_files (file_place x) ≡ Some x
-source_at UnicodeData = refl
-source_at PropList = refl
-source_at Scripts = refl
-source_at WordBreakProperty = refl
-source_at CompositionExclusions = refl
-source_at CaseFolding = refl
-source_at SpecialCasing = refl
-source_at PropertyAliases = refl
-source_at PropertyValueAliases = refl
+source_at x = slice_get-get_or source_files (file_place x) UnicodeData (file_place_small x) ∙ ap (λ (file : SourceFile). Some file) (file_at-place x)
 
 derived_at : (x : DerivedFile) → slice_get derived_files (place_of_derived x) ≡ Some x
 derived_at CoreProperties = refl

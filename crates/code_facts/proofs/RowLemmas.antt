@@ -12,7 +12,7 @@ use Rattle.ucd_model.specs.declared.row.Row.TheVariants.{Unit as DataLine, Value
 use Rattle.release_rows.specs.Keys.{key_rule, same_key, overlaps}
 use Rattle.release_rows.specs.FileItems.{FileItem, rows_in, onto_rows}
 use Rattle.release_rows.specs.Releases.{AreKept, AreKeptBelow}
-use Rattle.release_rows.specs.declared.key_rule.KeyRule.TheVariants.{K1, K4}
+use Rattle.release_rows.specs.declared.conflict.Conflict.TheVariants.{K1, K4}
 use Rattle.code_facts.specs.Rows.{Apart}
 
 -- ---- rows that do not overlap

@@ -8,10 +8,11 @@ use Rattle.std.specs.declared.cmp.Ordering.TheVariants.{Less, Equal, Greater}
 use Rattle.std.specs.Ordering.{is_eq, is_lt, is_gt, match_ordering}
 use Rattle.std.specs.BTreeMap.{BTreeMap, get, is_at, IsOrdered, insert_entry}
 use Rattle.std.proofs.lemmas.Bool.{and_parts, and_from, leb-true, le-leb, false_from_ne_true, cases_lt}
-use Rattle.release_rows.specs.Extents.{Extent, same_texts, same_start, meets, conflict_with}
+use Rattle.source_rows.specs.Keys.{same_texts}
+use Rattle.release_rows.specs.Extents.{Extent, same_start, meets, conflict_with}
 use Rattle.release_rows.specs.Places.{names_in, place_cmp, extent_at, extent_of, AreApart}
 use Rattle.release_rows.specs.declared.place.Place.{Place}
-use Rattle.release_rows.specs.declared.key_rule.KeyRule.TheVariants.{K1, K4}
+use Rattle.release_rows.specs.declared.conflict.Conflict.TheVariants.{K1, K4}
 use Rattle.release_rows.proofs.Texts.{texts_same}
 use Rattle.release_rows.proofs.PlaceOrder.{itself, same_keys, equal_keys, is_before, before_same, between}
 use Rattle.release_rows.proofs.Found.{starts_any, found_any, any_found, finds_same}

@@ -7,7 +7,8 @@ use Rattle.std.proofs.lemmas.List.Folds.{list_any-append}
 use Rattle.ucd_model.specs.declared.files.SourceFile.{SourceFile}
 use Rattle.ucd_model.specs.declared.row.Row.{Row}
 use Rattle.release_rows.specs.Extents.{Extent}
-use Rattle.release_rows.specs.Keys.{row_span, extent_in, last_start}
+use Rattle.source_rows.specs.Keys.{row_span}
+use Rattle.release_rows.specs.Keys.{extent_in, last_start}
 use Rattle.release_rows.specs.FileItems.{FileItem, onto_rows, rows_in, lines_of}
 use Rattle.release_rows.specs.Entries.{EntersSome}
 use Rattle.release_rows.specs.Progress.{entry_extents, start_of_entry, IsProgress}

@@ -17,7 +17,8 @@ use Rattle.ucd_model.specs.declared.row.Row.TheVariants.{Casing as CasingLine, A
 use Rattle.source_rows.specs.Faults.{row_or_fault, HasNames}
 use Rattle.source_rows.specs.Laws.{RowsAreRead, RowsAreOk}
 use Rattle.release_rows.specs.Entries.{EntersAs}
-use Rattle.release_rows.specs.Keys.{condition_names, alias_count, key_names, has_spans, row_end}
+use Rattle.source_rows.specs.Keys.{condition_names, alias_count, key_names}
+use Rattle.release_rows.specs.Keys.{has_spans, row_end}
 use Rattle.release_rows.specs.Names.{has_names, first_names}
 use Rattle.release_rows.specs.Places.{names_of}
 

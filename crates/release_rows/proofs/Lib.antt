@@ -8,3 +8,5 @@ pub mod Growing
 pub mod Standing
 pub mod Kept
 pub mod Faults
+pub mod RowsApart
+pub mod Operations

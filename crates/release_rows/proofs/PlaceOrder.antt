@@ -9,7 +9,8 @@ use Rattle.std.proofs.lemmas.Bool.{and_parts, eqb-true}
 use Rattle.std.proofs.lemmas.Bool.Decides.{nat_tests}
 use Rattle.std.proofs.lemmas.Cmp.{then_total, on_total, nat_list_cmp_total, nat_cmp_total, tied_itself, alike_right}
 use Rattle.std.proofs.lemmas.Map.Text.{is_eq-slice_cmp}
-use Rattle.release_rows.specs.Extents.{same_texts, same_start}
+use Rattle.source_rows.specs.Keys.{same_texts}
+use Rattle.release_rows.specs.Extents.{same_start}
 use Rattle.release_rows.specs.Places.{names_in, place_cmp, extent_at}
 use Rattle.release_rows.specs.declared.place.Place.{Place}
 use Rattle.release_rows.proofs.Texts.{is_eq-then, equal_is, texts_same, texts_tell_names}

@@ -6,15 +6,16 @@ use Rattle.ucd_model.specs.declared.files.SourceFile.{SourceFile}
 use Rattle.ucd_model.specs.declared.row.Row.{Row}
 use Rattle.release_rows.specs.Extents.{Extent, same_start, meets, conflict_with}
 use Rattle.release_rows.specs.Places.{names_in, extent_at}
-use Rattle.release_rows.specs.Keys.{row_span, row_end, key_names, has_spans, same_key, overlaps, key_rule, extent_in, is_back, last_start, falls_back}
+use Rattle.source_rows.specs.Keys.{row_span, key_names}
+use Rattle.release_rows.specs.Keys.{row_end, has_spans, same_key, overlaps, key_rule, extent_in, is_back, last_start, falls_back}
 use Rattle.release_rows.specs.FileItems.{FileItem, rows_in}
 use Rattle.release_rows.specs.Loading.{row_rule, load_rule}
 use Rattle.release_rows.specs.Entries.{EntersSome}
 use Rattle.release_rows.specs.Progress.{BreaksNoRule, IsFreeEntry}
 use Rattle.release_rows.specs.declared.entry.Entry.{Entry}
 use Rattle.release_rows.specs.declared.place.Place.{Place}
-use Rattle.release_rows.specs.declared.key_rule.KeyRule.{KeyRule}
-use Rattle.release_rows.specs.declared.key_rule.KeyRule.TheVariants.{K1, K4}
+use Rattle.release_rows.specs.declared.conflict.Conflict.{Conflict}
+use Rattle.release_rows.specs.declared.conflict.Conflict.TheVariants.{K1, K4}
 use Rattle.release_rows.specs.declared.load_stop.LoadRule.TheVariants.{K5}
 
 pub extent_is : (file : SourceFile) (row : Row) (place : Place) (last : ℕ) → names_in place ≡ key_names file row → place.code ≡ (row_span row).lo → last ≡ row_end file row → extent_at place last ≡ extent_in file row
@@ -62,7 +63,7 @@ pub by_extents : (file : SourceFile) (row : Row) (above : List Row) → conflict
 by_extents file row above = rules_by file row above (has_spans file) refl
 
 -- the rule that is told of keys and spans, and else of the order
-pub rule_from : (file : SourceFile) (row : Row) (above : List Row) (rule : KeyRule) → Some rule ≡ key_rule file above row → Some (load_rule rule) ≡ row_rule file above row
+pub rule_from : (file : SourceFile) (row : Row) (above : List Row) (rule : Conflict) → Some rule ≡ key_rule file above row → Some (load_rule rule) ≡ row_rule file above row
 rule_from file row above rule h = rw (← h) refl
 
 pub back_from : (file : SourceFile) (row : Row) (above : List Row) (back : Bool) → None ≡ key_rule file above row → back ≡ falls_back file above row → cond back (Some K5) None ≡ row_rule file above row
@@ -71,7 +72,7 @@ back_from file row above back h k = rw (← h, ← k) refl
 pub back_is : (file : SourceFile) (row : Row) (above : List Row) (before : Option ℕ) (code : ℕ) (back : Bool) → back ≡ is_back file before code → before ≡ last_start above → code ≡ (row_span row).lo → back ≡ falls_back file above row
 back_is file row above before code back h start same = h ∙ rw (start, same) refl
 
-pub no_key_rule : (o : Option KeyRule) (back : Bool) (file : SourceFile) (row : Row) (above : List Row) → key_rule file above row ≡ o → row_rule file above row ≡ None → o ≡ None
+pub no_key_rule : (o : Option Conflict) (back : Bool) (file : SourceFile) (row : Row) (above : List Row) → key_rule file above row ≡ o → row_rule file above row ≡ None → o ≡ None
 no_key_rule None back file row above h k = refl
 no_key_rule (Some rule) back file row above h k = absurd (let e : Some (load_rule rule) ≡ None = rw h at k in cc)
 

@@ -8,7 +8,7 @@ use Rattle.std.specs.Str.{bytes_eq}
 use Rattle.std.proofs.lemmas.Bool.{and_parts, and_from}
 use Rattle.std.proofs.lemmas.List.Splits.{join_with_byte-slice_split}
 use Rattle.std.proofs.lemmas.Slice.Eq.{bytes_eq-Decides}
-use Rattle.release_rows.specs.Extents.{same_texts}
+use Rattle.source_rows.specs.Keys.{same_texts}
 use Rattle.release_rows.specs.Places.{names_of}
 
 -- what is equal in two steps is equal in both
@@ -46,7 +46,7 @@ joined_again (b ∷ bs) = join_with_byte-slice_split 59 (b ∷ bs)
 pub names_tell_text : (a b : List ℕ) → names_of a ≡ names_of b → a ≡ b
 names_tell_text a b h = sym (joined_again a) ∙ ap (λ (ns : List (List ℕ)). join_with_byte 59 ns) h ∙ joined_again b
 
-both_or_none : (p q : Bool) → (p ≡ true → q ≡ true) → (q ≡ true → p ≡ true) → p ≡ q
+pub both_or_none : (p q : Bool) → (p ≡ true → q ≡ true) → (q ≡ true → p ≡ true) → p ≡ q
 both_or_none true q h k = sym (h refl)
 both_or_none false true h k = k refl
 both_or_none false false h k = refl

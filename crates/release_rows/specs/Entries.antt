@@ -10,13 +10,14 @@ use Rattle.ucd_model.specs.declared.row.Row.{Row}
 use Rattle.source_rows.specs.declared.fault.RowFault.{RowFault}
 use Rattle.source_rows.specs.declared.fault.RowStop.{RowStop}
 use Rattle.source_rows.specs.declared.fault.RowStop.TheVariants.{Fault, Memory}
-use Rattle.release_rows.specs.Keys.{row_span, row_end, key_names}
+use Rattle.source_rows.specs.Keys.{row_span, key_names}
+use Rattle.release_rows.specs.Keys.{row_end}
 use Rattle.release_rows.specs.Places.{names_in}
 use Rattle.release_rows.specs.declared.entry.Entry.{Entry}
-use Rattle.release_rows.specs.declared.key_rule.KeyRule.{KeyRule}
+use Rattle.release_rows.specs.declared.conflict.Conflict.{Conflict}
 use Rattle.release_rows.specs.declared.place.Place.{Place}
 
-abbrev pub IsFree : Result Place KeyRule → Place → Option KeyRule → Type 0
+abbrev pub IsFree : Result Place Conflict → Place → Option Conflict → Type 0
 IsFree (Ok free) place rule = (free ≡ place) × (rule ≡ None)
 IsFree (Err broken) place rule = rule ≡ Some broken
 

@@ -1,15 +1,5 @@
 -- The keys of rows, and which rows of one file may not stand together.
 --
--- row_span row                the code points that the row speaks of; the one of a folding or a casing. A row of names has 0
--- RowKey                      names, and a code point
--- one_point c                 the code points from c to c
--- condition_names bs          the conditions as one name; no name where there are none
--- value_names file value      the value as one name in PropList.txt; no name in every other file
--- alias_count file            how many names of an alias row its key has: two in PropertyAliases.txt, three in
---                             PropertyValueAliases.txt
--- key_names file row          the names in the row's key: the property of PropList.txt, the status of a folding, the conditions
---                             of a casing where there are any, and the first two or three names of an alias row
--- key_of file row             the names, and the first code point
 -- same_key file a b           the rows have one key: K1
 -- has_spans file              the rows of the file have spans that may not overlap
 -- spans_meet a b              the spans share a code point
@@ -22,58 +12,19 @@
 -- row_end file row            the last code point that may not be shared: the last of the row's span, or the first in a file
 --                             without spans
 -- extent_in file row          the names of the row's key, and the code points from the one in it to that last one
-use Rattle.std.specs.Prelude.{ℕ, Bool, true, false, ◌&&◌, List, [], ◌∷◌, take, Option, Some, None, ◌==◌, nat_le, nat_lt, if◌then◌else◌}
+use Rattle.std.specs.Prelude.{ℕ, Bool, true, false, ◌&&◌, List, [], ◌∷◌, Option, Some, None, ◌==◌, nat_le, nat_lt, if◌then◌else◌}
 use Rattle.std.specs.List.{list_any}
 use Rattle.ucd_model.specs.Bounds.{Bounds}
-use Rattle.ucd_model.specs.Names.{status_code}
 use Rattle.ucd_model.specs.declared.files.SourceFile.{SourceFile}
-use Rattle.ucd_model.specs.declared.files.SourceFile.TheVariants.{UnicodeData, PropList, Scripts, WordBreakProperty, CompositionExclusions, PropertyAliases}
+use Rattle.ucd_model.specs.declared.files.SourceFile.TheVariants.{UnicodeData, PropList, Scripts, WordBreakProperty, CompositionExclusions}
 use Rattle.ucd_model.specs.declared.row.Row.{Row}
-use Rattle.ucd_model.specs.declared.row.Row.TheVariants.{Unit as DataLine, Value as ValueLine, Exclusion as ExclusionLine, Fold as FoldLine, Casing as CasingLine, Alias as AliasLine}
-use Rattle.release_rows.specs.Extents.{Extent, same_texts}
-use Rattle.release_rows.specs.declared.key_rule.KeyRule.{KeyRule}
-use Rattle.release_rows.specs.declared.key_rule.KeyRule.TheVariants.{K1, K4}
-
-pub record RowKey : Type 0 where
-  pub names : List (List ℕ)
-  pub code : ℕ
-
-abbrev one_point : ℕ → Bounds
-one_point c = record { lo = c; hi = c }
-
-abbrev pub row_span : Row → Bounds
-row_span (DataLine row) = row.span
-row_span (ValueLine row) = row.span
-row_span (ExclusionLine row) = row.span
-row_span (FoldLine row) = one_point row.code
-row_span (CasingLine row) = one_point row.code
-row_span (AliasLine row) = one_point 0
-
-abbrev pub condition_names : List ℕ → List (List ℕ)
-condition_names [] = []
-condition_names (b ∷ bs) = (b ∷ bs) ∷ []
-
-abbrev pub value_names : SourceFile → List ℕ → List (List ℕ)
-value_names PropList value = value ∷ []
-value_names _ value = []
-
-abbrev pub alias_count : SourceFile → ℕ
-alias_count PropertyAliases = 2
-alias_count _ = 3
-
-abbrev pub key_names : SourceFile → Row → List (List ℕ)
-key_names file (ValueLine row) = value_names file row.value
-key_names file (FoldLine row) = (status_code row.status ∷ []) ∷ []
-key_names file (CasingLine row) = condition_names row.conditions
-key_names file (AliasLine row) = take (alias_count file) row.names
-key_names file (DataLine row) = []
-key_names file (ExclusionLine row) = []
-
-abbrev pub key_of : SourceFile → Row → RowKey
-key_of file row = record { names = key_names file row; code = (row_span row).lo }
+use Rattle.source_rows.specs.Keys.{row_span, key_names, same_texts}
+use Rattle.release_rows.specs.Extents.{Extent}
+use Rattle.release_rows.specs.declared.conflict.Conflict.{Conflict}
+use Rattle.release_rows.specs.declared.conflict.Conflict.TheVariants.{K1, K4}
 
 abbrev pub same_key : SourceFile → Row → Row → Bool
-same_key file a b = same_texts (key_of file a).names (key_of file b).names && ((key_of file a).code == (key_of file b).code)
+same_key file a b = same_texts (key_names file a) (key_names file b) && ((row_span a).lo == (row_span b).lo)
 
 abbrev pub has_spans : SourceFile → Bool
 has_spans UnicodeData = true
@@ -89,7 +40,7 @@ spans_meet a b = nat_le a.lo b.hi && nat_le b.lo a.hi
 abbrev pub overlaps : SourceFile → Row → Row → Bool
 overlaps file a b = has_spans file && (same_texts (key_names file a) (key_names file b) && spans_meet (row_span a) (row_span b))
 
-abbrev pub key_rule : SourceFile → List Row → Row → Option KeyRule
+abbrev pub key_rule : SourceFile → List Row → Row → Option Conflict
 key_rule file above row = if list_any (same_key file row) above then Some K1 else (if list_any (overlaps file row) above then Some K4 else None)
 
 abbrev pub last_start : List Row → Option ℕ

@@ -10,5 +10,7 @@ pub mod StoredItems
 pub mod Progress
 pub mod Walking
 pub mod Releases
+pub mod Operations
+pub mod OperationLaws
 pub mod Laws
 pub mod FileLemmas

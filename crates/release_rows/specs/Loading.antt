@@ -35,8 +35,8 @@ use Rattle.source_rows.specs.declared.fault.RowFault.TheVariants.{G04, G09}
 use Rattle.release_rows.specs.Keys.{key_rule, falls_back}
 use Rattle.release_rows.specs.Pieces.{Lines, pieces, piece_content, piece_ending, piece_lines}
 use Rattle.release_rows.specs.FileItems.{FileItem, rows_in, lines_of}
-use Rattle.release_rows.specs.declared.key_rule.KeyRule.{KeyRule}
-use Rattle.release_rows.specs.declared.key_rule.KeyRule.TheVariants.{K1, K4}
+use Rattle.release_rows.specs.declared.conflict.Conflict.{Conflict}
+use Rattle.release_rows.specs.declared.conflict.Conflict.TheVariants.{K1, K4}
 use Rattle.release_rows.specs.declared.load_stop.LoadRule.{LoadRule}
 use Rattle.release_rows.specs.declared.load_stop.LoadRule.TheVariants.{G02, Row as RowRule, K1 as KeyTwice, K4 as Overlap, K5}
 
@@ -76,11 +76,11 @@ fault_line file line p fault = if faulty_last file p fault then line + 1 else li
 
 -- ---- a row among the rows above it
 
-abbrev pub load_rule : KeyRule → LoadRule
+abbrev pub load_rule : Conflict → LoadRule
 load_rule K1 = KeyTwice
 load_rule K4 = Overlap
 
-abbrev rule_by : Option KeyRule → Bool → Option LoadRule
+abbrev rule_by : Option Conflict → Bool → Option LoadRule
 rule_by (Some rule) back = Some (load_rule rule)
 rule_by None back = if back then Some K5 else None
 

@@ -1,10 +1,13 @@
-//! The rules that a row keeps beside the other rows of its file.
+//! The rules on keys and spans that an operation may break.
 
-/// What a row breaks against the rows above it.
+/// What the row of an operation breaks against the rows of its file.
 #[derive(Clone, Copy, Debug, PartialEq, Eq)]
 pub enum KeyRule {
     /// A row with this key is there already.
     K1,
-    /// The row overlaps another one.
+    /// No row has this key.
+    K2,
+    /// The row overlaps another one: in UnicodeData.txt, Scripts.txt, WordBreakProperty.txt and
+    /// CompositionExclusions.txt any row, in PropList.txt one of the same property.
     K4,
 }

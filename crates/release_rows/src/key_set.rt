@@ -6,7 +6,7 @@ ghost use Rattle.release_rows.specs.Extents.{Extent, conflict_with};
 ghost use Rattle.release_rows.specs.Places.{extent_at};
 ghost use Rattle.release_rows.specs.Entries.{IsFree};
 
-use crate::key_rule::KeyRule;
+use crate::conflict::Conflict;
 use crate::place::Place;
 use std::alloc::Global;
 use std::collections::BTreeMap;
@@ -44,12 +44,12 @@ impl KeySet {
 
     /// Hands the place of a row back where the row, up to its last code point, breaks no rule against these extents,
     /// and else answers the rule. It takes no memory.
-    pub fn checked_place(&self, place: Place, last: u32) -> Result<Place, KeyRule>
+    pub fn checked_place(&self, place: Place, last: u32) -> Result<Place, Conflict>
         requires { place.code ≤ last }
         ensures { IsFree result place (conflict_with self.now (extent_at place last)) }
     {
         if self.ends.contains_key(&place) {
-            return Err(KeyRule::K1);
+            return Err(Conflict::K1);
         }
         // extents of the same names lie apart: of those that begin no later than this one ends, only the last one can
         // reach it
@@ -62,7 +62,7 @@ impl KeySet {
             });
         };
         if before.names == end.names && code <= *reached {
-            return Err(KeyRule::K4);
+            return Err(Conflict::K4);
         }
         Ok(Place {
             names: end.names,

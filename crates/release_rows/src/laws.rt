@@ -1,7 +1,9 @@
 //! Laws of loaded files.
 
+ghost use Rattle.release_rows.specs.OperationLaws.{OperationsKeepRows};
 ghost use Rattle.release_rows.specs.Laws.{FaultsAreFirst, LoadsExactly, BytesAreKept};
 
+use source_rows::rows_are_no_trivia;
 use ucd_lines::items_join;
 
 /// A file is refused exactly by its first fault: no piece above has one.
@@ -19,4 +21,12 @@ pub fn bytes_are_kept()
     ensures { BytesAreKept }
 {
     items_join();
+}
+
+/// Where the items of a file are kept, they are so after an operation: each item is read from its content, keys differ,
+/// and rows do not overlap where the file forbids it.
+pub fn operations_keep_rows()
+    ensures { OperationsKeepRows }
+{
+    rows_are_no_trivia();
 }

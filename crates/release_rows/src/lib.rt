@@ -1,8 +1,10 @@
 //! Loads the source files of a release and keeps their text, from which their rows are read again.
 #![tactic(auto)]
 
+mod conflict;
 mod entry;
 mod file_text;
+
 mod key_rule;
 mod key_set;
 mod laws;
@@ -10,6 +12,7 @@ mod load_items;
 mod load_stop;
 mod loading;
 mod nine_files;
+mod operation;
 mod piece;
 mod place;
 mod read_entry;
@@ -21,8 +24,9 @@ mod row_text;
 mod stretch;
 
 pub use key_rule::KeyRule;
-pub use laws::{bytes_are_kept, faults_are_first, loads_exactly};
+pub use laws::{bytes_are_kept, faults_are_first, loads_exactly, operations_keep_rows};
 pub use load_stop::{LoadRule, LoadStop};
+pub use operation::{Op, Ops, OpStop};
 pub use release::Release;
 pub use row_iter::Rows;
 pub use row_text::RowText;

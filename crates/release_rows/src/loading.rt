@@ -13,7 +13,7 @@ ghost use Rattle.release_rows.specs.Progress.{Progress, TakesPiece, Stands, Brea
 ghost use Rattle.release_rows.specs.StoredItems.{piece_of, item_at, IsItem};
 
 use crate::entry::Entry;
-use crate::key_rule::KeyRule;
+use crate::conflict::Conflict;
 use crate::key_set::KeySet;
 use crate::load_stop::{LoadRule, LoadStop};
 use crate::piece::{Piece, ending_len, stretch_of};
@@ -116,8 +116,8 @@ impl<'a> Loading<'a> {
         let Entry { place, last } = entry;
         let place = match self.keys.checked_place(place, last) {
             Ok(place) => place,
-            Err(KeyRule::K1) => return Err(LoadRule::K1),
-            Err(KeyRule::K4) => return Err(LoadRule::K4),
+            Err(Conflict::K1) => return Err(LoadRule::K1),
+            Err(Conflict::K4) => return Err(LoadRule::K4),
         };
         if is_back(self.file, self.before, place.code) {
             return Err(LoadRule::K5);

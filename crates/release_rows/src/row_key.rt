@@ -4,7 +4,8 @@ ghost use Rattle.std.specs.Prelude.{◌≡◌, ◌≤◌, true, IfOk, IsTrue};
 ghost use Rattle.ucd_model.specs.Fields.{is_name};
 ghost use Rattle.ucd_model.specs.Names.{status_code};
 ghost use Rattle.ucd_model.specs.RowValues.{RowOk};
-ghost use Rattle.release_rows.specs.Keys.{row_span, row_end, has_spans, alias_count, key_names, value_names};
+ghost use Rattle.source_rows.specs.Keys.{row_span, alias_count, key_names, value_names};
+ghost use Rattle.release_rows.specs.Keys.{row_end, has_spans};
 ghost use Rattle.release_rows.specs.Names.{has_names};
 ghost use Rattle.release_rows.specs.Places.{names_of};
 

@@ -28,3 +28,5 @@ pub mod FieldValues
 pub mod ReadValues
 pub mod RowsOk
 pub mod FirstLines
+pub mod KeyGrammar
+pub mod Trivia

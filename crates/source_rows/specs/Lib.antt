@@ -6,4 +6,7 @@ pub mod OtherFaults
 pub mod Texts
 pub mod Faults
 pub mod Ranges
+pub mod Keys
+pub mod KeyGrammar
+pub mod Trivia
 pub mod Laws

@@ -56,7 +56,7 @@ pub fn names_or_fault(least: usize, content: &[u8]) -> Result<Fields<'_>, RowFau
 }
 
 /// The names, copied.
-fn copied(alloc: Global, names: Fields<'_>) -> Result<Texts, Memory>
+pub fn copied(alloc: Global, names: Fields<'_>) -> Result<Texts, Memory>
     ensures { IfOk result (λ copy. copy ≡ names.entry) }
 {
     let mut copy = Texts::new(alloc);

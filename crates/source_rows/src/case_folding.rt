@@ -17,7 +17,7 @@ use ucd_lines::hex;
 use ucd_model::{FoldRow, FoldStatus, Memory, Points, Row};
 
 /// The status that one byte names. `None` for all other bytes.
-fn status_of(field: &[u8]) -> Option<FoldStatus>
+pub fn status_of(field: &[u8]) -> Option<FoldStatus>
     ensures { result ≡ status_of field.now }
 {
     match field {

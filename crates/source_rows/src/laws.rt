@@ -1,7 +1,9 @@
 //! Laws that tie what is read to the grammar.
 
+ghost use Rattle.source_rows.specs.KeyGrammar.{KeysAreRead};
 ghost use Rattle.source_rows.specs.Laws.{SpansAreSpelled, CategoriesAreNamed, RowsAreOk, RowsAreRead, SpellingsAreOne, TextsReadBack};
 ghost use Rattle.source_rows.specs.Ranges.{FirstLinesBegin};
+ghost use Rattle.source_rows.specs.Trivia.{RowsAreNoTrivia};
 
 /// The reader gives a row exactly where the grammar reads the bytes as that row.
 pub fn rows_are_read()
@@ -33,7 +35,17 @@ pub fn spellings_are_one()
     ensures { SpellingsAreOne }
 {}
 
+/// A key is given exactly where the text stands for that key.
+pub fn keys_are_read()
+    ensures { KeysAreRead }
+{}
+
 /// What a first line of a range says of the fault of two lines.
 pub fn first_lines_begin()
     ensures { FirstLinesBegin }
+{}
+
+/// Bytes that are read as a row are neither blank nor a comment.
+pub fn rows_are_no_trivia()
+    ensures { RowsAreNoTrivia }
 {}

@@ -12,6 +12,8 @@ mod fault;
 mod fields;
 mod fifteen;
 mod in_place;
+mod key;
+mod keys;
 mod laws;
 mod lines;
 mod mapping;
@@ -31,14 +33,18 @@ mod word_break_property;
 
 pub use fault::{RowFault, RowStop};
 pub use in_place::{read_names, read_value_text};
+pub use key::Key;
+pub use keys::read_key;
 pub use laws::{
-    categories_are_named, first_lines_begin, rows_are_ok, rows_are_read, spans_are_spelled,
-    spellings_are_one, texts_read_back,
+    categories_are_named, first_lines_begin, keys_are_read, rows_are_no_trivia, rows_are_ok,
+    rows_are_read, spans_are_spelled, spellings_are_one, texts_read_back,
 };
 pub use read::read_row;
 pub use text::row_text;
 pub use unicode_data::begins_range;
 pub use values::ValueText;
 
+#[cfg(test)]
+mod key_tests;
 #[cfg(test)]
 mod tests;

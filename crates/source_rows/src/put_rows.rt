@@ -21,7 +21,7 @@ pub fn put_value(row: &ValueRow, into: &mut Text) -> Result<(), Memory>
 }
 
 /// The letter of a status.
-fn status_code(status: FoldStatus) -> u8
+pub fn status_code(status: FoldStatus) -> u8
     ensures { result ≡ status_code status }
 {
     match status {

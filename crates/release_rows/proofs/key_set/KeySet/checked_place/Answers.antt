@@ -1,5 +1,5 @@
 use Rattle.std.proofs.Common.{◌≡◌, ◌<◌, true, false, refl, sym, ap, ◌∙◌}
-use Rattle.release_rows.specs.Extents.{same_texts}
+use Rattle.source_rows.specs.Keys.{same_texts}
 use Rattle.release_rows.specs.Places.{names_in}
 use Rattle.release_rows.proofs.Texts.{texts_tell_names}
 use Rattle.release_rows.proofs.PlaceOrder.{itself}

@@ -1,7 +1,7 @@
 use Rattle.std.proofs.Common.{true, false, Some, map, sym, ap, ◌∙◌}
 use Rattle.release_rows.specs.FileItems.{rows_in}
 use Rattle.release_rows.specs.StoredItems.{item_at}
-use Rattle.release_rows.specs.declared.key_rule.KeyRule.TheVariants.{K1, K4}
+use Rattle.release_rows.specs.declared.conflict.Conflict.TheVariants.{K1, K4}
 use Rattle.release_rows.specs.declared.entry.Entry.{Entry}
 use Rattle.release_rows.specs.declared.place.Place.{Place}
 use Rattle.release_rows.proofs.RowRules.{rule_from, back_from, back_is, rule_told}

@@ -1,0 +1,72 @@
+//! Operations on the rows of a release.
+
+ghost use Rattle.std.specs.Prelude.{◌≡◌};
+
+use crate::key_rule::KeyRule;
+use source_rows::Key;
+use std::alloc::AllocFailed;
+use ucd_model::{ListOf, Memory, Row, SourceFile, Text};
+
+/// One operation on the rows of a file.
+#[derive(Debug, Drop)]
+pub enum Op {
+    /// The row is put where its key has its place among the rows of its group.
+    Add {
+        /// The file.
+        file: SourceFile,
+        /// The row.
+        row: Row,
+        /// What the row is read from: a line without its end, or the two lines of a range.
+        bytes: Text,
+    },
+    /// The row takes the place of the row that has its key.
+    Change {
+        /// The file.
+        file: SourceFile,
+        /// The row.
+        row: Row,
+        /// What the row is read from: a line without its end, or the two lines of a range.
+        bytes: Text,
+    },
+    /// The row that has the key is taken out.
+    Withdraw {
+        /// The file.
+        file: SourceFile,
+        /// The key.
+        key: Key,
+    },
+}
+
+/// Operations, in order.
+pub type Ops = ListOf<Op>;
+
+/// Why an operation was not carried out.
+#[derive(Clone, Copy, Debug, PartialEq, Eq, Drop)]
+pub enum OpStop {
+    /// The rule that the operation breaks.
+    Key(KeyRule),
+    /// Memory ran out.
+    Memory,
+}
+
+/// Want of memory is `OpStop::Memory`.
+impl From<Memory> for OpStop {
+    ghost use Rattle.release_rows.specs.declared.operation.OpStop.TheVariants.{Memory};
+
+    ghost from_gives = { λ _ e. e ≡ Memory };
+
+    fn from(_e: Memory) -> OpStop {
+        OpStop::Memory
+    }
+}
+
+/// The same, of a call that hands back what it could not put; that is dropped.
+impl<T: Drop> From<AllocFailed<T>> for OpStop {
+    ghost use Rattle.release_rows.specs.declared.operation.OpStop.TheVariants.{Memory};
+
+    ghost from_gives = { λ _ e. e ≡ Memory };
+
+    fn from(_e: AllocFailed<T>) -> OpStop {
+        OpStop::Memory
+    }
+}

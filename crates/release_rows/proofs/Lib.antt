@@ -10,3 +10,4 @@ pub mod Kept
 pub mod Faults
 pub mod RowsApart
 pub mod Operations
+pub mod Touched

@@ -111,6 +111,19 @@ any_or file row (r ∷ rows) h k =
     let q = or_parts (overlaps file row r) (list_any (overlaps file row) rows) k in
     or_from _ _ (or_from _ _ p.0 q.0) (any_or file row rows p.1 q.1)
 
+-- the rows of changed items
+pub rows_changed : (file : SourceFile) (row : Row) (bytes : List ℕ) (is : List FileItem) → rows_in (map (changed_item file row bytes) is) ≡ map (row_instead file row) (rows_in is)
+rows_changed file row bytes [] = refl
+rows_changed file row bytes (item ∷ is) = by item.row refl (rows_changed file row bytes is)
+  where
+    also : (b : Bool) (r : Row) → same_key file row r ≡ b → item.row ≡ Some r → onto_rows (changed_item file row bytes item).row (rows_in (map (changed_item file row bytes) is)) ≡ row_instead file row r ∷ rows_in (map (changed_item file row bytes) is)
+    also true r e h = rw (h, e) refl
+    also false r e h = rw (h, e) refl
+
+    by : (o : Option Row) → item.row ≡ o → rows_in (map (changed_item file row bytes) is) ≡ map (row_instead file row) (rows_in is) → onto_rows (changed_item file row bytes item).row (rows_in (map (changed_item file row bytes) is)) ≡ map (row_instead file row) (onto_rows o (rows_in is))
+    by None h e = rw h e
+    by (Some r) h e = also (same_key file row r) r refl h ∙ ap (λ (rs : List Row). row_instead file row r ∷ rs) e
+
 module _ (file : SourceFile) (items : List FileItem) (row : Row) (bytes : List ℕ) (law : RowsAreNoTrivia) (reads : row_or_fault file bytes ≡ Ok row) (kept : AreKept file items) where
   added : (n : ℕ) → holds_row (same_key file row) items ≡ false → holds_row (overlaps file row) items ≡ false → AreKept file (put_in items n (added_item row bytes))
   added n no_key no_overlap =
@@ -134,22 +147,10 @@ module _ (file : SourceFile) (items : List FileItem) (row : Row) (bytes : List �
       by true e = rw e (row_is_read file row bytes law reads)
       by false e = rw e h.0
 
-  rows_changed : (is : List FileItem) → rows_in (map (changed_item file row bytes) is) ≡ map (row_instead file row) (rows_in is)
-  rows_changed [] = refl
-  rows_changed (item ∷ is) = by item.row refl (rows_changed is)
-    where
-      also : (b : Bool) (r : Row) → same_key file row r ≡ b → item.row ≡ Some r → onto_rows (changed_item file row bytes item).row (rows_in (map (changed_item file row bytes) is)) ≡ row_instead file row r ∷ rows_in (map (changed_item file row bytes) is)
-      also true r e h = rw (h, e) refl
-      also false r e h = rw (h, e) refl
-
-      by : (o : Option Row) → item.row ≡ o → rows_in (map (changed_item file row bytes) is) ≡ map (row_instead file row) (rows_in is) → onto_rows (changed_item file row bytes item).row (rows_in (map (changed_item file row bytes) is)) ≡ map (row_instead file row) (onto_rows o (rows_in is))
-      by None h e = rw h e
-      by (Some r) h e = also (same_key file row r) r refl h ∙ ap (λ (rs : List Row). row_instead file row r ∷ rs) e
-
   changed : holds_row (overlaps_another file row) items ≡ false → AreKept file (map (changed_item file row bytes) items)
   changed no_overlap =
       let apart = put_instead file row (rows_in items) (all_are_apart file items kept) (any_rows (overlaps_another file row) items ∙ no_overlap) in
-      are_kept file (map (changed_item file row bytes) items) (read_changed items (all_read file [] items kept)) (rw (rows_changed items) apart)
+      are_kept file (map (changed_item file row bytes) items) (read_changed items (all_read file [] items kept)) (rw (rows_changed file row bytes items) apart)
 
 -- ---- an item that is taken out
 
@@ -161,7 +162,7 @@ read_filter file p (item ∷ items) h = by (p item) (read_filter file p items h.
     by true k = (h.0, k)
     by false k = k
 
-rows_filter : (p : Row → Bool) (items : List FileItem) → rows_in (filter (λ item. not (row_passes p item)) items) ≡ filter (λ row. not (p row)) (rows_in items)
+pub rows_filter : (p : Row → Bool) (items : List FileItem) → rows_in (filter (λ item. not (row_passes p item)) items) ≡ filter (λ row. not (p row)) (rows_in items)
 rows_filter p [] = refl
 rows_filter p (item ∷ items) = by item.row refl (rows_filter p items)
   where
@@ -178,18 +179,18 @@ withdrawn file items p kept = are_kept file _ (read_filter file _ items (all_rea
 
 -- ---- the operation
 
-passed : {A : Type 0} (b : Bool) (r : Result A KeyRule) (rule : KeyRule) (x : A) → cond b r (Err rule) ≡ Ok x → (b ≡ true) × (r ≡ Ok x)
+pub passed : {A : Type 0} (b : Bool) (r : Result A KeyRule) (rule : KeyRule) (x : A) → cond b r (Err rule) ≡ Ok x → (b ≡ true) × (r ≡ Ok x)
 passed true r rule x h = (refl, h)
 passed false r rule x h = absurd cc
 
-failed : {A : Type 0} (b : Bool) (r : Result A KeyRule) (rule : KeyRule) (x : A) → cond b (Err rule) r ≡ Ok x → (b ≡ false) × (r ≡ Ok x)
+pub failed : {A : Type 0} (b : Bool) (r : Result A KeyRule) (rule : KeyRule) (x : A) → cond b (Err rule) r ≡ Ok x → (b ≡ false) × (r ≡ Ok x)
 failed true r rule x h = absurd cc
 failed false r rule x h = (refl, h)
 
-abbrev found : List FileItem → Result (List FileItem) KeyRule
+abbrev pub found : List FileItem → Result (List FileItem) KeyRule
 found items = Ok items
 
-items_are : (xs ys : List FileItem) → found xs ≡ found ys → xs ≡ ys
+pub items_are : (xs ys : List FileItem) → found xs ≡ found ys → xs ≡ ys
 items_are xs ys h = cc
 
 keeps : RowsAreNoTrivia → OperationsKeepRows

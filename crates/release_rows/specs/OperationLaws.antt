@@ -2,11 +2,22 @@
 --
 -- OperationsKeepRows    where the items of a file are kept, they are so after an operation on the file: each item is read from its
 --                       content, keys differ, and rows do not overlap where the file forbids it
-use Rattle.std.specs.Prelude.{◌≡◌, List, Ok}
-use Rattle.release_rows.specs.FileItems.{FileItem}
-use Rattle.release_rows.specs.Operations.{IsOp, edited, op_file}
+-- speaks_of c row       the code point is one that the row speaks of; never so of a row of names
+-- RowsStay              a code point outside of what an operation touches has the same rows that speak of it, in the same order
+use Rattle.std.specs.Prelude.{◌≡◌, ℕ, Bool, false, List, Ok}
+use Rattle.std.specs.List.{filter, list_any}
+use Rattle.ucd_model.specs.Facts.{within}
+use Rattle.ucd_model.specs.declared.row.Row.{Row}
+use Rattle.release_rows.specs.FileItems.{FileItem, rows_in}
+use Rattle.release_rows.specs.Operations.{IsOp, edited, op_file, row_spans, touched}
 use Rattle.release_rows.specs.Releases.{AreKept}
 use Rattle.release_rows.specs.declared.operation.Op.{Op}
 
 abbrev pub OperationsKeepRows : Type 0
 OperationsKeepRows = (op : Op) (items next : List FileItem) → IsOp op → AreKept (op_file op) items → edited items op ≡ Ok next → AreKept (op_file op) next
+
+abbrev pub speaks_of : ℕ → Row → Bool
+speaks_of c row = list_any (within c) (row_spans row)
+
+abbrev pub RowsStay : Type 0
+RowsStay = (op : Op) (items next : List FileItem) (c : ℕ) → edited items op ≡ Ok next → list_any (within c) (touched items op) ≡ false → filter (speaks_of c) (rows_in next) ≡ filter (speaks_of c) (rows_in items)

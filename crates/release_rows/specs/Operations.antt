@@ -152,11 +152,11 @@ abbrev pub row_spans : Row → List Bounds
 row_spans (AliasLine row) = []
 row_spans row = row_span row ∷ []
 
-abbrev spans_of : Option Row → List Bounds
+abbrev pub spans_of : Option Row → List Bounds
 spans_of None = []
 spans_of (Some row) = row_spans row
 
-abbrev spans_with : (Row → Bool) → List FileItem → List Bounds
+abbrev pub spans_with : (Row → Bool) → List FileItem → List Bounds
 spans_with p items = flat_map (λ item. spans_of item.row) (filter (row_passes p) items)
 
 abbrev pub touched : List FileItem → Op → List Bounds

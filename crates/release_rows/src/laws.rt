@@ -1,6 +1,6 @@
 //! Laws of loaded files.
 
-ghost use Rattle.release_rows.specs.OperationLaws.{OperationsKeepRows};
+ghost use Rattle.release_rows.specs.OperationLaws.{OperationsKeepRows, RowsStay};
 ghost use Rattle.release_rows.specs.Laws.{FaultsAreFirst, LoadsExactly, BytesAreKept};
 
 use source_rows::rows_are_no_trivia;
@@ -30,3 +30,8 @@ pub fn operations_keep_rows()
 {
     rows_are_no_trivia();
 }
+
+/// A code point outside of what an operation touches has the same rows that speak of it, in the same order.
+pub fn rows_stay()
+    ensures { RowsStay }
+{}

@@ -24,7 +24,7 @@ mod row_text;
 mod stretch;
 
 pub use key_rule::KeyRule;
-pub use laws::{bytes_are_kept, faults_are_first, loads_exactly, operations_keep_rows};
+pub use laws::{bytes_are_kept, faults_are_first, loads_exactly, operations_keep_rows, rows_stay};
 pub use load_stop::{LoadRule, LoadStop};
 pub use operation::{Op, Ops, OpStop};
 pub use release::Release;

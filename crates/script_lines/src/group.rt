@@ -1,0 +1,12 @@
+//! A group that is open.
+
+use release_rows::Ops;
+
+/// A group that is not closed yet.
+#[derive(Debug, Drop)]
+pub struct OpenGroup {
+    /// The line of its `begin`, counted from 1.
+    pub line: u32,
+    /// Its operations so far.
+    pub ops: Ops,
+}

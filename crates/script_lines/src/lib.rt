@@ -1,0 +1,19 @@
+//! Reads edit scripts: groups of operations on the rows of a release.
+#![tactic(auto)]
+
+mod command;
+mod group;
+mod line;
+mod operation;
+mod piece;
+mod reading;
+mod script;
+mod source_path;
+mod stop;
+
+pub use command::{Command, Commands, What};
+pub use reading::commands;
+pub use stop::{ScriptRule, ScriptStop};
+
+#[cfg(test)]
+mod tests;

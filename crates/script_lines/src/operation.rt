@@ -1,0 +1,125 @@
+//! Reads the operation of a line.
+
+ghost use Rattle.std.specs.Prelude.{◌≡◌, ◌+◌, ◌<◌, ◌^◌, IfOk};
+ghost use Rattle.std.specs.Option.{option_map};
+ghost use Rattle.script_lines.specs.Scripts.{OpAs, StopsAs, fault_line, is_last_fault, key_op, op_of, row_op, row_text};
+ghost use Rattle.script_lines.specs.declared.stop.ScriptRule.TheVariants.{E6};
+
+use crate::line::{Put, last_text};
+use crate::stop::{ScriptRule, ScriptStop};
+use release_rows::Op;
+use source_rows::{RowFault, RowStop, read_key, read_row};
+use std::alloc::Global;
+use ucd_model::{Memory, Row, SourceFile, Text};
+
+/// What a row is read from: LINE, and behind a LF that of a `last` line where the next line is one.
+fn row_text(alloc: Global, text: &[u8], next: Option<&[u8]>) -> Result<Text, Memory>
+    ensures { IfOk result (λ bytes. bytes ≡ row_text text.now (option_map (λ n. n.now) next.entry)) }
+{
+    let mut bytes = Text::new(alloc);
+    bytes.append(text)?;
+    if let Some(next) = next {
+        if let Some(last) = last_text(next) {
+            bytes.push(b'\n')?;
+            bytes.append(last)?;
+        }
+    }
+    Ok(bytes)
+}
+
+/// Whether a fault is that of the second line of a range.
+fn is_last_fault(
+    alloc: Global,
+    file: SourceFile,
+    text: &[u8],
+    next: Option<&[u8]>,
+    fault: RowFault,
+) -> Result<bool, Memory>
+    ensures { IfOk result (λ last. last ≡ is_last_fault file text.now (option_map (λ n. n.now) next.entry) fault) }
+{
+    let Some(next) = next else {
+        return Ok(false);
+    };
+    if !matches!(fault, RowFault::G04) || last_text(next).is_none() {
+        return Ok(false);
+    }
+    match read_row(alloc, file, text).err() {
+        Some(RowStop::Fault(RowFault::G09)) => Ok(true),
+        Some(RowStop::Memory) => Err(Memory),
+        _ => Ok(false),
+    }
+}
+
+/// The fault of a row.
+fn row_stop(
+    alloc: Global,
+    line: u32,
+    file: SourceFile,
+    text: &[u8],
+    next: Option<&[u8]>,
+    fault: RowFault,
+) -> ScriptStop
+    requires { line + 1 < 2 ^ 32 }
+    ensures { StopsAs result (record { line = fault_line line file text.now (option_map (λ n. n.now) next.entry) fault; rule = E6 fault }) }
+{
+    let rule = ScriptRule::E6(fault);
+    match is_last_fault(alloc, file, text, next, fault) {
+        Ok(true) => ScriptStop::Fault {
+            line: line + 1,
+            rule,
+        },
+        Ok(false) => ScriptStop::Fault { line, rule },
+        Err(_) => ScriptStop::Memory,
+    }
+}
+
+/// The operation that puts a row.
+fn op_of(put: Put, file: SourceFile, row: Row, bytes: Text) -> Op
+    ensures { result ≡ op_of put file row bytes }
+{
+    match put {
+        Put::Add => Op::Add { file, row, bytes },
+        Put::Change => Op::Change { file, row, bytes },
+    }
+}
+
+/// The operation of a line that puts a row.
+///
+/// - `Fault`: `E6`, where there is no row, with the first rule that it breaks. The line is that of `last` where the fault
+///   is that of the second line of a range.
+/// - `Memory`: memory ran out.
+pub fn row_op(
+    alloc: Global,
+    line: u32,
+    put: Put,
+    file: SourceFile,
+    text: &[u8],
+    next: Option<&[u8]>,
+) -> Result<Op, ScriptStop>
+    requires { line + 1 < 2 ^ 32 }
+    ensures { OpAs result (row_op line put file text.now (option_map (λ n. n.now) next.entry)) }
+{
+    let bytes = row_text(alloc, text, next)?;
+    match read_row(alloc, file, bytes.as_slice()) {
+        Ok(row) => Ok(op_of(put, file, row, bytes)),
+        Err(RowStop::Fault(fault)) => Err(row_stop(alloc, line, file, text, next, fault)),
+        Err(RowStop::Memory) => Err(ScriptStop::Memory),
+    }
+}
+
+/// The operation of a line that takes a row out.
+///
+/// - `Fault`: `E6`, where there is no key, with the first rule that it breaks.
+/// - `Memory`: memory ran out.
+pub fn key_op(alloc: Global, line: u32, file: SourceFile, text: &[u8]) -> Result<Op, ScriptStop>
+    ensures { OpAs result (key_op line file text.now) }
+{
+    match read_key(alloc, file, text) {
+        Ok(key) => Ok(Op::Withdraw { file, key }),
+        Err(RowStop::Fault(fault)) => Err(ScriptStop::Fault {
+            line,
+            rule: ScriptRule::E6(fault),
+        }),
+        Err(RowStop::Memory) => Err(ScriptStop::Memory),
+    }
+}

@@ -1,0 +1,108 @@
+//! What stands of a script so far.
+
+ghost use Rattle.std.specs.Prelude.{◌≡◌, ◌∷◌, [], IfOk, OnOk};
+ghost use Rattle.script_lines.specs.Scripts.{StepsAs, begun, empty_script, ended, is_full, one_group, with_op};
+
+use crate::command::{Command, Commands, What};
+use crate::group::OpenGroup;
+use crate::stop::{ScriptRule, ScriptStop};
+use release_rows::{Op, Ops};
+use std::alloc::Global;
+use ucd_model::Memory;
+
+/// The greatest number of operations in a group.
+const GROUP_LIMIT: usize = 4096;
+
+/// The commands so far, and the group that is open.
+#[derive(Debug, Drop)]
+pub struct Script {
+    /// The commands that are whole.
+    pub commands: Commands,
+    /// The group that is not closed yet.
+    pub group: Option<OpenGroup>,
+}
+
+/// The list of one operation.
+fn one_op(alloc: Global, op: Op) -> Result<Ops, Memory>
+    ensures { IfOk result (λ ops. ops ≡ op ∷ []) }
+{
+    let mut ops = Ops::new(alloc);
+    ops.push(op)?;
+    Ok(ops)
+}
+
+impl Script {
+    /// No commands, and no group. It takes no memory.
+    pub fn new(alloc: Global) -> Script
+        ensures { result ≡ empty_script }
+    {
+        Script {
+            commands: Commands::new(alloc),
+            group: None,
+        }
+    }
+
+    /// Opens a group.
+    ///
+    /// - `Fault`: `E3`, where one is open.
+    pub fn begin(&mut self, alloc: Global, line: u32) -> Result<(), ScriptStop>
+        ensures { StepsAs result self.new (begun line self.old) }
+    {
+        if self.group.is_some() {
+            return Err(ScriptStop::Fault {
+                line,
+                rule: ScriptRule::E3,
+            });
+        }
+        self.group = Some(OpenGroup {
+            line,
+            ops: Ops::new(alloc),
+        });
+        Ok(())
+    }
+
+    /// Closes the group.
+    ///
+    /// - `Fault`: `E1`, where none is open.
+    /// - `Memory`: memory ran out. The group is dropped.
+    pub fn end(&mut self, line: u32) -> Result<(), ScriptStop>
+        ensures { StepsAs result self.new (ended line self.old) }
+    {
+        let Some(OpenGroup { line: begin, ops }) = self.group.take() else {
+            return Err(ScriptStop::Fault {
+                line,
+                rule: ScriptRule::E1,
+            });
+        };
+        self.commands.push(Command {
+            line: begin,
+            what: What::Group(ops),
+        })?;
+        Ok(())
+    }
+
+    /// Whether the open group takes no more operations.
+    pub fn is_full(&self) -> bool
+        ensures { result ≡ is_full self.now.group }
+    {
+        match &self.group {
+            Some(group) => group.ops.len() == GROUP_LIMIT,
+            None => false,
+        }
+    }
+
+    /// Puts an operation into the open group, or as a group of its own where none is open.
+    ///
+    /// - `Memory`: memory ran out.
+    pub fn put(&mut self, alloc: Global, line: u32, op: Op) -> Result<(), Memory>
+        ensures { OnOk result (self.new ≡ with_op line op self.old) }
+    {
+        match &mut self.group {
+            Some(group) => group.ops.push(op),
+            None => self.commands.push(Command {
+                line,
+                what: What::Group(one_op(alloc, op)?),
+            }),
+        }
+    }
+}

@@ -6,7 +6,7 @@ ghost use Rattle.ucd_model.specs.Records.{Record as RecordValue, ShowsRecord};
 ghost use Rattle.derived_writer.specs.Listings.{listing_section, check_value};
 
 use crate::label::LabelText;
-use crate::names::{check_name, core_name};
+use crate::names::check_name;
 use crate::values::{set_binary, set_casefold, set_category, set_class, set_kind, set_quick};
 use std::alloc::Global;
 use ucd_model::{Core, DerivedFile, Form, Memory, Quick, Record};
@@ -85,7 +85,7 @@ impl Listing {
         ensures { result.now ≡ (listing_section self).name }
     {
         match self {
-            Listing::Core(core) => core_name(core),
+            Listing::Core(core) => core.name(),
             Listing::Category => b"General_Category",
             Listing::Class => b"Canonical_Combining_Class",
             Listing::Decomposition => b"Decomposition_Type",
@@ -108,7 +108,7 @@ impl Listing {
         ensures { OnOk result ((R : RecordValue) → ShowsRecord shown.now R → label.new ≡ (listing_section self).label R) }
     {
         match self {
-            Listing::Core(core) => set_binary(core_name(core), shown.core.has(core), label),
+            Listing::Core(core) => set_binary(core.name(), shown.core.has(core), label),
             Listing::Category => set_category(shown.category, label),
             Listing::Class => set_class(alloc, shown.class, label),
             Listing::Decomposition => set_kind(shown.kind, label),

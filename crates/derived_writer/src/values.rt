@@ -4,7 +4,6 @@ ghost use Rattle.std.specs.Prelude.{◌≡◌, OnOk};
 ghost use Rattle.ucd_model.specs.DerivedFiles.{binary_label, category_label, class_label, kind_label, quick_label, casefold_label};
 
 use crate::label::LabelText;
-use crate::names::{category_code, tag_name};
 use std::alloc::Global;
 use ucd_model::{Category, Image, Kind, Memory, Quick};
 
@@ -32,7 +31,7 @@ pub fn set_category(category: Category, label: &mut LabelText) -> Result<(), Mem
         label.clear();
         Ok(())
     } else {
-        label.list(category_code(category))
+        label.list(category.code())
     }
 }
 
@@ -63,7 +62,7 @@ pub fn set_kind(kind: Kind, label: &mut LabelText) -> Result<(), Memory>
             Ok(())
         }
         Kind::Canonical => label.list(b"canonical"),
-        Kind::Compat(tag) => label.list(tag_name(tag)),
+        Kind::Compat(tag) => label.list(tag.name()),
     }
 }
 

@@ -62,11 +62,10 @@ kept_item file above item items (Some row) e read apart = record { is_read = rea
 
 kept_below : (file : SourceFile) (above items : List FileItem) → AllRead file items → all_apart file (rows_in (above ++ items)) ≡ true → AreKeptBelow file above items
 kept_below file above [] read apart = tt
-kept_below file above (item ∷ items) read apart =
-    (
-      kept_item file above item items item.row refl read.0 (rw (← rows-append above (item ∷ items)) apart),
-      kept_below file (above ++ item ∷ []) items read.1 (rw (append_assoc above (item ∷ []) items) apart),
-    )
+kept_below file above (item ∷ items) read apart = (
+  kept_item file above item items item.row refl read.0 (rw (← rows-append above (item ∷ items)) apart),
+  kept_below file (above ++ item ∷ []) items read.1 (rw (append_assoc above (item ∷ []) items) apart),
+)
 
 are_kept : (file : SourceFile) (items : List FileItem) → AllRead file items → all_apart file (rows_in items) ≡ true → AreKept file items
 are_kept file items read apart = kept_below file [] items read apart

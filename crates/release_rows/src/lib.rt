@@ -4,7 +4,6 @@
 mod conflict;
 mod entry;
 mod file_text;
-
 mod key_rule;
 mod key_set;
 mod laws;
@@ -26,7 +25,7 @@ mod stretch;
 pub use key_rule::KeyRule;
 pub use laws::{bytes_are_kept, faults_are_first, loads_exactly, operations_keep_rows, rows_stay};
 pub use load_stop::{LoadRule, LoadStop};
-pub use operation::{Op, Ops, OpStop};
+pub use operation::{Op, OpStop, Ops};
 pub use release::Release;
 pub use row_iter::Rows;
 pub use row_text::RowText;

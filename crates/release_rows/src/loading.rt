@@ -12,8 +12,8 @@ ghost use Rattle.release_rows.specs.Loading.{row_rule};
 ghost use Rattle.release_rows.specs.Progress.{Progress, TakesPiece, Stands, BreaksNoRule, IsFreeEntry, IsFreeOf, IsOrdered, FreesSome, entry_extents, start_of_entry};
 ghost use Rattle.release_rows.specs.StoredItems.{piece_of, item_at, IsItem};
 
-use crate::entry::Entry;
 use crate::conflict::Conflict;
+use crate::entry::Entry;
 use crate::key_set::KeySet;
 use crate::load_stop::{LoadRule, LoadStop};
 use crate::piece::{Piece, ending_len, stretch_of};

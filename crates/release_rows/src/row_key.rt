@@ -2,7 +2,6 @@
 
 ghost use Rattle.std.specs.Prelude.{◌≡◌, ◌≤◌, true, IfOk, IsTrue};
 ghost use Rattle.ucd_model.specs.Fields.{is_name};
-ghost use Rattle.ucd_model.specs.Names.{status_code};
 ghost use Rattle.ucd_model.specs.RowValues.{RowOk};
 ghost use Rattle.source_rows.specs.Keys.{row_span, alias_count, key_names, value_names};
 ghost use Rattle.release_rows.specs.Keys.{row_end, has_spans};
@@ -10,7 +9,7 @@ ghost use Rattle.release_rows.specs.Names.{has_names};
 ghost use Rattle.release_rows.specs.Places.{names_of};
 
 use std::alloc::{AllocError, Global};
-use ucd_model::{FoldStatus, Row, SourceFile};
+use ucd_model::{Row, SourceFile};
 
 /// The first code point of a row. A row of names has none, which 0 stands for.
 pub fn row_start(row: &Row) -> u32
@@ -67,18 +66,6 @@ pub fn row_end(file: SourceFile, row: &Row) -> u32
     }
 }
 
-/// The letter of a status.
-fn status_code(status: FoldStatus) -> u8
-    ensures { result ≡ status_code status }
-{
-    match status {
-        FoldStatus::C => b'C',
-        FoldStatus::F => b'F',
-        FoldStatus::S => b'S',
-        FoldStatus::T => b'T',
-    }
-}
-
 /// How many names of an alias row its key has.
 pub fn alias_count(file: SourceFile) -> usize
     ensures count { result ≡ alias_count file }
@@ -100,7 +87,7 @@ pub fn key_text(alloc: Global, file: SourceFile, row: &Row) -> Result<Vec<u8>, A
 {
     match row {
         Row::Value(row) => value_text(alloc, file, row.value.as_slice()),
-        Row::Fold(row) => Vec::from_slice(alloc, &[status_code(row.status)]),
+        Row::Fold(row) => Vec::from_slice(alloc, &[row.status.letter()]),
         Row::Casing(row) => Vec::from_slice(alloc, row.conditions.as_slice()),
         Row::Unit(_) | Row::Exclusion(_) | Row::Alias(_) => Ok(Vec::new(alloc)),
     }

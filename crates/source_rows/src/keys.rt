@@ -16,7 +16,6 @@ use crate::fields::{field_count, text_of, two_fields, without_comment};
 use crate::key::Key;
 use crate::lines::holds_line_feed;
 use crate::mapping::conditions_of;
-use crate::put_rows::status_code;
 use std::alloc::Global;
 use ucd_lines::hex;
 use ucd_model::{FoldStatus, Memory, Point, SourceFile, Text, Texts};
@@ -41,7 +40,7 @@ fn one_name(alloc: Global, name: &[u8]) -> Result<Texts, Memory>
 fn letter_name(alloc: Global, status: FoldStatus) -> Result<Texts, Memory>
     ensures { IfOk result (λ names. names ≡ (status_code status ∷ []) ∷ []) }
 {
-    one_name(alloc, &[status_code(status)])
+    one_name(alloc, &[status.letter()])
 }
 
 /// The conditions as a name of a key, and no name where there are none.

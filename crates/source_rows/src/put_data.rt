@@ -2,76 +2,14 @@
 
 ghost use Rattle.std.specs.Prelude.{◌≡◌, ◌<◌, ◌++◌, ◌∷◌, [], OnOk, IfOk, codes};
 ghost use Rattle.ucd_model.specs.DerivedText.{hex_text};
-ghost use Rattle.ucd_model.specs.Names.{category_code, tag_text};
+ghost use Rattle.ucd_model.specs.Names.{category_code};
 ghost use Rattle.ucd_model.specs.RowTexts.{class_text, decomposition_text, case_text, data_line, data_text, decimal_digit, value_fields, range_text};
 ghost use Rattle.source_rows.specs.Texts.{ended};
 
 use crate::put_points::put_mapping;
 use std::alloc::Global;
 use ucd_lines::put_hex;
-use ucd_model::{Category, DataRow, Kind, Memory, Point, Tag, Text};
-
-/// The two letters of a General_Category.
-fn category_code(category: Category) -> [u8; 2]
-    ensures { result ≡ category_code category }
-{
-    match category {
-        Category::Lu => *b"Lu",
-        Category::Ll => *b"Ll",
-        Category::Lt => *b"Lt",
-        Category::Lm => *b"Lm",
-        Category::Lo => *b"Lo",
-        Category::Mn => *b"Mn",
-        Category::Mc => *b"Mc",
-        Category::Me => *b"Me",
-        Category::Nd => *b"Nd",
-        Category::Nl => *b"Nl",
-        Category::No => *b"No",
-        Category::Pc => *b"Pc",
-        Category::Pd => *b"Pd",
-        Category::Ps => *b"Ps",
-        Category::Pe => *b"Pe",
-        Category::Pi => *b"Pi",
-        Category::Pf => *b"Pf",
-        Category::Po => *b"Po",
-        Category::Sm => *b"Sm",
-        Category::Sc => *b"Sc",
-        Category::Sk => *b"Sk",
-        Category::So => *b"So",
-        Category::Zs => *b"Zs",
-        Category::Zl => *b"Zl",
-        Category::Zp => *b"Zp",
-        Category::Cc => *b"Cc",
-        Category::Cf => *b"Cf",
-        Category::Cs => *b"Cs",
-        Category::Co => *b"Co",
-        Category::Cn => *b"Cn",
-    }
-}
-
-/// A tag between its brackets.
-fn tag_text(tag: Tag) -> &'static [u8]
-    ensures { result.now ≡ tag_text tag }
-{
-    match tag {
-        Tag::Font => b"<font>",
-        Tag::NoBreak => b"<noBreak>",
-        Tag::Initial => b"<initial>",
-        Tag::Medial => b"<medial>",
-        Tag::Final => b"<final>",
-        Tag::Isolated => b"<isolated>",
-        Tag::Circle => b"<circle>",
-        Tag::Super => b"<super>",
-        Tag::Sub => b"<sub>",
-        Tag::Vertical => b"<vertical>",
-        Tag::Wide => b"<wide>",
-        Tag::Narrow => b"<narrow>",
-        Tag::Small => b"<small>",
-        Tag::Square => b"<square>",
-        Tag::Fraction => b"<fraction>",
-        Tag::Compat => b"<compat>",
-    }
-}
+use ucd_model::{DataRow, Kind, Memory, Point, Text};
 
 /// The last digit of a number.
 fn decimal_digit(number: u8) -> u8
@@ -106,7 +44,7 @@ fn put_decomposition(kind: Kind, mapping: &[Point], into: &mut Text) -> Result<(
         Kind::Plain => Ok(()),
         Kind::Canonical => put_mapping(mapping, into),
         Kind::Compat(tag) => {
-            into.append(tag_text(tag))?;
+            into.append(tag.text())?;
             into.push(b' ')?;
             put_mapping(mapping, into)
         }
@@ -138,7 +76,7 @@ fn put_front(row: &DataRow, point: Point, name: &[u8], into: &mut Text) -> Resul
     put_hex(point, into)?;
     into.push(b';')?;
     put_field(name, into)?;
-    put_field(&category_code(row.category), into)?;
+    put_field(row.category.code(), into)?;
     put_class(row.class, into)?;
     into.push(b';')
 }

@@ -1,13 +1,12 @@
 //! Writes rows of the files beside UnicodeData.txt.
 
 ghost use Rattle.std.specs.Prelude.{◌≡◌, ◌++◌, OnOk};
-ghost use Rattle.ucd_model.specs.Names.{status_code};
 ghost use Rattle.ucd_model.specs.RowTexts.{value_text, exclusion_text, fold_text, casing_text, conditions_text, names_text, alias_text};
 ghost use Rattle.source_rows.specs.Texts.{named};
 
 use crate::put_points::{put_mapping, put_span};
 use ucd_lines::put_hex;
-use ucd_model::{CasingRow, FoldRow, FoldStatus, Memory, Text, ValueRow};
+use ucd_model::{CasingRow, FoldRow, Memory, Text, ValueRow};
 
 /// Appends a span and a value.
 ///
@@ -20,18 +19,6 @@ pub fn put_value(row: &ValueRow, into: &mut Text) -> Result<(), Memory>
     into.append(row.value.as_slice())
 }
 
-/// The letter of a status.
-pub fn status_code(status: FoldStatus) -> u8
-    ensures { result ≡ status_code status }
-{
-    match status {
-        FoldStatus::C => b'C',
-        FoldStatus::F => b'F',
-        FoldStatus::S => b'S',
-        FoldStatus::T => b'T',
-    }
-}
-
 /// Appends a folding.
 ///
 /// - `Memory`: memory ran out. A part may stand at the end of the text then.
@@ -40,7 +27,7 @@ pub fn put_fold(row: &FoldRow, into: &mut Text) -> Result<(), Memory>
 {
     put_hex(row.code, into)?;
     into.append(b"; ")?;
-    into.push(status_code(row.status))?;
+    into.push(row.status.letter())?;
     into.append(b"; ")?;
     put_mapping(row.mapping.as_slice(), into)?;
     into.push(b';')

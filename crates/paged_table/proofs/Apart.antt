@@ -9,7 +9,7 @@ use Rattle.paged_table.specs.declared.block.Block.{Block}
 use Rattle.paged_table.specs.declared.block.Block.TheVariants.{One, Page}
 use Rattle.paged_table.specs.Blocks.{block_at, value_of, values, is_page, IsEven}
 use Rattle.paged_table.specs.Puts.{StaysPage, Puts}
-use Rattle.paged_table.specs.Layers.{IsApart, uses}
+use Rattle.paged_table.specs.Layers.{IsApart, IsUnused, uses}
 use Rattle.range_table.specs.Values.{with_span}
 
 pub or_left : (x y : Bool) → x ≡ true → (x || y) ≡ true
@@ -45,6 +45,14 @@ uses_here xs ys b r p lt used =
 uses_there : (xs ys : List Block) (b d : ℕ) (r : Block) (p : ℕ) → d ≢ b → uses xs (set ys b r) d p ≡ true → uses xs ys d p ≡ true
 uses_there xs ys b d r p differs used =
     subst (λ z. (is_page p (block_at xs d) || is_page p z) ≡ true) (set_there ys b d r differs) used
+
+none_here : (xs ys : List Block) (b : ℕ) (r : Block) (p : ℕ) → b < length ys → uses xs (set ys b r) b p ≡ false → (is_page p (block_at xs b) ≡ false) × (is_page p r ≡ false)
+none_here xs ys b r p lt none =
+    or_none (is_page p (block_at xs b)) (is_page p r) (subst (λ z. (is_page p (block_at xs b) || is_page p z) ≡ false) (set_here ys b r lt) none)
+
+none_there : (xs ys : List Block) (b d : ℕ) (r : Block) (p : ℕ) → d ≢ b → uses xs (set ys b r) d p ≡ false → uses xs ys d p ≡ false
+none_there xs ys b d r p differs none =
+    subst (λ z. (is_page p (block_at xs d) || is_page p z) ≡ false) (set_there ys b d r differs) none
 
 even_back : (pool pool' : Pool) (p : ℕ) → ((a : ℕ) → a < 256 → word_of pool' p a ≡ word_of pool p a) → IsEven (word_of pool' p) → IsEven (word_of pool p)
 even_back pool pool' p same even a b la lb = sym (same a la) ∙ even a b la lb ∙ same b lb
@@ -105,8 +113,28 @@ module _ (pool pool' : Pool) (xs ys : List Block) (b : ℕ) (r : Block) (lo hi v
             ]
       ]
 
+  unused : (p : ℕ) → IsUnused xs (set ys b r) p → is_live pool' p ≡ false
+  unused p none =
+      let here = none_here xs ys b r p below (none b) in
+      elim (cases_Bool (is_page p (block_at ys b))) [
+        | inl next ↦ puts.gone p here.0 next here.1
+        | inr not ↦
+            puts.others_free p here.0 not here.1
+            (ok.unused p (λ d. elim (cases_eq d b) [
+              | inl is ↦ rw (is, here.0, not) refl
+              | inr differs ↦ none_there xs ys b d r p differs (none d)
+            ]))
+      ]
+
   pub IsApart-put : IsApart pool' xs (set ys b r)
-  IsApart-put = record { count = ok.count; count_next = length-set ys b r ∙ ok.count_next; live = live; apart = apart; tight = tight }
+  IsApart-put = record {
+    count = ok.count;
+    count_next = length-set ys b r ∙ ok.count_next;
+    live = live;
+    apart = apart;
+    tight = tight;
+    unused = unused;
+  }
 
 pub value_of-stays : (pool pool' : Pool) (x : Block) (a : ℕ) → ((p : ℕ) → is_page p x ≡ true → StaysPage pool pool' p) → a < 256 → value_of pool' x a ≡ value_of pool x a
 value_of-stays pool pool' (One v) a h lt = refl
@@ -156,7 +184,7 @@ module _ (pool pool' : Pool) (xs ys : List Block) (b : ℕ) (r : Block) (lo hi v
       ]
 
 -- a block next is what it is now
-module _ (pool pool' : Pool) (xs ys : List Block) (b : ℕ) (ok : IsApart pool xs ys) (inside : b < 4352) (now : (p : ℕ) → is_page p (block_at xs b) ≡ true → is_live pool' p ≡ is_live pool p) (others : (p : ℕ) → is_page p (block_at ys b) ≡ false → is_live pool' p ≡ is_live pool p) (words : (p a : ℕ) → word_of pool' p a ≡ word_of pool p a) where
+module _ (pool pool' : Pool) (xs ys : List Block) (b : ℕ) (ok : IsApart pool xs ys) (inside : b < 4352) (now : (p : ℕ) → is_page p (block_at xs b) ≡ true → is_live pool' p ≡ is_live pool p) (others : (p : ℕ) → is_page p (block_at ys b) ≡ false → is_live pool' p ≡ is_live pool p) (gone : (p : ℕ) → is_page p (block_at ys b) ≡ true → is_page p (block_at xs b) ≡ false → is_live pool' p ≡ false) (words : (p a : ℕ) → word_of pool' p a ≡ word_of pool p a) where
   used_before : (d p : ℕ) → uses xs (set ys b (block_at xs b)) d p ≡ true → uses xs ys d p ≡ true
   used_before d p used =
       elim (cases_eq d b) [
@@ -181,6 +209,20 @@ module _ (pool pool' : Pool) (xs ys : List Block) (b : ℕ) (ok : IsApart pool x
         | inr differs ↦ others p (apart_of pool xs ys b d p ok differs (used_before d p used)).1 ∙ ok.live d p (used_before d p used)
       ]
 
+  unused_settled : (p : ℕ) → IsUnused xs (set ys b (block_at xs b)) p → is_live pool' p ≡ false
+  unused_settled p none =
+      let n = ok.count_next in
+      let here = none_here xs ys b (block_at xs b) p (omega arith) (none b) in
+      elim (cases_Bool (is_page p (block_at ys b))) [
+        | inl next ↦ gone p next here.0
+        | inr not ↦
+            others p not
+            ∙ ok.unused p (λ d. elim (cases_eq d b) [
+              | inl is ↦ rw (is, here.0, not) refl
+              | inr differs ↦ none_there xs ys b d (block_at xs b) p differs (none d)
+            ])
+      ]
+
   pub IsApart-settle : IsApart pool' xs (set ys b (block_at xs b))
   IsApart-settle = record {
     count = ok.count;
@@ -188,4 +230,28 @@ module _ (pool pool' : Pool) (xs ys : List Block) (b : ℕ) (ok : IsApart pool x
     live = live_settled;
     apart = λ d e p one other. ok.apart d e p (used_before d p one) (used_before e p other);
     tight = λ d p used even. ok.tight d p (used_before d p used) (even_back pool pool' p (λ a lt. words p a) even);
+    unused = unused_settled;
   }
+
+or_none_swap : (x y : Bool) → (y || x) ≡ false → (x || y) ≡ false
+or_none_swap true true h = h
+or_none_swap true false h = h
+or_none_swap false y h = (or_none y false h).0
+
+uses_swap : (xs ys : List Block) (b p : ℕ) → uses ys xs b p ≡ true → uses xs ys b p ≡ true
+uses_swap xs ys b p used =
+    elim (or_cases (is_page p (block_at ys b)) (is_page p (block_at xs b)) used) [
+      | inl next ↦ or_right (is_page p (block_at xs b)) (is_page p (block_at ys b)) next
+      | inr now ↦ or_left (is_page p (block_at xs b)) (is_page p (block_at ys b)) now
+    ]
+
+-- the same holds of what is next and what is now
+pub IsApart-swap : (pool : Pool) (xs ys : List Block) → IsApart pool xs ys → IsApart pool ys xs
+IsApart-swap pool xs ys ok = record {
+  count = ok.count_next;
+  count_next = ok.count;
+  live = λ b p used. ok.live b p (uses_swap xs ys b p used);
+  apart = λ b d p one other. ok.apart b d p (uses_swap xs ys b p one) (uses_swap xs ys d p other);
+  tight = λ b p used. ok.tight b p (uses_swap xs ys b p used);
+  unused = λ p none. ok.unused p (λ b. or_none_swap (is_page p (block_at xs b)) (is_page p (block_at ys b)) (none b));
+}

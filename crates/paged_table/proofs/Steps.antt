@@ -28,6 +28,7 @@ module _ (pool pool' : Pool) (xs ys : List Block) (ok : IsApart pool xs ys) (liv
     count_next = ok.count_next;
     live = λ b p used. live p ∙ ok.live b p used;
     apart = ok.apart;
+    unused = λ p none. live p ∙ ok.unused p none;
     tight = λ b p used even. ok.tight b p used (λ a d la ld. sym (words p a (ok.live b p used) la) ∙ even a d la ld ∙ words p d (ok.live b p used) ld);
   }
 

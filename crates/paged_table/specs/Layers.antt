@@ -1,6 +1,7 @@
 -- The blocks of all code points, twice: as they are now, and as they are next.
 --
 -- uses xs ys b p           block b has page p, in xs or in ys
+-- IsUnused xs ys p         no block has page p, in xs or in ys
 -- IsApart pool xs ys       what holds of the two lists of blocks, now and next, and their pages
 -- IsFilled v xs            xs has the blocks of all code points, with the value v throughout
 -- listed ts b              block b is in the list ts
@@ -15,6 +16,9 @@ use Rattle.paged_table.specs.Blocks.{block_at, is_page, IsEven}
 abbrev pub uses : List Block → List Block → ℕ → ℕ → Bool
 uses xs ys b p = is_page p (block_at xs b) || is_page p (block_at ys b)
 
+abbrev pub IsUnused : List Block → List Block → ℕ → Type 0
+IsUnused xs ys p = (b : ℕ) → uses xs ys b p ≡ false
+
 pub record IsApart (pool : Pool) (xs ys : List Block) : Type 0 where
   pub count : length xs ≡ 4352
   pub count_next : length ys ≡ 4352
@@ -24,6 +28,8 @@ pub record IsApart (pool : Pool) (xs ys : List Block) : Type 0 where
   pub apart : (b d p : ℕ) → uses xs ys b p ≡ true → uses xs ys d p ≡ true → b ≡ d
   -- a block of equal values has no page
   pub tight : (b p : ℕ) → uses xs ys b p ≡ true → ¬ (IsEven (word_of pool p))
+  -- a page of no block is not live
+  pub unused : (p : ℕ) → IsUnused xs ys p → is_live pool p ≡ false
 
 abbrev pub listed : List ℕ → ℕ → Bool
 listed ts b = list_any (λ x. x == b) ts

@@ -22,3 +22,6 @@ pub record Puts (pool pool' : Pool) (now next new : Block) (lo hi v : ℕ) : Typ
   -- so do the pages of other blocks, and none of them is taken
   pub others_stay : (p : ℕ) → is_page p now ≡ false → is_page p next ≡ false → is_live pool p ≡ true → StaysPage pool pool' p
   pub others_apart : (p : ℕ) → is_page p now ≡ false → is_page p next ≡ false → is_live pool p ≡ true → is_page p new ≡ false
+  -- a page that next alone had goes, and no page becomes live but that of the block
+  pub gone : (p : ℕ) → is_page p now ≡ false → is_page p next ≡ true → is_page p new ≡ false → is_live pool' p ≡ false
+  pub others_free : (p : ℕ) → is_page p now ≡ false → is_page p next ≡ false → is_page p new ≡ false → is_live pool p ≡ false → is_live pool' p ≡ false

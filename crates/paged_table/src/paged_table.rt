@@ -1,7 +1,8 @@
 //! Tables that keep pages.
 
-ghost use Rattle.std.specs.Prelude.{◌≡◌, ◌/◌, IfOk};
-ghost use Rattle.paged_table.specs.Layers.{IsFilled};
+ghost use Rattle.std.specs.Prelude.{◌≡◌, ◌/◌, ℕ, false, IfOk};
+ghost use Rattle.page_pool.specs.Pool.{is_live};
+ghost use Rattle.paged_table.specs.Layers.{IsUnused, IsFilled};
 ghost use Rattle.paged_table.specs.Pages.{ShowsPage, uneven_count, block_count};
 
 use crate::block::Block;
@@ -43,9 +44,10 @@ impl Model for PagedTable {
 }
 
 impl PagedTable {
-    /// The pool of the table's pages.
+    /// The pool of the table's pages. A page that no block has, now or next, is not live.
     pub fn pool(&self) -> &PagePool
-        ensures { result.now ≡ self.now.pool }
+        ensures pool { result.now ≡ self.now.pool }
+        ensures unused { (p : ℕ) → IsUnused self.now.committed self.now.prepared p → is_live result.now p ≡ false }
     {
         &self.pool
     }

@@ -47,6 +47,7 @@ pub fn give_own(pool: &mut PagePool, now: Block, next: Block)
     requires { (p : ℕ) → is_page p next ≡ true → is_live pool.old p ≡ true }
     ensures now { (p : ℕ) → is_page p now ≡ true → is_live pool.new p ≡ is_live pool.old p }
     ensures others { (p : ℕ) → is_page p next ≡ false → is_live pool.new p ≡ is_live pool.old p }
+    ensures gone { (p : ℕ) → is_page p next ≡ true → is_page p now ≡ false → is_live pool.new p ≡ false }
     ensures words { (p a : ℕ) → word_of pool.new p a ≡ word_of pool.old p a }
     ensures room { spare pool.old ≤ spare pool.new }
 {
@@ -92,6 +93,7 @@ fn own_page(pool: &mut PagePool, now: Block, next: Block) -> u32
     ensures words { (a : ℕ) → a < 256 → word_of pool.new result a ≡ value_of pool.old next a }
     ensures now { (p : ℕ) → is_page p now ≡ true → p ≢ result }
     ensures others { (p : ℕ) → is_page p next ≡ false → is_live pool.old p ≡ true → p ≢ result }
+    ensures own { (p : ℕ) → is_page p next ≡ true → is_page p now ≡ false → p ≡ result }
     ensures others_live { (p : ℕ) → p ≢ result → is_live pool.new p ≡ is_live pool.old p }
     ensures others_words { (p a : ℕ) → p ≢ result → a < 256 → word_of pool.new p a ≡ word_of pool.old p a }
     ensures room { spare pool.old ≤ spare pool.new + 1 }

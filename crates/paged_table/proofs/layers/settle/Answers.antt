@@ -11,7 +11,7 @@ loop-block-preserved c =
     let lt : i < length c.args.touched.now = omega arith in
     let inside = c.requires.covers.blocks i lt in
     record {
-      apart = IsApart-settle c.loop-block.pool c.give_own.new.pool c.args.from.now c.loop-block.into at before.apart inside c.give_own.ensures.now c.give_own.ensures.others c.give_own.ensures.words;
+      apart = IsApart-settle c.loop-block.pool c.give_own.new.pool c.args.from.now c.loop-block.into at before.apart inside c.give_own.ensures.now c.give_own.ensures.others c.give_own.ensures.gone c.give_own.ensures.words;
       words = λ p a. c.give_own.ensures.words p a ∙ before.words p a;
       same = settled-next c.args.touched.now i c.args.from.now c.loop-block.into lt (let n = before.apart.count_next in omega arith) before.same;
     }

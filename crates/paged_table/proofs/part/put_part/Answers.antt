@@ -1,5 +1,5 @@
 use Rattle.std.proofs.Common.{ap, sym, ◌∙◌, cond, leb, ◌&&◌, arith}
-use Rattle.std.proofs.lemmas.Bool.{eqb-true, ne_eqb, true≢false}
+use Rattle.std.proofs.lemmas.Bool.{eqb-true, eqb-false, eq-eqb, ne_eqb, true≢false}
 use Rattle.page_pool.specs.Pool.{word_of}
 use Rattle.paged_table.specs.Blocks.{value_of}
 use Rattle.paged_table.proofs.Parts.{outside_from_even}
@@ -29,4 +29,6 @@ returns-clause-puts c =
         words = λ a lt. set.others p a (own.others p apart live) lt ∙ own.others_words p a (own.others p apart live) lt;
       };
       others_apart = λ p _ apart live. ne_eqb p page (own.others p apart live);
+      gone = λ p apart is other. absurd (true≢false (sym (eq-eqb p page (own.own p is apart)) ∙ other));
+      others_free = λ p _ _ other free. set.live p ∙ own.others_live p (eqb-false p page other) ∙ free;
     }

@@ -1,0 +1,10 @@
+//! A value of any type for each code point, over a table of places.
+#![tactic(auto)]
+
+mod kept;
+mod store;
+#[cfg(test)]
+mod tests;
+
+pub use kept::Kept;
+pub use store::Store;

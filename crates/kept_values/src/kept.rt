@@ -1,6 +1,6 @@
 //! Stores over a table of places.
 
-ghost use Rattle.std.specs.Prelude.{◌≡◌, ℕ, ◌≤◌, length, vec_len};
+ghost use Rattle.std.specs.Prelude.{◌≡◌, ◌≢◌, ℕ, ◌+◌, ◌%◌, ◌<◌, ◌≤◌, length, vec_len};
 ghost use Rattle.kept_values.specs.Pool.{Lie, value_at};
 
 use crate::store::Store;
@@ -37,13 +37,17 @@ fn value_in<'a, V: Drop>(first: &'a V, more: &'a [V], place: u64) -> &'a V
 }
 
 impl<T: Table<u64>, V: Drop> Store<V> for Kept<T, V> {
-    ghost use Rattle.kept_values.specs.Kept.{values, held};
+    ghost use Rattle.kept_values.specs.Kept.{values, held, places};
 
     ghost now = { values T.now };
 
     ghost next = { values T.next };
 
     ghost held = { held };
+
+    ghost now_at = { places T.now };
+
+    ghost next_at = { places T.next };
 
     fn filled(alloc: Global, value: V) -> Result<Kept<T, V>, Memory> {
         Ok(Kept {
@@ -99,6 +103,8 @@ impl<T: Stretches<u64>, V: Drop> Kept<T, V> {
         ensures from { c ≤ result }
         ensures same { (k : ℕ) → c ≤ k → k ≤ result
             → ⟦<Kept<T, V> as Store<V>>⟧.now self.now k ≡ ⟦<Kept<T, V> as Store<V>>⟧.now self.now c }
+        ensures ends { result + 1 < 1114112 → (result + 1) % 256 ≢ 0
+            → ⟦<Kept<T, V> as Store<V>>⟧.now_at self.now (result + 1) ≢ ⟦<Kept<T, V> as Store<V>>⟧.now_at self.now c }
     {
         self.places.last_of_stretch(c)
     }
@@ -108,6 +114,8 @@ impl<T: Stretches<u64>, V: Drop> Kept<T, V> {
         ensures from { c ≤ result }
         ensures same { (k : ℕ) → c ≤ k → k ≤ result
             → ⟦<Kept<T, V> as Store<V>>⟧.next self.now k ≡ ⟦<Kept<T, V> as Store<V>>⟧.next self.now c }
+        ensures ends { result + 1 < 1114112 → (result + 1) % 256 ≢ 0
+            → ⟦<Kept<T, V> as Store<V>>⟧.next_at self.now (result + 1) ≢ ⟦<Kept<T, V> as Store<V>>⟧.next_at self.now c }
     {
         self.places.last_of_stretch_next(c)
     }

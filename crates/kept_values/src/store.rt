@@ -20,6 +20,11 @@ pub trait Store<V: Drop>: Sized + Drop {
     // the value at a place, where one is held there
     ghost held: { Self → ℕ → Option V };
 
+    // the place of the value of each code point now, and next
+    ghost now_at: { Self → ℕ → ℕ };
+
+    ghost next_at: { Self → ℕ → ℕ };
+
     /// The store whose values, now and next, are `value` throughout.
     ///
     /// - `Memory`: memory ran out.
@@ -37,11 +42,13 @@ pub trait Store<V: Drop>: Sized + Drop {
 
     /// The place of the value of a code point now.
     fn place(&self, c: Point) -> u64
-        ensures { held self.now result ≡ Some (now self.now c) };
+        ensures place { result ≡ now_at self.now c }
+        ensures held { held self.now result ≡ Some (now self.now c) };
 
     /// The place of the value of a code point next.
     fn place_next(&self, c: Point) -> u64
-        ensures { held self.now result ≡ Some (next self.now c) };
+        ensures place { result ≡ next_at self.now c }
+        ensures held { held self.now result ≡ Some (next self.now c) };
 
     /// Holds a value, and answers its place. What is now and next stays, and what is held stays at its place.
     ///
@@ -60,6 +67,7 @@ pub trait Store<V: Drop>: Sized + Drop {
         ensures now { SameValues (now self.new) (now self.old) }
         ensures ok { OnOk result ((value : V) → held self.old place ≡ Some value
             → SameValues (next self.new) (with_span (next self.old) span.lo span.hi value)) }
+        ensures shared { OnOk result (SameValues (next_at self.new) (with_span (next_at self.old) span.lo span.hi place)) }
         ensures err { OnErr result (SameValues (next self.new) (next self.old)) }
         ensures held { (p : ℕ) → held self.new p ≡ held self.old p };
 

@@ -10,7 +10,7 @@ use Rattle.ucd_model.specs.FactsLemmas.{facts_inside, facts_outside}
 use Rattle.ucd_model.specs.declared.row.DataRow.{DataRow}
 use Rattle.ucd_model.specs.declared.row.CasingRow.{CasingRow}
 use Rattle.ucd_model.specs.declared.row.FoldStatus.TheVariants as status
-use Rattle.ucd_model.specs.declared.files.SourceFile.TheVariants.{UnicodeData, CaseFolding, SpecialCasing}
+use Rattle.ucd_model.specs.declared.files.SourceFile.TheVariants.{UnicodeData, CaseFolding, SpecialCasing, PropList, WordBreakProperty, CompositionExclusions}
 use Rattle.code_facts.specs.Word.{packed, assigned_of_word, excluded_of_word, mid_word_of_word, category_of_word, class_of_word, kind_of_word, flags_of_word, ReadsBack}
 use Rattle.code_facts.specs.Rows.{PointData, row_data, upper_list, lower_list, title_list}
 use Rattle.code_facts.specs.Marks.{marks_before}
@@ -151,6 +151,19 @@ tables_keep now t rows keeps images =
       | inl inside ↦ kept_inside now t c inside ∙ kept_given now t rows c (keeps c inside) images ∙ sym (facts_inside rows c inside)
       | inr outside ↦ kept_outside now t c outside ∙ sym (facts_outside rows c outside)
     ])
+
+-- facts that are kept agree with those of rows where they do at each code point
+pub facts_from_points : {T : Type 0} (now : T → ℕ → ℕ) (t : KeptFacts T) (rows : Sources) → ((c : ℕ) → c < 1114112 → all_kept now t c ≡ facts rows c) → all_kept now t ≡ facts rows
+facts_from_points now t rows same =
+    fun_ext (λ c. elim (cases_lt c point_count) [
+      | inl inside ↦ same c (below_point c inside)
+      | inr outside ↦ kept_outside now t c outside ∙ sym (facts_outside rows c outside)
+    ])
+
+-- facts are those of six files
+pub same_facts : (s t : Sources) → s UnicodeData ≡ t UnicodeData → s CaseFolding ≡ t CaseFolding → s SpecialCasing ≡ t SpecialCasing → s PropList ≡ t PropList → s WordBreakProperty ≡ t WordBreakProperty → s CompositionExclusions ≡ t CompositionExclusions → facts s ≡ facts t
+unfolding facts
+same_facts s t units foldings casings properties breaks exclusions = fun_ext (λ c. rw (units, foldings, casings, properties, breaks, exclusions) refl)
 
 -- ---- as they are made
 

@@ -2,6 +2,7 @@ pub mod Word
 pub mod Lists
 pub mod PointLists
 pub mod Rows
+pub mod RowLists
 pub mod DataTables
 pub mod Marks
 pub mod MarkRows
@@ -9,6 +10,8 @@ pub mod Found
 pub mod CaseMaps
 pub mod KeptFacts
 pub mod Index
+pub mod RowFacts
 pub mod FactTables
 pub mod NowView
+pub mod NextView
 pub mod Plain

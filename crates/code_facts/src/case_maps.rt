@@ -3,15 +3,15 @@
 ghost use Rattle.std.specs.Prelude.{◌≡◌, ℕ, IfOk, OnOk};
 ghost use Rattle.code_facts.specs.Found.{found};
 ghost use Rattle.code_facts.specs.CaseMaps.{KeepsImages, KeepsFoldings, KeepsCasings, SameFoldings};
-ghost use Rattle.code_facts.specs.Rows.{release_sources};
+ghost use Rattle.code_facts.specs.RowLists.{sources_of};
 
 use crate::case::Case;
 use crate::case_map::case_map;
-use crate::rows::rows_of;
-use release_rows::{Release, RowText};
+use crate::row_lists::RowLists;
+use release_rows::RowText;
 use std::alloc::Global;
 use std::collections::BTreeMap;
-use ucd_model::{FoldStatus, Memory, Point, Points, SourceFile};
+use ucd_model::{FoldStatus, Memory, Point, Points};
 
 /// The foldings of the statuses C, F and S, and the casings without conditions, each under its code point.
 #[derive(Drop)]
@@ -31,14 +31,14 @@ pub struct CaseMaps {
 }
 
 impl CaseMaps {
-    /// The images that the rows of a release give now. The Unicode Standard, section 5.18.
+    /// The images that these rows give. The Unicode Standard, section 5.18.
     ///
     /// - `Memory`: memory ran out.
-    pub fn of(alloc: Global, release: &Release) -> Result<CaseMaps, Memory>
-        ensures { IfOk result (λ maps. KeepsImages maps (release_sources release.now)) }
+    pub fn of(alloc: Global, rows: &RowLists<'_>) -> Result<CaseMaps, Memory>
+        ensures { IfOk result (λ maps. KeepsImages maps (sources_of rows.now)) }
     {
         let mut maps = CaseMaps::empty(alloc);
-        maps.put(alloc, release)?;
+        maps.put(alloc, rows)?;
         Ok(maps)
     }
 
@@ -54,14 +54,12 @@ impl CaseMaps {
         }
     }
 
-    /// Puts the images that the rows of a release give now in the place of what is there.
-    fn put(&mut self, alloc: Global, release: &Release) -> Result<(), Memory>
-        ensures { OnOk result (KeepsImages self.new (release_sources release.now)) }
+    /// Puts the images that these rows give in the place of what is there.
+    fn put(&mut self, alloc: Global, rows: &RowLists<'_>) -> Result<(), Memory>
+        ensures { OnOk result (KeepsImages self.new (sources_of rows.now)) }
     {
-        let foldings = rows_of(alloc, release, SourceFile::CaseFolding)?;
-        self.put_foldings(alloc, &foldings)?;
-        let casings = rows_of(alloc, release, SourceFile::SpecialCasing)?;
-        self.put_casings(alloc, &casings)
+        self.put_foldings(alloc, &rows.case_folding)?;
+        self.put_casings(alloc, &rows.special_casing)
     }
 
     /// Puts the images that these rows of CaseFolding.txt give in the place of what is there.

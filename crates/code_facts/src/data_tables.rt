@@ -6,7 +6,8 @@ ghost use Rattle.range_table.specs.Values.{SameValues, with_span};
 ghost use Rattle.range_table.specs.RunTable.{values_next};
 ghost use Rattle.ucd_model.specs.Facts.{within, mapping_in, data_row, class_in, is_hangul_syllable, hangul_mapping};
 ghost use Rattle.ucd_model.specs.declared.files.SourceFile.TheVariants.{UnicodeData};
-ghost use Rattle.code_facts.specs.Rows.{release_sources, row_data, Apart};
+ghost use Rattle.code_facts.specs.RowLists.{sources_of};
+ghost use Rattle.code_facts.specs.Rows.{row_data, Apart};
 ghost use Rattle.code_facts.specs.DataTables.{Adds, data_now, data_next};
 ghost use Rattle.code_facts.specs.PointLists.{lists_now, lists_next};
 
@@ -14,10 +15,10 @@ use crate::data_lists::DataLists;
 use crate::hangul::{hangul_mapping, syllables};
 use crate::point_lists::PointLists;
 use crate::points::point;
-use crate::rows::data_rows_of;
+use crate::row_lists::RowLists;
 use crate::word::{NO_ROW, data_word};
 use range_table::{RunTable, Table};
-use release_rows::{Release, RowText};
+use release_rows::RowText;
 use std::alloc::Global;
 use ucd_model::{DataRow, Kind, Memory, Point, Row, Span};
 
@@ -31,16 +32,16 @@ pub struct DataTables {
 }
 
 impl DataTables {
-    /// The tables of the rows of a release now.
+    /// The tables of the rows of UnicodeData.txt among these.
     ///
     /// - `Memory`: memory ran out.
-    pub fn of(alloc: Global, release: &Release) -> Result<DataTables, Memory>
+    pub fn of(alloc: Global, rows: &RowLists<'_>) -> Result<DataTables, Memory>
+        requires { Apart rows.now.unicode_data.items }
         ensures gives { IfOk result (λ tables. (c : ℕ) → c < 1114112
-            → data_now tables c ≡ row_data c (data_row (release_sources release.now UnicodeData) c)) }
-        ensures class { OnOk result ((c : ℕ) → class_in (data_row (release_sources release.now UnicodeData) c) < 256) }
+            → data_now tables c ≡ row_data c (data_row (sources_of rows.now UnicodeData) c)) }
+        ensures class { OnOk result ((c : ℕ) → class_in (data_row (sources_of rows.now UnicodeData) c) < 256) }
     {
-        let rows = data_rows_of(alloc, release)?;
-        DataTables::of_rows(alloc, &rows)
+        DataTables::of_rows(alloc, &rows.unicode_data)
     }
 
     /// The tables of these rows.

@@ -19,18 +19,24 @@ mod list_calls;
 mod mark;
 mod mark_rows;
 mod marks;
+mod next_view;
 mod painting;
 mod place;
 mod plain;
 mod point_lists;
 mod points;
-mod rows;
+mod row_facts;
+mod row_lists;
 mod uniform;
+mod version;
 mod view;
 mod word;
 
 pub use fact_tables::FactTables;
+pub use next_view::NextView;
 pub use view::NowView;
 
+#[cfg(test)]
+mod next_tests;
 #[cfg(test)]
 mod tests;

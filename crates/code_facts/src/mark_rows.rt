@@ -6,15 +6,16 @@ ghost use Rattle.std.specs.Str.{bytes_eq};
 ghost use Rattle.ucd_model.specs.Facts.{within};
 ghost use Rattle.ucd_model.specs.Names.{flag_name};
 ghost use Rattle.ucd_model.specs.declared.property.Flag.{Flag as FlagValue};
-ghost use Rattle.code_facts.specs.MarkRows.{IsMarked, AreFlagged, KeepsMarkRows, is_flagged, names_flag};
+ghost use Rattle.code_facts.specs.MarkRows.{KeepsMarkRows, is_flagged, names_flag};
 ghost use Rattle.code_facts.specs.Marks.{covers, puts};
-ghost use Rattle.code_facts.specs.Rows.{release_sources};
+ghost use Rattle.code_facts.specs.RowLists.{sources_of};
 
 use crate::mark::{Mark, flag_name, is_mid_word_value};
-use release_rows::{Release, RowText};
+use crate::row_lists::RowLists;
+use release_rows::RowText;
 use source_rows::ValueText;
 use std::alloc::Global;
-use ucd_model::{Flag, Memory, Row, SourceFile, Span};
+use ucd_model::{Flag, Memory, Row, Span};
 
 /// The flags, in the order of their places.
 const FLAGS: [Flag; 14] = [
@@ -55,28 +56,27 @@ pub struct MarkRows {
 }
 
 impl MarkRows {
-    /// The code points on which the rows of a release put marks now.
+    /// The code points on which these rows put marks.
     ///
     /// - `Memory`: memory ran out.
-    pub fn of(alloc: Global, release: &Release) -> Result<MarkRows, Memory>
-        ensures { IfOk result (λ rows. KeepsMarkRows rows (release_sources release.now)) }
+    pub fn of(alloc: Global, rows: &RowLists<'_>) -> Result<MarkRows, Memory>
+        ensures { IfOk result (λ marked. KeepsMarkRows marked (sources_of rows.now)) }
     {
         Ok(MarkRows {
-            excluded: excluded_of(alloc, release)?,
-            mid_word: mid_words_of(alloc, release)?,
-            flagged: flagged_of(alloc, release)?,
+            excluded: excluded_of(alloc, &rows.exclusions)?,
+            mid_word: mid_words_of(alloc, &rows.word_break)?,
+            flagged: flagged_of(alloc, &rows.prop_list)?,
         })
     }
 }
 
 /// The code points that are excluded from composition.
-fn excluded_of(alloc: Global, release: &Release) -> Result<Vec<Span>, Memory>
-    ensures { IfOk result (λ spans. IsMarked Mark.Excluded spans.items (release_sources release.now)) }
+fn excluded_of(alloc: Global, rows: &[RowText<'_>]) -> Result<Vec<Span>, Memory>
+    ensures { IfOk result (λ spans. (c : ℕ) → list_any (within c) spans.items ≡ list_any (puts (Mark.Excluded) c) rows.now) }
 {
     let mut spans = Vec::new(alloc);
-    let mut rows = release.rows(SourceFile::CompositionExclusions);
-    'rows: while let Some((_, row)) = rows.next() {
-        push_some(&mut spans, excluded_in(alloc, &row)?)?;
+    'rows: for row in rows {
+        push_some(&mut spans, excluded_in(alloc, row)?)?;
     }
     Ok(spans)
 }
@@ -100,13 +100,12 @@ fn excluded_span(row: &Row) -> Option<Span>
 }
 
 /// The code points that stand in the middle of a word.
-fn mid_words_of(alloc: Global, release: &Release) -> Result<Vec<Span>, Memory>
-    ensures { IfOk result (λ spans. IsMarked Mark.MidWord spans.items (release_sources release.now)) }
+fn mid_words_of(alloc: Global, rows: &[RowText<'_>]) -> Result<Vec<Span>, Memory>
+    ensures { IfOk result (λ spans. (c : ℕ) → list_any (within c) spans.items ≡ list_any (puts (Mark.MidWord) c) rows.now) }
 {
     let mut spans = Vec::new(alloc);
-    let mut rows = release.rows(SourceFile::WordBreakProperty);
-    'rows: while let Some((_, row)) = rows.next() {
-        push_some(&mut spans, mid_word_span(&row))?;
+    'rows: for row in rows {
+        push_some(&mut spans, mid_word_span(row))?;
     }
     Ok(spans)
 }
@@ -132,13 +131,12 @@ fn push_some(spans: &mut Vec<Span>, span: Option<Span>) -> Result<(), Memory>
 }
 
 /// The code points that have flags.
-fn flagged_of(alloc: Global, release: &Release) -> Result<Vec<Flagged>, Memory>
-    ensures { IfOk result (λ flagged. AreFlagged flagged.items (release_sources release.now)) }
+fn flagged_of(alloc: Global, rows: &[RowText<'_>]) -> Result<Vec<Flagged>, Memory>
+    ensures { IfOk result (λ flagged. (flag : FlagValue) (c : ℕ) → list_any (is_flagged flag c) flagged.items ≡ list_any (puts (Mark.Flagged flag) c) rows.now) }
 {
     let mut flagged = Vec::new(alloc);
-    let mut rows = release.rows(SourceFile::PropList);
-    'rows: while let Some((_, row)) = rows.next() {
-        push_row(&mut flagged, &row)?;
+    'rows: for row in rows {
+        push_row(&mut flagged, row)?;
     }
     Ok(flagged)
 }

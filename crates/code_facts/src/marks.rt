@@ -5,15 +5,15 @@ ghost use Rattle.std.specs.List.{list_any};
 ghost use Rattle.range_table.specs.Values.{SameValues};
 ghost use Rattle.range_table.specs.RunTable.{values_now};
 ghost use Rattle.ucd_model.specs.Facts.{Sources, within};
-ghost use Rattle.code_facts.specs.Rows.{release_sources};
+ghost use Rattle.code_facts.specs.RowLists.{sources_of};
 ghost use Rattle.code_facts.specs.Marks.{mark_bit, marks_before};
 ghost use Rattle.code_facts.specs.MarkRows.{IsMarked, KeepsMarkRows, is_flagged};
 
 use crate::mark::Mark;
 use crate::mark_rows::{Flagged, MarkRows};
 use crate::painting::{painted, summed};
+use crate::row_lists::RowLists;
 use range_table::{RunTable, Table};
-use release_rows::Release;
 use std::alloc::Global;
 use ucd_model::{Flag, Memory, Span};
 
@@ -37,16 +37,16 @@ const MARKS: [Mark; 16] = [
     Mark::Flagged(Flag::NoncharacterCodePoint),
 ];
 
-/// The sum of the marks of each code point. UAX #44, section 5.3; UAX #29, section 4.1.
+/// The sum of the marks that these rows put on each code point. UAX #44, section 5.3; UAX #29, section 4.1.
 ///
 /// - `Memory`: memory ran out.
-pub fn marks(alloc: Global, release: &Release) -> Result<RunTable<u64>, Memory>
-    ensures { IfOk result (λ table. SameValues (values_now table) (marks_before 16 (release_sources release.now))) }
+pub fn marks(alloc: Global, rows: &RowLists<'_>) -> Result<RunTable<u64>, Memory>
+    ensures { IfOk result (λ table. SameValues (values_now table) (marks_before 16 (sources_of rows.now))) }
 {
-    let rows = MarkRows::of(alloc, release)?;
+    let spans = MarkRows::of(alloc, rows)?;
     let mut table = RunTable::filled(alloc, 0)?;
     'marks: for mark in MARKS {
-        table = with_mark(alloc, table, &rows, mark)?;
+        table = with_mark(alloc, table, &spans, mark)?;
     }
     Ok(table)
 }

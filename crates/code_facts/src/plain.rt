@@ -10,22 +10,22 @@ ghost use Rattle.code_facts.specs.PointLists.{lists_now};
 ghost use Rattle.code_facts.specs.Plain.{IsOwnImage, ShowsNoImage, HoldsTo, HasNoLists, HasNoImages};
 
 use crate::case_maps::CaseMaps;
-use crate::fact_tables::FactTables;
 use crate::kept_facts::KeptFacts;
 use crate::point_lists::PointLists;
 use crate::points::{lesser, point};
-use range_table::RunTable;
+use crate::row_facts::RowFacts;
+use range_table::Table;
 use std::collections::BTreeMap;
 use ucd_model::{FactView, FactsRef, Point, Points};
 
-impl FactTables<RunTable<u64>> {
+impl<T: Table<u64>> RowFacts<T> {
     /// A code point up to which none from `c` on has a mapping of any kind; `None` exactly where `c` has one. UAX #44,
     /// sections 5.6 and 5.7. It reaches as far as nothing is kept of mappings, and is found by a few look-ups.
-    pub(crate) fn last_plain(&self, c: Point) -> Option<Point>
+    pub fn last_plain(&self, c: Point) -> Option<Point>
         ensures plain { IsSome result
-            ↔ IsPlain c (⟦<FactTables<RunTable<u64>> as FactView>⟧.facts_of self.now c) }
+            ↔ IsPlain c (⟦<RowFacts<T> as FactView>⟧.facts_of self.now c) }
         ensures stretch { IfSome result (HoldsTo (λ d.
-            IsPlain d (⟦<FactTables<RunTable<u64>> as FactView>⟧.facts_of self.now d)) c) }
+            IsPlain d (⟦<RowFacts<T> as FactView>⟧.facts_of self.now d)) c) }
     {
         let Some(last) = self.kept.last_unmapped(c) else {
             return self.plain(c);
@@ -37,7 +37,7 @@ impl FactTables<RunTable<u64>> {
     /// The code point, where it has no mapping.
     fn plain(&self, c: Point) -> Option<Point>
         ensures { SomeIff result
-            (IsPlain c (⟦<FactTables<RunTable<u64>> as FactView>⟧.facts_of self.now c)) c }
+            (IsPlain c (⟦<RowFacts<T> as FactView>⟧.facts_of self.now c)) c }
     {
         if is_plain(c, &self.facts(c)) {
             Some(c)
@@ -47,7 +47,7 @@ impl FactTables<RunTable<u64>> {
     }
 }
 
-impl KeptFacts<RunTable<u64>> {
+impl<T: Table<u64>> KeptFacts<T> {
     /// The last code point up to which nothing is kept of mappings from `c` on.
     fn last_unmapped(&self, c: Point) -> Option<Point>
         ensures { IfSome result (HoldsTo (λ d. HasNoLists self.now d × HasNoImages self.now.cases.value d) c) }

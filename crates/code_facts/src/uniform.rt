@@ -6,12 +6,12 @@ ghost use Rattle.code_facts.specs.Index.{second_in};
 ghost use Rattle.code_facts.specs.Plain.{HoldsTo};
 
 use crate::composites::Composites;
-use crate::fact_tables::FactTables;
 use crate::points::{lesser, point};
-use range_table::RunTable;
+use crate::row_facts::RowFacts;
+use range_table::Stretches;
 use ucd_model::{FactView, Point};
 
-impl FactTables<RunTable<u64>> {
+impl<T: Stretches<u64>> RowFacts<T> {
     /// A code point up to which all from `c` on are without a mapping of any kind and have the same other facts, and
     /// are second members of primary composites' mappings alike; `None` exactly where `c` has a mapping. UAX #44,
     /// sections 5.6 and 5.7; The Unicode Standard, section 3.11, D114.
@@ -20,9 +20,9 @@ impl FactTables<RunTable<u64>> {
     /// point to itself, and a second member is alone.
     pub fn last_uniform(&self, c: Point) -> Option<Point>
         ensures plain { IsSome result
-            ↔ IsPlain c (⟦<FactTables<RunTable<u64>> as FactView>⟧.facts_of self.now c) }
+            ↔ IsPlain c (⟦<RowFacts<T> as FactView>⟧.facts_of self.now c) }
         ensures stretch { IfSome result (HoldsTo (λ d.
-            Uniform (⟦<FactTables<RunTable<u64>> as FactView>⟧.facts_of self.now) c d) c) }
+            Uniform (⟦<RowFacts<T> as FactView>⟧.facts_of self.now) c d) c) }
     {
         let plain = self.last_plain(c)?;
         let alike = self.last_alike(c);

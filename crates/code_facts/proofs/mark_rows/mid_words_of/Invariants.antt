@@ -1,16 +1,10 @@
-use Rattle.std.proofs.Common.{◌≡◌, ◌||◌, ℕ, length, map}
+use Rattle.std.proofs.Common.{◌≡◌, ℕ, take}
 use Rattle.std.specs.List.{list_any}
 use Rattle.ucd_model.specs.Facts.{within}
-use Rattle.ucd_model.specs.declared.files.SourceFile.TheVariants.{WordBreakProperty}
-use Rattle.ucd_model.specs.declared.row.Row.{Row}
-use Rattle.code_facts.specs.Rows.{release_sources}
 use Rattle.code_facts.specs.Marks.{puts}
 use Rattle.code_facts.specs.declared.mark.Mark.TheVariants.{MidWord}
 use Rattle.code_facts.proofs.mark_rows.mid_words_of.Given as goal
 
--- the spans so far, and the rows that are left
+-- the spans of the rows before this one
 abbrev pub invariant-rows : goal.invariant-rows
-invariant-rows l = (c : ℕ) → (list_any (within c) l.spans.items || list_any (puts MidWord c) (map (λ (n : ℕ × Row). n.1) l.rows)) ≡ list_any (puts MidWord c) (release_sources l.release WordBreakProperty)
-
-abbrev pub decreases-rows : goal.decreases-rows
-decreases-rows l = length l.rows
+invariant-rows l = (c : ℕ) → list_any (within c) l.spans.items ≡ list_any (puts MidWord c) (take l.row-index l.rows)

@@ -1,5 +1,5 @@
 use Rattle.code_facts.proofs.IndexLemmas.{index_pairs, index_seconds}
-use Rattle.code_facts.proofs.fact_tables.FactTables.indexed.Goals as goal
+use Rattle.code_facts.proofs.row_facts.RowFacts.indexed.Goals as goal
 
 pub invariant_of-result : goal.invariant_of-result
 invariant_of-result g c = record {

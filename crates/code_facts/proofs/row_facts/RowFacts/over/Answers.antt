@@ -1,17 +1,17 @@
 use Rattle.std.proofs.Common.{subst, sym, refl, ap, ◌∙◌, arith}
 use Rattle.ucd_model.specs.Facts.{data_row}
 use Rattle.ucd_model.specs.declared.files.SourceFile.TheVariants.{UnicodeData}
-use Rattle.code_facts.specs.Rows.{release_sources}
+use Rattle.code_facts.specs.RowLists.{sources_of}
 use Rattle.code_facts.specs.DataTables.{data_now}
 use Rattle.code_facts.specs.CaseMaps.{KeepsImages}
 use Rattle.code_facts.specs.declared.case_maps.CaseMaps.{CaseMaps}
 use Rattle.code_facts.proofs.MarkLemmas.{if_ok_map, marks_small}
 use Rattle.code_facts.proofs.FactLemmas.{tables_keep, row_kept, word_small, below_point}
-use Rattle.code_facts.proofs.fact_tables.FactTables.over.Goals as goal
+use Rattle.code_facts.proofs.row_facts.RowFacts.over.Goals as goal
 
 pub summed-requires : goal.summed-requires
 summed-requires g c k lt =
-    let sources = release_sources c.args.release.now in
+    let sources = sources_of c.args.rows.now in
     let given = ap (λ d. d.word) (c.requires.gives k lt) in
     let small = word_small k (data_row (sources UnicodeData) k) (c.requires.class k) in
     let marked = c.requires.marks k lt in
@@ -19,7 +19,7 @@ summed-requires g c k lt =
 
 pub returns : goal.returns
 returns g c =
-    let sources = release_sources c.args.release.now in
+    let sources = sources_of c.args.rows.now in
     let keep = tables_keep g.T.Table.now _ sources
     (λ k inside.
     let lt = below_point k inside in

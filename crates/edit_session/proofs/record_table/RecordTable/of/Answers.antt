@@ -1,0 +1,22 @@
+use Rattle.std.proofs.Common.{◌≡◌, ℕ, ◌<◌, subst, arith}
+use Rattle.std.proofs.lemmas.Result.{err_from_is_err_and}
+use Rattle.code_facts.specs.FactTables.{tables_facts}
+use Rattle.range_table.specs.RunTable.{values_now}
+use Rattle.ucd_model.specs.Facts.{Facts}
+use Rattle.ucd_model.specs.Limits.{point_count}
+use Rattle.edit_session.specs.RecordLists.{DerivedBelow}
+use Rattle.edit_session.proofs.PointRecords.{all_derived, stopped}
+use Rattle.edit_session.proofs.record_table.RecordTable.of.Goals as goal
+
+pub returns-in_err-record-clause-records : goal.returns-in_err-record-clause-records
+returns-in_err-record-clause-records g c =
+    let F : ℕ → Facts = tables_facts values_now c.args.tables.now in
+    let p = err_from_is_err_and c.from_residual-in_err-record.result c.from_residual-in_err-record.ensures.1 in
+    let below : c.runs.number < point_count = omega (arith, c.runs-test.true, c.point_count-count.ensures.value) in
+    rw (p.1, p.2) (stopped F c.runs.list c.point_at-c.result c.runs.number _ c.point_at-c.ensures below c.runs.invariant.derived c.in_err-record.ensures.found)
+
+pub returns-clause-records : goal.returns-clause-records
+returns-clause-records g c =
+    let F : ℕ → Facts = tables_facts values_now c.args.tables.now in
+    let all : c.runs.number ≡ point_count = omega (arith, c.runs-test.false, c.runs.invariant.within, c.point_count-count.ensures.value) in
+    all_derived c.runs.list F (subst (λ (n : ℕ). DerivedBelow c.runs.list n F) all c.runs.invariant.derived)

@@ -6,8 +6,8 @@ ghost use Rattle.ucd_model.specs.Predicates.{is_visible_format};
 ghost use Rattle.ucd_model.specs.Records.{kept_record, derived, ShowsRecord};
 ghost use Rattle.edit_session.specs.RecordLists.{RecordsAs, RecordFound, record_of};
 
-use crate::record_list::RecordList;
 use crate::open_stop::OpenStop;
+use crate::record_list::RecordList;
 use code_facts::FactTables;
 use identifier_closure::{Derived, derive_point};
 use range_table::RunTable;

@@ -43,7 +43,10 @@ fn a_bench_shows_records_and_facts(rt: HostRuntime) -> Result<(), Fail> {
     let capital = bench.record(point(0x0041)?);
     assert!(rt; capital.core.has(Core::ChangesWhenLowercased));
     assert_eq!(rt; bench.class(point(0x0300)?), 230);
-    assert_eq!(rt; bench.pair(point(0x0041)?, point(0x0300)?), Point::new(0x00C0));
+    assert_eq!(rt;
+        bench.pair(point(0x0041)?, point(0x0300)?),
+        Point::new(0x00C0)
+    );
     let text = bench.release().text(rt.alloc(), SourceFile::UnicodeData)?;
     assert!(rt; text.as_slice() == LETTERS);
     Ok(())

@@ -5,6 +5,7 @@ use Rattle.shelf_io.specs.Contents.{SameContents}
 use Rattle.ucdshop_core.specs.Printed.{usage, read_failed, write_failed, out_of_memory, summary, no_counts}
 use Rattle.ucdshop_core.specs.Run.{Contents, Job, form, NewFile, Expected, NoForm, Refuses, Writes, expected, expected_of, Replaced, Sees, IsFine}
 use Rattle.ucdshop_core.specs.Outcome.{ShelfSeen, SinkSeen, Told, GrewInPart, IsClean, Outcome, IsNeeded, IsOutput, MayWrite, PassesReads, WritesNothing, WrittenUpTo, WrittenWhole}
+use Rattle.ucdshop_core.specs.Promises.{NoFault, Promises}
 use Rattle.ucdshop_core.specs.declared.status.Status.{Status}
 use Rattle.ucdshop_core.proofs.RunLemmas.{seen_held}
 use Rattle.ucdshop_core.specs.declared.status.Status.TheVariants.{Clean, Done, BadWords, LoadRefused, ReadFault, WriteFault, Memory}
@@ -28,40 +29,40 @@ same_files e files others p q = cc
 some_none : {A : Type 0} (o : Option A) (x : A) → o ≡ Some x → o ≡ None → ⊥
 some_none o x p q = cc
 
-pub complete : (words : List (List ℕ)) (shelf : ShelfSeen) (sink : SinkSeen) (status : Status) → Outcome words shelf sink status
-    → IsTrue shelf.tells → (files : List NewFile) → expected words shelf.old ≡ Writes files → ¬ Rose shelf.reads_old shelf.reads_new → ¬ Rose shelf.writes_old shelf.writes_new → ¬ Rose sink.faults_old sink.faults_new
+complete : (words : List (List ℕ)) (shelf : ShelfSeen) (sink : SinkSeen) (status : Status) → Outcome words shelf sink status
+    → IsTrue shelf.tells → (files : List NewFile) → expected words shelf.old ≡ Writes files → NoFault shelf sink
     → (status ≡ Clean) ⊎ (status ≡ Memory)
-complete words shelf sink Clean o tells files e r w f = inl refl
-complete words shelf sink Done o tells files e r w f = absurd o
-complete words shelf sink BadWords o tells files e r w f = absurd (no_form_writes _ files (no_form words shelf.old o.unformed) e)
-complete words shelf sink LoadRefused o tells files e r w f = absurd (refuses_writes _ o.line files (seen_held shelf.tells shelf.old (λ seen. expected words seen ≡ Refuses o.line) o.refused tells) e)
-complete words shelf sink ReadFault o tells files e r w f = absurd (r o.rose)
-complete words shelf sink WriteFault o tells files e r w f = elim o.cause [ inl stopped ↦ absurd (w stopped.rose) | inr untold ↦ absurd (f untold.told.0) ]
-complete words shelf sink Memory o tells files e r w f = inr refl
+complete words shelf sink Clean o tells files e none = inl refl
+complete words shelf sink Done o tells files e none = absurd o
+complete words shelf sink BadWords o tells files e none = absurd (no_form_writes _ files (no_form words shelf.old o.unformed) e)
+complete words shelf sink LoadRefused o tells files e none = absurd (refuses_writes _ o.line files (seen_held shelf.tells shelf.old (λ seen. expected words seen ≡ Refuses o.line) o.refused tells) e)
+complete words shelf sink ReadFault o tells files e none = absurd (none.reads o.rose)
+complete words shelf sink WriteFault o tells files e none = elim o.cause [ inl stopped ↦ absurd (none.writes stopped.rose) | inr untold ↦ absurd (none.puts untold.told.0) ]
+complete words shelf sink Memory o tells files e none = inr refl
 
 clean_replaced : (words : List (List ℕ)) (shelf : ShelfSeen) (sink : SinkSeen) → IsClean words shelf sink → IsTrue shelf.tells → (files : List NewFile) → expected words shelf.old ≡ Writes files → Replaced files shelf.old shelf.new
 clean_replaced words shelf sink o tells files e =
     let w = o.written tells in
     subst (λ (fs : List NewFile). Replaced fs shelf.old shelf.new) (same_files _ w.0 files w.1 e) w.2
 
-pub headline : (words : List (List ℕ)) (shelf : ShelfSeen) (sink : SinkSeen) (status : Status) → Outcome words shelf sink status
-    → IsTrue shelf.tells → (files : List NewFile) → expected words shelf.old ≡ Writes files → ¬ Rose shelf.reads_old shelf.reads_new → ¬ Rose shelf.writes_old shelf.writes_new → ¬ Rose sink.faults_old sink.faults_new → status ≢ Memory
+headline : (words : List (List ℕ)) (shelf : ShelfSeen) (sink : SinkSeen) (status : Status) → Outcome words shelf sink status
+    → IsTrue shelf.tells → (files : List NewFile) → expected words shelf.old ≡ Writes files → NoFault shelf sink → status ≢ Memory
     → (status ≡ Clean) × Replaced files shelf.old shelf.new
-headline words shelf sink status o tells files e r w f m = elim (complete words shelf sink status o tells files e r w f) [
+headline words shelf sink status o tells files e none m = elim (complete words shelf sink status o tells files e none) [
   | inl clean ↦ (clean, clean_replaced words shelf sink (subst (Outcome words shelf sink) clean o) tells files e)
   | inr memory ↦ absurd (m memory)
 ]
 
-pub clean : (words : List (List ℕ)) (shelf : ShelfSeen) (sink : SinkSeen) (status : Status) → Outcome words shelf sink status → IsTrue shelf.tells → status ≡ Clean → WrittenWhole words shelf.old shelf.new
+clean : (words : List (List ℕ)) (shelf : ShelfSeen) (sink : SinkSeen) (status : Status) → Outcome words shelf sink status → IsTrue shelf.tells → status ≡ Clean → WrittenWhole words shelf.old shelf.new
 clean words shelf sink status o tells e = let c : IsClean words shelf sink = subst (Outcome words shelf sink) e o in c.written tells
 
-pub clean_told : (words : List (List ℕ)) (shelf : ShelfSeen) (sink : SinkSeen) (status : Status) → Outcome words shelf sink status → IsTrue sink.tells → status ≡ Clean → sink.new ≡ sink.old ++ summary no_counts
+clean_told : (words : List (List ℕ)) (shelf : ShelfSeen) (sink : SinkSeen) (status : Status) → Outcome words shelf sink status → IsTrue sink.tells → status ≡ Clean → sink.new ≡ sink.old ++ summary no_counts
 clean_told words shelf sink status o tells e = let c : IsClean words shelf sink = subst (Outcome words shelf sink) e o in c.told tells
 
-pub never_done : (words : List (List ℕ)) (shelf : ShelfSeen) (sink : SinkSeen) (status : Status) → Outcome words shelf sink status → status ≢ Done
+never_done : (words : List (List ℕ)) (shelf : ShelfSeen) (sink : SinkSeen) (status : Status) → Outcome words shelf sink status → status ≢ Done
 never_done words shelf sink status o e = let c : Outcome words shelf sink Done = subst (Outcome words shelf sink) e o in c
 
-pub bad_words : (words : List (List ℕ)) (shelf : ShelfSeen) (sink : SinkSeen) (status : Status) → Outcome words shelf sink status → (status ≡ BadWords) ↔ (form words ≡ None)
+bad_words : (words : List (List ℕ)) (shelf : ShelfSeen) (sink : SinkSeen) (status : Status) → Outcome words shelf sink status → (status ≡ BadWords) ↔ (form words ≡ None)
 bad_words words shelf sink Clean o = (λ e. absurd cc, λ n. absurd (some_none (form words) o.job o.formed n))
 bad_words words shelf sink Done o = absurd o
 bad_words words shelf sink BadWords o = (λ e. o.unformed, λ n. refl)
@@ -70,15 +71,15 @@ bad_words words shelf sink ReadFault o = (λ e. absurd cc, λ n. absurd (some_no
 bad_words words shelf sink WriteFault o = (λ e. absurd cc, λ n. absurd (some_none (form words) o.job o.formed n))
 bad_words words shelf sink Memory o = (λ e. absurd cc, λ n. absurd (some_none (form words) o.job o.formed n))
 
-pub bad_words_told : (words : List (List ℕ)) (shelf : ShelfSeen) (sink : SinkSeen) (status : Status) → Outcome words shelf sink status → status ≡ BadWords → Told usage sink
+bad_words_told : (words : List (List ℕ)) (shelf : ShelfSeen) (sink : SinkSeen) (status : Status) → Outcome words shelf sink status → status ≡ BadWords → Told usage sink
 bad_words_told words shelf sink status o e = let c : Outcome words shelf sink BadWords = subst (Outcome words shelf sink) e o in c.told
 
-pub refused_only : (words : List (List ℕ)) (shelf : ShelfSeen) (sink : SinkSeen) (status : Status) → Outcome words shelf sink status → status ≡ LoadRefused → Sees shelf.tells shelf.old (λ seen. (line : List ℕ) × (expected words seen ≡ Refuses line) × Told line sink)
+refused_only : (words : List (List ℕ)) (shelf : ShelfSeen) (sink : SinkSeen) (status : Status) → Outcome words shelf sink status → status ≡ LoadRefused → Sees shelf.tells shelf.old (λ seen. (line : List ℕ) × (expected words seen ≡ Refuses line) × Told line sink)
 refused_only words shelf sink status o e =
     let c : Outcome words shelf sink LoadRefused = subst (Outcome words shelf sink) e o in
     (c.refused.0, c.refused.1, (c.line, c.refused.2, c.told))
 
-pub fine_only : (words : List (List ℕ)) (shelf : ShelfSeen) (sink : SinkSeen) (status : Status) → Outcome words shelf sink status → MayWrite status → Sees shelf.tells shelf.old (IsFine words)
+fine_only : (words : List (List ℕ)) (shelf : ShelfSeen) (sink : SinkSeen) (status : Status) → Outcome words shelf sink status → MayWrite status → Sees shelf.tells shelf.old (IsFine words)
 fine_only words shelf sink Clean o may = o.fine
 fine_only words shelf sink WriteFault o may = o.fine
 fine_only words shelf sink Done o may = absurd may
@@ -87,7 +88,7 @@ fine_only words shelf sink LoadRefused o may = absurd may
 fine_only words shelf sink ReadFault o may = absurd may
 fine_only words shelf sink Memory o may = absurd may
 
-pub no_failed_read : (words : List (List ℕ)) (shelf : ShelfSeen) (sink : SinkSeen) (status : Status) → Outcome words shelf sink status → IsTrue shelf.tells_failed → PassesReads status → shelf.failed ≡ shelf.failed_old
+no_failed_read : (words : List (List ℕ)) (shelf : ShelfSeen) (sink : SinkSeen) (status : Status) → Outcome words shelf sink status → IsTrue shelf.tells_failed → PassesReads status → shelf.failed ≡ shelf.failed_old
 no_failed_read words shelf sink Clean o tells passes = o.read tells
 no_failed_read words shelf sink Done o tells passes = absurd o
 no_failed_read words shelf sink BadWords o tells passes = o.read tells
@@ -96,10 +97,10 @@ no_failed_read words shelf sink ReadFault o tells passes = absurd passes
 no_failed_read words shelf sink WriteFault o tells passes = o.read tells
 no_failed_read words shelf sink Memory o tells passes = absurd passes
 
-pub bad_words_unread : (words : List (List ℕ)) (shelf : ShelfSeen) (sink : SinkSeen) (status : Status) → Outcome words shelf sink status → status ≡ BadWords → shelf.reads_new ≡ shelf.reads_old
+bad_words_unread : (words : List (List ℕ)) (shelf : ShelfSeen) (sink : SinkSeen) (status : Status) → Outcome words shelf sink status → status ≡ BadWords → shelf.reads_new ≡ shelf.reads_old
 bad_words_unread words shelf sink status o e = let c : Outcome words shelf sink BadWords = subst (Outcome words shelf sink) e o in c.unread
 
-pub no_write_fault : (words : List (List ℕ)) (shelf : ShelfSeen) (sink : SinkSeen) (status : Status) → Outcome words shelf sink status → WritesNothing status → shelf.writes_new ≡ shelf.writes_old
+no_write_fault : (words : List (List ℕ)) (shelf : ShelfSeen) (sink : SinkSeen) (status : Status) → Outcome words shelf sink status → WritesNothing status → shelf.writes_new ≡ shelf.writes_old
 no_write_fault words shelf sink Clean o w = absurd w
 no_write_fault words shelf sink Done o w = absurd w
 no_write_fault words shelf sink BadWords o w = o.writes
@@ -108,7 +109,7 @@ no_write_fault words shelf sink ReadFault o w = o.writes
 no_write_fault words shelf sink WriteFault o w = absurd w
 no_write_fault words shelf sink Memory o w = o.writes
 
-pub refused : (words : List (List ℕ)) (shelf : ShelfSeen) (sink : SinkSeen) (status : Status) → Outcome words shelf sink status
+refused : (words : List (List ℕ)) (shelf : ShelfSeen) (sink : SinkSeen) (status : Status) → Outcome words shelf sink status
     → IsTrue shelf.tells → (line : List ℕ) → expected words shelf.old ≡ Refuses line → ¬ Rose shelf.reads_old shelf.reads_new → (status ≡ LoadRefused) ⊎ (status ≡ Memory)
 refused words shelf sink Clean o tells line e r = absurd (refuses_writes _ line (o.written tells).0 e (o.written tells).1)
 refused words shelf sink Done o tells line e r = absurd o
@@ -121,14 +122,14 @@ refused words shelf sink WriteFault o tells line e r = elim o.cause [
 ]
 refused words shelf sink Memory o tells line e r = inr refl
 
-pub read_fault_only : (words : List (List ℕ)) (shelf : ShelfSeen) (sink : SinkSeen) (status : Status) → Outcome words shelf sink status → status ≡ ReadFault → Rose shelf.reads_old shelf.reads_new
+read_fault_only : (words : List (List ℕ)) (shelf : ShelfSeen) (sink : SinkSeen) (status : Status) → Outcome words shelf sink status → status ≡ ReadFault → Rose shelf.reads_old shelf.reads_new
 read_fault_only words shelf sink status o e = let c : Outcome words shelf sink ReadFault = subst (Outcome words shelf sink) e o in c.rose
 
-pub read_fault_told : (words : List (List ℕ)) (shelf : ShelfSeen) (sink : SinkSeen) (status : Status) → Outcome words shelf sink status → status ≡ ReadFault
+read_fault_told : (words : List (List ℕ)) (shelf : ShelfSeen) (sink : SinkSeen) (status : Status) → Outcome words shelf sink status → status ≡ ReadFault
     → (path : List ℕ) × IsNeeded words path × (IsTrue shelf.tells_failed → path ≡ shelf.failed) × Told (read_failed path) sink
 read_fault_told words shelf sink status o e = let c : Outcome words shelf sink ReadFault = subst (Outcome words shelf sink) e o in (c.path, (c.job, c.formed, c.place, c.needed), c.last, c.told)
 
-pub write_fault : (words : List (List ℕ)) (shelf : ShelfSeen) (sink : SinkSeen) (status : Status) → Outcome words shelf sink status → status ≡ WriteFault
+write_fault : (words : List (List ℕ)) (shelf : ShelfSeen) (sink : SinkSeen) (status : Status) → Outcome words shelf sink status → status ≡ WriteFault
     → (Rose shelf.writes_old shelf.writes_new × ((place : ℕ) × (path : List ℕ) × IsOutput words place path × (IsTrue shelf.tells → WrittenUpTo words place path shelf.old shelf.new) × Told (write_failed path) sink))
     ⊎ ((IsTrue shelf.tells → WrittenWhole words shelf.old shelf.new) × GrewInPart (summary no_counts) sink)
 write_fault words shelf sink status o e = let c : Outcome words shelf sink WriteFault = subst (Outcome words shelf sink) e o in elim c.cause [
@@ -136,10 +137,10 @@ write_fault words shelf sink status o e = let c : Outcome words shelf sink Write
   | inr untold ↦ inr (untold.written, untold.told)
 ]
 
-pub memory_told : (words : List (List ℕ)) (shelf : ShelfSeen) (sink : SinkSeen) (status : Status) → Outcome words shelf sink status → status ≡ Memory → Told out_of_memory sink
+memory_told : (words : List (List ℕ)) (shelf : ShelfSeen) (sink : SinkSeen) (status : Status) → Outcome words shelf sink status → status ≡ Memory → Told out_of_memory sink
 memory_told words shelf sink status o e = let c : Outcome words shelf sink Memory = subst (Outcome words shelf sink) e o in c.told
 
-pub unchanged : (words : List (List ℕ)) (shelf : ShelfSeen) (sink : SinkSeen) (status : Status) → Outcome words shelf sink status → IsTrue shelf.tells → WritesNothing status → SameContents shelf.old shelf.new
+unchanged : (words : List (List ℕ)) (shelf : ShelfSeen) (sink : SinkSeen) (status : Status) → Outcome words shelf sink status → IsTrue shelf.tells → WritesNothing status → SameContents shelf.old shelf.new
 unchanged words shelf sink Clean o tells w = absurd w
 unchanged words shelf sink Done o tells w = absurd w
 unchanged words shelf sink BadWords o tells w = o.unchanged tells
@@ -147,3 +148,25 @@ unchanged words shelf sink LoadRefused o tells w = o.unchanged tells
 unchanged words shelf sink ReadFault o tells w = o.unchanged tells
 unchanged words shelf sink WriteFault o tells w = absurd w
 unchanged words shelf sink Memory o tells w = o.unchanged tells
+
+pub promises : (words : List (List ℕ)) (shelf : ShelfSeen) (sink : SinkSeen) (status : Status) → Outcome words shelf sink status → Promises words shelf sink status
+promises words shelf sink status o = record {
+  headline = headline words shelf sink status o;
+  complete = complete words shelf sink status o;
+  fine_only = fine_only words shelf sink status o;
+  clean = clean words shelf sink status o;
+  clean_told = clean_told words shelf sink status o;
+  never_done = never_done words shelf sink status o;
+  bad_words = bad_words words shelf sink status o;
+  bad_words_unread = bad_words_unread words shelf sink status o;
+  bad_words_told = bad_words_told words shelf sink status o;
+  refused_only = refused_only words shelf sink status o;
+  refused = refused words shelf sink status o;
+  no_failed_read = no_failed_read words shelf sink status o;
+  read_fault_only = read_fault_only words shelf sink status o;
+  read_fault_told = read_fault_told words shelf sink status o;
+  write_fault = write_fault words shelf sink status o;
+  memory_told = memory_told words shelf sink status o;
+  unchanged = unchanged words shelf sink status o;
+  no_write_fault = no_write_fault words shelf sink status o;
+}

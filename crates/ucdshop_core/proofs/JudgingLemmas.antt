@@ -15,7 +15,8 @@ use Rattle.ucd_model.specs.declared.files.SourceFile.TheVariants.{UnicodeData, P
 use Rattle.ucd_model.specs.declared.row.Row.{Row}
 use Rattle.release_rows.specs.FileItems.{FileItem, rows_in}
 use Rattle.release_rows.specs.Releases.{ReleaseItems, items_now}
-use Rattle.ucdshop_core.specs.Judging.{JudgedAs, LoadsFile, held_at, release_rows, verdict_at}
+use Rattle.code_facts.specs.Rows.{release_sources}
+use Rattle.ucdshop_core.specs.Judging.{JudgedAs, LoadsFile, held_at, verdict_at}
 use Rattle.ucdshop_core.specs.Planning.{LoadedAs, NamesUnread, OnRefused}
 use Rattle.ucdshop_core.specs.Printed.{read_failed}
 use Rattle.std.proofs.lemmas.Option.{slice_get-get_or}
@@ -103,12 +104,12 @@ verdict_seen false holds folder held same = (read_contents folder (λ file. held
 
 -- files before a place are loaded as their verdict says, and those from it on have no items
 pub record IsLoadedTo (verdict_on : SourceFile → Result (List Row) (List ℕ)) (at : ℕ) (release : ReleaseItems) : Type 0 where
-  pub rows : (file : SourceFile) → file_place file < at → verdict_on file ≡ Ok (release_rows release file)
+  pub rows : (file : SourceFile) → file_place file < at → verdict_on file ≡ Ok (release_sources release file)
   pub empty : (file : SourceFile) → at ≤ file_place file → items_now release file ≡ []
   pub later : first_refusal verdict_on source_files ≡ first_refusal verdict_on (drop at source_files)
 
 pub loaded_to_next : (verdict_on : SourceFile → Result (List Row) (List ℕ)) (at : ℕ) (old new : ReleaseItems) → at < 9 → IsLoadedTo verdict_on at old
-    → verdict_on (file_at at) ≡ Ok (release_rows new (file_at at)) → ((other : SourceFile) → other ≢ file_at at → items_now new other ≡ items_now old other)
+    → verdict_on (file_at at) ≡ Ok (release_sources new (file_at at)) → ((other : SourceFile) → other ≢ file_at at → items_now new other ≡ items_now old other)
     → IsLoadedTo verdict_on (at + 1) new
 loaded_to_next verdict_on at old new lt loaded here others =
     let differs : (file : SourceFile) → file_place file ≢ at → file ≢ file_at at = λ file apart same. apart (ap file_place same ∙ file_place-at at lt) in
@@ -118,13 +119,13 @@ loaded_to_next verdict_on at old new lt loaded here others =
         | inr not_before ↦
             let same_place : file_place file ≡ at = omega arith in
             let same : file_at at ≡ file = ap file_at (sym same_place) ∙ file_at-place file in
-            subst (λ (f : SourceFile). verdict_on f ≡ Ok (release_rows new f)) same here
+            subst (λ (f : SourceFile). verdict_on f ≡ Ok (release_sources new f)) same here
       ];
       empty = λ file above. others file (differs file (λ same. absurd (omega arith))) ∙ loaded.empty file (omega arith);
       later = loaded.later ∙ ap (first_refusal verdict_on) (drop_more source_files at UnicodeData (omega arith)) ∙ ap (λ (r : Result (List Row) (List ℕ)). or_refusal r (first_refusal verdict_on (drop (at + 1) source_files))) here;
     }
 
-pub verdict_all : (verdict_on : SourceFile → Result (List Row) (List ℕ)) (release : ReleaseItems) → IsLoadedTo verdict_on 9 release → verdict_by verdict_on ≡ Ok (release_rows release)
+pub verdict_all : (verdict_on : SourceFile → Result (List Row) (List ℕ)) (release : ReleaseItems) → IsLoadedTo verdict_on 9 release → verdict_by verdict_on ≡ Ok (release_sources release)
 verdict_all verdict_on release loaded =
     ap (λ (line : Option (List ℕ)). refused_or line (λ file. rows_or_none (verdict_on file))) loaded.later
     ∙ ap (λ (rows : Sources). Ok rows) (fun_ext (λ file. ap rows_or_none (loaded.rows file (file_place_small file))))
@@ -135,7 +136,7 @@ verdict_refused verdict_on at release line lt loaded here =
     (loaded.later ∙ ap (first_refusal verdict_on) (drop_more source_files at UnicodeData (omega arith)) ∙ ap (λ (r : Result (List Row) (List ℕ)). or_refusal r (first_refusal verdict_on (drop (at + 1) source_files))) here)
 
 -- a file that is not loaded stops the whole
-pub judged_stop : (verdict_on : SourceFile → Result (List Row) (List ℕ)) (at : ℕ) (release old new : ReleaseItems) (file : SourceFile) (expected : Result (List Row) (List ℕ)) (stop : Stop) → at < 9 → IsLoadedTo verdict_on at release → verdict_on (file_at at) ≡ expected → LoadsFile (Err stop) expected file old new → JudgedAs release_rows (Err stop) (verdict_by verdict_on)
+pub judged_stop : (verdict_on : SourceFile → Result (List Row) (List ℕ)) (at : ℕ) (release old new : ReleaseItems) (file : SourceFile) (expected : Result (List Row) (List ℕ)) (stop : Stop) → at < 9 → IsLoadedTo verdict_on at release → verdict_on (file_at at) ≡ expected → LoadsFile (Err stop) expected file old new → JudgedAs release_sources (Err stop) (verdict_by verdict_on)
 judged_stop verdict_on at release old new file expected (Refused line) lt loaded same h = verdict_refused verdict_on at release line lt loaded (same ∙ h)
 judged_stop verdict_on at release old new file expected (ReadFailed line) lt loaded same h = absurd h
 judged_stop verdict_on at release old new file expected Memory lt loaded same h = tt

@@ -12,7 +12,7 @@ use Rattle.ucdshop_core.specs.Run.{Contents, Job, Derive, form, needed, NewFile,
 use Rattle.ucdshop_core.specs.Planning.{HasPlan, HaveLines, OnRefused, OnUnread, NamesUnread, NoneFailed}
 use Rattle.ucdshop_core.specs.Writing.{file_of, files_of}
 use Rattle.ucdshop_core.specs.Outcome.{ShelfSeen, SinkSeen, Unchanged, GrewInPart, Told, Outcome, StoppedWith, Finished}
-use Rattle.ucdshop_core.specs.declared.planning.Plan.{Plan}
+use Rattle.ucdshop_core.specs.declared.plan.Plan.{Plan}
 use Rattle.ucdshop_core.specs.declared.writing.Output.{Output}
 use Rattle.ucdshop_core.specs.declared.stop.Stop.{Stop}
 use Rattle.ucdshop_core.specs.declared.stop.Stop.TheVariants as stops

@@ -1,24 +1,19 @@
 -- Judging the files that were read.
 --
--- release_rows release            the rows of a release now, file by file
 -- held_at held at                 what is held at a place; None where nothing is, and past the last
 -- verdict_at paths held file      the verdict on what the path of a file holds
 -- JudgedAs view result expected   a result, seen by view, is what was expected; want of memory says nothing
 -- LoadsFile result expected file old new   the file was loaded where rows were expected, and all other files stay
 use Rattle.std.specs.Prelude.{◌≡◌, ◌≢◌, ℕ, List, Option, None, Result, Ok, Err, slice_index_or}
-use Rattle.ucd_model.specs.Facts.{Sources}
 use Rattle.ucd_model.specs.declared.files.SourceFile.{SourceFile}
 use Rattle.ucd_model.specs.SourceFiles.{file_place}
 use Rattle.ucd_model.specs.declared.row.Row.{Row}
-use Rattle.release_rows.specs.FileItems.{rows_in}
 use Rattle.release_rows.specs.Releases.{ReleaseItems, items_now}
+use Rattle.code_facts.specs.Rows.{release_sources}
 use Rattle.ucdshop_core.specs.Reading.{text_at}
 use Rattle.ucdshop_core.specs.Run.{file_rows}
 use Rattle.ucdshop_core.specs.declared.stop.Stop.{Stop}
 use Rattle.ucdshop_core.specs.declared.stop.Stop.TheVariants.{Refused, ReadFailed, Memory}
-
-abbrev pub release_rows : ReleaseItems → Sources
-release_rows release file = rows_in (items_now release file)
 
 abbrev pub held_at : List (Option (List ℕ)) → ℕ → Option (List ℕ)
 held_at held at = slice_index_or held at None
@@ -33,7 +28,7 @@ JudgedAs view (Err (ReadFailed line)) expected = ⊥
 JudgedAs view (Err Memory) expected = Unit {0}
 
 abbrev pub LoadsFile : Result (Unit {0}) Stop → Result (List Row) (List ℕ) → SourceFile → ReleaseItems → ReleaseItems → Type 0
-LoadsFile (Ok _) expected file old new = (expected ≡ Ok (release_rows new file)) × ((other : SourceFile) → other ≢ file → items_now new other ≡ items_now old other)
+LoadsFile (Ok _) expected file old new = (expected ≡ Ok (release_sources new file)) × ((other : SourceFile) → other ≢ file → items_now new other ≡ items_now old other)
 LoadsFile (Err (Refused line)) expected file old new = expected ≡ Err line
 LoadsFile (Err (ReadFailed line)) expected file old new = ⊥
 LoadsFile (Err Memory) expected file old new = Unit {0}

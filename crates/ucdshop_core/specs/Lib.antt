@@ -1,7 +1,7 @@
-pub mod RecordLists
 pub mod Printed
 pub mod Run
 pub mod Outcome
+pub mod Promises
 pub mod Codes
 pub mod Commands
 pub mod Reading

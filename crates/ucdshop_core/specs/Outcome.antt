@@ -1,7 +1,6 @@
 -- What a run leaves, by its status.
 --
 -- ShelfSeen, SinkSeen               what is seen of the shelf and the sink before and after the run
--- sink_seen ..                      of a sink: whether it tells, what was written and its count of faults, each before and after
 -- Unchanged shelf                   every path holds what it held; nothing is said of a shelf that does not tell what it holds
 -- LastFailedStays shelf             the path of the last failed read is as it was; nothing is said of a shelf that does not tell
 --                                   it
@@ -49,7 +48,7 @@ use Rattle.shelf_io.specs.Contents.{SameContents, AddsPrefix}
 use Rattle.ucdshop_core.specs.Printed.{usage, read_failed, write_failed, out_of_memory, summary, no_counts}
 use Rattle.ucdshop_core.specs.Run.{Contents, Job, form, needed, NewFile, output_paths, Refuses, Writes, expected, after, Replaced, Sees, IsFine}
 use Rattle.ucdshop_core.specs.Writing.{files_of, StoppedAt}
-use Rattle.ucdshop_core.specs.declared.planning.Plan.{Plan}
+use Rattle.ucdshop_core.specs.declared.plan.Plan.{Plan}
 use Rattle.ucdshop_core.specs.declared.stop.Stop.{Stop}
 use Rattle.ucdshop_core.specs.declared.stop.Stop.TheVariants.{Refused, ReadFailed}
 use Rattle.ucdshop_core.specs.declared.stop.Stop.TheVariants as stops
@@ -74,9 +73,6 @@ pub record SinkSeen : Type 0 where
   pub new : List ℕ
   pub faults_old : ℕ
   pub faults_new : ℕ
-
-abbrev pub sink_seen : Bool → List ℕ → List ℕ → ℕ → ℕ → SinkSeen
-sink_seen tells old new faults_old faults_new = record { tells = tells; old = old; new = new; faults_old = faults_old; faults_new = faults_new }
 
 abbrev pub Unchanged : ShelfSeen → Type 0
 Unchanged shelf = IsTrue shelf.tells → SameContents shelf.old shelf.new

@@ -1,10 +1,11 @@
 -- All that a run does before it writes.
 --
 -- LoadedAs view result expected   a result, seen by view, is what was expected; a failed read and want of memory say nothing
--- loaded_rows loaded              the rows of a release that was loaded
 -- ChecksAs result expected        the line that refuses is the expected one, and there is a value where none is expected; want of
 --                                 memory says nothing
 -- OnRefused result P              P of the line, where a file was refused
+-- RefusesBy stop folder why       a refusal by the line that names the folder, the code point and its rule; want of memory says
+--                                 nothing
 -- NoneFailed result old new       the path of the last failed read is as it was, unless a file could not be read; want of memory
 --                                 says nothing
 -- OnUnread result P               P of the line, where a file could not be read
@@ -14,12 +15,12 @@
 --                                 and tells the summary
 use Rattle.std.specs.Prelude.{◌≡◌, ℕ, List, map, IsTrue, Bool, Option, Some, None, Result, Ok, Err, ⊤, slice_get}
 use Rattle.ucd_model.specs.Facts.{Sources}
-use Rattle.ucdshop_core.specs.Printed.{read_failed, write_failed, summary, no_counts}
+use Rattle.edit_session.specs.declared.open_stop.OpenStop.{OpenStop}
+use Rattle.edit_session.specs.declared.open_stop.OpenStop.TheVariants.{Invalid}
+use Rattle.ucdshop_core.specs.Printed.{read_failed, write_failed, refused_point, summary, no_counts}
 use Rattle.ucdshop_core.specs.Run.{Job, outputs}
 use Rattle.ucdshop_core.specs.Writing.{files_of}
-use Rattle.ucdshop_core.specs.Judging.{release_rows}
-use Rattle.ucdshop_core.specs.declared.planning.Loaded.{Loaded}
-use Rattle.ucdshop_core.specs.declared.planning.Plan.{Plan}
+use Rattle.ucdshop_core.specs.declared.plan.Plan.{Plan}
 use Rattle.ucdshop_core.specs.declared.stop.Stop.{Stop}
 use Rattle.ucdshop_core.specs.declared.stop.Stop.TheVariants.{Refused, ReadFailed, Memory}
 use Rattle.ucdshop_core.specs.declared.writing.Output.{Output}
@@ -38,9 +39,6 @@ LoadedAs view (Err (Refused line)) expected = expected ≡ Err line
 LoadedAs view (Err (ReadFailed line)) expected = ⊤
 LoadedAs view (Err Memory) expected = ⊤
 
-abbrev pub loaded_rows : Loaded → Sources
-loaded_rows loaded = release_rows loaded.release
-
 abbrev pub ChecksAs : {A : Type 0} → Result A Stop → Option (List ℕ) → Type 0
 ChecksAs (Ok _) expected = expected ≡ None
 ChecksAs (Err (Refused line)) expected = expected ≡ Some line
@@ -52,6 +50,11 @@ OnRefused (Ok _) P = ⊤
 OnRefused (Err (Refused line)) P = P line
 OnRefused (Err (ReadFailed line)) P = ⊤
 OnRefused (Err Memory) P = ⊤
+
+abbrev pub RefusesBy : Stop → List ℕ → OpenStop → Type 0
+RefusesBy (Refused line) folder (Invalid rule point) = line ≡ refused_point folder (record { point = point; rule = rule })
+RefusesBy Memory folder stop = ⊤
+RefusesBy _ folder stop = ⊥
 
 abbrev pub OnUnread : {A : Type 0} → Result A Stop → (List ℕ → Type 0) → Type 0
 OnUnread (Ok _) P = ⊤

@@ -1,8 +1,9 @@
 //! Judging the files that were read.
 
 ghost use Rattle.std.specs.Prelude.{◌≡◌, [], length};
+ghost use Rattle.code_facts.specs.Rows.{release_sources};
 ghost use Rattle.release_rows.specs.Releases.{items_now};
-ghost use Rattle.ucdshop_core.specs.Judging.{JudgedAs, LoadsFile, release_rows, verdict_at};
+ghost use Rattle.ucdshop_core.specs.Judging.{JudgedAs, LoadsFile, verdict_at};
 ghost use Rattle.ucdshop_core.specs.Run.{file_rows, verdict_by};
 
 use crate::printed::{refused, rule_code};
@@ -18,7 +19,7 @@ use ucd_model::{SOURCE_FILES, SourceFile, Text};
 pub fn judge(alloc: Global, paths: &[Text], held: &[Option<Text>]) -> Result<Release, Stop>
     requires paths { length paths.now ≡ 9 }
     requires held { length held.now ≡ 9 }
-    ensures { JudgedAs release_rows result (verdict_by (verdict_at paths.now held.now)) }
+    ensures { JudgedAs release_sources result (verdict_by (verdict_at paths.now held.now)) }
 {
     let mut release = Release::empty(alloc);
     'files: for at in 0..SOURCE_FILES.len() {

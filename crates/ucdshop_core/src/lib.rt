@@ -3,15 +3,14 @@
 
 mod command;
 mod derived_path;
+mod gathering;
 mod judging;
 mod perfect_run;
+mod plan;
 mod planning;
 mod printed;
 mod program;
 mod reading;
-mod record_list;
-mod record_stop;
-mod record_table;
 mod source_path;
 mod status;
 mod stop;
@@ -19,7 +18,7 @@ mod writing;
 
 pub use perfect_run::run_perfectly;
 pub use printed::OUT_OF_MEMORY;
-pub use program::run;
+pub use program::{run, run_counted};
 pub use status::Status;
 
 #[cfg(test)]

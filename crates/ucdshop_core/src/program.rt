@@ -1,128 +1,87 @@
 //! The run of the program.
 
-ghost use Rattle.std.specs.Prelude.{◌≡◌, ◌≢◌, ◌≤◌, ◌⊎◌, ◌++◌, ◌↔◌, ℕ, List, IsTrue, length, None};
-ghost use Rattle.shelf_io.specs.Counts.{Rose};
-ghost use Rattle.ucdshop_core.specs.Commands.{job_of};
-ghost use Rattle.shelf_io.specs.Contents.{SameContents};
-ghost use Rattle.ucdshop_core.specs.Outcome.{Outcome, Told, GrewInPart, StoppedWith, Finished, IsNeeded, IsOutput, MayWrite, PassesReads, WritesNothing, WrittenUpTo, WrittenWhole, sink_seen};
-ghost use Rattle.ucdshop_core.specs.Printed.{usage, read_failed, write_failed, out_of_memory, summary, no_counts};
-ghost use Rattle.ucdshop_core.specs.Run.{NewFile, Refuses, Writes, Replaced, Sees, IsFine, expected, form};
+ghost use Rattle.std.specs.Prelude.{◌≡◌, ◌+◌, ◌≤◌, IsTrue, length, None};
+ghost use Rattle.ucd_model.specs.Limits.{point_count};
+ghost use Rattle.ucdshop_core.specs.Outcome.{Outcome, Told, StoppedWith, Finished};
+ghost use Rattle.ucdshop_core.specs.Promises.{Promises, shelf_seen, sink_seen};
+ghost use Rattle.ucdshop_core.specs.Run.{form};
 
-use crate::command::{Command, command_of};
-use crate::planning::{Plan, prepare};
+use crate::command::command_of;
+use crate::plan::Plan;
+use crate::planning::prepare;
 use crate::printed::{OUT_OF_MEMORY, USAGE};
 use crate::status::Status;
 use crate::stop::Stop;
 use crate::writing::write_all;
 use shelf_io::{Shelf, Sink};
 use std::alloc::Global;
-use ucd_model::Texts;
+use std::marker::Brand;
+use std::sync::ledger::{Blank, Ledger};
+use ucd_model::{Steps, Texts};
 
 /// Runs the program on its words, without the program's name: reads what they name from the shelf, writes the derived
 /// files to it, and tells one line to the sink.
 ///
 /// The words are `derive DATA OUT`. All files are read before any is judged, and all texts are made before the first
 /// is written. Nothing is written unless the status is [`Status::Clean`] or [`Status::WriteFault`].
+///
+/// What is promised is written in `specs/Promises.antt`, a line for each promise.
 pub fn run<S: Shelf, K: Sink>(alloc: Global, words: &Texts, shelf: &mut S, out: &mut K) -> Status
-    // If the words have a form, the source files load, each code point keeps the rules of a valid release, no outside
-    // call fails and memory suffices, the shelf is the old one with just the derived files replaced, each exactly what
-    // the definitions give.
-    ensures headline { IsTrue S.tells → (files : List NewFile) → expected words.now (S.holds shelf.old) ≡ Writes files
-        → ¬ Rose (S.read_faults shelf.old) (S.read_faults shelf.new)
-        → ¬ Rose (S.write_faults shelf.old) (S.write_faults shelf.new)
-        → ¬ Rose (K.faults out.old) (K.faults out.new) → result ≢ Status.Memory
-        → (result ≡ Status.Clean) × Replaced files (S.holds shelf.old) (S.holds shelf.new) }
-    ensures complete { IsTrue S.tells → (files : List NewFile) → expected words.now (S.holds shelf.old) ≡ Writes files
-        → ¬ Rose (S.read_faults shelf.old) (S.read_faults shelf.new)
-        → ¬ Rose (S.write_faults shelf.old) (S.write_faults shelf.new)
-        → ¬ Rose (K.faults out.old) (K.faults out.new)
-        → (result ≡ Status.Clean) ⊎ (result ≡ Status.Memory) }
-
-    // Clean and WriteFault: only where nothing of what was seen is refused; that is what is held, where the shelf tells
-    // it.
-    ensures fine_only { MayWrite result → Sees S.tells (S.holds shelf.old) (IsFine words.now) }
-
-    // Clean: every file is written, and the summary is told.
-    ensures clean { IsTrue S.tells → result ≡ Status.Clean
-        → WrittenWhole words.now (S.holds shelf.old) (S.holds shelf.new) }
-    ensures clean_told { IsTrue K.tells → result ≡ Status.Clean
-        → K.written out.new ≡ K.written out.old ++ summary no_counts }
-    ensures never_done { result ≢ Status.Done }
-
-    // BadWords: exactly where the words have no listed form.
-    ensures bad_words { (result ≡ Status.BadWords) ↔ (form words.now ≡ None) }
-    ensures bad_words_unread { result ≡ Status.BadWords → S.read_faults shelf.new ≡ S.read_faults shelf.old }
-    ensures bad_words_told { result ≡ Status.BadWords → Told usage
-        (sink_seen K.tells (K.written out.old) (K.written out.new) (K.faults out.old) (K.faults out.new)) }
-
-    // LoadRefused: only where what was seen is refused, by the line that is told; what is refused gives no other status
-    // unless a read failed or memory was wanted.
-    ensures refused_only { result ≡ Status.LoadRefused → Sees S.tells (S.holds shelf.old) (λ seen.
-        (line : List ℕ) × (expected words.now seen ≡ Refuses line) × Told line
-        (sink_seen K.tells (K.written out.old) (K.written out.new) (K.faults out.old) (K.faults out.new))) }
-    ensures refused { IsTrue S.tells → (line : List ℕ) → expected words.now (S.holds shelf.old) ≡ Refuses line
-        → ¬ Rose (S.read_faults shelf.old) (S.read_faults shelf.new)
-        → (result ≡ Status.LoadRefused) ⊎ (result ≡ Status.Memory) }
-
-    // Any status but ReadFault and Memory: no other path became that of the last failed read, where the shelf tells it.
-    ensures no_failed_read { IsTrue S.tells_failed → PassesReads result
-        → S.last_failed shelf.new ≡ S.last_failed shelf.old }
-
-    // ReadFault: only where a read failed; the line names a path that is needed, and the last failed one where the
-    // shelf tells it.
-    ensures read_fault_only { result ≡ Status.ReadFault → Rose (S.read_faults shelf.old) (S.read_faults shelf.new) }
-    ensures read_fault_told { result ≡ Status.ReadFault → (path : List ℕ) × IsNeeded words.now path
-        × (IsTrue S.tells_failed → path ≡ S.last_failed shelf.new) × Told (read_failed path)
-        (sink_seen K.tells (K.written out.old) (K.written out.new) (K.faults out.old) (K.faults out.new)) }
-
-    // WriteFault: a write failed, and the line names its path; or the summary could not be told.
-    ensures write_fault { result ≡ Status.WriteFault →
-        (Rose (S.write_faults shelf.old) (S.write_faults shelf.new)
-        × ((place : ℕ) × (path : List ℕ) × IsOutput words.now place path
-        × (IsTrue S.tells → WrittenUpTo words.now place path (S.holds shelf.old) (S.holds shelf.new))
-        × Told (write_failed path)
-        (sink_seen K.tells (K.written out.old) (K.written out.new) (K.faults out.old) (K.faults out.new))))
-        ⊎ ((IsTrue S.tells → WrittenWhole words.now (S.holds shelf.old) (S.holds shelf.new))
-        × GrewInPart (summary no_counts)
-        (sink_seen K.tells (K.written out.old) (K.written out.new) (K.faults out.old) (K.faults out.new))) }
-
-    // Memory: free before the first write, and never after it.
-    ensures memory_told { result ≡ Status.Memory → Told out_of_memory
-        (sink_seen K.tells (K.written out.old) (K.written out.new) (K.faults out.old) (K.faults out.new)) }
-    ensures unchanged { IsTrue S.tells → WritesNothing result → SameContents (S.holds shelf.old) (S.holds shelf.new) }
-    ensures no_write_fault { WritesNothing result → S.write_faults shelf.new ≡ S.write_faults shelf.old }
+    ensures { Promises words.now (shelf_seen S.Shelf shelf.old shelf.new) (sink_seen K.Sink out.old out.new) result }
 {
-    run_words(alloc, words, shelf, out)
+    run_anew::<S, K, Brand>(alloc, words, shelf, out, Blank::new(1))
+}
+
+/// [`run_counted`] with a new counter.
+fn run_anew<S: Shelf, K: Sink, L: Ledger>(
+    alloc: Global,
+    words: &Texts,
+    shelf: &mut S,
+    out: &mut K,
+    blank: Blank,
+) -> Status
+    requires name { blank.name ≡ L.name }
+    requires parts { blank.parts ≡ L.parts }
+    requires some { blank.parts ≡ 1 }
+    ensures { Promises words.now (shelf_seen S.Shelf shelf.old shelf.new) (sink_seen K.Sink out.old out.new) result }
+{
+    let mut steps = Steps::<L>::new(blank);
+    run_counted(alloc, words, shelf, out, &mut steps)
+}
+
+/// [`run`], with a counter of the code points that are derived. It rises by at most the number of code points, and not
+/// at all where the words have no listed form.
+pub fn run_counted<S: Shelf, K: Sink, L: Ledger>(
+    alloc: Global,
+    words: &Texts,
+    shelf: &mut S,
+    out: &mut K,
+    steps: &mut Steps<L>,
+) -> Status
+    ensures run { Promises words.now (shelf_seen S.Shelf shelf.old shelf.new) (sink_seen K.Sink out.old out.new) result }
+    ensures steps { steps.new ≤ steps.old + point_count }
+    ensures no_steps { form words.now ≡ None → steps.new ≡ steps.old }
+{
+    run_words(alloc, words, shelf, out, steps)
 }
 
 /// Does all that the words ask for, and answers how the run ended.
-fn run_words<S: Shelf, K: Sink>(alloc: Global, words: &Texts, shelf: &mut S, out: &mut K) -> Status
-    ensures { Outcome words.now
-        (record {
-          tells = S.tells;
-          tells_failed = S.tells_failed;
-          old = S.holds shelf.old;
-          new = S.holds shelf.new;
-          reads_old = S.read_faults shelf.old;
-          reads_new = S.read_faults shelf.new;
-          writes_old = S.write_faults shelf.old;
-          writes_new = S.write_faults shelf.new;
-          failed_old = S.last_failed shelf.old;
-          failed = S.last_failed shelf.new;
-        })
-        (record {
-          tells = K.tells;
-          old = K.written out.old;
-          new = K.written out.new;
-          faults_old = K.faults out.old;
-          faults_new = K.faults out.new;
-        }) result }
+fn run_words<S: Shelf, K: Sink, L: Ledger>(
+    alloc: Global,
+    words: &Texts,
+    shelf: &mut S,
+    out: &mut K,
+    steps: &mut Steps<L>,
+) -> Status
+    ensures outcome { Outcome words.now (shelf_seen S.Shelf shelf.old shelf.new) (sink_seen K.Sink out.old out.new) result }
+    ensures steps { steps.new ≤ steps.old + point_count }
+    ensures no_steps { form words.now ≡ None → steps.new ≡ steps.old }
 {
     let Some(command) = command_of(words.as_slice()) else {
         tell(out, USAGE);
         return Status::BadWords;
     };
-    match prepare(alloc, command, shelf) {
+    match prepare(alloc, command, shelf, steps) {
         Ok(plan) => finish(plan, shelf, out),
         Err(stop) => tell_stop(stop, out),
     }
@@ -130,26 +89,14 @@ fn run_words<S: Shelf, K: Sink>(alloc: Global, words: &Texts, shelf: &mut S, out
 
 /// Tells a line; where that fails, the status stays what it is.
 fn tell<K: Sink>(out: &mut K, line: &[u8])
-    ensures { Told line.now (record {
-      tells = K.tells;
-      old = K.written out.old;
-      new = K.written out.new;
-      faults_old = K.faults out.old;
-      faults_new = K.faults out.new;
-    }) }
+    ensures { Told line.now (sink_seen K.Sink out.old out.new) }
 {
     let _ = out.put(line);
 }
 
 /// Tells the line of a run that stopped before it wrote.
 fn tell_stop<K: Sink>(stop: Stop, out: &mut K) -> Status
-    ensures { StoppedWith stop (record {
-      tells = K.tells;
-      old = K.written out.old;
-      new = K.written out.new;
-      faults_old = K.faults out.old;
-      faults_new = K.faults out.new;
-    }) result }
+    ensures { StoppedWith stop (sink_seen K.Sink out.old out.new) result }
 {
     match stop {
         Stop::Refused(line) => {
@@ -171,26 +118,7 @@ fn tell_stop<K: Sink>(stop: Stop, out: &mut K) -> Status
 fn finish<S: Shelf, K: Sink>(plan: Plan, shelf: &mut S, out: &mut K) -> Status
     requires { length plan.outputs.items ≤ S.spare shelf.old }
     ensures last_failed_stays { IsTrue S.tells_failed → S.last_failed shelf.new ≡ S.last_failed shelf.old }
-    ensures outcome { Finished plan
-        (record {
-          tells = S.tells;
-          tells_failed = S.tells_failed;
-          old = S.holds shelf.old;
-          new = S.holds shelf.new;
-          reads_old = S.read_faults shelf.old;
-          reads_new = S.read_faults shelf.new;
-          writes_old = S.write_faults shelf.old;
-          writes_new = S.write_faults shelf.new;
-          failed_old = S.last_failed shelf.old;
-          failed = S.last_failed shelf.new;
-        })
-        (record {
-          tells = K.tells;
-          old = K.written out.old;
-          new = K.written out.new;
-          faults_old = K.faults out.old;
-          faults_new = K.faults out.new;
-        }) result }
+    ensures outcome { Finished plan (shelf_seen S.Shelf shelf.old shelf.new) (sink_seen K.Sink out.old out.new) result }
 {
     let Plan { outputs, summary } = plan;
     if let Err(line) = write_all(shelf, outputs) {

@@ -1,5 +1,5 @@
-use Rattle.ucdshop_core.specs.Planning.{loaded_rows}
+use Rattle.code_facts.specs.Rows.{release_sources}
 use Rattle.ucdshop_core.proofs.planning.derive.Goals as goal
 
 pub returns-clause-planned : goal.returns-clause-planned
-returns-clause-planned g c = (loaded_rows c.in_ok-loaded.loaded, c.in_ok-plan.ensures c.args.input.now, c.in_ok-loaded.ensures.rows)
+returns-clause-planned g c = (release_sources c.in_ok-bench.bench, c.in_ok-plan.ensures c.args.input.now, c.in_ok-bench.ensures.rows)

@@ -3,7 +3,7 @@ use Rattle.ucdshop_core.specs.Printed.{read_failed}
 use Rattle.ucdshop_core.specs.Reading.{text_at}
 use Rattle.ucdshop_core.specs.Run.{sources_in}
 use Rattle.ucdshop_core.proofs.JudgingLemmas.{names_unread}
-use Rattle.ucdshop_core.proofs.planning.gather.Goals as goal
+use Rattle.ucdshop_core.proofs.gathering.gather.Goals as goal
 
 pub returns-in-Err-FailedAt-clause-unread : goal.returns-in-Err-FailedAt-clause-unread
 returns-in-Err-FailedAt-clause-unread g c =

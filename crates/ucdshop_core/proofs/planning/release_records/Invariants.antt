@@ -1,4 +1,0 @@
-use Rattle.ucdshop_core.proofs.planning.release_records.Given as goal
-
-abbrev pub ghosts-counted_records : goal.ghosts-counted_records
-ghosts-counted_records a = record { name = a.blank.name; parts = a.blank.parts }

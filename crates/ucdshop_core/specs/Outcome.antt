@@ -10,43 +10,47 @@
 --
 -- What each status says. What a shelf holds and the path of its last failed read are spoken of only where the shelf tells them,
 -- here and below
--- IsClean words shelf sink          the words have a form, what was seen is fine, every file that is expected is written and all
---                                   else is as it was, and the summary is told
+-- status_if done, status_of ending  Done where the ending says so, else Clean
+-- Leaves ending shelf sink status   the status is that of the ending, every file of the ending is written and all else is as it
+--                                   was, and its summary is told
+-- IsFinished words shelf sink status   the words have a form, what was seen is not refused, and the run leaves its ending
 -- IsBadWords words shelf sink       the words have no form, the shelf is unchanged, and the usage is told
 -- IsRefused words shelf sink        the words have a form, what was seen is refused by the line that is told, the path of the last
 --                                   failed read is as it was, and the shelf is unchanged
 -- IsReadFault words shelf sink      a path that the words need could not be read: the count of failed reads rose, the path is
 --                                   that of the last failed read where that is told, and the line names it; the shelf is
 --                                   unchanged
--- IsWriteStopped words job shelf sink   an output could not be written: the count of failed writes rose, the files before it are
---                                   written, its path holds anything or is absent, all else is as it was, and the line names it
--- IsUntold words shelf sink         all files are written, and the summary could not be told whole
--- IsWriteFault words shelf sink     the words have a form, what was seen is fine, and one of the two
+-- IsWriteStopped words ending shelf sink   an output could not be written: the count of failed writes rose, the files before it
+--                                   are written, its path holds anything or is absent, all else is as it was, and the line names it
+-- IsUntold ending shelf sink        all files are written, and the summary could not be told whole
+-- IsWriteFault words shelf sink     the words have a form, what was seen is not refused, and one of the two
 -- IsMemory words shelf sink         the words have a form, memory was wanted before the first write, the shelf is unchanged, and
 --                                   the line says so
--- Outcome words shelf sink status   what the status says of the run, by cases; Done never comes
+-- Outcome words shelf sink status   what the status says of the run, by cases
 --
 -- Parts of a run, and what a caller reads of a status
 -- StoppedWith stop sink status      a run that stopped before it wrote has the status of its stop, and has told its line
 -- StopsWriting plan shelf sink      the count of failed writes rose, the files of the plan before the one that failed are
 --                                   written, and the line of that one is told
 -- WritesAll plan shelf              the files of the plan are written, and every other path holds what it held
--- Finished plan shelf sink status   Clean: all files are written, and the summary is told; WriteFault: writing stopped, or all
---                                   files are written and the summary could not be told whole; no other status comes
+-- Finished plan shelf sink status   all files are written, the summary is told, and the status is as the plan says; or the status
+--                                   is WriteFault: writing stopped, or all files are written and the summary could not be told
+--                                   whole
 -- IsNeeded words path               the words have a form, and the path is one that is read
 -- IsOutput words place path         the words have a form, and the path is the one at this place, counted from 0, among those
 --                                   that are written
 -- WritesNothing status              BadWords, LoadRefused, ReadFault or Memory: the statuses with which nothing was written
--- MayWrite status                   Clean or WriteFault: the statuses with which files were written, or the first one was tried
--- PassesReads status                Clean, BadWords, LoadRefused or WriteFault: the statuses that no failed read gives
--- WrittenUpTo words place path old new   the files before the place are written, its path holds anything or is absent, and every
---                                   other path holds what it held
+-- FinishesWell status               Clean or Done: the statuses with which all that was to be done is done
+-- MayWrite status                   those and WriteFault: the statuses with which files were written, or the first one was tried
+-- PassesReads status                those, BadWords and LoadRefused: the statuses that no failed read gives
+-- WrittenUpTo ending place path shelf   the files of the ending before the place are written, its path holds anything or is absent,
+--                                   and every other path holds what it held
 -- WrittenWhole words old new        every file is written, and every other path holds what it held
-use Rattle.std.specs.Prelude.{◌≡◌, ◌≢◌, ◌⊎◌, ℕ, Bool, IsTrue, List, ◌++◌, take, Some, None, slice_get}
+use Rattle.std.specs.Prelude.{◌≡◌, ◌≢◌, ◌⊎◌, ℕ, Bool, true, false, IsTrue, List, ◌++◌, take, Some, None, slice_get}
 use Rattle.shelf_io.specs.Counts.{Rose}
 use Rattle.shelf_io.specs.Contents.{SameContents, AddsPrefix}
-use Rattle.ucdshop_core.specs.Printed.{usage, read_failed, write_failed, out_of_memory, summary, no_counts}
-use Rattle.ucdshop_core.specs.Run.{Contents, Job, form, needed, NewFile, output_paths, Refuses, Writes, expected, after, Replaced, Sees, IsFine}
+use Rattle.ucdshop_core.specs.Printed.{usage, read_failed, write_failed, out_of_memory}
+use Rattle.ucdshop_core.specs.Run.{Contents, Job, form, needed, Ending, output_paths, Refuses, expected, after, Replaced, Sees, EndsAs, everywhere}
 use Rattle.ucdshop_core.specs.Writing.{files_of, StoppedAt}
 use Rattle.ucdshop_core.specs.declared.plan.Plan.{Plan}
 use Rattle.ucdshop_core.specs.declared.stop.Stop.{Stop}
@@ -90,13 +94,23 @@ abbrev pub Told : List ℕ → SinkSeen → Type 0
 Told line sink = Grew line sink ⊎ GrewInPart line sink
 
 -- ---- each status
-pub record IsClean (words : List (List ℕ)) (shelf : ShelfSeen) (sink : SinkSeen) : Type 0 where
+abbrev pub status_if : Bool → Status
+status_if true = Done
+status_if false = Clean
+
+abbrev pub status_of : Ending → Status
+status_of ending = status_if ending.done
+
+pub record Leaves (ending : Ending) (shelf : ShelfSeen) (sink : SinkSeen) (status : Status) : Type 0 where
+  pub as_it_says : status ≡ status_of ending
+  pub written : IsTrue shelf.tells → Replaced ending.files shelf.old shelf.new
+  pub told : Grew ending.summary sink
+
+pub record IsFinished (words : List (List ℕ)) (shelf : ShelfSeen) (sink : SinkSeen) (status : Status) : Type 0 where
   pub job : Job
   pub formed : form words ≡ Some job
-  pub fine : Sees shelf.tells shelf.old (IsFine words)
   pub read : LastFailedStays shelf
-  pub written : IsTrue shelf.tells → (files : List NewFile) × (expected words shelf.old ≡ Writes files) × Replaced files shelf.old shelf.new
-  pub told : Grew (summary no_counts) sink
+  pub ends : Sees shelf.tells (everywhere shelf.old) (λ seen. EndsAs words seen (λ ending. Leaves ending shelf sink status))
 
 pub record IsBadWords (words : List (List ℕ)) (shelf : ShelfSeen) (sink : SinkSeen) : Type 0 where
   pub unformed : form words ≡ None
@@ -110,7 +124,7 @@ pub record IsRefused (words : List (List ℕ)) (shelf : ShelfSeen) (sink : SinkS
   pub job : Job
   pub formed : form words ≡ Some job
   pub line : List ℕ
-  pub refused : Sees shelf.tells shelf.old (λ seen. expected words seen ≡ Refuses line)
+  pub refused : Sees shelf.tells (everywhere shelf.old) (λ seen. expected words seen ≡ Refuses line)
   pub read : LastFailedStays shelf
   pub writes : shelf.writes_new ≡ shelf.writes_old
   pub unchanged : Unchanged shelf
@@ -128,25 +142,30 @@ pub record IsReadFault (words : List (List ℕ)) (shelf : ShelfSeen) (sink : Sin
   pub unchanged : Unchanged shelf
   pub told : Told (read_failed path) sink
 
-pub record IsWriteStopped (words : List (List ℕ)) (job : Job) (shelf : ShelfSeen) (sink : SinkSeen) : Type 0 where
+abbrev pub IsOutput : List (List ℕ) → ℕ → List ℕ → Type 0
+IsOutput words place path = (job : Job) × (form words ≡ Some job) × (slice_get (output_paths job) place ≡ Some path)
+
+abbrev pub WrittenUpTo : Ending → ℕ → List ℕ → ShelfSeen → Type 0
+WrittenUpTo ending place path shelf = (other : List ℕ) → other ≢ path → shelf.new other ≡ after (take place ending.files) shelf.old other
+
+pub record IsWriteStopped (words : List (List ℕ)) (ending : Ending) (shelf : ShelfSeen) (sink : SinkSeen) : Type 0 where
   pub rose : Rose shelf.writes_old shelf.writes_new
   pub path : List ℕ
   pub place : ℕ
-  pub output : slice_get (output_paths job) place ≡ Some path
-  pub written : IsTrue shelf.tells → (files : List NewFile) × (expected words shelf.old ≡ Writes files)
-      × ((other : List ℕ) → other ≢ path → shelf.new other ≡ after (take place files) shelf.old other)
+  pub output : IsOutput words place path
+  pub written : IsTrue shelf.tells → WrittenUpTo ending place path shelf
   pub told : Told (write_failed path) sink
 
-pub record IsUntold (words : List (List ℕ)) (shelf : ShelfSeen) (sink : SinkSeen) : Type 0 where
-  pub written : IsTrue shelf.tells → (files : List NewFile) × (expected words shelf.old ≡ Writes files) × Replaced files shelf.old shelf.new
-  pub told : GrewInPart (summary no_counts) sink
+pub record IsUntold (ending : Ending) (shelf : ShelfSeen) (sink : SinkSeen) : Type 0 where
+  pub written : IsTrue shelf.tells → Replaced ending.files shelf.old shelf.new
+  pub told : GrewInPart ending.summary sink
 
 pub record IsWriteFault (words : List (List ℕ)) (shelf : ShelfSeen) (sink : SinkSeen) : Type 0 where
   pub job : Job
   pub formed : form words ≡ Some job
-  pub fine : Sees shelf.tells shelf.old (IsFine words)
   pub read : LastFailedStays shelf
-  pub cause : IsWriteStopped words job shelf sink ⊎ IsUntold words shelf sink
+  pub ends : Sees shelf.tells (everywhere shelf.old) (λ seen. EndsAs words seen (λ ending.
+      IsWriteStopped words ending shelf sink ⊎ IsUntold ending shelf sink))
 
 pub record IsMemory (words : List (List ℕ)) (shelf : ShelfSeen) (sink : SinkSeen) : Type 0 where
   pub job : Job
@@ -156,8 +175,8 @@ pub record IsMemory (words : List (List ℕ)) (shelf : ShelfSeen) (sink : SinkSe
   pub told : Told out_of_memory sink
 
 abbrev pub Outcome : List (List ℕ) → ShelfSeen → SinkSeen → Status → Type 0
-Outcome words shelf sink Clean = IsClean words shelf sink
-Outcome words shelf sink Done = ⊥
+Outcome words shelf sink Clean = IsFinished words shelf sink Clean
+Outcome words shelf sink Done = IsFinished words shelf sink Done
 Outcome words shelf sink BadWords = IsBadWords words shelf sink
 Outcome words shelf sink LoadRefused = IsRefused words shelf sink
 Outcome words shelf sink ReadFault = IsReadFault words shelf sink
@@ -181,17 +200,14 @@ pub record WritesAll (plan : Plan) (shelf : ShelfSeen) : Type 0 where
   pub written : IsTrue shelf.tells → Replaced (files_of plan.outputs.items) shelf.old shelf.new
 
 abbrev pub Finished : Plan → ShelfSeen → SinkSeen → Status → Type 0
-Finished plan shelf sink Clean = WritesAll plan shelf × Grew plan.summary sink
-Finished plan shelf sink WriteFault = StopsWriting plan shelf sink ⊎ (WritesAll plan shelf × GrewInPart plan.summary sink)
-Finished plan shelf sink _ = ⊥
+Finished plan shelf sink status =
+    ((status ≡ status_if plan.done) × WritesAll plan shelf × Grew plan.summary sink)
+    ⊎ ((status ≡ WriteFault) × (StopsWriting plan shelf sink ⊎ (WritesAll plan shelf × GrewInPart plan.summary sink)))
 
 -- ---- what a caller reads of a status
 
 abbrev pub IsNeeded : List (List ℕ) → List ℕ → Type 0
 IsNeeded words path = (job : Job) × (form words ≡ Some job) × (place : ℕ) × (slice_get (needed job) place ≡ Some path)
-
-abbrev pub IsOutput : List (List ℕ) → ℕ → List ℕ → Type 0
-IsOutput words place path = (job : Job) × (form words ≡ Some job) × (slice_get (output_paths job) place ≡ Some path)
 
 abbrev pub WritesNothing : Status → Type 0
 WritesNothing BadWords = Unit {0}
@@ -200,21 +216,24 @@ WritesNothing ReadFault = Unit {0}
 WritesNothing Memory = Unit {0}
 WritesNothing _ = ⊥
 
+abbrev pub FinishesWell : Status → Type 0
+FinishesWell Clean = Unit {0}
+FinishesWell Done = Unit {0}
+FinishesWell _ = ⊥
+
 abbrev pub MayWrite : Status → Type 0
 MayWrite Clean = Unit {0}
+MayWrite Done = Unit {0}
 MayWrite WriteFault = Unit {0}
 MayWrite _ = ⊥
 
 abbrev pub PassesReads : Status → Type 0
 PassesReads Clean = Unit {0}
+PassesReads Done = Unit {0}
 PassesReads BadWords = Unit {0}
 PassesReads LoadRefused = Unit {0}
 PassesReads WriteFault = Unit {0}
 PassesReads _ = ⊥
 
-abbrev pub WrittenUpTo : List (List ℕ) → ℕ → List ℕ → Contents → Contents → Type 0
-WrittenUpTo words place path old new = (files : List NewFile) × (expected words old ≡ Writes files)
-    × ((other : List ℕ) → other ≢ path → new other ≡ after (take place files) old other)
-
 abbrev pub WrittenWhole : List (List ℕ) → Contents → Contents → Type 0
-WrittenWhole words old new = (files : List NewFile) × (expected words old ≡ Writes files) × Replaced files old new
+WrittenWhole words old new = EndsAs words (everywhere old) (λ ending. Replaced ending.files old new)

@@ -11,14 +11,14 @@
 -- OnUnread result P               P of the line, where a file could not be read
 -- NamesUnread paths tells failed line   the line names one of the paths, and the last failed one where that is told
 -- HaveLines outputs               each output has the line that names its path as the one that could not be written
--- HasPlan job rows plan           the plan writes the outputs of the job on these rows, each with the line that names its path,
---                                 and tells the summary
+-- IsPlanOf plan expected          what is expected is an ending, and the plan is one of that ending
+-- HasPlan ending plan             the plan writes the files of the ending, each with the line that names its path, tells its
+--                                 summary, and says whether a command was refused or a policy is broken
 use Rattle.std.specs.Prelude.{◌≡◌, ℕ, List, map, IsTrue, Bool, Option, Some, None, Result, Ok, Err, ⊤, slice_get}
-use Rattle.ucd_model.specs.Facts.{Sources}
 use Rattle.edit_session.specs.declared.open_stop.OpenStop.{OpenStop}
 use Rattle.edit_session.specs.declared.open_stop.OpenStop.TheVariants.{Invalid}
-use Rattle.ucdshop_core.specs.Printed.{read_failed, write_failed, refused_point, summary, no_counts}
-use Rattle.ucdshop_core.specs.Run.{Job, outputs}
+use Rattle.ucdshop_core.specs.Printed.{read_failed, write_failed, refused_point}
+use Rattle.ucdshop_core.specs.Run.{Ending, Expected, Finishes}
 use Rattle.ucdshop_core.specs.Writing.{files_of}
 use Rattle.ucdshop_core.specs.declared.plan.Plan.{Plan}
 use Rattle.ucdshop_core.specs.declared.stop.Stop.{Stop}
@@ -28,10 +28,14 @@ use Rattle.ucdshop_core.specs.declared.writing.Output.{Output}
 abbrev pub HaveLines : List Output → Type 0
 HaveLines outputs = map (λ output. output.fault_line) outputs ≡ map (λ output. write_failed output.path) outputs
 
-pub record HasPlan (job : Job) (rows : Sources) (plan : Plan) : Type 0 where
-  pub files : files_of plan.outputs.items ≡ outputs job rows
+pub record HasPlan (ending : Ending) (plan : Plan) : Type 0 where
+  pub files : files_of plan.outputs.items ≡ ending.files
   pub lines : HaveLines plan.outputs.items
-  pub summary : plan.summary ≡ summary no_counts
+  pub summary : plan.summary ≡ ending.summary
+  pub done : plan.done ≡ ending.done
+
+abbrev pub IsPlanOf : Plan → Expected → Type 0
+IsPlanOf plan expected = (ending : Ending) × (expected ≡ Finishes ending) × HasPlan ending plan
 
 abbrev pub LoadedAs : {A B : Type 0} → (A → B) → Result A Stop → Result B (List ℕ) → Type 0
 LoadedAs view (Ok rows) expected = expected ≡ Ok (view rows)

@@ -5,32 +5,32 @@
 -- Promises words shelf sink status what a run keeps that ends with this status:
 --
 -- headline            where the words have a form, the source files load, each code point keeps the rules of a valid release, no
---                     outside call fails and memory suffices, the shelf is the old one with just the derived files replaced, each
---                     exactly what the definitions give
+--                     outside call fails and memory suffices, the status is that of the ending, Done where it says so, and the
+--                     shelf is the old one with just the files of the ending replaced, each exactly what the definitions give
 -- complete            then no other status comes but Memory
--- fine_only           Clean and WriteFault come only where nothing of what was seen is refused; that is what is held, where the
---                     shelf tells it
--- clean, clean_told   with Clean every file is written, and the summary is told
+-- finished            with Clean and Done what was seen is not refused, the status is that of its ending, every file is written,
+--                     and the summary is told. What was seen is what is held, where the shelf tells it
+-- fine_only           Clean, Done and WriteFault come only where what was seen is not refused
 -- bad_words           BadWords comes exactly where the words have no listed form; nothing is read then
 -- refused_only        LoadRefused comes only where what was seen is refused, by the line that is told
 -- refused             what is refused gives no other status unless a read failed or memory was wanted
 -- no_failed_read      with any status but ReadFault and Memory no other path became that of the last failed read
 -- read_fault_only     ReadFault comes only where a read failed
 -- read_fault_told     its line names a path that is needed, and the last failed one where the shelf tells it
--- write_fault         with WriteFault a write failed and the line names its path, the files before it are written and those after
---                     it are not touched; or all files are written and the summary could not be told
+-- write_fault         with WriteFault what was seen is not refused; a write failed and the line names its path, the files before it
+--                     are written and those after it are not touched; or all files are written and the summary could not be told
 -- memory_told         with Memory the line says so
 -- unchanged, no_write_fault   with BadWords, LoadRefused, ReadFault and Memory nothing was written
-use Rattle.std.specs.Prelude.{◌≡◌, ◌≢◌, ◌⊎◌, ◌↔◌, ◌++◌, ℕ, List, IsTrue, None}
+use Rattle.std.specs.Prelude.{◌≡◌, ◌≢◌, ◌⊎◌, ◌↔◌, ℕ, List, IsTrue, None}
 use Rattle.shelf_io.specs.Counts.{Rose}
 use Rattle.shelf_io.specs.Contents.{SameContents}
 use Rattle.shelf_io.specs.declared.shelf.Shelf.{Ghosts as ShelfGhosts}
 use Rattle.shelf_io.specs.declared.sink.Sink.{Ghosts as SinkGhosts}
-use Rattle.ucdshop_core.specs.Outcome.{ShelfSeen, SinkSeen, Told, GrewInPart, IsNeeded, IsOutput, MayWrite, PassesReads, WritesNothing, WrittenUpTo, WrittenWhole}
-use Rattle.ucdshop_core.specs.Printed.{usage, read_failed, write_failed, out_of_memory, summary, no_counts}
-use Rattle.ucdshop_core.specs.Run.{NewFile, Refuses, Writes, Replaced, Sees, IsFine, expected, form}
+use Rattle.ucdshop_core.specs.Outcome.{ShelfSeen, SinkSeen, Told, Leaves, IsWriteStopped, IsUntold, IsNeeded, FinishesWell, MayWrite, PassesReads, WritesNothing, status_of}
+use Rattle.ucdshop_core.specs.Printed.{usage, read_failed, out_of_memory}
+use Rattle.ucdshop_core.specs.Run.{Ending, EndsAs, Refuses, Finishes, Replaced, Sees, IsFine, everywhere, expected, form}
 use Rattle.ucdshop_core.specs.declared.status.Status.{Status}
-use Rattle.ucdshop_core.specs.declared.status.Status.TheVariants.{Clean, Done, BadWords, LoadRefused, ReadFault, WriteFault, Memory}
+use Rattle.ucdshop_core.specs.declared.status.Status.TheVariants.{BadWords, LoadRefused, ReadFault, WriteFault, Memory}
 
 abbrev pub shelf_seen : {S : Type 0} → ShelfGhosts S → S → S → ShelfSeen
 shelf_seen g old new = record {
@@ -61,29 +61,26 @@ pub record NoFault (shelf : ShelfSeen) (sink : SinkSeen) : Type 0 where
   pub puts : ¬ Rose sink.faults_old sink.faults_new
 
 pub record Promises (words : List (List ℕ)) (shelf : ShelfSeen) (sink : SinkSeen) (status : Status) : Type 0 where
-  pub headline : IsTrue shelf.tells → (files : List NewFile) → expected words shelf.old ≡ Writes files → NoFault shelf sink
-      → status ≢ Memory → (status ≡ Clean) × Replaced files shelf.old shelf.new
-  pub complete : IsTrue shelf.tells → (files : List NewFile) → expected words shelf.old ≡ Writes files → NoFault shelf sink
-      → (status ≡ Clean) ⊎ (status ≡ Memory)
-  pub fine_only : MayWrite status → Sees shelf.tells shelf.old (IsFine words)
-  pub clean : IsTrue shelf.tells → status ≡ Clean → WrittenWhole words shelf.old shelf.new
-  pub clean_told : IsTrue sink.tells → status ≡ Clean → sink.new ≡ sink.old ++ summary no_counts
-  pub never_done : status ≢ Done
+  pub headline : IsTrue shelf.tells → (ending : Ending) → expected words (everywhere shelf.old) ≡ Finishes ending → NoFault shelf sink
+      → status ≢ Memory → (status ≡ status_of ending) × Replaced ending.files shelf.old shelf.new
+  pub complete : IsTrue shelf.tells → (ending : Ending) → expected words (everywhere shelf.old) ≡ Finishes ending → NoFault shelf sink
+      → (status ≡ status_of ending) ⊎ (status ≡ Memory)
+  pub finished : FinishesWell status
+      → Sees shelf.tells (everywhere shelf.old) (λ seen. EndsAs words seen (λ ending. Leaves ending shelf sink status))
+  pub fine_only : MayWrite status → Sees shelf.tells (everywhere shelf.old) (IsFine words)
   pub bad_words : (status ≡ BadWords) ↔ (form words ≡ None)
   pub bad_words_unread : status ≡ BadWords → shelf.reads_new ≡ shelf.reads_old
   pub bad_words_told : status ≡ BadWords → Told usage sink
   pub refused_only : status ≡ LoadRefused
-      → Sees shelf.tells shelf.old (λ seen. (line : List ℕ) × (expected words seen ≡ Refuses line) × Told line sink)
-  pub refused : IsTrue shelf.tells → (line : List ℕ) → expected words shelf.old ≡ Refuses line
+      → Sees shelf.tells (everywhere shelf.old) (λ seen. (line : List ℕ) × (expected words seen ≡ Refuses line) × Told line sink)
+  pub refused : IsTrue shelf.tells → (line : List ℕ) → expected words (everywhere shelf.old) ≡ Refuses line
       → ¬ Rose shelf.reads_old shelf.reads_new → (status ≡ LoadRefused) ⊎ (status ≡ Memory)
   pub no_failed_read : IsTrue shelf.tells_failed → PassesReads status → shelf.failed ≡ shelf.failed_old
   pub read_fault_only : status ≡ ReadFault → Rose shelf.reads_old shelf.reads_new
   pub read_fault_told : status ≡ ReadFault → (path : List ℕ) × IsNeeded words path
       × (IsTrue shelf.tells_failed → path ≡ shelf.failed) × Told (read_failed path) sink
-  pub write_fault : status ≡ WriteFault
-      → (Rose shelf.writes_old shelf.writes_new × ((place : ℕ) × (path : List ℕ) × IsOutput words place path
-      × (IsTrue shelf.tells → WrittenUpTo words place path shelf.old shelf.new) × Told (write_failed path) sink))
-      ⊎ ((IsTrue shelf.tells → WrittenWhole words shelf.old shelf.new) × GrewInPart (summary no_counts) sink)
+  pub write_fault : status ≡ WriteFault → Sees shelf.tells (everywhere shelf.old) (λ seen. EndsAs words seen (λ ending.
+      IsWriteStopped words ending shelf sink ⊎ IsUntold ending shelf sink))
   pub memory_told : status ≡ Memory → Told out_of_memory sink
   pub unchanged : IsTrue shelf.tells → WritesNothing status → SameContents shelf.old shelf.new
   pub no_write_fault : WritesNothing status → shelf.writes_new ≡ shelf.writes_old

@@ -27,26 +27,32 @@
 --                                  one that is not; a verdict that is a line stays
 -- verdict folder holds             the rows of a release whose files load and whose code points are valid, or the line that
 --                                  refuses it
--- job_verdict job holds            the verdict on the files that the job reads
+-- Seen                             what was seen of each part that is read: of the folder, what it held
+-- everywhere holds                 the same contents were seen of each part
+-- job_verdict job seen             the verdict on the files that the job reads
 --
 -- What is written
 -- derived_in folder file           the path of a derived file below a folder
 -- NewFile                          a path, and the bytes that are written there
 -- derived_file folder rows file    a derived file of these rows: its path below the folder, with its bytes
--- outputs job rows                 the files that are written, in order: each path with its bytes
--- output_paths job                 the paths of the outputs, which the words alone give
--- Expected                         NoForm; Refuses line; or Writes files
--- judged job verdict               Writes the outputs on the rows of the verdict, or Refuses its line
--- expected_of form holds           what is expected of a job, by what the shelf holds; NoForm where there is none
--- expected words holds             what is expected of the words
+-- Ending                           how a run ends that is not refused: the files that are written, in order, each path with its
+--                                  bytes; the summary that is told then; and whether a command was refused or a policy is broken
+-- derived_ending folder rows       the ending of `derive`: the derived files of these rows below the folder
+-- ending_of job rows               the ending of a job on these rows
+-- output_paths job                 the paths of the files that are written, which the words alone give
+-- Expected                         NoForm; Refuses line; or Finishes ending
+-- judged job verdict               Finishes with the ending on the rows of the verdict, or Refuses its line
+-- expected_of form seen            what is expected of a job, by what was seen; NoForm where there is none
+-- expected words seen              what is expected of the words
 -- put file holds path              what the path holds once the file is put in its place
 -- after files holds                the contents with these files replaced, one after the other
 -- Replaced files old new           the new contents are the old ones with these files replaced
 --
 -- What was seen
--- Sees tells holds P               P of the contents that were seen: those that are held, where the shelf tells them
--- IsFine words seen                over these contents files are to be written
-use Rattle.std.specs.Prelude.{◌≡◌, ℕ, Bool, IsTrue, List, [], ◌∷◌, ◌++◌, map, Option, Some, None, Result, Ok, Err, if◌then◌else◌, codes}
+-- Sees tells held P                P of what was seen: that is what is held, where the shelf tells it
+-- EndsAs words seen P              by what was seen the run is not refused, and P of its ending
+-- IsFine words seen                by what was seen the run is not refused
+use Rattle.std.specs.Prelude.{◌≡◌, ℕ, Bool, false, IsTrue, List, [], ◌∷◌, ◌++◌, map, Option, Some, None, Result, Ok, Err, if◌then◌else◌, codes}
 use Rattle.std.specs.Str.{bytes_eq}
 use Rattle.std.specs.Option.{option_map}
 use Rattle.ucd_model.specs.Limits.{point_count}
@@ -61,7 +67,7 @@ use Rattle.ucd_model.specs.declared.files.DerivedFile.{DerivedFile}
 use Rattle.ucd_model.specs.declared.row.Row.{Row}
 use Rattle.release_rows.specs.FileItems.{FileItem, rows_in}
 use Rattle.release_rows.specs.Loading.{LoadFault, load_or_fault}
-use Rattle.ucdshop_core.specs.Printed.{refused, refused_point, rule_code}
+use Rattle.ucdshop_core.specs.Printed.{no_counts, refused, refused_point, rule_code, summary}
 
 abbrev pub Contents : Type 0
 Contents = List ℕ → Option (List ℕ)
@@ -134,8 +140,14 @@ and_valid folder (Err line) = Err line
 unfoldable pub verdict : List ℕ → Contents → Result Sources (List ℕ)
 verdict folder holds = and_valid folder (files_verdict folder holds)
 
-abbrev pub job_verdict : Job → Contents → Result Sources (List ℕ)
-job_verdict (Derive input output) holds = verdict input holds
+pub record Seen : Type 0 where
+  pub folder : Contents
+
+abbrev pub everywhere : Contents → Seen
+everywhere holds = record { folder = holds }
+
+abbrev pub job_verdict : Job → Seen → Result Sources (List ℕ)
+job_verdict (Derive input output) seen = verdict input seen.folder
 
 -- ---- what is written
 
@@ -149,8 +161,16 @@ pub record NewFile : Type 0 where
 abbrev pub derived_file : List ℕ → Sources → DerivedFile → NewFile
 derived_file folder rows file = record { path = derived_in folder file; bytes = derived_text point_count file (record_at (facts rows)) }
 
-abbrev pub outputs : Job → Sources → List NewFile
-outputs (Derive input output) rows = map (derived_file output rows) derived_files
+pub record Ending : Type 0 where
+  pub files : List NewFile
+  pub summary : List ℕ
+  pub done : Bool
+
+abbrev pub derived_ending : List ℕ → Sources → Ending
+derived_ending folder rows = record { files = map (derived_file folder rows) derived_files; summary = summary no_counts; done = false }
+
+abbrev pub ending_of : Job → Sources → Ending
+ending_of (Derive input output) rows = derived_ending output rows
 
 abbrev pub output_paths : Job → List (List ℕ)
 output_paths (Derive input output) = map (derived_in output) derived_files
@@ -158,18 +178,18 @@ output_paths (Derive input output) = map (derived_in output) derived_files
 pub data Expected : Type 0 where
   NoForm : Expected
   Refuses : (line : List ℕ) → Expected
-  Writes : (files : List NewFile) → Expected
+  Finishes : (ending : Ending) → Expected
 
 abbrev pub judged : Job → Result Sources (List ℕ) → Expected
-judged job (Ok rows) = Writes (outputs job rows)
+judged job (Ok rows) = Finishes (ending_of job rows)
 judged job (Err line) = Refuses line
 
-abbrev pub expected_of : Option Job → Contents → Expected
-expected_of None holds = NoForm
-expected_of (Some job) holds = judged job (job_verdict job holds)
+abbrev pub expected_of : Option Job → Seen → Expected
+expected_of None seen = NoForm
+expected_of (Some job) seen = judged job (job_verdict job seen)
 
-abbrev pub expected : List (List ℕ) → Contents → Expected
-expected words holds = expected_of (form words) holds
+abbrev pub expected : List (List ℕ) → Seen → Expected
+expected words seen = expected_of (form words) seen
 
 -- ---- contents
 
@@ -185,8 +205,11 @@ Replaced files old new = (path : List ℕ) → new path ≡ after files old path
 
 -- ---- what was seen
 
-abbrev pub Sees : Bool → Contents → (Contents → Type 0) → Type 0
-Sees tells holds P = (seen : Contents) × (IsTrue tells → seen ≡ holds) × P seen
+abbrev pub Sees : {A : Type 0} → Bool → A → (A → Type 0) → Type 0
+Sees {A} tells held P = (seen : A) × (IsTrue tells → seen ≡ held) × P seen
 
-abbrev pub IsFine : List (List ℕ) → Contents → Type 0
-IsFine words seen = (files : List NewFile) × (expected words seen ≡ Writes files)
+abbrev pub EndsAs : List (List ℕ) → Seen → (Ending → Type 0) → Type 0
+EndsAs words seen P = (ending : Ending) × (expected words seen ≡ Finishes ending) × P ending
+
+abbrev pub IsFine : List (List ℕ) → Seen → Type 0
+IsFine words seen = (ending : Ending) × (expected words seen ≡ Finishes ending)

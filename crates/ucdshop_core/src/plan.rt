@@ -1,13 +1,13 @@
 //! What a run writes and tells, made before anything is written.
 
-ghost use Rattle.std.specs.Prelude.{◌≡◌, IfOk, ℕ, List};
+ghost use Rattle.std.specs.Prelude.{◌≡◌, IfOk};
 ghost use Rattle.code_facts.specs.Rows.{release_sources};
 ghost use Rattle.derived_writer.specs.Cuts.{IsCut};
 ghost use Rattle.edit_session.specs.Benches.{bench_record};
 ghost use Rattle.ucd_model.specs.Limits.{point_count};
 ghost use Rattle.ucdshop_core.specs.Planning.{HasPlan};
 ghost use Rattle.ucdshop_core.specs.Printed.{write_failed};
-ghost use Rattle.ucdshop_core.specs.Run.{Derive, derived_file};
+ghost use Rattle.ucdshop_core.specs.Run.{derived_ending, derived_file};
 ghost use Rattle.ucdshop_core.specs.Writing.{file_of};
 
 use crate::derived_path::{DERIVED_FILES, derived_path};
@@ -19,20 +19,22 @@ use edit_session::Bench;
 use std::alloc::Global;
 use ucd_model::{DerivedFile, Memory, Span, Text};
 
-/// What is left to be done: the files to be written, and the summary to be told.
+/// What is left to be done: the files to be written, the summary to be told, and how the run then ends.
 #[derive(Drop)]
 pub struct Plan {
     /// The files, in the order in which they are written.
     pub outputs: Vec<Output>,
     /// The line that is told once they are.
     pub summary: Text,
+    /// Whether a command was refused or a policy is broken.
+    pub done: bool,
 }
 
 /// The files that `derive` writes into a folder, of the release of a bench, and its summary.
 ///
 /// - `Memory`: memory ran out.
 pub fn derive_plan(alloc: Global, folder: &[u8], bench: &Bench) -> Result<Plan, Memory>
-    ensures { IfOk result (λ plan. (input : List ℕ) → HasPlan (Derive input folder.now) (release_sources bench.now) plan) }
+    ensures { IfOk result (λ plan. HasPlan (derived_ending folder.now (release_sources bench.now)) plan) }
 {
     let pieces = equal_pieces(alloc, bench)?;
     let mut outputs = Vec::new(alloc);
@@ -41,7 +43,11 @@ pub fn derive_plan(alloc: Global, folder: &[u8], bench: &Bench) -> Result<Plan, 
         outputs.push(output)?;
     }
     let summary = summary(alloc, NO_COUNTS)?;
-    Ok(Plan { outputs, summary })
+    Ok(Plan {
+        outputs,
+        summary,
+        done: false,
+    })
 }
 
 /// A derived file below a folder, over the pieces of equal records.

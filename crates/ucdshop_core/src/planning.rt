@@ -1,14 +1,13 @@
 //! All that a run does before it writes.
 
-ghost use Rattle.std.specs.Prelude.{◌≡◌, ◌≤◌, ◌+◌, IsTrue, IfOk, length};
+ghost use Rattle.std.specs.Prelude.{◌≡◌, ◌≤◌, ◌+◌, IsTrue, IfOk, Some, length};
 ghost use Rattle.code_facts.specs.Rows.{release_sources};
 ghost use Rattle.shelf_io.specs.Contents.{SameContents};
 ghost use Rattle.shelf_io.specs.Counts.{Rose};
-ghost use Rattle.ucd_model.specs.Facts.{Sources};
 ghost use Rattle.ucd_model.specs.Limits.{point_count};
 ghost use Rattle.ucdshop_core.specs.Commands.{job_of};
-ghost use Rattle.ucdshop_core.specs.Planning.{ChecksAs, HasPlan, LoadedAs, NamesUnread, NoneFailed, OnRefused, OnUnread, RefusesBy};
-ghost use Rattle.ucdshop_core.specs.Run.{Derive, Sees, files_verdict, job_verdict, needed, point_refusal, sources_in, verdict};
+ghost use Rattle.ucdshop_core.specs.Planning.{ChecksAs, IsPlanOf, LoadedAs, NamesUnread, NoneFailed, OnRefused, OnUnread, RefusesBy};
+ghost use Rattle.ucdshop_core.specs.Run.{Derive, Refuses, Sees, everywhere, expected_of, files_verdict, needed, point_refusal, sources_in, verdict};
 
 use crate::command::Command;
 use crate::gathering::gather;
@@ -101,10 +100,11 @@ fn derive<S: Shelf, L: Ledger>(
     shelf: &mut S,
     steps: &mut Steps<L>,
 ) -> Result<Plan, Stop>
-    ensures planned { IfOk result (λ plan. (rows : Sources) × HasPlan (Derive input.now output.now) rows plan
-        × Sees S.tells (S.holds shelf.old) (λ seen. verdict input.now seen ≡ Ok rows)) }
+    ensures planned { IfOk result (λ plan. Sees S.tells (everywhere (S.holds shelf.old)) (λ seen.
+        IsPlanOf plan (expected_of (Some (Derive input.now output.now)) seen))) }
     ensures room { IfOk result (λ plan. length plan.outputs.items ≤ S.spare shelf.new) }
-    ensures refused { OnRefused result (λ line. Sees S.tells (S.holds shelf.old) (λ seen. verdict input.now seen ≡ Err line)) }
+    ensures refused { OnRefused result (λ line. Sees S.tells (everywhere (S.holds shelf.old)) (λ seen.
+        expected_of (Some (Derive input.now output.now)) seen ≡ Refuses line)) }
     ensures unread { OnUnread result (NamesUnread (needed (Derive input.now output.now)) S.tells_failed (S.last_failed shelf.new)) }
     ensures none_failed { IsTrue S.tells_failed → NoneFailed result (S.last_failed shelf.old) (S.last_failed shelf.new) }
     ensures unread_only { OnUnread result (λ _. Rose (S.read_faults shelf.old) (S.read_faults shelf.new)) }
@@ -131,11 +131,11 @@ pub fn prepare<S: Shelf, L: Ledger>(
     shelf: &mut S,
     steps: &mut Steps<L>,
 ) -> Result<Plan, Stop>
-    ensures planned { IfOk result (λ plan. (rows : Sources) × HasPlan (job_of command.entry) rows plan
-        × Sees S.tells (S.holds shelf.old) (λ seen. job_verdict (job_of command.entry) seen ≡ Ok rows)) }
+    ensures planned { IfOk result (λ plan. Sees S.tells (everywhere (S.holds shelf.old)) (λ seen.
+        IsPlanOf plan (expected_of (Some (job_of command.entry)) seen))) }
     ensures room { IfOk result (λ plan. length plan.outputs.items ≤ S.spare shelf.new) }
-    ensures refused { OnRefused result (λ line.
-        Sees S.tells (S.holds shelf.old) (λ seen. job_verdict (job_of command.entry) seen ≡ Err line)) }
+    ensures refused { OnRefused result (λ line. Sees S.tells (everywhere (S.holds shelf.old)) (λ seen.
+        expected_of (Some (job_of command.entry)) seen ≡ Refuses line)) }
     ensures unread { OnUnread result (NamesUnread (needed (job_of command.entry)) S.tells_failed (S.last_failed shelf.new)) }
     ensures none_failed { IsTrue S.tells_failed → NoneFailed result (S.last_failed shelf.old) (S.last_failed shelf.new) }
     ensures unread_only { OnUnread result (λ _. Rose (S.read_faults shelf.old) (S.read_faults shelf.new)) }

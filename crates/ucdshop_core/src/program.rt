@@ -2,7 +2,7 @@
 
 ghost use Rattle.std.specs.Prelude.{◌≡◌, ◌+◌, ◌≤◌, IsTrue, length, None};
 ghost use Rattle.ucd_model.specs.Limits.{point_count};
-ghost use Rattle.ucdshop_core.specs.Outcome.{Outcome, Told, StoppedWith, Finished};
+ghost use Rattle.ucdshop_core.specs.Outcome.{Outcome, Told, StoppedWith, Finished, status_if};
 ghost use Rattle.ucdshop_core.specs.Promises.{Promises, shelf_seen, sink_seen};
 ghost use Rattle.ucdshop_core.specs.Run.{form};
 
@@ -23,7 +23,7 @@ use ucd_model::{Steps, Texts};
 /// files to it, and tells one line to the sink.
 ///
 /// The words are `derive DATA OUT`. All files are read before any is judged, and all texts are made before the first
-/// is written. Nothing is written unless the status is [`Status::Clean`] or [`Status::WriteFault`].
+/// is written. Nothing is written unless the status is [`Status::Clean`], [`Status::Done`] or [`Status::WriteFault`].
 ///
 /// What is promised is written in `specs/Promises.antt`, a line for each promise.
 pub fn run<S: Shelf, K: Sink>(alloc: Global, words: &Texts, shelf: &mut S, out: &mut K) -> Status
@@ -120,13 +120,24 @@ fn finish<S: Shelf, K: Sink>(plan: Plan, shelf: &mut S, out: &mut K) -> Status
     ensures last_failed_stays { IsTrue S.tells_failed → S.last_failed shelf.new ≡ S.last_failed shelf.old }
     ensures outcome { Finished plan (shelf_seen S.Shelf shelf.old shelf.new) (sink_seen K.Sink out.old out.new) result }
 {
-    let Plan { outputs, summary } = plan;
+    let Plan {
+        outputs,
+        summary,
+        done,
+    } = plan;
     if let Err(line) = write_all(shelf, outputs) {
         tell(out, line.as_slice());
         return Status::WriteFault;
     }
     match out.put(summary.as_slice()) {
-        Ok(()) => Status::Clean,
+        Ok(()) => status_if(done),
         Err(_) => Status::WriteFault,
     }
+}
+
+/// How a run ended that wrote all files: whether a command was refused or a policy is broken.
+fn status_if(done: bool) -> Status
+    ensures { result ≡ status_if done }
+{
+    if done { Status::Done } else { Status::Clean }
 }

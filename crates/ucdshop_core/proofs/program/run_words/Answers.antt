@@ -6,11 +6,9 @@ use Rattle.ucdshop_core.proofs.program.run_words.Goals as goal
 
 pub returns-in-Ok-clause-outcome : goal.returns-in-Ok-clause-outcome
 returns-in-Ok-clause-outcome g c =
-    let planned = c.in-Ok.ensures.planned in
-    outcome_finished c.args.words.now (job_of c.in-Some.command) planned.0 c.in-Ok.plan g.S.Shelf.tells g.S.Shelf.tells_failed
-    (g.S.Shelf.holds c.args.shelf.now) (g.S.Shelf.holds c.prepare.new.shelf) (g.S.Shelf.holds c.finish.new.shelf)
-    _ _ _ _ _ _ _ _ _ _ c.finish.result (ap form (sym c.as_slice.ensures) ∙ c.in-Some.ensures)
-    planned.1 planned.2 c.in-Ok.ensures.held_stays c.in-Ok.ensures.write_faults_stay
+    outcome_finished g.S.Shelf c.args.shelf.now c.prepare.new.shelf c.finish.new.shelf
+    c.args.words.now (job_of c.in-Some.command) c.in-Ok.plan _ c.finish.result (ap form (sym c.as_slice.ensures) ∙ c.in-Some.ensures)
+    c.in-Ok.ensures.planned c.in-Ok.ensures.held_stays c.in-Ok.ensures.write_faults_stay
     (λ tells. c.finish.ensures.last_failed_stays tells ∙ c.in-Ok.ensures.none_failed tells) c.finish.ensures.outcome
 
 pub returns-in-Err-clause-outcome : goal.returns-in-Err-clause-outcome

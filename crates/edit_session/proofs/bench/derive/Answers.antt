@@ -5,4 +5,4 @@ use Rattle.edit_session.proofs.bench.derive.Goals as goal
 
 pub returns-in-Ok-clause-derived : goal.returns-in-Ok-clause-derived
 returns-in-Ok-clause-derived g c =
-    bench_of c.args.release.now (tables_facts values_now c.in_ok-tables.tables) c.in-Ok.records c.in_ok-tables.ensures c.in-Ok.ensures.records
+    bench_of c.args.release.now (tables_facts values_now c.in_ok-tables.tables) c.in-Ok.records c.in_ok-tables.ensures.now c.in-Ok.ensures.records

@@ -1,0 +1,5 @@
+pub mod Parts
+pub mod Reaches
+pub mod Finds
+pub mod PartValues
+pub mod Puts

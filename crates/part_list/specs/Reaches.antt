@@ -1,0 +1,20 @@
+-- The code points that the entries of a part speak of.
+--
+-- IsWithin reach entry    the entry's code points lie in the reach, both the first and the last
+-- IsWider old new         the new reach has all of the old one
+-- Skips p reach           no entry within the reach passes p
+use Rattle.std.specs.Prelude.{◌≡◌, ◌≤◌, Bool, false}
+use Rattle.part_list.specs.declared.reach.Reach.{Reach}
+use Rattle.part_list.specs.declared.spanned.Spanned.{Spanned}
+
+pub record IsWithin {A : Type 0} (reach : Reach) (entry : Spanned A) : Type 0 where
+  pub least : reach.least ≤ entry.code
+  pub code : entry.code ≤ reach.most
+  pub last : entry.last ≤ reach.most
+
+pub record IsWider (old new : Reach) : Type 0 where
+  pub least : new.least ≤ old.least
+  pub most : old.most ≤ new.most
+
+abbrev pub Skips : {A : Type 0} → (Spanned A → Bool) → Reach → Type 0
+Skips {A} p reach = (entry : Spanned A) → IsWithin reach entry → p entry ≡ false

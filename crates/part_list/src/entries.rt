@@ -1,0 +1,67 @@
+//! Goes over the entries of a list.
+
+ghost use Rattle.std.specs.Prelude.{◌≡◌, [], map};
+ghost use Rattle.part_list.specs.Parts.{flat};
+ghost use Rattle.part_list.specs.PartValues.{shown};
+
+use crate::part::Part;
+use crate::spanned::Spanned;
+use crate::version::Version;
+use std::marker::Model;
+
+/// The entries of a list that are left, in order. Contracts see the list of them.
+#[derive(Drop)]
+pub struct Entries<'a, T: Copy> {
+    version: Version,
+    /// The entries of the part that was begun.
+    entries: &'a [Spanned<T>],
+    parts: &'a [Part<T>],
+}
+
+impl<'a, T: Copy> Model for Entries<'a, T> {
+    ghost use Rattle.std.specs.Prelude.{List, ◌++◌, map};
+    ghost use Rattle.part_list.specs.declared.spanned.Spanned.{Spanned as Entry};
+    ghost use Rattle.part_list.specs.Parts.{flat};
+    ghost use Rattle.part_list.specs.PartValues.{shown};
+
+    ghost Value = { List (Entry T) };
+
+    ghost view = { λ e. e.entries.now ++ flat (map (shown e.version) e.parts.now) };
+}
+
+impl<'a, T: Copy> Entries<'a, T> {
+    /// The entries of these parts.
+    pub(crate) fn new(version: Version, parts: &'a [Part<T>]) -> Entries<'a, T>
+        ensures { result ≡ flat (map (shown version) parts.now) }
+    {
+        Entries {
+            version,
+            entries: &[],
+            parts,
+        }
+    }
+}
+
+impl<'a, T: Copy> Iterator for Entries<'a, T> {
+    ghost use Rattle.std.specs.Iterator.{YieldsFirst, item_count};
+
+    type Item = Spanned<T>;
+
+    ghost next_gives = { YieldsFirst (λ rest. rest) };
+
+    ghost remaining = { item_count (λ rest. rest) };
+
+    fn next(&mut self) -> Option<Spanned<T>> {
+        'parts: loop {
+            if let [entry, rest @ ..] = self.entries {
+                self.entries = rest;
+                return Some(*entry);
+            }
+            let [part, rest @ ..] = self.parts else {
+                return None;
+            };
+            self.entries = part.shown(self.version);
+            self.parts = rest;
+        }
+    }
+}

@@ -1,0 +1,22 @@
+//! Lists that can be edited: what is now stays until what is next is committed.
+#![tactic(auto)]
+
+mod change;
+mod entries;
+mod fill;
+mod part;
+mod part_list;
+mod put;
+mod reach;
+mod search;
+mod seek;
+mod spanned;
+mod spot;
+mod version;
+
+pub use entries::Entries;
+pub use part_list::PartList;
+pub use reach::Reach;
+pub use seek::Seek;
+pub use spanned::Spanned;
+pub use spot::Spot;

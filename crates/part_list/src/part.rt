@@ -1,0 +1,257 @@
+//! A part of a list, now and next.
+
+ghost use Rattle.std.specs.Prelude.{◌≡◌, ◌+◌, ◌<◌, ◌≤◌, [], ◌∷◌, ◌++◌, true, false, length, take, IfOk, OnOk, OnErr};
+ghost use Rattle.part_list.specs.Parts.{spliced};
+ghost use Rattle.std.specs.Option.{option_to_list};
+ghost use Rattle.part_list.specs.Finds.{FirstIn, LastIn};
+ghost use Rattle.part_list.specs.PartValues.{committed, discarded, has_entries, shown};
+ghost use Rattle.part_list.specs.Puts.{put_entries};
+
+use crate::put::Put;
+use crate::reach::Reach;
+use crate::seek::Seek;
+use crate::spanned::Spanned;
+use crate::version::Version;
+use std::alloc::Global;
+use std::marker::Model;
+use ucd_model::{ListOf, Memory};
+
+/// How many entries a part is loaded with. A file of a release has up to 35,000 rows, so it has up to 140 parts.
+const LOADED: usize = 256;
+
+/// Some entries of a list that stand together. Contracts see the entries now and next.
+#[derive(Debug, Drop)]
+pub struct Part<T: Copy> {
+    kept: ListOf<Spanned<T>>,
+    /// What is next, where it was edited since the last `commit` or `discard`.
+    edit: Option<ListOf<Spanned<T>>>,
+    /// It bounds the entries now and next. It is widened, and never made narrow again.
+    reach: Reach,
+}
+
+impl<T: Copy> Model for Part<T> {
+    ghost use Rattle.std.specs.Option.{is_some, unwrap_or};
+    ghost use Rattle.part_list.specs.declared.spanned.Spanned.{Spanned as Entry};
+    ghost use Rattle.part_list.specs.PartValues.{PartValue, IsReach};
+
+    ghost Value = { PartValue (Entry T) };
+
+    ghost view = { λ p. record { now = p.kept; next = unwrap_or p.edit p.kept; edited = is_some p.edit } };
+
+    ghost invariant = { λ p. IsReach p.reach p.kept (unwrap_or p.edit p.kept) };
+}
+
+/// Puts an entry, where there is one, at the end.
+///
+/// - `Memory`: memory ran out.
+fn push_some<T: Copy>(
+    entries: &mut Vec<Spanned<T>>,
+    entry: Option<Spanned<T>>,
+) -> Result<(), Memory>
+    ensures { OnOk result (entries.new.items ≡ entries.old.items ++ option_to_list entry) }
+{
+    if let Some(entry) = entry {
+        entries.push(entry)?;
+    }
+    Ok(())
+}
+
+/// A copy of entries, with others in the place of the `removed` ones from `at` on.
+///
+/// - `Memory`: memory ran out.
+fn spliced<T: Copy>(
+    alloc: Global,
+    old: &[Spanned<T>],
+    at: usize,
+    removed: usize,
+    put: Put<T>,
+) -> Result<ListOf<Spanned<T>>, Memory>
+    requires { at + removed ≤ length old.now }
+    ensures { IfOk result (λ new. new ≡ spliced old.now at removed (put_entries put)) }
+{
+    let mut new = Vec::with_capacity(alloc, old.len().saturating_add(2))?;
+    new.extend_from_slice(&old[..at])?;
+    push_some(&mut new, put.first)?;
+    push_some(&mut new, put.second)?;
+    new.extend_from_slice(&old[at + removed..])?;
+    Ok(ListOf::from_vec(new))
+}
+
+/// The place of the first entry that passes.
+fn first_in<T: Copy, S: Seek<T>>(entries: &[Spanned<T>], seek: &S) -> Option<usize>
+    ensures { FirstIn result (S.passing seek.now) entries.now }
+{
+    let mut at = 0;
+    'entries: while at < entries.len() {
+        if seek.passes(&entries[at]) {
+            return Some(at);
+        }
+        at += 1;
+    }
+    None
+}
+
+/// The place of the last entry that passes.
+fn last_in<T: Copy, S: Seek<T>>(entries: &[Spanned<T>], seek: &S) -> Option<usize>
+    ensures { LastIn result (S.passing seek.now) entries.now }
+{
+    let mut left = entries.len();
+    'entries: while left > 0 {
+        if seek.passes(&entries[left - 1]) {
+            return Some(left - 1);
+        }
+        left -= 1;
+    }
+    None
+}
+
+impl<T: Copy> Part<T> {
+    /// The part of one entry, now and next.
+    ///
+    /// - `Memory`: memory ran out.
+    pub fn of(alloc: Global, entry: Spanned<T>) -> Result<Part<T>, Memory>
+        ensures { IfOk result (λ part. part ≡ record { now = entry ∷ []; next = entry ∷ []; edited = false }) }
+    {
+        let mut kept = Vec::with_capacity(alloc, LOADED)?;
+        kept.push(entry)?;
+        Ok(Part {
+            kept: ListOf::from_vec(kept),
+            edit: None,
+            reach: Reach::NONE.with(&entry),
+        })
+    }
+
+    /// The part that has no entries now, and these next. It takes no memory.
+    pub fn added(alloc: Global, entries: ListOf<Spanned<T>>) -> Part<T>
+        ensures { result ≡ record { now = []; next = entries; edited = true } }
+    {
+        let reach = Reach::NONE.with_all(entries.as_slice());
+        Part {
+            kept: ListOf::new(alloc),
+            edit: Some(entries),
+            reach,
+        }
+    }
+
+    /// The entries now, or next.
+    pub fn shown(&self, version: Version) -> &[Spanned<T>]
+        ensures { result.now ≡ shown version self.now }
+    {
+        match version {
+            Version::Now => self.kept.as_slice(),
+            Version::Next => self.next(),
+        }
+    }
+
+    /// The entries next.
+    pub fn next(&self) -> &[Spanned<T>]
+        ensures { result.now ≡ self.now.next }
+    {
+        match &self.edit {
+            Some(edit) => edit.as_slice(),
+            None => self.kept.as_slice(),
+        }
+    }
+
+    /// Whether what is next is kept apart from what is now.
+    pub fn is_edited(&self) -> bool
+        ensures edited { result ≡ self.now.edited }
+        ensures same { result ≡ false → self.now.next ≡ self.now.now }
+    {
+        self.edit.is_some()
+    }
+
+    /// Whether there are entries, now or next.
+    pub fn has_entries(&self) -> bool
+        ensures { result ≡ has_entries self.now }
+    {
+        self.kept.len() > 0 || self.next().len() > 0
+    }
+
+    /// Whether the part is loaded with more entries: it was not edited, and it is not long.
+    pub fn takes_more(&self) -> bool
+        ensures { result ≡ true → self.now.edited ≡ false }
+    {
+        self.edit.is_none() && self.kept.len() < LOADED
+    }
+
+    /// Puts an entry at the end, now and next.
+    ///
+    /// - `Memory`: memory ran out. The part stays as it was.
+    pub fn push(&mut self, entry: Spanned<T>) -> Result<(), Memory>
+        requires { self.old.edited ≡ false }
+        ensures ok { OnOk result (self.new ≡ record { now = self.old.now ++ entry ∷ []; next = self.old.next ++ entry ∷ []; edited = false }) }
+        ensures err { OnErr result (self.new ≡ self.old) }
+    {
+        self.kept.push(entry)?;
+        self.reach = self.reach.with(&entry);
+        Ok(())
+    }
+
+    /// Puts entries next in the place of the `removed` ones from `at` on. All memory is taken first.
+    ///
+    /// - `Memory`: memory ran out. The part stays as it was.
+    pub fn splice(
+        &mut self,
+        alloc: Global,
+        at: usize,
+        removed: usize,
+        put: Put<T>,
+    ) -> Result<(), Memory>
+        requires { at + removed ≤ length self.old.next }
+        ensures now { self.new.now ≡ self.old.now }
+        ensures ok { OnOk result (self.new ≡ record { now = self.old.now; next = spliced self.old.next at removed (put_entries put); edited = true }) }
+        ensures err { OnErr result (self.new ≡ self.old) }
+    {
+        let edit = spliced(alloc, self.next(), at, removed, put)?;
+        self.reach = self.reach.with_some(put.first).with_some(put.second);
+        self.edit = Some(edit);
+        Ok(())
+    }
+
+    /// Keeps the first `len` entries next. It takes no memory.
+    pub fn truncate(&mut self, len: usize)
+        requires { self.old.edited ≡ true }
+        ensures { self.new ≡ record { now = self.old.now; next = take len self.old.next; edited = true } }
+    {
+        if let Some(edit) = &mut self.edit {
+            edit.truncate(len);
+        }
+    }
+
+    /// Makes what is next what is now. It takes no memory.
+    pub fn commit(&mut self)
+        ensures { self.new ≡ committed self.old }
+    {
+        if let Some(edit) = self.edit.take() {
+            self.kept = edit;
+        }
+    }
+
+    /// Makes what is now what is next. It takes no memory.
+    pub fn discard(&mut self)
+        ensures { self.new ≡ discarded self.old }
+    {
+        self.edit = None;
+    }
+
+    /// The place of the first entry next that passes.
+    pub fn first<S: Seek<T>>(&self, seek: &S) -> Option<usize>
+        ensures { FirstIn result (S.passing seek.now) self.now.next }
+    {
+        if seek.skips(self.reach) {
+            return None;
+        }
+        first_in(self.next(), seek)
+    }
+
+    /// The place of the last entry next that passes.
+    pub fn last<S: Seek<T>>(&self, seek: &S) -> Option<usize>
+        ensures { LastIn result (S.passing seek.now) self.now.next }
+    {
+        if seek.skips(self.reach) {
+            return None;
+        }
+        last_in(self.next(), seek)
+    }
+}

@@ -1,0 +1,191 @@
+//! Lists that can be edited.
+
+ghost use Rattle.std.specs.Prelude.{◌≡◌, ◌+◌, [], ◌∷◌, ◌++◌, slice_index_or, slice_set, OnOk, OnErr};
+ghost use Rattle.std.specs.List.{insert, remove};
+ghost use Rattle.part_list.specs.Parts.{IsEntry, IsGap, now_in, next_in, place};
+ghost use Rattle.part_list.specs.Finds.{FirstAt, LastAt};
+
+use crate::change::{commit_all, discard_all, drop_empty};
+use crate::entries::Entries;
+use crate::fill::{begin, edit, push};
+use crate::part::Part;
+use crate::put::Put;
+use crate::search::{first_spot, last_spot};
+use crate::seek::Seek;
+use crate::spanned::Spanned;
+use crate::spot::Spot;
+use crate::version::Version;
+use std::alloc::Global;
+use std::marker::Model;
+use ucd_model::Memory;
+
+/// A list of items, each with the code points that it speaks of, twice: the list now, and the list next. Edits change
+/// what is next, `commit` makes it what is now, and `discard` drops it. Contracts see the parts in which it is kept.
+///
+/// An edit takes time by one part. A search looks at the bounds of each part, and at the entries of the parts that may
+/// have what it looks for. `commit` and `discard` take time by the number of parts, and no memory.
+#[derive(Debug, Drop)]
+pub struct PartList<T: Copy> {
+    alloc: Global,
+    parts: Vec<Part<T>>,
+}
+
+impl<T: Copy> Model for PartList<T> {
+    ghost use Rattle.part_list.specs.declared.spanned.Spanned.{Spanned as Entry};
+    ghost use Rattle.part_list.specs.Parts.{PartLists};
+    ghost use Rattle.part_list.specs.PartValues.{parts_now, parts_next};
+
+    ghost Value = { PartLists (Entry T) };
+
+    ghost view = { λ l. record { now = parts_now l.parts.items; next = parts_next l.parts.items } };
+}
+
+impl<T: Copy> PartList<T> {
+    /// The list without entries. It takes no memory.
+    pub fn new(alloc: Global) -> PartList<T>
+        ensures { result ≡ record { now = []; next = [] } }
+    {
+        PartList {
+            alloc,
+            parts: Vec::new(alloc),
+        }
+    }
+
+    /// Puts an entry at the end, now and next. This is how a list is loaded.
+    ///
+    /// - `Memory`: memory ran out. The list stays as it was.
+    pub fn push(&mut self, entry: Spanned<T>) -> Result<(), Memory>
+        ensures now { OnOk result (now_in self.new ≡ now_in self.old ++ entry ∷ []) }
+        ensures next { OnOk result (next_in self.new ≡ next_in self.old ++ entry ∷ []) }
+        ensures err { OnErr result (self.new ≡ self.old) }
+    {
+        push(self.alloc, &mut self.parts, entry)
+    }
+
+    /// Puts an entry at the end next.
+    ///
+    /// - `Memory`: memory ran out. The list stays as it was.
+    pub fn push_next(&mut self, entry: Spanned<T>) -> Result<(), Memory>
+        ensures now { now_in self.new ≡ now_in self.old }
+        ensures ok { OnOk result (next_in self.new ≡ next_in self.old ++ entry ∷ []) }
+        ensures err { OnErr result (self.new ≡ self.old) }
+    {
+        match self.parts.len().checked_sub(1) {
+            None => begin(self.alloc, &mut self.parts, entry),
+            Some(slot) => {
+                let at = self.parts[slot].next().len();
+                let spot = Spot { slot, at };
+                edit(self.alloc, &mut self.parts, spot, 0, Put::one(entry))
+            }
+        }
+    }
+
+    /// Puts an entry next before the one at a spot, or at the end of the spot's part.
+    ///
+    /// - `Memory`: memory ran out. The list stays as it was.
+    pub fn insert(&mut self, spot: Spot, entry: Spanned<T>) -> Result<(), Memory>
+        requires { IsGap self.old.next spot }
+        ensures now { now_in self.new ≡ now_in self.old }
+        ensures ok { OnOk result (next_in self.new ≡ insert (next_in self.old) (place self.old.next spot) entry) }
+        ensures err { OnErr result (self.new ≡ self.old) }
+    {
+        edit(self.alloc, &mut self.parts, spot, 0, Put::one(entry))
+    }
+
+    /// Puts an entry next in the place of the one at a spot.
+    ///
+    /// - `Memory`: memory ran out. The list stays as it was.
+    pub fn replace(&mut self, spot: Spot, entry: Spanned<T>) -> Result<(), Memory>
+        requires { IsEntry self.old.next spot }
+        ensures now { now_in self.new ≡ now_in self.old }
+        ensures ok { OnOk result (next_in self.new ≡ slice_set (next_in self.old) (place self.old.next spot) entry) }
+        ensures err { OnErr result (self.new ≡ self.old) }
+    {
+        edit(self.alloc, &mut self.parts, spot, 1, Put::one(entry))
+    }
+
+    /// Puts an entry next in the place of the one at a spot, and another one behind it.
+    ///
+    /// - `Memory`: memory ran out. The list stays as it was.
+    pub fn replace_and_insert(
+        &mut self,
+        spot: Spot,
+        entry: Spanned<T>,
+        behind: Spanned<T>,
+    ) -> Result<(), Memory>
+        requires { IsEntry self.old.next spot }
+        ensures now { now_in self.new ≡ now_in self.old }
+        ensures ok { let at = place self.old.next spot in
+            OnOk result (next_in self.new ≡ insert (slice_set (next_in self.old) at entry) (at + 1) behind) }
+        ensures err { OnErr result (self.new ≡ self.old) }
+    {
+        let put = Put::two(entry, behind);
+        edit(self.alloc, &mut self.parts, spot, 1, put)
+    }
+
+    /// Takes the entry at a spot out of what is next.
+    ///
+    /// - `Memory`: memory ran out. The list stays as it was.
+    pub fn remove(&mut self, spot: Spot) -> Result<(), Memory>
+        requires { IsEntry self.old.next spot }
+        ensures now { now_in self.new ≡ now_in self.old }
+        ensures ok { OnOk result (next_in self.new ≡ remove (next_in self.old) (place self.old.next spot)) }
+        ensures err { OnErr result (self.new ≡ self.old) }
+    {
+        edit(self.alloc, &mut self.parts, spot, 1, Put::none())
+    }
+
+    /// The entry next at a spot.
+    pub fn get(&self, spot: Spot) -> Spanned<T>
+        requires { IsEntry self.now.next spot }
+        ensures { result ≡ slice_index_or (next_in self.now) (place self.now.next spot) result }
+    {
+        self.parts[spot.slot].next()[spot.at]
+    }
+
+    /// The spot of the first entry next that passes; `None` where none passes.
+    pub fn first<S: Seek<T>>(&self, seek: &S) -> Option<Spot>
+        ensures { FirstAt result (S.passing seek.now) self.now.next }
+    {
+        first_spot(&self.parts, seek)
+    }
+
+    /// The spot of the last entry next that passes; `None` where none passes.
+    pub fn last<S: Seek<T>>(&self, seek: &S) -> Option<Spot>
+        ensures { LastAt result (S.passing seek.now) self.now.next }
+    {
+        last_spot(&self.parts, seek)
+    }
+
+    /// The entries now, in order.
+    pub fn entries(&self) -> Entries<'_, T>
+        ensures { result ≡ now_in self.now }
+    {
+        Entries::new(Version::Now, &self.parts)
+    }
+
+    /// The entries next, in order.
+    pub fn next_entries(&self) -> Entries<'_, T>
+        ensures { result ≡ next_in self.now }
+    {
+        Entries::new(Version::Next, &self.parts)
+    }
+
+    /// Makes what is next what is now. It takes no memory.
+    pub fn commit(&mut self)
+        ensures now { now_in self.new ≡ next_in self.old }
+        ensures next { next_in self.new ≡ next_in self.old }
+    {
+        commit_all(&mut self.parts);
+        drop_empty(&mut self.parts);
+    }
+
+    /// Makes what is now what is next. It takes no memory.
+    pub fn discard(&mut self)
+        ensures now { now_in self.new ≡ now_in self.old }
+        ensures next { next_in self.new ≡ now_in self.old }
+    {
+        discard_all(&mut self.parts);
+        drop_empty(&mut self.parts);
+    }
+}

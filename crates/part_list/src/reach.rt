@@ -1,0 +1,58 @@
+//! How far the code points of a part reach.
+
+ghost use Rattle.std.specs.List.{All};
+ghost use Rattle.std.specs.Option.{option_to_list};
+ghost use Rattle.part_list.specs.Reaches.{IsWithin, IsWider};
+
+use crate::spanned::Spanned;
+
+/// Bounds of the code points that some entries speak of, as numbers. They may be wider than the entries need.
+#[derive(Clone, Copy, Debug)]
+pub struct Reach {
+    /// No first code point is less.
+    pub least: u32,
+    /// No first and no last code point is greater.
+    pub most: u32,
+}
+
+impl Reach {
+    /// The reach of no entries.
+    pub const NONE: Reach = Reach {
+        least: u32::MAX,
+        most: 0,
+    };
+
+    /// The reach with one more entry.
+    pub fn with<T: Copy>(self, entry: &Spanned<T>) -> Reach
+        ensures entry { IsWithin result entry.now }
+        ensures wider { IsWider self result }
+    {
+        Reach {
+            least: self.least.min(entry.code),
+            most: self.most.max(entry.code).max(entry.last),
+        }
+    }
+
+    /// The reach with one more entry, where there is one.
+    pub fn with_some<T: Copy>(self, entry: Option<Spanned<T>>) -> Reach
+        ensures entry { All (IsWithin result) (option_to_list entry) }
+        ensures wider { IsWider self result }
+    {
+        match entry {
+            Some(entry) => self.with(&entry),
+            None => self,
+        }
+    }
+
+    /// The reach with more entries.
+    pub fn with_all<T: Copy>(self, entries: &[Spanned<T>]) -> Reach
+        ensures entries { All (IsWithin result) entries.now }
+        ensures wider { IsWider self result }
+    {
+        let mut reach = self;
+        'entries: for entry in entries {
+            reach = reach.with(entry);
+        }
+        reach
+    }
+}

@@ -1,0 +1,37 @@
+//! Searches over all parts of a list.
+
+ghost use Rattle.part_list.specs.Finds.{FirstAt, LastAt};
+ghost use Rattle.part_list.specs.PartValues.{parts_next};
+
+use crate::part::Part;
+use crate::seek::Seek;
+use crate::spot::Spot;
+
+/// The spot of the first entry next that passes.
+pub fn first_spot<T: Copy, S: Seek<T>>(parts: &[Part<T>], seek: &S) -> Option<Spot>
+    ensures { FirstAt result (S.passing seek.now) (parts_next parts.now) }
+{
+    let mut slot = 0;
+    'parts: while slot < parts.len() {
+        if let Some(at) = parts[slot].first(seek) {
+            return Some(Spot { slot, at });
+        }
+        slot += 1;
+    }
+    None
+}
+
+/// The spot of the last entry next that passes.
+pub fn last_spot<T: Copy, S: Seek<T>>(parts: &[Part<T>], seek: &S) -> Option<Spot>
+    ensures { LastAt result (S.passing seek.now) (parts_next parts.now) }
+{
+    let mut left = parts.len();
+    'parts: while left > 0 {
+        let slot = left - 1;
+        if let Some(at) = parts[slot].last(seek) {
+            return Some(Spot { slot, at });
+        }
+        left = slot;
+    }
+    None
+}

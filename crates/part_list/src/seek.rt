@@ -1,0 +1,22 @@
+//! What is looked for in a list.
+
+ghost use Rattle.std.specs.Prelude.{◌≡◌, Bool, true};
+ghost use Rattle.part_list.specs.Reaches.{Skips};
+ghost use Rattle.part_list.specs.declared.spanned.Spanned.{Spanned as Entry};
+
+use crate::reach::Reach;
+use crate::spanned::Spanned;
+
+/// A test of entries, which can tell of most parts by their bounds alone that no entry there passes.
+pub trait Seek<T: Copy> {
+    // whether an entry passes
+    ghost passing: { Self → Entry T → Bool };
+
+    /// Whether an entry passes.
+    fn passes(&self, entry: &Spanned<T>) -> bool
+        ensures { result ≡ passing self.now entry.now };
+
+    /// Whether it is certain that no entry within these bounds passes.
+    fn skips(&self, reach: Reach) -> bool
+        ensures { result ≡ true → Skips (passing self.now) reach };
+}

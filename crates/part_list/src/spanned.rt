@@ -1,0 +1,12 @@
+//! Entries of a list.
+
+/// An item with the code points that it speaks of.
+#[derive(Clone, Copy, Debug)]
+pub struct Spanned<T> {
+    /// The first code point, as a number.
+    pub code: u32,
+    /// The last code point, as a number.
+    pub last: u32,
+    /// The item.
+    pub item: T,
+}

@@ -1,5 +1,5 @@
 -- Searches part by part.
-use Rattle.std.proofs.Common.{◌≡◌, ℕ, zero, suc, ◌+◌, ◌<◌, Bool, not, true, false, List, [], ◌∷◌, ◌++◌, length, take, drop, reverse, eqb, cond, get_or, Some, None, refl, sym, ap, ◌∙◌, arith}
+use Rattle.std.proofs.Common.{◌≡◌, ℕ, ◌+◌, ◌<◌, Bool, not, true, false, List, [], ◌++◌, length, take, drop, reverse, eqb, cond, get_or, Some, None, sym, ap, ◌∙◌, arith}
 use Rattle.std.specs.List.{prefix_len, position_or_len, suffix_len}
 use Rattle.std.proofs.lemmas.Bool.Decides.{nat_tests}
 use Rattle.std.proofs.lemmas.List.{length-append, length-reverse, length-map, reverse-append, drop_more}

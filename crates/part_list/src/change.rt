@@ -54,7 +54,12 @@ pub fn split<T: Copy>(alloc: Global, parts: &mut Vec<Part<T>>, slot: usize)
     }
     let half = entries.len() / 2;
     if let Ok(rest) = Vec::from_slice(alloc, &entries[half..]) {
-        put_behind(parts, slot, half, Part::added(alloc, ListOf::from_vec(rest)));
+        put_behind(
+            parts,
+            slot,
+            half,
+            Part::added(alloc, ListOf::from_vec(rest)),
+        );
     }
 }
 

@@ -16,7 +16,11 @@ use ucd_model::{ListOf, Memory};
 /// Puts an entry at the end, now and next.
 ///
 /// - `Memory`: memory ran out. The parts stay as they were.
-pub fn push<T: Copy>(alloc: Global, parts: &mut Vec<Part<T>>, entry: Spanned<T>) -> Result<(), Memory>
+pub fn push<T: Copy>(
+    alloc: Global,
+    parts: &mut Vec<Part<T>>,
+    entry: Spanned<T>,
+) -> Result<(), Memory>
     ensures now { OnOk result (flat (parts_now parts.new.items) ≡ flat (parts_now parts.old.items) ++ entry ∷ []) }
     ensures next { OnOk result (flat (parts_next parts.new.items) ≡ flat (parts_next parts.old.items) ++ entry ∷ []) }
     ensures err { OnErr result (parts.new.items ≡ parts.old.items) }

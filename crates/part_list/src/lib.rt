@@ -12,6 +12,8 @@ mod search;
 mod seek;
 mod spanned;
 mod spot;
+#[cfg(test)]
+mod tests;
 mod version;
 
 pub use entries::Entries;

@@ -11,5 +11,5 @@ parts-preserved g c =
     let test = c.parts-test.true in
     let within : c.parts.slot < length c.parts.parts.items = omega arith in
     let more = more_done committed _ c.parts.parts.items c.parts.slot c.index_mut.result.now c.commit.new.self c.parts.invariant.so_far c.parts.invariant.within within
-        c.index_mut.ensures.value c.commit.ensures in
+    c.index_mut.ensures.value c.commit.ensures in
     record { within = omega (arith, more.0); so_far = more.1 }

@@ -16,5 +16,5 @@ returns-clause-ok g c =
     let slot : c.args.spot.slot < length c.args.parts.now.items = omega arith in
     on_ok_weaker c.splice.result
     (λ is. parts-spliced (λ p. p.next) c.args.parts.now.items c.args.spot.slot c.args.spot.at c.args.removed (put_entries c.args.put) c.index_mut.result.now c.splice.new.self slot
-        c.index_mut.ensures.value c.requires.within (ap (λ p. p.next) is))
+    c.index_mut.ensures.value c.requires.within (ap (λ p. p.next) is))
     c.splice.ensures.ok

@@ -1,4 +1,4 @@
-use Rattle.std.proofs.Common.{◌≡◌, ℕ, ◌+◌, ◌-◌, ◌<◌, length, not, drop, subst, sym, arith}
+use Rattle.std.proofs.Common.{◌≡◌, ℕ, ◌+◌, ◌-◌, ◌<◌, length, not, drop, subst, arith}
 use Rattle.std.specs.List.{suffix_len}
 use Rattle.part_list.specs.Parts.{flat}
 use Rattle.part_list.specs.PartValues.{parts_next}

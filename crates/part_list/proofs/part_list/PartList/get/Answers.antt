@@ -1,6 +1,5 @@
-use Rattle.std.proofs.Common.{◌≡◌, ◌<◌, length, sym, ◌∙◌, arith}
+use Rattle.std.proofs.Common.{◌<◌, length, sym, ◌∙◌, arith}
 use Rattle.std.proofs.lemmas.List.{length-map}
-use Rattle.part_list.specs.Parts.{part_at}
 use Rattle.part_list.specs.PartValues.{parts_next}
 use Rattle.part_list.proofs.FlatLemmas.{get_or-flat, part_next}
 use Rattle.part_list.proofs.part_list.PartList.get.Goals as goal

@@ -9,4 +9,4 @@ returns-clause-ok g c =
     let requires = rw (← c.self.view_is) at c.requires in
     rw (← c.self.view_is)
     (on_ok_weaker c.edit.result (λ is. is ∙ rw c.one.ensures (replaced (parts_next c.self.inside.parts.items) c.args.spot.slot c.args.spot.at c.args.entry requires.part requires.within))
-        c.edit.ensures.ok)
+    c.edit.ensures.ok)

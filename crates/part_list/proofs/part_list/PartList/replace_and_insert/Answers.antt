@@ -9,5 +9,5 @@ returns-clause-ok g c =
     let requires = rw (← c.self.view_is) at c.requires in
     rw (← c.self.view_is)
     (on_ok_weaker c.edit.result
-        (λ is. is ∙ rw c.two-put.ensures (replaced_and_inserted (parts_next c.self.inside.parts.items) c.args.spot.slot c.args.spot.at c.args.entry c.args.behind requires.part requires.within))
-        c.edit.ensures.ok)
+    (λ is. is ∙ rw c.two-put.ensures (replaced_and_inserted (parts_next c.self.inside.parts.items) c.args.spot.slot c.args.spot.at c.args.entry c.args.behind requires.part requires.within))
+    c.edit.ensures.ok)

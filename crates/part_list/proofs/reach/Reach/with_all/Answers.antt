@@ -1,6 +1,6 @@
-use Rattle.std.proofs.Common.{◌≡◌, arith}
+use Rattle.std.proofs.Common.{arith}
 use Rattle.std.proofs.lemmas.List.{take_all}
-use Rattle.std.proofs.lemmas.List.Elements.{All-more, All-same}
+use Rattle.std.proofs.lemmas.List.Elements.{All-more}
 use Rattle.part_list.specs.Reaches.{IsWithin}
 use Rattle.part_list.proofs.ReachLemmas.{all_wider, wider_on}
 use Rattle.part_list.proofs.reach.Reach.with_all.Goals as goal

@@ -3,3 +3,4 @@ pub mod Reaches
 pub mod Finds
 pub mod PartValues
 pub mod Puts
+pub mod SpotLaws

@@ -11,3 +11,6 @@ pub mod Faults
 pub mod RowsApart
 pub mod Operations
 pub mod Touched
+pub mod Files
+pub mod Walks
+pub mod Arena

@@ -1,21 +1,23 @@
 -- Where the items of a file stand in its text.
-use Rattle.std.proofs.Common.{◌≡◌, ℕ, ◌+◌, ◌≤◌, Bool, ◌||◌, List, [], ◌∷◌, ◌++◌, length, take, drop, map, Option, Some, None, Ok, refl, ap, ◌∙◌, arith, append_assoc, length-append, length-drop}
+use Rattle.std.proofs.Common.{◌≡◌, ℕ, ◌+◌, ◌≤◌, Bool, ◌||◌, List, [], ◌∷◌, ◌++◌, length, take, drop, map, Option, Some, None, Ok, refl, sym, ap, subst, ◌∙◌, arith, append_assoc, length-append, length-drop}
 use Rattle.std.specs.List.{list_any}
 use Rattle.std.proofs.Math.Seq.{take-append_seam, drop-append_seam}
-use Rattle.std.proofs.lemmas.List.{append-nil, map-append, length-take}
+use Rattle.std.proofs.lemmas.List.{append-nil, map-append, length-take, length_push}
 use Rattle.std.proofs.lemmas.List.Elements.{All-nil, All-cons, All-append}
 use Rattle.std.proofs.lemmas.Grind.{flat_map-append}
 use Rattle.ucd_model.specs.declared.files.SourceFile.{SourceFile}
 use Rattle.ucd_model.specs.declared.row.Row.{Row}
 use Rattle.ucd_model.specs.Lines.{ending_bytes}
 use Rattle.ucd_lines.specs.Items.{ending_of}
+use Rattle.part_list.specs.Parts.{PartLists, now_in, next_in}
+use Rattle.part_list.specs.declared.spanned.Spanned.{Spanned}
 use Rattle.release_rows.specs.Pieces.{Lines, piece_content, piece_ending, piece_lines}
 use Rattle.release_rows.specs.Entries.{EntersSome}
 use Rattle.release_rows.specs.Extents.{Extent}
 use Rattle.release_rows.specs.FileItems.{FileItem, bytes_of, file_item_bytes}
 use Rattle.release_rows.specs.Loading.{content_row, file_item, piece_fault}
 use Rattle.release_rows.specs.Progress.{Stands, IsLoading, IsProgress, BreaksNoRule, entry_extents, start_of_entry}
-use Rattle.release_rows.specs.StoredItems.{content_at, item_at, IsItem}
+use Rattle.release_rows.specs.StoredItems.{content_at, item_at, stored_at, IsItem, IsStored, HasSpan}
 use Rattle.release_rows.specs.declared.entry.Entry.{Entry}
 use Rattle.release_rows.specs.declared.stretch.Stretch.{Stretch}
 use Rattle.release_rows.proofs.Growing.{grows}
@@ -43,15 +45,25 @@ item_length : (file : SourceFile) (text : List ℕ) (s : Stretch) → s.start + 
 item_length file text s fits = length-append (content_at text s) (ending_bytes (ending_of s.ending)) ∙ ap (λ (n : ℕ). n + length (ending_bytes (ending_of s.ending))) (length_content text s fits)
 
 -- one more item behind those that are loaded
-pub loads : (file : SourceFile) (text : List ℕ) (stretches : List Stretch) (s : Stretch) (kept kept' : List Extent) (start : Option ℕ) (count end : ℕ) (entry : Option Entry) → IsLoading file text stretches kept start count end → IsItem file text s → EntersSome file entry (item_at file text s).row → ((p : Extent → Bool) → list_any p kept' ≡ (list_any p (entry_extents entry) || list_any p kept)) → IsLoading file text (stretches ++ s ∷ []) kept' (start_of_entry start entry) (count + s.lines) (end + (s.len + length (ending_bytes (ending_of s.ending))))
-loads file text stretches s kept kept' start count end entry h item enters more =
-    let items = map (item_at file text) stretches in
+pub loads : (file : SourceFile) (text : List ℕ) (old all : PartLists (Spanned Stretch)) (e : Spanned Stretch) (s : Stretch) (kept kept' : List Extent) (start : Option ℕ) (count end : ℕ) (entry : Option Entry) → IsLoading file text old kept start count end → e.item ≡ s → now_in all ≡ now_in old ++ e ∷ [] → next_in all ≡ next_in old ++ e ∷ [] → IsItem file text s → HasSpan file (item_at file text s).row e.code e.last → EntersSome file entry (item_at file text s).row → ((p : Extent → Bool) → list_any p kept' ≡ (list_any p (entry_extents entry) || list_any p kept)) → IsLoading file text all kept' (start_of_entry start entry) (count + s.lines) (end + (s.len + length (ending_bytes (ending_of s.ending))))
+loads file text old all e s kept kept' start count end entry h is now next item span enters more =
+    let items = map (stored_at file text) (now_in old) in
     let new = item_at file text s in
-    let pushed : map (item_at file text) (stretches ++ s ∷ []) ≡ items ++ new ∷ [] = map-append (item_at file text) stretches (s ∷ []) in
+    let by : Stretch → FileItem = λ x. item_at file text x in
+    let pushed : map (stored_at file text) (now_in all) ≡ items ++ new ∷ [] =
+    ap (map (stored_at file text)) now ∙ map-append (stored_at file text) (now_in old) (e ∷ []) ∙ ap (λ (i : FileItem). items ++ i ∷ []) (ap by is) in
+    let S : Stretch → Type 0 = λ x. IsItem file text x × HasSpan file (item_at file text x).row e.code e.last in
+    let both : S e.item = subst S (sym is) (item, span) in
+    let stored : IsStored file text e = record { item = both.0; span = both.1 } in
+    let count_old = h.few in
+    let one = item.some in
+    let longer : length (now_in all) ≡ length (now_in old) + 1 = ap length now ∙ length_push (now_in old) e in
     let rows : IsProgress file (items ++ new ∷ []) kept' (start_of_entry start entry) (count + s.lines) = grows file items new kept kept' start count entry h.rows enters more in
     let bytes : length (bytes_of (items ++ new ∷ [])) ≡ length (bytes_of items) + length (file_item_bytes new) = ap length (bytes_with items new) ∙ length-append (bytes_of items) (file_item_bytes new) in
     record {
-      each = All-append (IsItem file text) stretches (s ∷ []) h.each (All-cons (IsItem file text) s [] item (All-nil (IsItem file text)));
+      each = rw now (All-append (IsStored file text) (now_in old) (e ∷ []) h.each (All-cons (IsStored file text) e [] stored (All-nil (IsStored file text))));
+      same = rw (now, next, h.same) refl;
+      few = omega arith;
       rows = rw pushed rows;
       ends = rw pushed (omega (arith, h.ends, bytes, item_length file text s item.fits));
       small = h.small;

@@ -2,6 +2,7 @@
 --
 -- FileItem               the content of a row or of a line of trivia, what ends it, how many lines it has, and the row; None for
 --                        trivia
+-- FileLists              the items of a file now, and those that are to be the next ones
 -- onto_rows row rows     the row before the rows; the rows alone where there is none
 -- rows_in items          the rows in order
 -- file_item_bytes item   the content and the bytes of the ending
@@ -17,6 +18,10 @@ pub record FileItem : Type 0 where
   pub ending : LineEnding
   pub lines : ℕ
   pub row : Option Row
+
+pub record FileLists : Type 0 where
+  pub now : List FileItem
+  pub next : List FileItem
 
 abbrev pub onto_rows : Option Row → List Row → List Row
 onto_rows None rows = rows

@@ -3,8 +3,9 @@
 -- Progress                      the file, its text, and its items so far
 -- IsProgress file items kept start count   what is kept beside the items, by their rows: extents of which some pass a test
 --                               exactly where some of the rows' do, the first code point of the last row, and the number of lines
--- IsLoading file text stretches kept start count end   the items stand at the stretches of the text, what is kept beside them is
---                               IsProgress, and they end at this place; the text has fewer than 2^32 bytes
+-- IsLoading file text items kept start count end   the items stand in the text, now and next, each with the code points of its
+--                               row; what is kept beside them is IsProgress, and they end at this place; there are no more than
+--                               lines, and the text has fewer than 2^32 bytes
 -- Stands text items p           in the text the piece stands behind the items
 -- item_by file line p result    the item of a piece whose content is read so, or the fault on its line
 -- item_or_fault file line p     the item of a piece whose first line has this number, by itself, or its fault
@@ -12,7 +13,8 @@
 -- StopsAs stop fault            the stop is that fault; want of memory says nothing
 -- TakesPiece result above p     the piece has no fault below the items so far, and its item is behind them; or the result is its
 --                               fault; want of memory says nothing
--- LoadsItems result expected    the result is the items, or the fault, that were expected; want of memory says nothing
+-- LoadsItems result expected    the result has the items that were expected, now and next, or is the fault; want of memory says
+--                               nothing
 -- entry_extents entry           the extent of a row, by what is kept of it; none where there is no row
 -- start_of_entry before entry   the first code point of the last row, with one more row or none
 -- BreaksNoRule file above row   the row breaks none of K1, K4 and K5 against the rows of the items above; so it is where there is
@@ -28,14 +30,16 @@ use Rattle.std.specs.List.{list_any, All}
 use Rattle.ucd_model.specs.declared.files.SourceFile.{SourceFile}
 use Rattle.ucd_model.specs.declared.row.Row.{Row}
 use Rattle.source_rows.specs.declared.fault.RowFault.{RowFault}
+use Rattle.part_list.specs.Parts.{PartLists, now_in, next_in}
+use Rattle.part_list.specs.declared.spanned.Spanned.{Spanned}
 use Rattle.release_rows.specs.Extents.{Extent, conflict_with}
 use Rattle.release_rows.specs.Entries.{EntersSome}
 use Rattle.release_rows.specs.Keys.{extent_in, last_start}
 use Rattle.release_rows.specs.Pieces.{Lines, piece_bytes, piece_content, piece_ending, piece_lines}
 use Rattle.release_rows.specs.Places.{extent_at}
-use Rattle.release_rows.specs.FileItems.{FileItem, bytes_of, rows_in, lines_of}
+use Rattle.release_rows.specs.FileItems.{FileItem, FileLists, bytes_of, rows_in, lines_of}
 use Rattle.release_rows.specs.Loading.{LoadFault, content_row, file_item, fault_line, piece_fault, row_rule}
-use Rattle.release_rows.specs.StoredItems.{item_at, IsItem}
+use Rattle.release_rows.specs.StoredItems.{stored_at, IsStored}
 use Rattle.release_rows.specs.declared.entry.Entry.{Entry}
 use Rattle.release_rows.specs.declared.load_stop.LoadRule.{LoadRule}
 use Rattle.release_rows.specs.declared.load_stop.LoadRule.TheVariants.{Row as RowRule}
@@ -53,10 +57,12 @@ pub record IsProgress (file : SourceFile) (items : List FileItem) (kept : List E
   pub before : start ≡ last_start (rows_in items)
   pub lines : count ≡ lines_of items
 
-pub record IsLoading (file : SourceFile) (text : List ℕ) (stretches : List Stretch) (kept : List Extent) (start : Option ℕ) (count end : ℕ) : Type 0 where
-  pub each : All (IsItem file text) stretches
-  pub rows : IsProgress file (map (item_at file text) stretches) kept start count
-  pub ends : end ≡ length (bytes_of (map (item_at file text) stretches))
+pub record IsLoading (file : SourceFile) (text : List ℕ) (items : PartLists (Spanned Stretch)) (kept : List Extent) (start : Option ℕ) (count end : ℕ) : Type 0 where
+  pub each : All (IsStored file text) (now_in items)
+  pub same : next_in items ≡ now_in items
+  pub few : length (now_in items) ≤ count
+  pub rows : IsProgress file (map (stored_at file text) (now_in items)) kept start count
+  pub ends : end ≡ length (bytes_of (map (stored_at file text) (now_in items)))
   pub small : length text < 2 ^ 32
 
 abbrev pub Stands : List ℕ → List FileItem → Lines → Type 0
@@ -83,8 +89,8 @@ TakesPiece (Ok next) above p = (piece_fault above.file above.items p ≡ None) �
 TakesPiece (Err (Fault line rule)) above p = piece_fault above.file above.items p ≡ Some (record { line = line; rule = rule })
 TakesPiece (Err Memory) above p = Unit {0}
 
-abbrev pub LoadsItems : Result (List FileItem) LoadStop → Result (List FileItem) LoadFault → Type 0
-LoadsItems (Ok items) expected = expected ≡ Ok items
+abbrev pub LoadsItems : Result FileLists LoadStop → Result (List FileItem) LoadFault → Type 0
+LoadsItems (Ok lists) expected = (expected ≡ Ok lists.now) × (lists.next ≡ lists.now)
 LoadsItems (Err (Fault line rule)) expected = expected ≡ Err (record { line = line; rule = rule })
 LoadsItems (Err Memory) expected = Unit {0}
 

@@ -3,6 +3,7 @@
 -- items_at files file             those of one file, which stands at its place in the list of the files
 -- with_items files file items     the same with other items in one file
 -- no_items                        no file has an item
+-- files_now, files_next           the items of each file now, and next
 -- ReleaseItems                    the items now, and the items that are prepared to be the next ones
 -- items_now, items_next           the items of one file, now and next
 -- loaded release file items       the release whose file has these items, now and next
@@ -18,12 +19,12 @@
 --                                 overlaps none of them where the file forbids it
 -- AllAreKept files                there are nine files, and of each the items are AreKept
 -- AnswersLoad                     what `load_file` answers, and what it leaves
-use Rattle.std.specs.Prelude.{◌≡◌, ℕ, ◌+◌, List, [], ◌∷◌, ◌++◌, length, slice_index_or, slice_set, Option, Some, None, Result, Ok, Err}
+use Rattle.std.specs.Prelude.{◌≡◌, ℕ, ◌+◌, List, [], ◌∷◌, ◌++◌, length, map, slice_index_or, slice_set, Option, Some, None, Result, Ok, Err}
 use Rattle.ucd_model.specs.declared.files.SourceFile.{SourceFile}
 use Rattle.ucd_model.specs.SourceFiles.{file_place}
 use Rattle.ucd_model.specs.declared.row.Row.{Row}
 use Rattle.release_rows.specs.Keys.{key_rule}
-use Rattle.release_rows.specs.FileItems.{FileItem, rows_in}
+use Rattle.release_rows.specs.FileItems.{FileItem, FileLists, rows_in}
 use Rattle.release_rows.specs.Loading.{LoadFault, content_row}
 use Rattle.release_rows.specs.declared.load_stop.LoadStop.{LoadStop}
 use Rattle.release_rows.specs.declared.load_stop.LoadStop.TheVariants.{Fault, Memory}
@@ -36,6 +37,12 @@ with_items files file items = slice_set files (file_place file) items
 
 abbrev pub no_items : List (List FileItem)
 no_items = [] ∷ [] ∷ [] ∷ [] ∷ [] ∷ [] ∷ [] ∷ [] ∷ [] ∷ []
+
+abbrev pub files_now : List FileLists → List (List FileItem)
+files_now files = map (λ lists. lists.now) files
+
+abbrev pub files_next : List FileLists → List (List FileItem)
+files_next files = map (λ lists. lists.next) files
 
 pub record ReleaseItems : Type 0 where
   pub current : List (List FileItem)

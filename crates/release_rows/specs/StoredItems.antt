@@ -3,12 +3,17 @@
 -- piece_of p                the lines of a piece: its first one, and the second where it has one
 -- content_at text s         the content that stands at a stretch of the text
 -- item_at file text s       the item that stands there: the row is read from the content
--- IsItem file text s        the stretch lies within the text, has at most two lines, and its content is trivia or reads as a row
--- IsCut file text items     each stretch is an item, and the items put together are the text
+-- IsItem file text s        the stretch lies within the text, has one line or two, and its content is trivia or reads as a row
+-- HasSpan file row code last   they are the first code point of the row and the last one that no other row may have; nothing of
+--                           trivia
+-- stored_at file text e     the item of an entry
+-- IsStored file text e      the entry's stretch is an item, and the entry has the code points of its row
+-- IsWhole file text items   the items put together are the text
+-- IsKeptFile file text items   the entries now and next are stored, and each list has fewer than 2^32
 -- row_or_none result        the row that was read; where there is a fault, a row that nothing rests on
 -- read_as file content      the row that the content is read as, by row_or_none
 -- ShowsValue value row      the value is that of a row of a span and a value; None of other rows
-use Rattle.std.specs.Prelude.{◌≡◌, ℕ, ◌+◌, ◌≤◌, List, map, length, take, drop, Option, Some, None, Result, Ok, Err}
+use Rattle.std.specs.Prelude.{◌≡◌, ℕ, ◌+◌, ◌<◌, ◌≤◌, ◌^◌, List, map, length, take, drop, Option, Some, None, Result, Ok, Err}
 use Rattle.std.specs.List.{All}
 use Rattle.std.specs.Option.{option_map}
 use Rattle.ucd_model.specs.declared.files.SourceFile.{SourceFile}
@@ -18,6 +23,9 @@ use Rattle.ucd_lines.specs.Items.{item_of, ending_of}
 use Rattle.source_rows.specs.Faults.{row_or_fault}
 use Rattle.source_rows.specs.declared.fault.RowFault.{RowFault}
 use Rattle.source_rows.specs.declared.values.ValueText.{ValueText}
+use Rattle.part_list.specs.Parts.{PartLists, now_in, next_in}
+use Rattle.part_list.specs.declared.spanned.Spanned.{Spanned}
+use Rattle.release_rows.specs.Keys.{row_span, row_end}
 use Rattle.release_rows.specs.Pieces.{Lines}
 use Rattle.release_rows.specs.FileItems.{FileItem, bytes_of}
 use Rattle.release_rows.specs.Loading.{content_row, row_read}
@@ -35,12 +43,29 @@ item_at file text s = record { content = content_at text s; ending = ending_of s
 
 pub record IsItem (file : SourceFile) (text : List ℕ) (s : Stretch) : Type 0 where
   pub fits : s.start + s.len ≤ length text
+  pub some : 1 ≤ s.lines
   pub few : s.lines ≤ 2
   pub is_read : content_row file (content_at text s) ≡ Ok (row_read (content_row file (content_at text s)))
 
-pub record IsCut (file : SourceFile) (text : List ℕ) (items : List Stretch) : Type 0 where
-  pub each : All (IsItem file text) items
-  pub whole : bytes_of (map (item_at file text) items) ≡ text
+abbrev pub HasSpan : SourceFile → Option Row → ℕ → ℕ → Type 0
+HasSpan file None code last = Unit {0}
+HasSpan file (Some row) code last = (code ≡ (row_span row).lo) × (last ≡ row_end file row)
+
+abbrev pub stored_at : SourceFile → List ℕ → Spanned Stretch → FileItem
+stored_at file text e = item_at file text e.item
+
+pub record IsStored (file : SourceFile) (text : List ℕ) (e : Spanned Stretch) : Type 0 where
+  pub item : IsItem file text e.item
+  pub span : HasSpan file (item_at file text e.item).row e.code e.last
+
+abbrev pub IsWhole : SourceFile → List ℕ → List (Spanned Stretch) → Type 0
+IsWhole file text items = bytes_of (map (stored_at file text) items) ≡ text
+
+pub record IsKeptFile (file : SourceFile) (text : List ℕ) (items : PartLists (Spanned Stretch)) : Type 0 where
+  pub now : All (IsStored file text) (now_in items)
+  pub next : All (IsStored file text) (next_in items)
+  pub few_now : length (now_in items) < 2 ^ 32
+  pub few_next : length (next_in items) < 2 ^ 32
 
 abbrev row_or_none : Result Row RowFault → Row
 row_or_none (Ok row) = row

@@ -5,9 +5,10 @@
 use Rattle.std.specs.Prelude.{ℕ, ◌+◌, ◌*◌, ◌<◌, ◌^◌, List, length}
 use Rattle.std.specs.List.{All}
 use Rattle.ucd_model.specs.declared.files.SourceFile.{SourceFile}
-use Rattle.release_rows.specs.StoredItems.{IsItem}
+use Rattle.part_list.specs.declared.spanned.Spanned.{Spanned}
+use Rattle.release_rows.specs.StoredItems.{IsStored}
 use Rattle.release_rows.specs.declared.stretch.Stretch.{Stretch}
 
-pub record IsWalk (file : SourceFile) (text : List ℕ) (items : List Stretch) (line : ℕ) : Type 0 where
-  pub each : All (IsItem file text) items
+pub record IsWalk (file : SourceFile) (text : List ℕ) (items : List (Spanned Stretch)) (line : ℕ) : Type 0 where
+  pub each : All (IsStored file text) items
   pub fits : line + 2 * length items < 2 ^ 64

@@ -4,6 +4,7 @@
 mod conflict;
 mod entry;
 mod file_text;
+mod join;
 mod key_rule;
 mod key_set;
 mod laws;

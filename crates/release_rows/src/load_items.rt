@@ -23,8 +23,8 @@ use ucd_model::{ListOf, Memory, SourceFile, Text};
 pub fn load_items(alloc: Global, file: SourceFile, bytes: &[u8]) -> Result<FileText, LoadStop>
     requires { length bytes.now ≤ file_limit }
     ensures answer { LoadsItems result (file_or_fault file bytes.now) }
-    ensures kept { IfOk result (AreKept file) }
-    ensures lossless { IfOk result (λ items. bytes_of items ≡ bytes.now) }
+    ensures kept { IfOk result (λ lists. AreKept file lists.now) }
+    ensures lossless { IfOk result (λ lists. bytes_of lists.now ≡ bytes.now) }
 {
     let mut lines = items(bytes);
     let mut loading = Loading::new(alloc, file, bytes);

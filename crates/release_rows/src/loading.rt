@@ -2,6 +2,7 @@
 
 ghost use Rattle.std.specs.Prelude.{◌≡◌, ◌+◌, ◌<◌, ◌≤◌, ◌^◌, ◌∷◌, ◌++◌, ◌||◌, [], Bool, IfOk, Option, length, map};
 ghost use Rattle.std.specs.List.{list_any, All};
+ghost use Rattle.ucd_model.specs.declared.files.SourceFile.{SourceFile as FileValue};
 ghost use Rattle.ucd_model.specs.declared.row.Row.{Row as RowValue};
 ghost use Rattle.release_rows.specs.Extents.{Extent};
 ghost use Rattle.release_rows.specs.Entries.{IsEntry, EntersSome};
@@ -10,7 +11,8 @@ ghost use Rattle.release_rows.specs.Pieces.{piece_lines};
 ghost use Rattle.release_rows.specs.FileItems.{bytes_of, file_item_bytes, rows_in, lines_of};
 ghost use Rattle.release_rows.specs.Loading.{row_rule};
 ghost use Rattle.release_rows.specs.Progress.{Progress, TakesPiece, Stands, BreaksNoRule, IsFreeEntry, IsFreeOf, IsOrdered, FreesSome, entry_extents, start_of_entry};
-ghost use Rattle.release_rows.specs.StoredItems.{piece_of, item_at, IsItem};
+ghost use Rattle.part_list.specs.Parts.{now_in, next_in};
+ghost use Rattle.release_rows.specs.StoredItems.{piece_of, item_at, stored_at, IsItem, IsStored, HasSpan};
 
 use crate::conflict::Conflict;
 use crate::entry::Entry;
@@ -19,16 +21,17 @@ use crate::load_stop::{LoadRule, LoadStop};
 use crate::piece::{Piece, ending_len, stretch_of};
 use crate::read_piece::read_piece;
 use crate::stretch::{Stretch, content_in};
+use part_list::{PartList, Spanned};
 use std::alloc::Global;
 use std::marker::Model;
-use ucd_model::{ListOf, Memory, SourceFile};
+use ucd_model::{Memory, SourceFile};
 
 /// The items of a file so far, and what is kept of their rows. Contracts see the file, its text and the items.
 #[derive(Drop)]
 pub struct Loading<'a> {
     file: SourceFile,
     text: &'a [u8],
-    items: ListOf<Stretch>,
+    items: PartList<Stretch>,
     /// Where the items end in the text.
     end: u32,
     /// The keys and the spans of the rows.
@@ -42,11 +45,12 @@ pub struct Loading<'a> {
 impl<'a> Model for Loading<'a> {
     ghost use Rattle.std.specs.Prelude.{map};
     ghost use Rattle.release_rows.specs.Progress.{Progress, IsLoading};
-    ghost use Rattle.release_rows.specs.StoredItems.{item_at};
+    ghost use Rattle.part_list.specs.Parts.{now_in};
+    ghost use Rattle.release_rows.specs.StoredItems.{stored_at};
 
     ghost Value = { Progress };
 
-    ghost view = { λ l. record { file = l.file; text = l.text.now; items = map (item_at l.file l.text.now) l.items } };
+    ghost view = { λ l. record { file = l.file; text = l.text.now; items = map (stored_at l.file l.text.now) (now_in l.items) } };
 
     ghost invariant = { λ l. IsLoading l.file l.text.now l.items l.keys l.before l.lines l.end };
 }
@@ -72,6 +76,22 @@ fn start_with(before: Option<u32>, entry: &Option<Entry>) -> Option<u32>
     }
 }
 
+/// A stretch with the code points of its row. Trivia has the first code point of the last row.
+fn spanned(stretch: Stretch, entry: &Option<Entry>, before: Option<u32>) -> Spanned<Stretch>
+    ensures item { result.item ≡ stretch }
+    ensures span { (file : FileValue) (row : Option RowValue) → EntersSome file entry.now row → HasSpan file row result.code result.last }
+{
+    let (code, last) = match entry {
+        Some(entry) => (entry.place.code, entry.last),
+        None => (before.unwrap_or(0), before.unwrap_or(0)),
+    };
+    Spanned {
+        code,
+        last,
+        item: stretch,
+    }
+}
+
 /// Whether a code point is less than the first one of the row before, in a file where that is a fault.
 fn is_back(file: SourceFile, before: Option<u32>, code: u32) -> bool
     ensures { result ≡ is_back file before code }
@@ -91,7 +111,7 @@ impl<'a> Loading<'a> {
         Loading {
             file,
             text,
-            items: ListOf::new(alloc),
+            items: PartList::new(alloc),
             end: 0,
             keys: KeySet::new(alloc),
             before: None,
@@ -99,10 +119,12 @@ impl<'a> Loading<'a> {
         }
     }
 
-    /// Where the items stand in the text.
-    pub fn into_items(self) -> ListOf<Stretch>
-        ensures items { map (item_at self.entry.file self.entry.text) result ≡ self.entry.items }
-        ensures each { All (IsItem self.entry.file self.entry.text) result }
+    /// Where the items stand in the text, each with the code points of its row.
+    pub fn into_items(self) -> PartList<Stretch>
+        ensures items { map (stored_at self.entry.file self.entry.text) (now_in result) ≡ self.entry.items }
+        ensures same { next_in result ≡ now_in result }
+        ensures each { All (IsStored self.entry.file self.entry.text) (now_in result) }
+        ensures few { length (now_in result) < 2 ^ 32 }
     {
         self.items
     }
@@ -157,11 +179,12 @@ impl<'a> Loading<'a> {
             before,
             lines,
         } = self;
+        let item = spanned(stretch, &entry, before);
         let before = start_with(before, &entry);
         let keys = keys_with(keys, entry)?;
         let end = end + (stretch.len + ending_len(stretch.ending));
         let lines = lines + u32::from(stretch.lines);
-        items.push(stretch)?;
+        items.push(item)?;
         Ok(Loading {
             file,
             text,

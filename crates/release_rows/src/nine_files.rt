@@ -1,7 +1,8 @@
 //! The items of the nine source files.
 
-ghost use Rattle.std.specs.Prelude.{◌≡◌, length};
-ghost use Rattle.release_rows.specs.Releases.{items_at, with_items, no_items};
+ghost use Rattle.std.specs.Prelude.{◌≡◌, slice_set};
+ghost use Rattle.ucd_model.specs.SourceFiles.{file_place};
+ghost use Rattle.release_rows.specs.Releases.{items_at, files_now, files_next, no_items};
 
 use crate::file_text::FileText;
 use std::alloc::Global;
@@ -12,7 +13,8 @@ pub type NineFiles = [FileText; 9];
 
 /// No items in any file. It takes no memory.
 pub fn no_items(alloc: Global) -> NineFiles
-    ensures { result ≡ no_items }
+    ensures now { files_now result ≡ no_items }
+    ensures next { files_next result ≡ no_items }
 {
     [
         FileText::empty(alloc, SourceFile::UnicodeData),
@@ -29,15 +31,15 @@ pub fn no_items(alloc: Global) -> NineFiles
 
 /// The items of a file.
 pub fn items_at(files: &NineFiles, file: SourceFile) -> &FileText
-    ensures { result.now ≡ items_at files.now file }
+    ensures now { result.now.now ≡ items_at (files_now files.now) file }
+    ensures next { result.now.next ≡ items_at (files_next files.now) file }
 {
     &files[file.place()]
 }
 
 /// Gives a file other items.
 pub fn put(files: &mut NineFiles, file: SourceFile, items: FileText)
-    ensures files { files.new ≡ with_items files.old file items }
-    ensures nine { length files.new ≡ 9 }
+    ensures { files.new ≡ slice_set files.old (file_place file) items }
 {
     files[file.place()] = items;
 }

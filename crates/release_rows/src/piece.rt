@@ -83,6 +83,7 @@ fn ending_of(piece: Piece<'_>) -> Ending
 /// How many lines there are: 1 or 2.
 fn lines_of(piece: Piece<'_>) -> u8
     ensures count { result ≡ piece_lines (piece_of piece.entry) }
+    ensures some { 1 ≤ result }
     ensures few { result ≤ 2 }
 {
     match piece.last {
@@ -98,6 +99,7 @@ pub fn stretch_of(start: u32, piece: Piece<'_>) -> Stretch
     ensures len { result.len ≡ length (piece_content (piece_of piece.entry)) }
     ensures ending { ending_of result.ending ≡ piece_ending (piece_of piece.entry) }
     ensures lines { result.lines ≡ piece_lines (piece_of piece.entry) }
+    ensures some { 1 ≤ result.lines }
     ensures few { result.lines ≤ 2 }
 {
     Stretch {

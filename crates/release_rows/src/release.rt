@@ -24,13 +24,13 @@ pub struct Release {
 }
 
 impl Model for Release {
-    ghost use Rattle.release_rows.specs.Releases.{ReleaseItems, AllAreKept};
+    ghost use Rattle.release_rows.specs.Releases.{ReleaseItems, AllAreKept, files_now, files_next};
 
     ghost Value = { ReleaseItems };
 
-    ghost view = { λ r. record { current = r.files; prepared = r.files } };
+    ghost view = { λ r. record { current = files_now r.files; prepared = files_next r.files } };
 
-    ghost invariant = { λ r. AllAreKept r.files };
+    ghost invariant = { λ r. AllAreKept (files_now r.files) × AllAreKept (files_next r.files) };
 }
 
 impl Release {
@@ -75,7 +75,7 @@ impl Release {
     pub fn text(&self, alloc: Global, file: SourceFile) -> Result<Text, Memory>
         ensures { IfOk result (λ text. text ≡ bytes_of (items_now self.now file)) }
     {
-        items_at(&self.files, file).text().copy(alloc)
+        items_at(&self.files, file).text(alloc)
     }
 
     /// The rows of a file now, in the order of the file, each with the number of its first line.
@@ -91,6 +91,6 @@ impl Release {
         ensures rows { result ≡ rows_at (items_next self.now file) }
         ensures kept { AreKept file (items_next self.now file) }
     {
-        items_at(&self.files, file).rows()
+        items_at(&self.files, file).next_rows()
     }
 }

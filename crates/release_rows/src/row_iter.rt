@@ -1,12 +1,13 @@
 //! Goes over the rows of a file.
 
-ghost use Rattle.std.specs.Prelude.{◌≡◌, map};
+ghost use Rattle.std.specs.Prelude.{◌≡◌, ◌<◌, ◌^◌, length, map};
 ghost use Rattle.std.specs.List.{All};
 ghost use Rattle.release_rows.specs.Releases.{rows_at};
-ghost use Rattle.release_rows.specs.StoredItems.{item_at, IsItem};
+ghost use Rattle.release_rows.specs.StoredItems.{stored_at, IsStored};
 
 use crate::row_text::RowText;
 use crate::stretch::{Stretch, content_in};
+use part_list::Entries;
 use std::marker::Model;
 use ucd_lines::is_trivia;
 use ucd_model::SourceFile;
@@ -17,7 +18,7 @@ use ucd_model::SourceFile;
 pub struct Rows<'a> {
     file: SourceFile,
     text: &'a [u8],
-    items: &'a [Stretch],
+    items: Entries<'a, Stretch>,
     line: u64,
 }
 
@@ -25,21 +26,22 @@ impl<'a> Model for Rows<'a> {
     ghost use Rattle.std.specs.Prelude.{List, ℕ, map};
     ghost use Rattle.ucd_model.specs.declared.row.Row.{Row};
     ghost use Rattle.release_rows.specs.Releases.{numbered_rows};
-    ghost use Rattle.release_rows.specs.StoredItems.{item_at};
+    ghost use Rattle.release_rows.specs.StoredItems.{stored_at};
     ghost use Rattle.release_rows.specs.Walking.{IsWalk};
 
     ghost Value = { List (ℕ × Row) };
 
-    ghost view = { λ r. numbered_rows r.line (map (item_at r.file r.text.now) r.items.now) };
+    ghost view = { λ r. numbered_rows r.line (map (stored_at r.file r.text.now) r.items) };
 
-    ghost invariant = { λ r. IsWalk r.file r.text.now r.items.now r.line };
+    ghost invariant = { λ r. IsWalk r.file r.text.now r.items r.line };
 }
 
 impl<'a> Rows<'a> {
     /// The rows of these items of a text.
-    pub(crate) fn new(file: SourceFile, text: &'a [u8], items: &'a [Stretch]) -> Rows<'a>
-        requires { All (IsItem file text.now) items.now }
-        ensures { result ≡ rows_at (map (item_at file text.now) items.now) }
+    pub(crate) fn new(file: SourceFile, text: &'a [u8], items: Entries<'a, Stretch>) -> Rows<'a>
+        requires each { All (IsStored file text.now) items }
+        requires few { length items < 2 ^ 32 }
+        ensures { result ≡ rows_at (map (stored_at file text.now) items.entry) }
     {
         Rows {
             file,
@@ -60,10 +62,10 @@ impl<'a> Iterator for Rows<'a> {
     ghost remaining = { item_count (λ rest. rest) };
 
     fn next(&mut self) -> Option<(u64, RowText<'a>)> {
-        'items: while let [item, rest @ ..] = self.items {
+        'items: while let Some(entry) = self.items.next() {
+            let item = entry.item;
             let line = self.line;
-            let content = content_in(self.text, *item);
-            self.items = rest;
+            let content = content_in(self.text, item);
             self.line += u64::from(item.lines);
             if !is_trivia(content) {
                 return Some((line, RowText::new(self.file, content)));

@@ -1,8 +1,9 @@
 use Rattle.std.proofs.Common.{◌≡◌, ℕ, List, [], ◌∷◌, ◌++◌, length, map, ap, ◌∙◌}
+use Rattle.part_list.specs.Parts.{now_in}
 use Rattle.release_rows.specs.FileItems.{FileItem, bytes_of}
 use Rattle.release_rows.specs.Loading.{file_item}
 use Rattle.release_rows.specs.Progress.{Progress, Stands}
-use Rattle.release_rows.specs.StoredItems.{piece_of, item_at}
+use Rattle.release_rows.specs.StoredItems.{piece_of, stored_at}
 use Rattle.release_rows.proofs.Standing.{content_is, item_is, no_fault}
 use Rattle.release_rows.proofs.loading.Loading.take.Goals as goal
 
@@ -11,7 +12,7 @@ returns-in-Ok c =
     let p = piece_of c.args.piece in
     let file = c.self.inside.file in
     let text : List ℕ = c.self.inside.text.now in
-    let items : List FileItem = map (item_at file text) c.self.inside.items in
+    let items : List FileItem = map (stored_at file text) (now_in c.self.inside.items) in
     let s = c.stretch_of-stretch.result in
     let stands : Stands text items p = (rw (← c.self.view_is) at c.requires.stands) in
     let start : s.start ≡ length (bytes_of items) = c.stretch_of-stretch.ensures.start ∙ c.self.invariant.ends in

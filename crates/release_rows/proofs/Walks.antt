@@ -1,0 +1,37 @@
+-- Items that are gone over one by one.
+use Rattle.std.proofs.Common.{◌≡◌, ℕ, ◌+◌, true, List, ◌∷◌, ◌++◌, length, map, ap, subst, ◌∙◌, append_assoc, arith}
+use Rattle.std.specs.List.{All}
+use Rattle.std.proofs.lemmas.List.Elements.{All-head, All-rest}
+use Rattle.ucd_model.specs.Lines.{is_trivia}
+use Rattle.ucd_model.specs.declared.files.SourceFile.{SourceFile}
+use Rattle.ucd_model.specs.declared.row.Row.{Row}
+use Rattle.part_list.specs.declared.spanned.Spanned.{Spanned}
+use Rattle.release_rows.specs.FileItems.{bytes_of, file_item_bytes}
+use Rattle.release_rows.specs.Releases.{numbered_rows}
+use Rattle.release_rows.specs.StoredItems.{content_at, stored_at, IsStored}
+use Rattle.release_rows.specs.Walking.{IsWalk}
+use Rattle.release_rows.specs.declared.stretch.Stretch.{Stretch}
+
+pub first_of : {A : Type 0} (P : A → Type 0) (items : List A) (e : A) (rest : List A) → items ≡ e ∷ rest → All P items → P e
+first_of P items e rest split all = All-head P e rest (subst (All P) split all)
+
+pub walks_on : (file : SourceFile) (text : List ℕ) (items : List (Spanned Stretch)) (e : Spanned Stretch) (rest : List (Spanned Stretch)) (line : ℕ) → items ≡ e ∷ rest → IsWalk file text items line → IsWalk file text rest (line + e.item.lines)
+walks_on file text items e rest line split walk =
+    let stored = first_of (IsStored file text) items e rest split walk.each in
+    let few = stored.item.few in
+    let fits = walk.fits in
+    let long : length items ≡ length (e ∷ rest) = ap length split in
+    record { each = All-rest (IsStored file text) e rest items split walk.each; fits = omega arith }
+
+-- behind trivia stand the same rows
+pub rows_behind : (file : SourceFile) (text : List ℕ) (items : List (Spanned Stretch)) (e : Spanned Stretch) (rest : List (Spanned Stretch)) (line : ℕ) (whole : List (ℕ × Row)) → items ≡ e ∷ rest → is_trivia (content_at text e.item) ≡ true → numbered_rows line (map (stored_at file text) items) ≡ whole → numbered_rows (line + e.item.lines) (map (stored_at file text) rest) ≡ whole
+rows_behind file text items e rest line whole split trivia h =
+    let P : List (Spanned Stretch) → Type 0 = λ xs. numbered_rows line (map (stored_at file text) xs) ≡ whole in
+    let first = subst P split h in
+    rw trivia at first
+
+-- one more item is put behind those so far
+pub put_behind : (file : SourceFile) (text : List ℕ) (items : List (Spanned Stretch)) (e : Spanned Stretch) (rest : List (Spanned Stretch)) (old new whole : List ℕ) → items ≡ e ∷ rest → new ≡ old ++ file_item_bytes (stored_at file text e) → old ++ bytes_of (map (stored_at file text) items) ≡ whole → new ++ bytes_of (map (stored_at file text) rest) ≡ whole
+put_behind file text items e rest old new whole split put h =
+    let P : List (Spanned Stretch) → Type 0 = λ xs. old ++ bytes_of (map (stored_at file text) xs) ≡ whole in
+    rw put (append_assoc old (file_item_bytes (stored_at file text e)) (bytes_of (map (stored_at file text) rest)) ∙ subst P split h)

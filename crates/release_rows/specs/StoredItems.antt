@@ -25,7 +25,8 @@ use Rattle.source_rows.specs.declared.fault.RowFault.{RowFault}
 use Rattle.source_rows.specs.declared.values.ValueText.{ValueText}
 use Rattle.part_list.specs.Parts.{PartLists, now_in, next_in}
 use Rattle.part_list.specs.declared.spanned.Spanned.{Spanned}
-use Rattle.release_rows.specs.Keys.{row_span, row_end}
+use Rattle.source_rows.specs.Keys.{row_span}
+use Rattle.release_rows.specs.Keys.{row_end}
 use Rattle.release_rows.specs.Pieces.{Lines}
 use Rattle.release_rows.specs.FileItems.{FileItem, bytes_of}
 use Rattle.release_rows.specs.Loading.{content_row, row_read}

@@ -10,7 +10,7 @@ use Rattle.shelf_io.specs.declared.shelf.Shelf.{Ghosts as ShelfGhosts}
 use Rattle.ucd_model.specs.Facts.{Sources}
 use Rattle.ucdshop_core.specs.Printed.{write_failed}
 use Rattle.ucdshop_core.specs.Run.{Contents, Job, Derive, form, needed, NewFile, Ending, Expected, ending_of, output_paths, Refuses, Finishes, expected, expected_of, judged, job_verdict, after, Replaced, Seen, Sees, EndsAs, everywhere}
-use Rattle.ucdshop_core.specs.Planning.{HasPlan, HaveLines, IsPlanOf, OnRefused, OnUnread, NamesUnread, NoneFailed}
+use Rattle.ucdshop_core.specs.Planning.{HasPlan, HaveLines, IsPlanOf, OnRefused, OnlyRead, UnreadAs}
 use Rattle.ucdshop_core.specs.Promises.{shelf_seen}
 use Rattle.ucdshop_core.specs.Writing.{file_of, files_of}
 use Rattle.ucdshop_core.specs.Outcome.{ShelfSeen, SinkSeen, Unchanged, LastFailedStays, Grew, GrewInPart, Told, IsFinished, Leaves, IsWriteStopped, IsUntold, Outcome, StoppedWith, StopsWriting, WritesAll, Finished, status_if}
@@ -160,33 +160,30 @@ module _ {S : Type 0} (g : ShelfGhosts S) (start middle end : S) where
 
 pub outcome_stopped : (words : List (List ℕ)) (job : Job) (stop : Stop) (shelf : ShelfSeen) (sink : SinkSeen) (status : Status) → form words ≡ Some job
     → OnRefused {A = Plan} (Err stop) (λ line. Sees shelf.tells (everywhere shelf.old) (λ seen. expected_of (Some job) seen ≡ Refuses line))
-    → OnUnread {A = Plan} (Err stop) (NamesUnread (needed job) shelf.tells_failed shelf.failed)
-    → OnUnread {A = Plan} (Err stop) (λ _. Rose shelf.reads_old shelf.reads_new)
-    → (IsTrue shelf.tells_failed → NoneFailed {A = Plan} (Err stop) shelf.failed_old shelf.failed)
-    → shelf.writes_new ≡ shelf.writes_old → Unchanged shelf → StoppedWith stop sink status → Outcome words shelf sink status
-outcome_stopped words job (stops.Refused line) shelf sink status formed refused unread rose read writes unchanged told =
+    → UnreadAs {A = Plan} (Err stop) (needed job) shelf → OnlyRead shelf → StoppedWith stop sink status → Outcome words shelf sink status
+outcome_stopped words job (stops.Refused line) shelf sink status formed refused unread only told =
     subst (Outcome words shelf sink) (sym told.0) (record {
       job = job;
       formed = formed;
       line = line;
       refused = (refused.0, refused.1, expected_form words job refused.0 formed ∙ refused.2);
-      read = read;
-      writes = writes;
-      unchanged = unchanged;
+      read = unread;
+      writes = only.write_faults_stay;
+      unchanged = only.held_stays;
       told = told.1;
     })
-outcome_stopped words job (stops.ReadFailed line) shelf sink status formed refused unread rose read writes unchanged told =
+outcome_stopped words job (stops.ReadFailed line) shelf sink status formed refused unread only told =
     subst (Outcome words shelf sink) (sym told.0) (record {
       job = job;
       formed = formed;
-      rose = rose;
-      path = unread.path;
-      place = unread.place;
-      needed = unread.needed;
-      last = unread.last;
-      writes = writes;
-      unchanged = unchanged;
-      told = subst (λ (l : List ℕ). Told l sink) unread.told told.1;
+      rose = unread.0;
+      path = unread.1.path;
+      place = unread.1.place;
+      needed = unread.1.needed;
+      last = unread.1.last;
+      writes = only.write_faults_stay;
+      unchanged = only.held_stays;
+      told = subst (λ (l : List ℕ). Told l sink) unread.1.told told.1;
     })
-outcome_stopped words job stops.Memory shelf sink status formed refused unread rose read writes unchanged told =
-    subst (Outcome words shelf sink) (sym told.0) (record { job = job; formed = formed; writes = writes; unchanged = unchanged; told = told.1 })
+outcome_stopped words job stops.Memory shelf sink status formed refused unread only told =
+    subst (Outcome words shelf sink) (sym told.0) (record { job = job; formed = formed; writes = only.write_faults_stay; unchanged = only.held_stays; told = told.1 })

@@ -6,20 +6,24 @@
 -- OnRefused result P              P of the line, where a file was refused
 -- RefusesBy stop folder why       a refusal by the line that names the folder, the code point and its rule; want of memory says
 --                                 nothing
--- NoneFailed result old new       the path of the last failed read is as it was, unless a file could not be read; want of memory
---                                 says nothing
--- OnUnread result P               P of the line, where a file could not be read
 -- NamesUnread paths tells failed line   the line names one of the paths, and the last failed one where that is told
+-- OnlyRead shelf                  every path holds what it held, where that is told; the count of failed reads did not fall, and
+--                                 that of failed writes is as it was
+-- UnreadAs result paths shelf     with a read that failed the count of failed reads rose, and the line names one of the paths, the
+--                                 last failed one where that is told; else the path of the last failed read is as it was. Want of
+--                                 memory says nothing
 -- HaveLines outputs               each output has the line that names its path as the one that could not be written
 -- IsPlanOf plan expected          what is expected is an ending, and the plan is one of that ending
 -- HasPlan ending plan             the plan writes the files of the ending, each with the line that names its path, tells its
 --                                 summary, and says whether a command was refused or a policy is broken
-use Rattle.std.specs.Prelude.{◌≡◌, ℕ, List, map, IsTrue, Bool, Option, Some, None, Result, Ok, Err, ⊤, slice_get}
+use Rattle.std.specs.Prelude.{◌≡◌, ◌≤◌, ℕ, List, map, IsTrue, Bool, Option, Some, None, Result, Ok, Err, ⊤, slice_get}
 use Rattle.edit_session.specs.declared.open_stop.OpenStop.{OpenStop}
 use Rattle.edit_session.specs.declared.open_stop.OpenStop.TheVariants.{Invalid}
 use Rattle.ucdshop_core.specs.Printed.{read_failed, write_failed, refused_point}
+use Rattle.ucdshop_core.specs.Outcome.{ShelfSeen, Unchanged, LastFailedStays}
 use Rattle.ucdshop_core.specs.Run.{Ending, Expected, Finishes}
 use Rattle.ucdshop_core.specs.Writing.{files_of}
+use Rattle.shelf_io.specs.Counts.{Rose}
 use Rattle.ucdshop_core.specs.declared.plan.Plan.{Plan}
 use Rattle.ucdshop_core.specs.declared.stop.Stop.{Stop}
 use Rattle.ucdshop_core.specs.declared.stop.Stop.TheVariants.{Refused, ReadFailed, Memory}
@@ -60,21 +64,20 @@ RefusesBy (Refused line) folder (Invalid rule point) = line ≡ refused_point fo
 RefusesBy Memory folder stop = ⊤
 RefusesBy _ folder stop = ⊥
 
-abbrev pub OnUnread : {A : Type 0} → Result A Stop → (List ℕ → Type 0) → Type 0
-OnUnread (Ok _) P = ⊤
-OnUnread (Err (Refused line)) P = ⊤
-OnUnread (Err (ReadFailed line)) P = P line
-OnUnread (Err Memory) P = ⊤
-
-abbrev pub NoneFailed : {A : Type 0} → Result A Stop → List ℕ → List ℕ → Type 0
-NoneFailed (Ok _) old new = new ≡ old
-NoneFailed (Err (Refused line)) old new = new ≡ old
-NoneFailed (Err (ReadFailed line)) old new = ⊤
-NoneFailed (Err Memory) old new = ⊤
-
 pub record NamesUnread (paths : List (List ℕ)) (tells : Bool) (failed line : List ℕ) : Type 0 where
   pub path : List ℕ
   pub place : ℕ
   pub needed : slice_get paths place ≡ Some path
   pub told : line ≡ read_failed path
   pub last : IsTrue tells → path ≡ failed
+
+pub record OnlyRead (shelf : ShelfSeen) : Type 0 where
+  pub held_stays : Unchanged shelf
+  pub read_faults_never_fall : shelf.reads_old ≤ shelf.reads_new
+  pub write_faults_stay : shelf.writes_new ≡ shelf.writes_old
+
+abbrev pub UnreadAs : {A : Type 0} → Result A Stop → List (List ℕ) → ShelfSeen → Type 0
+UnreadAs (Ok _) paths shelf = LastFailedStays shelf
+UnreadAs (Err (Refused line)) paths shelf = LastFailedStays shelf
+UnreadAs (Err (ReadFailed line)) paths shelf = Rose shelf.reads_old shelf.reads_new × NamesUnread paths shelf.tells_failed shelf.failed line
+UnreadAs (Err Memory) paths shelf = ⊤

@@ -1,11 +1,10 @@
 //! Reading the source files of a folder.
 
-ghost use Rattle.std.specs.Prelude.{◌≡◌, ◌<◌, ◌≤◌, IsTrue, IfOk, length, map};
-ghost use Rattle.shelf_io.specs.Contents.{SameContents};
-ghost use Rattle.shelf_io.specs.Counts.{Rose};
-ghost use Rattle.ucdshop_core.specs.Planning.{NamesUnread, NoneFailed, OnRefused, OnUnread};
+ghost use Rattle.std.specs.Prelude.{◌≡◌, ◌<◌, IsTrue, IfOk, length, map};
+ghost use Rattle.ucdshop_core.specs.Planning.{OnRefused, OnlyRead, UnreadAs};
 ghost use Rattle.ucdshop_core.specs.Printed.{read_failed};
 ghost use Rattle.ucdshop_core.specs.Reading.{cut, text_at};
+ghost use Rattle.ucdshop_core.specs.Promises.{shelf_seen};
 ghost use Rattle.ucdshop_core.specs.Run.{sources_in};
 
 use crate::printed::read_failed;
@@ -43,13 +42,8 @@ pub fn gather<S: Shelf>(alloc: Global, shelf: &mut S, folder: &[u8]) -> Result<G
     ensures held { IsTrue S.tells → IfOk result (λ gathered.
         gathered.held.items ≡ map (λ path. cut (S.holds shelf.old path)) gathered.paths) }
     ensures refused { OnRefused result (λ _. ⊥) }
-    ensures unread { OnUnread result (NamesUnread (sources_in folder.now)
-        S.tells_failed (S.last_failed shelf.new)) }
-    ensures none_failed { IsTrue S.tells_failed → NoneFailed result (S.last_failed shelf.old) (S.last_failed shelf.new) }
-    ensures unread_only { OnUnread result (λ _. Rose (S.read_faults shelf.old) (S.read_faults shelf.new)) }
-    ensures held_stays { IsTrue S.tells → SameContents (S.holds shelf.old) (S.holds shelf.new) }
-    ensures read_faults_never_fall { S.read_faults shelf.old ≤ S.read_faults shelf.new }
-    ensures write_faults_stay { S.write_faults shelf.new ≡ S.write_faults shelf.old }
+    ensures unread { UnreadAs result (sources_in folder.now) (shelf_seen S.Shelf shelf.old shelf.new) }
+    ensures only_read { OnlyRead (shelf_seen S.Shelf shelf.old shelf.new) }
 {
     let paths = source_paths(alloc, folder)?;
     match read_all(alloc, shelf, paths.as_slice()) {

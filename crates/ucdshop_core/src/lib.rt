@@ -16,10 +16,14 @@ mod status;
 mod stop;
 mod writing;
 
+pub use judging::judge;
 pub use perfect_run::run_perfectly;
+pub use plan::{Plan, derive_plan};
 pub use printed::OUT_OF_MEMORY;
 pub use program::{run, run_counted};
 pub use status::Status;
+pub use stop::Stop;
+pub use writing::Output;
 
 #[cfg(test)]
 mod folding_tests;

@@ -1,12 +1,11 @@
 //! All that a run does before it writes.
 
-ghost use Rattle.std.specs.Prelude.{◌≡◌, ◌≤◌, ◌+◌, IsTrue, IfOk, Some, length};
+ghost use Rattle.std.specs.Prelude.{◌≡◌, ◌≤◌, ◌+◌, IfOk, Some, length};
 ghost use Rattle.code_facts.specs.Rows.{release_sources};
-ghost use Rattle.shelf_io.specs.Contents.{SameContents};
-ghost use Rattle.shelf_io.specs.Counts.{Rose};
 ghost use Rattle.ucd_model.specs.Limits.{point_count};
 ghost use Rattle.ucdshop_core.specs.Commands.{job_of};
-ghost use Rattle.ucdshop_core.specs.Planning.{ChecksAs, IsPlanOf, LoadedAs, NamesUnread, NoneFailed, OnRefused, OnUnread, RefusesBy};
+ghost use Rattle.ucdshop_core.specs.Planning.{ChecksAs, IsPlanOf, LoadedAs, OnRefused, OnlyRead, RefusesBy, UnreadAs};
+ghost use Rattle.ucdshop_core.specs.Promises.{shelf_seen};
 ghost use Rattle.ucdshop_core.specs.Run.{Derive, Refuses, Sees, everywhere, expected_of, files_verdict, needed, point_refusal, sources_in, verdict};
 
 use crate::command::Command;
@@ -25,13 +24,8 @@ use ucd_model::{Broken, Memory, Steps};
 /// Reads and judges the source files of a folder, each by itself.
 fn load<S: Shelf>(alloc: Global, shelf: &mut S, folder: &[u8]) -> Result<Release, Stop>
     ensures rows { Sees S.tells (S.holds shelf.old) (λ seen. LoadedAs release_sources result (files_verdict folder.now seen)) }
-    ensures unread { OnUnread result (NamesUnread (sources_in folder.now)
-        S.tells_failed (S.last_failed shelf.new)) }
-    ensures none_failed { IsTrue S.tells_failed → NoneFailed result (S.last_failed shelf.old) (S.last_failed shelf.new) }
-    ensures unread_only { OnUnread result (λ _. Rose (S.read_faults shelf.old) (S.read_faults shelf.new)) }
-    ensures held_stays { IsTrue S.tells → SameContents (S.holds shelf.old) (S.holds shelf.new) }
-    ensures read_faults_never_fall { S.read_faults shelf.old ≤ S.read_faults shelf.new }
-    ensures write_faults_stay { S.write_faults shelf.new ≡ S.write_faults shelf.old }
+    ensures unread { UnreadAs result (sources_in folder.now) (shelf_seen S.Shelf shelf.old shelf.new) }
+    ensures only_read { OnlyRead (shelf_seen S.Shelf shelf.old shelf.new) }
 {
     let gathered = gather(alloc, shelf, folder)?;
     judge(alloc, gathered.paths.as_slice(), gathered.held.as_slice())
@@ -58,16 +52,12 @@ fn open_bench<L: Ledger>(
 fn stop_of(alloc: Global, folder: &[u8], stop: OpenStop) -> Stop
     ensures { RefusesBy result folder.now stop }
 {
-    match stop {
-        OpenStop::Invalid { rule, point } => match refused_point(
-            alloc,
-            folder,
-            Broken { point, rule },
-        ) {
-            Ok(line) => Stop::Refused(line),
-            Err(Memory) => Stop::Memory,
-        },
-        OpenStop::Memory => Stop::Memory,
+    let OpenStop::Invalid { rule, point } = stop else {
+        return Stop::Memory;
+    };
+    match refused_point(alloc, folder, Broken { point, rule }) {
+        Ok(line) => Stop::Refused(line),
+        Err(Memory) => Stop::Memory,
     }
 }
 
@@ -79,13 +69,8 @@ fn open_folder<S: Shelf, L: Ledger>(
     steps: &mut Steps<L>,
 ) -> Result<Bench, Stop>
     ensures rows { Sees S.tells (S.holds shelf.old) (λ seen. LoadedAs release_sources result (verdict folder.now seen)) }
-    ensures unread { OnUnread result (NamesUnread (sources_in folder.now)
-        S.tells_failed (S.last_failed shelf.new)) }
-    ensures none_failed { IsTrue S.tells_failed → NoneFailed result (S.last_failed shelf.old) (S.last_failed shelf.new) }
-    ensures unread_only { OnUnread result (λ _. Rose (S.read_faults shelf.old) (S.read_faults shelf.new)) }
-    ensures held_stays { IsTrue S.tells → SameContents (S.holds shelf.old) (S.holds shelf.new) }
-    ensures read_faults_never_fall { S.read_faults shelf.old ≤ S.read_faults shelf.new }
-    ensures write_faults_stay { S.write_faults shelf.new ≡ S.write_faults shelf.old }
+    ensures unread { UnreadAs result (sources_in folder.now) (shelf_seen S.Shelf shelf.old shelf.new) }
+    ensures only_read { OnlyRead (shelf_seen S.Shelf shelf.old shelf.new) }
     ensures steps { steps.new ≤ steps.old + point_count }
 {
     let release = load(alloc, shelf, folder)?;
@@ -105,12 +90,8 @@ fn derive<S: Shelf, L: Ledger>(
     ensures room { IfOk result (λ plan. length plan.outputs.items ≤ S.spare shelf.new) }
     ensures refused { OnRefused result (λ line. Sees S.tells (everywhere (S.holds shelf.old)) (λ seen.
         expected_of (Some (Derive input.now output.now)) seen ≡ Refuses line)) }
-    ensures unread { OnUnread result (NamesUnread (needed (Derive input.now output.now)) S.tells_failed (S.last_failed shelf.new)) }
-    ensures none_failed { IsTrue S.tells_failed → NoneFailed result (S.last_failed shelf.old) (S.last_failed shelf.new) }
-    ensures unread_only { OnUnread result (λ _. Rose (S.read_faults shelf.old) (S.read_faults shelf.new)) }
-    ensures held_stays { IsTrue S.tells → SameContents (S.holds shelf.old) (S.holds shelf.new) }
-    ensures read_faults_never_fall { S.read_faults shelf.old ≤ S.read_faults shelf.new }
-    ensures write_faults_stay { S.write_faults shelf.new ≡ S.write_faults shelf.old }
+    ensures unread { UnreadAs result (needed (Derive input.now output.now)) (shelf_seen S.Shelf shelf.old shelf.new) }
+    ensures only_read { OnlyRead (shelf_seen S.Shelf shelf.old shelf.new) }
     ensures steps { steps.new ≤ steps.old + point_count }
 {
     let bench = open_folder(alloc, shelf, input, steps)?;
@@ -136,12 +117,8 @@ pub fn prepare<S: Shelf, L: Ledger>(
     ensures room { IfOk result (λ plan. length plan.outputs.items ≤ S.spare shelf.new) }
     ensures refused { OnRefused result (λ line. Sees S.tells (everywhere (S.holds shelf.old)) (λ seen.
         expected_of (Some (job_of command.entry)) seen ≡ Refuses line)) }
-    ensures unread { OnUnread result (NamesUnread (needed (job_of command.entry)) S.tells_failed (S.last_failed shelf.new)) }
-    ensures none_failed { IsTrue S.tells_failed → NoneFailed result (S.last_failed shelf.old) (S.last_failed shelf.new) }
-    ensures unread_only { OnUnread result (λ _. Rose (S.read_faults shelf.old) (S.read_faults shelf.new)) }
-    ensures held_stays { IsTrue S.tells → SameContents (S.holds shelf.old) (S.holds shelf.new) }
-    ensures read_faults_never_fall { S.read_faults shelf.old ≤ S.read_faults shelf.new }
-    ensures write_faults_stay { S.write_faults shelf.new ≡ S.write_faults shelf.old }
+    ensures unread { UnreadAs result (needed (job_of command.entry)) (shelf_seen S.Shelf shelf.old shelf.new) }
+    ensures only_read { OnlyRead (shelf_seen S.Shelf shelf.old shelf.new) }
     ensures steps { steps.new ≤ steps.old + point_count }
 {
     match command {

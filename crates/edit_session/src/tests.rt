@@ -1,5 +1,7 @@
 //! Benches over releases of a few lines.
 
+ghost use Rattle.std.specs.Prelude.{◌≡◌};
+
 use crate::{Bench, OpenStop};
 use release_rows::Release;
 use std::alloc::Global;

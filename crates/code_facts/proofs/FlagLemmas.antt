@@ -9,23 +9,23 @@ use Rattle.ucd_model.specs.Names.{flag_name}
 use Rattle.ucd_model.specs.declared.property.Flag.{Flag}
 use Rattle.ucd_model.specs.declared.property.Flag.TheVariants.{WhiteSpace, OtherMath, OtherLowercase, OtherUppercase, OtherAlphabetic, OtherIdStart, OtherIdContinue, PatternSyntax, PatternWhiteSpace, OtherDefaultIgnorableCodePoint, VariationSelector, PrependedConcatenationMark, OtherGraphemeExtend, NoncharacterCodePoint}
 use Rattle.code_facts.specs.MarkRows.{names_flag}
-use Rattle.code_facts.specs.Word.{all_flags}
+use Rattle.ucd_model.specs.Enumerations.{flags}
 
 or_assoc : (a b c : Bool) → ((a || b) || c) ≡ (a || (b || c))
 or_assoc true b c = refl
 or_assoc false b c = refl
 
 -- one more flag behind those so far
-pub flags_more : (p : Flag → Bool) (i : ℕ) (d : Flag) (old new was : Bool) → i < 14 → new ≡ (was || p (get_or all_flags i d)) → was ≡ (old || list_any p (take i all_flags)) → new ≡ (old || list_any p (take (i + 1) all_flags))
+pub flags_more : (p : Flag → Bool) (i : ℕ) (d : Flag) (old new was : Bool) → i < 14 → new ≡ (was || p (get_or flags i d)) → was ≡ (old || list_any p (take i flags)) → new ≡ (old || list_any p (take (i + 1) flags))
 flags_more p i d old new was lt is before =
-    is ∙ ap (λ b. b || p (get_or all_flags i d)) before ∙ or_assoc old (list_any p (take i all_flags)) (p (get_or all_flags i d)) ∙ ap (λ b. old || b) (sym (list_any_more p all_flags i d lt))
+    is ∙ ap (λ b. b || p (get_or flags i d)) before ∙ or_assoc old (list_any p (take i flags)) (p (get_or flags i d)) ∙ ap (λ b. old || b) (sym (list_any_more p flags i d lt))
 
 or_none : (b : Bool) → (b || false) ≡ b
 or_none true = refl
 or_none false = refl
 
 -- among all flags the flag itself is the one that counts
-pub one_flag : (value : List ℕ) (c : ℕ) (span : Bounds) (flag : Flag) → list_any (names_flag value c span flag) all_flags ≡ (bytes_eq value (flag_name flag) && within c span)
+pub one_flag : (value : List ℕ) (c : ℕ) (span : Bounds) (flag : Flag) → list_any (names_flag value c span flag) flags ≡ (bytes_eq value (flag_name flag) && within c span)
 one_flag value c span WhiteSpace = or_none (bytes_eq value (flag_name WhiteSpace) && within c span)
 one_flag value c span OtherMath = or_none (bytes_eq value (flag_name OtherMath) && within c span)
 one_flag value c span OtherLowercase = or_none (bytes_eq value (flag_name OtherLowercase) && within c span)

@@ -2,123 +2,32 @@
 use Rattle.std.proofs.Common.{◌≡◌, ℕ, zero, suc, ◌+◌, ◌*◌, ◌/◌, ◌%◌, ◌^◌, ◌<◌, Bool, true, false, ◌==◌, List, [], ◌∷◌, length, refl, sym, ap, ◌∙◌, arith}
 use Rattle.std.specs.Prelude.{sum_by}
 use Rattle.std.proofs.Math.Nat.{div-div-eq-div-mul, pow-succ'}
+use Rattle.ucd_model.specs.Enumerations.{categories, flags, kinds, place_of_kind}
+use Rattle.ucd_model.specs.EnumerationProofs.{enumerates_categories, enumerates_kinds, place-below, value-at}
 use Rattle.ucd_model.specs.Facts.{Facts}
 use Rattle.ucd_model.specs.Sets.{flag_place, has_flag}
 use Rattle.ucd_model.specs.declared.category.Category.{Category}
-use Rattle.ucd_model.specs.declared.category.Category.TheVariants.{Lu, Ll, Lt, Lm, Lo, Mn, Mc, Me, Nd, Nl, No, Pc, Pd, Ps, Pe, Pi, Pf, Po, Sm, Sc, Sk, So, Zs, Zl, Zp, Cc, Cf, Cs, Co, Cn}
-use Rattle.ucd_model.specs.declared.decomposition.Tag.TheVariants as tag
+use Rattle.ucd_model.specs.declared.category.Category.TheVariants.{Cn}
 use Rattle.ucd_model.specs.declared.decomposition.Kind.{Kind}
-use Rattle.ucd_model.specs.declared.decomposition.Kind.TheVariants.{Plain, Canonical, Compat}
+use Rattle.ucd_model.specs.declared.decomposition.Kind.TheVariants.{Plain}
 use Rattle.ucd_model.specs.declared.property.Flag.{Flag}
 use Rattle.ucd_model.specs.declared.property.Flag.TheVariants.{WhiteSpace, OtherMath, OtherLowercase, OtherUppercase, OtherAlphabetic, OtherIdStart, OtherIdContinue, PatternSyntax, PatternWhiteSpace, OtherDefaultIgnorableCodePoint, VariationSelector, PrependedConcatenationMark, OtherGraphemeExtend, NoncharacterCodePoint}
 use Rattle.ucd_model.specs.Predicates.{category_place}
-use Rattle.code_facts.specs.Word.{one_if, kind_place, all_flags, flag_bit, packed, category_at, kind_at, ReadsBack}
+use Rattle.code_facts.specs.Word.{one_if, flag_bit, packed, category_at, kind_at, ReadsBack}
 
 -- ---- places
 
 category_back : (k : Category) → category_at (category_place k) ≡ k
-category_back Lu = refl
-category_back Ll = refl
-category_back Lt = refl
-category_back Lm = refl
-category_back Lo = refl
-category_back Mn = refl
-category_back Mc = refl
-category_back Me = refl
-category_back Nd = refl
-category_back Nl = refl
-category_back No = refl
-category_back Pc = refl
-category_back Pd = refl
-category_back Ps = refl
-category_back Pe = refl
-category_back Pi = refl
-category_back Pf = refl
-category_back Po = refl
-category_back Sm = refl
-category_back Sc = refl
-category_back Sk = refl
-category_back So = refl
-category_back Zs = refl
-category_back Zl = refl
-category_back Zp = refl
-category_back Cc = refl
-category_back Cf = refl
-category_back Cs = refl
-category_back Co = refl
-category_back Cn = refl
+category_back k = value-at categories category_place enumerates_categories k Cn
 
 pub category_small : (k : Category) → category_place k < 30
-category_small Lu = omega arith
-category_small Ll = omega arith
-category_small Lt = omega arith
-category_small Lm = omega arith
-category_small Lo = omega arith
-category_small Mn = omega arith
-category_small Mc = omega arith
-category_small Me = omega arith
-category_small Nd = omega arith
-category_small Nl = omega arith
-category_small No = omega arith
-category_small Pc = omega arith
-category_small Pd = omega arith
-category_small Ps = omega arith
-category_small Pe = omega arith
-category_small Pi = omega arith
-category_small Pf = omega arith
-category_small Po = omega arith
-category_small Sm = omega arith
-category_small Sc = omega arith
-category_small Sk = omega arith
-category_small So = omega arith
-category_small Zs = omega arith
-category_small Zl = omega arith
-category_small Zp = omega arith
-category_small Cc = omega arith
-category_small Cf = omega arith
-category_small Cs = omega arith
-category_small Co = omega arith
-category_small Cn = omega arith
+category_small k = place-below categories category_place enumerates_categories k
 
-kind_back : (k : Kind) → kind_at (kind_place k) ≡ k
-kind_back Plain = refl
-kind_back Canonical = refl
-kind_back (Compat tag.Font) = refl
-kind_back (Compat tag.NoBreak) = refl
-kind_back (Compat tag.Initial) = refl
-kind_back (Compat tag.Medial) = refl
-kind_back (Compat tag.Final) = refl
-kind_back (Compat tag.Isolated) = refl
-kind_back (Compat tag.Circle) = refl
-kind_back (Compat tag.Super) = refl
-kind_back (Compat tag.Sub) = refl
-kind_back (Compat tag.Vertical) = refl
-kind_back (Compat tag.Wide) = refl
-kind_back (Compat tag.Narrow) = refl
-kind_back (Compat tag.Small) = refl
-kind_back (Compat tag.Square) = refl
-kind_back (Compat tag.Fraction) = refl
-kind_back (Compat tag.Compat) = refl
+kind_back : (k : Kind) → kind_at (place_of_kind k) ≡ k
+kind_back k = value-at kinds place_of_kind enumerates_kinds k Plain
 
-pub kind_small : (k : Kind) → kind_place k < 18
-kind_small Plain = omega arith
-kind_small Canonical = omega arith
-kind_small (Compat tag.Font) = omega arith
-kind_small (Compat tag.NoBreak) = omega arith
-kind_small (Compat tag.Initial) = omega arith
-kind_small (Compat tag.Medial) = omega arith
-kind_small (Compat tag.Final) = omega arith
-kind_small (Compat tag.Isolated) = omega arith
-kind_small (Compat tag.Circle) = omega arith
-kind_small (Compat tag.Super) = omega arith
-kind_small (Compat tag.Sub) = omega arith
-kind_small (Compat tag.Vertical) = omega arith
-kind_small (Compat tag.Wide) = omega arith
-kind_small (Compat tag.Narrow) = omega arith
-kind_small (Compat tag.Small) = omega arith
-kind_small (Compat tag.Square) = omega arith
-kind_small (Compat tag.Fraction) = omega arith
-kind_small (Compat tag.Compat) = omega arith
+pub kind_small : (k : Kind) → place_of_kind k < 18
+kind_small k = place-below kinds place_of_kind enumerates_kinds k
 
 pub one_small : (b : Bool) → one_if b < 2
 one_small true = omega arith
@@ -189,7 +98,7 @@ flag_place_small has PrependedConcatenationMark = omega arith
 flag_place_small has OtherGraphemeExtend = omega arith
 flag_place_small has NoncharacterCodePoint = omega arith
 
-flags_sum : (has : Flag → Bool) → sum_by (flag_bit has) all_flags ≡ 16777216 * number (flag_list has)
+flags_sum : (has : Flag → Bool) → sum_by (flag_bit has) flags ≡ 16777216 * number (flag_list has)
 unfolding number flag_list
 flags_sum has = omega arith
 
@@ -220,9 +129,9 @@ digits w a e m p c k s is a2 e2 m2 p30 c256 k18 s16384 = record {
   flags = omega arith;
 }
 
-packed_digits : (F : Facts) → F.class < 256 → Digits (packed F) (one_if F.assigned) (one_if F.excluded) (one_if F.mid_word) (category_place F.category) F.class (kind_place F.kind) (number (flag_list F.flag))
+packed_digits : (F : Facts) → F.class < 256 → Digits (packed F) (one_if F.assigned) (one_if F.excluded) (one_if F.mid_word) (category_place F.category) F.class (place_of_kind F.kind) (number (flag_list F.flag))
 packed_digits F small =
-    digits (packed F) (one_if F.assigned) (one_if F.excluded) (one_if F.mid_word) (category_place F.category) F.class (kind_place F.kind) (number (flag_list F.flag))
+    digits (packed F) (one_if F.assigned) (one_if F.excluded) (one_if F.mid_word) (category_place F.category) F.class (place_of_kind F.kind) (number (flag_list F.flag))
     (rw (flags_sum F.flag) refl)
     (one_small F.assigned) (one_small F.excluded) (one_small F.mid_word) (category_small F.category) small (kind_small F.kind) (flags_small F.flag)
 

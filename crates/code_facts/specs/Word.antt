@@ -1,9 +1,6 @@
 -- The packed word of the facts of a code point, and how it is read back.
 --
 -- one_if b             1 where b is true, else 0
--- tag_place t          the place of a tag in the list of UAX #44, section 5.7.3, as Tag has it: 0 to 15
--- kind_place k         0 for Plain, 1 for Canonical, and 2 more than the tag's place for Compat
--- all_flags            the flags in the order of their places
 -- flag_bit has f       2 to the power of 24 and the place of f, where f is set; else 0
 -- data_part assigned k class kind   what the row of UnicodeData.txt adds to the word: whether the point is assigned in bit 0, the
 --                      place of its category k times 8, its class times 256, and the place of its kind times 65536
@@ -13,66 +10,36 @@
 -- assigned_of_word w   whether the word says that the point is assigned: bit 0
 -- excluded_of_word w   whether it says that the point is excluded from composition: bit 1
 -- mid_word_of_word w   whether it says that the point is in the middle of a word: bit 2
--- all_categories       the categories in the order of their places
 -- category_at p        the category of a place; Cn past the last
 -- category_of_word w   the category that the word says: bits 3 to 7
 -- class_of_word w      the class that the word says: bits 8 to 15
--- all_kinds            the kinds in the order of their places
 -- kind_at p            the kind of a place; Plain past the last
 -- kind_of_word w       the kind that the word says: bits 16 to 23
 -- flags_of_word w      the set of flags that the word says: bits 24 to 37
 -- ReadsBack w F        the word says of all that it has room for what the facts F say
-use Rattle.std.specs.Prelude.{◌≡◌, ℕ, ◌+◌, ◌*◌, ◌/◌, ◌%◌, ◌^◌, Bool, true, false, ◌==◌, List, [], ◌∷◌, slice_index_or, sum_by}
+use Rattle.std.specs.Prelude.{◌≡◌, ℕ, ◌+◌, ◌*◌, ◌/◌, ◌%◌, ◌^◌, Bool, true, false, ◌==◌, slice_index_or, sum_by}
+use Rattle.ucd_model.specs.Enumerations.{categories, flags, kinds, place_of_kind}
 use Rattle.ucd_model.specs.Facts.{Facts}
 use Rattle.ucd_model.specs.Predicates.{category_place}
 use Rattle.ucd_model.specs.Sets.{flag_place, has_flag}
 use Rattle.ucd_model.specs.declared.category.Category.{Category}
-use Rattle.ucd_model.specs.declared.category.Category.TheVariants.{Lu, Ll, Lt, Lm, Lo, Mn, Mc, Me, Nd, Nl, No, Pc, Pd, Ps, Pe, Pi, Pf, Po, Sm, Sc, Sk, So, Zs, Zl, Zp, Cc, Cf, Cs, Co, Cn}
-use Rattle.ucd_model.specs.declared.decomposition.Tag.{Tag}
-use Rattle.ucd_model.specs.declared.decomposition.Tag.TheVariants as tag
+use Rattle.ucd_model.specs.declared.category.Category.TheVariants.{Cn}
 use Rattle.ucd_model.specs.declared.decomposition.Kind.{Kind}
-use Rattle.ucd_model.specs.declared.decomposition.Kind.TheVariants.{Plain, Canonical, Compat}
+use Rattle.ucd_model.specs.declared.decomposition.Kind.TheVariants.{Plain}
 use Rattle.ucd_model.specs.declared.property.Flag.{Flag}
-use Rattle.ucd_model.specs.declared.property.Flag.TheVariants.{WhiteSpace, OtherMath, OtherLowercase, OtherUppercase, OtherAlphabetic, OtherIdStart, OtherIdContinue, PatternSyntax, PatternWhiteSpace, OtherDefaultIgnorableCodePoint, VariationSelector, PrependedConcatenationMark, OtherGraphemeExtend, NoncharacterCodePoint}
 
 abbrev pub one_if : Bool → ℕ
 one_if true = 1
 one_if false = 0
 
-abbrev pub tag_place : Tag → ℕ
-tag_place tag.Font = 0
-tag_place tag.NoBreak = 1
-tag_place tag.Initial = 2
-tag_place tag.Medial = 3
-tag_place tag.Final = 4
-tag_place tag.Isolated = 5
-tag_place tag.Circle = 6
-tag_place tag.Super = 7
-tag_place tag.Sub = 8
-tag_place tag.Vertical = 9
-tag_place tag.Wide = 10
-tag_place tag.Narrow = 11
-tag_place tag.Small = 12
-tag_place tag.Square = 13
-tag_place tag.Fraction = 14
-tag_place tag.Compat = 15
-
-abbrev pub kind_place : Kind → ℕ
-kind_place Plain = 0
-kind_place Canonical = 1
-kind_place (Compat tag) = 2 + tag_place tag
-
-abbrev pub all_flags : List Flag
-all_flags = WhiteSpace ∷ OtherMath ∷ OtherLowercase ∷ OtherUppercase ∷ OtherAlphabetic ∷ OtherIdStart ∷ OtherIdContinue ∷ PatternSyntax ∷ PatternWhiteSpace ∷ OtherDefaultIgnorableCodePoint ∷ VariationSelector ∷ PrependedConcatenationMark ∷ OtherGraphemeExtend ∷ NoncharacterCodePoint ∷ []
-
 abbrev pub flag_bit : (Flag → Bool) → Flag → ℕ
 flag_bit has flag = 2 ^ (24 + flag_place flag) * one_if (has flag)
 
 abbrev pub data_part : Bool → Category → ℕ → Kind → ℕ
-data_part assigned category class kind = one_if assigned + 8 * category_place category + 256 * class + 65536 * kind_place kind
+data_part assigned category class kind = one_if assigned + 8 * category_place category + 256 * class + 65536 * place_of_kind kind
 
 abbrev pub mark_part : Bool → Bool → (Flag → Bool) → ℕ
-mark_part excluded mid_word flag = 2 * one_if excluded + 4 * one_if mid_word + sum_by (flag_bit flag) all_flags
+mark_part excluded mid_word flag = 2 * one_if excluded + 4 * one_if mid_word + sum_by (flag_bit flag) flags
 
 abbrev pub packed : Facts → ℕ
 packed F = data_part F.assigned F.category F.class F.kind + mark_part F.excluded F.mid_word F.flag
@@ -88,11 +55,8 @@ excluded_of_word word = word / 2 % 2 == 1
 abbrev pub mid_word_of_word : ℕ → Bool
 mid_word_of_word word = word / 4 % 2 == 1
 
-abbrev pub all_categories : List Category
-all_categories = Lu ∷ Ll ∷ Lt ∷ Lm ∷ Lo ∷ Mn ∷ Mc ∷ Me ∷ Nd ∷ Nl ∷ No ∷ Pc ∷ Pd ∷ Ps ∷ Pe ∷ Pi ∷ Pf ∷ Po ∷ Sm ∷ Sc ∷ Sk ∷ So ∷ Zs ∷ Zl ∷ Zp ∷ Cc ∷ Cf ∷ Cs ∷ Co ∷ Cn ∷ []
-
 abbrev pub category_at : ℕ → Category
-category_at place = slice_index_or all_categories place Cn
+category_at place = slice_index_or categories place Cn
 
 abbrev pub category_of_word : ℕ → Category
 category_of_word word = category_at (word / 8 % 32)
@@ -100,11 +64,8 @@ category_of_word word = category_at (word / 8 % 32)
 abbrev pub class_of_word : ℕ → ℕ
 class_of_word word = word / 256 % 256
 
-abbrev pub all_kinds : List Kind
-all_kinds = Plain ∷ Canonical ∷ Compat tag.Font ∷ Compat tag.NoBreak ∷ Compat tag.Initial ∷ Compat tag.Medial ∷ Compat tag.Final ∷ Compat tag.Isolated ∷ Compat tag.Circle ∷ Compat tag.Super ∷ Compat tag.Sub ∷ Compat tag.Vertical ∷ Compat tag.Wide ∷ Compat tag.Narrow ∷ Compat tag.Small ∷ Compat tag.Square ∷ Compat tag.Fraction ∷ Compat tag.Compat ∷ []
-
 abbrev pub kind_at : ℕ → Kind
-kind_at place = slice_index_or all_kinds place Plain
+kind_at place = slice_index_or kinds place Plain
 
 abbrev pub kind_of_word : ℕ → Kind
 kind_of_word word = kind_at (word / 65536 % 256)

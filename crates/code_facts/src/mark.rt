@@ -1,7 +1,6 @@
 //! The marks that rows of other files than UnicodeData.txt put on code points.
 
 ghost use Rattle.std.specs.Prelude.{◌≡◌, ◌+◌, ◌<◌, ◌^◌};
-ghost use Rattle.ucd_model.specs.Names.{flag_name};
 ghost use Rattle.ucd_model.specs.Sets.{flag_place};
 ghost use Rattle.code_facts.specs.Marks.{is_mid_word_value, word_of};
 
@@ -47,26 +46,4 @@ pub fn is_mid_word_value(value: &[u8]) -> bool
     value == b"MidLetter".as_slice()
         || value == b"MidNumLet".as_slice()
         || value == b"Single_Quote".as_slice()
-}
-
-/// The name of a flag in PropList.txt.
-pub fn flag_name(flag: Flag) -> &'static [u8]
-    ensures { result.now ≡ flag_name flag }
-{
-    match flag {
-        Flag::WhiteSpace => b"White_Space",
-        Flag::OtherMath => b"Other_Math",
-        Flag::OtherLowercase => b"Other_Lowercase",
-        Flag::OtherUppercase => b"Other_Uppercase",
-        Flag::OtherAlphabetic => b"Other_Alphabetic",
-        Flag::OtherIdStart => b"Other_ID_Start",
-        Flag::OtherIdContinue => b"Other_ID_Continue",
-        Flag::PatternSyntax => b"Pattern_Syntax",
-        Flag::PatternWhiteSpace => b"Pattern_White_Space",
-        Flag::OtherDefaultIgnorableCodePoint => b"Other_Default_Ignorable_Code_Point",
-        Flag::VariationSelector => b"Variation_Selector",
-        Flag::PrependedConcatenationMark => b"Prepended_Concatenation_Mark",
-        Flag::OtherGraphemeExtend => b"Other_Grapheme_Extend",
-        Flag::NoncharacterCodePoint => b"Noncharacter_Code_Point",
-    }
 }

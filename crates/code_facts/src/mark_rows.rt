@@ -10,30 +10,12 @@ ghost use Rattle.code_facts.specs.MarkRows.{KeepsMarkRows, is_flagged, names_fla
 ghost use Rattle.code_facts.specs.Marks.{covers, puts};
 ghost use Rattle.code_facts.specs.RowLists.{sources_of};
 
-use crate::mark::{Mark, flag_name, is_mid_word_value};
+use crate::mark::{Mark, is_mid_word_value};
 use crate::row_lists::RowLists;
 use release_rows::RowText;
 use source_rows::ValueText;
 use std::alloc::Global;
-use ucd_model::{Flag, Memory, Row, Span};
-
-/// The flags, in the order of their places.
-const FLAGS: [Flag; 14] = [
-    Flag::WhiteSpace,
-    Flag::OtherMath,
-    Flag::OtherLowercase,
-    Flag::OtherUppercase,
-    Flag::OtherAlphabetic,
-    Flag::OtherIdStart,
-    Flag::OtherIdContinue,
-    Flag::PatternSyntax,
-    Flag::PatternWhiteSpace,
-    Flag::OtherDefaultIgnorableCodePoint,
-    Flag::VariationSelector,
-    Flag::PrependedConcatenationMark,
-    Flag::OtherGraphemeExtend,
-    Flag::NoncharacterCodePoint,
-];
+use ucd_model::{FLAGS, Flag, Memory, Row, Span};
 
 /// The code points of a row of PropList.txt that has the name of a flag.
 #[derive(Clone, Copy)]
@@ -165,7 +147,7 @@ fn push_flags(flagged: &mut Vec<Flagged>, span: Span, value: &[u8]) -> Result<()
 fn push_flag(flagged: &mut Vec<Flagged>, flag: Flag, span: Span, value: &[u8]) -> Result<(), Memory>
     ensures { OnOk result ((other : FlagValue) (c : ℕ) → list_any (is_flagged other c) flagged.new.items ≡ (list_any (is_flagged other c) flagged.old.items || names_flag value.now c span other flag)) }
 {
-    if value == flag_name(flag) {
+    if value == flag.name() {
         flagged.push(Flagged { flag, span })?;
     }
     Ok(())

@@ -1,10 +1,9 @@
-use Rattle.std.proofs.Common.{arith, sym, ◌/◌, ◌%◌}
-use Rattle.std.proofs.lemmas.List.{get_or_default, get_or_past}
-use Rattle.code_facts.specs.Word.{all_categories}
+use Rattle.std.proofs.Common.{◌≡◌, ◌/◌, ◌%◌, ap, ◌∙◌}
+use Rattle.std.specs.Option.{unwrap_or}
+use Rattle.std.proofs.lemmas.Option.{unwrap_or-slice_get}
+use Rattle.ucd_model.specs.Enumerations.{categories}
+use Rattle.ucd_model.specs.declared.category.Category.TheVariants.{Cn}
 use Rattle.code_facts.proofs.word.category_of.Goals as goal
 
-pub returns-then-place-lt30 : goal.returns-then-place-lt30
-returns-then-place-lt30 c = get_or_default all_categories (c.args.word / 8 % 32) _ _ (omega arith)
-
-pub returns-else-place-lt30 : goal.returns-else-place-lt30
-returns-else-place-lt30 c = sym (get_or_past all_categories (c.args.word / 8 % 32) _ (omega arith))
+pub returns : goal.returns
+returns c = c.unwrap_or.ensures ∙ ap (λ found. unwrap_or found Cn) c.at.ensures ∙ unwrap_or-slice_get categories (c.args.word / 8 % 32) Cn

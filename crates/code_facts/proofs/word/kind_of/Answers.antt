@@ -1,10 +1,9 @@
-use Rattle.std.proofs.Common.{arith, sym, ◌/◌, ◌%◌}
-use Rattle.std.proofs.lemmas.List.{get_or_default, get_or_past}
-use Rattle.code_facts.specs.Word.{all_kinds}
+use Rattle.std.proofs.Common.{◌≡◌, ◌/◌, ◌%◌, ap, ◌∙◌}
+use Rattle.std.specs.Option.{unwrap_or}
+use Rattle.std.proofs.lemmas.Option.{unwrap_or-slice_get}
+use Rattle.ucd_model.specs.Enumerations.{kinds}
+use Rattle.ucd_model.specs.declared.decomposition.Kind.TheVariants.{Plain}
 use Rattle.code_facts.proofs.word.kind_of.Goals as goal
 
-pub returns-then-place-lt18 : goal.returns-then-place-lt18
-returns-then-place-lt18 c = get_or_default all_kinds (c.args.word / 65536 % 256) _ _ (omega arith)
-
-pub returns-else-place-lt18 : goal.returns-else-place-lt18
-returns-else-place-lt18 c = sym (get_or_past all_kinds (c.args.word / 65536 % 256) _ (omega arith))
+pub returns : goal.returns
+returns c = c.unwrap_or.ensures ∙ ap (λ found. unwrap_or found Plain) c.at.ensures ∙ unwrap_or-slice_get kinds (c.args.word / 65536 % 256) Plain

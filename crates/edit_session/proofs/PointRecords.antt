@@ -15,7 +15,7 @@ use Rattle.edit_session.specs.RecordLists.{RecordsOf, RecordFound, RecordsAs, co
 use Rattle.ucd_model.specs.declared.form.Broken.{Broken}
 use Rattle.edit_session.specs.declared.open_stop.OpenStop.{OpenStop}
 use Rattle.edit_session.specs.declared.open_stop.OpenStop.TheVariants.{Invalid, Memory}
-use Rattle.edit_session.specs.ValidityProofs.{KeepsBelow, found_at, none_found}
+use Rattle.ucd_model.specs.ValidityProofs.{broken_is_least, valid_is_unbroken}
 
 pub has_place : (c count : ℕ) → c < 1114112 → count ≡ point_count → c < count
 unfolding point_count
@@ -61,21 +61,15 @@ ok_parts : (R S : Record) (b : Option Rule) → record_or_rule R b ≡ Ok S → 
 ok_parts R S None e = let same : R ≡ S = cc in (same, refl)
 ok_parts R S (Some rule) e = cc
 
-err_part : (R : Record) (rule : Rule) (b : Option Rule) → record_or_rule R b ≡ Err rule → b ≡ Some rule
-err_part R rule None e = cc
-err_part R rule (Some other) e = let same : other ≡ rule = cc in ap (λ (r : Rule). Some r) same
-
-keeps_below : (list : RecordsOf) (n : ℕ) (F : ℕ → Facts) → DerivedBelow list n F → KeepsBelow F n
-keeps_below list n F holds k lt = (ok_parts (record_at F k) (record_of list k) (broken F k) (holds.same k lt)).1
-
 -- the least point that breaks a rule
 pub broken_next : (list : RecordsOf) (n : ℕ) (F : ℕ → Facts) (rule : Rule) → n < point_count → DerivedBelow list n F → derived F n ≡ Err rule
     → first_broken F ≡ Some (record { point = n; rule = rule })
-broken_next list n F rule lt holds e = found_at F n rule lt (keeps_below list n F holds) (err_part (record_at F n) rule (broken F n) e)
+broken_next list n F rule lt holds e =
+    (broken_is_least F (record { point = n; rule = rule })).1 (record { point = lt; rule = e; least = λ c below. (record_of list c, holds.same c below) })
 
 -- no point does
 pub all_derived : (list : RecordsOf) (F : ℕ → Facts) → DerivedBelow list point_count F → (first_broken F ≡ None) × SameRecords (record_of list) (record_at F)
-all_derived list F holds = (none_found F (keeps_below list point_count F holds), λ c lt. sym (ok_parts (record_at F c) (record_of list c) (broken F c) (holds.same c lt)).0)
+all_derived list F holds = ((valid_is_unbroken F).0 (λ c lt. (record_of list c, holds.same c lt)), λ c lt. sym (ok_parts (record_at F c) (record_of list c) (broken F c) (holds.same c lt)).0)
 
 -- ---- points that stand together
 

@@ -2,7 +2,7 @@
 --
 -- bench_facts release       the facts of the release's rows now
 -- bench_record release c    the record of c that is derived of these facts
--- IsValid release           no code point breaks a rule of a valid release
+-- IsUnbroken release        no code point breaks a rule of a valid release
 -- NamesBroken stop release  the stop names the least code point that breaks a rule, with its first rule; want of memory says
 --                           nothing
 -- IsBench release F list    the release is valid, F gives the facts of its rows, and the list has the record of each code point
@@ -22,14 +22,14 @@ bench_facts release = facts (release_sources release)
 abbrev pub bench_record : ReleaseItems → ℕ → Record
 bench_record release = record_at (bench_facts release)
 
-abbrev pub IsValid : ReleaseItems → Type 0
-IsValid release = first_broken (bench_facts release) ≡ None
+abbrev pub IsUnbroken : ReleaseItems → Type 0
+IsUnbroken release = first_broken (bench_facts release) ≡ None
 
 abbrev pub NamesBroken : OpenStop → ReleaseItems → Type 0
 NamesBroken (Invalid rule point) release = first_broken (bench_facts release) ≡ Some (record { point = point; rule = rule })
 NamesBroken Memory release = ⊤
 
 pub record IsBench (release : ReleaseItems) (F : ℕ → Facts) (list : RecordsOf) : Type 0 where
-  pub valid : IsValid release
+  pub valid : IsUnbroken release
   pub facts : F ≡ bench_facts release
   pub records : SameRecords (record_of list) (bench_record release)

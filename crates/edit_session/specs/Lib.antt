@@ -1,3 +1,2 @@
 pub mod RecordLists
-pub mod ValidityProofs
 pub mod Benches

@@ -4,7 +4,7 @@ ghost use Rattle.std.specs.Prelude.{◌≡◌, ◌+◌, ◌≤◌, IfOk, IfErr, 
 ghost use Rattle.code_facts.specs.FactTables.{tables_facts};
 ghost use Rattle.range_table.specs.RunTable.{values_now};
 ghost use Rattle.ucd_model.specs.Limits.{point_count};
-ghost use Rattle.edit_session.specs.Benches.{bench_facts, bench_record, IsBench, IsValid, NamesBroken};
+ghost use Rattle.edit_session.specs.Benches.{bench_facts, bench_record, IsBench, IsUnbroken, NamesBroken};
 
 use crate::open_stop::OpenStop;
 use crate::record_table::RecordTable;
@@ -53,7 +53,7 @@ impl Bench {
         steps: &mut Steps<L>,
     ) -> Result<Bench, OpenStop>
         ensures ok { IfOk result (λ bench. bench ≡ release) }
-        ensures valid { OnOk result (IsValid release) }
+        ensures valid { OnOk result (IsUnbroken release) }
         ensures invalid { IfErr result (λ stop. NamesBroken stop release) }
         ensures steps { steps.new ≤ steps.old + point_count }
     {
@@ -70,7 +70,7 @@ impl Bench {
     /// The release, which is valid.
     pub fn release(&self) -> &Release
         ensures same { result.now ≡ self.now }
-        ensures valid { IsValid result.now }
+        ensures valid { IsUnbroken result.now }
     {
         &self.release
     }

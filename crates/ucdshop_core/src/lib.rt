@@ -2,7 +2,6 @@
 #![tactic(auto)]
 
 mod command;
-mod derived_path;
 mod gathering;
 mod judging;
 mod perfect_run;

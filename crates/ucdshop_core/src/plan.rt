@@ -10,14 +10,13 @@ ghost use Rattle.ucdshop_core.specs.Printed.{write_failed};
 ghost use Rattle.ucdshop_core.specs.Run.{derived_ending, derived_file};
 ghost use Rattle.ucdshop_core.specs.Writing.{file_of};
 
-use crate::derived_path::{DERIVED_FILES, derived_path};
 use crate::printed::{RunCounts, summary, write_failed};
 use crate::source_path::path_in;
 use crate::writing::Output;
 use derived_writer::{equal_pieces, text_over};
 use edit_session::Bench;
 use std::alloc::Global;
-use ucd_model::{DerivedFile, Memory, Span, Text};
+use ucd_model::{DERIVED_FILES, DerivedFile, Memory, Span, Text};
 
 /// What is left to be done: the files to be written, the summary to be told, and how the run then ends.
 #[derive(Drop)]
@@ -62,7 +61,7 @@ fn derived_output(
     ensures file { IfOk result (λ output. file_of output ≡ derived_file folder.now (release_sources bench.now) file) }
     ensures line { IfOk result (λ output. output.fault_line ≡ write_failed output.path) }
 {
-    let path = path_in(alloc, folder, derived_path(file))?;
+    let path = path_in(alloc, folder, file.path())?;
     let fault_line = write_failed(alloc, path.as_slice())?;
     let bytes = text_over(alloc, bench, pieces, file)?;
     Ok(Output {

@@ -1,28 +1,10 @@
 //! Where the source files lie.
 
 ghost use Rattle.std.specs.Prelude.{◌≡◌, ◌++◌, IfOk, OnOk, map};
-ghost use Rattle.ucd_model.specs.Names.{source_path};
 ghost use Rattle.ucdshop_core.specs.Run.{path_in, source_in, sources_in};
 
 use std::alloc::Global;
-use ucd_model::{Memory, SOURCE_FILES, SourceFile, Text, Texts};
-
-/// Where a source file lies below the folder of a release.
-fn source_path(file: SourceFile) -> &'static [u8]
-    ensures { result.now ≡ source_path file }
-{
-    match file {
-        SourceFile::UnicodeData => b"UnicodeData.txt",
-        SourceFile::PropList => b"PropList.txt",
-        SourceFile::Scripts => b"Scripts.txt",
-        SourceFile::WordBreakProperty => b"auxiliary/WordBreakProperty.txt",
-        SourceFile::CompositionExclusions => b"CompositionExclusions.txt",
-        SourceFile::CaseFolding => b"CaseFolding.txt",
-        SourceFile::SpecialCasing => b"SpecialCasing.txt",
-        SourceFile::PropertyAliases => b"PropertyAliases.txt",
-        SourceFile::PropertyValueAliases => b"PropertyValueAliases.txt",
-    }
-}
+use ucd_model::{Memory, SOURCE_FILES, Text, Texts};
 
 /// A path below a folder: the folder, `/`, and the path.
 ///
@@ -45,7 +27,7 @@ pub fn source_paths(alloc: Global, folder: &[u8]) -> Result<Texts, Memory>
 {
     let mut paths = Texts::new(alloc);
     'files: for file in &SOURCE_FILES {
-        paths.push(path_in(alloc, folder, source_path(*file))?)?;
+        paths.push(path_in(alloc, folder, file.path())?)?;
     }
     Ok(paths)
 }

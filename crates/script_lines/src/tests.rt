@@ -4,11 +4,19 @@ use super::*;
 use release_rows::Op;
 use source_rows::RowFault;
 use std::alloc::Global;
-use ucd_model::SourceFile;
+use ucd_model::{SourceFile, file_limit};
+
+/// The commands of a script of a test, which is never above the limit.
+fn commands_in(alloc: Global, script: &[u8]) -> Result<Commands, ScriptStop> {
+    if script.len() > file_limit() {
+        return Err(ScriptStop::Memory);
+    }
+    commands(alloc, script)
+}
 
 /// A command as a test writes it: its line, and how many operations its group has.
 fn groups_are(alloc: Global, script: &[u8], expected: &[(u32, usize)]) -> bool {
-    let Ok(found) = commands(alloc, script) else {
+    let Ok(found) = commands_in(alloc, script) else {
         return false;
     };
     if found.len() != expected.len() {
@@ -25,7 +33,7 @@ fn groups_are(alloc: Global, script: &[u8], expected: &[(u32, usize)]) -> bool {
 
 /// The first line that breaks a rule, and the rule.
 fn fault_of(alloc: Global, script: &[u8]) -> Option<(u32, ScriptRule)> {
-    match commands(alloc, script) {
+    match commands_in(alloc, script) {
         Err(ScriptStop::Fault { line, rule }) => Some((line, rule)),
         _ => None,
     }
@@ -33,7 +41,7 @@ fn fault_of(alloc: Global, script: &[u8]) -> Option<(u32, ScriptRule)> {
 
 /// Whether the first operation of a script adds a row of UnicodeData.txt that is read from these bytes.
 fn adds(alloc: Global, script: &[u8], expected: &[u8]) -> bool {
-    let Ok(found) = commands(alloc, script) else {
+    let Ok(found) = commands_in(alloc, script) else {
         return false;
     };
     let [command, ..] = found.as_slice() else {

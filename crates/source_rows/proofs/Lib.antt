@@ -29,4 +29,6 @@ pub mod ReadValues
 pub mod RowsOk
 pub mod FirstLines
 pub mod KeyGrammar
+pub mod KeyNames
+pub mod NameOrder
 pub mod Trivia

@@ -1,23 +1,20 @@
 -- Bytes that are read as a row are no trivia.
-use Rattle.std.proofs.Common.{◌≡◌, ℕ, zero, suc, ◌+◌, ◌-◌, Bool, true, false, cond, eqb, leb, ◌&&◌, ◌||◌, List, [], ◌∷◌, length, take, drop, map, fold, Option, Some, None, Result, Ok, Err, refl, sym, ap, ◌∙◌, inl, inr, arith}
-use Rattle.std.specs.List.{list_all, list_any, before_first, after_first, slice_split, position_or_len, prefix_len, suffix_len}
-use Rattle.std.proofs.lemmas.Bool.{false_from_ne_true, and_from, eqb-true}
+use Rattle.std.proofs.Common.{◌≡◌, ℕ, zero, suc, ◌+◌, ◌-◌, Bool, true, false, cond, eqb, leb, ◌&&◌, ◌||◌, List, [], ◌∷◌, length, take, drop, fold, Some, None, Ok, Err, refl, sym, ◌∙◌, arith}
+use Rattle.std.specs.List.{list_all, list_any, before_first, after_first, position_or_len, prefix_len, suffix_len}
+use Rattle.std.proofs.lemmas.Bool.{false_from_ne_true, and_from}
 use Rattle.std.proofs.lemmas.Bool.Decides.{nat_tests}
 use Rattle.std.proofs.lemmas.List.Splits.{slice_split_none}
-use Rattle.ucd_model.specs.Bounds.{Bounds}
 use Rattle.ucd_model.specs.Lines.{is_blank, is_lf, is_trivia, holds_line_feed, without_return}
-use Rattle.ucd_model.specs.Fields.{fields, field, trim, trim_start, trim_end, is_hash, is_semicolon, point_of, span_of, hex_number, with_digit, digit_of, if_point}
+use Rattle.ucd_model.specs.Fields.{fields, field, trim, trim_start, is_hash, is_semicolon, point_of, span_of, hex_number, with_digit, digit_of, if_point}
 use Rattle.ucd_model.specs.declared.files.SourceFile.{SourceFile}
 use Rattle.ucd_model.specs.declared.files.SourceFile.TheVariants.{UnicodeData, PropList, Scripts, WordBreakProperty, CompositionExclusions, CaseFolding, SpecialCasing, PropertyAliases, PropertyValueAliases}
 use Rattle.ucd_model.specs.declared.row.Row.{Row}
 use Rattle.source_rows.specs.Fields.{fields_of}
 use Rattle.source_rows.specs.Lines.{are_first_fields}
-use Rattle.source_rows.specs.Steps.{or_fault}
 use Rattle.source_rows.specs.DataFaults.{single_or_fault, pair_or_fault}
 use Rattle.source_rows.specs.OtherFaults.{value_or_fault, exclusion_or_fault, fold_or_fault, casing_or_fault, alias_or_fault}
 use Rattle.source_rows.specs.Faults.{row_or_fault, line_or_fault, lines_or_fault}
 use Rattle.source_rows.specs.Trivia.{RowsAreNoTrivia}
-use Rattle.source_rows.specs.declared.fault.RowFault.{RowFault}
 use Rattle.source_rows.specs.declared.fault.RowFault.TheVariants.{G03, G04}
 use Rattle.source_rows.proofs.FieldCuts.{first_is}
 use Rattle.source_rows.proofs.Found.{passed, failed, found}

@@ -15,7 +15,7 @@
 -- key_or_fault file bytes       the same of a text; bytes with a LF have G03
 -- ReadsKeyAs result expected    a result is what was expected; want of memory says nothing
 -- KeysAreRead                   a key is given exactly where the text stands for that key
-use Rattle.std.specs.Prelude.{◌≡◌, ◌↔◌, ℕ, ◌≤◌, Bool, true, false, List, [], ◌∷◌, length, Option, Some, None, Result, Ok, Err, ◌==◌, nat_le, if◌then◌else◌}
+use Rattle.std.specs.Prelude.{◌≡◌, ◌↔◌, ℕ, ◌≤◌, true, false, List, [], ◌∷◌, length, Some, None, Result, Ok, Err, ◌==◌, nat_le, if◌then◌else◌}
 use Rattle.std.specs.List.{list_all}
 use Rattle.ucd_model.specs.Lines.{holds_line_feed}
 use Rattle.ucd_model.specs.Fields.{fields, field, point_of, is_name}

@@ -8,5 +8,6 @@ pub mod Faults
 pub mod Ranges
 pub mod Keys
 pub mod KeyGrammar
+pub mod KeyNames
 pub mod Trivia
 pub mod Laws

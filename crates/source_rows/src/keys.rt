@@ -30,21 +30,21 @@ fn one_text(alloc: Global, text: Text) -> Result<Texts, Memory>
 }
 
 /// A copy of these bytes as the one name of a key.
-fn one_name(alloc: Global, name: &[u8]) -> Result<Texts, Memory>
+pub fn one_name(alloc: Global, name: &[u8]) -> Result<Texts, Memory>
     ensures { IfOk result (λ names. names ≡ name.now ∷ []) }
 {
     one_text(alloc, text_of(alloc, name)?)
 }
 
 /// The letter of a status as the one name of a key.
-fn letter_name(alloc: Global, status: FoldStatus) -> Result<Texts, Memory>
+pub fn letter_name(alloc: Global, status: FoldStatus) -> Result<Texts, Memory>
     ensures { IfOk result (λ names. names ≡ (status_code status ∷ []) ∷ []) }
 {
     one_name(alloc, &[status.letter()])
 }
 
 /// The conditions as a name of a key, and no name where there are none.
-fn condition_names(alloc: Global, conditions: Text) -> Result<Texts, Memory>
+pub fn condition_names(alloc: Global, conditions: Text) -> Result<Texts, Memory>
     ensures { IfOk result (λ names. names ≡ condition_names conditions) }
 {
     if conditions.as_slice().is_empty() {

@@ -1,6 +1,7 @@
 //! Laws that tie what is read to the grammar.
 
 ghost use Rattle.source_rows.specs.KeyGrammar.{KeysAreRead};
+ghost use Rattle.source_rows.specs.KeyNames.{ContentsHaveKeys};
 ghost use Rattle.source_rows.specs.Laws.{SpansAreSpelled, CategoriesAreNamed, RowsAreOk, RowsAreRead, SpellingsAreOne, TextsReadBack};
 ghost use Rattle.source_rows.specs.Ranges.{FirstLinesBegin};
 ghost use Rattle.source_rows.specs.Trivia.{RowsAreNoTrivia};
@@ -48,4 +49,9 @@ pub fn first_lines_begin()
 /// Bytes that are read as a row are neither blank nor a comment.
 pub fn rows_are_no_trivia()
     ensures { RowsAreNoTrivia }
+{}
+
+/// The names of a row's key and the name of its group stand in the content that it is read from.
+pub fn contents_have_keys()
+    ensures { ContentsHaveKeys }
 {}

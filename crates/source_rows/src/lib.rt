@@ -13,6 +13,7 @@ mod fields;
 mod fifteen;
 mod in_place;
 mod key;
+mod key_names;
 mod keys;
 mod laws;
 mod lines;
@@ -24,6 +25,7 @@ mod put_data;
 mod put_points;
 mod put_rows;
 mod read;
+mod row_keys;
 mod scripts;
 mod special_casing;
 mod text;
@@ -34,12 +36,14 @@ mod word_break_property;
 pub use fault::{RowFault, RowStop};
 pub use in_place::{read_names, read_value_text};
 pub use key::Key;
+pub use key_names::{compare_names, content_group};
 pub use keys::read_key;
 pub use laws::{
-    categories_are_named, first_lines_begin, keys_are_read, rows_are_no_trivia, rows_are_ok,
-    rows_are_read, spans_are_spelled, spellings_are_one, texts_read_back,
+    categories_are_named, contents_have_keys, first_lines_begin, keys_are_read, rows_are_no_trivia,
+    rows_are_ok, rows_are_read, spans_are_spelled, spellings_are_one, texts_read_back,
 };
 pub use read::read_row;
+pub use row_keys::row_key;
 pub use text::row_text;
 pub use unicode_data::begins_range;
 pub use values::ValueText;

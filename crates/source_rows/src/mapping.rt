@@ -28,7 +28,7 @@ fn first_blank(text: &[u8]) -> usize
 }
 
 /// What stands before the first white space, and what stands behind it.
-fn first_word(text: &[u8]) -> (&[u8], &[u8])
+pub fn first_word(text: &[u8]) -> (&[u8], &[u8])
     requires { 0 < length text.now }
     ensures before { result.0.now ≡ before_first is_blank text.now }
     ensures after { result.1.now ≡ after_first is_blank text.now }

@@ -49,6 +49,13 @@ fn casing_fields(text: &[u8]) -> CasingFields<'_>
     }
 }
 
+/// The field of the conditions. A field that is not there is empty.
+pub fn conditions_field(text: &[u8]) -> &[u8]
+    ensures { result.now ≡ field (fields_of text.now) 4 }
+{
+    casing_fields(text).conditions
+}
+
 /// The mapping that a field spells.
 ///
 /// - `Fault(G07)`: it is no mapping.

@@ -1,3 +1,4 @@
 pub mod ReachLemmas
 pub mod FlatLemmas
+pub mod BeforeLemmas
 pub mod FindLemmas

@@ -2,6 +2,7 @@
 --
 -- FirstAt result p parts    the spot of the first entry of the list that passes p; None where none passes
 -- LastAt result p parts     the same of the last entry that passes p
+-- IsBefore result spot parts   the spot of the entry before the one at a spot; None where that one is the first of the list
 -- FirstIn, LastIn           the same within one part, whose entries are counted from 0
 use Rattle.std.specs.Prelude.{◌≡◌, ℕ, ◌+◌, ◌<◌, Bool, not, List, length, Option, Some, None}
 use Rattle.std.specs.List.{position_or_len, suffix_len}
@@ -15,6 +16,10 @@ FirstAt (Some spot) p parts = IsEntry parts spot × (position_or_len p (flat par
 abbrev pub LastAt : {A : Type 0} → Option Spot → (A → Bool) → List (List A) → Type 0
 LastAt None p parts = suffix_len (λ x. not (p x)) (flat parts) ≡ length (flat parts)
 LastAt (Some spot) p parts = IsEntry parts spot × (place parts spot + 1 + suffix_len (λ x. not (p x)) (flat parts) ≡ length (flat parts))
+
+abbrev pub IsBefore : {A : Type 0} → Option Spot → Spot → List (List A) → Type 0
+IsBefore None spot parts = place parts spot ≡ 0
+IsBefore (Some before) spot parts = IsEntry parts before × (place parts before + 1 ≡ place parts spot)
 
 abbrev pub FirstIn : {A : Type 0} → Option ℕ → (A → Bool) → List A → Type 0
 FirstIn None p xs = position_or_len p xs ≡ length xs

@@ -3,14 +3,14 @@
 ghost use Rattle.std.specs.Prelude.{◌≡◌, ◌+◌, [], ◌∷◌, ◌++◌, slice_index_or, slice_set, OnOk, OnErr};
 ghost use Rattle.std.specs.List.{insert, remove};
 ghost use Rattle.part_list.specs.Parts.{IsEntry, IsGap, now_in, next_in, place};
-ghost use Rattle.part_list.specs.Finds.{FirstAt, LastAt};
+ghost use Rattle.part_list.specs.Finds.{FirstAt, IsBefore, LastAt};
 
 use crate::change::{commit_all, discard_all, drop_empty};
 use crate::entries::Entries;
 use crate::fill::{begin, edit, push};
 use crate::part::Part;
 use crate::put::Put;
-use crate::search::{first_spot, last_spot};
+use crate::search::{first_spot, last_spot, spot_before};
 use crate::seek::Seek;
 use crate::spanned::Spanned;
 use crate::spot::Spot;
@@ -155,6 +155,14 @@ impl<T: Copy> PartList<T> {
         ensures { LastAt result (S.passing seek.now) self.now.next }
     {
         last_spot(&self.parts, seek)
+    }
+
+    /// The spot of the entry next before another one; `None` where that one is the first.
+    pub fn before(&self, spot: Spot) -> Option<Spot>
+        requires { IsEntry self.now.next spot }
+        ensures { IsBefore result spot self.now.next }
+    {
+        spot_before(&self.parts, spot)
     }
 
     /// The entries now, in order.

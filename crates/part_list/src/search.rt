@@ -1,6 +1,7 @@
 //! Searches over all parts of a list.
 
-ghost use Rattle.part_list.specs.Finds.{FirstAt, LastAt};
+ghost use Rattle.part_list.specs.Finds.{FirstAt, IsBefore, LastAt};
+ghost use Rattle.part_list.specs.Parts.{IsEntry};
 ghost use Rattle.part_list.specs.PartValues.{parts_next};
 
 use crate::part::Part;
@@ -30,6 +31,29 @@ pub fn last_spot<T: Copy, S: Seek<T>>(parts: &[Part<T>], seek: &S) -> Option<Spo
         let slot = left - 1;
         if let Some(at) = parts[slot].last(seek) {
             return Some(Spot { slot, at });
+        }
+        left = slot;
+    }
+    None
+}
+
+/// The spot of the entry next before another one; `None` where that one is the first.
+pub fn spot_before<T: Copy>(parts: &[Part<T>], spot: Spot) -> Option<Spot>
+    requires { IsEntry (parts_next parts.now) spot }
+    ensures { IsBefore result spot (parts_next parts.now) }
+{
+    if spot.at > 0 {
+        return Some(Spot {
+            slot: spot.slot,
+            at: spot.at - 1,
+        });
+    }
+    let mut left = spot.slot;
+    'parts: while left > 0 {
+        let slot = left - 1;
+        let len = parts[slot].next().len();
+        if len > 0 {
+            return Some(Spot { slot, at: len - 1 });
         }
         left = slot;
     }

@@ -11,6 +11,19 @@ pub mod Faults
 pub mod RowsApart
 pub mod Operations
 pub mod Touched
+pub mod Seeking
+pub mod Skipping
+pub mod Moved
+pub mod GapPlaces
+pub mod Puts
 pub mod Files
 pub mod Walks
 pub mod Arena
+mod StoredRows
+mod FoundRows
+mod Edited
+mod OneRow
+mod EntrySpans
+mod FirstRows
+mod SeekingKeys
+mod FilesEdited

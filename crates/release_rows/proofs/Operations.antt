@@ -1,23 +1,20 @@
 -- What the items of a file keep, they keep after an operation.
-use Rattle.std.proofs.Common.{◌≡◌, ℕ, ◌+◌, Bool, true, false, cond, not, ◌&&◌, ◌||◌, List, [], ◌∷◌, ◌++◌, map, filter, take, drop, Option, Some, None, Result, Ok, Err, refl, sym, ap, subst, ◌∙◌, append_assoc}
+use Rattle.std.proofs.Common.{◌≡◌, ℕ, Bool, true, false, cond, not, ◌||◌, List, [], ◌∷◌, ◌++◌, map, filter, take, drop, Option, Some, None, Result, Ok, Err, refl, sym, ap, subst, ◌∙◌, append_assoc}
 use Rattle.std.specs.List.{list_any}
 use Rattle.std.proofs.lemmas.Bool.{or_parts, or_from}
 use Rattle.std.proofs.lemmas.List.{append-nil, take-append-drop}
-use Rattle.ucd_model.specs.Lines.{LineEnding, is_trivia}
 use Rattle.ucd_model.specs.declared.files.SourceFile.{SourceFile}
 use Rattle.ucd_model.specs.declared.row.Row.{Row}
 use Rattle.source_rows.specs.Faults.{row_or_fault}
 use Rattle.source_rows.specs.Trivia.{RowsAreNoTrivia}
-use Rattle.source_rows.specs.declared.fault.RowFault.{RowFault}
 use Rattle.release_rows.specs.FileItems.{FileItem, rows_in, onto_rows}
 use Rattle.release_rows.specs.Keys.{same_key, overlaps, key_rule}
 use Rattle.release_rows.specs.Loading.{content_row}
-use Rattle.release_rows.specs.Operations.{IsOp, edited, op_file, row_passes, holds_row, has_key, overlaps_another, place_in, with_end, ended, put_in, added_item, changed_item}
+use Rattle.release_rows.specs.Operations.{edited, row_passes, holds_row, has_key, overlaps_another, place_in, ended, put_in, added_item, changed_item}
 use Rattle.release_rows.specs.OperationLaws.{OperationsKeepRows}
 use Rattle.release_rows.specs.Releases.{IsKept, AreKeptBelow, AreKept}
 use Rattle.release_rows.specs.declared.key_rule.KeyRule.{KeyRule}
 use Rattle.release_rows.specs.declared.key_rule.KeyRule.TheVariants.{K1, K2, K4}
-use Rattle.release_rows.specs.declared.operation.Op.{Op}
 use Rattle.release_rows.specs.declared.operation.Op.TheVariants.{Add, Change, Withdraw}
 use Rattle.release_rows.proofs.RowsApart.{clashes, all_apart, clashes_with_none, breaks_no_rule, put_between, free_before, taken_out, row_instead, put_instead}
 
@@ -53,7 +50,7 @@ apart_below : (file : SourceFile) (above items : List FileItem) → AreKeptBelow
 apart_below file above [] kept apart = rw (append-nil above) apart
 apart_below file above (item ∷ items) kept apart = rw (← append_assoc above (item ∷ []) items) (apart_below file (above ++ item ∷ []) items kept.1 (above_with file above item item.row refl kept.0 apart))
 
-all_are_apart : (file : SourceFile) (items : List FileItem) → AreKept file items → all_apart file (rows_in items) ≡ true
+pub all_are_apart : (file : SourceFile) (items : List FileItem) → AreKept file items → all_apart file (rows_in items) ≡ true
 all_are_apart file items kept = apart_below file [] items kept refl
 
 kept_item : (file : SourceFile) (above : List FileItem) (item : FileItem) (items : List FileItem) (o : Option Row) → item.row ≡ o → is_read file item → all_apart file (rows_in above ++ onto_rows o (rows_in items)) ≡ true → IsKept file above item
@@ -72,7 +69,7 @@ are_kept file items read apart = kept_below file [] items read apart
 
 -- ---- the item of an operation's row
 
-row_is_read : (file : SourceFile) (row : Row) (bytes : List ℕ) → RowsAreNoTrivia → row_or_fault file bytes ≡ Ok row → content_row file bytes ≡ Ok (Some row)
+pub row_is_read : (file : SourceFile) (row : Row) (bytes : List ℕ) → RowsAreNoTrivia → row_or_fault file bytes ≡ Ok row → content_row file bytes ≡ Ok (Some row)
 row_is_read file row bytes law h = rw (law file bytes row h, h) refl
 
 -- ---- an item that is put in
@@ -95,7 +92,7 @@ rows-ended [] = refl
 rows-ended (item ∷ []) = refl
 rows-ended (item ∷ next ∷ items) = ap (onto_rows item.row) (rows-ended (next ∷ items))
 
-any_rows : (p : Row → Bool) (items : List FileItem) → list_any p (rows_in items) ≡ holds_row p items
+pub any_rows : (p : Row → Bool) (items : List FileItem) → list_any p (rows_in items) ≡ holds_row p items
 any_rows p [] = refl
 any_rows p (item ∷ items) = by item.row (any_rows p items)
   where

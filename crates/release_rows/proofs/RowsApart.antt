@@ -1,14 +1,13 @@
 -- Rows of which no two may not stand together: one more between them, one less, and one in the place of another.
-use Rattle.std.proofs.Common.{◌≡◌, ℕ, Bool, true, false, cond, not, eqb, leb, ◌&&◌, ◌||◌, List, [], ◌∷◌, ◌++◌, map, filter, Some, None, refl, sym, ap, ◌∙◌, append_assoc, arith}
+use Rattle.std.proofs.Common.{◌≡◌, ℕ, Bool, true, false, cond, not, eqb, leb, ◌&&◌, ◌||◌, List, [], ◌∷◌, ◌++◌, map, filter, Some, None, refl, sym, ap, ◌∙◌, arith}
 use Rattle.std.specs.List.{list_any}
 use Rattle.std.proofs.lemmas.Bool.{and_parts, and_from, or_parts, or_from, eqb-true, eq-eqb, false_from_ne_true}
 use Rattle.std.proofs.lemmas.Bool.Decides.{nat_tests}
-use Rattle.std.proofs.lemmas.List.{append-nil}
 use Rattle.std.proofs.lemmas.List.Folds.{list_any-append}
 use Rattle.ucd_model.specs.declared.files.SourceFile.{SourceFile}
 use Rattle.ucd_model.specs.declared.row.Row.{Row}
 use Rattle.source_rows.specs.Keys.{row_span, key_names, same_texts}
-use Rattle.release_rows.specs.Keys.{same_key, overlaps, has_spans, spans_meet, key_rule}
+use Rattle.release_rows.specs.Keys.{same_key, overlaps, key_rule}
 use Rattle.release_rows.specs.Operations.{overlaps_another}
 use Rattle.release_rows.specs.declared.conflict.Conflict.TheVariants.{K1, K4}
 use Rattle.release_rows.proofs.Texts.{texts_same, texts_itself, both_or_none}
@@ -24,10 +23,10 @@ all_apart file (row ∷ rows) = not (list_any (clashes file row) rows) && all_ap
 
 -- ---- both ways
 
-texts_swap : (a b : List (List ℕ)) → same_texts a b ≡ same_texts b a
+pub texts_swap : (a b : List (List ℕ)) → same_texts a b ≡ same_texts b a
 texts_swap a b = both_or_none (same_texts a b) (same_texts b a) (λ h. rw (texts_same a b h) (texts_itself b)) (λ h. rw (texts_same b a h) (texts_itself a))
 
-numbers_swap : (a b : ℕ) → eqb a b ≡ eqb b a
+pub numbers_swap : (a b : ℕ) → eqb a b ≡ eqb b a
 numbers_swap a b = grind (arith, nat_tests)
 
 spans_swap : (a b c d : ℕ) → (leb a d && leb c b) ≡ (leb c b && leb a d)
@@ -42,7 +41,7 @@ overlaps_swap file a b = rw (texts_swap (key_names file a) (key_names file b), s
 clashes_swap : (file : SourceFile) (a b : Row) → clashes file a b ≡ clashes file b a
 clashes_swap file a b = rw (keys_swap file a b, overlaps_swap file a b) refl
 
-key_chain : (file : SourceFile) (a b c : Row) → same_key file a b ≡ true → same_key file a c ≡ true → same_key file b c ≡ true
+pub key_chain : (file : SourceFile) (a b c : Row) → same_key file a b ≡ true → same_key file a c ≡ true → same_key file b c ≡ true
 key_chain file a b c h k =
     let p = and_parts (same_texts (key_names file a) (key_names file b)) (eqb (row_span a).lo (row_span b).lo) h in
     let q = and_parts (same_texts (key_names file a) (key_names file c)) (eqb (row_span a).lo (row_span c).lo) k in

@@ -1,5 +1,5 @@
 -- Outside of what an operation touches the rows stay.
-use Rattle.std.proofs.Common.{◌≡◌, ℕ, Bool, true, false, cond, not, ◌||◌, List, [], ◌∷◌, ◌++◌, map, take, drop, Option, Some, None, Result, Ok, Err, refl, sym, ap, ◌∙◌}
+use Rattle.std.proofs.Common.{◌≡◌, ℕ, Bool, true, false, cond, not, List, [], ◌∷◌, ◌++◌, map, take, drop, Option, Some, None, refl, sym, ap, ◌∙◌}
 use Rattle.std.specs.List.{filter, list_any, flat_map}
 use Rattle.std.proofs.lemmas.Bool.{or_parts}
 use Rattle.std.proofs.lemmas.List.{take-append-drop}
@@ -11,11 +11,9 @@ use Rattle.ucd_model.specs.declared.files.SourceFile.{SourceFile}
 use Rattle.ucd_model.specs.declared.row.Row.{Row}
 use Rattle.release_rows.specs.FileItems.{FileItem, rows_in, onto_rows}
 use Rattle.release_rows.specs.Keys.{same_key, overlaps}
-use Rattle.release_rows.specs.Operations.{edited, op_file, row_passes, holds_row, has_key, overlaps_another, place_in, put_in, ended, added_item, changed_item, row_spans, spans_of, spans_with, touched}
+use Rattle.release_rows.specs.Operations.{edited, row_passes, holds_row, has_key, overlaps_another, place_in, put_in, ended, added_item, changed_item, row_spans, spans_with}
 use Rattle.release_rows.specs.OperationLaws.{RowsStay, speaks_of}
-use Rattle.release_rows.specs.declared.key_rule.KeyRule.{KeyRule}
 use Rattle.release_rows.specs.declared.key_rule.KeyRule.TheVariants.{K1, K2, K4}
-use Rattle.release_rows.specs.declared.operation.Op.{Op}
 use Rattle.release_rows.specs.declared.operation.Op.TheVariants.{Add, Change, Withdraw}
 use Rattle.release_rows.proofs.RowsApart.{row_instead}
 use Rattle.release_rows.proofs.Operations.{rows-append, rows-ended, rows_changed, rows_filter, passed, failed, items_are}

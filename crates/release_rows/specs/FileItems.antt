@@ -2,7 +2,7 @@
 --
 -- FileItem               the content of a row or of a line of trivia, what ends it, how many lines it has, and the row; None for
 --                        trivia
--- FileLists              the items of a file now, and those that are to be the next ones
+-- FileLists              a file with its items now, and those that are to be the next ones
 -- onto_rows row rows     the row before the rows; the rows alone where there is none
 -- rows_in items          the rows in order
 -- file_item_bytes item   the content and the bytes of the ending
@@ -11,6 +11,7 @@
 use Rattle.std.specs.Prelude.{ℕ, List, [], ◌∷◌, ◌++◌, Option, Some, None}
 use Rattle.std.specs.List.{flat_map, sum_by}
 use Rattle.ucd_model.specs.Lines.{LineEnding, ending_bytes}
+use Rattle.ucd_model.specs.declared.files.SourceFile.{SourceFile}
 use Rattle.ucd_model.specs.declared.row.Row.{Row}
 
 pub record FileItem : Type 0 where
@@ -20,6 +21,7 @@ pub record FileItem : Type 0 where
   pub row : Option Row
 
 pub record FileLists : Type 0 where
+  pub file : SourceFile
   pub now : List FileItem
   pub next : List FileItem
 

@@ -11,6 +11,9 @@ pub mod Progress
 pub mod Walking
 pub mod Releases
 pub mod Operations
+pub mod Searches
+pub mod Gaps
+pub mod Finding
 pub mod OperationLaws
 pub mod Laws
 pub mod FileLemmas

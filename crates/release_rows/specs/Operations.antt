@@ -4,9 +4,7 @@
 -- holds_row p items            some row passes
 -- has_key file key row         the row has this key
 -- overlaps_another file row other   the other row has another key, and the row overlaps it
--- group_of file row            what the rows of a group share: the value in PropList.txt, Scripts.txt and WordBreakProperty.txt,
---                              the property in PropertyValueAliases.txt; nothing in the other files, whose rows are one group
--- same_group file row other    the rows are of one group
+-- same_group file row other    the rows are of one group: what the rows of a group share is the same
 -- follows file row other       the other row is of the row's group and has a greater key
 -- place_in file row items      how many items stand before an added row: those before the first row that follows it; if none
 --                              follows, those up to the last row of its group; if its group has no row, all
@@ -14,6 +12,7 @@
 -- with_end item                the item, with a LF where it has no line end
 -- ended items                  the same of the last item
 -- put_in items n item          the item behind the first n, of which the last has a line end now
+-- item_of_row row bytes ending  the item of these bytes, which stand for the row
 -- added_item row bytes         the item of these bytes and a LF
 -- changed_item file row bytes item   the item of these bytes where the item has a row of the same key, with that one's line end;
 --                              else the item
@@ -21,23 +20,25 @@
 --                              key, of a change and a withdrawal K2 where none has, and then K4 where the row overlaps another
 --                              one; the row that a change replaces is not looked at
 -- op_file op                   the file of the operation
+-- with_edited files file result   the files with these items in the one file; or the rule
 -- op_or_rule files op          the files after the operation, of which one has other items; or the rule
 -- IsOp op                      the operation's row can be a row of its file, and is read from its bytes
 -- row_spans row                the code points that the row speaks of; none of a row of names
+-- AnswersOp result expected spans old new   what an operation answers and what is next then: these spans and what is expected; the
+--                              rule that is expected, or want of memory, and what was next
 -- touched items op             those of the rows with the operation's key that are taken out, and then those of its row
 use Rattle.std.specs.Prelude.{◌≡◌, ℕ, ◌+◌, ◌-◌, Bool, false, ◌&&◌, not, List, [], ◌∷◌, ◌++◌, map, take, drop, length, filter, Option, Some, None, Result, Ok, Err, count_by, if◌then◌else◌}
 use Rattle.std.specs.List.{list_any, position_or_len, suffix_len, flat_map}
 use Rattle.std.specs.Str.{bytes_eq}
 use Rattle.ucd_model.specs.Bounds.{Bounds}
-use Rattle.ucd_model.specs.Fields.{field}
 use Rattle.ucd_model.specs.Lines.{LineEnding, unended, lf, cr_lf, is_lf}
 use Rattle.ucd_model.specs.RowValues.{RowOk}
 use Rattle.ucd_model.specs.declared.files.SourceFile.{SourceFile}
-use Rattle.ucd_model.specs.declared.files.SourceFile.TheVariants.{PropList, Scripts, WordBreakProperty, PropertyValueAliases}
 use Rattle.ucd_model.specs.declared.row.Row.{Row}
-use Rattle.ucd_model.specs.declared.row.Row.TheVariants.{Unit as DataLine, Value as ValueLine, Exclusion as ExclusionLine, Fold as FoldLine, Casing as CasingLine, Alias as AliasLine}
+use Rattle.ucd_model.specs.declared.row.Row.TheVariants.{Alias as AliasLine}
 use Rattle.source_rows.specs.Faults.{row_or_fault}
 use Rattle.source_rows.specs.Keys.{row_span, key_of, equal_keys, is_before}
+use Rattle.source_rows.specs.KeyNames.{group_of}
 use Rattle.source_rows.specs.declared.key.Key.{Key}
 use Rattle.release_rows.specs.FileItems.{FileItem}
 use Rattle.release_rows.specs.Keys.{same_key, overlaps}
@@ -46,6 +47,8 @@ use Rattle.release_rows.specs.declared.key_rule.KeyRule.{KeyRule}
 use Rattle.release_rows.specs.declared.key_rule.KeyRule.TheVariants.{K1, K2, K4}
 use Rattle.release_rows.specs.declared.operation.Op.{Op}
 use Rattle.release_rows.specs.declared.operation.Op.TheVariants.{Add, Change, Withdraw}
+use Rattle.release_rows.specs.declared.operation.OpStop.{OpStop}
+use Rattle.release_rows.specs.declared.operation.OpStop.TheVariants.{Key as Breaks, Memory}
 
 -- ---- rows among the items
 
@@ -66,13 +69,6 @@ abbrev pub overlaps_another : SourceFile → Row → Row → Bool
 overlaps_another file row other = not (same_key file row other) && overlaps file row other
 
 -- ---- the place of an added row
-
-abbrev pub group_of : SourceFile → Row → List ℕ
-group_of PropList (ValueLine row) = row.value
-group_of Scripts (ValueLine row) = row.value
-group_of WordBreakProperty (ValueLine row) = row.value
-group_of PropertyValueAliases (AliasLine row) = field row.names 0
-group_of _ _ = []
 
 abbrev pub same_group : SourceFile → Row → Row → Bool
 same_group file row other = bytes_eq (group_of file row) (group_of file other)
@@ -104,7 +100,7 @@ ended (item ∷ next ∷ items) = item ∷ ended (next ∷ items)
 abbrev pub put_in : List FileItem → ℕ → FileItem → List FileItem
 put_in items n item = ended (take n items) ++ item ∷ drop n items
 
-abbrev item_of_row : Row → List ℕ → LineEnding → FileItem
+abbrev pub item_of_row : Row → List ℕ → LineEnding → FileItem
 item_of_row row bytes ending = record { content = bytes; ending = ending; lines = count_by is_lf bytes + 1; row = Some row }
 
 abbrev pub added_item : Row → List ℕ → FileItem
@@ -131,7 +127,7 @@ op_file (Add file row bytes) = file
 op_file (Change file row bytes) = file
 op_file (Withdraw file key) = file
 
-abbrev with_edited : List (List FileItem) → SourceFile → Result (List FileItem) KeyRule → Result (List (List FileItem)) KeyRule
+abbrev pub with_edited : List (List FileItem) → SourceFile → Result (List FileItem) KeyRule → Result (List (List FileItem)) KeyRule
 with_edited files file (Ok items) = Ok (with_items files file items)
 with_edited files file (Err rule) = Err rule
 
@@ -163,3 +159,11 @@ abbrev pub touched : List FileItem → Op → List Bounds
 touched items (Add file row bytes) = row_spans row
 touched items (Change file row bytes) = spans_with (same_key file row) items ++ row_spans row
 touched items (Withdraw file key) = spans_with (has_key file key) items
+
+-- ---- what it answers
+
+abbrev pub AnswersOp : {A : Type 0} → Result (List Bounds) OpStop → Result A KeyRule → List Bounds → A → A → Type 0
+AnswersOp (Ok spans) (Ok items) all old new = (new ≡ items) × (spans ≡ all)
+AnswersOp (Err (Breaks rule)) (Err broken) all old new = (rule ≡ broken) × (new ≡ old)
+AnswersOp (Err Memory) expected all old new = new ≡ old
+AnswersOp _ _ all old new = ⊥

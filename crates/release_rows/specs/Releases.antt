@@ -4,6 +4,7 @@
 -- with_items files file items     the same with other items in one file
 -- no_items                        no file has an item
 -- files_now, files_next           the items of each file now, and next
+-- committed lists, discarded lists   the file once what is next is what is now, and once what is now is what is next
 -- ReleaseItems                    the items now, and the items that are prepared to be the next ones
 -- items_now, items_next           the items of one file, now and next
 -- loaded release file items       the release whose file has these items, now and next
@@ -43,6 +44,12 @@ files_now files = map (λ lists. lists.now) files
 
 abbrev pub files_next : List FileLists → List (List FileItem)
 files_next files = map (λ lists. lists.next) files
+
+abbrev pub committed : FileLists → FileLists
+committed lists = record { file = lists.file; now = lists.next; next = lists.next }
+
+abbrev pub discarded : FileLists → FileLists
+discarded lists = record { file = lists.file; now = lists.now; next = lists.now }
 
 pub record ReleaseItems : Type 0 where
   pub current : List (List FileItem)

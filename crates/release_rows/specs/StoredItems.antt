@@ -9,7 +9,8 @@
 -- stored_at file text e     the item of an entry
 -- IsStored file text e      the entry's stretch is an item, and the entry has the code points of its row
 -- IsWhole file text items   the items put together are the text
--- IsKeptFile file text items   the entries now and next are stored, and each list has fewer than 2^32
+-- IsKeptFile file text added items   the entries now and next are stored; each list has fewer than 2^32 and those added since the
+--                           file was loaded, and these are fewer than 2^32
 -- row_or_none result        the row that was read; where there is a fault, a row that nothing rests on
 -- read_as file content      the row that the content is read as, by row_or_none
 -- ShowsValue value row      the value is that of a row of a span and a value; None of other rows
@@ -62,11 +63,12 @@ pub record IsStored (file : SourceFile) (text : List ℕ) (e : Spanned Stretch) 
 abbrev pub IsWhole : SourceFile → List ℕ → List (Spanned Stretch) → Type 0
 IsWhole file text items = bytes_of (map (stored_at file text) items) ≡ text
 
-pub record IsKeptFile (file : SourceFile) (text : List ℕ) (items : PartLists (Spanned Stretch)) : Type 0 where
+pub record IsKeptFile (file : SourceFile) (text : List ℕ) (added : ℕ) (items : PartLists (Spanned Stretch)) : Type 0 where
   pub now : All (IsStored file text) (now_in items)
   pub next : All (IsStored file text) (next_in items)
-  pub few_now : length (now_in items) < 2 ^ 32
-  pub few_next : length (next_in items) < 2 ^ 32
+  pub few_now : length (now_in items) < 2 ^ 32 + added
+  pub few_next : length (next_in items) < 2 ^ 32 + added
+  pub few_added : added < 2 ^ 32
 
 abbrev row_or_none : Result Row RowFault → Row
 row_or_none (Ok row) = row

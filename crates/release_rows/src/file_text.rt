@@ -1,19 +1,29 @@
 //! A source file as it is kept.
 
-ghost use Rattle.std.specs.Prelude.{◌≡◌, ◌<◌, ◌^◌, [], length, map, IfOk};
+ghost use Rattle.std.specs.Prelude.{◌≡◌, ◌<◌, ◌^◌, [], length, map, Ok, IfOk};
 ghost use Rattle.std.specs.List.{All};
 ghost use Rattle.part_list.specs.Parts.{now_in, next_in};
+ghost use Rattle.source_rows.specs.Faults.{row_or_fault};
 ghost use Rattle.release_rows.specs.FileItems.{bytes_of};
-ghost use Rattle.release_rows.specs.Releases.{rows_at};
+ghost use Rattle.release_rows.specs.Operations.{AnswersOp, IsOp, edited, op_file, touched};
+ghost use Rattle.release_rows.specs.Releases.{AreKept, committed, discarded, rows_at};
 ghost use Rattle.release_rows.specs.StoredItems.{stored_at, IsStored, IsWhole};
+ghost use Rattle.release_rows.specs.declared.operation.Op.TheVariants.{Add, Change, Withdraw};
 
+use crate::edits::put_in;
+use crate::finds::{added_gap, changed_spot, search_row, withdrawn_spot};
 use crate::join::joined;
+use crate::op_spans::{both_spans, entry_spans, row_spans};
+use crate::operation::{Op, OpStop};
 use crate::row_iter::Rows;
+use crate::stored_row::store_row;
 use crate::stretch::Stretch;
 use part_list::PartList;
+use source_rows::{Key, row_key};
 use std::alloc::Global;
 use std::marker::Model;
-use ucd_model::{ListOf, Memory, SourceFile, Text};
+use ucd_lines::Ending;
+use ucd_model::{ListOf, Memory, Row, SourceFile, Spans, Text};
 
 /// A text that only grows, and where the items of a file stand in it, now and next. A row is kept as its bytes alone:
 /// they read as it. Contracts see the items.
@@ -24,6 +34,8 @@ pub struct FileText {
     items: PartList<Stretch>,
     /// Whether the items now put together are the text, as they are until the first edit.
     whole: bool,
+    /// How many items were added since the file was loaded.
+    added: u32,
 }
 
 impl Model for FileText {
@@ -34,21 +46,22 @@ impl Model for FileText {
 
     ghost Value = { FileLists };
 
-    ghost view = { λ f. record { now = map (stored_at f.file f.text) (now_in f.items); next = map (stored_at f.file f.text) (next_in f.items) } };
+    ghost view = { λ f. record { file = f.file; now = map (stored_at f.file f.text) (now_in f.items); next = map (stored_at f.file f.text) (next_in f.items) } };
 
-    ghost invariant = { λ f. IsKeptFile f.file f.text f.items × (f.whole ≡ true → IsWhole f.file f.text (now_in f.items)) };
+    ghost invariant = { λ f. IsKeptFile f.file f.text f.added f.items × (f.whole ≡ true → IsWhole f.file f.text (now_in f.items)) };
 }
 
 impl FileText {
     /// The file without items. It takes no memory.
     pub fn empty(alloc: Global, file: SourceFile) -> FileText
-        ensures { result ≡ record { now = []; next = [] } }
+        ensures { result ≡ record { file = file; now = []; next = [] } }
     {
         FileText {
             file,
             text: Text::new(alloc),
             items: PartList::new(alloc),
             whole: true,
+            added: 0,
         }
     }
 
@@ -58,6 +71,7 @@ impl FileText {
         requires same { next_in items ≡ now_in items }
         requires few { length (now_in items) < 2 ^ 32 }
         requires whole { IsWhole file text (now_in items) }
+        ensures file { result.file ≡ file }
         ensures now { result.now ≡ map (stored_at file text) (now_in items) }
         ensures next { result.next ≡ result.now }
     {
@@ -66,6 +80,7 @@ impl FileText {
             text,
             items,
             whole: true,
+            added: 0,
         }
     }
 
@@ -93,5 +108,112 @@ impl FileText {
         ensures { result ≡ rows_at self.now.next }
     {
         Rows::new(self.file, self.text.as_slice(), self.items.next_entries())
+    }
+}
+
+/// Edits. What is now stays.
+impl FileText {
+    /// Adds a row next.
+    ///
+    /// - `Key(K1)`: a row has its key.
+    /// - `Key(K4)`: it overlaps a row.
+    /// - `Memory`: memory ran out, or the text would have 2^32 bytes or more.
+    fn add(&mut self, alloc: Global, row: &Row, bytes: &[u8]) -> Result<Spans, OpStop>
+        requires reads { row_or_fault self.old.file bytes.now ≡ Ok row.now }
+        ensures file { self.new.file ≡ self.old.file }
+        ensures now { self.new.now ≡ self.old.now }
+        ensures answer { let op = Add self.old.file row.now bytes.now in
+            AnswersOp result (edited self.old.next op) (touched self.old.next op) self.old.next self.new.next }
+    {
+        let spans = row_spans(alloc, row)?;
+        let key = row_key(alloc, self.file, row)?;
+        let search = search_row(self.file, self.text.as_slice(), row, &key, bytes);
+        let gap = added_gap(&self.items, &search)?;
+        let Some(added) = self.added.checked_add(1) else {
+            return Err(OpStop::Memory);
+        };
+        self.whole = false;
+        let entry = store_row(&mut self.text, self.file, row, bytes, Ending::Lf)?;
+        put_in(&mut self.items, gap, entry)?;
+        self.added = added;
+        Ok(spans)
+    }
+
+    /// Puts a row next in the place of the one that has its key.
+    ///
+    /// - `Key(K2)`: no row has its key.
+    /// - `Key(K4)`: it overlaps another row.
+    /// - `Memory`: memory ran out, or the text would have 2^32 bytes or more.
+    fn change(&mut self, alloc: Global, row: &Row, bytes: &[u8]) -> Result<Spans, OpStop>
+        requires reads { row_or_fault self.old.file bytes.now ≡ Ok row.now }
+        requires kept { AreKept self.old.file self.old.next }
+        ensures file { self.new.file ≡ self.old.file }
+        ensures now { self.new.now ≡ self.old.now }
+        ensures answer { let op = Change self.old.file row.now bytes.now in
+            AnswersOp result (edited self.old.next op) (touched self.old.next op) self.old.next self.new.next }
+    {
+        let key = row_key(alloc, self.file, row)?;
+        let search = search_row(self.file, self.text.as_slice(), row, &key, bytes);
+        let spot = changed_spot(&self.items, &search)?;
+        let old = self.items.get(spot);
+        let spans = both_spans(alloc, self.file, &old, row)?;
+        self.whole = false;
+        let entry = store_row(&mut self.text, self.file, row, bytes, old.item.ending)?;
+        self.items.replace(spot, entry)?;
+        Ok(spans)
+    }
+
+    /// Takes the row that has the key out of what is next.
+    ///
+    /// - `Key(K2)`: no row has it.
+    /// - `Memory`: memory ran out.
+    fn withdraw(&mut self, alloc: Global, key: &Key) -> Result<Spans, OpStop>
+        requires kept { AreKept self.old.file self.old.next }
+        ensures file { self.new.file ≡ self.old.file }
+        ensures now { self.new.now ≡ self.old.now }
+        ensures answer { let op = Withdraw self.old.file key.now in
+            AnswersOp result (edited self.old.next op) (touched self.old.next op) self.old.next self.new.next }
+    {
+        let spot = withdrawn_spot(&self.items, self.file, self.text.as_slice(), key)?;
+        let old = self.items.get(spot);
+        let spans = entry_spans(alloc, self.file, &old)?;
+        self.items.remove(spot)?;
+        Ok(spans)
+    }
+
+    /// Carries an operation on this file out, next, and answers what code points it touches.
+    ///
+    /// - `Key(rule)`: the rule that it breaks.
+    /// - `Memory`: memory ran out, or the text would have 2^32 bytes or more.
+    ///
+    /// After either what is next is as it was.
+    pub fn prepare(&mut self, alloc: Global, op: &Op) -> Result<Spans, OpStop>
+        requires op { IsOp op.now }
+        requires here { op_file op.now ≡ self.old.file }
+        requires kept { AreKept self.old.file self.old.next }
+        ensures file { self.new.file ≡ self.old.file }
+        ensures now { self.new.now ≡ self.old.now }
+        ensures answer { AnswersOp result (edited self.old.next op.now) (touched self.old.next op.now) self.old.next self.new.next }
+    {
+        match op {
+            Op::Add { row, bytes, .. } => self.add(alloc, row, bytes.as_slice()),
+            Op::Change { row, bytes, .. } => self.change(alloc, row, bytes.as_slice()),
+            Op::Withdraw { key, .. } => self.withdraw(alloc, key),
+        }
+    }
+
+    /// Makes what is next what is now. It takes no memory.
+    pub fn commit(&mut self)
+        ensures { self.new ≡ committed self.old }
+    {
+        self.whole = false;
+        self.items.commit();
+    }
+
+    /// Makes what is now what is next. It takes no memory.
+    pub fn discard(&mut self)
+        ensures { self.new ≡ discarded self.old }
+    {
+        self.items.discard();
     }
 }

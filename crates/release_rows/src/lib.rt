@@ -2,8 +2,10 @@
 #![tactic(auto)]
 
 mod conflict;
+mod edits;
 mod entry;
 mod file_text;
+mod finds;
 mod join;
 mod key_rule;
 mod key_set;
@@ -12,6 +14,7 @@ mod load_items;
 mod load_stop;
 mod loading;
 mod nine_files;
+mod op_spans;
 mod operation;
 mod piece;
 mod place;
@@ -21,6 +24,8 @@ mod release;
 mod row_iter;
 mod row_key;
 mod row_text;
+mod search;
+mod stored_row;
 mod stretch;
 
 pub use key_rule::KeyRule;
@@ -31,5 +36,7 @@ pub use release::Release;
 pub use row_iter::Rows;
 pub use row_text::RowText;
 
+#[cfg(test)]
+mod edit_tests;
 #[cfg(test)]
 mod tests;

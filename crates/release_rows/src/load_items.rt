@@ -22,6 +22,7 @@ use ucd_model::{ListOf, Memory, SourceFile, Text};
 #[tactic(auto, unfolding(crate::specs::Loading::file_or_fault, ucd_model::specs::Limits::file_limit))]
 pub fn load_items(alloc: Global, file: SourceFile, bytes: &[u8]) -> Result<FileText, LoadStop>
     requires { length bytes.now ≤ file_limit }
+    ensures file { IfOk result (λ lists. lists.file ≡ file) }
     ensures answer { LoadsItems result (file_or_fault file bytes.now) }
     ensures kept { IfOk result (λ lists. AreKept file lists.now) }
     ensures lossless { IfOk result (λ lists. bytes_of lists.now ≡ bytes.now) }

@@ -1,6 +1,7 @@
 //! Operations on the rows of a release.
 
 ghost use Rattle.std.specs.Prelude.{◌≡◌};
+ghost use Rattle.release_rows.specs.Operations.{op_file};
 
 use crate::key_rule::KeyRule;
 use source_rows::Key;
@@ -37,6 +38,17 @@ pub enum Op {
     },
 }
 
+impl Op {
+    /// The file of the operation.
+    pub fn file(&self) -> SourceFile
+        ensures { result ≡ op_file self.now }
+    {
+        match self {
+            Op::Add { file, .. } | Op::Change { file, .. } | Op::Withdraw { file, .. } => *file,
+        }
+    }
+}
+
 /// Operations, in order.
 pub type Ops = ListOf<Op>;
 
@@ -47,6 +59,17 @@ pub enum OpStop {
     Key(KeyRule),
     /// Memory ran out.
     Memory,
+}
+
+/// A rule that is broken is `OpStop::Key`.
+impl From<KeyRule> for OpStop {
+    ghost use Rattle.release_rows.specs.declared.operation.OpStop.TheVariants.{Key};
+
+    ghost from_gives = { λ rule e. e ≡ Key rule };
+
+    fn from(rule: KeyRule) -> OpStop {
+        OpStop::Key(rule)
+    }
 }
 
 /// Want of memory is `OpStop::Memory`.

@@ -4,15 +4,17 @@ ghost use Rattle.std.specs.Prelude.{◌≡◌, ◌≢◌, [], Ok, IfOk, OnOk};
 ghost use Rattle.ucd_model.specs.declared.files.SourceFile.{SourceFile as FileValue};
 ghost use Rattle.release_rows.specs.FileItems.{bytes_of};
 ghost use Rattle.release_rows.specs.Loading.{load_or_fault};
+ghost use Rattle.release_rows.specs.Operations.{AnswersOp, IsOp, op_file, op_or_rule, touched};
 ghost use Rattle.release_rows.specs.Releases.{AnswersLoad, AreKept, items_now, items_next, no_items, rows_at};
 
 use crate::load_items::load_items;
 use crate::load_stop::{LoadRule, LoadStop};
-use crate::nine_files::{NineFiles, items_at, no_items, put};
+use crate::nine_files::{NineFiles, commit_all, discard_all, items_at, no_items, prepare_in, put};
+use crate::operation::{Op, OpStop};
 use crate::row_iter::Rows;
 use std::alloc::Global;
 use std::marker::Model;
-use ucd_model::{Memory, SourceFile, Text, file_limit};
+use ucd_model::{Memory, SourceFile, Spans, Text, file_limit};
 
 /// The source files of a release. Contracts see the items of each file, now and next.
 ///
@@ -24,13 +26,15 @@ pub struct Release {
 }
 
 impl Model for Release {
+    ghost use Rattle.std.specs.Prelude.{◌≡◌, map};
+    ghost use Rattle.ucd_model.specs.SourceFiles.{source_files};
     ghost use Rattle.release_rows.specs.Releases.{ReleaseItems, AllAreKept, files_now, files_next};
 
     ghost Value = { ReleaseItems };
 
     ghost view = { λ r. record { current = files_now r.files; prepared = files_next r.files } };
 
-    ghost invariant = { λ r. AllAreKept (files_now r.files) × AllAreKept (files_next r.files) };
+    ghost invariant = { λ r. AllAreKept (files_now r.files) × AllAreKept (files_next r.files) × (map (λ lists. lists.file) r.files ≡ source_files) };
 }
 
 impl Release {
@@ -92,5 +96,36 @@ impl Release {
         ensures kept { AreKept file (items_next self.now file) }
     {
         items_at(&self.files, file).next_rows()
+    }
+
+    /// Carries an operation out on what is prepared, and answers the code points that it touches. Outside of them the
+    /// rows that speak of a code point stay (`rows_stay`).
+    ///
+    /// - `Key(K1)`: a row of the file has the key of the row that is added.
+    /// - `Key(K2)`: no row has the key of the row that is changed, or the key that is withdrawn.
+    /// - `Key(K4)`: the row overlaps another one where the file forbids it.
+    /// - `Memory`: memory ran out, or the text that the file is kept in would have 2^32 bytes or more.
+    ///
+    /// After each what is prepared is as it was.
+    pub fn prepare(&mut self, op: &Op) -> Result<Spans, OpStop>
+        requires { IsOp op.now }
+        ensures now { self.new.current ≡ self.old.current }
+        ensures answer { AnswersOp result (op_or_rule self.old.prepared op.now) (touched (items_next self.old (op_file op.now)) op.now) self.old.prepared self.new.prepared }
+    {
+        prepare_in(&mut self.files, self.alloc, op)
+    }
+
+    /// Makes what is prepared what is current. It takes no memory.
+    pub fn commit(&mut self)
+        ensures { self.new ≡ record { current = self.old.prepared; prepared = self.old.prepared } }
+    {
+        commit_all(&mut self.files);
+    }
+
+    /// Drops what is prepared: what is current is prepared again. It takes no memory.
+    pub fn discard(&mut self)
+        ensures { self.new ≡ record { current = self.old.current; prepared = self.old.current } }
+    {
+        discard_all(&mut self.files);
     }
 }

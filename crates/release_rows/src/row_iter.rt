@@ -40,7 +40,7 @@ impl<'a> Rows<'a> {
     /// The rows of these items of a text.
     pub(crate) fn new(file: SourceFile, text: &'a [u8], items: Entries<'a, Stretch>) -> Rows<'a>
         requires each { All (IsStored file text.now) items }
-        requires few { length items < 2 ^ 32 }
+        requires few { length items < 2 ^ 33 }
         ensures { result ≡ rows_at (map (stored_at file text.now) items.entry) }
     {
         Rows {

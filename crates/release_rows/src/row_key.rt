@@ -41,7 +41,7 @@ fn row_last(row: &Row) -> u32
 }
 
 /// Whether the rows of a file have spans that may not overlap.
-fn has_spans(file: SourceFile) -> bool
+pub fn has_spans(file: SourceFile) -> bool
     ensures { result ≡ has_spans file }
 {
     match file {

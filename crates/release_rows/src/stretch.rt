@@ -1,6 +1,6 @@
 //! Where an item of a file stands in the text of the file.
 
-ghost use Rattle.std.specs.Prelude.{◌≡◌, ◌+◌, ◌≤◌, length};
+ghost use Rattle.std.specs.Prelude.{◌≡◌, drop, take};
 ghost use Rattle.release_rows.specs.StoredItems.{content_at};
 
 use ucd_lines::Ending;
@@ -19,11 +19,29 @@ pub struct Stretch {
     pub lines: u8,
 }
 
+/// What stands behind the first `at` bytes; nothing where there are no more.
+fn behind(text: &[u8], at: usize) -> &[u8]
+    ensures { result.now ≡ drop at text.now }
+{
+    if at >= text.len() {
+        return &[];
+    }
+    &text[at..]
+}
+
+/// The first `len` bytes; all where there are no more.
+fn front(text: &[u8], len: usize) -> &[u8]
+    ensures { result.now ≡ take len text.now }
+{
+    if len >= text.len() {
+        return text;
+    }
+    &text[..len]
+}
+
 /// The content of an item in the text of its file.
 pub fn content_in(text: &[u8], stretch: Stretch) -> &[u8]
-    requires { stretch.start + stretch.len ≤ length text.now }
     ensures { result.now ≡ content_at text.now stretch }
 {
-    let start = stretch.start as usize;
-    &text[start..start + stretch.len as usize]
+    front(behind(text, stretch.start as usize), stretch.len as usize)
 }

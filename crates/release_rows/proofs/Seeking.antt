@@ -1,0 +1,129 @@
+-- What is looked for among entries is what is looked for among items.
+use Rattle.std.proofs.Common.{◌≡◌, ℕ, Bool, true, false, not, eqb, leb, ◌&&◌, List, [], ◌∷◌, Option, Some, None, Result, Ok, Err, refl, sym, ◌∙◌}
+use Rattle.std.specs.Cmp.Lexicographic.{slice_cmp}
+use Rattle.std.specs.Ordering.{ordering_then, nat_cmp, is_eq, is_lt}
+use Rattle.std.proofs.lemmas.Map.Text.{is_eq-slice_cmp}
+use Rattle.ucd_model.specs.Lines.{is_trivia}
+use Rattle.ucd_model.specs.declared.files.SourceFile.{SourceFile}
+use Rattle.ucd_model.specs.declared.row.Row.{Row}
+use Rattle.ucd_model.specs.declared.row.Row.TheVariants.{Unit as DataLine, Value as ValueLine, Exclusion as ExclusionLine, Fold as FoldLine, Casing as CasingLine, Alias as AliasLine}
+use Rattle.source_rows.specs.Faults.{row_or_fault}
+use Rattle.source_rows.specs.Keys.{row_span, key_names, key_code, code_number, same_texts}
+use Rattle.source_rows.specs.KeyNames.{ContentsHaveKeys, content_names, group_of, names_cmp}
+use Rattle.source_rows.specs.declared.fault.RowFault.{RowFault}
+use Rattle.part_list.specs.declared.spanned.Spanned.{Spanned}
+use Rattle.release_rows.specs.Keys.{has_spans, row_end, same_key}
+use Rattle.release_rows.specs.Loading.{content_row, row_read}
+use Rattle.release_rows.specs.Operations.{follows, overlaps_another, row_passes, same_group}
+use Rattle.release_rows.specs.Searches.{Sought, IsSoughtRow, comes_behind, has_names, is_alike, is_of_group, meets_another, starts_alike}
+use Rattle.release_rows.specs.StoredItems.{HasSpan, IsStored, content_at, item_at, stored_at}
+use Rattle.release_rows.specs.declared.stretch.Stretch.{Stretch}
+use Rattle.release_rows.proofs.Texts.{is_eq-then}
+
+-- ---- what is stored is trivia, or reads as its row
+
+abbrev pub StoredAs : SourceFile → List ℕ → Option Row → Type 0
+StoredAs file content None = is_trivia content ≡ true
+StoredAs file content (Some row) = (is_trivia content ≡ false) × (row_or_fault file content ≡ Ok row)
+
+stored_by : (file : SourceFile) (content : List ℕ) (t : Bool) (x : Result Row RowFault) → is_trivia content ≡ t → row_or_fault file content ≡ x → content_row file content ≡ Ok (row_read (content_row file content)) → StoredAs file content (row_read (content_row file content))
+stored_by file content true x e k h = rw e e
+stored_by file content false (Ok row) e k h = rw (e, k) (e, k)
+stored_by file content false (Err fault) e k h = let a = (rw (e, k) at h) in absurd cc
+
+pub stored_as : (file : SourceFile) (text : List ℕ) (e : Spanned Stretch) → IsStored file text e → StoredAs file (content_at text e.item) (item_at file text e.item).row
+stored_as file text e h = stored_by file (content_at text e.item) (is_trivia (content_at text e.item)) (row_or_fault file (content_at text e.item)) refl refl h.item.is_read
+
+-- ---- names and groups
+
+pub names_equal : (a b : List (List ℕ)) → is_eq (names_cmp a b) ≡ same_texts a b
+names_equal [] [] = refl
+names_equal [] (y ∷ b) = refl
+names_equal (x ∷ a) [] = refl
+names_equal (x ∷ a) (y ∷ b) = is_eq-then (slice_cmp nat_cmp x y) (names_cmp a b) ∙ rw (is_eq-slice_cmp x y, names_equal a b) refl
+
+names_alike : (file : SourceFile) (c : List ℕ) (row r : Row) → ContentsHaveKeys → is_trivia c ≡ false → row_or_fault file c ≡ Ok r → has_names file (key_names file row) c ≡ same_texts (key_names file row) (key_names file r)
+names_alike file c row r law t h = rw (t, ← (law file c r h).names) (names_equal (key_names file row) (key_names file r))
+
+group_alike : (file : SourceFile) (c : List ℕ) (row r : Row) → ContentsHaveKeys → is_trivia c ≡ false → row_or_fault file c ≡ Ok r → is_of_group file (group_of file row) c ≡ same_group file row r
+group_alike file c row r law t h = rw (t, ← (law file c r h).group) refl
+
+pub and_false : (a : Bool) → (a && false) ≡ false
+and_false true = refl
+and_false false = refl
+
+pub and_swap : (a b : Bool) → (a && b) ≡ (b && a)
+and_swap true true = refl
+and_swap true false = refl
+and_swap false true = refl
+and_swap false false = refl
+
+pub code_is : (row : Row) → code_number (key_code row) ≡ (row_span row).lo
+code_is (DataLine row) = refl
+code_is (ValueLine row) = refl
+code_is (ExclusionLine row) = refl
+code_is (FoldLine row) = refl
+code_is (CasingLine row) = refl
+code_is (AliasLine row) = refl
+
+-- ---- the same key
+
+key_by : (file : SourceFile) (text : List ℕ) (e : Spanned Stretch) (row : Row) (o : Option Row) → ContentsHaveKeys → (item_at file text e.item).row ≡ o → StoredAs file (content_at text e.item) o → HasSpan file o e.code e.last → (eqb (row_span row).lo e.code && has_names file (key_names file row) (content_at text e.item)) ≡ row_passes (same_key file row) (stored_at file text e)
+key_by file text e row None law is st span = rw (is, st) (and_false (eqb (row_span row).lo e.code))
+key_by file text e row (Some r) law is st span =
+    rw (is, names_alike file (content_at text e.item) row r law st.0 st.1, span.0) (and_swap (eqb (row_span row).lo (row_span r).lo) (same_texts (key_names file row) (key_names file r)))
+
+pub key_found : (file : SourceFile) (text : List ℕ) (e : Spanned Stretch) (row : Row) (s : Sought) → ContentsHaveKeys → IsSoughtRow file row text s → IsStored file text e → starts_alike s e ≡ row_passes (same_key file row) (stored_at file text e)
+key_found file text e row s law i h =
+    rw (i.file_is, i.text_is, i.code, i.names) (key_by file text e row (item_at file text e.item).row law refl (stored_as file text e h) h.span)
+
+-- ---- an overlap with another row
+
+meets_by : (spans code names meets : Bool) → (spans && (not code && (meets && names))) ≡ (not (names && code) && (spans && (names && meets)))
+meets_by true true true true = refl
+meets_by true true true false = refl
+meets_by true true false true = refl
+meets_by true true false false = refl
+meets_by true false true true = refl
+meets_by true false true false = refl
+meets_by true false false true = refl
+meets_by true false false false = refl
+meets_by false true true meets = refl
+meets_by false true false meets = refl
+meets_by false false true meets = refl
+meets_by false false false meets = refl
+
+another_by : (file : SourceFile) (text : List ℕ) (e : Spanned Stretch) (row : Row) (spans : Bool) (o : Option Row) → ContentsHaveKeys → has_spans file ≡ spans → (item_at file text e.item).row ≡ o → StoredAs file (content_at text e.item) o → HasSpan file o e.code e.last → (has_spans file && (not (eqb (row_span row).lo e.code) && ((leb (row_span row).lo e.last && leb e.code (row_end file row)) && has_names file (key_names file row) (content_at text e.item)))) ≡ row_passes (overlaps_another file row) (stored_at file text e)
+another_by file text e row true None law sp is st span = rw (is, st, sp) (none (not (eqb (row_span row).lo e.code)) (leb (row_span row).lo e.last && leb e.code (row_span row).hi))
+  where
+    none : (a b : Bool) → (true && (a && (b && false))) ≡ false
+    none true true = refl
+    none true false = refl
+    none false b = refl
+another_by file text e row false None law sp is st span = rw (is, sp) refl
+another_by file text e row true (Some r) law sp is st span =
+    rw (is, names_alike file (content_at text e.item) row r law st.0 st.1, span.0, span.1, sp) (meets_by true (eqb (row_span row).lo (row_span r).lo) (same_texts (key_names file row) (key_names file r)) (leb (row_span row).lo (row_span r).hi && leb (row_span r).lo (row_span row).hi))
+another_by file text e row false (Some r) law sp is st span = rw (is, sp) (sym (and_false (not (same_key file row r))))
+
+pub another_found : (file : SourceFile) (text : List ℕ) (e : Spanned Stretch) (row : Row) (s : Sought) → ContentsHaveKeys → IsSoughtRow file row text s → IsStored file text e → meets_another s e ≡ row_passes (overlaps_another file row) (stored_at file text e)
+another_found file text e row s law i h =
+    rw (i.file_is, i.text_is, i.code, i.last, i.names) (another_by file text e row (has_spans file) (item_at file text e.item).row law refl refl (stored_as file text e h) h.span)
+
+-- ---- the group
+
+alike_by : (file : SourceFile) (text : List ℕ) (e : Spanned Stretch) (row : Row) (o : Option Row) → ContentsHaveKeys → (item_at file text e.item).row ≡ o → StoredAs file (content_at text e.item) o → is_of_group file (group_of file row) (content_at text e.item) ≡ row_passes (same_group file row) (stored_at file text e)
+alike_by file text e row None law is st = rw (is, st) refl
+alike_by file text e row (Some r) law is st = rw is (group_alike file (content_at text e.item) row r law st.0 st.1)
+
+pub alike_found : (file : SourceFile) (text : List ℕ) (e : Spanned Stretch) (row : Row) (s : Sought) → ContentsHaveKeys → IsSoughtRow file row text s → IsStored file text e → is_alike s e ≡ row_passes (same_group file row) (stored_at file text e)
+alike_found file text e row s law i h =
+    rw (i.file_is, i.text_is, i.group) (alike_by file text e row (item_at file text e.item).row law refl (stored_as file text e h))
+
+behind_by : (file : SourceFile) (text : List ℕ) (e : Spanned Stretch) (row : Row) (o : Option Row) → ContentsHaveKeys → (item_at file text e.item).row ≡ o → StoredAs file (content_at text e.item) o → HasSpan file o e.code e.last → (is_of_group file (group_of file row) (content_at text e.item) && is_lt (ordering_then (nat_cmp (row_span row).lo e.code) (names_cmp (key_names file row) (content_names file (content_at text e.item))))) ≡ row_passes (follows file row) (stored_at file text e)
+behind_by file text e row None law is st span = rw (is, st) refl
+behind_by file text e row (Some r) law is st span =
+    rw (is, group_alike file (content_at text e.item) row r law st.0 st.1, ← (law file (content_at text e.item) r st.1).names, span.0, ← code_is row, ← code_is r) refl
+
+pub behind_found : (file : SourceFile) (text : List ℕ) (e : Spanned Stretch) (row : Row) (s : Sought) → ContentsHaveKeys → IsSoughtRow file row text s → IsStored file text e → comes_behind s e ≡ row_passes (follows file row) (stored_at file text e)
+behind_found file text e row s law i h =
+    rw (i.file_is, i.text_is, i.code, i.names, i.group) (behind_by file text e row (item_at file text e.item).row law refl (stored_as file text e h) h.span)

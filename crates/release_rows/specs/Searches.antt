@@ -1,0 +1,87 @@
+-- What is looked for among the entries of a file, by the code points of an entry and the content in which its item stands.
+--
+-- is_row content                         the content is no trivia
+-- has_names file names content           it is that of a row, in whose key are these names
+-- is_of_group file group content         it is that of a row of the group of this name
+-- starts_alike, meets_another, comes_behind, is_alike   the entry has the key of these names and this code point; it has another
+--                                        one and overlaps the code points from this one to the last; it is of the group and has a
+--                                        greater key; it is of the group
+-- Sought                                 what is looked for: the test, the file and its text, the first code point and the last one, and
+--                                        the names of the key and of the group
+-- with_test sought test                  the same with another test
+-- entry_passes sought e                  the entry passes the test
+-- row_test test file row                 the test of rows that the test of entries stands for; none passes where each entry does
+-- IsSoughtRow file row text s            what is looked for are the code points, the key and the group of this row
+use Rattle.std.specs.Prelude.{◌≡◌, ℕ, Bool, true, false, ◌&&◌, not, List, ◌==◌, nat_le}
+use Rattle.std.specs.Ordering.{ordering_then, nat_cmp, is_eq, is_lt}
+use Rattle.std.specs.Str.{bytes_eq}
+use Rattle.ucd_model.specs.Lines.{is_trivia}
+use Rattle.ucd_model.specs.declared.files.SourceFile.{SourceFile}
+use Rattle.ucd_model.specs.declared.row.Row.{Row}
+use Rattle.source_rows.specs.Keys.{row_span, key_names}
+use Rattle.source_rows.specs.KeyNames.{content_group, content_names, group_of, names_cmp}
+use Rattle.part_list.specs.declared.spanned.Spanned.{Spanned}
+use Rattle.release_rows.specs.Keys.{has_spans, row_end, same_key}
+use Rattle.release_rows.specs.Operations.{follows, overlaps_another, same_group}
+use Rattle.release_rows.specs.StoredItems.{content_at}
+use Rattle.release_rows.specs.declared.search.Test.{Test}
+use Rattle.release_rows.specs.declared.search.Test.TheVariants.{SameKey, OverlapsAnother, Follows, SameGroup, Any}
+use Rattle.release_rows.specs.declared.stretch.Stretch.{Stretch}
+
+abbrev pub is_row : List ℕ → Bool
+is_row content = not (is_trivia content)
+
+abbrev pub has_names : SourceFile → List (List ℕ) → List ℕ → Bool
+has_names file names content = is_row content && is_eq (names_cmp names (content_names file content))
+
+abbrev pub is_of_group : SourceFile → List ℕ → List ℕ → Bool
+is_of_group file group content = is_row content && bytes_eq group (content_group file content)
+
+pub record Sought : Type 0 where
+  pub test : Test
+  pub file : SourceFile
+  pub text : List ℕ
+  pub code : ℕ
+  pub last : ℕ
+  pub names : List (List ℕ)
+  pub group : List ℕ
+
+abbrev pub with_test : Sought → Test → Sought
+with_test s test = record { test = test; file = s.file; text = s.text; code = s.code; last = s.last; names = s.names; group = s.group }
+
+abbrev pub starts_alike : Sought → Spanned Stretch → Bool
+starts_alike s e = (s.code == e.code) && has_names s.file s.names (content_at s.text e.item)
+
+abbrev pub meets_another : Sought → Spanned Stretch → Bool
+meets_another s e = has_spans s.file && (not (s.code == e.code) && ((nat_le s.code e.last && nat_le e.code s.last) && has_names s.file s.names (content_at s.text e.item)))
+
+abbrev pub is_alike : Sought → Spanned Stretch → Bool
+is_alike s e = is_of_group s.file s.group (content_at s.text e.item)
+
+abbrev pub comes_behind : Sought → Spanned Stretch → Bool
+comes_behind s e = is_alike s e && is_lt (ordering_then (nat_cmp s.code e.code) (names_cmp s.names (content_names s.file (content_at s.text e.item))))
+
+abbrev passes_by : Test → Sought → Spanned Stretch → Bool
+passes_by SameKey s e = starts_alike s e
+passes_by OverlapsAnother s e = meets_another s e
+passes_by Follows s e = comes_behind s e
+passes_by SameGroup s e = is_alike s e
+passes_by Any s e = true
+
+abbrev pub entry_passes : Sought → Spanned Stretch → Bool
+entry_passes s e = passes_by s.test s e
+
+abbrev pub row_test : Test → SourceFile → Row → Row → Bool
+row_test SameKey file row other = same_key file row other
+row_test OverlapsAnother file row other = overlaps_another file row other
+row_test Follows file row other = follows file row other
+row_test SameGroup file row other = same_group file row other
+row_test Any file row other = false
+
+pub record IsSoughtRow (file : SourceFile) (row : Row) (text : List ℕ) (s : Sought) : Type 0 where
+  pub file_is : s.file ≡ file
+  pub text_is : s.text ≡ text
+  pub code : s.code ≡ (row_span row).lo
+  pub last : s.last ≡ row_end file row
+  pub names : s.names ≡ key_names file row
+  pub group : s.group ≡ group_of file row

@@ -1,0 +1,93 @@
+//! Edits of the entries of a file, next.
+
+ghost use Rattle.std.specs.Prelude.{◌≡◌, ℕ, ◌+◌, List, length, map, OnOk, OnErr};
+ghost use Rattle.std.specs.List.{All};
+ghost use Rattle.ucd_model.specs.declared.files.SourceFile.{SourceFile as FileValue};
+ghost use Rattle.ucd_model.specs.declared.row.Row.{Row as RowValue};
+ghost use Rattle.part_list.specs.Parts.{next_in, now_in};
+ghost use Rattle.release_rows.specs.Gaps.{IsGapAt};
+ghost use Rattle.release_rows.specs.Operations.{place_in, put_in, with_end};
+ghost use Rattle.release_rows.specs.Searches.{IsSoughtRow};
+ghost use Rattle.release_rows.specs.StoredItems.{stored_at, IsStored};
+
+use crate::search::{Search, Test};
+use crate::stretch::Stretch;
+use part_list::{PartList, Spanned, Spot};
+use source_rows::contents_have_keys;
+use ucd_lines::Ending;
+use ucd_model::Memory;
+
+/// Where an entry is put.
+#[derive(Clone, Copy, Debug)]
+pub enum Gap {
+    /// Before this one, which is the first.
+    Front(Spot),
+    /// Behind this one.
+    Behind(Spot),
+    /// There are no entries.
+    Only,
+}
+
+/// Where a row that is added has its place: before the first one of its group that has a greater key; if none has, behind
+/// the last one of its group; if there is none, behind all.
+pub fn gap_for(items: &PartList<Stretch>, search: &Search<'_>) -> Gap
+    requires each { All (IsStored search.now.file search.now.text) (next_in items.now) }
+    ensures { (row : RowValue) → IsSoughtRow search.now.file row search.now.text search.now → IsGapAt result (place_in search.now.file row (map (stored_at search.now.file search.now.text) (next_in items.now))) items.now.next }
+{
+    contents_have_keys();
+    if let Some(spot) = items.first(&search.with(Test::Follows)) {
+        return match items.before(spot) {
+            Some(before) => Gap::Behind(before),
+            None => Gap::Front(spot),
+        };
+    }
+    if let Some(spot) = items.last(&search.with(Test::SameGroup)) {
+        return Gap::Behind(spot);
+    }
+    match items.last(&search.with(Test::Any)) {
+        Some(spot) => Gap::Behind(spot),
+        None => Gap::Only,
+    }
+}
+
+/// The entry, with a LF where it has no line end.
+fn with_end(entry: Spanned<Stretch>) -> Spanned<Stretch>
+    ensures item { (file : FileValue) (text : List ℕ) → stored_at file text result ≡ with_end (stored_at file text entry) }
+    ensures stored { (file : FileValue) (text : List ℕ) → IsStored file text entry → IsStored file text result }
+{
+    match entry.item.ending {
+        Ending::None => Spanned {
+            item: Stretch {
+                ending: Ending::Lf,
+                ..entry.item
+            },
+            ..entry
+        },
+        Ending::Lf | Ending::CrLf => entry,
+    }
+}
+
+/// Puts an entry there next. The one before it has a line end then.
+///
+/// - `Memory`: memory ran out. The entries stay as they were.
+pub fn put_in(
+    items: &mut PartList<Stretch>,
+    gap: Gap,
+    entry: Spanned<Stretch>,
+) -> Result<(), Memory>
+    requires { (n : ℕ) × IsGapAt gap n items.old.next }
+    ensures now { now_in items.new ≡ now_in items.old }
+    ensures ok { (file : FileValue) (text : List ℕ) (n : ℕ) → IsGapAt gap n items.old.next → OnOk result (map (stored_at file text) (next_in items.new) ≡ put_in (map (stored_at file text) (next_in items.old)) n (stored_at file text entry)) }
+    ensures each { (file : FileValue) (text : List ℕ) → All (IsStored file text) (next_in items.old) → IsStored file text entry → OnOk result (All (IsStored file text) (next_in items.new)) }
+    ensures len { OnOk result (length (next_in items.new) ≡ length (next_in items.old) + 1) }
+    ensures err { OnErr result (items.new ≡ items.old) }
+{
+    match gap {
+        Gap::Front(spot) => items.insert(spot, entry),
+        Gap::Behind(spot) => {
+            let ended = with_end(items.get(spot));
+            items.replace_and_insert(spot, ended, entry)
+        }
+        Gap::Only => items.push_next(entry),
+    }
+}

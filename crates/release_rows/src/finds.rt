@@ -1,0 +1,114 @@
+//! What an operation finds among the entries of a file: its row's place, or the rule that it breaks.
+
+ghost use Rattle.std.specs.Prelude.{◌≡◌, Ok};
+ghost use Rattle.std.specs.List.{All};
+ghost use Rattle.ucd_model.specs.declared.row.Row.{Row as RowValue};
+ghost use Rattle.source_rows.specs.Faults.{row_or_fault};
+ghost use Rattle.source_rows.specs.Keys.{key_of};
+ghost use Rattle.part_list.specs.Parts.{next_in};
+ghost use Rattle.release_rows.specs.Finding.{FindsGap, FindsRow, FindsSpot, items_of};
+ghost use Rattle.release_rows.specs.Operations.{has_key};
+ghost use Rattle.release_rows.specs.Searches.{IsSoughtRow};
+ghost use Rattle.release_rows.specs.StoredItems.{IsStored};
+
+use crate::edits::{Gap, gap_for};
+use crate::key_rule::KeyRule;
+use crate::op_spans::{code_of, has_code};
+use crate::row_key::row_end;
+use crate::search::{Search, Test};
+use crate::stretch::Stretch;
+use part_list::{PartList, Spot};
+use source_rows::{Key, content_group, contents_have_keys};
+use ucd_model::{Row, SourceFile};
+
+/// What is looked for of an operation's row, with its key and the bytes that it is read from.
+pub fn search_row<'a>(
+    file: SourceFile,
+    text: &'a [u8],
+    row: &Row,
+    key: &'a Key,
+    bytes: &'a [u8],
+) -> Search<'a>
+    requires key { key.now ≡ key_of file row.now }
+    requires reads { row_or_fault file bytes.now ≡ Ok row.now }
+    ensures { IsSoughtRow file row.now text.now result }
+{
+    contents_have_keys();
+    Search {
+        test: Test::Any,
+        file,
+        text,
+        code: code_of(key),
+        last: row_end(file, row),
+        names: key.names.as_slice(),
+        group: content_group(file, bytes),
+    }
+}
+
+/// Where the row of an addition has its place.
+///
+/// - `K1`: a row has its key.
+/// - `K4`: it overlaps a row.
+pub fn added_gap(items: &PartList<Stretch>, search: &Search<'_>) -> Result<Gap, KeyRule>
+    requires each { All (IsStored search.now.file search.now.text) (next_in items.now) }
+    ensures { (row : RowValue) → IsSoughtRow search.now.file row search.now.text search.now → FindsGap result search.now.file search.now.text row items.now.next }
+{
+    contents_have_keys();
+    if items.first(&search.with(Test::SameKey)).is_some() {
+        return Err(KeyRule::K1);
+    }
+    if items.first(&search.with(Test::OverlapsAnother)).is_some() {
+        return Err(KeyRule::K4);
+    }
+    Ok(gap_for(items, search))
+}
+
+/// Where the row stands that a change replaces.
+///
+/// - `K2`: no row has its key.
+/// - `K4`: it overlaps another row.
+pub fn changed_spot(items: &PartList<Stretch>, search: &Search<'_>) -> Result<Spot, KeyRule>
+    requires each { All (IsStored search.now.file search.now.text) (next_in items.now) }
+    ensures { (row : RowValue) → IsSoughtRow search.now.file row search.now.text search.now → FindsSpot result search.now.file search.now.text row items.now.next }
+{
+    contents_have_keys();
+    let Some(spot) = items.first(&search.with(Test::SameKey)) else {
+        return Err(KeyRule::K2);
+    };
+    if items.first(&search.with(Test::OverlapsAnother)).is_some() {
+        return Err(KeyRule::K4);
+    }
+    Ok(spot)
+}
+
+/// Where the row stands that has a key.
+///
+/// - `K2`: no row has it.
+pub fn withdrawn_spot(
+    items: &PartList<Stretch>,
+    file: SourceFile,
+    text: &[u8],
+    key: &Key,
+) -> Result<Spot, KeyRule>
+    requires each { All (IsStored file text.now) (next_in items.now) }
+    ensures { FindsRow result (has_key file key.now) (items_of file text.now items.now.next) items.now.next }
+{
+    contents_have_keys();
+    if key.code.is_some() != has_code(file) {
+        return Err(KeyRule::K2);
+    }
+    let code = code_of(key);
+    let search = Search {
+        test: Test::SameKey,
+        file,
+        text,
+        code,
+        last: code,
+        names: key.names.as_slice(),
+        group: &[],
+    };
+    match items.first(&search) {
+        Some(spot) => Ok(spot),
+        None => Err(KeyRule::K2),
+    }
+}

@@ -1,0 +1,141 @@
+//! Looks for rows among the entries of a file.
+
+ghost use Rattle.std.specs.Prelude.{◌≡◌};
+ghost use Rattle.release_rows.specs.Searches.{comes_behind, has_names, is_alike, meets_another, starts_alike, with_test};
+
+use crate::row_key::has_spans;
+use crate::stretch::{Stretch, content_in};
+use part_list::{Reach, Seek, Spanned};
+use source_rows::{compare_names, content_group};
+use std::marker::Model;
+use ucd_lines::is_trivia;
+use ucd_model::{SourceFile, Text};
+
+/// What an entry is tested for.
+#[derive(Clone, Copy, Debug)]
+pub enum Test {
+    /// It has the key that is looked for.
+    SameKey,
+    /// It has another key, and overlaps the code points that are looked for where the file forbids it.
+    OverlapsAnother,
+    /// It is of the group that is looked for, and has a greater key.
+    Follows,
+    /// It is of the group that is looked for.
+    SameGroup,
+    /// Nothing: each entry passes.
+    Any,
+}
+
+/// What is looked for in the text of a file. Contracts see its parts.
+#[derive(Drop)]
+pub struct Search<'a> {
+    /// What an entry is tested for.
+    pub test: Test,
+    /// The file.
+    pub file: SourceFile,
+    /// Its text.
+    pub text: &'a [u8],
+    /// The first code point, as a number.
+    pub code: u32,
+    /// The last code point, as a number.
+    pub last: u32,
+    /// The names of the key.
+    pub names: &'a [Text],
+    /// The name of the group.
+    pub group: &'a [u8],
+}
+
+impl<'a> Model for Search<'a> {
+    ghost use Rattle.release_rows.specs.Searches.{Sought};
+
+    ghost Value = { Sought };
+
+    ghost view = { λ s. record { test = s.test; file = s.file; text = s.text.now; code = s.code; last = s.last; names = s.names.now; group = s.group.now } };
+}
+
+impl<'a> Search<'a> {
+    /// The same with another test.
+    pub fn with(&self, test: Test) -> Search<'a>
+        ensures { result ≡ with_test self.now test }
+    {
+        Search {
+            test,
+            file: self.file,
+            text: self.text,
+            code: self.code,
+            last: self.last,
+            names: self.names,
+            group: self.group,
+        }
+    }
+
+    /// Whether this is the content of a row with the names that are looked for.
+    fn has_names(&self, content: &[u8]) -> bool
+        ensures { result ≡ has_names self.now.file self.now.names content.now }
+    {
+        !is_trivia(content) && compare_names(self.file, self.names, content).is_eq()
+    }
+
+    /// Whether the entry has the key that is looked for.
+    fn starts_alike(&self, entry: &Spanned<Stretch>) -> bool
+        ensures { result ≡ starts_alike self.now entry.now }
+    {
+        self.code == entry.code && self.has_names(content_in(self.text, entry.item))
+    }
+
+    /// Whether the entry has another key, and overlaps what is looked for where the file forbids it.
+    fn meets_another(&self, entry: &Spanned<Stretch>) -> bool
+        ensures { result ≡ meets_another self.now entry.now }
+    {
+        has_spans(self.file)
+            && self.code != entry.code
+            && self.code <= entry.last
+            && entry.code <= self.last
+            && self.has_names(content_in(self.text, entry.item))
+    }
+
+    /// Whether the entry is of the group that is looked for.
+    fn is_alike(&self, entry: &Spanned<Stretch>) -> bool
+        ensures { result ≡ is_alike self.now entry.now }
+    {
+        let content = content_in(self.text, entry.item);
+        !is_trivia(content) && self.group == content_group(self.file, content)
+    }
+
+    /// Whether the entry is of the group that is looked for, and has a greater key.
+    fn comes_behind(&self, entry: &Spanned<Stretch>) -> bool
+        ensures { result ≡ comes_behind self.now entry.now }
+    {
+        if !self.is_alike(entry) {
+            return false;
+        }
+        let content = content_in(self.text, entry.item);
+        let names = compare_names(self.file, self.names, content);
+        self.code.cmp(&entry.code).then(names).is_lt()
+    }
+}
+
+impl<'a> Seek<Stretch> for Search<'a> {
+    ghost use Rattle.release_rows.specs.Searches.{entry_passes};
+
+    ghost passing = { entry_passes };
+
+    fn passes(&self, entry: &Spanned<Stretch>) -> bool {
+        match self.test {
+            Test::SameKey => self.starts_alike(entry),
+            Test::OverlapsAnother => self.meets_another(entry),
+            Test::Follows => self.comes_behind(entry),
+            Test::SameGroup => self.is_alike(entry),
+            Test::Any => true,
+        }
+    }
+
+    fn skips(&self, reach: Reach) -> bool {
+        match self.test {
+            Test::SameKey => self.code < reach.least || reach.most < self.code,
+            Test::OverlapsAnother => self.last < reach.least || reach.most < self.code,
+            Test::Follows => reach.most < self.code,
+            Test::SameGroup | Test::Any => false,
+        }
+    }
+}

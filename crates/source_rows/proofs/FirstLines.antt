@@ -114,6 +114,13 @@ pair_is_first : (fs last : List (List ℕ)) → are_first_fields fs ≡ true →
 unfolding pair_or_fault unit_or_fault pair_end
 pair_is_first fs last first = rw first refl
 
+-- a first line by itself is no row
+pub no_row_alone : (fs : List (List ℕ)) (row : Row) → are_first_fields fs ≡ true → single_or_fault fs ≡ Ok row → ⊥
+no_row_alone fs row first =
+    let k = and_parts (eqb (length fs) 15) (has_first_name (field fs 1)) first in
+    let name = first_is_name (field fs 1) k.1 in
+    (first_line fs fs (point_of (field fs 0)) (values_or_fault fs) (first_label fs) (field fs 1) refl refl name refl (single_or_fault fs) (pair_or_fault fs fs) (single_is_first fs first name) (pair_is_first fs fs first)).no_row row
+
 pub first_lines_begin : FirstLinesBegin
 unfolding row_or_fault
 first_lines_begin front last one other first =

@@ -32,3 +32,5 @@ pub mod KeyGrammar
 pub mod KeyNames
 pub mod NameOrder
 pub mod Trivia
+pub mod RowLines
+pub mod KeyTexts

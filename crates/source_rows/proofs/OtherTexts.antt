@@ -31,24 +31,24 @@ use Rattle.source_rows.proofs.TextValues.{hex_firm, span_spelled, span_lacks, sp
 
 -- ---- pieces of a line, before they are trimmed
 
-record Piece (bs : List ℕ) : Type 0 where
-  no_semicolon : Lacks is_semicolon bs
-  no_hash : Lacks is_hash bs
-  no_feed : Lacks is_lf bs
+pub record Piece (bs : List ℕ) : Type 0 where
+  pub no_semicolon : Lacks is_semicolon bs
+  pub no_hash : Lacks is_hash bs
+  pub no_feed : Lacks is_lf bs
 
-piece : (bs : List ℕ) → ((p : ℕ → Bool) → Separates p → Lacks p bs) → Piece bs
+pub piece : (bs : List ℕ) → ((p : ℕ → Bool) → Separates p → Lacks p bs) → Piece bs
 piece bs lacks = record { no_semicolon = lacks is_semicolon semicolon_separates; no_hash = lacks is_hash hash_separates; no_feed = lacks is_lf feed_separates }
 
 piece_cons : (b : ℕ) (bs : List ℕ) → is_semicolon b ≡ false → is_hash b ≡ false → is_lf b ≡ false → Piece bs → Piece (b ∷ bs)
 piece_cons b bs s h f p = record { no_semicolon = lacks_cons is_semicolon b bs s p.no_semicolon; no_hash = lacks_cons is_hash b bs h p.no_hash; no_feed = lacks_cons is_lf b bs f p.no_feed }
 
-spaced : (bs : List ℕ) → Piece bs → Piece (32 ∷ bs)
+pub spaced : (bs : List ℕ) → Piece bs → Piece (32 ∷ bs)
 spaced bs p = piece_cons 32 bs refl refl refl p
 
-none : Piece []
+pub none : Piece []
 none = record { no_semicolon = refl; no_hash = refl; no_feed = refl }
 
-piece_both : (xs ys : List ℕ) → Piece xs → Piece ys → Piece (xs ++ ys)
+pub piece_both : (xs ys : List ℕ) → Piece xs → Piece ys → Piece (xs ++ ys)
 piece_both xs ys p q = record { no_semicolon = lacks_both is_semicolon xs ys p.no_semicolon q.no_semicolon; no_hash = lacks_both is_hash xs ys p.no_hash q.no_hash; no_feed = lacks_both is_lf xs ys p.no_feed q.no_feed }
 
 semicolons : (fs : List (List ℕ)) → All Piece fs → All (Lacks is_semicolon) fs
@@ -67,11 +67,11 @@ feeds (f ∷ fs) h = let k = All-head Piece f fs h in All-cons (Lacks is_lf) f f
 abbrev pub cut_fields : List ℕ → List (List ℕ)
 cut_fields text = fields_of (before_first is_hash text)
 
-record IsLine (text : List ℕ) (fs : List (List ℕ)) : Type 0 where
+pub record IsLine (text : List ℕ) (fs : List (List ℕ)) : Type 0 where
   pub no_feed : holds_line_feed text ≡ false
   pub cut : cut_fields text ≡ fs
 
-line_is : (text f : List ℕ) (fs gs : List (List ℕ)) → text ≡ join_with_byte 59 (f ∷ fs) → All Piece (f ∷ fs) → map trim (f ∷ fs) ≡ gs → IsLine text gs
+pub line_is : (text f : List ℕ) (fs gs : List (List ℕ)) → text ≡ join_with_byte 59 (f ∷ fs) → All Piece (f ∷ fs) → map trim (f ∷ fs) ≡ gs → IsLine text gs
 line_is text f fs gs e pieces trimmed =
     let no_hash : Lacks is_hash text = ap (λ (bs : List ℕ). list_any is_hash bs) e ∙ lacks_join is_hash 59 (f ∷ fs) refl (hashes (f ∷ fs) pieces) in
     let uncommented : before_first is_hash text ≡ join_with_byte 59 (f ∷ fs) = before_no_seam is_hash text no_hash ∙ e in
@@ -81,7 +81,7 @@ line_is text f fs gs e pieces trimmed =
       cut = ap (λ (bs : List ℕ). fields_of bs) uncommented ∙ ap (λ (parts : List (List ℕ)). map trim parts) split ∙ trimmed;
     }
 
-hex_piece : (c : ℕ) → Piece (hex_text c)
+pub hex_piece : (c : ℕ) → Piece (hex_text c)
 hex_piece c = piece (hex_text c) (λ p s. hex_lacks p s.digit c)
 
 mapping_piece : (cs : List ℕ) → Piece (mapping_text cs)
@@ -92,12 +92,12 @@ unfolding mapping_text
 mapping_trimmed [] = refl
 mapping_trimmed (c ∷ cs) = trim_firm (mapping_text (c ∷ cs)) (mapping_firm (c ∷ cs) (omega arith))
 
-spaced_trimmed : (bs : List ℕ) → IsTrimmed bs → trim (32 ∷ bs) ≡ bs
+pub spaced_trimmed : (bs : List ℕ) → IsTrimmed bs → trim (32 ∷ bs) ≡ bs
 spaced_trimmed bs h = space_before bs ∙ h
 
 -- ---- a span and a value
 
-value_piece : (bs : List ℕ) → IsValueName bs → Piece bs
+pub value_piece : (bs : List ℕ) → IsValueName bs → Piece bs
 value_piece bs v = record { no_semicolon = name_no_semicolon bs v.name; no_hash = v.no_hash; no_feed = name_no_feed bs v.name }
 
 value_joined : (row : ValueRow) → value_text row ≡ join_with_byte 59 ((span_text row.span ++ 32 ∷ []) ∷ (32 ∷ row.value) ∷ [])
@@ -249,7 +249,7 @@ behind_trims : (names : List (List ℕ)) → All IsAliasName names → map trim 
 behind_trims [] h = refl
 behind_trims (name ∷ names) h = rw (space_before (name_piece name names), name_trims name names (All-head IsAliasName name names h), behind_trims names (All-tail IsAliasName name names h)) refl
 
-all_names : (names : List (List ℕ)) → All IsAliasName names → list_all is_name_or_empty names ≡ true
+pub all_names : (names : List (List ℕ)) → All IsAliasName names → list_all is_name_or_empty names ≡ true
 all_names [] h = refl
 all_names (name ∷ names) h = let a = All-head IsAliasName name names h in and_from _ _ a.name (all_names names (All-tail IsAliasName name names h))
 
@@ -257,7 +257,7 @@ pub record AliasLine (least : ℕ) (row : AliasRow) : Type 0 where
   pub no_feed : holds_line_feed (alias_text row) ≡ false
   pub reads : ReadsAlias least (cut_fields (alias_text row)) row
 
-alias_line : (names : List (List ℕ)) → 0 < length names → All IsAliasName names → IsLine (names_text names) names
+pub alias_line : (names : List (List ℕ)) → 0 < length names → All IsAliasName names → IsLine (names_text names) names
 alias_line [] some h = absurd (omega arith)
 alias_line (name ∷ names) some h =
     let a = All-head IsAliasName name names h in

@@ -77,7 +77,7 @@ no_point [] h = refl
 no_point (b ∷ bs) h = rw (no_number b bs h) (either_none (leb 4 (length (b ∷ bs)) && leb (length (b ∷ bs)) 6))
 
 -- the first field of a line of UnicodeData.txt that is trivia
-no_code : (bs : List ℕ) → is_trivia bs ≡ true → point_of (field (fields UnicodeData bs) 0) ≡ None
+pub no_code : (bs : List ℕ) → is_trivia bs ≡ true → point_of (field (fields UnicodeData bs) 0) ≡ None
 unfolding fields
 no_code bs h = rw (first_is bs) (no_point (trim (before_first is_semicolon bs)) (trivia_trim (before_first is_semicolon bs) (trivia_take (position_or_len is_semicolon bs) bs h)))
 
@@ -165,7 +165,7 @@ no_line PropertyValueAliases bs row t h = no_value_alias (fields_of (before_firs
 
 -- ---- no row of two lines
 
-no_pair : (first last : List (List ℕ)) (row : Row) → point_of (field first 0) ≡ None → pair_or_fault first last ≡ Ok row → ⊥
+pub no_pair : (first last : List (List ℕ)) (row : Row) → point_of (field first 0) ≡ None → pair_or_fault first last ≡ Ok row → ⊥
 unfolding pair_or_fault
 no_pair first last row none h =
     let a = passed (are_first_fields first) _ G03 row h in

@@ -9,5 +9,7 @@ pub mod Ranges
 pub mod Keys
 pub mod KeyGrammar
 pub mod KeyNames
+pub mod KeyTexts
 pub mod Trivia
+pub mod RowLines
 pub mod Laws

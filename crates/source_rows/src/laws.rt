@@ -2,8 +2,10 @@
 
 ghost use Rattle.source_rows.specs.KeyGrammar.{KeysAreRead};
 ghost use Rattle.source_rows.specs.KeyNames.{ContentsHaveKeys};
+ghost use Rattle.source_rows.specs.KeyTexts.{KeyTextsReadBack};
 ghost use Rattle.source_rows.specs.Laws.{SpansAreSpelled, CategoriesAreNamed, RowsAreOk, RowsAreRead, SpellingsAreOne, TextsReadBack};
 ghost use Rattle.source_rows.specs.Ranges.{FirstLinesBegin};
+ghost use Rattle.source_rows.specs.RowLines.{RowsHaveLines};
 ghost use Rattle.source_rows.specs.Trivia.{RowsAreNoTrivia};
 
 /// The reader gives a row exactly where the grammar reads the bytes as that row.
@@ -54,4 +56,14 @@ pub fn rows_are_no_trivia()
 /// The names of a row's key and the name of its group stand in the content that it is read from.
 pub fn contents_have_keys()
     ensures { ContentsHaveKeys }
+{}
+
+/// The text of the key of a row that a file can have is read as that key.
+pub fn key_texts_read_back()
+    ensures { KeyTextsReadBack }
+{}
+
+/// A row has one line that begins no range, or the two lines of a range of UnicodeData.txt.
+pub fn rows_have_lines()
+    ensures { RowsHaveLines }
 {}

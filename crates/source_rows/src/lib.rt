@@ -39,8 +39,9 @@ pub use key::Key;
 pub use key_names::{compare_names, content_group};
 pub use keys::read_key;
 pub use laws::{
-    categories_are_named, contents_have_keys, first_lines_begin, keys_are_read, rows_are_no_trivia,
-    rows_are_ok, rows_are_read, spans_are_spelled, spellings_are_one, texts_read_back,
+    categories_are_named, contents_have_keys, first_lines_begin, key_texts_read_back,
+    keys_are_read, rows_are_no_trivia, rows_are_ok, rows_are_read, rows_have_lines,
+    spans_are_spelled, spellings_are_one, texts_read_back,
 };
 pub use read::read_row;
 pub use row_keys::row_key;

@@ -1,0 +1,144 @@
+-- The text of the key of a row that the file can have is read as that key.
+use Rattle.std.proofs.Common.{◌≡◌, ℕ, zero, suc, ◌<◌, true, false, List, [], ◌∷◌, ◌++◌, length, take, Some, None, refl, sym, ap, subst, ◌∙◌, append_assoc, arith}
+use Rattle.std.specs.Prelude.{codes}
+use Rattle.std.specs.List.{All}
+use Rattle.std.proofs.lemmas.List.{append-nil, length-take-le}
+use Rattle.std.proofs.lemmas.List.Elements.{All-nil, All-cons, All-take}
+use Rattle.ucd_model.specs.Lines.{holds_line_feed}
+use Rattle.ucd_model.specs.Names.{status_code}
+use Rattle.ucd_model.specs.Fields.{fields, field, trim, is_hash, is_name}
+use Rattle.ucd_model.specs.Mappings.{conditions_of}
+use Rattle.ucd_model.specs.DerivedText.{hex_text}
+use Rattle.ucd_model.specs.RowTexts.{names_text}
+use Rattle.ucd_model.specs.RowValues.{RowOk, IsTrimmed, IsAliasName, AliasOk}
+use Rattle.ucd_model.specs.HexTextProofs.{hex_text_spells_its_point}
+use Rattle.ucd_model.specs.declared.files.SourceFile.{SourceFile}
+use Rattle.ucd_model.specs.declared.files.SourceFile.TheVariants.{UnicodeData, PropList, Scripts, WordBreakProperty, CompositionExclusions, CaseFolding, SpecialCasing, PropertyAliases, PropertyValueAliases}
+use Rattle.ucd_model.specs.declared.row.AliasRow.{AliasRow}
+use Rattle.ucd_model.specs.declared.row.FoldStatus.{FoldStatus}
+use Rattle.ucd_model.specs.declared.row.FoldStatus.TheVariants.{C, F, S, T}
+use Rattle.ucd_model.specs.declared.row.Row.{Row}
+use Rattle.ucd_model.specs.declared.row.Row.TheVariants.{Unit as DataLine, Value as ValueLine, Exclusion as ExclusionLine, Fold as FoldLine, Casing as CasingLine, Alias as AliasLine}
+use Rattle.source_rows.specs.Fields.{fields_of}
+use Rattle.source_rows.specs.Keys.{key_of, condition_names}
+use Rattle.source_rows.specs.KeyGrammar.{ReadsKey, ReadsCodeKey, ReadsPropertyKey, ReadsFoldKey, ReadsCasingKey, ReadsAliasKey}
+use Rattle.source_rows.specs.KeyTexts.{behind_name, key_text, KeyTextsReadBack}
+use Rattle.source_rows.proofs.KeyGrammar.{keys_are_read}
+use Rattle.source_rows.proofs.OtherTexts.{Piece, IsLine, line_is, hex_piece, piece, piece_both, none, spaced, spaced_trimmed, value_piece, alias_line, all_names, cut_fields}
+use Rattle.source_rows.proofs.Seams.{before_no_seam}
+use Rattle.source_rows.proofs.TextValues.{hex_firm, status_reads, status_lacks}
+use Rattle.source_rows.proofs.Trims.{trim_firm, space_behind}
+use Rattle.source_rows.proofs.WordTexts.{spaced_trimmed as words_trimmed, conditions_are, conditions_no_feed, no_conditions}
+
+-- ---- lines of one field and of two
+
+code_line : (c : ℕ) → IsLine (hex_text c) (hex_text c ∷ [])
+code_line c = line_is (hex_text c) (hex_text c) [] (hex_text c ∷ []) refl (All-cons Piece (hex_text c) [] (hex_piece c) (All-nil Piece)) (rw (trim_firm (hex_text c) (hex_firm c)) refl)
+
+-- with a name behind the code point, and a space before the name
+two_line : (c : ℕ) (name : List ℕ) → Piece name → IsTrimmed name → IsLine (hex_text c ++ 59 ∷ 32 ∷ name) (hex_text c ∷ name ∷ [])
+two_line c name p t =
+    let pieces = All-cons Piece (hex_text c) ((32 ∷ name) ∷ []) (hex_piece c) (All-cons Piece (32 ∷ name) [] (spaced name p) (All-nil Piece)) in
+    line_is (hex_text c ++ 59 ∷ 32 ∷ name) (hex_text c) ((32 ∷ name) ∷ []) (hex_text c ∷ name ∷ []) refl pieces (rw (trim_firm (hex_text c) (hex_firm c), spaced_trimmed name t) refl)
+
+-- and one behind the code point
+three_line : (c : ℕ) (name : List ℕ) → Piece name → IsTrimmed name → IsLine (hex_text c ++ 32 ∷ 59 ∷ 32 ∷ name) (hex_text c ∷ name ∷ [])
+three_line c name p t =
+    let pieces = All-cons Piece (hex_text c ++ 32 ∷ []) ((32 ∷ name) ∷ []) (piece_both (hex_text c) (32 ∷ []) (hex_piece c) (spaced [] none)) (All-cons Piece (32 ∷ name) [] (spaced name p) (All-nil Piece)) in
+    line_is (hex_text c ++ 32 ∷ 59 ∷ 32 ∷ name) (hex_text c ++ 32 ∷ []) ((32 ∷ name) ∷ []) (hex_text c ∷ name ∷ []) (sym (append_assoc (hex_text c) (32 ∷ []) (59 ∷ 32 ∷ name))) pieces (rw (space_behind (hex_text c), trim_firm (hex_text c) (hex_firm c), spaced_trimmed name t) refl)
+
+-- ---- a code point
+
+code_key_reads : (c : ℕ) (fs : List (List ℕ)) → c < 1114112 → fs ≡ hex_text c ∷ [] → ReadsCodeKey fs (record { code = Some c; names = [] })
+code_key_reads c fs small e = subst (λ (gs : List (List ℕ)). ReadsCodeKey gs (record { code = Some c; names = [] })) (sym e) (record { count = refl; point = c; spelled = hex_text_spells_its_point c small; code = refl; names = refl })
+
+data_fields : (c : ℕ) → fields_of (hex_text c) ≡ hex_text c ∷ []
+data_fields c = ap fields_of (sym (before_no_seam is_hash (hex_text c) (hex_piece c).no_hash)) ∙ (code_line c).cut
+
+coded : (c : ℕ) → c < 1114112 → (holds_line_feed (hex_text c) ≡ false) × ReadsCodeKey (cut_fields (hex_text c)) (record { code = Some c; names = [] })
+coded c small = ((code_line c).no_feed, code_key_reads c (cut_fields (hex_text c)) small (code_line c).cut)
+
+-- ---- a code point and a name
+
+fold_key_reads : (c : ℕ) (s : FoldStatus) (fs : List (List ℕ)) → c < 1114112 → fs ≡ hex_text c ∷ (status_code s ∷ []) ∷ [] → ReadsFoldKey fs (record { code = Some c; names = (status_code s ∷ []) ∷ [] })
+fold_key_reads c s fs small e = subst (λ (gs : List (List ℕ)). ReadsFoldKey gs (record { code = Some c; names = (status_code s ∷ []) ∷ [] })) (sym e) (record { count = refl; point = c; spelled = hex_text_spells_its_point c small; code = refl; status = s; lettered = status_reads s; names = refl })
+
+status_line : (c : ℕ) (s : FoldStatus) → IsLine (hex_text c ++ 59 ∷ 32 ∷ status_code s ∷ []) (hex_text c ∷ (status_code s ∷ []) ∷ [])
+status_line c s = two_line c (status_code s ∷ []) (piece (status_code s ∷ []) (λ p separates. status_lacks p (λ b low high. separates.high b (omega arith) high) s)) (status_is_trimmed s)
+  where
+    status_is_trimmed : (s : FoldStatus) → IsTrimmed (status_code s ∷ [])
+    status_is_trimmed C = refl
+    status_is_trimmed F = refl
+    status_is_trimmed S = refl
+    status_is_trimmed T = refl
+
+property_key_reads : (c : ℕ) (name : List ℕ) (fs : List (List ℕ)) → c < 1114112 → is_name name ≡ true → fs ≡ hex_text c ∷ name ∷ [] → ReadsPropertyKey fs (record { code = Some c; names = name ∷ [] })
+property_key_reads c name fs small named e = subst (λ (gs : List (List ℕ)). ReadsPropertyKey gs (record { code = Some c; names = name ∷ [] })) (sym e) (record { count = refl; point = c; spelled = hex_text_spells_its_point c small; code = refl; named = named; names = refl })
+
+-- ---- a code point and conditions
+
+record CasingKey (c : ℕ) (cs : List ℕ) (text : List ℕ) : Type 0 where
+  no_feed : holds_line_feed text ≡ false
+  reads : ReadsCasingKey (cut_fields text) (record { code = Some c; names = condition_names cs })
+
+casing_key_reads : (c : ℕ) (cs : List ℕ) → c < 1114112 → conditions_of cs ≡ Some cs → Piece cs → IsTrimmed cs → CasingKey c cs (hex_text c ++ behind_name (codes "; ") (condition_names cs))
+casing_key_reads c [] small ok p t =
+    let line : IsLine (hex_text c ++ []) (hex_text c ∷ []) = subst (λ (text : List ℕ). IsLine text (hex_text c ∷ [])) (sym (append-nil (hex_text c))) (code_line c) in
+    let reads : ReadsCasingKey (hex_text c ∷ []) (record { code = Some c; names = [] }) = record { most = omega arith; point = c; spelled = hex_text_spells_its_point c small; code = refl; conditions = []; worded = no_conditions; names = refl } in
+    record { no_feed = line.no_feed; reads = subst (λ (fs : List (List ℕ)). ReadsCasingKey fs (record { code = Some c; names = [] })) (sym line.cut) reads }
+casing_key_reads c (b ∷ bs) small ok p t =
+    let line = two_line c (b ∷ bs) p t in
+    let reads : ReadsCasingKey (hex_text c ∷ (b ∷ bs) ∷ []) (record { code = Some c; names = (b ∷ bs) ∷ [] }) = record { most = omega arith; point = c; spelled = hex_text_spells_its_point c small; code = refl; conditions = b ∷ bs; worded = ok; names = refl } in
+    record { no_feed = line.no_feed; reads = subst (λ (fs : List (List ℕ)). ReadsCasingKey fs (record { code = Some c; names = (b ∷ bs) ∷ [] })) (sym line.cut) reads }
+
+-- ---- names
+
+first_taken : (n : ℕ) (names : List (List ℕ)) → 0 < n → field (take n names) 0 ≡ field names 0
+first_taken zero names some = absurd (omega arith)
+first_taken (suc n) [] some = refl
+first_taken (suc n) (name ∷ names) some = refl
+
+record AliasKey (count : ℕ) (names : List (List ℕ)) : Type 0 where
+  no_feed : holds_line_feed (names_text names) ≡ false
+  reads : ReadsAliasKey count (cut_fields (names_text names)) (record { code = None; names = names })
+
+alias_key_reads : (count : ℕ) (row : AliasRow) → 0 < count → AliasOk count row → AliasKey count (take count row.names)
+alias_key_reads count row some ok =
+    let names = take count row.names in
+    let each : All IsAliasName names = All-take IsAliasName count row.names ok.each in
+    let many : length names ≡ count = length-take-le count row.names ok.count in
+    let line = alias_line names (omega (arith, many)) each in
+    let reads : ReadsAliasKey count names (record { code = None; names = names }) = record { as_many = many; first = ap is_name (first_taken count row.names some) ∙ ok.first; others = all_names names each; code = refl; names = refl } in
+    record { no_feed = line.no_feed; reads = subst (λ (fs : List (List ℕ)). ReadsAliasKey count fs (record { code = None; names = names })) (sym line.cut) reads }
+
+-- ---- by the file
+
+text_reads : (file : SourceFile) (row : Row) → RowOk file row → ReadsKey file (key_text file (key_of file row)) (key_of file row)
+unfolding fields
+text_reads UnicodeData (DataLine row) ok = let c = row.span.lo in ((code_line c).no_feed, code_key_reads c (fields_of (hex_text c)) (omega (arith, ok.span.0, ok.span.1)) (data_fields c))
+text_reads UnicodeData _ ok = absurd ok
+text_reads PropList (ValueLine row) ok =
+    let c = row.span.lo in
+    let line = three_line c row.value (value_piece row.value ok.value) ok.value.trimmed in
+    (line.no_feed, property_key_reads c row.value (cut_fields (hex_text c ++ 32 ∷ 59 ∷ 32 ∷ row.value)) (omega (arith, ok.span.0, ok.span.1)) ok.value.name line.cut)
+text_reads PropList _ ok = absurd ok
+text_reads Scripts (ValueLine row) ok = coded row.span.lo (omega (arith, ok.span.0, ok.span.1))
+text_reads Scripts _ ok = absurd ok
+text_reads WordBreakProperty (ValueLine row) ok = coded row.span.lo (omega (arith, ok.span.0, ok.span.1))
+text_reads WordBreakProperty _ ok = absurd ok
+text_reads CompositionExclusions (ExclusionLine row) ok = coded row.span.lo (omega (arith, ok.0, ok.1))
+text_reads CompositionExclusions _ ok = absurd ok
+text_reads CaseFolding (FoldLine row) ok = let line = status_line row.code row.status in (line.no_feed, fold_key_reads row.code row.status (cut_fields (hex_text row.code ++ 59 ∷ 32 ∷ status_code row.status ∷ [])) ok.code line.cut)
+text_reads CaseFolding _ ok = absurd ok
+text_reads SpecialCasing (CasingLine row) ok =
+    let is = conditions_are row.conditions row.conditions ok.conditions in
+    let key = casing_key_reads row.code row.conditions ok.code ok.conditions (record { no_semicolon = ok.no_semicolon; no_hash = ok.no_hash; no_feed = conditions_no_feed row.conditions is.0 }) (ap trim (sym is.1) ∙ words_trimmed row.conditions ∙ is.1) in
+    (key.no_feed, key.reads)
+text_reads SpecialCasing _ ok = absurd ok
+text_reads PropertyAliases (AliasLine row) ok = let key = alias_key_reads 2 row (omega arith) ok in (key.no_feed, key.reads)
+text_reads PropertyAliases _ ok = absurd ok
+text_reads PropertyValueAliases (AliasLine row) ok = let key = alias_key_reads 3 row (omega arith) ok in (key.no_feed, key.reads)
+text_reads PropertyValueAliases _ ok = absurd ok
+
+pub key_texts_read_back : KeyTextsReadBack
+key_texts_read_back file row ok = (keys_are_read file (key_text file (key_of file row)) (key_of file row)).1 (text_reads file row ok)

@@ -6,7 +6,7 @@ use Rattle.ucd_model.specs.declared.files.SourceFile.TheVariants.{UnicodeData, P
 use Rattle.ucd_model.specs.SourceFiles.{file_place, source_files}
 use Rattle.release_rows.specs.FileItems.{FileItem, FileLists}
 use Rattle.release_rows.specs.FileLemmas.{each_with_items}
-use Rattle.release_rows.specs.Releases.{AreKept, AllAreKept, ReleaseItems, files_now, files_next, loaded, with_items}
+use Rattle.release_rows.specs.Releases.{AreSound, AllAreKept, ReleaseItems, files_now, files_next, loaded, with_items}
 
 pub now_with : (files : List FileLists) (file : SourceFile) (lists : FileLists) → files_now (set files (file_place file) lists) ≡ with_items (files_now files) file lists.now
 now_with files file lists = map-set (λ (l : FileLists). l.now) files (file_place file) lists
@@ -14,10 +14,10 @@ now_with files file lists = map-set (λ (l : FileLists). l.now) files (file_plac
 pub next_with : (files : List FileLists) (file : SourceFile) (lists : FileLists) → files_next (set files (file_place file) lists) ≡ with_items (files_next files) file lists.next
 next_with files file lists = map-set (λ (l : FileLists). l.next) files (file_place file) lists
 
-pub kept_with : (files : List (List FileItem)) (file : SourceFile) (items : List FileItem) → AllAreKept files → AreKept file items → AllAreKept (with_items files file items)
+pub kept_with : (files : List (List FileItem)) (file : SourceFile) (items : List FileItem) → AllAreKept files → AreSound file items → AllAreKept (with_items files file items)
 kept_with files file items all kept = record {
   nine = length-set files (file_place file) items ∙ all.nine;
-  each = each_with_items AreKept files file items all.nine all.each kept;
+  each = each_with_items AreSound files file items all.nine all.each kept;
 }
 
 pub release_with : (files : List FileLists) (file : SourceFile) (lists : FileLists) → lists.next ≡ lists.now → (let release : ReleaseItems = record { current = files_now (set files (file_place file) lists); prepared = files_next (set files (file_place file) lists) } in release) ≡ loaded (record { current = files_now files; prepared = files_next files }) file lists.now

@@ -7,9 +7,9 @@ use Rattle.ucd_model.specs.SourceFiles.{file_at-place, file_at, file_place, file
 use Rattle.ucd_model.specs.declared.files.SourceFile.{SourceFile}
 use Rattle.ucd_model.specs.declared.files.SourceFile.TheVariants.{UnicodeData}
 use Rattle.release_rows.specs.FileItems.{FileItem, FileLists}
-use Rattle.release_rows.specs.OperationLaws.{OperationsKeepRows}
+use Rattle.release_rows.specs.OperationLaws.{OperationsKeepCuts, OperationsKeepOrder, OperationsKeepRows}
 use Rattle.release_rows.specs.Operations.{AnswersOp, IsOp, edited, op_file, op_or_rule, with_edited}
-use Rattle.release_rows.specs.Releases.{AllAreKept, AreKept, committed, discarded, files_next, files_now, items_at, with_items}
+use Rattle.release_rows.specs.Releases.{AllAreKept, AreKept, AreSound, committed, discarded, files_next, files_now, items_at, with_items}
 use Rattle.release_rows.specs.declared.key_rule.KeyRule.{KeyRule}
 use Rattle.release_rows.specs.declared.operation.Op.{Op}
 use Rattle.release_rows.specs.declared.operation.OpStop.{OpStop}
@@ -28,12 +28,19 @@ lifted files file (Err (Breaks rule)) (Ok items) spans next h = absurd h
 lifted files file (Err (Breaks rule)) (Err broken) spans next h = (h.0, ap (with_items files file) h.1 ∙ same_items files file)
 lifted files file (Err Memory) e spans next h = ap (with_items files file) h ∙ same_items files file
 
-still_kept : (op : Op) (items : List FileItem) (r : Result (List Bounds) OpStop) (e : Result (List FileItem) KeyRule) (spans : List Bounds) (next : List FileItem) → OperationsKeepRows → IsOp op → AreKept (op_file op) items → edited items op ≡ e → AnswersOp r e spans items next → AreKept (op_file op) next
-still_kept op items (Ok s) (Ok new) spans next law is kept done h = rw h.0 (law op items new is kept done)
-still_kept op items (Ok s) (Err rule) spans next law is kept done h = absurd h
-still_kept op items (Err (Breaks rule)) (Ok new) spans next law is kept done h = absurd h
-still_kept op items (Err (Breaks rule)) (Err broken) spans next law is kept done h = rw h.1 kept
-still_kept op items (Err Memory) e spans next law is kept done h = rw h kept
+-- what holds of sound items, holds after an operation
+pub record Keeping (op : Op) : Type 0 where
+  pub rows : OperationsKeepRows
+  pub order : OperationsKeepOrder
+  pub cuts : OperationsKeepCuts
+  pub is : IsOp op
+
+still_sound : (op : Op) (items : List FileItem) (r : Result (List Bounds) OpStop) (e : Result (List FileItem) KeyRule) (spans : List Bounds) (next : List FileItem) → Keeping op → AreSound (op_file op) items → edited items op ≡ e → AnswersOp r e spans items next → AreSound (op_file op) next
+still_sound op items (Ok s) (Ok new) spans next laws sound done h = rw h.0 (record { kept = laws.rows op items new laws.is sound.kept done; ascends = laws.order op items new sound.ascends done; cut = laws.cuts op items new laws.is sound.cut done })
+still_sound op items (Ok s) (Err rule) spans next laws sound done h = absurd h
+still_sound op items (Err (Breaks rule)) (Ok new) spans next laws sound done h = absurd h
+still_sound op items (Err (Breaks rule)) (Err broken) spans next laws sound done h = rw h.1 sound
+still_sound op items (Err Memory) e spans next laws sound done h = rw h sound
 
 -- ---- the file at its place
 
@@ -55,7 +62,7 @@ module _ (files : List FileLists) (file : SourceFile) (n : ℕ) (d : FileLists) 
   now_here = sym (get_or-map (λ (l : FileLists). l.now) files n d [] within) ∙ ap (λ (k : ℕ). get_or (files_now files) k []) here
 
   pub kept_here : AllAreKept (files_next files) → AreKept (get_or files n d).file (get_or files n d).next
-  kept_here kept = rw (file_here, next_here) (kept.each file)
+  kept_here kept = rw (file_here, next_here) (kept.each file).kept
 
   pub files_same : (new : FileLists) → new.file ≡ (get_or files n d).file → map (λ (l : FileLists). l.file) (set files n new) ≡ source_files
   files_same new same = rw here (files_with files file new all (same ∙ file_here))
@@ -71,11 +78,11 @@ module _ (files : List FileLists) (file : SourceFile) (n : ℕ) (d : FileLists) 
       let at : AnswersOp r (edited (items_at (files_next files) file) op) (spans (items_at (files_next files) file)) (items_at (files_next files) file) new.next = subst (λ (is : List FileItem). AnswersOp r (edited is op) (spans is) is new.next) next_here h in
       rw (of, next_are new) (lifted (files_next files) file r (edited (items_at (files_next files) file) op) (spans (items_at (files_next files) file)) new.next at)
 
-  pub all_kept : (r : Result (List Bounds) OpStop) (op : Op) (spans : List FileItem → List Bounds) (new : FileLists) → OperationsKeepRows → IsOp op → AllAreKept (files_next files) → op_file op ≡ file → AnswersOp r (edited (get_or files n d).next op) (spans (get_or files n d).next) (get_or files n d).next new.next → AllAreKept (files_next (set files n new))
-  all_kept r op spans new law is kept of h =
+  pub all_kept : (r : Result (List Bounds) OpStop) (op : Op) (spans : List FileItem → List Bounds) (new : FileLists) → Keeping op → AllAreKept (files_next files) → op_file op ≡ file → AnswersOp r (edited (get_or files n d).next op) (spans (get_or files n d).next) (get_or files n d).next new.next → AllAreKept (files_next (set files n new))
+  all_kept r op spans new laws kept of h =
       let at : AnswersOp r (edited (items_at (files_next files) file) op) (spans (items_at (files_next files) file)) (items_at (files_next files) file) new.next = subst (λ (xs : List FileItem). AnswersOp r (edited xs op) (spans xs) xs new.next) next_here h in
-      let old : AreKept (op_file op) (items_at (files_next files) file) = rw of (kept.each file) in
-      let next : AreKept file new.next = subst (λ (f : SourceFile). AreKept f new.next) of (still_kept op (items_at (files_next files) file) r (edited (items_at (files_next files) file) op) (spans (items_at (files_next files) file)) new.next law is old refl at) in
+      let old : AreSound (op_file op) (items_at (files_next files) file) = rw of (kept.each file) in
+      let next : AreSound file new.next = subst (λ (f : SourceFile). AreSound f new.next) of (still_sound op (items_at (files_next files) file) r (edited (items_at (files_next files) file) op) (spans (items_at (files_next files) file)) new.next laws old refl at) in
       rw (next_are new) (kept_with (files_next files) file new.next kept next)
 
 -- ---- all files together

@@ -15,7 +15,7 @@ use Rattle.release_rows.proofs.RowRules.{no_key_rule}
 
 -- ---- rows
 
-no_rule_by : (file : SourceFile) (above : List FileItem) (p : Lines) (row : Row) (o : Option LoadRule) → content_row file (piece_content p) ≡ Ok (Some row) → row_rule file (rows_in above) row ≡ o → piece_fault file above p ≡ None → o ≡ None
+pub no_rule_by : (file : SourceFile) (above : List FileItem) (p : Lines) (row : Row) (o : Option LoadRule) → content_row file (piece_content p) ≡ Ok (Some row) → row_rule file (rows_in above) row ≡ o → piece_fault file above p ≡ None → o ≡ None
 no_rule_by file above p row None h k free = refl
 no_rule_by file above p row (Some rule) h k free = absurd (let e : Some (record { line = lines_of above + 1; rule = rule }) ≡ None = (rw (h, k) at free) in cc)
 
@@ -31,7 +31,7 @@ later_by file above p ps (Some fault) e h = absurd (let k : Some fault ≡ None 
 later_by file above p ps None e h = (refl, (rw e at h))
 
 -- where no piece has a fault, each row stands among the rows above it
-kept_below : (file : SourceFile) (above : List FileItem) (ps : List Lines) → first_fault file above ps ≡ None → AreKeptBelow file above (map (file_item file) ps)
+pub kept_below : (file : SourceFile) (above : List FileItem) (ps : List Lines) → first_fault file above ps ≡ None → AreKeptBelow file above (map (file_item file) ps)
 kept_below file above [] h = tt
 kept_below file above (p ∷ ps) h =
     let parts = later_by file above p ps (piece_fault file above p) refl h in
@@ -47,7 +47,7 @@ pieces_step file a b rest true two one = rw (two, two_bytes file a b) (append_as
 pieces_step file a b rest false two one = ap (λ (bs : List ℕ). item_bytes a ++ bs) one
 
 -- pieces put together are the lines put together
-pieces_join : (file : SourceFile) (lines : List LineItem) → bytes_of (map (file_item file) (pieces file lines)) ≡ joined lines
+pub pieces_join : (file : SourceFile) (lines : List LineItem) → bytes_of (map (file_item file) (pieces file lines)) ≡ joined lines
 pieces_join file [] = refl
 pieces_join file (a ∷ []) = refl
 pieces_join file (a ∷ b ∷ rest) = pieces_step file a b rest (opens_range file a.content) (pieces_join file rest) (pieces_join file (b ∷ rest))

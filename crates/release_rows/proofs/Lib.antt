@@ -11,6 +11,8 @@ pub mod Faults
 pub mod RowsApart
 pub mod Operations
 pub mod Touched
+pub mod Order
+pub mod Loads
 pub mod Seeking
 pub mod Skipping
 pub mod Moved
@@ -19,6 +21,9 @@ pub mod Puts
 pub mod Files
 pub mod Walks
 pub mod Arena
+pub mod Cuts
+pub mod Reload
+pub mod Sound
 mod StoredRows
 mod FoundRows
 mod Edited

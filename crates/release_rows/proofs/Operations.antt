@@ -20,10 +20,10 @@ use Rattle.release_rows.proofs.RowsApart.{clashes, all_apart, clashes_with_none,
 
 -- ---- what is kept: each item is read, and no two rows clash
 
-abbrev is_read : SourceFile → FileItem → Type 0
+abbrev pub is_read : SourceFile → FileItem → Type 0
 is_read file item = content_row file item.content ≡ Ok item.row
 
-abbrev AllRead : SourceFile → List FileItem → Type 0
+abbrev pub AllRead : SourceFile → List FileItem → Type 0
 AllRead file [] = Unit {0}
 AllRead file (item ∷ items) = is_read file item × AllRead file items
 
@@ -35,7 +35,7 @@ pub rows-append : (xs ys : List FileItem) → rows_in (xs ++ ys) ≡ rows_in xs 
 rows-append [] ys = refl
 rows-append (x ∷ xs) ys = ap (onto_rows x.row) (rows-append xs ys) ∙ onto_append x.row (rows_in xs) (rows_in ys)
 
-all_read : (file : SourceFile) (above items : List FileItem) → AreKeptBelow file above items → AllRead file items
+pub all_read : (file : SourceFile) (above items : List FileItem) → AreKeptBelow file above items → AllRead file items
 all_read file above [] kept = tt
 all_read file above (item ∷ items) kept = (kept.0.is_read, all_read file (above ++ item ∷ []) items kept.1)
 

@@ -1,5 +1,5 @@
 -- What is looked for among entries is what is looked for among items.
-use Rattle.std.proofs.Common.{◌≡◌, ℕ, Bool, true, false, not, eqb, leb, ◌&&◌, List, [], ◌∷◌, Option, Some, None, Result, Ok, Err, refl, sym, ◌∙◌}
+use Rattle.std.proofs.Common.{◌≡◌, ℕ, Bool, true, false, not, eqb, leb, ◌&&◌, List, [], ◌∷◌, Option, Some, None, Result, Ok, Err, refl, sym, ap, subst, ◌∙◌}
 use Rattle.std.specs.Cmp.Lexicographic.{slice_cmp}
 use Rattle.std.specs.Ordering.{ordering_then, nat_cmp, is_eq, is_lt}
 use Rattle.std.proofs.lemmas.Map.Text.{is_eq-slice_cmp}
@@ -30,6 +30,12 @@ stored_by : (file : SourceFile) (content : List ℕ) (t : Bool) (x : Result Row 
 stored_by file content true x e k h = rw e e
 stored_by file content false (Ok row) e k h = rw (e, k) (e, k)
 stored_by file content false (Err fault) e k h = let a = (rw (e, k) at h) in absurd cc
+
+-- the same of a content that is read
+pub content_stored : (file : SourceFile) (content : List ℕ) (row : Option Row) → content_row file content ≡ Ok row → StoredAs file content row
+content_stored file content row read =
+    let same : row_read (content_row file content) ≡ row = ap row_read read in
+    subst (StoredAs file content) same (stored_by file content (is_trivia content) (row_or_fault file content) refl refl (read ∙ ap (λ (o : Option Row). Ok o) (sym same)))
 
 pub stored_as : (file : SourceFile) (text : List ℕ) (e : Spanned Stretch) → IsStored file text e → StoredAs file (content_at text e.item) (item_at file text e.item).row
 stored_as file text e h = stored_by file (content_at text e.item) (is_trivia (content_at text e.item)) (row_or_fault file (content_at text e.item)) refl refl h.item.is_read

@@ -24,11 +24,11 @@ use Rattle.release_rows.proofs.Operations.{row_is_read}
 count_cons : (b : ℕ) (bs : List ℕ) → count_by is_lf (b ∷ bs) ≡ cond (is_lf b) 1 0 + count_by is_lf bs
 count_cons b bs = sum_by-cons (λ x. cond (is_lf x) 1 0) b bs
 
-no_feeds : (bs : List ℕ) → holds_line_feed bs ≡ false → count_by is_lf bs ≡ 0
+pub no_feeds : (bs : List ℕ) → holds_line_feed bs ≡ false → count_by is_lf bs ≡ 0
 no_feeds [] h = refl
 no_feeds (b ∷ bs) h = let p = or_parts (is_lf b) (holds_line_feed bs) h in rw (count_cons b bs, p.0) (omega (arith, no_feeds bs p.1))
 
-one_feed : (front last : List ℕ) → holds_line_feed front ≡ false → holds_line_feed last ≡ false → count_by is_lf (front ++ 10 ∷ last) ≡ 1
+pub one_feed : (front last : List ℕ) → holds_line_feed front ≡ false → holds_line_feed last ≡ false → count_by is_lf (front ++ 10 ∷ last) ≡ 1
 one_feed [] last h k = rw (count_cons 10 last) (omega (arith, no_feeds last k))
 one_feed (b ∷ bs) last h k = let p = or_parts (is_lf b) (holds_line_feed bs) h in rw (count_cons b (bs ++ 10 ∷ last), p.0) (omega (arith, one_feed bs last p.1 k))
 

@@ -8,12 +8,20 @@
 -- FaultsAreFirst                    a file is refused exactly by its first fault
 -- LoadsExactly                      a file is loaded exactly where no piece has a fault, and then each piece is an item
 -- BytesAreKept                      contents and endings of the items put together are the file's bytes
-use Rattle.std.specs.Prelude.{◌≡◌, ◌↔◌, ℕ, List, [], ◌∷◌, ◌++◌, map, Some, None, Ok, Err}
+-- LoadedFilesAreSound               the items of a loaded file are sound, and none that LF alone ends ends in CR
+-- Reloads file items                the bytes of the items are loaded as these items, if they are within the limit and no item that LF
+--                                   alone ends ends in CR
+-- ReloadsTheSame                    so it is of sound items
+use Rattle.std.specs.Prelude.{◌≡◌, ◌↔◌, ℕ, ◌≤◌, List, [], ◌∷◌, ◌++◌, map, length, Some, None, Ok, Err}
+use Rattle.std.specs.List.{All}
+use Rattle.ucd_model.specs.Limits.{file_limit}
 use Rattle.ucd_model.specs.Lines.{items_of}
 use Rattle.ucd_model.specs.declared.files.SourceFile.{SourceFile}
+use Rattle.release_rows.specs.Cuts.{IsToldApart}
 use Rattle.release_rows.specs.Pieces.{Lines, pieces}
 use Rattle.release_rows.specs.FileItems.{FileItem, bytes_of}
-use Rattle.release_rows.specs.Loading.{LoadFault, file_item, piece_fault, file_or_fault}
+use Rattle.release_rows.specs.Loading.{LoadFault, file_item, piece_fault, file_or_fault, load_or_fault}
+use Rattle.release_rows.specs.Releases.{AreSound}
 
 abbrev pub NoFaultBelow : SourceFile → List FileItem → List Lines → Type 0
 NoFaultBelow file above ps = (front : List Lines) (p : Lines) (rest : List Lines) → ps ≡ front ++ p ∷ rest → piece_fault file (above ++ map (file_item file) front) p ≡ None
@@ -40,3 +48,12 @@ LoadsExactly = (file : SourceFile) (bytes : List ℕ) (items : List FileItem) �
 
 abbrev pub BytesAreKept : Type 0
 BytesAreKept = (file : SourceFile) (bytes : List ℕ) (items : List FileItem) → file_or_fault file bytes ≡ Ok items → bytes_of items ≡ bytes
+
+abbrev pub LoadedFilesAreSound : Type 0
+LoadedFilesAreSound = (file : SourceFile) (bytes : List ℕ) (items : List FileItem) → file_or_fault file bytes ≡ Ok items → AreSound file items × All IsToldApart items
+
+abbrev pub Reloads : SourceFile → List FileItem → Type 0
+Reloads file items = All IsToldApart items → length (bytes_of items) ≤ file_limit → load_or_fault file (bytes_of items) ≡ Ok items
+
+abbrev pub ReloadsTheSame : Type 0
+ReloadsTheSame = (file : SourceFile) (items : List FileItem) → AreSound file items → Reloads file items

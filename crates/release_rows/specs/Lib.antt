@@ -5,6 +5,7 @@ pub mod Keys
 pub mod Entries
 pub mod Pieces
 pub mod FileItems
+pub mod Cuts
 pub mod Loading
 pub mod StoredItems
 pub mod Progress

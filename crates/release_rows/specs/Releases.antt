@@ -18,12 +18,14 @@
 -- AreKeptBelow file above items   IsKept of each of the items, below the items above them all
 -- AreKept file items              each item is read from its content, and each row has another key than the rows above it and
 --                                 overlaps none of them where the file forbids it
--- AllAreKept files                there are nine files, and of each the items are AreKept
+-- AreSound file items             the items are AreKept, the rows of UnicodeData.txt ascend, and the items are cut as lines are
+-- AllAreKept files                there are nine files, and of each the items are AreSound
 -- AnswersLoad                     what `load_file` answers, and what it leaves
 use Rattle.std.specs.Prelude.{◌≡◌, ℕ, ◌+◌, List, [], ◌∷◌, ◌++◌, length, map, slice_index_or, slice_set, Option, Some, None, Result, Ok, Err}
 use Rattle.ucd_model.specs.declared.files.SourceFile.{SourceFile}
 use Rattle.ucd_model.specs.SourceFiles.{file_place}
 use Rattle.ucd_model.specs.declared.row.Row.{Row}
+use Rattle.release_rows.specs.Cuts.{AreCut, Ascends}
 use Rattle.release_rows.specs.Keys.{key_rule}
 use Rattle.release_rows.specs.FileItems.{FileItem, FileLists, rows_in}
 use Rattle.release_rows.specs.Loading.{LoadFault, content_row}
@@ -94,9 +96,14 @@ AreKeptBelow file above (item ∷ items) = IsKept file above item × AreKeptBelo
 abbrev pub AreKept : SourceFile → List FileItem → Type 0
 AreKept file items = AreKeptBelow file [] items
 
+pub record AreSound (file : SourceFile) (items : List FileItem) : Type 0 where
+  pub kept : AreKept file items
+  pub ascends : Ascends file (rows_in items)
+  pub cut : AreCut items
+
 pub record AllAreKept (files : List (List FileItem)) : Type 0 where
   pub nine : length files ≡ 9
-  pub each : (file : SourceFile) → AreKept file (items_at files file)
+  pub each : (file : SourceFile) → AreSound file (items_at files file)
 
 -- ---- loading
 

@@ -1,10 +1,13 @@
 //! Laws of loaded files.
 
-ghost use Rattle.release_rows.specs.OperationLaws.{OperationsKeepRows, RowsStay};
-ghost use Rattle.release_rows.specs.Laws.{FaultsAreFirst, LoadsExactly, BytesAreKept};
+ghost use Rattle.release_rows.specs.OperationLaws.{OperationsKeepCuts, OperationsKeepOrder, OperationsKeepRows, RowsStay};
+ghost use Rattle.release_rows.specs.Laws.{FaultsAreFirst, LoadsExactly, BytesAreKept, LoadedFilesAreSound, ReloadsTheSame};
 
-use source_rows::rows_are_no_trivia;
-use ucd_lines::items_join;
+use source_rows::{rows_are_no_trivia, rows_have_lines};
+use ucd_lines::{
+    endings_are_told_apart, items_join, lines_are_unique, no_line_feed_inside,
+    only_the_last_is_unended,
+};
 
 /// A file is refused exactly by its first fault: no piece above has one.
 pub fn faults_are_first()
@@ -23,10 +26,40 @@ pub fn bytes_are_kept()
     items_join();
 }
 
+/// The items of a loaded file are kept, ascend in UnicodeData.txt and are cut as lines are. None that LF alone ends ends
+/// in CR.
+pub fn loaded_files_are_sound()
+    ensures { LoadedFilesAreSound }
+{
+    no_line_feed_inside();
+    only_the_last_is_unended();
+    endings_are_told_apart();
+}
+
+/// The bytes of such items, put together, are loaded as these items, if they are within the limit.
+pub fn reloads_the_same()
+    ensures { ReloadsTheSame }
+{
+    lines_are_unique();
+    rows_have_lines();
+}
+
 /// Where the items of a file are kept, they are so after an operation: each item is read from its content, keys differ,
 /// and rows do not overlap where the file forbids it.
 pub fn operations_keep_rows()
     ensures { OperationsKeepRows }
+{
+    rows_are_no_trivia();
+}
+
+/// Where the rows of UnicodeData.txt ascend, they do so after an operation.
+pub fn operations_keep_order()
+    ensures { OperationsKeepOrder }
+{}
+
+/// Where the items of a file are cut as lines are, they are so after an operation.
+pub fn operations_keep_cuts()
+    ensures { OperationsKeepCuts }
 {
     rows_are_no_trivia();
 }

@@ -5,9 +5,10 @@ ghost use Rattle.ucd_model.specs.Limits.{file_limit};
 ghost use Rattle.release_rows.specs.FileItems.{bytes_of};
 ghost use Rattle.release_rows.specs.Loading.{file_or_fault};
 ghost use Rattle.release_rows.specs.Progress.{LoadsItems};
-ghost use Rattle.release_rows.specs.Releases.{AreKept};
+ghost use Rattle.release_rows.specs.Releases.{AreSound};
 
 use crate::file_text::FileText;
+use crate::laws::loaded_files_are_sound;
 use crate::load_stop::LoadStop;
 use crate::loading::Loading;
 use crate::piece::next_piece;
@@ -24,9 +25,10 @@ pub fn load_items(alloc: Global, file: SourceFile, bytes: &[u8]) -> Result<FileT
     requires { length bytes.now ≤ file_limit }
     ensures file { IfOk result (λ lists. lists.file ≡ file) }
     ensures answer { LoadsItems result (file_or_fault file bytes.now) }
-    ensures kept { IfOk result (λ lists. AreKept file lists.now) }
+    ensures sound { IfOk result (λ lists. AreSound file lists.now) }
     ensures lossless { IfOk result (λ lists. bytes_of lists.now ≡ bytes.now) }
 {
+    loaded_files_are_sound();
     let mut lines = items(bytes);
     let mut loading = Loading::new(alloc, file, bytes);
     'pieces: while let Some(piece) = next_piece(file, &mut lines) {

@@ -6,7 +6,7 @@ ghost use Rattle.release_rows.specs.Operations.{AnswersOp, IsOp, op_file, op_or_
 ghost use Rattle.release_rows.specs.Releases.{AllAreKept, committed, discarded, items_at, files_now, files_next, no_items};
 
 use crate::file_text::FileText;
-use crate::laws::operations_keep_rows;
+use crate::laws::{operations_keep_cuts, operations_keep_order, operations_keep_rows};
 use crate::operation::{Op, OpStop};
 use std::alloc::Global;
 use ucd_model::{SourceFile, Spans};
@@ -64,6 +64,8 @@ pub fn prepare_in(files: &mut NineFiles, alloc: Global, op: &Op) -> Result<Spans
     ensures kept { AllAreKept (files_next files.new) }
 {
     operations_keep_rows();
+    operations_keep_order();
+    operations_keep_cuts();
     files[op.file().place()].prepare(alloc, op)
 }
 

@@ -2,11 +2,14 @@
 
 ghost use Rattle.std.specs.Prelude.{◌≡◌, ◌≢◌, [], Ok, IfOk, OnOk};
 ghost use Rattle.ucd_model.specs.declared.files.SourceFile.{SourceFile as FileValue};
-ghost use Rattle.release_rows.specs.FileItems.{bytes_of};
+ghost use Rattle.release_rows.specs.Cuts.{Ascends};
+ghost use Rattle.release_rows.specs.FileItems.{bytes_of, rows_in};
+ghost use Rattle.release_rows.specs.Laws.{Reloads};
 ghost use Rattle.release_rows.specs.Loading.{load_or_fault};
 ghost use Rattle.release_rows.specs.Operations.{AnswersOp, IsOp, op_file, op_or_rule, touched};
 ghost use Rattle.release_rows.specs.Releases.{AnswersLoad, AreKept, items_now, items_next, no_items, rows_at};
 
+use crate::laws::reloads_the_same;
 use crate::load_items::load_items;
 use crate::load_stop::{LoadRule, LoadStop};
 use crate::nine_files::{NineFiles, commit_all, discard_all, items_at, no_items, prepare_in, put};
@@ -18,7 +21,8 @@ use ucd_model::{Memory, SourceFile, Spans, Text, file_limit};
 
 /// The source files of a release. Contracts see the items of each file, now and next.
 ///
-/// In each file keys differ, rows do not overlap where that is forbidden, and each row is read from its bytes.
+/// In each file keys differ, rows do not overlap where that is forbidden, and each row is read from its bytes. The rows of
+/// UnicodeData.txt ascend.
 #[derive(Debug, Drop)]
 pub struct Release {
     alloc: Global,
@@ -73,7 +77,8 @@ impl Release {
         Ok(())
     }
 
-    /// The bytes of a file now. Of a file that was loaded they are the bytes that it was loaded from.
+    /// The bytes of a file now. Of a file that was loaded they are the bytes that it was loaded from. Of an edited file
+    /// they are loaded as its items again, if they are within the limit and no content that LF alone ends ends in CR.
     ///
     /// - `Memory`: memory ran out.
     pub fn text(&self, alloc: Global, file: SourceFile) -> Result<Text, Memory>
@@ -86,7 +91,10 @@ impl Release {
     pub fn rows(&self, file: SourceFile) -> Rows<'_>
         ensures rows { result ≡ rows_at (items_now self.now file) }
         ensures kept { AreKept file (items_now self.now file) }
+        ensures ascends { Ascends file (rows_in (items_now self.now file)) }
+        ensures reloads { Reloads file (items_now self.now file) }
     {
+        reloads_the_same();
         items_at(&self.files, file).rows()
     }
 
@@ -94,7 +102,10 @@ impl Release {
     pub fn next_rows(&self, file: SourceFile) -> Rows<'_>
         ensures rows { result ≡ rows_at (items_next self.now file) }
         ensures kept { AreKept file (items_next self.now file) }
+        ensures ascends { Ascends file (rows_in (items_next self.now file)) }
+        ensures reloads { Reloads file (items_next self.now file) }
     {
+        reloads_the_same();
         items_at(&self.files, file).next_rows()
     }
 

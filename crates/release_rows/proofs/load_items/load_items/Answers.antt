@@ -4,7 +4,7 @@ use Rattle.ucd_model.specs.declared.files.SourceFile.{SourceFile}
 use Rattle.release_rows.specs.FileItems.{FileItem}
 use Rattle.part_list.specs.Parts.{now_in}
 use Rattle.release_rows.specs.StoredItems.{stored_at}
-use Rattle.release_rows.proofs.Kept.{at_end, items_kept, items_join}
+use Rattle.release_rows.proofs.Kept.{at_end, items_join}
 use Rattle.release_rows.proofs.load_items.load_items.Goals as goal
 
 -- the file has the items that were loaded
@@ -19,10 +19,10 @@ pub returns-clause-answer : goal.returns-clause-answer
 returns-clause-answer c =
     (at_end c.args.file c.pieces.loading.items c.new.result.now _ _ c.pieces.invariant.whole c.in_default.ensures.piece (same_items c), c.new.ensures.next)
 
-pub returns-clause-kept : goal.returns-clause-kept
-returns-clause-kept c =
+pub returns-clause-sound : goal.returns-clause-sound
+returns-clause-sound c =
     let whole = at_end c.args.file c.pieces.loading.items c.new.result.now _ _ c.pieces.invariant.whole c.in_default.ensures.piece (same_items c) in
-    items_kept c.args.file c.args.bytes.now c.new.result.now whole
+    (c.loaded_files_are_sound.ensures c.args.file c.args.bytes.now c.new.result.now whole).0
 
 pub returns-clause-lossless : goal.returns-clause-lossless
 returns-clause-lossless c =

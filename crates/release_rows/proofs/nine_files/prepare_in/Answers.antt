@@ -26,4 +26,4 @@ returns-clause-answer c =
 
 pub returns-clause-kept : goal.returns-clause-kept
 returns-clause-kept c =
-    all_kept c.args.files.now (op_file c.args.op.now) c.place.result c.index-files-place.result c.requires.files (c.place.ensures.place ∙ ap file_place c.file.ensures) c.prepare.result c.args.op.now (λ items. touched items c.args.op.now) _ c.operations_keep_rows.ensures c.requires.op c.requires.kept refl c.prepare.ensures.answer
+    all_kept c.args.files.now (op_file c.args.op.now) c.place.result c.index-files-place.result c.requires.files (c.place.ensures.place ∙ ap file_place c.file.ensures) c.prepare.result c.args.op.now (λ items. touched items c.args.op.now) _ (record { rows = c.operations_keep_rows.ensures; order = c.operations_keep_order.ensures; cuts = c.operations_keep_cuts.ensures; is = c.requires.op }) c.requires.kept refl c.prepare.ensures.answer

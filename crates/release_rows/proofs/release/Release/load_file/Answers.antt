@@ -2,7 +2,7 @@ use Rattle.std.proofs.Common.{rules, ◌≡◌, List, Ok, ap, sym, subst, ◌∙
 use Rattle.release_rows.specs.FileLemmas.{items_at-with_items_same, items_at-with_items_other}
 use Rattle.release_rows.specs.FileItems.{FileItem, bytes_of}
 use Rattle.release_rows.specs.Loading.{load_or_fault}
-use Rattle.release_rows.specs.Releases.{AreKept, ReleaseItems, items_now, files_now, files_next}
+use Rattle.release_rows.specs.Releases.{AreSound, ReleaseItems, items_now, files_now, files_next}
 use Rattle.release_rows.proofs.Files.{files_with, now_with, next_with, kept_with, release_with}
 use Rattle.release_rows.proofs.release.Release.load_file.Goals as goal
 
@@ -10,10 +10,10 @@ pub invariant_of-self : goal.invariant_of-self
 invariant_of-self c =
     let files = c.self.inside.files in
     let lists = c.in_ok-items.items in
-    let kept = c.in_ok-items.ensures.kept in
+    let kept = c.in_ok-items.ensures.sound in
     let next : lists.next ≡ lists.now = c.in_ok-items.ensures.answer.1 in
     rw (c.put.ensures, now_with files c.args.file lists, next_with files c.args.file lists)
-    (kept_with (files_now files) c.args.file lists.now c.self.invariant.0 kept, kept_with (files_next files) c.args.file lists.next c.self.invariant.1 (subst (AreKept c.args.file) (sym next) kept), files_with files c.args.file lists c.self.invariant.2 c.in_ok-items.ensures.file)
+    (kept_with (files_now files) c.args.file lists.now c.self.invariant.0 kept, kept_with (files_next files) c.args.file lists.next c.self.invariant.1 (subst (AreSound c.args.file) (sym next) kept), files_with files c.args.file lists c.self.invariant.2 c.in_ok-items.ensures.file)
 
 -- what is loaded stands in the file, now and next
 pub returns-clause-answer : goal.returns-clause-answer

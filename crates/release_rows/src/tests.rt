@@ -4,7 +4,7 @@ use crate::{LoadRule, LoadStop, Release, Rows};
 use source_rows::RowFault;
 use std::alloc::Global;
 use std::test::Fail;
-use ucd_model::{Memory, Row, SourceFile};
+use ucd_model::{Memory, Row, SourceFile, file_limit};
 
 /// A fault of a file.
 fn fault(line: u32, rule: LoadRule) -> Result<(), LoadStop> {
@@ -243,5 +243,26 @@ fn a_range_has_two_lines(rt: HostRuntime) -> Result<(), Fail> {
     assert!(rt; are_on(release.rows(file), 1, 4));
     assert!(rt; gives_no_value(release.rows(file)));
     assert!(rt; is_answered(rt.alloc(), file, bytes, Ok(()))?);
+    Ok(())
+}
+
+#[test]
+fn a_file_of_the_greatest_size_loads(rt: HostRuntime) -> Result<(), Fail> {
+    let bytes = Vec::from_elem(rt.alloc(), b'#', file_limit())?;
+    assert!(rt; is_answered(rt.alloc(), SourceFile::Scripts, &bytes, Ok(()))?);
+    Ok(())
+}
+
+#[test]
+fn a_file_above_the_limit_is_refused(rt: HostRuntime) -> Result<(), Fail> {
+    let bytes = Vec::from_elem(rt.alloc(), b'#', file_limit().saturating_add(1))?;
+    assert!(rt;
+        is_answered(
+            rt.alloc(),
+            SourceFile::Scripts,
+            &bytes,
+            fault(0, LoadRule::G02)
+        )?
+    );
     Ok(())
 }

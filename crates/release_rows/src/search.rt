@@ -106,7 +106,7 @@ impl<'a> Search<'a> {
     fn comes_behind(&self, entry: &Spanned<Stretch>) -> bool
         ensures { result ≡ comes_behind self.now entry.now }
     {
-        if !self.is_alike(entry) {
+        if entry.code < self.code || !self.is_alike(entry) {
             return false;
         }
         let content = content_in(self.text, entry.item);

@@ -1,16 +1,14 @@
--- A bench over the rows of a release.
-use Rattle.std.proofs.Common.{◌≡◌, ℕ, None, Ok, subst}
+-- Records over facts that are the same.
+use Rattle.std.proofs.Common.{◌≡◌, ℕ, None, Ok, Err, subst}
 use Rattle.ucd_model.specs.Facts.{Facts}
-use Rattle.ucd_model.specs.Records.{record_at}
-use Rattle.ucd_model.specs.Validity.{first_broken}
-use Rattle.release_rows.specs.Releases.{ReleaseItems}
-use Rattle.edit_session.specs.Benches.{IsBench, bench_facts}
-use Rattle.edit_session.specs.RecordLists.{RecordsOf, RecordsAs, SameRecords, record_of}
+use Rattle.edit_session.specs.Benches.{NamesBroken}
+use Rattle.edit_session.specs.RecordLists.{AreRecords, RecordsAs, RecordsOf}
+use Rattle.edit_session.specs.declared.open_stop.OpenStop.{OpenStop}
+use Rattle.edit_session.specs.declared.open_stop.OpenStop.TheVariants.{Invalid, Memory}
 
--- the records of the facts of its rows
-pub bench_of : (release : ReleaseItems) (F : ℕ → Facts) (list : RecordsOf) → F ≡ bench_facts release → RecordsAs (Ok list) F → IsBench release F list
-bench_of release F list same found = record {
-  valid = subst (λ (G : ℕ → Facts). first_broken G ≡ None) same found.0;
-  facts = same;
-  records = subst (λ (G : ℕ → Facts). SameRecords (record_of list) (record_at G)) same found.1;
-}
+pub records_over : (F G : ℕ → Facts) (list : RecordsOf) → F ≡ G → AreRecords list F → AreRecords list G
+records_over F G list same found = subst (AreRecords list) same found
+
+pub broken_over : (F G : ℕ → Facts) (stop : OpenStop) → F ≡ G → RecordsAs (Err stop) F → NamesBroken stop G
+broken_over F G (Invalid rule point) same found = subst (NamesBroken (Invalid rule point)) same found
+broken_over F G Memory same found = tt

@@ -1,3 +1,5 @@
 mod RecordSteps
 mod PointRecords
 mod BenchLemmas
+mod Differing
+mod GroupLemmas

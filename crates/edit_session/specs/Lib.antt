@@ -1,2 +1,4 @@
 pub mod RecordLists
+pub mod Groups
 pub mod Benches
+pub mod Changes

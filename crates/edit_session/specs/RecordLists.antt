@@ -5,11 +5,13 @@
 --                              c without a row
 -- RecordsOf                    the records that are kept, and for each point the place of its record
 -- count_of list                for how many points a place is kept
+-- place_of list c              the place of c in the list
 -- record_of list c             the record of c in the list, as record_in
 -- SameRecords R S              the records of the code points are the same
 -- DerivedBelow list n F        the points below n, and no others, have a record, and it is the one that is derived of the facts F
 -- RecordFound F c result       the result is the record of c, or in its place c with the first rule that it breaks; want of
 --                              memory says nothing
+-- AreRecords list F            no code point breaks a rule over the facts F, and the list has the record of each
 -- RecordsAs result F           the result is the records of all points, none of which breaks a rule, or in their place the least
 --                              point that does; want of memory says nothing
 -- HavePlaces places records    each place is that of a record
@@ -38,6 +40,9 @@ pub record RecordsOf : Type 0 where
 abbrev pub count_of : RecordsOf → ℕ
 count_of list = length list.places
 
+abbrev pub place_of : RecordsOf → ℕ → ℕ
+place_of list c = slice_index_or list.places c 0
+
 abbrev pub record_of : RecordsOf → ℕ → Record
 record_of list = record_in list.places list.kept
 
@@ -53,8 +58,11 @@ RecordFound F c (Ok kept) = derived F c ≡ Ok (kept_record kept)
 RecordFound F c (Err (Invalid rule point)) = (point ≡ c) × (derived F c ≡ Err rule)
 RecordFound F c (Err Memory) = ⊤
 
+abbrev pub AreRecords : RecordsOf → (ℕ → Facts) → Type 0
+AreRecords list F = (first_broken F ≡ None) × SameRecords (record_of list) (record_at F)
+
 abbrev pub RecordsAs : Result RecordsOf OpenStop → (ℕ → Facts) → Type 0
-RecordsAs (Ok list) F = (first_broken F ≡ None) × SameRecords (record_of list) (record_at F)
+RecordsAs (Ok list) F = AreRecords list F
 RecordsAs (Err (Invalid rule point)) F = first_broken F ≡ Some (record { point = point; rule = rule })
 RecordsAs (Err Memory) F = ⊤
 

@@ -1,16 +1,24 @@
 //! The bench: a valid release, the facts of its rows and the records of all code points.
 
-ghost use Rattle.std.specs.Prelude.{◌≡◌, ◌+◌, ◌≤◌, IfOk, IfErr, OnOk};
-ghost use Rattle.code_facts.specs.FactTables.{tables_facts};
+ghost use Rattle.std.specs.Prelude.{◌≡◌, ◌+◌, ◌≤◌, length, IfOk, IfErr, OnOk};
+ghost use Rattle.std.specs.List.{All};
+ghost use Rattle.std.specs.Result.{IsErr};
+ghost use Rattle.code_facts.specs.FactTables.{tables_facts, tables_next};
 ghost use Rattle.range_table.specs.RunTable.{values_now};
+ghost use Rattle.release_rows.specs.Operations.{IsOp};
 ghost use Rattle.ucd_model.specs.Limits.{point_count};
-ghost use Rattle.edit_session.specs.Benches.{bench_facts, bench_record, IsBench, IsUnbroken, NamesBroken};
+ghost use Rattle.edit_session.specs.Benches.{bench_facts, bench_record, HasNothingPrepared, IsBench, IsUnbroken, NamesBroken};
+ghost use Rattle.edit_session.specs.Groups.{AppliesAs, after_ops, group_answer};
 
+use crate::accepted::Accepted;
+use crate::apply_stop::ApplyStop;
+use crate::derivation::{Derivation, derive_now};
+use crate::group::{Turn, prepare_group};
 use crate::open_stop::OpenStop;
 use crate::record_table::RecordTable;
 use code_facts::FactTables;
 use range_table::RunTable;
-use release_rows::Release;
+use release_rows::{Op, Release};
 use std::alloc::Global;
 use std::marker::Model;
 use std::sync::ledger::Ledger;
@@ -26,7 +34,7 @@ pub struct Bench {
 }
 
 impl Model for Bench {
-    ghost use Rattle.code_facts.specs.FactTables.{tables_facts};
+    ghost use Rattle.code_facts.specs.FactTables.{tables_facts, tables_next};
     ghost use Rattle.range_table.specs.RunTable.{values_now};
     ghost use Rattle.release_rows.specs.Releases.{ReleaseItems};
     ghost use Rattle.edit_session.specs.Benches.{IsBench};
@@ -35,7 +43,7 @@ impl Model for Bench {
 
     ghost view = { λ b. b.release };
 
-    ghost invariant = { λ b. IsBench b.release (tables_facts values_now b.tables) b.records };
+    ghost invariant = { λ b. IsBench b.release (tables_facts values_now b.tables) (tables_next values_now b.tables) b.records };
 }
 
 impl Bench {
@@ -52,12 +60,13 @@ impl Bench {
         release: Release,
         steps: &mut Steps<L>,
     ) -> Result<Bench, OpenStop>
+        requires { HasNothingPrepared release }
         ensures ok { IfOk result (λ bench. bench ≡ release) }
         ensures valid { OnOk result (IsUnbroken release) }
-        ensures invalid { IfErr result (λ stop. NamesBroken stop release) }
+        ensures invalid { IfErr result (λ stop. NamesBroken stop (bench_facts release)) }
         ensures steps { steps.new ≤ steps.old + point_count }
     {
-        match derive(alloc, &release, steps) {
+        match derive_now(alloc, &release, steps) {
             Ok(Derivation { tables, records }) => Ok(Bench {
                 release,
                 tables,
@@ -67,36 +76,55 @@ impl Bench {
         }
     }
 
+    /// Carries the operations of a group out, in order, or none of them. The rows between two operations need not be
+    /// valid; those after the last one are. The counter of steps rises by at most the number of code points, and not
+    /// if an operation is refused.
+    ///
+    /// - `Refused(Key { rule, op })`: the first operation that breaks a rule on keys or spans, counted from 1.
+    /// - `Refused(Valid { rule, point })`: the rows after the last operation are not valid. The least code point that
+    ///   breaks a rule is named, with its first rule.
+    /// - `Memory`: memory ran out.
+    ///
+    /// After each the bench is as it was.
+    pub fn apply<L: Ledger>(
+        &mut self,
+        alloc: Global,
+        group: &[Op],
+        steps: &mut Steps<L>,
+    ) -> Result<Accepted, ApplyStop>
+        requires operations { All IsOp group.now }
+        requires few { length group.now ≤ 4096 }
+        ensures answer { AppliesAs result (group_answer self.old.current group.now) self.old self.new }
+        ensures steps { steps.new ≤ steps.old + point_count }
+        ensures uncounted { IsErr (after_ops self.old.current 0 group.now) → steps.new ≡ steps.old }
+    {
+        let release = &mut self.release;
+        match prepare_group(alloc, release, &self.records, group, steps) {
+            Ok(
+                Turn {
+                    derivation: Derivation { tables, records },
+                    changed,
+                },
+            ) => {
+                self.release.commit();
+                self.tables = tables;
+                self.records = records;
+                Ok(Accepted { changed })
+            }
+            Err(stop) => {
+                self.release.discard();
+                Err(stop)
+            }
+        }
+    }
+
     /// The release, which is valid.
     pub fn release(&self) -> &Release
         ensures same { result.now ≡ self.now }
         ensures valid { IsUnbroken result.now }
+        ensures still { HasNothingPrepared result.now }
     {
         &self.release
-    }
-}
-
-/// What is derived of the rows of a release.
-#[derive(Drop)]
-struct Derivation {
-    tables: FactTables<RunTable<u64>>,
-    records: RecordTable,
-}
-
-/// The facts of a release's rows, and the records that are derived of them.
-fn derive<L: Ledger>(
-    alloc: Global,
-    release: &Release,
-    steps: &mut Steps<L>,
-) -> Result<Derivation, OpenStop>
-    ensures derived { IfOk result (λ made. IsBench release.now (tables_facts values_now made.tables) made.records) }
-    ensures invalid { IfErr result (λ stop. NamesBroken stop release.now) }
-    ensures steps { steps.new ≤ steps.old + point_count }
-{
-    let tables = FactTables::<RunTable<u64>>::of(alloc, release)?;
-    match RecordTable::of(alloc, &tables, steps) {
-        Ok(records) => Ok(Derivation { tables, records }),
-        Err(stop) => Err(stop),
     }
 }
 

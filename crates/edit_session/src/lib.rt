@@ -1,13 +1,22 @@
 //! A valid release that is held open: its rows, the facts of its rows, and the records of all code points.
 #![tactic(auto)]
 
+mod accepted;
+mod apply_stop;
 mod bench;
+mod changes;
+mod derivation;
+mod group;
 mod open_stop;
 mod record_list;
 mod record_table;
 
+pub use accepted::Accepted;
+pub use apply_stop::{ApplyStop, Refused};
 pub use bench::Bench;
 pub use open_stop::OpenStop;
 
+#[cfg(test)]
+mod group_tests;
 #[cfg(test)]
 mod tests;

@@ -2,7 +2,7 @@
 
 ghost use Rattle.std.specs.Prelude.{◌≡◌, ◌+◌, ◌<◌, ◌≤◌, ◌^◌, ℕ, OnOk, OnErr, IfOk, length};
 ghost use Rattle.ucd_model.specs.Records.{kept_record};
-ghost use Rattle.edit_session.specs.RecordLists.{count_of, record_of, Keeps};
+ghost use Rattle.edit_session.specs.RecordLists.{count_of, place_of, record_of, Keeps};
 
 use std::alloc::Global;
 use std::marker::Model;
@@ -55,6 +55,15 @@ impl RecordList {
         let place = keep(&mut self.records, added)?;
         self.places.resize(self.places.len() + times, place)?;
         Ok(())
+    }
+
+    /// The place of the record of the point of this number, which has one. Points with one place have one record.
+    pub fn place(&self, at: usize) -> u32
+        requires { at < count_of self.now }
+        ensures place { result ≡ place_of self.now at }
+        ensures same { (c : ℕ) → c < count_of self.now → place_of self.now c ≡ result → record_of self.now c ≡ record_of self.now at }
+    {
+        self.places[at]
     }
 
     /// The record of the point of this number, which has one.

@@ -4,7 +4,7 @@ ghost use Rattle.std.specs.Prelude.{◌≡◌, ℕ, ◌+◌, ◌<◌, ◌≤◌,
 ghost use Rattle.ucd_model.specs.Limits.{point_count};
 ghost use Rattle.ucd_model.specs.Predicates.{is_visible_format};
 ghost use Rattle.ucd_model.specs.Records.{kept_record, derived, ShowsRecord};
-ghost use Rattle.edit_session.specs.RecordLists.{RecordsAs, RecordFound, record_of};
+ghost use Rattle.edit_session.specs.RecordLists.{RecordsAs, RecordFound, count_of, record_of};
 
 use crate::open_stop::OpenStop;
 use crate::record_list::RecordList;
@@ -60,6 +60,14 @@ impl RecordTable {
             number = end;
         }
         Ok(RecordTable { list })
+    }
+
+    /// The records, as a list that has one for each code point.
+    pub fn list(&self) -> &RecordList
+        ensures same { result.now ≡ self.now }
+        ensures all { count_of result.now ≡ point_count }
+    {
+        &self.list
     }
 
     /// The record of a code point.

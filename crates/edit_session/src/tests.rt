@@ -20,6 +20,7 @@ fn point(number: u32) -> Result<Point, Fail> {
 
 /// A bench over a release, which is counted on a ledger of its own.
 fn counted<L: Ledger>(alloc: Global, release: Release, blank: Blank) -> Result<Bench, OpenStop>
+    requires still { release.prepared ≡ release.current }
     requires name { blank.name ≡ L.name }
     requires parts { blank.parts ≡ L.parts }
     requires some { blank.parts ≡ 1 }

@@ -1,0 +1,17 @@
+use Rattle.std.proofs.Common.{◌≡◌, ◌+◌, drop, length, slice_index_or, sym, ap, ◌∙◌, arith}
+use Rattle.edit_session.proofs.GroupLemmas.{all_done, goes_on, stops_at}
+use Rattle.edit_session.proofs.group.prepare_rows.Goals as goal
+
+pub returns-then-is_err-clause-answer : goal.returns-then-is_err-clause-answer
+returns-then-is_err-clause-answer c =
+    stops_at c.prepare_op-told.result _ c.operations.release.prepared c.prepare_op-told.new.release.prepared c.operations.done c.args.group.now _ (omega (arith, c.operations-test.true)) c.index-group-done.is c.operations.invariant.left (sym c.is_err.ensures.value ∙ c.if-is_err.true) c.prepare_op-told.ensures.answer
+
+pub operations-preserved : goal.operations-preserved
+operations-preserved c = record {
+  left = goes_on c.prepare_op-told.result _ c.operations.release.prepared c.prepare_op-told.new.release.prepared c.operations.done c.args.group.now _ (omega (arith, c.operations-test.true)) c.index-group-done.is c.operations.invariant.left (sym c.is_err.ensures.value ∙ c.if-is_err.false) c.prepare_op-told.ensures.answer;
+  now = c.prepare_op-told.ensures.now ∙ c.operations.invariant.now;
+  within = omega (arith, c.operations-test.true);
+}
+
+pub returns-clause-answer : goal.returns-clause-answer
+returns-clause-answer c = all_done _ c.operations.release.prepared c.operations.done c.args.group.now (omega (arith, c.operations-test.false)) c.operations.invariant.left

@@ -1,5 +1,5 @@
 -- Records over facts that are the same.
-use Rattle.std.proofs.Common.{◌≡◌, ℕ, None, Ok, Err, subst}
+use Rattle.std.proofs.Common.{◌≡◌, ℕ, Err, subst}
 use Rattle.ucd_model.specs.Facts.{Facts}
 use Rattle.edit_session.specs.Benches.{NamesBroken}
 use Rattle.edit_session.specs.RecordLists.{AreRecords, RecordsAs, RecordsOf}

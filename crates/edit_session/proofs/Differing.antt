@@ -1,9 +1,9 @@
 -- The code points whose records differ.
-use Rattle.std.proofs.Common.{◌≡◌, ℕ, zero, suc, ◌+◌, ◌<◌, ◌≤◌, Bool, true, false, cond, not, List, [], ◌∷◌, ◌++◌, length, filter, Option, Some, None, slice_get, slice_index_or, refl, sym, ap, subst, ◌∙◌, arith, inl, inr}
+use Rattle.std.proofs.Common.{◌≡◌, ℕ, zero, suc, ◌+◌, ◌<◌, Bool, cond, not, List, [], ◌∷◌, ◌++◌, length, filter, Some, slice_get, slice_index_or, refl, sym, ap, ◌∙◌, arith, inl, inr}
 use Rattle.std.specs.Bool.{Decides}
 use Rattle.std.specs.List.{range_with_len}
 use Rattle.std.proofs.lemmas.Bool.Decides.{same_from_decides}
-use Rattle.std.proofs.lemmas.List.{append-nil, map-id}
+use Rattle.std.proofs.lemmas.List.{map-id}
 use Rattle.std.proofs.lemmas.List.FromFn.{filter_of_map_range_with_len_more}
 use Rattle.std.proofs.lemmas.Option.{slice_get_cases}
 use Rattle.ucd_model.specs.Facts.{unassigned}
@@ -51,3 +51,17 @@ same_place places kept i j have lt same = elim (slice_get_cases kept (slice_inde
       ap (kept_or (record_at unassigned i)) here ∙ sym (ap (kept_or (record_at unassigned j)) found)
   | inr (past, found) ↦ let below = have j lt in absurd (omega (arith, past, below))
 ]
+
+-- ---- one number after the other
+
+pub one_more : (R S : ℕ → Record) (xs ys : List ℕ) (n k : ℕ) (b : Bool) → xs ≡ filter (λ c. not (same_record (R c) (S c))) (range_with_len 0 n) → k ≡ n → b ≡ same_record (R n) (S n)
+    → ys ≡ xs ++ cond (not b) (k ∷ []) [] → ys ≡ filter (λ c. not (same_record (R c) (S c))) (range_with_len 0 (n + 1))
+one_more R S xs ys n k b so_far here told is =
+    is ∙ ap (λ (zs : List ℕ). zs ++ cond (not b) (k ∷ []) []) so_far
+    ∙ ap (λ (j : ℕ). filter (λ c. not (same_record (R c) (S c))) (range_with_len 0 n) ++ cond (not b) (j ∷ []) []) here
+    ∙ ap (λ (t : Bool). filter (λ c. not (same_record (R c) (S c))) (range_with_len 0 n) ++ cond (not t) (n ∷ []) []) told
+    ∙ sym (filter_more (λ c. not (same_record (R c) (S c))) n)
+
+pub all_numbers : (R S : ℕ → Record) (xs : List ℕ) (n : ℕ) → n ≡ 1114112 → xs ≡ filter (λ c. not (same_record (R c) (S c))) (range_with_len 0 n) → xs ≡ differing R S
+unfolding point_count
+all_numbers R S xs n all so_far = so_far ∙ ap (λ k. filter (λ c. not (same_record (R c) (S c))) (range_with_len 0 k)) all

@@ -1,16 +1,18 @@
 -- Operations, one after the other.
-use Rattle.std.proofs.Common.{◌≡◌, ℕ, ◌+◌, ◌<◌, ◌≤◌, List, [], ◌∷◌, drop, slice_index_or, length, true, false, Result, Ok, Err, refl, sym, ap, subst, ◌∙◌, arith}
+use Rattle.std.proofs.Common.{◌≡◌, ℕ, ◌+◌, ◌<◌, ◌≤◌, List, ◌∷◌, drop, slice_index_or, length, true, false, Result, Ok, Err, refl, sym, ap, subst, ◌∙◌, arith}
 use Rattle.std.specs.Result.{IsErr, is_err}
 use Rattle.std.proofs.lemmas.List.{drop_all, drop_more}
+use Rattle.ucd_model.specs.Facts.{Facts}
 use Rattle.ucd_model.specs.Limits.{point_count}
-use Rattle.ucd_model.specs.Records.{record_at}
+use Rattle.ucd_model.specs.Records.{Record, record_at}
 use Rattle.release_rows.specs.FileItems.{FileItem}
 use Rattle.release_rows.specs.Operations.{op_or_rule}
 use Rattle.release_rows.specs.Releases.{ReleaseItems}
 use Rattle.release_rows.specs.declared.key_rule.KeyRule.{KeyRule}
 use Rattle.release_rows.specs.declared.operation.Op.{Op}
+use Rattle.edit_session.specs.Benches.{IsBench}
 use Rattle.edit_session.specs.Groups.{AnswersAs, AppliesAs, CountsAs, after_op, after_ops, changed, checked_files, differing, files_facts, then_ops}
-use Rattle.edit_session.specs.RecordLists.{AreRecords, RecordsOf, record_of}
+use Rattle.edit_session.specs.RecordLists.{AreRecords, RecordsOf, SameRecords}
 use Rattle.edit_session.specs.declared.accepted.Accepted.{Accepted}
 use Rattle.edit_session.specs.declared.apply_stop.ApplyStop.{ApplyStop}
 use Rattle.edit_session.specs.declared.apply_stop.ApplyStop.TheVariants.{Refused as Refuses, Memory}
@@ -96,15 +98,19 @@ counts_not (Err refused) old new h e = h
 
 -- ---- the group
 
-pub applied : {A : Type 0} (x : A) (accepted : Accepted) (expected : Result Files Refused) (old new : ReleaseItems) (next : Files) (list more : RecordsOf)
-    → AnswersAs (Ok x) expected next → new ≡ record { current = next; prepared = next } → AreRecords list (files_facts old.current) → AreRecords more (files_facts next)
-    → accepted.changed ≡ differing (record_of list) (record_of more) → AppliesAs (Ok accepted) expected old new
-applied x accepted (Ok files) old new next list more h is before after found = (
+pub applied : {A : Type 0} (x : A) (accepted : Accepted) (expected : Result Files Refused) (old new : ReleaseItems) (next : Files) (R S : ℕ → Record)
+    → AnswersAs (Ok x) expected next → new ≡ record { current = next; prepared = next } → SameRecords R (record_at (files_facts old.current)) → SameRecords S (record_at (files_facts next))
+    → accepted.changed ≡ differing R S → AppliesAs (Ok accepted) expected old new
+applied x accepted (Ok files) old new next R S h is before after found = (
   is ∙ ap (λ (fs : Files). record { current = fs; prepared = fs }) h,
-  found ∙ differing_same (record_of list) (record_of more) (record_at (files_facts old.current)) (record_at (files_facts next)) before.1 after.1
+  found ∙ differing_same R S (record_at (files_facts old.current)) (record_at (files_facts next)) before after
       ∙ ap (λ (fs : Files). changed (files_facts old.current) (files_facts fs)) h,
 )
-applied x accepted (Err refused) old new next list more h is before after found = absurd h
+applied x accepted (Err refused) old new next R S h is before after found = absurd h
+
+pub bench_after : (release : ReleaseItems) (next : Files) (F G : ℕ → Facts) (list : RecordsOf) → release ≡ record { current = next; prepared = next } → F ≡ files_facts next → G ≡ files_facts next → AreRecords list (files_facts next) → IsBench release F G list
+bench_after release next F G list is now also records =
+    subst (λ (r : ReleaseItems). IsBench r F G list) (sym is) (record { still = refl; facts = now; next = also; records = records })
 
 pub not_applied : (A : Type 0) (stop : ApplyStop) (expected : Result Files Refused) (old new : ReleaseItems) (next : Files) → AnswersAs {A = A} (Err stop) expected next → new ≡ old → AppliesAs (Err stop) expected old new
 not_applied A (Refuses why) (Ok files) old new next h same = absurd h

@@ -11,7 +11,6 @@ ghost use Rattle.edit_session.specs.declared.apply_stop.ApplyStop.TheVariants.{M
 ghost use Rattle.ucd_model.specs.Limits.{point_count};
 
 use crate::apply_stop::{ApplyStop, Refused};
-use crate::changes::differing;
 use crate::derivation::{Derivation, derive_next};
 use crate::record_table::RecordTable;
 use release_rows::{Op, OpStop, Release};
@@ -112,7 +111,7 @@ fn with_changes(
     ensures changed { IfOk result (λ turn. turn.changed ≡ differing (record_of records.now) (record_of derivation.records)) }
     ensures err { IfErr result (λ stop. stop ≡ Memory) }
 {
-    match differing(alloc, records, &derivation.records) {
+    match records.changes(alloc, &derivation.records) {
         Ok(changed) => Ok(Turn {
             derivation,
             changed,

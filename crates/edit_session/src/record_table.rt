@@ -1,11 +1,13 @@
 //! The records of all code points.
 
-ghost use Rattle.std.specs.Prelude.{◌≡◌, ℕ, ◌+◌, ◌<◌, ◌≤◌, Ok};
+ghost use Rattle.std.specs.Prelude.{◌≡◌, ℕ, ◌+◌, ◌<◌, ◌≤◌, Ok, IfOk};
 ghost use Rattle.ucd_model.specs.Limits.{point_count};
 ghost use Rattle.ucd_model.specs.Predicates.{is_visible_format};
 ghost use Rattle.ucd_model.specs.Records.{kept_record, derived, ShowsRecord};
-ghost use Rattle.edit_session.specs.RecordLists.{RecordsAs, RecordFound, count_of, record_of};
+ghost use Rattle.edit_session.specs.Groups.{differing};
+ghost use Rattle.edit_session.specs.RecordLists.{RecordsAs, RecordFound, record_of};
 
+use crate::changes::differing;
 use crate::open_stop::OpenStop;
 use crate::record_list::RecordList;
 use code_facts::FactTables;
@@ -14,7 +16,7 @@ use range_table::RunTable;
 use std::alloc::Global;
 use std::marker::Model;
 use std::sync::ledger::Ledger;
-use ucd_model::{FactView, FormStop, Point, Record, Steps, point_count};
+use ucd_model::{FactView, FormStop, Memory, Point, Points, Record, Steps, point_count};
 
 /// The records of all code points. Contracts see the records that are kept, and the place of each code point's record.
 #[derive(Drop)]
@@ -62,12 +64,13 @@ impl RecordTable {
         Ok(RecordTable { list })
     }
 
-    /// The records, as a list that has one for each code point.
-    pub fn list(&self) -> &RecordList
-        ensures same { result.now ≡ self.now }
-        ensures all { count_of result.now ≡ point_count }
+    /// The code points whose records are others after, ascending.
+    ///
+    /// - `Memory`: memory ran out.
+    pub fn changes(&self, alloc: Global, after: &RecordTable) -> Result<Points, Memory>
+        ensures { IfOk result (λ points. points ≡ differing (record_of self.now) (record_of after.now)) }
     {
-        &self.list
+        differing(alloc, &self.list, &after.list)
     }
 
     /// The record of a code point.

@@ -1,6 +1,4 @@
-use Rattle.std.proofs.Common.{◌≡◌, Bool, ap, sym, ◌∙◌}
-use Rattle.std.specs.Bool.{Decides}
-use Rattle.std.proofs.lemmas.Bool.Decides.{same_from_decides}
+use Rattle.std.proofs.Common.{ap, sym, ◌∙◌}
 use Rattle.ucd_model.specs.Records.{Record}
 use Rattle.ucd_model.specs.Sameness.{same_record}
 use Rattle.edit_session.specs.RecordLists.{record_of}

@@ -1,7 +1,6 @@
 use Rattle.std.proofs.Common.{◌≡◌, ◌-◌, ◌≤◌, filter, not}
 use Rattle.std.specs.List.{range_with_len}
 use Rattle.std.specs.Prelude.{IfSome}
-use Rattle.ucd_model.specs.Limits.{point_count}
 use Rattle.ucd_model.specs.Sameness.{same_record}
 use Rattle.edit_session.specs.Changes.{IsCompared}
 use Rattle.edit_session.specs.RecordLists.{record_of}

@@ -1,4 +1,4 @@
-use Rattle.std.proofs.Common.{◌≡◌, ◌+◌, drop, length, slice_index_or, sym, ap, ◌∙◌, arith}
+use Rattle.std.proofs.Common.{sym, ◌∙◌, arith}
 use Rattle.edit_session.proofs.GroupLemmas.{all_done, goes_on, stops_at}
 use Rattle.edit_session.proofs.group.prepare_rows.Goals as goal
 

@@ -21,6 +21,10 @@ pub has_place : (c count : ℕ) → c < 1114112 → count ≡ point_count → c 
 unfolding point_count
 has_place c count lt e = omega (arith, lt, e)
 
+pub place_below : (c count : ℕ) → c < count → count ≡ point_count → c < 1114112
+unfolding point_count
+place_below c count lt e = omega (arith, lt, e)
+
 shows_kept : (kept : KeptRecord) → ShowsRecord kept (kept_record kept)
 shows_kept kept = record {
   category = refl;

@@ -1,5 +1,6 @@
 -- Groups of operations: what the files are after them, or the rule that refuses the group.
 --
+-- group_limit                  the greatest number of operations in a group
 -- files_facts files            the facts of the rows of these files
 -- then_ops n result more       what comes behind an operation of this number; or the rule that it breaks, with its number
 -- after_op files n op          the files after the operation, which has this number, or its rule
@@ -37,6 +38,9 @@ use Rattle.edit_session.specs.declared.apply_stop.ApplyStop.{ApplyStop}
 use Rattle.edit_session.specs.declared.apply_stop.ApplyStop.TheVariants.{Refused as Refuses, Memory}
 use Rattle.edit_session.specs.declared.apply_stop.Refused.{Refused}
 use Rattle.edit_session.specs.declared.apply_stop.Refused.TheVariants.{Key, Valid}
+
+abbrev pub group_limit : ℕ
+group_limit = 4096
 
 abbrev pub files_facts : List (List FileItem) → ℕ → Facts
 files_facts files = facts (λ file. rows_in (items_at files file))

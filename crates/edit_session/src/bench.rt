@@ -1,6 +1,6 @@
 //! The bench: a valid release, the facts of its rows and the records of all code points.
 
-ghost use Rattle.std.specs.Prelude.{◌≡◌, ◌+◌, ◌≤◌, length, IfOk, IfErr, OnOk};
+ghost use Rattle.std.specs.Prelude.{◌≡◌, ℕ, ◌+◌, ◌≤◌, length, IfOk, IfErr, OnOk};
 ghost use Rattle.std.specs.List.{All};
 ghost use Rattle.std.specs.Result.{IsErr};
 ghost use Rattle.code_facts.specs.FactTables.{tables_facts, tables_next};
@@ -8,7 +8,7 @@ ghost use Rattle.range_table.specs.RunTable.{values_now};
 ghost use Rattle.release_rows.specs.Operations.{IsOp};
 ghost use Rattle.ucd_model.specs.Limits.{point_count};
 ghost use Rattle.edit_session.specs.Benches.{bench_facts, bench_record, HasNothingPrepared, IsBench, IsUnbroken, NamesBroken};
-ghost use Rattle.edit_session.specs.Groups.{AppliesAs, after_ops, group_answer};
+ghost use Rattle.edit_session.specs.Groups.{AppliesAs, after_ops, group_answer, group_limit};
 
 use crate::accepted::Accepted;
 use crate::apply_stop::ApplyStop;
@@ -93,7 +93,7 @@ impl Bench {
         steps: &mut Steps<L>,
     ) -> Result<Accepted, ApplyStop>
         requires operations { All IsOp group.now }
-        requires few { length group.now ≤ 4096 }
+        requires few { length group.now ≤ group_limit }
         ensures answer { AppliesAs result (group_answer self.old.current group.now) self.old self.new }
         ensures steps { steps.new ≤ steps.old + point_count }
         ensures uncounted { IsErr (after_ops self.old.current 0 group.now) → steps.new ≡ steps.old }
@@ -116,6 +116,15 @@ impl Bench {
                 Err(stop)
             }
         }
+    }
+
+    /// A code point up to which all from `c` on have the record of `c`. All these are looked at, so that going on
+    /// behind each answer looks at no code point twice.
+    pub fn last_alike(&self, c: Point) -> Point
+        ensures from { c ≤ result }
+        ensures same { (d : ℕ) → c ≤ d → d ≤ result → bench_record self.now d ≡ bench_record self.now c }
+    {
+        self.records.last_alike(c)
     }
 
     /// The release, which is valid.

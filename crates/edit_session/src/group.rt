@@ -5,7 +5,7 @@ ghost use Rattle.std.specs.List.{All};
 ghost use Rattle.code_facts.specs.FactTables.{tables_facts, tables_next};
 ghost use Rattle.range_table.specs.RunTable.{values_now};
 ghost use Rattle.release_rows.specs.Operations.{IsOp, op_or_rule};
-ghost use Rattle.edit_session.specs.Groups.{AnswersAs, CountsAs, after_op, after_ops, checked_files, differing, files_facts, group_answer};
+ghost use Rattle.edit_session.specs.Groups.{AnswersAs, CountsAs, after_op, after_ops, checked_files, differing, files_facts, group_answer, group_limit};
 ghost use Rattle.edit_session.specs.RecordLists.{AreRecords, record_of};
 ghost use Rattle.edit_session.specs.declared.apply_stop.ApplyStop.TheVariants.{Memory};
 ghost use Rattle.ucd_model.specs.Limits.{point_count};
@@ -37,7 +37,7 @@ pub fn prepare_group<L: Ledger>(
     steps: &mut Steps<L>,
 ) -> Result<Turn, ApplyStop>
     requires operations { All IsOp group.now }
-    requires few { length group.now ≤ 4096 }
+    requires few { length group.now ≤ group_limit }
     ensures now { release.new.current ≡ release.old.current }
     ensures answer { AnswersAs result (group_answer release.old.prepared group.now) release.new.prepared }
     ensures facts_now { IfOk result (λ turn. tables_facts values_now turn.derivation.tables ≡ files_facts release.new.prepared) }
@@ -53,7 +53,7 @@ pub fn prepare_group<L: Ledger>(
 /// Carries the operations out on what is prepared, in order, up to the first that stops the group.
 fn prepare_rows(release: &mut Release, group: &[Op]) -> Result<(), ApplyStop>
     requires operations { All IsOp group.now }
-    requires few { length group.now ≤ 4096 }
+    requires few { length group.now ≤ group_limit }
     ensures now { release.new.current ≡ release.old.current }
     ensures answer { AnswersAs result (after_ops release.old.prepared 0 group.now) release.new.prepared }
 {

@@ -66,6 +66,21 @@ impl RecordList {
         self.places[at]
     }
 
+    /// A point up to which all from the point of this number on have its place, and so its record. Each of them is looked
+    /// at.
+    pub fn last_alike(&self, at: usize) -> usize
+        requires { at < count_of self.now }
+        ensures from { at ≤ result }
+        ensures inside { result < count_of self.now }
+        ensures same { (d : ℕ) → at ≤ d → d ≤ result → record_of self.now d ≡ record_of self.now at }
+    {
+        let mut last = at;
+        'alike: while last + 1 < self.places.len() && self.places[last + 1] == self.places[at] {
+            last += 1;
+        }
+        last
+    }
+
     /// The record of the point of this number, which has one.
     pub fn record(&self, at: usize) -> &Record
         requires { at < count_of self.now }

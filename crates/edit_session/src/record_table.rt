@@ -64,6 +64,15 @@ impl RecordTable {
         Ok(RecordTable { list })
     }
 
+    /// A code point up to which all from `c` on have the record of `c`. Each of them is looked at.
+    pub fn last_alike(&self, c: Point) -> Point
+        ensures from { c ≤ result }
+        ensures inside { result < point_count }
+        ensures same { (d : ℕ) → c ≤ d → d ≤ result → record_of self.now d ≡ record_of self.now c }
+    {
+        point_at(self.list.last_alike(c.number() as usize) as u32)
+    }
+
     /// The code points whose records are others after, ascending.
     ///
     /// - `Memory`: memory ran out.

@@ -1,3 +1,4 @@
+mod CutLemmas
 mod ValidLemmas
 pub mod WritingLemmas
 pub mod JudgingLemmas

@@ -1,6 +1,7 @@
 //! The run of the program: what it reads, judges, derives, writes and prints.
 #![tactic(auto)]
 
+mod bench_pieces;
 mod command;
 mod gathering;
 mod judging;

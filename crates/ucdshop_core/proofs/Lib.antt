@@ -1,7 +1,11 @@
 mod CutLemmas
-mod ValidLemmas
 pub mod WritingLemmas
-pub mod JudgingLemmas
-mod EndingLemmas
+pub mod LoadingLemmas
+pub mod VerdictLemmas
+pub mod BenchLemmas
+pub mod OutputLemmas
+pub mod ScriptLemmas
+pub mod PlanningLemmas
+pub mod CarryingLemmas
 pub mod RunLemmas
 pub mod Clauses

@@ -1,4 +1,9 @@
 pub mod Printed
+pub mod Paths
+pub mod Refusals
+pub mod Verdict
+pub mod Scripts
+pub mod Session
 pub mod Run
 pub mod Outcome
 pub mod Promises
@@ -7,4 +12,5 @@ pub mod Commands
 pub mod Reading
 pub mod Judging
 pub mod Writing
+pub mod Carrying
 pub mod Planning

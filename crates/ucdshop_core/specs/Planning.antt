@@ -1,11 +1,7 @@
 -- All that a run does before it writes.
 --
--- LoadedAs view result expected   a result, seen by view, is what was expected; a failed read and want of memory say nothing
--- ChecksAs result expected        the line that refuses is the expected one, and there is a value where none is expected; want of
---                                 memory says nothing
--- OnRefused result P              P of the line, where a file was refused
--- RefusesBy stop folder why       a refusal by the line that names the folder, the code point and its rule; want of memory says
---                                 nothing
+-- OnRefused result P              P of the line, where what was read was refused
+-- TellsOf stop job why            a refusal by the line that says why; want of memory says nothing
 -- NamesUnread paths tells failed line   the line names one of the paths, and the last failed one where that is told
 -- OnlyRead shelf                  every path holds what it held, where that is told; the count of failed reads did not fall, and
 --                                 that of failed writes is as it was
@@ -13,24 +9,32 @@
 --                                 last failed one where that is told; else the path of the last failed read is as it was. Want of
 --                                 memory says nothing
 -- HaveLines outputs               each output has the line that names its path as the one that could not be written
+-- Puts files old new              outputs of these files were put behind the old ones, each with its line
 -- IsPlanOf plan expected          what is expected is an ending, and the plan is one of that ending
+-- PlansAs result expected         the plan is one of the expected ending, or the line that refuses is the expected one; want of
+--                                 memory says nothing
 -- HasPlan ending plan             the plan writes the files of the ending, each with the line that names its path, tells its
 --                                 summary, and says whether a command was refused or a policy is broken
-use Rattle.std.specs.Prelude.{◌≡◌, ◌≤◌, ℕ, List, map, IsTrue, Bool, Option, Some, None, Result, Ok, Err, ⊤, slice_get}
-use Rattle.edit_session.specs.declared.open_stop.OpenStop.{OpenStop}
-use Rattle.edit_session.specs.declared.open_stop.OpenStop.TheVariants.{Invalid}
-use Rattle.ucdshop_core.specs.Printed.{read_failed, write_failed, refused_point}
+use Rattle.std.specs.Prelude.{◌≡◌, ◌≤◌, ℕ, List, ◌++◌, map, IsTrue, Bool, Option, Some, None, Result, Ok, Err, ⊤, slice_get}
+use Rattle.ucdshop_core.specs.Printed.{read_failed, write_failed}
+use Rattle.ucdshop_core.specs.Refusals.{refusal_line}
 use Rattle.ucdshop_core.specs.Outcome.{ShelfSeen, Unchanged, LastFailedStays}
-use Rattle.ucdshop_core.specs.Run.{Ending, Expected, Finishes}
+use Rattle.ucdshop_core.specs.Run.{Job, NewFile, input_of, script_of, Ending, Expected, Refuses, Finishes}
 use Rattle.ucdshop_core.specs.Writing.{files_of}
 use Rattle.shelf_io.specs.Counts.{Rose}
 use Rattle.ucdshop_core.specs.declared.plan.Plan.{Plan}
 use Rattle.ucdshop_core.specs.declared.stop.Stop.{Stop}
 use Rattle.ucdshop_core.specs.declared.stop.Stop.TheVariants.{Refused, ReadFailed, Memory}
+use Rattle.ucdshop_core.specs.declared.refusal.JudgeStop.{JudgeStop}
+use Rattle.ucdshop_core.specs.declared.refusal.JudgeStop.TheVariants.{Refused as Breaks}
 use Rattle.ucdshop_core.specs.declared.writing.Output.{Output}
 
 abbrev pub HaveLines : List Output → Type 0
 HaveLines outputs = map (λ output. output.fault_line) outputs ≡ map (λ output. write_failed output.path) outputs
+
+pub record Puts (files : List NewFile) (old new : List Output) : Type 0 where
+  pub put : files_of new ≡ files_of old ++ files
+  pub lines : HaveLines old → HaveLines new
 
 pub record HasPlan (ending : Ending) (plan : Plan) : Type 0 where
   pub files : files_of plan.outputs.items ≡ ending.files
@@ -41,17 +45,11 @@ pub record HasPlan (ending : Ending) (plan : Plan) : Type 0 where
 abbrev pub IsPlanOf : Plan → Expected → Type 0
 IsPlanOf plan expected = (ending : Ending) × (expected ≡ Finishes ending) × HasPlan ending plan
 
-abbrev pub LoadedAs : {A B : Type 0} → (A → B) → Result A Stop → Result B (List ℕ) → Type 0
-LoadedAs view (Ok rows) expected = expected ≡ Ok (view rows)
-LoadedAs view (Err (Refused line)) expected = expected ≡ Err line
-LoadedAs view (Err (ReadFailed line)) expected = ⊤
-LoadedAs view (Err Memory) expected = ⊤
-
-abbrev pub ChecksAs : {A : Type 0} → Result A Stop → Option (List ℕ) → Type 0
-ChecksAs (Ok _) expected = expected ≡ None
-ChecksAs (Err (Refused line)) expected = expected ≡ Some line
-ChecksAs (Err (ReadFailed line)) expected = ⊥
-ChecksAs (Err Memory) expected = ⊤
+abbrev pub PlansAs : Result Plan Stop → Expected → Type 0
+PlansAs (Ok plan) expected = IsPlanOf plan expected
+PlansAs (Err (Refused line)) expected = expected ≡ Refuses line
+PlansAs (Err (ReadFailed line)) expected = ⊥
+PlansAs (Err Memory) expected = ⊤
 
 abbrev pub OnRefused : {A : Type 0} → Result A Stop → (List ℕ → Type 0) → Type 0
 OnRefused (Ok _) P = ⊤
@@ -59,10 +57,10 @@ OnRefused (Err (Refused line)) P = P line
 OnRefused (Err (ReadFailed line)) P = ⊤
 OnRefused (Err Memory) P = ⊤
 
-abbrev pub RefusesBy : Stop → List ℕ → OpenStop → Type 0
-RefusesBy (Refused line) folder (Invalid rule point) = line ≡ refused_point folder (record { point = point; rule = rule })
-RefusesBy Memory folder stop = ⊤
-RefusesBy _ folder stop = ⊥
+abbrev pub TellsOf : Stop → Job → JudgeStop → Type 0
+TellsOf (Refused line) job (Breaks refusal) = line ≡ refusal_line (input_of job) (script_of job) refusal
+TellsOf Memory job stop = ⊤
+TellsOf _ job stop = ⊥
 
 pub record NamesUnread (paths : List (List ℕ)) (tells : Bool) (failed line : List ℕ) : Type 0 where
   pub path : List ℕ

@@ -7,7 +7,6 @@
 -- write_failed path        a file could not be written
 -- out_of_memory            memory was wanted, and there was none
 -- Counts                   how many groups were accepted, commands refused and sets answered, and policies broken
--- no_counts                0 of each: no script was carried out, and no earlier release compared
 -- summary counts           the line that says them
 -- refused_point folder b   a code point of the release in a folder breaks a rule: the point, and the rule's code
 -- bad_code rule            the code of a rule of a valid release: V1 to V5
@@ -28,7 +27,7 @@ abbrev pub line_end : List ℕ
 line_end = 10 ∷ []
 
 abbrev pub usage : List ℕ
-usage = codes "usage: ucdshop derive DATA OUT" ++ line_end
+usage = codes "usage: ucdshop derive DATA OUT | apply DATA SCRIPT OUT" ++ line_end
 
 abbrev pub refused : List ℕ → ℕ → List ℕ → List ℕ
 refused path line rule = codes "refused: " ++ path ++ codes " line " ++ decimal line ++ codes " " ++ rule ++ line_end
@@ -47,9 +46,6 @@ pub record Counts : Type 0 where
   pub refused : ℕ
   pub answered : ℕ
   pub broken : ℕ
-
-abbrev pub no_counts : Counts
-no_counts = record { accepted = 0; refused = 0; answered = 0; broken = 0 }
 
 abbrev pub summary : Counts → List ℕ
 summary counts = codes "ucdshop: " ++ decimal counts.accepted ++ codes " groups accepted, " ++ decimal counts.refused ++ codes " commands refused, " ++ decimal counts.answered ++ codes " sets answered, " ++ decimal counts.broken ++ codes " policy breaks" ++ line_end

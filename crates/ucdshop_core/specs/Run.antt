@@ -1,47 +1,37 @@
 -- What a run is to do, by its words and by what the shelf holds.
 --
 -- Contents                         what a shelf holds at each path: the bytes of a file, or None
--- Job                              what is asked for: Derive input output, to derive the files of one folder into another
+-- Job                              what is asked for: Derive input output, to derive the files of one folder into another; Apply
+--                                  input script output, to carry a script out on the files of a folder, and to write what they are
+--                                  then and what is derived of them into another
 -- form words                       what the words ask for; None where they have no listed form
--- path_in folder path              the folder, `/`, and the path
--- source_in folder file            the path of a source file of a folder
--- sources_in folder                the paths of the source files of a folder, in order
+-- input_of job, script_of job      the folder that is read, and the path of the script; no bytes where none is read
 -- needed job                       the paths that are read, in order
 --
 -- The verdict
--- told_rows path result            the rows of the items, or the line that names the path, the fault's line and its rule
--- file_rows path file held         the rows of what the path holds, or the line that refuses it; an absent file is G01, on line 0
--- or_refusal verdict later         the line where the verdict is one, else the later one
--- first_refusal verdict_on files   the line that refuses the first of the files that is refused; None where none is
--- rows_or_none verdict             the rows; none where the file is refused
--- refused_or line rows             the line where there is one, else the rows
--- verdict_by verdict_on            the rows of every source file, or the line that refuses the first one, from the verdict on
---                                  each
--- files_verdict folder holds       the rows of a release's files, or the line that refuses the first file, in order, that is
---                                  absent, too long or not in the grammar
--- broken_line folder F             the line that refuses the least code point that breaks a rule, where F gives the facts; None
---                                  where none does
--- point_refusal folder rows        the line that refuses the least code point that breaks a rule of a valid release, by its first
---                                  rule
--- and_valid folder verdict         the rows of that verdict, where each code point is valid, else the line that refuses the least
---                                  one that is not; a verdict that is a line stays
--- verdict folder holds             the rows of a release whose files load and whose code points are valid, or the line that
---                                  refuses it
--- Seen                             what was seen of each part that is read: of the folder, what it held
+-- Inputs                           the items of the source files, in order, and the commands
+-- commands_verdict job held        the commands, where the script is held so; `derive` has none
+-- inputs_verdict job held script   what is read gives, where the source files and the script are held so; or the refusal of the
+--                                  first of these: a file, a code point, the script
+-- Seen                             what was seen of each part that is read: of the folder, and of the script, what was held
 -- everywhere holds                 the same contents were seen of each part
--- job_verdict job seen             the verdict on the files that the job reads
+-- job_verdict job seen             what is read gives, or why it is refused, by what was seen
 --
 -- What is written
--- derived_in folder file           the path of a derived file below a folder
 -- NewFile                          a path, and the bytes that are written there
--- derived_file folder rows file    a derived file of these rows: its path below the folder, with its bytes
+-- source_file folder files file    a source file as it is among these files: its path below the folder, with its bytes
+-- derived_file folder files file   a derived file of these files: its path below the folder, with its bytes
+-- log_file folder log              the log: its path below the folder, with its bytes
+-- new_files job session            the files that are written after a session, in order: of `derive` the derived files; of `apply`
+--                                  the source files, the derived files and the log
+-- counts_of session                what the summary counts
 -- Ending                           how a run ends that is not refused: the files that are written, in order, each path with its
 --                                  bytes; the summary that is told then; and whether a command was refused or a policy is broken
--- derived_ending folder rows       the ending of `derive`: the derived files of these rows below the folder
--- ending_of job rows               the ending of a job on these rows
+-- ending_of job session            the ending of a job after a session
 -- output_paths job                 the paths of the files that are written, which the words alone give
 -- Expected                         NoForm; Refuses line; or Finishes ending
--- judged job verdict               Finishes with the ending on the rows of the verdict, or Refuses its line
+-- judged job verdict               Finishes with the ending after the session of what was read; or Refuses with the line of the
+--                                  refusal
 -- expected_of form seen            what is expected of a job, by what was seen; NoForm where there is none
 -- expected words seen              what is expected of the words
 -- put file holds path              what the path holds once the file is put in its place
@@ -52,22 +42,24 @@
 -- Sees tells held P                P of what was seen: that is what is held, where the shelf tells it
 -- EndsAs words seen P              by what was seen the run is not refused, and P of its ending
 -- IsFine words seen                by what was seen the run is not refused
-use Rattle.std.specs.Prelude.{◌≡◌, ℕ, Bool, false, IsTrue, List, [], ◌∷◌, ◌++◌, map, Option, Some, None, Result, Ok, Err, if◌then◌else◌, codes}
+use Rattle.std.specs.Prelude.{◌≡◌, ℕ, Bool, IsTrue, List, [], ◌∷◌, ◌++◌, map, Option, Some, None, Result, Ok, Err, nat_lt, if◌then◌else◌, codes}
 use Rattle.std.specs.Str.{bytes_eq}
-use Rattle.std.specs.Option.{option_map}
 use Rattle.ucd_model.specs.Limits.{point_count}
-use Rattle.ucd_model.specs.Names.{source_path, derived_path}
-use Rattle.ucd_model.specs.Facts.{Sources, Facts, facts}
 use Rattle.ucd_model.specs.DerivedFiles.{derived_files, derived_text}
 use Rattle.ucd_model.specs.Records.{record_at}
-use Rattle.ucd_model.specs.Validity.{first_broken}
 use Rattle.ucd_model.specs.declared.files.SourceFile.{SourceFile}
 use Rattle.ucd_model.specs.SourceFiles.{source_files}
 use Rattle.ucd_model.specs.declared.files.DerivedFile.{DerivedFile}
-use Rattle.ucd_model.specs.declared.row.Row.{Row}
-use Rattle.release_rows.specs.FileItems.{FileItem, rows_in}
-use Rattle.release_rows.specs.Loading.{LoadFault, load_or_fault}
-use Rattle.ucdshop_core.specs.Printed.{no_counts, refused, refused_point, rule_code, summary}
+use Rattle.release_rows.specs.FileItems.{FileItem, bytes_of}
+use Rattle.release_rows.specs.Releases.{items_at}
+use Rattle.script_lines.specs.declared.command.Command.{Command}
+use Rattle.edit_session.specs.Groups.{files_facts}
+use Rattle.ucdshop_core.specs.Paths.{source_in, sources_in, derived_in, log_in}
+use Rattle.ucdshop_core.specs.Printed.{Counts, summary}
+use Rattle.ucdshop_core.specs.Refusals.{refusal_line}
+use Rattle.ucdshop_core.specs.Session.{Session, session}
+use Rattle.ucdshop_core.specs.Verdict.{and_then, release_verdict, script_verdict}
+use Rattle.ucdshop_core.specs.declared.refusal.Refusal.{Refusal}
 
 abbrev pub Contents : Type 0
 Contents = List ℕ → Option (List ℕ)
@@ -76,113 +68,94 @@ Contents = List ℕ → Option (List ℕ)
 
 pub data Job : Type 0 where
   Derive : (input output : List ℕ) → Job
+  Apply : (input script output : List ℕ) → Job
 
 abbrev pub form : List (List ℕ) → Option Job
 form (word ∷ input ∷ output ∷ []) = if bytes_eq word (codes "derive") then Some (Derive input output) else None
+form (word ∷ input ∷ script ∷ output ∷ []) = if bytes_eq word (codes "apply") then Some (Apply input script output) else None
 form _ = None
 
 -- ---- what is read
 
-abbrev pub path_in : List ℕ → List ℕ → List ℕ
-path_in folder path = folder ++ codes "/" ++ path
+abbrev pub input_of : Job → List ℕ
+input_of (Derive input output) = input
+input_of (Apply input script output) = input
 
-abbrev pub source_in : List ℕ → SourceFile → List ℕ
-source_in folder file = path_in folder (source_path file)
-
-abbrev pub sources_in : List ℕ → List (List ℕ)
-sources_in folder = map (source_in folder) source_files
+abbrev pub script_of : Job → List ℕ
+script_of (Derive input output) = []
+script_of (Apply input script output) = script
 
 abbrev pub needed : Job → List (List ℕ)
 needed (Derive input output) = sources_in input
+needed (Apply input script output) = sources_in input ++ script ∷ []
 
 -- ---- the verdict
 
-abbrev pub told_rows : List ℕ → Result (List FileItem) LoadFault → Result (List Row) (List ℕ)
-told_rows path (Ok items) = Ok (rows_in items)
-told_rows path (Err fault) = Err (refused path fault.line (rule_code fault.rule))
+pub record Inputs : Type 0 where
+  pub files : List (List FileItem)
+  pub commands : List Command
 
-unfoldable pub file_rows : List ℕ → SourceFile → Option (List ℕ) → Result (List Row) (List ℕ)
-file_rows path file None = Err (refused path 0 (codes "G01"))
-file_rows path file (Some bytes) = told_rows path (load_or_fault file bytes)
+abbrev pub commands_verdict : Job → Option (List ℕ) → Result (List Command) Refusal
+commands_verdict (Derive input output) held = Ok []
+commands_verdict (Apply input script output) held = script_verdict held
 
-abbrev pub or_refusal : Result (List Row) (List ℕ) → Option (List ℕ) → Option (List ℕ)
-or_refusal (Ok rows) later = later
-or_refusal (Err line) later = Some line
-
-abbrev pub first_refusal : (SourceFile → Result (List Row) (List ℕ)) → List SourceFile → Option (List ℕ)
-first_refusal verdict_on [] = None
-first_refusal verdict_on (file ∷ files) = or_refusal (verdict_on file) (first_refusal verdict_on files)
-
-abbrev pub rows_or_none : Result (List Row) (List ℕ) → List Row
-rows_or_none (Ok rows) = rows
-rows_or_none (Err line) = []
-
-abbrev pub refused_or : Option (List ℕ) → Sources → Result Sources (List ℕ)
-refused_or None rows = Ok rows
-refused_or (Some line) rows = Err line
-
-abbrev pub verdict_by : (SourceFile → Result (List Row) (List ℕ)) → Result Sources (List ℕ)
-verdict_by verdict_on = refused_or (first_refusal verdict_on source_files) (λ file. rows_or_none (verdict_on file))
-
-abbrev pub files_verdict : List ℕ → Contents → Result Sources (List ℕ)
-files_verdict folder holds = verdict_by (λ file. file_rows (source_in folder file) file (holds (source_in folder file)))
-
-abbrev pub broken_line : List ℕ → (ℕ → Facts) → Option (List ℕ)
-broken_line folder F = option_map (refused_point folder) (first_broken F)
-
-abbrev pub point_refusal : List ℕ → Sources → Option (List ℕ)
-point_refusal folder rows = broken_line folder (facts rows)
-
-abbrev pub and_valid : List ℕ → Result Sources (List ℕ) → Result Sources (List ℕ)
-and_valid folder (Ok rows) = refused_or (point_refusal folder rows) rows
-and_valid folder (Err line) = Err line
-
-unfoldable pub verdict : List ℕ → Contents → Result Sources (List ℕ)
-verdict folder holds = and_valid folder (files_verdict folder holds)
+abbrev pub inputs_verdict : Job → (SourceFile → Option (List ℕ)) → Option (List ℕ) → Result Inputs Refusal
+inputs_verdict job held script =
+    and_then (release_verdict held) (λ files. and_then (commands_verdict job script) (λ commands. Ok (record { files = files; commands = commands })))
 
 pub record Seen : Type 0 where
   pub folder : Contents
+  pub script : Contents
 
 abbrev pub everywhere : Contents → Seen
-everywhere holds = record { folder = holds }
+everywhere holds = record { folder = holds; script = holds }
 
-abbrev pub job_verdict : Job → Seen → Result Sources (List ℕ)
-job_verdict (Derive input output) seen = verdict input seen.folder
+abbrev pub job_verdict : Job → Seen → Result Inputs Refusal
+job_verdict job seen = inputs_verdict job (λ file. seen.folder (source_in (input_of job) file)) (seen.script (script_of job))
 
 -- ---- what is written
-
-abbrev pub derived_in : List ℕ → DerivedFile → List ℕ
-derived_in folder file = path_in folder (derived_path file)
 
 pub record NewFile : Type 0 where
   pub path : List ℕ
   pub bytes : List ℕ
 
-abbrev pub derived_file : List ℕ → Sources → DerivedFile → NewFile
-derived_file folder rows file = record { path = derived_in folder file; bytes = derived_text point_count file (record_at (facts rows)) }
+abbrev pub source_file : List ℕ → List (List FileItem) → SourceFile → NewFile
+source_file folder files file = record { path = source_in folder file; bytes = bytes_of (items_at files file) }
+
+abbrev pub derived_file : List ℕ → List (List FileItem) → DerivedFile → NewFile
+derived_file folder files file = record { path = derived_in folder file; bytes = derived_text point_count file (record_at (files_facts files)) }
+
+abbrev pub log_file : List ℕ → List ℕ → NewFile
+log_file folder log = record { path = log_in folder; bytes = log }
+
+abbrev pub new_files : Job → Session → List NewFile
+new_files (Derive input output) s = map (derived_file output s.files) derived_files
+new_files (Apply input script output) s =
+    map (source_file output s.files) source_files ++ map (derived_file output s.files) derived_files ++ log_file output s.log ∷ []
+
+abbrev pub counts_of : Session → Counts
+counts_of s = record { accepted = s.accepted; refused = s.refused; answered = 0; broken = 0 }
 
 pub record Ending : Type 0 where
   pub files : List NewFile
   pub summary : List ℕ
   pub done : Bool
 
-abbrev pub derived_ending : List ℕ → Sources → Ending
-derived_ending folder rows = record { files = map (derived_file folder rows) derived_files; summary = summary no_counts; done = false }
-
-abbrev pub ending_of : Job → Sources → Ending
-ending_of (Derive input output) rows = derived_ending output rows
+abbrev pub ending_of : Job → Session → Ending
+ending_of job s = record { files = new_files job s; summary = summary (counts_of s); done = nat_lt 0 s.refused }
 
 abbrev pub output_paths : Job → List (List ℕ)
 output_paths (Derive input output) = map (derived_in output) derived_files
+output_paths (Apply input script output) = sources_in output ++ map (derived_in output) derived_files ++ log_in output ∷ []
 
 pub data Expected : Type 0 where
   NoForm : Expected
   Refuses : (line : List ℕ) → Expected
   Finishes : (ending : Ending) → Expected
 
-abbrev pub judged : Job → Result Sources (List ℕ) → Expected
-judged job (Ok rows) = Finishes (ending_of job rows)
-judged job (Err line) = Refuses line
+abbrev pub judged : Job → Result Inputs Refusal → Expected
+judged job (Ok inputs) = Finishes (ending_of job (session inputs.files inputs.commands))
+judged job (Err refusal) = Refuses (refusal_line (input_of job) (script_of job) refusal)
 
 abbrev pub expected_of : Option Job → Seen → Expected
 expected_of None seen = NoForm

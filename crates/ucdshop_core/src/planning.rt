@@ -1,107 +1,85 @@
 //! All that a run does before it writes.
 
-ghost use Rattle.std.specs.Prelude.{◌≡◌, ◌≤◌, ◌+◌, IfOk, Some, length};
-ghost use Rattle.code_facts.specs.Rows.{release_sources};
+ghost use Rattle.std.specs.Prelude.{◌≡◌, ◌≤◌, ◌+◌, [], IfOk, Some, length};
+ghost use Rattle.std.specs.List.{All};
 ghost use Rattle.ucd_model.specs.Limits.{point_count};
-ghost use Rattle.ucdshop_core.specs.Commands.{job_of};
-ghost use Rattle.ucdshop_core.specs.Planning.{ChecksAs, IsPlanOf, LoadedAs, OnRefused, OnlyRead, RefusesBy, UnreadAs};
+ghost use Rattle.ucdshop_core.specs.Commands.{MayStep, job_of};
+ghost use Rattle.ucdshop_core.specs.Judging.{held_verdict};
+ghost use Rattle.ucdshop_core.specs.Planning.{HasPlan, IsPlanOf, OnRefused, OnlyRead, PlansAs, TellsOf, UnreadAs};
 ghost use Rattle.ucdshop_core.specs.Promises.{shelf_seen};
-ghost use Rattle.ucdshop_core.specs.Run.{Derive, Refuses, Sees, everywhere, expected_of, files_verdict, needed, point_refusal, sources_in, verdict};
+ghost use Rattle.ucdshop_core.specs.Run.{Refuses, Sees, ending_of, everywhere, expected_of, judged, needed};
+ghost use Rattle.ucdshop_core.specs.Scripts.{IsCommand};
+ghost use Rattle.ucdshop_core.specs.Session.{session};
 
+use crate::carrying::carry_out;
 use crate::command::Command;
 use crate::gathering::gather;
-use crate::judging::judge;
-use crate::plan::{Plan, derive_plan};
-use crate::printed::refused_point;
+use crate::inputs::{Inputs, judge_inputs};
+use crate::plan::{Plan, plan_of};
+use crate::refusal::JudgeStop;
+use crate::refusing::refusal_line;
+use crate::source_path::needed_paths;
 use crate::stop::Stop;
-use edit_session::{Bench, OpenStop};
-use release_rows::Release;
 use shelf_io::Shelf;
 use std::alloc::Global;
 use std::sync::ledger::Ledger;
-use ucd_model::{Broken, Memory, Steps};
+use ucd_model::{Memory, Steps, Text};
 
-/// Reads and judges the source files of a folder, each by itself.
-fn load<S: Shelf>(alloc: Global, shelf: &mut S, folder: &[u8]) -> Result<Release, Stop>
-    ensures rows { Sees S.tells (S.holds shelf.old) (λ seen. LoadedAs release_sources result (files_verdict folder.now seen)) }
-    ensures unread { UnreadAs result (sources_in folder.now) (shelf_seen S.Shelf shelf.old shelf.new) }
-    ensures only_read { OnlyRead (shelf_seen S.Shelf shelf.old shelf.new) }
-{
-    let gathered = gather(alloc, shelf, folder)?;
-    judge(alloc, gathered.paths.as_slice(), gathered.held.as_slice())
-}
-
-/// The bench over a folder's release, where each code point keeps the rules of a valid release.
-fn open_bench<L: Ledger>(
+/// Carries out the commands of a script, and makes the files that are then written, and the summary.
+fn carried_plan<L: Ledger>(
     alloc: Global,
-    folder: &[u8],
-    release: Release,
+    command: Command<'_>,
+    inputs: Inputs,
     steps: &mut Steps<L>,
-) -> Result<Bench, Stop>
-    ensures same { IfOk result (λ bench. bench ≡ release) }
-    ensures valid { ChecksAs result (point_refusal folder.now (release_sources release)) }
-    ensures steps { steps.new ≤ steps.old + point_count }
+) -> Result<Plan, Memory>
+    requires { All IsCommand inputs.commands }
+    ensures plan { IfOk result (λ plan. HasPlan (ending_of (job_of command.entry) (session inputs.bench.current inputs.commands)) plan) }
+    ensures steps { inputs.commands ≡ [] → steps.new ≡ steps.old }
 {
-    match Bench::open(alloc, release, steps) {
-        Ok(bench) => Ok(bench),
-        Err(stop) => Err(stop_of(alloc, folder, stop)),
-    }
+    let Inputs {
+        bench: mut bench,
+        commands,
+    } = inputs;
+    let carried = carry_out(alloc, &mut bench, commands.as_slice(), steps)?;
+    plan_of(alloc, command, &bench, &carried)
 }
 
-/// Why a folder's release has no bench, with the line that is then printed.
-fn stop_of(alloc: Global, folder: &[u8], stop: OpenStop) -> Stop
-    ensures { RefusesBy result folder.now stop }
+/// Why what was read is refused, with the line that is then printed.
+fn stop_of(alloc: Global, command: Command<'_>, stop: JudgeStop) -> Stop
+    ensures { TellsOf result (job_of command.entry) stop }
 {
-    let OpenStop::Invalid { rule, point } = stop else {
+    let JudgeStop::Refused(refusal) = stop else {
         return Stop::Memory;
     };
-    match refused_point(alloc, folder, Broken { point, rule }) {
+    match refusal_line(alloc, command.input(), command.script(), refusal) {
         Ok(line) => Stop::Refused(line),
         Err(Memory) => Stop::Memory,
     }
 }
 
-/// Reads and judges the source files of a folder, and then the code points.
-fn open_folder<S: Shelf, L: Ledger>(
+/// Judges what is held at the paths that a command reads, in their order, and does all that the command asks for but
+/// writing. The counter of steps rises by at most the number of code points where the command reads no script.
+///
+/// - `Refused(line)`: a file, a code point or the script breaks a rule.
+/// - `Memory`: memory ran out.
+fn held_plan<L: Ledger>(
     alloc: Global,
-    shelf: &mut S,
-    folder: &[u8],
-    steps: &mut Steps<L>,
-) -> Result<Bench, Stop>
-    ensures rows { Sees S.tells (S.holds shelf.old) (λ seen. LoadedAs release_sources result (verdict folder.now seen)) }
-    ensures unread { UnreadAs result (sources_in folder.now) (shelf_seen S.Shelf shelf.old shelf.new) }
-    ensures only_read { OnlyRead (shelf_seen S.Shelf shelf.old shelf.new) }
-    ensures steps { steps.new ≤ steps.old + point_count }
-{
-    let release = load(alloc, shelf, folder)?;
-    open_bench(alloc, folder, release, steps)
-}
-
-/// Reads and judges the source files of a folder, and makes the files that are derived from them, and the summary.
-fn derive<S: Shelf, L: Ledger>(
-    alloc: Global,
-    input: &[u8],
-    output: &[u8],
-    shelf: &mut S,
+    command: Command<'_>,
+    held: &[Option<Text>],
     steps: &mut Steps<L>,
 ) -> Result<Plan, Stop>
-    ensures planned { IfOk result (λ plan. Sees S.tells (everywhere (S.holds shelf.old)) (λ seen.
-        IsPlanOf plan (expected_of (Some (Derive input.now output.now)) seen))) }
-    ensures room { IfOk result (λ plan. length plan.outputs.items ≤ S.spare shelf.new) }
-    ensures refused { OnRefused result (λ line. Sees S.tells (everywhere (S.holds shelf.old)) (λ seen.
-        expected_of (Some (Derive input.now output.now)) seen ≡ Refuses line)) }
-    ensures unread { UnreadAs result (needed (Derive input.now output.now)) (shelf_seen S.Shelf shelf.old shelf.new) }
-    ensures only_read { OnlyRead (shelf_seen S.Shelf shelf.old shelf.new) }
-    ensures steps { steps.new ≤ steps.old + point_count }
+    requires { length held.now ≡ length (needed (job_of command)) }
+    ensures plan { PlansAs result (judged (job_of command.entry) (held_verdict (job_of command.entry) held.now)) }
+    ensures steps { MayStep (job_of command.entry) steps.old steps.new }
 {
-    let bench = open_folder(alloc, shelf, input, steps)?;
-    let plan = derive_plan(alloc, output, &bench)?;
-    shelf.room(plan.outputs.len())?;
-    Ok(plan)
+    match judge_inputs(alloc, command, held, steps) {
+        Ok(inputs) => Ok(carried_plan(alloc, command, inputs, steps)?),
+        Err(stop) => Err(stop_of(alloc, command, stop)),
+    }
 }
 
 /// Does all of a command that comes before the first write. The counter of steps rises by at most the number of code
-/// points.
+/// points where the command reads no script.
 ///
 /// - `Refused(line)`: a file is absent, too long, or breaks a rule, or a code point breaks a rule of a valid release.
 /// - `ReadFailed(line)`: a file could not be read.
@@ -119,9 +97,11 @@ pub fn prepare<S: Shelf, L: Ledger>(
         expected_of (Some (job_of command.entry)) seen ≡ Refuses line)) }
     ensures unread { UnreadAs result (needed (job_of command.entry)) (shelf_seen S.Shelf shelf.old shelf.new) }
     ensures only_read { OnlyRead (shelf_seen S.Shelf shelf.old shelf.new) }
-    ensures steps { steps.new ≤ steps.old + point_count }
+    ensures steps { MayStep (job_of command.entry) steps.old steps.new }
 {
-    match command {
-        Command::Derive { input, output } => derive(alloc, input, output, shelf, steps),
-    }
+    let paths = needed_paths(alloc, command)?;
+    let held = gather(alloc, shelf, paths.as_slice())?;
+    let plan = held_plan(alloc, command, held.as_slice(), steps)?;
+    shelf.room(plan.outputs.len())?;
+    Ok(plan)
 }

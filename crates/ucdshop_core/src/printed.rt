@@ -11,7 +11,7 @@ use ucd_lines::put_hex;
 use ucd_model::{Bad, Broken, Memory, Text};
 
 /// The line for words that have no listed form.
-pub const USAGE: &[u8] = b"usage: ucdshop derive DATA OUT\n";
+pub const USAGE: &[u8] = b"usage: ucdshop derive DATA OUT | apply DATA SCRIPT OUT\n";
 
 /// The line for want of memory.
 pub const OUT_OF_MEMORY: &[u8] = b"out of memory\n";
@@ -69,7 +69,7 @@ pub fn refused_point(alloc: Global, folder: &[u8], broken: Broken) -> Result<Tex
 }
 
 /// The code of a rule of a valid release.
-fn bad_code(rule: Bad) -> &'static [u8]
+pub fn bad_code(rule: Bad) -> &'static [u8]
     ensures { result.now ≡ bad_code rule }
 {
     match rule {
@@ -144,7 +144,7 @@ pub fn rule_code(rule: LoadRule) -> &'static [u8]
 }
 
 /// The code of a rule that a line breaks by itself.
-fn row_rule_code(fault: RowFault) -> &'static [u8]
+pub fn row_rule_code(fault: RowFault) -> &'static [u8]
     ensures { result.now ≡ row_rule_code fault }
 {
     match fault {
@@ -161,7 +161,7 @@ fn row_rule_code(fault: RowFault) -> &'static [u8]
 }
 
 /// Puts a number in decimal digits.
-fn put_decimal(alloc: Global, text: &mut Text, number: usize) -> Result<(), Memory>
+pub fn put_decimal(alloc: Global, text: &mut Text, number: usize) -> Result<(), Memory>
     ensures { OnOk result (text.new ≡ text.old ++ decimal number) }
 {
     let digits = number.to_string(alloc)?;

@@ -1,7 +1,7 @@
 //! The run of the program.
 
-ghost use Rattle.std.specs.Prelude.{◌≡◌, ◌+◌, ◌≤◌, IsTrue, length, None};
-ghost use Rattle.ucd_model.specs.Limits.{point_count};
+ghost use Rattle.std.specs.Prelude.{◌≡◌, ◌≤◌, IsTrue, length};
+ghost use Rattle.ucdshop_core.specs.Commands.{FormMayStep};
 ghost use Rattle.ucdshop_core.specs.Outcome.{Outcome, Told, StoppedWith, Finished, status_if};
 ghost use Rattle.ucdshop_core.specs.Promises.{Promises, shelf_seen, sink_seen};
 ghost use Rattle.ucdshop_core.specs.Run.{form};
@@ -19,10 +19,10 @@ use std::marker::Brand;
 use std::sync::ledger::{Blank, Ledger};
 use ucd_model::{Steps, Texts};
 
-/// Runs the program on its words, without the program's name: reads what they name from the shelf, writes the derived
-/// files to it, and tells one line to the sink.
+/// Runs the program on its words, without the program's name: reads what they name from the shelf, writes the files
+/// that it makes to it, and tells one line to the sink.
 ///
-/// The words are `derive DATA OUT`. All files are read before any is judged, and all texts are made before the first
+/// The words are `derive DATA OUT` or `apply DATA SCRIPT OUT`. All files are read before any is judged, and all texts are made before the first
 /// is written. Nothing is written unless the status is [`Status::Clean`], [`Status::Done`] or [`Status::WriteFault`].
 ///
 /// What is promised is written in `specs/Promises.antt`, a line for each promise.
@@ -49,8 +49,8 @@ fn run_anew<S: Shelf, K: Sink, L: Ledger>(
     run_counted(alloc, words, shelf, out, &mut steps)
 }
 
-/// [`run`], with a counter of the code points that are derived. It rises by at most the number of code points, and not
-/// at all where the words have no listed form.
+/// [`run`], with a counter of the code points that are derived. With `derive` it rises by at most the number of code
+/// points, and not at all where the words have no listed form.
 pub fn run_counted<S: Shelf, K: Sink, L: Ledger>(
     alloc: Global,
     words: &Texts,
@@ -59,8 +59,7 @@ pub fn run_counted<S: Shelf, K: Sink, L: Ledger>(
     steps: &mut Steps<L>,
 ) -> Status
     ensures run { Promises words.now (shelf_seen S.Shelf shelf.old shelf.new) (sink_seen K.Sink out.old out.new) result }
-    ensures steps { steps.new ≤ steps.old + point_count }
-    ensures no_steps { form words.now ≡ None → steps.new ≡ steps.old }
+    ensures steps { FormMayStep (form words.now) steps.old steps.new }
 {
     run_words(alloc, words, shelf, out, steps)
 }
@@ -74,8 +73,7 @@ fn run_words<S: Shelf, K: Sink, L: Ledger>(
     steps: &mut Steps<L>,
 ) -> Status
     ensures outcome { Outcome words.now (shelf_seen S.Shelf shelf.old shelf.new) (sink_seen K.Sink out.old out.new) result }
-    ensures steps { steps.new ≤ steps.old + point_count }
-    ensures no_steps { form words.now ≡ None → steps.new ≡ steps.old }
+    ensures steps { FormMayStep (form words.now) steps.old steps.new }
 {
     let Some(command) = command_of(words.as_slice()) else {
         tell(out, USAGE);

@@ -1,5 +1,5 @@
 use Rattle.std.proofs.Common.{◌≡◌, map, take}
-use Rattle.ucdshop_core.specs.Run.{source_in}
+use Rattle.ucdshop_core.specs.Paths.{source_in}
 use Rattle.ucdshop_core.proofs.source_path.source_paths.Given as goal
 
 -- the paths so far

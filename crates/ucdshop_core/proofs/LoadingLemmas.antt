@@ -1,0 +1,93 @@
+-- Loading the source files one after the other.
+use Rattle.std.proofs.Common.{◌≡◌, ◌≢◌, ℕ, zero, suc, ◌+◌, ◌<◌, ◌≤◌, List, [], ◌∷◌, length, drop, map, Option, Some, None, Result, Ok, Err, IfOk, refl, sym, ap, subst, ◌∙◌, arith, inl, inr}
+use Rattle.std.proofs.lemmas.Bool.{cases_lt}
+use Rattle.std.proofs.lemmas.List.{drop_more}
+use Rattle.ucd_model.specs.SourceFiles.{source_files, file_place, file_at, file_place_small, file_at-place, file_place-at}
+use Rattle.ucd_model.specs.declared.files.SourceFile.{SourceFile}
+use Rattle.ucd_model.specs.declared.files.SourceFile.TheVariants.{UnicodeData}
+use Rattle.release_rows.specs.FileItems.{FileItem}
+use Rattle.release_rows.specs.Releases.{ReleaseItems, items_at, items_now}
+use Rattle.edit_session.specs.Benches.{HasNothingPrepared}
+use Rattle.ucdshop_core.specs.Judging.{JudgedAs, Loads, LoadsFile}
+use Rattle.ucdshop_core.specs.Verdict.{and_then, all_items}
+use Rattle.ucdshop_core.specs.declared.refusal.Refusal.{Refusal}
+use Rattle.ucdshop_core.specs.declared.refusal.JudgeStop.{JudgeStop}
+use Rattle.ucdshop_core.specs.declared.refusal.JudgeStop.TheVariants.{Refused, Memory}
+
+abbrev Verdict : Type 0
+Verdict = SourceFile → Result (List FileItem) Refusal
+
+-- the refusal, where there is one
+abbrev pub refusal_in : Result (List (List FileItem)) Refusal → Option Refusal
+refusal_in (Ok lists) = None
+refusal_in (Err refusal) = Some refusal
+
+refusal_is : (result : Result (List (List FileItem)) Refusal) (refusal : Refusal) → refusal_in result ≡ Some refusal → result ≡ Err refusal
+refusal_is (Ok lists) refusal e = absurd cc
+refusal_is (Err other) refusal e = cc
+
+passes : (items : List FileItem) (rest : Result (List (List FileItem)) Refusal) → refusal_in (and_then rest (λ lists. Ok (items ∷ lists))) ≡ refusal_in rest
+passes items (Ok lists) = refl
+passes items (Err refusal) = refl
+
+all_ok : (v : Verdict) (g : SourceFile → List FileItem) (files : List SourceFile) → ((file : SourceFile) → v file ≡ Ok (g file)) → all_items v files ≡ Ok (map g files)
+all_ok v g [] each = refl
+all_ok v g (file ∷ files) each = rw (each file, all_ok v g files each) refl
+
+-- nine lists are those of the nine files
+nine_lists : (lists : List (List FileItem)) → length lists ≡ 9 → map (items_at lists) source_files ≡ lists
+nine_lists (a ∷ b ∷ c ∷ d ∷ e ∷ f ∷ g ∷ h ∷ i ∷ []) nine = refl
+nine_lists [] nine = absurd (omega arith)
+nine_lists (a ∷ []) nine = absurd (omega arith)
+nine_lists (a ∷ b ∷ []) nine = absurd (omega arith)
+nine_lists (a ∷ b ∷ c ∷ []) nine = absurd (omega arith)
+nine_lists (a ∷ b ∷ c ∷ d ∷ []) nine = absurd (omega arith)
+nine_lists (a ∷ b ∷ c ∷ d ∷ e ∷ []) nine = absurd (omega arith)
+nine_lists (a ∷ b ∷ c ∷ d ∷ e ∷ f ∷ []) nine = absurd (omega arith)
+nine_lists (a ∷ b ∷ c ∷ d ∷ e ∷ f ∷ g ∷ []) nine = absurd (omega arith)
+nine_lists (a ∷ b ∷ c ∷ d ∷ e ∷ f ∷ g ∷ h ∷ []) nine = absurd (omega arith)
+nine_lists (a ∷ b ∷ c ∷ d ∷ e ∷ f ∷ g ∷ h ∷ i ∷ j ∷ more) nine = absurd (omega arith)
+
+-- files before a place are loaded as their verdict says, and those from it on have no items
+pub record IsLoadedTo (v : SourceFile → Result (List FileItem) Refusal) (at : ℕ) (release : ReleaseItems) : Type 0 where
+  pub items : (file : SourceFile) → file_place file < at → v file ≡ Ok (items_now release file)
+  pub empty : (file : SourceFile) → at ≤ file_place file → items_now release file ≡ []
+  pub later : refusal_in (all_items v source_files) ≡ refusal_in (all_items v (drop at source_files))
+  pub nine : length release.current ≡ 9
+  pub still : HasNothingPrepared release
+
+pub loaded_to_next : (v : Verdict) (at : ℕ) (old new : ReleaseItems) → at < 9 → IsLoadedTo v at old → Loads (file_at at) (v (file_at at)) old new → IsLoadedTo v (at + 1) new
+loaded_to_next v at old new lt loaded loads =
+    let differs : (file : SourceFile) → file_place file ≢ at → file ≢ file_at at = λ file apart same. apart (ap file_place same ∙ file_place-at at lt) in
+    record {
+      items = λ file below. elim (cases_lt (file_place file) at) [
+        | inl before ↦ loaded.items file before ∙ ap (λ (items : List FileItem). Ok items) (sym (loads.others file (differs file (λ same. absurd (omega arith)))))
+        | inr not_before ↦
+            let same_place : file_place file ≡ at = omega arith in
+            let same : file_at at ≡ file = ap file_at (sym same_place) ∙ file_at-place file in
+            subst (λ (f : SourceFile). v f ≡ Ok (items_now new f)) same loads.items
+      ];
+      empty = λ file above. loads.others file (differs file (λ same. absurd (omega arith))) ∙ loaded.empty file (omega arith);
+      later = loaded.later ∙ ap (λ (files : List SourceFile). refusal_in (all_items v files)) (drop_more source_files at UnicodeData (omega arith))
+          ∙ ap (λ (r : Result (List FileItem) Refusal). refusal_in (and_then r (λ items. and_then (all_items v (drop (at + 1) source_files)) (λ lists. Ok (items ∷ lists))))) loads.items
+          ∙ passes (items_now new (file_at at)) (all_items v (drop (at + 1) source_files));
+      nine = loads.files ∙ loaded.nine;
+      still = loads.still loaded.still;
+    }
+
+pub all_loaded : (v : Verdict) (release : ReleaseItems) → IsLoadedTo v 9 release → all_items v source_files ≡ Ok release.current
+all_loaded v release loaded =
+    all_ok v (items_now release) source_files (λ file. loaded.items file (file_place_small file))
+    ∙ ap (λ (lists : List (List FileItem)). Ok lists) (nine_lists release.current loaded.nine)
+
+first_refused : (v : Verdict) (at : ℕ) (release : ReleaseItems) (refusal : Refusal) → at < 9 → IsLoadedTo v at release → v (file_at at) ≡ Err refusal → all_items v source_files ≡ Err refusal
+first_refused v at release refusal lt loaded here =
+    refusal_is (all_items v source_files) refusal
+    (loaded.later ∙ ap (λ (files : List SourceFile). refusal_in (all_items v files)) (drop_more source_files at UnicodeData (omega arith))
+    ∙ ap (λ (r : Result (List FileItem) Refusal). refusal_in (and_then r (λ items. and_then (all_items v (drop (at + 1) source_files)) (λ lists. Ok (items ∷ lists))))) here)
+
+-- a file that is not loaded stops the whole
+pub judged_stop : (v : Verdict) (at : ℕ) (release old new : ReleaseItems) (stop : JudgeStop) → at < 9 → IsLoadedTo v at release → LoadsFile (Err stop) (v (file_at at)) (file_at at) old new
+    → JudgedAs {A = ReleaseItems} (λ r. r.current) (Err stop) (all_items v source_files)
+judged_stop v at release old new (Refused refusal) lt loaded h = first_refused v at release refusal lt loaded h
+judged_stop v at release old new Memory lt loaded h = tt

@@ -1,0 +1,164 @@
+//! The files that a run writes, made before the first is written.
+
+ghost use Rattle.std.specs.Prelude.{◌≡◌, ◌∷◌, ◌++◌, [], IfOk, OnOk, map};
+ghost use Rattle.derived_writer.specs.Cuts.{IsCut};
+ghost use Rattle.edit_session.specs.Benches.{bench_record};
+ghost use Rattle.ucd_model.specs.DerivedFiles.{derived_files};
+ghost use Rattle.ucd_model.specs.Limits.{point_count};
+ghost use Rattle.ucd_model.specs.SourceFiles.{source_files};
+ghost use Rattle.ucdshop_core.specs.Carrying.{session_of};
+ghost use Rattle.ucdshop_core.specs.Commands.{job_of};
+ghost use Rattle.ucdshop_core.specs.Planning.{HaveLines, Puts};
+ghost use Rattle.ucdshop_core.specs.Printed.{write_failed};
+ghost use Rattle.ucdshop_core.specs.Run.{derived_file, log_file, new_files, source_file};
+ghost use Rattle.ucdshop_core.specs.Writing.{file_of, files_of};
+
+use crate::bench_pieces::bench_pieces;
+use crate::carrying::Carried;
+use crate::command::Command;
+use crate::printed::write_failed;
+use crate::source_path::path_in;
+use crate::writing::Output;
+use derived_writer::text_over;
+use edit_session::Bench;
+use std::alloc::Global;
+use ucd_model::{DERIVED_FILES, DerivedFile, Memory, SOURCE_FILES, SourceFile, Span, Text};
+
+/// The files that a command writes, once the commands of its script are carried out on a bench, each with the line for
+/// the case that it can't be written.
+///
+/// - `Memory`: memory ran out.
+pub fn outputs_of(
+    alloc: Global,
+    command: Command<'_>,
+    bench: &Bench,
+    carried: &Carried,
+) -> Result<Vec<Output>, Memory>
+    ensures files { IfOk result (λ outputs. files_of outputs.items ≡ new_files (job_of command.entry) (session_of bench.now carried.now)) }
+    ensures lines { IfOk result (λ outputs. HaveLines outputs.items) }
+{
+    let mut outputs = Vec::new(alloc);
+    match command {
+        Command::Derive { output, .. } => put_derived(alloc, output, bench, &mut outputs)?,
+        Command::Apply { output, .. } => put_all(alloc, output, bench, carried, &mut outputs)?,
+    }
+    Ok(outputs)
+}
+
+/// Puts what `apply` writes below a folder: the source files, the derived files and the log.
+fn put_all(
+    alloc: Global,
+    folder: &[u8],
+    bench: &Bench,
+    carried: &Carried,
+    outputs: &mut Vec<Output>,
+) -> Result<(), Memory>
+    ensures { OnOk result (Puts (map (source_file folder.now bench.now.current) source_files ++ map (derived_file folder.now bench.now.current) derived_files ++ log_file folder.now carried.now.log ∷ []) outputs.old.items outputs.new.items) }
+{
+    put_sources(alloc, folder, bench, outputs)?;
+    put_derived(alloc, folder, bench, outputs)?;
+    put_log(alloc, folder, carried, outputs)?;
+    Ok(())
+}
+
+/// Puts the source files of a bench below a folder.
+fn put_sources(
+    alloc: Global,
+    folder: &[u8],
+    bench: &Bench,
+    outputs: &mut Vec<Output>,
+) -> Result<(), Memory>
+    ensures { OnOk result (Puts (map (source_file folder.now bench.now.current) source_files) outputs.old.items outputs.new.items) }
+{
+    'files: for file in &SOURCE_FILES {
+        let output = source_output(alloc, folder, *file, bench)?;
+        outputs.push(output)?;
+    }
+    Ok(())
+}
+
+/// Puts the files that are derived of a bench below a folder.
+fn put_derived(
+    alloc: Global,
+    folder: &[u8],
+    bench: &Bench,
+    outputs: &mut Vec<Output>,
+) -> Result<(), Memory>
+    ensures { OnOk result (Puts (map (derived_file folder.now bench.now.current) derived_files) outputs.old.items outputs.new.items) }
+{
+    let pieces = bench_pieces(alloc, bench)?;
+    'files: for file in &DERIVED_FILES {
+        let output = derived_output(alloc, folder, *file, bench, pieces.as_slice())?;
+        outputs.push(output)?;
+    }
+    Ok(())
+}
+
+/// Puts the log below a folder.
+fn put_log(
+    alloc: Global,
+    folder: &[u8],
+    carried: &Carried,
+    outputs: &mut Vec<Output>,
+) -> Result<(), Memory>
+    ensures { OnOk result (Puts (log_file folder.now carried.now.log ∷ []) outputs.old.items outputs.new.items) }
+{
+    let output = log_output(alloc, folder, carried)?;
+    outputs.push(output)?;
+    Ok(())
+}
+
+/// The output of these bytes at this path.
+fn output_of(alloc: Global, path: Text, bytes: Text) -> Result<Output, Memory>
+    ensures file { IfOk result (λ output. file_of output ≡ record { path = path; bytes = bytes }) }
+    ensures line { IfOk result (λ output. output.fault_line ≡ write_failed output.path) }
+{
+    let fault_line = write_failed(alloc, path.as_slice())?;
+    Ok(Output {
+        path,
+        bytes,
+        fault_line,
+    })
+}
+
+/// A source file of a bench below a folder.
+fn source_output(
+    alloc: Global,
+    folder: &[u8],
+    file: SourceFile,
+    bench: &Bench,
+) -> Result<Output, Memory>
+    ensures file { IfOk result (λ output. file_of output ≡ source_file folder.now bench.now.current file) }
+    ensures line { IfOk result (λ output. output.fault_line ≡ write_failed output.path) }
+{
+    let path = path_in(alloc, folder, file.path())?;
+    let bytes = bench.release().text(alloc, file)?;
+    output_of(alloc, path, bytes)
+}
+
+/// A derived file below a folder, over the pieces of equal records.
+fn derived_output(
+    alloc: Global,
+    folder: &[u8],
+    file: DerivedFile,
+    bench: &Bench,
+    pieces: &[Span],
+) -> Result<Output, Memory>
+    requires { IsCut (bench_record bench.now) 0 point_count pieces.now }
+    ensures file { IfOk result (λ output. file_of output ≡ derived_file folder.now bench.now.current file) }
+    ensures line { IfOk result (λ output. output.fault_line ≡ write_failed output.path) }
+{
+    let path = path_in(alloc, folder, file.path())?;
+    let bytes = text_over(alloc, bench, pieces, file)?;
+    output_of(alloc, path, bytes)
+}
+
+/// The log below a folder.
+fn log_output(alloc: Global, folder: &[u8], carried: &Carried) -> Result<Output, Memory>
+    ensures file { IfOk result (λ output. file_of output ≡ log_file folder.now carried.now.log) }
+    ensures line { IfOk result (λ output. output.fault_line ≡ write_failed output.path) }
+{
+    let path = path_in(alloc, folder, b"bench.log")?;
+    let bytes = carried.log.copy(alloc)?;
+    output_of(alloc, path, bytes)
+}

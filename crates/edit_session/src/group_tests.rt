@@ -4,7 +4,7 @@ ghost use Rattle.std.specs.Prelude.{◌≡◌, IfOk};
 ghost use Rattle.std.specs.List.{All};
 ghost use Rattle.release_rows.specs.Operations.{IsOp};
 
-use crate::{ApplyStop, Bench, Refused};
+use crate::{Accepted, ApplyStop, Bench, Refused};
 use release_rows::{KeyRule, Op, Ops, Release};
 use source_rows::{read_key, read_row};
 use std::alloc::Global;
@@ -31,14 +31,23 @@ enum Edit {
 }
 
 /// What a group is answered.
-#[derive(Clone, Copy)]
+#[derive(Drop)]
 enum Answer {
     /// The records of these code points differ.
     Changed(&'static [u32]),
-    /// An operation breaks a rule on keys.
-    Key(KeyRule, u32),
-    /// A code point breaks a rule of a valid release.
-    Valid(Bad, u32),
+    /// The group is not carried out.
+    Stopped(ApplyStop),
+}
+
+/// The operation of this number breaks a rule on keys.
+fn key(rule: KeyRule, op: u32) -> Answer {
+    Answer::Stopped(ApplyStop::Refused(Refused::Key { rule, op }))
+}
+
+/// The code point of this number breaks a rule of a valid release.
+fn valid(rule: Bad, number: u32) -> Result<Answer, Fail> {
+    let point = Point::new(number).ok_or("a code point")?;
+    Ok(Answer::Stopped(ApplyStop::Refused(Refused::Valid { rule, point })))
 }
 
 /// An edit as an operation.
@@ -77,30 +86,37 @@ fn have_numbers(points: &[Point], numbers: &[u32]) -> bool {
         .eq(numbers.iter().copied())
 }
 
+/// Whether a group is stopped as it is expected.
+fn is_stopped(stop: ApplyStop, expected: &Answer) -> bool {
+    match expected {
+        Answer::Stopped(other) => stop == *other,
+        Answer::Changed(_) => false,
+    }
+}
+
+/// Whether just these records differ.
+fn is_accepted(accepted: &Accepted, expected: &Answer) -> bool {
+    match expected {
+        Answer::Changed(numbers) => have_numbers(accepted.changed.as_slice(), numbers),
+        Answer::Stopped(_) => false,
+    }
+}
+
 /// Whether a bench answers a group so.
 fn is_answered<L: Ledger>(
     alloc: Global,
     bench: &mut Bench,
     edits: &[Edit],
-    expected: Answer,
+    expected: &Answer,
     steps: &mut Steps<L>,
 ) -> Result<bool, Fail> {
     let group = group_of(alloc, edits)?;
     if group.len() > 4096 {
         return Ok(false);
     }
-    let told = bench.apply(alloc, group.as_slice(), steps);
-    Ok(match (told, expected) {
-        (Ok(accepted), Answer::Changed(numbers)) => have_numbers(
-            accepted.changed.as_slice(),
-            numbers,
-        ),
-        (Err(ApplyStop::Refused(Refused::Key { rule, op })), Answer::Key(broken, number)) => {
-            rule == broken && op == number
-        }
-        (Err(ApplyStop::Refused(Refused::Valid { rule, point })), Answer::Valid(broken, number)) =>
-            { rule == broken && point.number() == number }
-        _ => false,
+    Ok(match bench.apply(alloc, group.as_slice(), steps) {
+        Ok(accepted) => is_accepted(&accepted, expected),
+        Err(stop) => is_stopped(stop, expected),
     })
 }
 
@@ -121,7 +137,7 @@ fn all_answered<L: Ledger>(
         return Ok(false);
     };
     for (edits, expected) in groups {
-        if !is_answered(alloc, &mut bench, edits, *expected, &mut steps)? {
+        if !is_answered(alloc, &mut bench, edits, expected, &mut steps)? {
             return Ok(false);
         }
     }
@@ -177,7 +193,7 @@ fn a_refused_group_leaves_no_rows(rt: HostRuntime) -> Result<(), Fail> {
                 Edit::Add(SourceFile::UnicodeData, b"1000;A;Lo;0;L;1001;;;;N;;;;;"),
                 Edit::Add(SourceFile::UnicodeData, b"1001;B;Lo;0;L;1000;;;;N;;;;;"),
             ],
-            Answer::Valid(Bad::V2, 0x1000),
+            valid(Bad::V2, 0x1000)?,
         ),
         (
             &[Edit::Add(SourceFile::UnicodeData, b"1002;C;Lo;0;L;;;;;N;;;;;")],
@@ -193,7 +209,7 @@ fn a_mark_is_withdrawn_with_its_composite(rt: HostRuntime) -> Result<(), Fail> {
     let mark = Edit::Withdraw(SourceFile::UnicodeData, b"0300");
     let composite = Edit::Withdraw(SourceFile::UnicodeData, b"00C0");
     let groups: [(&[Edit], Answer); 2] = [
-        (&[mark], Answer::Valid(Bad::V1, 0x00C0)),
+        (&[mark], valid(Bad::V1, 0x00C0)?),
         (&[mark, composite], Answer::Changed(&[0x00C0, 0x0300])),
     ];
     assert!(rt; answers(rt.alloc(), GRAVE, &groups)?);
@@ -211,10 +227,10 @@ fn the_first_operation_that_breaks_a_rule_is_named(rt: HostRuntime) -> Result<()
     );
     let new = Edit::Add(file, b"0062;LATIN SMALL LETTER B;Ll;0;L;;;;;N;;;;;");
     let groups: [(&[Edit], Answer); 5] = [
-        (&[again], Answer::Key(KeyRule::K1, 1)),
-        (&[missing], Answer::Key(KeyRule::K2, 1)),
-        (&[range], Answer::Key(KeyRule::K4, 1)),
-        (&[new, missing, again], Answer::Key(KeyRule::K2, 2)),
+        (&[again], key(KeyRule::K1, 1)),
+        (&[missing], key(KeyRule::K2, 1)),
+        (&[range], key(KeyRule::K4, 1)),
+        (&[new, missing, again], key(KeyRule::K2, 2)),
         (&[new], Answer::Changed(&[0x0062])),
     ];
     assert!(rt; answers(rt.alloc(), LETTERS, &groups)?);

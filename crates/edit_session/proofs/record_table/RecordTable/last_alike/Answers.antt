@@ -1,5 +1,4 @@
-use Rattle.std.proofs.Common.{◌<◌, arith, subst, sym}
-use Rattle.ucd_model.specs.Limits.{point_count}
+use Rattle.std.proofs.Common.{◌<◌, arith}
 use Rattle.edit_session.proofs.PointRecords.{has_place, place_below}
 use Rattle.edit_session.specs.RecordLists.{count_of}
 use Rattle.edit_session.proofs.record_table.RecordTable.last_alike.Goals as goal

@@ -44,10 +44,13 @@ fn key(rule: KeyRule, op: u32) -> Answer {
     Answer::Stopped(ApplyStop::Refused(Refused::Key { rule, op }))
 }
 
-/// The code point of this number breaks a rule of a valid release.
-fn valid(rule: Bad, number: u32) -> Result<Answer, Fail> {
-    let point = Point::new(number).ok_or("a code point")?;
-    Ok(Answer::Stopped(ApplyStop::Refused(Refused::Valid { rule, point })))
+/// The code point breaks a rule of a valid release.
+fn valid(rule: Bad, point: Point) -> Answer {
+    Answer::Stopped(ApplyStop::Refused(Refused::Valid { rule, point }))
+}
+
+fn point(number: u32) -> Result<Point, Fail> {
+    Ok(Point::new(number).ok_or("a code point")?)
 }
 
 /// An edit as an operation.
@@ -187,13 +190,14 @@ fn dependants_change_with_what_they_ask(rt: HostRuntime) -> Result<(), Fail> {
 
 #[test]
 fn a_refused_group_leaves_no_rows(rt: HostRuntime) -> Result<(), Fail> {
+    let least = point(0x1000)?;
     let groups: [(&[Edit], Answer); 2] = [
         (
             &[
                 Edit::Add(SourceFile::UnicodeData, b"1000;A;Lo;0;L;1001;;;;N;;;;;"),
                 Edit::Add(SourceFile::UnicodeData, b"1001;B;Lo;0;L;1000;;;;N;;;;;"),
             ],
-            valid(Bad::V2, 0x1000)?,
+            valid(Bad::V2, least),
         ),
         (
             &[Edit::Add(SourceFile::UnicodeData, b"1002;C;Lo;0;L;;;;;N;;;;;")],
@@ -206,11 +210,12 @@ fn a_refused_group_leaves_no_rows(rt: HostRuntime) -> Result<(), Fail> {
 
 #[test]
 fn a_mark_is_withdrawn_with_its_composite(rt: HostRuntime) -> Result<(), Fail> {
-    let mark = Edit::Withdraw(SourceFile::UnicodeData, b"0300");
-    let composite = Edit::Withdraw(SourceFile::UnicodeData, b"00C0");
+    const MARK: Edit = Edit::Withdraw(SourceFile::UnicodeData, b"0300");
+    const COMPOSITE: Edit = Edit::Withdraw(SourceFile::UnicodeData, b"00C0");
+    let least = point(0x00C0)?;
     let groups: [(&[Edit], Answer); 2] = [
-        (&[mark], valid(Bad::V1, 0x00C0)?),
-        (&[mark, composite], Answer::Changed(&[0x00C0, 0x0300])),
+        (&[MARK], valid(Bad::V1, least)),
+        (&[MARK, COMPOSITE], Answer::Changed(&[0x00C0, 0x0300])),
     ];
     assert!(rt; answers(rt.alloc(), GRAVE, &groups)?);
     Ok(())
@@ -218,20 +223,20 @@ fn a_mark_is_withdrawn_with_its_composite(rt: HostRuntime) -> Result<(), Fail> {
 
 #[test]
 fn the_first_operation_that_breaks_a_rule_is_named(rt: HostRuntime) -> Result<(), Fail> {
-    let file = SourceFile::UnicodeData;
-    let again = Edit::Add(file, b"0041;X;Lu;0;L;;;;;N;;;;;");
-    let missing = Edit::Withdraw(file, b"0042");
-    let range = Edit::Add(
-        file,
+    const FILE: SourceFile = SourceFile::UnicodeData;
+    const AGAIN: Edit = Edit::Add(FILE, b"0041;X;Lu;0;L;;;;;N;;;;;");
+    const MISSING: Edit = Edit::Withdraw(FILE, b"0042");
+    const RANGE: Edit = Edit::Add(
+        FILE,
         b"0040;<R, First>;Lo;0;L;;;;;N;;;;;\n0050;<R, Last>;Lo;0;L;;;;;N;;;;;",
     );
-    let new = Edit::Add(file, b"0062;LATIN SMALL LETTER B;Ll;0;L;;;;;N;;;;;");
+    const NEW: Edit = Edit::Add(FILE, b"0062;LATIN SMALL LETTER B;Ll;0;L;;;;;N;;;;;");
     let groups: [(&[Edit], Answer); 5] = [
-        (&[again], key(KeyRule::K1, 1)),
-        (&[missing], key(KeyRule::K2, 1)),
-        (&[range], key(KeyRule::K4, 1)),
-        (&[new, missing, again], key(KeyRule::K2, 2)),
-        (&[new], Answer::Changed(&[0x0062])),
+        (&[AGAIN], key(KeyRule::K1, 1)),
+        (&[MISSING], key(KeyRule::K2, 1)),
+        (&[RANGE], key(KeyRule::K4, 1)),
+        (&[NEW, MISSING, AGAIN], key(KeyRule::K2, 2)),
+        (&[NEW], Answer::Changed(&[0x0062])),
     ];
     assert!(rt; answers(rt.alloc(), LETTERS, &groups)?);
     Ok(())

@@ -1,10 +1,10 @@
 -- What each status says, from what a run leaves.
-use Rattle.std.proofs.Common.{◌≡◌, ◌≢◌, ◌⊎◌, ◌↔◌, ℕ, IsTrue, List, Option, Some, None, refl, sym, ap, subst, ◌∙◌, inl, inr}
+use Rattle.std.proofs.Common.{◌≡◌, ◌≢◌, ◌⊎◌, ◌↔◌, ℕ, IsTrue, List, Option, Some, None, refl, ap, subst, inl, inr}
 use Rattle.shelf_io.specs.Counts.{Rose}
 use Rattle.shelf_io.specs.Contents.{SameContents}
 use Rattle.ucdshop_core.specs.Printed.{usage, read_failed, out_of_memory}
 use Rattle.ucdshop_core.specs.Run.{Job, form, Ending, Expected, NoForm, Refuses, Finishes, Seen, expected, expected_of, everywhere, Replaced, Sees, EndsAs, IsFine}
-use Rattle.ucdshop_core.specs.Outcome.{ShelfSeen, SinkSeen, Told, IsFinished, Leaves, IsWriteStopped, IsUntold, Outcome, IsNeeded, FinishesWell, MayWrite, PassesReads, WritesNothing, status_if, status_of}
+use Rattle.ucdshop_core.specs.Outcome.{ShelfSeen, SinkSeen, Told, IsFinished, Leaves, IsWriteStopped, IsUntold, Outcome, IsNeeded, FinishesWell, MayWrite, PassesReads, WritesNothing, status_of}
 use Rattle.ucdshop_core.specs.Promises.{NoFault, Promises}
 use Rattle.ucdshop_core.specs.declared.status.Status.{Status}
 use Rattle.ucdshop_core.proofs.RunLemmas.{seen_held}

@@ -1,5 +1,5 @@
 -- Outputs that are put one after the other.
-use Rattle.std.proofs.Common.{◌≡◌, List, ◌++◌, ap, ◌∙◌}
+use Rattle.std.proofs.Common.{List, ◌++◌, ap, ◌∙◌}
 use Rattle.std.proofs.lemmas.List.{append_assoc}
 use Rattle.ucdshop_core.specs.Planning.{Puts}
 use Rattle.ucdshop_core.specs.Run.{NewFile}

@@ -1,9 +1,9 @@
 -- What a run makes before it writes, from the verdict on what it read.
-use Rattle.std.proofs.Common.{◌≡◌, IsTrue, Bool, List, ℕ, Option, Some, Result, Ok, Err, map, sym, ap, subst, ◌∙◌}
+use Rattle.std.proofs.Common.{◌≡◌, IsTrue, Bool, List, ℕ, Option, Some, Err, map, sym, ap, subst, ◌∙◌}
 use Rattle.ucdshop_core.specs.Judging.{held_verdict}
-use Rattle.ucdshop_core.specs.Planning.{HasPlan, IsPlanOf, OnRefused, PlansAs}
+use Rattle.ucdshop_core.specs.Planning.{IsPlanOf, OnRefused, PlansAs}
 use Rattle.ucdshop_core.specs.Reading.{cut}
-use Rattle.ucdshop_core.specs.Run.{Contents, Expected, Job, Refuses, Seen, Sees, everywhere, expected_of, judged, job_verdict, needed}
+use Rattle.ucdshop_core.specs.Run.{Contents, Job, Refuses, Sees, everywhere, expected_of, judged, needed}
 use Rattle.ucdshop_core.specs.declared.plan.Plan.{Plan}
 use Rattle.ucdshop_core.specs.declared.stop.Stop.{Stop}
 use Rattle.ucdshop_core.specs.declared.stop.Stop.TheVariants.{Refused, ReadFailed, Memory}

@@ -14,13 +14,12 @@ use Rattle.ucdshop_core.specs.Promises.{shelf_seen}
 use Rattle.ucdshop_core.specs.Session.{Session, session}
 use Rattle.ucdshop_core.specs.declared.refusal.Refusal.{Refusal}
 use Rattle.ucdshop_core.specs.Writing.{file_of, files_of}
-use Rattle.ucdshop_core.specs.Outcome.{ShelfSeen, SinkSeen, Unchanged, LastFailedStays, Grew, GrewInPart, Told, IsFinished, Leaves, IsWriteStopped, IsUntold, Outcome, StoppedWith, StopsWriting, WritesAll, Finished, status_if}
+use Rattle.ucdshop_core.specs.Outcome.{ShelfSeen, SinkSeen, LastFailedStays, Grew, GrewInPart, Told, IsFinished, Leaves, IsWriteStopped, IsUntold, Outcome, StoppedWith, StopsWriting, WritesAll, Finished, status_if}
 use Rattle.ucdshop_core.specs.declared.plan.Plan.{Plan}
 use Rattle.ucdshop_core.specs.declared.writing.Output.{Output}
 use Rattle.ucdshop_core.specs.declared.stop.Stop.{Stop}
 use Rattle.ucdshop_core.specs.declared.stop.Stop.TheVariants as stops
 use Rattle.ucdshop_core.specs.declared.status.Status.{Status}
-use Rattle.ucdshop_core.specs.declared.status.Status.TheVariants.{Clean, Done, BadWords, LoadRefused, ReadFault, WriteFault, Memory}
 
 some_is : {A : Type 0} (x y : A) (o : Option A) → o ≡ Some x → o ≡ Some y → x ≡ y
 some_is x y o p q = cc

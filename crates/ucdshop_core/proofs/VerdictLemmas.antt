@@ -21,7 +21,7 @@ use Rattle.ucdshop_core.specs.Judging.{source_held, script_held, held_verdict}
 use Rattle.ucdshop_core.specs.Paths.{source_in}
 use Rattle.ucdshop_core.specs.Reading.{cut}
 use Rattle.ucdshop_core.specs.Run.{Contents, Job, Derive, Apply, Inputs, Sees, everywhere, input_of, script_of, needed, commands_verdict, inputs_verdict, job_verdict}
-use Rattle.ucdshop_core.specs.Verdict.{and_then, valid_files, told_items, file_verdict, all_items, files_verdict, release_verdict, script_verdict, told_commands}
+use Rattle.ucdshop_core.specs.Verdict.{and_then, valid_files, told_items, file_verdict, all_items, release_verdict, script_verdict, told_commands}
 use Rattle.ucdshop_core.specs.declared.refusal.Refusal.{Refusal}
 use Rattle.ucdshop_core.specs.declared.refusal.Refusal.TheVariants.{LongScript}
 
@@ -126,6 +126,8 @@ read_of folder held file =
 pub verdict_seen : (tells : Bool) (holds : Contents) (job : Job) (held : List (Option (List ℕ))) → (IsTrue tells → held ≡ map (λ path. cut (holds path)) (needed job))
     → Sees tells (everywhere holds) (λ seen. held_verdict job held ≡ job_verdict job seen)
 verdict_seen true holds job held same = (everywhere holds, λ _. refl, verdict_read job holds held (same refl))
-verdict_seen false holds job held same =
-    (record { folder = read_contents (input_of job) (source_held held); script = λ _. script_held held }, λ none. absurd cc,
-    ap (λ (h : SourceFile → Option (List ℕ)). inputs_verdict job h (script_held held)) (fun_ext (λ file. sym (read_of (input_of job) (source_held held) file))))
+verdict_seen false holds job held same = (
+  record { folder = read_contents (input_of job) (source_held held); script = λ _. script_held held },
+  λ none. absurd cc,
+  ap (λ (h : SourceFile → Option (List ℕ)). inputs_verdict job h (script_held held)) (fun_ext (λ file. sym (read_of (input_of job) (source_held held) file))),
+)

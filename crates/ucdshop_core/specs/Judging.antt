@@ -10,7 +10,7 @@
 -- Loads file expected old new     the file has the items that were expected, all other files and their number stay, and nothing is
 --                                 prepared where nothing was
 -- LoadsFile result expected file old new   so it is, or the refusal is the expected one; want of memory says nothing
-use Rattle.std.specs.Prelude.{◌≡◌, ◌≢◌, ℕ, List, length, Option, Some, None, Result, Ok, Err, ⊤, slice_index_or}
+use Rattle.std.specs.Prelude.{◌≡◌, ◌≢◌, ℕ, List, length, Option, None, Result, Ok, Err, ⊤, slice_index_or}
 use Rattle.ucd_model.specs.declared.files.SourceFile.{SourceFile}
 use Rattle.ucd_model.specs.SourceFiles.{file_place}
 use Rattle.release_rows.specs.FileItems.{FileItem}

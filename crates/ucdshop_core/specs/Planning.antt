@@ -15,7 +15,7 @@
 --                                 memory says nothing
 -- HasPlan ending plan             the plan writes the files of the ending, each with the line that names its path, tells its
 --                                 summary, and says whether a command was refused or a policy is broken
-use Rattle.std.specs.Prelude.{◌≡◌, ◌≤◌, ℕ, List, ◌++◌, map, IsTrue, Bool, Option, Some, None, Result, Ok, Err, ⊤, slice_get}
+use Rattle.std.specs.Prelude.{◌≡◌, ◌≤◌, ℕ, List, ◌++◌, map, IsTrue, Bool, Some, Result, Ok, Err, ⊤, slice_get}
 use Rattle.ucdshop_core.specs.Printed.{read_failed, write_failed}
 use Rattle.ucdshop_core.specs.Refusals.{refusal_line}
 use Rattle.ucdshop_core.specs.Outcome.{ShelfSeen, Unchanged, LastFailedStays}

@@ -147,9 +147,7 @@ fn summary_of(alloc: Global, counts: [&[u8]; 2]) -> Result<Text, Memory> {
 
 /// Whether a shelf holds these files.
 fn holds(shelf: &MemoryShelf, files: &[File]) -> bool {
-    files
-        .iter()
-        .all(|file| shelf.held(file.0) == Some(file.1))
+    files.iter().all(|file| shelf.held(file.0) == Some(file.1))
 }
 
 #[test]
@@ -160,7 +158,11 @@ fn scripts_are_carried_out(rt: HostRuntime) -> Result<(), Fail> {
         shelf.place(b"s", session.script)?;
         let (status, out) = run_words(alloc, &WORDS, &mut shelf, 1000)?;
         let summary = summary_of(alloc, session.counts)?;
-        let expected = if session.counts[1] == b"0".as_slice() { Status::Clean } else { Status::Done };
+        let expected = if session.counts[1] == b"0".as_slice() {
+            Status::Clean
+        } else {
+            Status::Done
+        };
         assert_eq!(rt; (status, out.written()), (expected, summary.as_slice()));
         assert!(rt; holds(&shelf, session.files));
         assert_eq!(rt; shelf.held(b"d/UnicodeData.txt"), Some(session.data[0]));
@@ -180,7 +182,9 @@ fn files_are_derived_after_the_script(rt: HostRuntime) -> Result<(), Fail> {
     assert_eq!(rt; status, Status::Clean);
     let section =
         b"# NFKC_CF\n00E0 ; NFKC_CF ; 0061\nFB00 ; NFKC_CF ; 0061\n# total 2\n\n".as_slice();
-    let text = shelf.held(b"o/DerivedNormalizationProps.txt").unwrap_or(b"");
+    let text = shelf
+        .held(b"o/DerivedNormalizationProps.txt")
+        .unwrap_or(b"");
     assert!(rt; text.windows(section.len()).any(|part| part == section));
     Ok(())
 }
@@ -195,8 +199,14 @@ fn a_folder_is_edited_in_place(rt: HostRuntime) -> Result<(), Fail> {
     let (status, _) = run_words(alloc, &words, &mut shelf, 1000)?;
     assert_eq!(rt; status, Status::Clean);
     assert_eq!(rt; shelf.held(b"d/UnicodeData.txt"), Some(GRAVE));
-    assert_eq!(rt; shelf.held(b"d/CompositionExclusions.txt"), Some(b"00C0\n".as_slice()));
-    assert_eq!(rt; shelf.held(b"d/bench.log"), Some(b"1 accepted 2\n".as_slice()));
+    assert_eq!(rt;
+        shelf.held(b"d/CompositionExclusions.txt"),
+        Some(b"00C0\n".as_slice())
+    );
+    assert_eq!(rt;
+        shelf.held(b"d/bench.log"),
+        Some(b"1 accepted 2\n".as_slice())
+    );
     Ok(())
 }
 
@@ -222,7 +232,10 @@ fn scripts_are_refused_by_their_first_fault(rt: HostRuntime) -> Result<(), Fail>
         (b"begin", b"refused: s line 1 E2\n"),
         (b"begin\nbegin", b"refused: s line 2 E3\n"),
         (b"add UnicodeData.txt 0041;A", b"refused: s line 1 E6 G03\n"),
-        (b"# head\n\nwithdraw PropList.txt 0041\n", b"refused: s line 3 E6 G03\n"),
+        (
+            b"# head\n\nwithdraw PropList.txt 0041\n",
+            b"refused: s line 3 E6 G03\n",
+        ),
         (group.as_slice(), b"refused: s line 4098 E5\n"),
     ];
     for (script, line) in cases {
@@ -244,8 +257,16 @@ fn the_script_is_judged_after_the_folder(rt: HostRuntime) -> Result<(), Fail> {
     let cases: [(&[u8], Option<&[u8]>, &[u8]); 4] = [
         (LETTERS, None, b"refused: s line 0 G01\n"),
         (LETTERS, Some(long.as_slice()), b"refused: s line 0 G02\n"),
-        (b"0041\n", Some(b"begin"), b"refused: d/UnicodeData.txt line 1 G03\n"),
-        (b"1000;X;Lo;0;L;1001;;;;N;;;;;\n", None, b"refused: d point 1000 V1\n"),
+        (
+            b"0041\n",
+            Some(b"begin"),
+            b"refused: d/UnicodeData.txt line 1 G03\n",
+        ),
+        (
+            b"1000;X;Lo;0;L;1001;;;;N;;;;;\n",
+            None,
+            b"refused: d point 1000 V1\n",
+        ),
     ];
     for (data, script, line) in cases {
         let mut shelf = shelf_of(alloc, data, b"")?;
@@ -290,13 +311,20 @@ fn line_of(alloc: Global, said: &[u8], path: &[u8]) -> Result<Text, Memory> {
 fn each_failed_read_is_told(rt: HostRuntime) -> Result<(), Fail> {
     let alloc = rt.alloc();
     for at in 0..10 {
-        let path = if at < 9 { SOURCE_PATHS[at] } else { b"s".as_slice() };
+        let path = if at < 9 {
+            SOURCE_PATHS[at]
+        } else {
+            b"s".as_slice()
+        };
         let mut shelf = shelf_of(alloc, LETTERS, b"")?;
         shelf.place(b"s", b"")?;
         shelf.fail_read(at as u32 + 1)?;
         let (status, out) = run_words(alloc, &WORDS, &mut shelf, 1000)?;
         let line = line_of(alloc, b"read failed: ", path)?;
-        assert_eq!(rt; (status, out.written()), (Status::ReadFault, line.as_slice()));
+        assert_eq!(rt;
+            (status, out.written()),
+            (Status::ReadFault, line.as_slice())
+        );
         assert_eq!(rt; shelf.held(OUTPUT_PATHS[0]), None);
     }
     Ok(())
@@ -320,7 +348,10 @@ fn each_failed_write_is_told(rt: HostRuntime) -> Result<(), Fail> {
         shelf.fail_write(at as u32 + 1)?;
         let (status, out) = run_words(alloc, &WORDS, &mut shelf, 1000)?;
         let line = line_of(alloc, b"write failed: ", OUTPUT_PATHS[at])?;
-        assert_eq!(rt; (status, out.written()), (Status::WriteFault, line.as_slice()));
+        assert_eq!(rt;
+            (status, out.written()),
+            (Status::WriteFault, line.as_slice())
+        );
         for other in 0..OUTPUT_PATHS.len() {
             let path = OUTPUT_PATHS[other];
             if other < at {

@@ -10,7 +10,10 @@ use ucd_model::Text;
 #[derive(Clone, Copy, Debug)]
 pub enum Command<'a> {
     /// Derive the files of the folder `input` into the folder `output`.
-    Derive { input: &'a [u8], output: &'a [u8] },
+    Derive {
+        input: &'a [u8],
+        output: &'a [u8],
+    },
     /// Carry the script out on the files of the folder `input`. What they are then, and what is derived of them, goes
     /// into the folder `output`.
     Apply {

@@ -32,11 +32,7 @@ pub fn judge(alloc: Global, held: &[Option<Text>]) -> Result<Release, JudgeStop>
 
 /// Loads one file, or says why it is refused.
 #[tactic(auto, unfolding(crate::specs::Verdict::file_verdict))]
-fn load_held(
-    release: &mut Release,
-    file: SourceFile,
-    held: &Option<Text>,
-) -> Result<(), JudgeStop>
+fn load_held(release: &mut Release, file: SourceFile, held: &Option<Text>) -> Result<(), JudgeStop>
     requires { items_now release.old file ≡ [] }
     ensures { LoadsFile result (file_verdict file held.now) file release.old release.new }
 {

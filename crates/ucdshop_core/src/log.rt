@@ -16,12 +16,7 @@ use ucd_model::{Memory, Text};
 /// record.
 ///
 /// - `Memory`: memory ran out.
-pub fn put_accepted(
-    alloc: Global,
-    text: &mut Text,
-    line: u32,
-    count: usize,
-) -> Result<(), Memory>
+pub fn put_accepted(alloc: Global, text: &mut Text, line: u32, count: usize) -> Result<(), Memory>
     ensures { OnOk result (text.new ≡ text.old ++ accepted_line line count) }
 {
     put_decimal(alloc, text, line as usize)?;
@@ -33,12 +28,7 @@ pub fn put_accepted(
 /// Puts the line of a group that was refused: the number of the command's line, and why.
 ///
 /// - `Memory`: memory ran out.
-pub fn put_refused(
-    alloc: Global,
-    text: &mut Text,
-    line: u32,
-    why: Refused,
-) -> Result<(), Memory>
+pub fn put_refused(alloc: Global, text: &mut Text, line: u32, why: Refused) -> Result<(), Memory>
     ensures { OnOk result (text.new ≡ text.old ++ refused_line line why) }
 {
     put_decimal(alloc, text, line as usize)?;

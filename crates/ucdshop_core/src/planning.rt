@@ -81,7 +81,8 @@ fn held_plan<L: Ledger>(
 /// Does all of a command that comes before the first write. The counter of steps rises by at most the number of code
 /// points where the command reads no script.
 ///
-/// - `Refused(line)`: a file is absent, too long, or breaks a rule, or a code point breaks a rule of a valid release.
+/// - `Refused(line)`: a file is absent, too long, or breaks a rule, a code point breaks a rule of a valid release, or
+///   the script is refused.
 /// - `ReadFailed(line)`: a file could not be read.
 /// - `Memory`: memory ran out.
 pub fn prepare<S: Shelf, L: Ledger>(

@@ -7,7 +7,8 @@ use ucd_model::{Memory, Text};
 /// Why a run stops before it writes anything, with the line that it then prints.
 #[derive(Debug, Drop)]
 pub enum Stop {
-    /// A file is absent, too long, or breaks a rule, or a code point breaks a rule of a valid release.
+    /// A file is absent, too long, or breaks a rule, a code point breaks a rule of a valid release, or the script is
+    /// refused.
     Refused(Text),
     /// A file could not be read.
     ReadFailed(Text),

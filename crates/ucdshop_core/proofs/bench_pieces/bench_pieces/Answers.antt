@@ -1,4 +1,4 @@
-use Rattle.std.proofs.Common.{◌≡◌, ◌≤◌, ◌+◌, ℕ, List, ◌++◌, ◌∷◌, [], subst, sym, ap, ◌∙◌, arith}
+use Rattle.std.proofs.Common.{arith}
 use Rattle.ucd_model.specs.Bounds.{Bounds}
 use Rattle.edit_session.specs.Benches.{bench_record}
 use Rattle.ucdshop_core.proofs.CutLemmas.{cut_more, cut_whole}

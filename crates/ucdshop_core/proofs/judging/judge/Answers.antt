@@ -1,9 +1,9 @@
-use Rattle.std.proofs.Common.{◌≡◌, ℕ, None, List, Option, ap, subst, sym, ◌∙◌, arith}
+use Rattle.std.proofs.Common.{◌≡◌, ℕ, None, ap, subst, sym, ◌∙◌, arith}
 use Rattle.std.proofs.lemmas.List.{get_or_read}
 use Rattle.std.proofs.lemmas.Result.{err_from_is_err_and}
 use Rattle.ucd_model.specs.SourceFiles.{file_at, file_place, file_place-at}
 use Rattle.ucd_model.specs.declared.files.SourceFile.{SourceFile}
-use Rattle.ucdshop_core.specs.Judging.{LoadsFile, held_at, source_held}
+use Rattle.ucdshop_core.specs.Judging.{held_at, source_held}
 use Rattle.ucdshop_core.specs.Verdict.{file_verdict}
 use Rattle.ucdshop_core.proofs.LoadingLemmas.{IsLoadedTo, all_loaded, judged_stop, loaded_to_next}
 use Rattle.ucdshop_core.proofs.judging.judge.Goals as goal

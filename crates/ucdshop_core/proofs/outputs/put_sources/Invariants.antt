@@ -1,4 +1,4 @@
-use Rattle.std.proofs.Common.{◌≡◌, take, map}
+use Rattle.std.proofs.Common.{take, map}
 use Rattle.ucdshop_core.specs.Planning.{Puts}
 use Rattle.ucdshop_core.specs.Run.{source_file}
 use Rattle.ucdshop_core.proofs.outputs.put_sources.Given as goal

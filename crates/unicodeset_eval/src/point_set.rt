@@ -1,0 +1,104 @@
+//! Sets of code points.
+
+ghost use Rattle.std.specs.Prelude.{◌≡◌, ℕ, IfOk};
+ghost use Rattle.ucd_model.specs.Limits.{point_count};
+ghost use Rattle.unicodeset_eval.specs.Edges.{has};
+ghost use Rattle.unicodeset_eval.specs.Members.{between, joined, member_spans, nothing, outside};
+
+use crate::covering::span_edges;
+use crate::merging::{holds, merge};
+use crate::splitting::spans_of;
+use std::alloc::Global;
+use std::marker::Model;
+use ucd_model::{Memory, Span, Spans};
+use unicodeset_parser::Join;
+
+/// A set of code points. Contracts see its edges, by which each number is in or not. UTS #35, "Unicode Sets".
+///
+/// It is kept as an inversion list: the numbers at which membership turns. A complement has all numbers that the set has
+/// not, also those past 10FFFF, which no span of a set has.
+#[derive(Debug, Drop)]
+pub struct PointSet {
+    /// Whether 0 is in.
+    starts: bool,
+    /// The numbers above 0 at which membership turns; they ascend.
+    edges: Vec<u32>,
+}
+
+impl Model for PointSet {
+    ghost use Rattle.unicodeset_eval.specs.Edges.{Edges, Rises};
+
+    ghost Value = { Edges };
+
+    ghost view = { λ s. record { starts = s.starts; edges = s.edges.items } };
+
+    ghost invariant = { λ s. Rises 1 s.edges.items };
+}
+
+impl PointSet {
+    /// The set without members. It takes no memory.
+    pub fn empty(alloc: Global) -> PointSet
+        ensures { (c : ℕ) → has result c ≡ nothing c }
+    {
+        PointSet {
+            starts: false,
+            edges: Vec::new(alloc),
+        }
+    }
+
+    /// The code points of a span.
+    ///
+    /// - `Memory`: memory ran out.
+    pub fn of_span(alloc: Global, span: Span) -> Result<PointSet, Memory>
+        ensures { IfOk result (λ set. (c : ℕ) → has set c ≡ between span c) }
+    {
+        Ok(PointSet {
+            starts: span.first() == 0,
+            edges: span_edges(alloc, span)?,
+        })
+    }
+
+    /// What two sets are joined to: their union, what they have in common, or their difference. Its time is linear in
+    /// their edges.
+    ///
+    /// - `Memory`: memory ran out.
+    pub fn joined(
+        alloc: Global,
+        join: Join,
+        first: &PointSet,
+        second: &PointSet,
+    ) -> Result<PointSet, Memory>
+        ensures { IfOk result (λ set. (c : ℕ) → has set c ≡ joined join (has first.now) (has second.now) c) }
+    {
+        Ok(PointSet {
+            starts: holds(join, first.starts, second.starts),
+            edges: merge(
+                alloc,
+                join,
+                first.starts,
+                first.edges.as_slice(),
+                second.starts,
+                second.edges.as_slice(),
+            )?,
+        })
+    }
+
+    /// All numbers that the set has not. It takes no memory and no time.
+    pub fn complement(self) -> PointSet
+        ensures { (c : ℕ) → has result c ≡ outside (has self) c }
+    {
+        PointSet {
+            starts: !self.starts,
+            edges: self.edges,
+        }
+    }
+
+    /// The members that are code points, as maximal ascending spans.
+    ///
+    /// - `Memory`: memory ran out.
+    pub fn spans(&self, alloc: Global) -> Result<Spans, Memory>
+        ensures { IfOk result (λ spans. spans ≡ member_spans point_count (has self.now)) }
+    {
+        spans_of(alloc, self.starts, self.edges.as_slice())
+    }
+}

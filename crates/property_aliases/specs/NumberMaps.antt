@@ -1,0 +1,15 @@
+-- Numbers by what counts of names.
+--
+-- number_in m key             the number of a key; None where it has none
+-- found_in direct rows key    the less of the numbers of a key in two maps
+use Rattle.std.specs.Prelude.{ℕ, List, Option}
+use Rattle.std.specs.Str.{bytes_eq}
+use Rattle.indexmap.specs.IndexMap.{get_by}
+use Rattle.property_aliases.specs.ResolvingLaws.{least}
+use Rattle.property_aliases.specs.declared.number_map.NumberMap.{NumberMap}
+
+abbrev pub number_in : NumberMap → List ℕ → Option ℕ
+number_in m key = get_by (λ k. bytes_eq key k.items) m.map
+
+abbrev pub found_in : NumberMap → NumberMap → List ℕ → Option ℕ
+found_in direct rows key = least (number_in direct key) (number_in rows key)

@@ -1,0 +1,72 @@
+//! Numbers by what counts of names.
+
+ghost use Rattle.std.specs.Str.{bytes_eq};
+ghost use Rattle.std.specs.Prelude.{◌≡◌, cond, Some, None, List, ℕ, OnOk, OnErr};
+ghost use Rattle.property_aliases.specs.Loose.{is_name};
+ghost use Rattle.property_aliases.specs.NumberMaps.{number_in};
+ghost use Rattle.property_aliases.specs.ResolvingLaws.{least};
+
+use crate::loose::loose;
+use indexmap::IndexMap;
+use std::alloc::Global;
+use ucd_model::Memory;
+
+/// A number for each of some names, of which only what counts is kept.
+#[derive(Drop)]
+pub(crate) struct NumberMap {
+    map: IndexMap<Vec<u8>, usize>,
+}
+
+impl NumberMap {
+    /// No name has a number. It takes no memory.
+    pub(crate) fn new(alloc: Global) -> NumberMap
+        ensures { (key : List ℕ) → number_in result key ≡ None }
+    {
+        NumberMap {
+            map: IndexMap::new(alloc),
+        }
+    }
+
+    /// The number of the names of which this counts.
+    pub(crate) fn find(&self, key: &[u8]) -> Option<usize>
+        ensures { result ≡ number_in self.now key.now }
+    {
+        self.map.get(key).copied()
+    }
+
+    /// Gives the number to the names of which this counts, in the place of the one that they had.
+    ///
+    /// - `Memory`: memory ran out.
+    fn put_key(&mut self, number: usize, key: Vec<u8>) -> Result<(), Memory>
+        ensures { OnOk result ((other : List ℕ)
+            → number_in self.new other ≡ cond (bytes_eq other key.items) (Some number) (number_in self.old other)) }
+    {
+        self.map.insert(key, number)?;
+        Ok(())
+    }
+
+    /// Gives the number to a name, unless it has a lesser one. A name of which nothing counts gets none.
+    ///
+    /// - `Memory`: memory ran out.
+    pub(crate) fn put(&mut self, alloc: Global, number: usize, name: &[u8]) -> Result<(), Memory>
+        ensures { OnOk result ((key : List ℕ)
+            → number_in self.new key ≡ least (number_in self.old key) (cond (is_name key name.now) (Some number) None)) }
+    {
+        let key = loose(alloc, name)?;
+        if key.is_empty() {
+            return Ok(());
+        }
+        let number = lesser(self.find(key.as_slice()), number);
+        self.put_key(number, key)
+    }
+}
+
+/// The less of two numbers, of which the first may be missing.
+fn lesser(old: Option<usize>, number: usize) -> usize
+    ensures { least old (Some number) ≡ Some result }
+{
+    match old {
+        Some(old) => old.min(number),
+        None => number,
+    }
+}

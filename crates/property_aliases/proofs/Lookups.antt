@@ -2,8 +2,7 @@
 --
 -- lookup_insert    what is found after an insertion
 -- add_name_is      a name put last, unless it is there
--- put_is           what is found once the less of two numbers was inserted under what counts of a name
-use Rattle.std.proofs.Common.{◌≡◌, ℕ, Bool, true, false, cond, if◌then◌else◌, ◌||◌, List, [], ◌∷◌, ◌++◌, map, Option, Some, None, refl, sym, ap, ◌∙◌, Vec, Global}
+use Rattle.std.proofs.Common.{◌≡◌, ℕ, Bool, true, false, cond, if◌then◌else◌, ◌||◌, List, [], ◌∷◌, ◌++◌, map, Option, Some, None, refl, sym, ap, ◌∙◌}
 use Rattle.std.specs.Map.{lookup}
 use Rattle.std.specs.Str.{bytes_eq}
 use Rattle.std.proofs.lemmas.Slice.Eq.{bytes_eq-Decides}
@@ -12,8 +11,6 @@ use Rattle.std.proofs.lemmas.List.{map-append}
 use Rattle.indexmap.specs.IndexMap.{insert_entry}
 use Rattle.indexmap.specs.IndexSet.{insert_key}
 use Rattle.property_aliases.specs.Sources.{add_name}
-use Rattle.property_aliases.specs.Loose.{loose, is_name}
-use Rattle.property_aliases.specs.ResolvingLaws.{least, least_none}
 
 module _ {K X : Type 0} (bytes : K → List ℕ) where
   pub lookup_insert : (es : List (K × X)) (k : K) (v : X) (other : List ℕ) → lookup (λ q. bytes_eq other (bytes q)) (insert_entry (λ x y. bytes_eq (bytes x) (bytes y)) es k v) ≡ cond (bytes_eq other (bytes k)) (Some v) (lookup (λ q. bytes_eq other (bytes q)) es)
@@ -28,27 +25,12 @@ module _ {K X : Type 0} (bytes : K → List ℕ) where
       go true h true i false j rest = absurd (let key : bytes k ≡ bytes e.0 = (bytes_eq-Decides (bytes k) (bytes e.0)).0 h in let e : true ≡ false = sym i ∙ ap (bytes_eq other) (sym key) ∙ j in cc)
       go true h false i true j rest = absurd (let key : bytes k ≡ bytes e.0 = (bytes_eq-Decides (bytes k) (bytes e.0)).0 h in let e : true ≡ false = sym j ∙ ap (bytes_eq other) key ∙ i in cc)
       go false h true i true j rest = absurd (
-        let first : other ≡ bytes e.0 = (bytes_eq-Decides other (bytes e.0)).0 i in
-        let second : other ≡ bytes k = (bytes_eq-Decides other (bytes k)).0 j in
-        let e : true ≡ false = sym ((bytes_eq-Decides (bytes k) (bytes e.0)).1 (sym second ∙ first)) ∙ h in cc)
+          let first : other ≡ bytes e.0 = (bytes_eq-Decides other (bytes e.0)).0 i in
+          let second : other ≡ bytes k = (bytes_eq-Decides other (bytes k)).0 j in
+          let e : true ≡ false = sym ((bytes_eq-Decides (bytes k) (bytes e.0)).1 (sym second ∙ first)) ∙ h in cc)
       go false h true i false j rest = rw (h, i) refl
       go false h false i true j rest = rw (h, i, rest, j) refl
       go false h false i false j rest = rw (h, i, rest, j) refl
-
-pub put_is : (old new : List ℕ → Option ℕ) (key name : List ℕ) (number m : ℕ) → key ≡ loose name → bytes_eq key [] ≡ false → ((k : List ℕ) → new k ≡ cond (bytes_eq k key) (Some m) (old k)) → least (old key) (Some number) ≡ Some m →
-    (k : List ℕ) → new k ≡ least (old k) (cond (is_name k name) (Some number) None)
-put_is old new key name number m is some puts less [] = puts [] ∙ go key some ∙ sym (least_none (old []))
-  where
-    go : (bs : List ℕ) → bytes_eq bs [] ≡ false → cond (bytes_eq [] bs) (Some m) (old []) ≡ old []
-    go [] h = absurd cc
-    go (b ∷ bs) h = refl
-put_is old new key name number m is some puts less (b ∷ bs) = puts (b ∷ bs) ∙ rw is (go (bytes_eq (b ∷ bs) (loose name)) refl)
-  where
-    go : (c : Bool) → bytes_eq (b ∷ bs) (loose name) ≡ c → cond c (Some m) (old (b ∷ bs)) ≡ least (old (b ∷ bs)) (cond c (Some number) None)
-    go true h =
-        let here : b ∷ bs ≡ key = (bytes_eq-Decides (b ∷ bs) (loose name)).0 h ∙ sym is in
-        rw here (sym less)
-    go false h = sym (least_none (old (b ∷ bs)))
 
 -- a name put last into a set is a name put last into its list
 pub add_name_is : {K : Type 0} (bytes : K → List ℕ) (ks : List K) (k : K) → map bytes (insert_key (λ x y. bytes_eq (bytes x) (bytes y)) ks k) ≡ add_name (map bytes ks) (bytes k)
@@ -57,6 +39,7 @@ add_name_is {K} bytes ks k = rw (any_is ks) (go (list_any (bytes_eq (bytes k)) (
     any_is : (xs : List K) → list_any (λ y. bytes_eq (bytes k) (bytes y)) xs ≡ list_any (bytes_eq (bytes k)) (map bytes xs)
     any_is [] = refl
     any_is (x ∷ xs) = ap (λ b. bytes_eq (bytes k) (bytes x) || b) (any_is xs)
+
     go : (b : Bool) → map bytes (if b then ks else ks ++ k ∷ []) ≡ (if b then map bytes ks else map bytes ks ++ bytes k ∷ [])
     go true = refl
     go false = map-append bytes ks (k ∷ [])

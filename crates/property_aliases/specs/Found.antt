@@ -1,10 +1,13 @@
 -- What a table of aliases answers.
 --
--- property_in a name     the property that a name names
--- name_in names k        name k of numbered names
+-- index_in a key         which property a key names
+-- property_key_in a key  that property
+-- property_in a name     the property that a name names, with or without `is`
+-- listed_in a            the names of PropList.txt by their numbers
+-- scripts_in a           the scripts by their numbers
+-- breaks_in a            the word breaks by their numbers
 -- AreAliasesOf a s       the answers are those that the rows give
-use Rattle.std.specs.Prelude.{◌≡◌, ℕ, List, Option, map, slice_get}
-use Rattle.std.proofs.Common.{Vec, Global}
+use Rattle.std.specs.Prelude.{◌≡◌, ℕ, List, Option, map}
 use Rattle.std.specs.Option.{option_map}
 use Rattle.property_aliases.specs.NumberMaps.{found_in}
 use Rattle.property_aliases.specs.Properties.{index_at, property_by, property_of}
@@ -22,11 +25,17 @@ property_key_in a key = option_map property_by (index_in a key)
 abbrev pub property_in : Aliases → List ℕ → Option Property
 property_in a name = or_is (property_key_in a) name
 
-abbrev pub name_in : List (Vec ℕ Global) → ℕ → Option (List ℕ)
-name_in names k = slice_get (map (λ n. n.items) names) k
+abbrev pub listed_in : Aliases → List (List ℕ)
+listed_in a = map (λ k. k.items) a.listed.keys
+
+abbrev pub scripts_in : Aliases → List (List ℕ)
+scripts_in a = map (λ k. k.items) a.scripts.keys
+
+abbrev pub breaks_in : Aliases → List (List ℕ)
+breaks_in a = map (λ k. k.items) a.breaks.keys
 
 pub record AreAliasesOf (a : Aliases) (s : Sources) : Type 0 where
   pub property : (name : List ℕ) → property_in a name ≡ property_of s name
-  pub listed : map (λ k. k.items) a.listed.keys ≡ s.listed
-  pub scripts : map (λ k. k.items) a.scripts.keys ≡ s.scripts
-  pub breaks : map (λ k. k.items) a.breaks.keys ≡ s.breaks
+  pub listed : listed_in a ≡ s.listed
+  pub scripts : scripts_in a ≡ s.scripts
+  pub breaks : breaks_in a ≡ s.breaks

@@ -58,15 +58,16 @@ position_is p x xs = go (p x) refl
   where
     k : ℕ
     k = prefix_len (λ y. not (p y)) xs
+
     go : (b : Bool) → p x ≡ b → position p (x ∷ xs) ≡ cond b (Some 0) (option_map suc (position p xs))
     go true e = rw (e, lt-ltb 0 (suc (length xs)) (omega arith)) refl
     go false e = elim (cases_lt k (length xs)) [
       | inl lt ↦
-        let next : 1 + k ≡ suc k = omega arith in
-        rw (e, next, lt-ltb k (length xs) lt, lt-ltb (suc k) (suc (length xs)) (omega arith)) refl
+          let next : 1 + k ≡ suc k = omega arith in
+          rw (e, next, lt-ltb k (length xs) lt, lt-ltb (suc k) (suc (length xs)) (omega arith)) refl
       | inr ge ↦
-        let next : 1 + k ≡ suc k = omega arith in
-        rw (e, next, le-ltb k (length xs) ge, le-ltb (suc k) (suc (length xs)) (omega arith)) refl
+          let next : 1 + k ≡ suc k = omega arith in
+          rw (e, next, le-ltb k (length xs) ge, le-ltb (suc k) (suc (length xs)) (omega arith)) refl
     ]
 
 position_or : {A : Type 0} (p q : A → Bool) (xs : List A) → position (λ x. p x || q x) xs ≡ least (position p xs) (position q xs)
@@ -75,8 +76,10 @@ position_or p q (x ∷ xs) = rw (position_is (λ y. p y || q y) x xs, position_i
   where
     a : Option ℕ
     a = position p xs
+
     b : Option ℕ
     b = position q xs
+
     go : (c d : Bool) → cond (c || d) (Some 0) (option_map suc (least a b)) ≡ least (cond c (Some 0) (option_map suc a)) (cond d (Some 0) (option_map suc b))
     go true true = refl
     go true false = sym (least_zero (option_map suc b))
@@ -128,8 +131,10 @@ position_push p (y ∷ ys) x = position_is p y (ys ++ x ∷ []) ∙ rw (position
   where
     a : Option ℕ
     a = position p ys
+
     n : ℕ
     n = length ys
+
     go : (c d : Bool) → cond c (Some 0) (option_map suc (least a (cond d (Some n) None))) ≡ least (cond c (Some 0) (option_map suc a)) (cond d (Some (suc n)) None)
     go true true = sym (least_zero (Some (suc n)))
     go true false = refl

@@ -2,7 +2,7 @@
 
 ghost use Rattle.std.specs.Prelude.{◌≡◌, ◌∷◌, ◌++◌, ℕ, List, map, codes, slice_get, IfOk};
 ghost use Rattle.std.specs.Option.{option_map};
-ghost use Rattle.property_aliases.specs.Found.{AreAliasesOf, name_in, property_in, property_key_in};
+ghost use Rattle.property_aliases.specs.Found.{AreAliasesOf, breaks_in, listed_in, property_in, property_key_in, scripts_in};
 ghost use Rattle.property_aliases.specs.Loose.{has_is, loose};
 ghost use Rattle.property_aliases.specs.NumberMaps.{found_in};
 ghost use Rattle.property_aliases.specs.Resolving.{number_of};
@@ -124,21 +124,21 @@ impl Aliases {
 
     /// The name in PropList.txt of the listed property with this number; `None` where the number is not used.
     pub fn listed_name(&self, number: u64) -> Option<&[u8]>
-        ensures { option_map (λ n. n.now) result ≡ name_in self.now.listed.keys number }
+        ensures { option_map (λ n. n.now) result ≡ slice_get (listed_in self.now) number }
     {
         name_at(self.listed.as_slice(), number)
     }
 
     /// The script with this number; 0 is Unknown. `None` where the number is not used.
     pub fn script_name(&self, number: u64) -> Option<&[u8]>
-        ensures { option_map (λ n. n.now) result ≡ name_in self.now.scripts.keys number }
+        ensures { option_map (λ n. n.now) result ≡ slice_get (scripts_in self.now) number }
     {
         name_at(self.scripts.as_slice(), number)
     }
 
     /// The word break with this number; 0 is Other. `None` where the number is not used.
     pub fn break_name(&self, number: u64) -> Option<&[u8]>
-        ensures { option_map (λ n. n.now) result ≡ name_in self.now.breaks.keys number }
+        ensures { option_map (λ n. n.now) result ≡ slice_get (breaks_in self.now) number }
     {
         name_at(self.breaks.as_slice(), number)
     }
@@ -146,7 +146,7 @@ impl Aliases {
 
 /// The name with this number.
 fn name_at(names: &[Vec<u8>], number: u64) -> Option<&[u8]>
-    ensures { option_map (λ n. n.now) result ≡ name_in names.now number }
+    ensures { option_map (λ n. n.now) result ≡ slice_get (map (λ k. k.items) names.now) number }
 {
     let index = number as usize;
     if index < names.len() {

@@ -13,3 +13,6 @@ mod tables;
 
 pub use aliases::Aliases;
 pub use property::{Group, Property, Test};
+
+#[cfg(test)]
+mod tests;

@@ -99,7 +99,11 @@ fn add_row(
 /// The least place to which the rows tie each of their names.
 ///
 /// - `Memory`: memory ran out.
-pub(crate) fn rows_of(alloc: Global, direct: &NumberMap, rows: &[Texts]) -> Result<NumberMap, Memory>
+pub(crate) fn rows_of(
+    alloc: Global,
+    direct: &NumberMap,
+    rows: &[Texts],
+) -> Result<NumberMap, Memory>
     ensures { IfOk result (λ map. (key : List ℕ) → number_in map key ≡ rows_number (number_in direct.now) rows.now key) }
 {
     let mut map = NumberMap::new(alloc);

@@ -72,44 +72,9 @@ const BUILT_IN: [&[u8]; 60] = [
 
 /// The two letters of the categories, then the groups.
 const CATEGORIES: [&[u8]; 38] = [
-    b"Lu",
-    b"Ll",
-    b"Lt",
-    b"Lm",
-    b"Lo",
-    b"Mn",
-    b"Mc",
-    b"Me",
-    b"Nd",
-    b"Nl",
-    b"No",
-    b"Pc",
-    b"Pd",
-    b"Ps",
-    b"Pe",
-    b"Pi",
-    b"Pf",
-    b"Po",
-    b"Sm",
-    b"Sc",
-    b"Sk",
-    b"So",
-    b"Zs",
-    b"Zl",
-    b"Zp",
-    b"Cc",
-    b"Cf",
-    b"Cs",
-    b"Co",
-    b"Cn",
-    b"L",
-    b"LC",
-    b"M",
-    b"N",
-    b"P",
-    b"S",
-    b"Z",
-    b"C",
+    b"Lu", b"Ll", b"Lt", b"Lm", b"Lo", b"Mn", b"Mc", b"Me", b"Nd", b"Nl", b"No", b"Pc", b"Pd",
+    b"Ps", b"Pe", b"Pi", b"Pf", b"Po", b"Sm", b"Sc", b"Sk", b"So", b"Zs", b"Zl", b"Zp", b"Cc",
+    b"Cf", b"Cs", b"Co", b"Cn", b"L", b"LC", b"M", b"N", b"P", b"S", b"Z", b"C",
 ];
 
 /// The kinds of decompositions.
@@ -135,26 +100,10 @@ const DECOMPOSITIONS: [&[u8]; 18] = [
 ];
 
 /// The values of a quick check, each by two names.
-const QUICK: [&[u8]; 6] = [
-    b"Y",
-    b"Yes",
-    b"N",
-    b"No",
-    b"M",
-    b"Maybe",
-];
+const QUICK: [&[u8]; 6] = [b"Y", b"Yes", b"N", b"No", b"M", b"Maybe"];
 
 /// The values of a property that code points have or have not, each by four names.
-const TRUTH: [&[u8]; 8] = [
-    b"Y",
-    b"Yes",
-    b"T",
-    b"True",
-    b"N",
-    b"No",
-    b"F",
-    b"False",
-];
+const TRUTH: [&[u8]; 8] = [b"Y", b"Yes", b"T", b"True", b"N", b"No", b"F", b"False"];
 
 /// The two names of each property that is built in, the long one first.
 pub(crate) fn built_in_names() -> &'static [&'static [u8]]
@@ -229,11 +178,7 @@ fn push_keys(alloc: Global, texts: &mut Texts, keys: &[Vec<u8>]) -> Result<(), M
 /// Built-in names, and numbered ones behind them.
 ///
 /// - `Memory`: memory ran out.
-pub(crate) fn table_of(
-    alloc: Global,
-    built_in: &[&[u8]],
-    keys: &[Vec<u8>],
-) -> Result<Texts, Memory>
+pub(crate) fn table_of(alloc: Global, built_in: &[&[u8]], keys: &[Vec<u8>]) -> Result<Texts, Memory>
     ensures { IfOk result (λ texts. texts ≡ map (λ n. n.now) built_in.now ++ map (λ k. k.items) keys.now) }
 {
     let mut texts = ListOf::new(alloc);

@@ -1,4 +1,4 @@
-use Rattle.std.proofs.Common.{◌≡◌, map, ap, ◌∙◌}
+use Rattle.std.proofs.Common.{map, ap, ◌∙◌}
 use Rattle.property_aliases.specs.Sources.{add_name}
 use Rattle.property_aliases.proofs.Lookups.{add_name_is}
 use Rattle.property_aliases.proofs.in_order.add_name.Goals as goal

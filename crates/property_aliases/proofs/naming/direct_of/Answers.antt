@@ -1,7 +1,6 @@
 use Rattle.std.proofs.Common.{◌≡◌, ◌<◌, length, ℕ, List, [], Some, None, cond, sym, ap, ◌∙◌, arith, slice_index_or, take}
 use Rattle.std.proofs.lemmas.List.{get_or_default}
 use Rattle.property_aliases.specs.Loose.{is_name}
-use Rattle.property_aliases.specs.NumberMaps.{number_in}
 use Rattle.property_aliases.specs.ResolvingLaws.{direct, direct_more, least}
 use Rattle.property_aliases.proofs.naming.direct_of.Goals as goal
 

@@ -1,5 +1,5 @@
 use Rattle.std.proofs.Common.{◌≡◌, ℕ, List, Option, sym, ap, ◌∙◌}
-use Rattle.property_aliases.specs.NumberMaps.{number_in, found_in}
+use Rattle.property_aliases.specs.NumberMaps.{number_in}
 use Rattle.property_aliases.specs.Resolving.{number_of}
 use Rattle.property_aliases.specs.ResolvingLaws.{direct, least, rows_number, number_of_is}
 use Rattle.property_aliases.proofs.naming.Names.of.Goals as goal

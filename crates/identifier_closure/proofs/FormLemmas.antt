@@ -10,7 +10,7 @@ use Rattle.ucd_model.specs.Forms.{appended, in_order, composed, decomposed}
 use Rattle.ucd_model.specs.Validity.{is_none, is_long}
 use Rattle.ucd_model.specs.declared.form.Bad.{Bad as Rule}
 use Rattle.ucd_model.specs.declared.form.Bad.TheVariants.{V2, V3}
-use Rattle.identifier_closure.specs.PointForms.{expansion_rule, HaveForms, HaveExpansions}
+use Rattle.identifier_closure.specs.PointForms.{expansion_rule, HaveForms, ExpandTo}
 
 -- ---- the rule of two expansions
 
@@ -58,7 +58,7 @@ first_of : (a b : Option (List ℕ)) (rule : Rule) → Faulty a rule → is_none
 first_of a b rule (inl x) y = rw (x.0, x.1) refl
 first_of a b rule (inr x) y = rw (x.0, x.1, x.2, y) refl
 
-pub both_expanded : (F : ℕ → Facts) (c : ℕ) (p q : List ℕ) → expansion F false c ≡ Ok p → expansion F true c ≡ Ok q → HaveExpansions F c p q
+pub both_expanded : (F : ℕ → Facts) (c : ℕ) (p q : List ℕ) → expansion F false c ≡ Ok p → expansion F true c ≡ Ok q → ExpandTo F c p q
 both_expanded F c p q x y = record { canonical = x; compat = y; rule = none_of (full F false c) (full F true c) (sound (full F false c) p x) (sound (full F true c) q y) }
 
 pub compat_rule : (F : ℕ → Facts) (c : ℕ) (p : List ℕ) (rule : Rule) → expansion F false c ≡ Ok p → expansion F true c ≡ Err rule → expansion_rule F c ≡ Some rule
@@ -84,7 +84,7 @@ has_long F c rule e other = elim (faulty (full F true c) rule e) [ inl x ↦ abs
 alone : (F : ℕ → Facts) (compat : Bool) (c : ℕ) (p : List ℕ) → expansion F compat c ≡ Ok p → decomposed F compat (c ∷ []) ≡ Ok (order (class_of F) p)
 alone F compat c p e = ap (λ r. in_order F (appended r (Ok []))) e ∙ ap (λ zs. Ok (order (class_of F) zs)) (append-nil p)
 
-pub forms_are : (F : ℕ → Facts) (c : ℕ) (p q nfd nfc nfkd nfkc : List ℕ) → HaveExpansions F c p q → nfd ≡ order (class_of F) p → nfc ≡ compose (class_of F) (pair_of F) nfd
+pub forms_are : (F : ℕ → Facts) (c : ℕ) (p q nfd nfc nfkd nfkc : List ℕ) → ExpandTo F c p q → nfd ≡ order (class_of F) p → nfc ≡ compose (class_of F) (pair_of F) nfd
     → nfkd ≡ order (class_of F) q → nfkc ≡ compose (class_of F) (pair_of F) nfkd → HaveForms F c nfd nfc nfkc
 forms_are F c p q nfd nfc nfkd nfkc have d e k l =
     let canonical : decomposed F false (c ∷ []) ≡ Ok nfd = alone F false c p have.canonical ∙ ap (λ zs. Ok zs) (sym d) in

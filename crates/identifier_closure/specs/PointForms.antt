@@ -2,7 +2,7 @@
 --
 -- expansion_rule F c           the first rule that the expansions of c break: V2, then V3; None where they break none
 -- HaveForms F c nfd nfc nfkc   the forms of c alone are these lists
--- HaveExpansions F c p q       the canonical expansion of c is p, the compatibility expansion q, and they break no rule
+-- ExpandTo F c p q             the canonical expansion of c is p, the compatibility expansion q, and they break no rule
 -- ExpansionsAnswer F c r       r is both expansions of c, or in their place the first rule that they break; want of memory says
 --                              nothing
 -- StopsBy F c stop             the stop is the first rule that the expansions of c break; want of memory says nothing
@@ -27,13 +27,13 @@ pub record HaveForms (F : ℕ → Facts) (c : ℕ) (decomposed composed compat :
   pub nfc : nfc F (c ∷ []) ≡ Ok composed
   pub nfkc : nfkc F (c ∷ []) ≡ Ok compat
 
-pub record HaveExpansions (F : ℕ → Facts) (c : ℕ) (p q : List ℕ) : Type 0 where
+pub record ExpandTo (F : ℕ → Facts) (c : ℕ) (p q : List ℕ) : Type 0 where
   pub canonical : expansion F false c ≡ Ok p
   pub compat : expansion F true c ≡ Ok q
   pub rule : expansion_rule F c ≡ None
 
 abbrev pub ExpansionsAnswer : (ℕ → Facts) → ℕ → Result Expansions FormStop → Type 0
-ExpansionsAnswer F c (Ok both) = HaveExpansions F c both.canonical both.compat
+ExpansionsAnswer F c (Ok both) = ExpandTo F c both.canonical both.compat
 ExpansionsAnswer F c (Err (Bad rule)) = expansion_rule F c ≡ Some rule
 ExpansionsAnswer F c (Err Memory) = ⊤
 

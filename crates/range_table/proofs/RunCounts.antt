@@ -1,8 +1,11 @@
 -- How many runs there are.
-use Rattle.std.proofs.Common.{◌≡◌, ℕ, zero, suc, ◌+◌, ◌≤◌, Bool, true, false, not, List, [], ◌∷◌, length, refl, cond, ltb, arith}
+use Rattle.std.proofs.Common.{◌≡◌, ℕ, zero, suc, ◌+◌, ◌≤◌, Bool, true, false, not, List, [], ◌∷◌, length, count_by, refl, sym, ap, ◌∙◌, cond, ltb, arith}
+use Rattle.std.specs.List.{range_with_len}
 use Rattle.std.proofs.lemmas.Bool.Decides.{nat_tests}
+use Rattle.std.proofs.lemmas.List.{map-id}
+use Rattle.std.proofs.lemmas.List.FromFn.{sum_by-map-range_with_len_more}
 use Rattle.range_table.specs.declared.change.Change.{Change}
-use Rattle.range_table.specs.Values.{run_count}
+use Rattle.range_table.specs.Values.{begins_run, run_count}
 use Rattle.range_table.specs.Layout.{Follow, value_at, count_before}
 use Rattle.range_table.proofs.Splices.{value_at-low, count_before-all}
 
@@ -38,11 +41,20 @@ count_before-suc eq low d [] n self f = rw (self d) refl
 count_before-suc eq low d (x ∷ xs) n self f =
     count_before-by_test eq low d x xs n self f (ltb x.start (suc n)) refl (λ le. count_before-suc eq x.start x.value xs n self f.1)
 
+-- of one point more there is one run more, if it begins one
+run_count-more : {A : Type 0} (eq : A → A → Bool) (f : ℕ → A) (n : ℕ) → run_count eq f (n + 1) ≡ run_count eq f n + cond (begins_run eq f n) 1 0
+run_count-more eq f n =
+    let begins : ℕ → Bool = begins_run eq f in
+    ap (count_by begins) (sym (map-id (range_with_len 0 (n + 1)))) ∙ sum_by-map-range_with_len_more (λ k. cond (begins k) 1 0) (λ k. k) 0 n n (omega arith)
+    ∙ ap (λ (xs : List ℕ). count_by begins xs + cond (begins n) 1 0) (map-id (range_with_len 0 n))
+
 run_count-count_before : {A : Type 0} (eq : A → A → Bool) (d : A) (xs : List (Change A)) (n : ℕ) → ((a : A) → eq a a ≡ true) → Follow eq 0 d xs → run_count eq (value_at d xs) (suc n) ≡ count_before (suc n) xs + 1
 run_count-count_before eq d xs zero self f = rw (count_before-none eq 0 d xs 1 f (omega arith)) refl
 run_count-count_before eq d xs (suc n) self f =
     let before = run_count-count_before eq d xs n self f in
     let here = count_before-suc eq 0 d xs n self f in
+    let next : suc n + 1 ≡ suc (suc n) = omega arith in
+    let more = rw next at (run_count-more eq (value_at d xs) (suc n)) in
     omega arith
 
 -- the runs are the first one and one for each change

@@ -4,8 +4,9 @@
 -- SameValues f g        f and g agree at each code point (above the last they may differ)
 -- with_span f lo hi v   v from lo to hi, both of them in it, and f elsewhere
 -- begins_run eq f c     the value at c differs by eq from the value before it (at 0: always)
--- run_count eq f n      how many maximal runs of equal values the points below n have (0 for n = 0)
-use Rattle.std.specs.Prelude.{◌≡◌, refl, ℕ, zero, suc, ◌+◌, ◌<◌, Bool, true, not, ◌&&◌, nat_le, if◌then◌else◌}
+-- run_count eq f n      how many maximal runs of equal values the points below n have: how many of them begin one
+use Rattle.std.specs.Prelude.{◌≡◌, refl, ℕ, zero, suc, ◌<◌, Bool, true, not, ◌&&◌, nat_le, if◌then◌else◌, count_by}
+use Rattle.std.specs.List.{range_with_len}
 use Rattle.ucd_model.specs.Limits.{point_count}
 
 pub point_count-is : point_count ≡ 1114112
@@ -23,5 +24,4 @@ begins_run eq f zero = true
 begins_run eq f (suc c) = not (eq (f c) (f (suc c)))
 
 abbrev pub run_count : {V : Type 0} → (V → V → Bool) → (ℕ → V) → ℕ → ℕ
-run_count eq f zero = 0
-run_count eq f (suc n) = run_count eq f n + (if begins_run eq f n then 1 else 0)
+run_count eq f n = count_by (begins_run eq f) (range_with_len 0 n)

@@ -13,7 +13,7 @@
 -- said content                 what a line of this content says: `begin` and `end` stand alone, the others are orders
 -- last_text content            LINE, of a line `last LINE`; None of other lines
 -- said_by line                 what a line of the code says
-use Rattle.std.specs.Prelude.{◌≡◌, ℕ, Bool, List, [], ◌∷◌, length, take, drop, find, Option, Some, None, ◌==◌, nat_lt, codes, if◌then◌else◌}
+use Rattle.std.specs.Prelude.{ℕ, Bool, List, length, take, drop, find, Option, Some, None, ◌==◌, nat_lt, codes, if◌then◌else◌}
 use Rattle.std.specs.List.{position_or_len, before_first, after_first}
 use Rattle.std.specs.Str.{bytes_eq}
 use Rattle.ucd_model.specs.Lines.{is_trivia}

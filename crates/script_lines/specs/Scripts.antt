@@ -28,7 +28,7 @@
 -- StepsAs result new expected  a result and what it leaves are what was expected; want of memory says nothing
 -- OpAs result expected         an operation, or the fault, is what was expected; want of memory says nothing
 -- CommandsAs result expected   the commands, or the fault, are what was expected; want of memory says nothing
-use Rattle.std.specs.Prelude.{◌≡◌, ℕ, ◌+◌, Bool, true, false, ◌&&◌, List, [], ◌∷◌, ◌++◌, length, Option, Some, None, is_some, Result, Ok, Err, ◌==◌, if◌then◌else◌}
+use Rattle.std.specs.Prelude.{◌≡◌, ℕ, ◌+◌, Bool, false, ◌&&◌, List, [], ◌∷◌, ◌++◌, length, Option, Some, None, is_some, Result, Ok, Err, ◌==◌, if◌then◌else◌}
 use Rattle.ucd_model.specs.Lines.{LineItem, items_of}
 use Rattle.ucd_model.specs.declared.files.SourceFile.{SourceFile}
 use Rattle.ucd_model.specs.declared.files.SourceFile.TheVariants.{UnicodeData}
@@ -77,11 +77,11 @@ piece_lines piece = if is_some piece.next then 2 else 1
 
 -- ---- operations
 
-abbrev joined_text : List ℕ → Option (List ℕ) → List ℕ
+abbrev pub joined_text : List ℕ → Option (List ℕ) → List ℕ
 joined_text text (Some last) = text ++ 10 ∷ last
 joined_text text None = text
 
-abbrev last_of : Option (List ℕ) → Option (List ℕ)
+abbrev pub last_of : Option (List ℕ) → Option (List ℕ)
 last_of (Some next) = last_text next
 last_of None = None
 
@@ -101,14 +101,14 @@ abbrev pub op_of : Put → SourceFile → RowValue → List ℕ → Op
 op_of Add file row bytes = AddRow file row bytes
 op_of Change file row bytes = ChangeRow file row bytes
 
-abbrev row_op_by : ℕ → Put → SourceFile → List ℕ → Option (List ℕ) → Result RowValue RowFault → Result Op ScriptFault
+abbrev pub row_op_by : ℕ → Put → SourceFile → List ℕ → Option (List ℕ) → Result RowValue RowFault → Result Op ScriptFault
 row_op_by n put file text next (Ok row) = Ok (op_of put file row (row_text text next))
 row_op_by n put file text next (Err fault) = Err (record { line = fault_line n file text next fault; rule = E6 fault })
 
 abbrev pub row_op : ℕ → Put → SourceFile → List ℕ → Option (List ℕ) → Result Op ScriptFault
 row_op n put file text next = row_op_by n put file text next (row_or_fault file (row_text text next))
 
-abbrev key_op_by : ℕ → SourceFile → Result Key RowFault → Result Op ScriptFault
+abbrev pub key_op_by : ℕ → SourceFile → Result Key RowFault → Result Op ScriptFault
 key_op_by n file (Ok key) = Ok (WithdrawRow file key)
 key_op_by n file (Err fault) = Err (record { line = n; rule = E6 fault })
 
@@ -120,24 +120,24 @@ key_op n file text = key_op_by n file (key_or_fault file text)
 abbrev pub one_group : ℕ → List Op → Command
 one_group n ops = record { line = n; what = Group ops }
 
-abbrev at_line : ℕ → ScriptRule → Result Script ScriptFault
+abbrev pub at_line : ℕ → ScriptRule → Result Script ScriptFault
 at_line n rule = Err (record { line = n; rule = rule })
 
-abbrev begun_by : ℕ → Script → Option OpenGroup → Result Script ScriptFault
+abbrev pub begun_by : ℕ → Script → Option OpenGroup → Result Script ScriptFault
 begun_by n script (Some group) = at_line n E3
 begun_by n script None = Ok (record { commands = script.commands; group = Some (record { line = n; ops = [] }) })
 
 abbrev pub begun : ℕ → Script → Result Script ScriptFault
 begun n script = begun_by n script script.group
 
-abbrev ended_by : ℕ → Script → Option OpenGroup → Result Script ScriptFault
+abbrev pub ended_by : ℕ → Script → Option OpenGroup → Result Script ScriptFault
 ended_by n script (Some group) = Ok (record { commands = script.commands ++ one_group group.line group.ops ∷ []; group = None })
 ended_by n script None = at_line n E1
 
 abbrev pub ended : ℕ → Script → Result Script ScriptFault
 ended n script = ended_by n script script.group
 
-abbrev with_op_by : ℕ → Op → Script → Option OpenGroup → Script
+abbrev pub with_op_by : ℕ → Op → Script → Option OpenGroup → Script
 with_op_by n op script (Some group) = record { commands = script.commands; group = Some (record { line = group.line; ops = group.ops ++ op ∷ [] }) }
 with_op_by n op script None = record { commands = script.commands ++ one_group n (op ∷ []) ∷ []; group = None }
 
@@ -148,7 +148,7 @@ abbrev pub is_full : Option OpenGroup → Bool
 is_full (Some group) = length group.ops == 4096
 is_full None = false
 
-abbrev with_found : ℕ → Script → Result Op ScriptFault → Result Script ScriptFault
+abbrev pub with_found : ℕ → Script → Result Op ScriptFault → Result Script ScriptFault
 with_found n script (Ok op) = Ok (with_op n op script)
 with_found n script (Err fault) = Err fault
 
@@ -157,7 +157,7 @@ operated n script op = if is_full script.group then at_line n E5 else with_found
 
 -- ---- the script
 
-abbrev step_by : ℕ → Script → Option (List ℕ) → Said → Result Script ScriptFault
+abbrev pub step_by : ℕ → Script → Option (List ℕ) → Said → Result Script ScriptFault
 step_by n script next nothing = Ok script
 step_by n script next begins = begun n script
 step_by n script next ends = ended n script
@@ -168,7 +168,7 @@ step_by n script next no_command = at_line n E1
 abbrev pub step : ℕ → Script → ScriptPiece → Result Script ScriptFault
 step n script piece = step_by n script piece.next (said piece.line)
 
-abbrev then_steps : Result Script ScriptFault → (Script → Result Script ScriptFault) → Result Script ScriptFault
+abbrev pub then_steps : Result Script ScriptFault → (Script → Result Script ScriptFault) → Result Script ScriptFault
 then_steps (Ok script) more = more script
 then_steps (Err fault) more = Err fault
 

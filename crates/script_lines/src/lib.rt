@@ -3,6 +3,7 @@
 
 mod command;
 mod group;
+mod laws;
 mod line;
 mod operation;
 mod piece;
@@ -12,6 +13,7 @@ mod source_path;
 mod stop;
 
 pub use command::{Command, Commands, What};
+pub use laws::groups_are_ready;
 pub use reading::commands;
 pub use stop::{ScriptRule, ScriptStop};
 

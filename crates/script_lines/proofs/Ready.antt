@@ -46,7 +46,7 @@ record ReadyScript (script : Script) : Type 0 where
   group : ReadyGroup script.group
 
 none_ready : AreReady []
-none_ready = record { are_operations = All-nil IsOp; few = omega arith }
+none_ready = (All-nil IsOp, omega arith)
 
 begun_ready : (n : ℕ) (script : Script) (group : Option OpenGroup) → All IsReady script.commands → IfOk (begun_by n script group) ReadyScript
 begun_ready n script (Some group) ready = tt
@@ -57,14 +57,14 @@ ended_ready n script (Some group) ready held = record { commands = All-push IsRe
 ended_ready n script None ready held = tt
 
 one_ready : (op : Op) → IsOp op → AreReady (op ∷ [])
-one_ready op ready = record { are_operations = All-push IsOp [] op (All-nil IsOp) ready; few = omega arith }
+one_ready op ready = (All-push IsOp [] op (All-nil IsOp) ready, omega arith)
 
 few_more : (ops : List Op) (op : Op) → length ops ≤ 4096 → (length ops ≡ 4096 → ⊥) → length (ops ++ op ∷ []) ≤ 4096
 few_more ops op few other = let one = length_push ops op in omega (arith, one, few, other)
 
 put_ready : (n : ℕ) (op : Op) (script : Script) (group : Option OpenGroup) → All IsReady script.commands → ReadyGroup group → is_full group ≡ false → IsOp op → ReadyScript (with_op_by n op script group)
 put_ready n op script (Some group) ready held room is_op =
-    record { commands = ready; group = record { are_operations = All-push IsOp group.ops op held.are_operations is_op; few = few_more group.ops op held.few (eqb-false (length group.ops) 4096 room) } }
+    record { commands = ready; group = (All-push IsOp group.ops op held.0 is_op, few_more group.ops op held.1 (eqb-false (length group.ops) 4096 room)) }
 put_ready n op script None ready held room is_op = record { commands = All-push IsReady script.commands _ ready (one_ready op is_op); group = tt }
 
 -- ---- a step
@@ -97,7 +97,7 @@ steps_ready : RowsAreRead → RowsAreOk → (n : ℕ) (script : Script) (pieces 
 steps_ready read ok n script [] ready = ready
 steps_ready read ok n script (piece ∷ pieces) ready =
     then_ready (step n script piece) (λ next. steps (n + piece_lines piece) next pieces) (step_ready read ok n script piece.next (said piece.line) ready)
-      (λ next more. steps_ready read ok (n + piece_lines piece) next pieces more)
+    (λ next more. steps_ready read ok (n + piece_lines piece) next pieces more)
 
 commands_ready : (commands : List Command) (group : Option OpenGroup) → All IsReady commands → IfOk (closed_by commands group) (All IsReady)
 commands_ready commands (Some group) ready = tt

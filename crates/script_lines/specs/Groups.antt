@@ -13,9 +13,8 @@ use Rattle.script_lines.specs.declared.command.Command.{Command}
 use Rattle.script_lines.specs.declared.command.What.{What}
 use Rattle.script_lines.specs.declared.command.What.TheVariants.{Group}
 
-pub record AreReady (ops : List Op) : Type 0 where
-  pub are_operations : All IsOp ops
-  pub few : length ops ≤ 4096
+abbrev pub AreReady : List Op → Type 0
+AreReady ops = All IsOp ops × (length ops ≤ 4096)
 
 abbrev ReadyWhat : What → Type 0
 ReadyWhat (Group ops) = AreReady ops

@@ -6,7 +6,7 @@ use Rattle.std.proofs.lemmas.List.Elements.{All-get_or}
 use Rattle.std.proofs.lemmas.List.Sums.{fold-append}
 use Rattle.release_rows.specs.FileItems.{FileItem}
 use Rattle.script_lines.specs.declared.command.Command.{Command}
-use Rattle.ucdshop_core.specs.Scripts.{IsCommand}
+use Rattle.script_lines.specs.Groups.{IsReady}
 use Rattle.ucdshop_core.specs.Session.{Session, session, started, step}
 
 pub session_more : (files : List (List FileItem)) (commands : List Command) (at : ℕ) (command : Command) (s t : Session) → at < length commands → command ≡ get_or commands at command
@@ -17,5 +17,5 @@ session_more files commands at command s t lt here before after =
     ∙ ap (λ (c : Command). session files (take at commands ++ c ∷ [])) here
     ∙ ap (session files) (sym (take_more commands at command lt))
 
-pub command_at : (commands : List Command) (at : ℕ) (command : Command) → at < length commands → command ≡ get_or commands at command → All IsCommand commands → IsCommand command
-command_at commands at command lt here all = subst IsCommand (sym here) (All-get_or IsCommand commands at command lt all)
+pub command_at : (commands : List Command) (at : ℕ) (command : Command) → at < length commands → command ≡ get_or commands at command → All IsReady commands → IsReady command
+command_at commands at command lt here all = subst IsReady (sym here) (All-get_or IsReady commands at command lt all)

@@ -4,7 +4,6 @@ pub mod LoadingLemmas
 pub mod VerdictLemmas
 pub mod BenchLemmas
 pub mod OutputLemmas
-pub mod ScriptLemmas
 pub mod PlanningLemmas
 pub mod CarryingLemmas
 pub mod RunLemmas

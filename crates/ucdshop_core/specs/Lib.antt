@@ -2,7 +2,6 @@ pub mod Printed
 pub mod Paths
 pub mod Refusals
 pub mod Verdict
-pub mod Scripts
 pub mod Session
 pub mod Run
 pub mod Outcome

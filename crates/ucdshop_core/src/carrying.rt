@@ -3,7 +3,7 @@
 ghost use Rattle.std.specs.Prelude.{◌≡◌, ◌+◌, ◌-◌, ◌<◌, ◌^◌, [], ◌++◌, length, IfOk, OnOk};
 ghost use Rattle.std.specs.List.{All};
 ghost use Rattle.ucdshop_core.specs.Carrying.{counted, session_of};
-ghost use Rattle.ucdshop_core.specs.Scripts.{IsCommand};
+ghost use Rattle.script_lines.specs.Groups.{IsReady};
 ghost use Rattle.ucdshop_core.specs.Session.{accepted_line, refused_line, session, step};
 
 use crate::log::{put_accepted, put_refused};
@@ -67,7 +67,7 @@ pub fn carry_out<L: Ledger>(
     commands: &[Command],
     steps: &mut Steps<L>,
 ) -> Result<Carried, Memory>
-    requires { All IsCommand commands.now }
+    requires { All IsReady commands.now }
     ensures session { IfOk result (λ carried. session_of bench.new carried ≡ session bench.old.current commands.now) }
     ensures steps { commands.now ≡ [] → steps.new ≡ steps.old }
 {
@@ -86,7 +86,7 @@ fn carry_one<L: Ledger>(
     carried: &mut Carried,
     steps: &mut Steps<L>,
 ) -> Result<(), Memory>
-    requires command { IsCommand command.now }
+    requires command { IsReady command.now }
     requires room { counted carried.old + 1 < 2 ^ 64 }
     ensures session { OnOk result (session_of bench.new carried.new ≡ step (session_of bench.old carried.old) command.now) }
     ensures counted { OnOk result (counted carried.new ≡ counted carried.old + 1) }

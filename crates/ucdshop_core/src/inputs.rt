@@ -6,7 +6,7 @@ ghost use Rattle.ucd_model.specs.Limits.{point_count};
 ghost use Rattle.ucdshop_core.specs.Commands.{job_of};
 ghost use Rattle.ucdshop_core.specs.Judging.{JudgedAs, held_verdict, inputs_of, script_held};
 ghost use Rattle.ucdshop_core.specs.Run.{commands_verdict, needed};
-ghost use Rattle.ucdshop_core.specs.Scripts.{IsCommand};
+ghost use Rattle.script_lines.specs.Groups.{IsReady};
 
 use crate::command::Command;
 use crate::judging::judge_release;
@@ -40,7 +40,7 @@ pub fn judge_inputs<L: Ledger>(
 ) -> Result<Inputs, JudgeStop>
     requires { length held.now ≡ length (needed (job_of command)) }
     ensures inputs { JudgedAs inputs_of result (held_verdict (job_of command.entry) held.now) }
-    ensures commands { IfOk result (λ inputs. All IsCommand inputs.commands) }
+    ensures commands { IfOk result (λ inputs. All IsReady inputs.commands) }
     ensures steps { steps.new ≤ steps.old + point_count }
 {
     let bench = judge_release(alloc, held, steps)?;
@@ -56,7 +56,7 @@ fn judge_commands(
 ) -> Result<Commands, JudgeStop>
     requires { length held.now ≡ length (needed (job_of command)) }
     ensures script { JudgedAs (λ commands. commands) result (commands_verdict (job_of command.entry) (script_held held.now)) }
-    ensures commands { IfOk result (All IsCommand) }
+    ensures commands { IfOk result (All IsReady) }
 {
     match command {
         Command::Derive { .. } => Ok(Commands::new(alloc)),

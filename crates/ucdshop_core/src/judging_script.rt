@@ -3,12 +3,11 @@
 ghost use Rattle.std.specs.Prelude.{◌≡◌, IfOk};
 ghost use Rattle.std.specs.List.{All};
 ghost use Rattle.ucdshop_core.specs.Judging.{JudgedAs};
-ghost use Rattle.ucdshop_core.specs.Scripts.{IsCommand};
+ghost use Rattle.script_lines.specs.Groups.{IsReady};
 ghost use Rattle.ucdshop_core.specs.Verdict.{script_verdict};
 
 use crate::refusal::{JudgeStop, Refusal};
-use script_lines::{Commands, ScriptStop, commands};
-use source_rows::{rows_are_ok, rows_are_read};
+use script_lines::{Commands, ScriptStop, commands, groups_are_ready};
 use std::alloc::Global;
 use ucd_model::{Text, file_limit};
 
@@ -19,10 +18,9 @@ use ucd_model::{Text, file_limit};
 #[tactic(auto, unfolding(crate::specs::Verdict::script_verdict))]
 pub fn judge_script(alloc: Global, held: &Option<Text>) -> Result<Commands, JudgeStop>
     ensures script { JudgedAs (λ commands. commands) result (script_verdict held.now) }
-    ensures commands { IfOk result (All IsCommand) }
+    ensures commands { IfOk result (All IsReady) }
 {
-    rows_are_ok();
-    rows_are_read();
+    groups_are_ready();
     let Some(text) = held else {
         return Err(JudgeStop::Refused(Refusal::NoScript));
     };

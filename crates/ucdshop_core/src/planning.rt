@@ -8,7 +8,7 @@ ghost use Rattle.ucdshop_core.specs.Judging.{held_verdict};
 ghost use Rattle.ucdshop_core.specs.Planning.{HasPlan, IsPlanOf, OnRefused, OnlyRead, PlansAs, TellsOf, UnreadAs};
 ghost use Rattle.ucdshop_core.specs.Promises.{shelf_seen};
 ghost use Rattle.ucdshop_core.specs.Run.{Refuses, Sees, ending_of, everywhere, expected_of, judged, needed};
-ghost use Rattle.ucdshop_core.specs.Scripts.{IsCommand};
+ghost use Rattle.script_lines.specs.Groups.{IsReady};
 ghost use Rattle.ucdshop_core.specs.Session.{session};
 
 use crate::carrying::carry_out;
@@ -32,7 +32,7 @@ fn carried_plan<L: Ledger>(
     inputs: Inputs,
     steps: &mut Steps<L>,
 ) -> Result<Plan, Memory>
-    requires { All IsCommand inputs.commands }
+    requires { All IsReady inputs.commands }
     ensures plan { IfOk result (λ plan. HasPlan (ending_of (job_of command.entry) (session inputs.bench.current inputs.commands)) plan) }
     ensures steps { inputs.commands ≡ [] → steps.new ≡ steps.old }
 {

@@ -1,4 +1,4 @@
-//! What the names of properties and of their values mean. UAX #44, section 5.8.
+//! What the names of properties mean. UAX #44, section 5.8.
 #![tactic(auto)]
 
 mod aliases;
@@ -12,7 +12,7 @@ mod rows;
 mod tables;
 
 pub use aliases::Aliases;
-pub use property::{Group, Property, Test};
+pub use property::Property;
 
 #[cfg(test)]
 mod tests;

@@ -35,8 +35,3 @@ mod word;
 pub use fact_tables::FactTables;
 pub use next_view::NextView;
 pub use view::NowView;
-
-#[cfg(test)]
-mod next_tests;
-#[cfg(test)]
-mod tests;

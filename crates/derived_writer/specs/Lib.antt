@@ -1,5 +1,4 @@
 pub mod Listings
 pub mod Cuts
 pub mod Runs
-pub mod Samples
 pub mod TextLaws

@@ -8,11 +8,7 @@ mod listing;
 mod names;
 mod pieces;
 mod run;
-#[cfg(test)]
-mod sample;
 mod section;
-#[cfg(test)]
-mod tests;
 mod values;
 
 pub use file::{file_text, text_over};

@@ -15,8 +15,3 @@ pub use accepted::Accepted;
 pub use apply_stop::{ApplyStop, Refused};
 pub use bench::Bench;
 pub use open_stop::OpenStop;
-
-#[cfg(test)]
-mod group_tests;
-#[cfg(test)]
-mod tests;

@@ -13,18 +13,3 @@ mod predicates;
 
 pub use derivation::{Derived, derive_point};
 pub use identifiers::{id_continue, id_start, xid_continue, xid_start};
-
-#[cfg(test)]
-mod case_tests;
-#[cfg(test)]
-mod expansion_tests;
-#[cfg(test)]
-mod fold_tests;
-#[cfg(test)]
-mod form_tests;
-#[cfg(test)]
-mod quick_check_tests;
-#[cfg(test)]
-mod test_facts;
-#[cfg(test)]
-mod tests;

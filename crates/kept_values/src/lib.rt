@@ -3,8 +3,6 @@
 
 mod kept;
 mod store;
-#[cfg(test)]
-mod tests;
 
 pub use kept::Kept;
 pub use store::Store;

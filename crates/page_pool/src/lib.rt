@@ -4,7 +4,5 @@
 mod block;
 mod free;
 mod pool;
-#[cfg(test)]
-mod tests;
 
 pub use pool::PagePool;

@@ -7,8 +7,6 @@ mod paged_table;
 mod part;
 mod span;
 mod stretches;
-#[cfg(test)]
-mod tests;
 mod value;
 
 pub use paged_table::PagedTable;

@@ -12,8 +12,6 @@ mod search;
 mod seek;
 mod spanned;
 mod spot;
-#[cfg(test)]
-mod tests;
 mod version;
 
 pub use entries::Entries;

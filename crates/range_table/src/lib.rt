@@ -7,8 +7,6 @@ mod layout;
 mod run_table;
 mod stretches;
 mod table;
-#[cfg(test)]
-mod tests;
 
 pub use run_table::RunTable;
 pub use stretches::Stretches;

@@ -38,8 +38,3 @@ pub use operation::{Op, OpStop, Ops};
 pub use release::Release;
 pub use row_iter::Rows;
 pub use row_text::RowText;
-
-#[cfg(test)]
-mod edit_tests;
-#[cfg(test)]
-mod tests;

@@ -16,6 +16,3 @@ pub use command::{Command, Commands, What};
 pub use laws::groups_are_ready;
 pub use reading::commands;
 pub use stop::{ScriptRule, ScriptStop};
-
-#[cfg(test)]
-mod tests;

@@ -48,8 +48,3 @@ pub use row_keys::row_key;
 pub use text::row_text;
 pub use unicode_data::begins_range;
 pub use values::ValueText;
-
-#[cfg(test)]
-mod key_tests;
-#[cfg(test)]
-mod tests;

@@ -26,6 +26,3 @@ pub use laws::{
 pub use search::{cut, first_at};
 pub use split::{fields, items};
 pub use trivia::is_trivia;
-
-#[cfg(test)]
-mod tests;

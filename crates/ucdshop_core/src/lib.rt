@@ -35,14 +35,3 @@ pub use refusal::{JudgeStop, Refusal};
 pub use status::Status;
 pub use stop::Stop;
 pub use writing::Output;
-
-#[cfg(test)]
-mod apply_tests;
-#[cfg(test)]
-mod folding_tests;
-#[cfg(test)]
-mod test_runs;
-#[cfg(test)]
-mod tests;
-#[cfg(test)]
-mod valid_tests;

@@ -22,6 +22,3 @@ pub use laws::{
 };
 pub use parsing::parse;
 pub use stop::{SetRule, SetStop};
-
-#[cfg(test)]
-mod tests;

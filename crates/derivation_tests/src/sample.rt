@@ -1,0 +1,139 @@
+//! Records of a few spans, for tests.
+
+ghost use Rattle.std.specs.Prelude.{◌≡◌};
+ghost use Rattle.ucd_model.specs.Facts.{within};
+ghost use Rattle.derivation_tests.specs.Samples.{sample_record};
+
+use std::alloc::Global;
+use std::test::Fail;
+use ucd_model::{
+    Category, Core, CoreSet, Image, Kind, ListOf, Point, Points, Quick, Record, Records, Span,
+};
+
+/// Records of a few spans; of two that cover a code point the first one counts, and all others have the default.
+#[derive(Drop)]
+pub struct Sample {
+    entries: ListOf<(Span, Record)>,
+    rest: Record,
+}
+
+impl Records for Sample {
+    ghost record_of = { λ s. sample_record s.entries s.rest };
+
+    fn record(&self, c: Point) -> &Record {
+        'entries: for entry in self.entries.as_slice() {
+            if covers(entry.0, c) {
+                return &entry.1;
+            }
+        }
+        &self.rest
+    }
+}
+
+fn covers(span: Span, c: Point) -> bool
+    ensures { result ≡ within c span }
+{
+    span.first() <= c.number() && c.number() <= span.last()
+}
+
+/// A record with nothing but a category.
+pub fn plain(category: Category) -> Record {
+    Record {
+        category,
+        class: 0,
+        kind: Kind::Plain,
+        core: CoreSet::none(),
+        exclusion: false,
+        nfd: Quick::Yes,
+        nfc: Quick::Yes,
+        nfkd: Quick::Yes,
+        nfkc: Quick::Yes,
+        casefold: Image::Same,
+        changes_casefold: false,
+    }
+}
+
+/// A record with nothing but a category and a decomposition type.
+pub fn with_kind(category: Category, kind: Kind) -> Record {
+    let mut record = plain(category);
+    record.kind = kind;
+    record
+}
+
+/// The record of a mark with this combining class.
+pub fn with_class(class: u8) -> Record {
+    let mut record = plain(Category::Mn);
+    record.class = class;
+    record
+}
+
+/// A record with nothing but a category and these properties.
+pub fn with_core(category: Category, properties: &[Core]) -> Record {
+    with_more(plain(category), properties)
+}
+
+/// A record with these properties as well.
+pub fn with_more(mut record: Record, properties: &[Core]) -> Record {
+    for property in properties {
+        record.core = record.core.with(*property, true);
+    }
+    record
+}
+
+/// The record of a point that is folded into these.
+///
+/// - `Fail`: a number is no code point, or memory ran out.
+pub fn with_folding(alloc: Global, category: Category, points: &[u32]) -> Result<Record, Fail> {
+    let mut to = Points::new(alloc);
+    for point in points {
+        to.push(Point::new(*point).ok_or("a code point")?)?;
+    }
+    let mut record = plain(category);
+    record.casefold = Image::To(to);
+    record.changes_casefold = true;
+    Ok(record)
+}
+
+/// A record with the answers of the quick checks: those of NFD and NFC, and those of NFKD and NFKC.
+pub fn with_checks(
+    mut record: Record,
+    canonical: (Quick, Quick),
+    compatible: (Quick, Quick),
+) -> Record {
+    record.nfd = canonical.0;
+    record.nfc = canonical.1;
+    record.nfkd = compatible.0;
+    record.nfkc = compatible.1;
+    record
+}
+
+/// The record of a point that is excluded from composition and in no form.
+pub fn excluded(record: Record) -> Record {
+    let no = (Quick::No, Quick::No);
+    let mut record = with_checks(record, no, no);
+    record.exclusion = true;
+    record
+}
+
+fn span(lo: u32, hi: u32) -> Result<Span, Fail> {
+    let lo = Point::new(lo).ok_or("a code point")?;
+    let hi = Point::new(hi).ok_or("a code point")?;
+    Ok(Span::new(lo, hi).ok_or("a span")?)
+}
+
+impl Sample {
+    /// No entries: all code points have the default.
+    pub fn new(alloc: Global) -> Sample {
+        Sample {
+            entries: ListOf::new(alloc),
+            rest: plain(Category::Cn),
+        }
+    }
+
+    /// Puts an entry behind the others.
+    ///
+    /// - `Fail`: a number is no code point, `lo` is greater than `hi`, or memory ran out.
+    pub fn put(&mut self, lo: u32, hi: u32, record: Record) -> Result<(), Fail> {
+        Ok(self.entries.push((span(lo, hi)?, record))?)
+    }
+}

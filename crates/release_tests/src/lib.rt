@@ -1,0 +1,13 @@
+//! Tests of rows, keys, files, operations and scripts. They stand above the crates that they test, so that each is proved once.
+#![tactic(auto)]
+
+#[cfg(test)]
+mod edits;
+#[cfg(test)]
+mod files;
+#[cfg(test)]
+mod keys;
+#[cfg(test)]
+mod rows;
+#[cfg(test)]
+mod scripts;

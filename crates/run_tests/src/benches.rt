@@ -1,0 +1,69 @@
+//! Benches over releases of a few lines.
+
+ghost use Rattle.std.specs.Prelude.{◌≡◌};
+
+use edit_session::{Bench, OpenStop};
+use release_rows::Release;
+use std::alloc::Global;
+use std::marker::Brand;
+use std::sync::ledger::{Blank, Ledger};
+use std::test::Fail;
+use ucd_model::{Bad, Core, FactView, Point, Records, SourceFile, Steps};
+
+/// A letter with a mark, its parts, and another letter, as UnicodeData.txt has them.
+const LETTERS: &[u8] =
+    b"0041;LATIN CAPITAL LETTER A;Lu;0;L;;;;;N;;;;0061;\n0061;LATIN SMALL LETTER A;Ll;0;L;;;;;N;;;0041;;0041\n00C0;LATIN CAPITAL LETTER A WITH GRAVE;Lu;0;L;0041 0300;;;;N;;;;;\n0300;COMBINING GRAVE ACCENT;Mn;230;NSM;;;;;N;;;;;\n";
+
+fn point(number: u32) -> Result<Point, Fail> {
+    Ok(Point::new(number).ok_or("a code point")?)
+}
+
+/// A bench over a release, which is counted on a ledger of its own.
+fn counted<L: Ledger>(alloc: Global, release: Release, blank: Blank) -> Result<Bench, OpenStop>
+    requires still { release.prepared ≡ release.current }
+    requires name { blank.name ≡ L.name }
+    requires parts { blank.parts ≡ L.parts }
+    requires some { blank.parts ≡ 1 }
+{
+    let mut steps = Steps::<L>::new(blank);
+    Bench::open(alloc, release, &mut steps)
+}
+
+/// A bench over a release whose UnicodeData.txt has these lines, and whose other files are empty.
+fn bench_over(alloc: Global, lines: &[u8]) -> Result<Result<Box<Bench>, OpenStop>, Fail> {
+    let mut release = Release::empty(alloc);
+    release.load_file(SourceFile::UnicodeData, lines)?;
+    match counted::<Brand>(alloc, release, Blank::new(1)) {
+        Ok(bench) => Ok(Ok(Box::new(alloc, bench)?)),
+        Err(stop) => Ok(Err(stop)),
+    }
+}
+
+#[test]
+fn a_bench_shows_records_and_facts(rt: HostRuntime) -> Result<(), Fail> {
+    let opened = bench_over(rt.alloc(), LETTERS)?;
+    let bench = opened.ok().ok_or("a bench")?;
+    let capital = bench.record(point(0x0041)?);
+    assert!(rt; capital.core.has(Core::ChangesWhenLowercased));
+    assert_eq!(rt; bench.class(point(0x0300)?), 230);
+    assert_eq!(rt;
+        bench.pair(point(0x0041)?, point(0x0300)?),
+        Point::new(0x00C0)
+    );
+    let text = bench.release().text(rt.alloc(), SourceFile::UnicodeData)?;
+    assert!(rt; text.as_slice() == LETTERS);
+    Ok(())
+}
+
+#[test]
+fn a_release_that_is_not_valid_has_no_bench(rt: HostRuntime) -> Result<(), Fail> {
+    // 1E00 and 1E02 have no rows for what they give
+    let lines = b"1E00;X;Lu;0;L;;;;;N;;;;1E01;\n1E02;Y;Lu;0;L;1E03;;;;N;;;;;\n";
+    let opened = bench_over(rt.alloc(), lines)?;
+    let expected = OpenStop::Invalid {
+        rule: Bad::V1,
+        point: point(0x1E00)?,
+    };
+    assert_eq!(rt; opened.err(), Some(expected));
+    Ok(())
+}

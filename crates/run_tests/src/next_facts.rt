@@ -1,0 +1,87 @@
+//! Facts that are prepared, committed and discarded.
+
+ghost use Rattle.std.specs.Prelude.{◌≡◌, ℕ, ◌<◌, true, IfOk};
+ghost use Rattle.std.specs.List.{list_any};
+ghost use Rattle.ucd_model.specs.Facts.{within};
+ghost use Rattle.range_table.specs.RunTable.{values_now};
+ghost use Rattle.code_facts.specs.FactTables.{tables_facts, tables_next};
+
+use code_facts::FactTables;
+use range_table::RunTable;
+use release_rows::Release;
+use std::alloc::Global;
+use std::process::Abort;
+use std::test::Fail;
+use ucd_model::{FactView, Memory, Point, SourceFile, Span, Spans};
+
+type Tables = FactTables<RunTable<u64>>;
+
+/// The code point of a number.
+fn point(number: u32) -> Point
+    requires { number < 1114112 }
+    ensures { result ≡ number }
+{
+    Point::new(number).unwrap()
+}
+
+/// The span of all code points.
+fn everywhere(alloc: Global) -> Result<Spans, Memory>
+    ensures { IfOk result (λ spans. (c : ℕ) → c < 1114112 → list_any (within c) spans ≡ true) }
+{
+    let mut spans = Spans::new(alloc);
+    spans.push(Span {
+        lo: point(0),
+        hi: point(Point::COUNT - 1),
+    })?;
+    Ok(spans)
+}
+
+/// The tables of a release without rows.
+fn empty_tables(alloc: Global) -> Result<Box<Tables>, Memory>
+    ensures { IfOk result (λ tables. tables_next values_now tables.value ≡ tables_facts values_now tables.value) }
+{
+    let release = Release::empty(alloc);
+    Ok(Box::new(alloc, FactTables::of(alloc, &release)?)?)
+}
+
+/// Prepares the facts of the rows of a release next, wherever they are.
+fn prepare(alloc: Global, tables: &mut Tables, after: &Release) -> Result<(), Memory>
+    requires { tables_next values_now tables.old ≡ tables_facts values_now tables.old }
+{
+    let touched = everywhere(alloc)?;
+    tables.prepare(alloc, after, &touched)
+}
+
+/// Whether a row covers 0041, and 00C0 is the composite of 0041 and 0300: now, and next.
+fn seen(tables: &Tables) -> (bool, bool) {
+    (shows_both(&tables.now()), shows_both(&tables.next()))
+}
+
+fn shows_both<W: FactView>(view: &W) -> bool {
+    view.is_assigned(point(0x41)) && view.pair(point(0x41), point(0x300)) == Some(point(0xC0))
+}
+
+fn steps(rt: &impl Abort, alloc: Global, tables: &mut Tables, after: &Release) -> Result<(), Fail>
+    requires { tables_next values_now tables.old ≡ tables_facts values_now tables.old }
+{
+    prepare(alloc, tables, after)?;
+    assert_eq!(rt; seen(tables), (false, true));
+    tables.discard();
+    assert_eq!(rt; seen(tables), (false, false));
+    prepare(alloc, tables, after)?;
+    tables.commit();
+    assert_eq!(rt; seen(tables), (true, true));
+    Ok(())
+}
+
+#[test]
+fn what_is_prepared_is_next(rt: HostRuntime) -> Result<(), Fail> {
+    let alloc = rt.alloc();
+    let mut after = Release::empty(alloc);
+    after.load_file(
+        SourceFile::UnicodeData,
+        b"0041;LATIN CAPITAL LETTER A;Lu;0;L;;;;;N;;;;0061;\n00C0;LATIN CAPITAL LETTER A WITH GRAVE;Lu;0;L;0041 0300;;;;N;LATIN CAPITAL LETTER A GRAVE;;;00E0;\n",
+    )?;
+    let mut tables = empty_tables(alloc)?;
+    steps(&rt, alloc, &mut tables, &after)
+}

@@ -1,0 +1,89 @@
+//! Whole runs over shelves and sinks in memory, as the tests make them.
+
+use shelf_io::{MemoryShelf, MemorySink};
+use std::alloc::Global;
+use ucd_model::{Memory, Text, Texts};
+use ucdshop_core::{Status, run};
+
+/// Two letters, as UnicodeData.txt has them.
+pub const LETTERS: &[u8] =
+    b"0041;LATIN CAPITAL LETTER A;Lu;0;L;;;;;N;;;;0061;\n0061;LATIN SMALL LETTER A;Ll;0;L;;;;;N;;;0041;;0041\n";
+
+/// The summary of a run that wrote all files.
+pub const SUMMARY: &[u8] =
+    b"ucdshop: 0 groups accepted, 0 commands refused, 0 sets answered, 0 policy breaks\n";
+
+/// The source files, in their order.
+pub const SOURCE_PATHS: [&[u8]; 9] = [
+    b"d/UnicodeData.txt",
+    b"d/PropList.txt",
+    b"d/Scripts.txt",
+    b"d/auxiliary/WordBreakProperty.txt",
+    b"d/CompositionExclusions.txt",
+    b"d/CaseFolding.txt",
+    b"d/SpecialCasing.txt",
+    b"d/PropertyAliases.txt",
+    b"d/PropertyValueAliases.txt",
+];
+
+/// The path of a derived file.
+pub const CORE_PATH: &[u8] = b"o/DerivedCoreProperties.txt";
+
+/// The words of a run.
+///
+/// - `Memory`: memory ran out.
+pub fn words_of(alloc: Global, words: &[&[u8]]) -> Result<Texts, Memory> {
+    let mut texts = Texts::new(alloc);
+    for word in words {
+        let mut text = Text::new(alloc);
+        text.append(*word)?;
+        texts.push(text)?;
+    }
+    Ok(texts)
+}
+
+/// A shelf with the nine source files in `d`, seven of them empty, and an older derived file and a stranger in `o`.
+///
+/// - `Memory`: memory ran out.
+pub fn shelf_of(alloc: Global, data: &[u8], properties: &[u8]) -> Result<Box<MemoryShelf>, Memory> {
+    let mut shelf = Box::new(alloc, MemoryShelf::new(alloc))?;
+    for path in SOURCE_PATHS {
+        shelf.place(path, b"")?;
+    }
+    shelf.place(b"d/UnicodeData.txt", data)?;
+    shelf.place(b"d/PropList.txt", properties)?;
+    shelf.place(CORE_PATH, b"old")?;
+    shelf.place(b"o/other", b"kept")?;
+    Ok(shelf)
+}
+
+/// How a run of these words over a shelf ends, and what a sink with room for so many bytes has then.
+///
+/// - `Memory`: memory ran out.
+pub fn run_words(
+    alloc: Global,
+    words: &[&[u8]],
+    shelf: &mut MemoryShelf,
+    room: usize,
+) -> Result<(Status, MemorySink), Memory> {
+    let words = words_of(alloc, words)?;
+    let mut out = MemorySink::new(alloc, room)?;
+    let status = run(alloc, &words, shelf, &mut out);
+    Ok((status, out))
+}
+
+/// Whether `derive d o` over a shelf ends so, prints so into a sink with room for so many bytes, and leaves this
+/// derived file.
+///
+/// - `Memory`: memory ran out.
+pub fn derives(
+    alloc: Global,
+    shelf: &mut MemoryShelf,
+    room: usize,
+    expected: (Status, &[u8], &[u8]),
+) -> Result<bool, Memory> {
+    let (status, out) = run_words(alloc, &[b"derive", b"d", b"o"], shelf, room)?;
+    let kept = shelf.held(CORE_PATH) == Some(expected.2)
+        && shelf.held(b"o/other") == Some(b"kept".as_slice());
+    Ok(status == expected.0 && out.written() == expected.1 && kept)
+}

@@ -1,0 +1,7 @@
+//! Tests of the public calls that read lines, fields and sets. They stand above the crates that they test, so that each is proved once.
+#![tactic(auto)]
+
+#[cfg(test)]
+mod lines;
+#[cfg(test)]
+mod sets;

@@ -1,0 +1,296 @@
+//! Texts and their trees or faults, and random texts against a second reading of the grammar.
+
+mod second_reading;
+
+use second_reading::is_text;
+use std::alloc::Global;
+use ucd_lines::put_hex;
+use ucd_model::{Memory, Text};
+use unicodeset_parser::*;
+
+/// The fault of a text, where it has one.
+fn fault_of(alloc: Global, text: &[u8]) -> Result<Option<(SetRule, usize)>, Memory> {
+    match parse(alloc, text) {
+        Ok(_) => Ok(None),
+        Err(SetStop::Fault { rule, at }) => Ok(Some((rule, at))),
+        Err(SetStop::Memory) => Err(Memory),
+    }
+}
+
+/// A tree in few words: `61-7A` for characters, `name@place`, `property=value@place`, `!` for the complement, and the
+/// steps of a bracket set in parentheses, each behind `|`, `&` or `-`.
+fn put_tree(expr: &Expr, into: &mut Text) -> Result<(), Memory> {
+    match expr {
+        Expr::Chars(span) => {
+            put_hex(span.lo, into)?;
+            into.append(b"..")?;
+            put_hex(span.hi, into)
+        }
+        Expr::Named { name, at } => {
+            into.append(name.as_slice())?;
+            put_place(*at, into)
+        }
+        Expr::Valued {
+            property,
+            value,
+            at,
+        } => {
+            into.append(property.as_slice())?;
+            into.append(b"=")?;
+            into.append(value.as_slice())?;
+            put_place(*at, into)
+        }
+        Expr::Not(part) => {
+            into.append(b"!")?;
+            put_tree(part, into)
+        }
+        Expr::Bracket(parts) => {
+            into.append(b"(")?;
+            'parts: for part in &parts.items {
+                into.append(join_text(part.join))?;
+                put_tree(&part.part, into)?;
+            }
+            into.append(b")")
+        }
+    }
+}
+
+/// A place of one digit.
+fn put_place(at: usize, into: &mut Text) -> Result<(), Memory> {
+    into.append(b"@")?;
+    into.push(b'0' + (at % 10) as u8)
+}
+
+fn join_text(join: Join) -> &'static [u8] {
+    match join {
+        Join::Union => b"|",
+        Join::Meet => b"&",
+        Join::Minus => b"-",
+    }
+}
+
+/// Whether a text has this tree.
+fn has_tree(alloc: Global, text: &[u8], wanted: &[u8]) -> Result<bool, Memory> {
+    let Ok(expr) = parse(alloc, text) else {
+        return Ok(false);
+    };
+    let mut shown = Text::new(alloc);
+    put_tree(&expr, &mut shown)?;
+    Ok(shown.as_slice() == wanted)
+}
+
+/// So many times a byte, behind a text.
+fn repeated(alloc: Global, mut text: Text, byte: u8, count: usize) -> Result<Text, Memory> {
+    for _ in 0..count {
+        text.push(byte)?;
+    }
+    Ok(text)
+}
+
+/// So many `[`, and so many `]`.
+fn nested(alloc: Global, open: usize, closed: usize) -> Result<Text, Memory> {
+    let text = repeated(alloc, Text::new(alloc), b'[', open)?;
+    repeated(alloc, text, b']', closed)
+}
+
+/// Whether a text has this fault.
+fn has_fault(alloc: Global, text: &[u8], rule: SetRule, at: usize) -> Result<bool, Memory> {
+    Ok(fault_of(alloc, text)? == Some((rule, at)))
+}
+
+#[test]
+fn texts_that_end_too_early(rt: HostRuntime) {
+    let texts: [(&[u8], SetRule, usize); 19] = [
+        (b"[\xff]", SetRule::S1, 1),
+        (b"\xe2\x89", SetRule::S1, 0),
+        (b"[z-a]\xc0", SetRule::S1, 5),
+        (b"", SetRule::S2, 0),
+        (b" \t\xc2\x85\xe2\x80\x8e", SetRule::S2, 7),
+        (b"[a", SetRule::S2, 2),
+        (b"[a-", SetRule::S2, 3),
+        (b"[-", SetRule::S2, 2),
+        (b"[[a]-", SetRule::S2, 5),
+        (b"\\", SetRule::S2, 1),
+        (b"[\\", SetRule::S2, 2),
+        (b"[a-\\", SetRule::S2, 4),
+        (b"\\p", SetRule::S2, 2),
+        (b"\\p{", SetRule::S2, 3),
+        (b"\\p{/:]=\xe2\x89\xa0", SetRule::S2, 10),
+        (b"[:a}", SetRule::S2, 4),
+        (b"[:]", SetRule::S2, 3),
+        (b"[[a]-\\P", SetRule::S2, 7),
+        (b"[:^", SetRule::S2, 3),
+    ];
+    for (text, rule, at) in texts {
+        let found = has_fault(rt.alloc(), text, rule, at).expect(&rt, "memory");
+        assert!(rt; found, "{text:?}");
+    }
+}
+
+#[test]
+fn characters_that_are_not_allowed(rt: HostRuntime) {
+    let texts: [(&[u8], usize); 24] = [
+        (b"a", 0),
+        (b"]", 0),
+        (b"{", 0),
+        (b"\\n", 0),
+        (b"[a]b", 3),
+        (b"[a][b]", 3),
+        (b"[a]\\", 3),
+        (b"[a]\\p", 3),
+        (b"[a]$", 3),
+        (b"[ ^a]", 2),
+        (b"[a&b]", 2),
+        (b"[a}", 2),
+        (b"[a-b-c]", 4),
+        (b"[a-[b]]", 3),
+        (b"[a-{]", 3),
+        (b"[a-\\p", 3),
+        (b"[a-\\p{\xe2\x89\xa0}]", 3),
+        (b"[a-[:b", 3),
+        (b"[[a]-b]", 5),
+        (b"[[a]&]", 5),
+        (b"[[a]&\\n]", 5),
+        (b"[[a]&$]", 5),
+        (b"[+--x]", 3),
+        (b"[[a]-{]", 5),
+    ];
+    for (text, at) in texts {
+        let found = has_fault(rt.alloc(), text, SetRule::S3, at).expect(&rt, "memory");
+        assert!(rt; found, "{text:?}");
+    }
+}
+
+#[test]
+fn ranges_escapes_and_forms_that_are_refused(rt: HostRuntime) {
+    let texts: [(&[u8], SetRule, usize); 23] = [
+        (b"[z-a]", SetRule::S4, 3),
+        (b"[a--]", SetRule::S4, 3),
+        (b"[a - \\u0041]", SetRule::S4, 5),
+        (b"[\\q]", SetRule::S5, 1),
+        (b"\\q", SetRule::S5, 0),
+        (b"[[a]-\\0]", SetRule::S5, 5),
+        (b"[a-\\pL]", SetRule::S5, 3),
+        (b"\\pL", SetRule::S5, 0),
+        (b"[\\u12", SetRule::S5, 1),
+        (b"[\\x", SetRule::S5, 1),
+        (b"[\\u{}]", SetRule::S5, 1),
+        (b"[\\u{1234567}]", SetRule::S5, 1),
+        (b"[\\u{110000}]", SetRule::S5, 1),
+        (b"[\\U00110000]", SetRule::S5, 1),
+        (b"[{ab}]", SetRule::S7, 1),
+        (b"[a]\\N", SetRule::S7, 3),
+        (b"[\\p{gc=/L}]", SetRule::S7, 1),
+        (b"[\\u{", SetRule::S5, 1),
+        (b"[a]\\q", SetRule::S5, 3),
+        (b"[$]", SetRule::S7, 1),
+        (b"[\\N{x}]", SetRule::S7, 1),
+        (b"[a-\\N]", SetRule::S7, 3),
+        (b"[a]\\p{\xe2\x89\xa0}", SetRule::S7, 3),
+    ];
+    for (text, rule, at) in texts {
+        let found = has_fault(rt.alloc(), text, rule, at).expect(&rt, "memory");
+        assert!(rt; found, "{text:?}");
+    }
+}
+
+#[test]
+fn texts_with_a_tree(rt: HostRuntime) {
+    let texts: [(&[u8], &[u8]); 24] = [
+        (b"[]", b"()"),
+        (b"[^]", b"!()"),
+        (b" [ ] ", b"()"),
+        (b"[-a]", b"(|002D..002D|0061..0061)"),
+        (b"[a-]", b"(|0061..0061|002D..002D)"),
+        (b"[---]", b"(|002D..002D)"),
+        (b"[+--]", b"(|002B..002D)"),
+        (b"[--a]", b"(|002D..0061)"),
+        (b"[^a - c]", b"!(|0061..0063)"),
+        (b"[[a]-]", b"(|(|0061..0061)|002D..002D)"),
+        (b"[[a]- ]", b"(|(|0061..0061)|002D..002D)"),
+        (b"[a[b]c]", b"(|0061..0061|(|0062..0062)|0063..0063)"),
+        (
+            b"[[ace][bdf] - [abc][def]]",
+            b"(|(|0061..0061|0063..0063|0065..0065)|(|0062..0062|0064..0064|0066..0066)-(|0061..0061|0062..0062|0063..0063)|(|0064..0064|0065..0065|0066..0066))",
+        ),
+        (b"[[a]&[b]-\\p{L}]", b"(|(|0061..0061)&(|0062..0062)-L@9)"),
+        (b"\\p{Lu}", b"Lu@0"),
+        (b"\\P{gc=Lu}", b"!gc=Lu@0"),
+        (b"[:Lu:]", b"Lu@0"),
+        (b"[:^a}=:=b:]", b"!a}=:=b@0"),
+        (b"\\p{^:]}", b"^:]@0"),
+        (b"\\p{}", b"@0"),
+        (
+            b"[\\u0041\\x41\\U0010FFFF\\u{1}\\x{10ffff}]",
+            b"(|0041..0041|0041..0041|10FFFF..10FFFF|0001..0001|10FFFF..10FFFF)",
+        ),
+        (
+            b"[\\a\\b\\t\\n\\v\\f\\r\\-\\]\\\xc3\xa9\\ ]",
+            b"(|0007..0007|0008..0008|0009..0009|000A..000A|000B..000B|000C..000C|000D..000D|002D..002D|005D..005D|00E9..00E9|0020..0020)",
+        ),
+        (b"[\xc3\xa9-\xf0\x9f\x98\x80]", b"(|00E9..1F600)"),
+        (b"[:\xe2\x80\xa8]:]", b"\xe2\x80\xa8]@0"),
+    ];
+    for (text, tree) in texts {
+        let found = has_tree(rt.alloc(), text, tree).expect(&rt, "memory");
+        assert!(rt; found, "{text:?}");
+    }
+}
+
+#[test]
+fn brackets_within_brackets(rt: HostRuntime) {
+    let texts: [(usize, usize, Option<(SetRule, usize)>); 5] = [
+        (64, 64, None),
+        (64, 0, Some((SetRule::S2, 64))),
+        (65, 65, Some((SetRule::S6, 64))),
+        (4000, 0, Some((SetRule::S6, 64))),
+        (2, 3, Some((SetRule::S3, 4))),
+    ];
+    for (open, closed, wanted) in texts {
+        let text = nested(rt.alloc(), open, closed).expect(&rt, "memory");
+        let fault = fault_of(rt.alloc(), text.as_slice()).expect(&rt, "memory");
+        assert!(rt; fault == wanted, "{open} {closed}");
+    }
+}
+
+/// The next number of a row that looks random.
+fn next_number(number: u32) -> u32 {
+    number.wrapping_mul(1_664_525).wrapping_add(1_013_904_223)
+}
+
+/// The pieces that random texts are made of.
+const PIECES: [&[u8]; 16] = [
+    b"[", b"[", b"[^", b"]", b"]", b"]", b"-", b"-", b"&", b"a", b"b", b" ", b"\\p{L}", b"\\n",
+    b"^", b"{",
+];
+
+/// A text of so many random pieces, behind a `[`.
+fn random_text(alloc: Global, seed: u32, count: u32) -> Result<Text, Memory> {
+    let mut text = Text::new(alloc);
+    text.push(b'[')?;
+    let mut number = seed;
+    for _ in 0..count {
+        number = next_number(number);
+        text.append(PIECES[(number / 65_536 % 16) as usize])?;
+    }
+    text.push(b']')?;
+    Ok(text)
+}
+
+#[test]
+fn random_texts(rt: HostRuntime) {
+    let mut sets = 0u32;
+    for seed in 0..20_000u32 {
+        let text = random_text(rt.alloc(), next_number(seed), 1 + seed % 8).expect(&rt, "memory");
+        let fault = fault_of(rt.alloc(), text.as_slice()).expect(&rt, "memory");
+        assert!(rt;
+            fault.is_none() == is_text(text.as_slice()),
+            "{:?}",
+            text.as_slice()
+        );
+        if fault.is_none() {
+            sets = sets.wrapping_add(1);
+        }
+    }
+    assert!(rt; sets > 500, "{sets}");
+}

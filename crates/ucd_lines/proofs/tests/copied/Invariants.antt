@@ -1,7 +1,0 @@
-use Rattle.std.proofs.Common.{◌≡◌, ◌++◌}
-use Rattle.ucd_model.specs.Lines.{joined}
-use Rattle.ucd_lines.proofs.tests.copied.Given as goal
-
--- what was put together, behind it what the lines that are left give, is the whole
-abbrev pub invariant-lines : goal.invariant-lines
-invariant-lines l = l.text ++ joined l.item-iterator ≡ l.bytes

@@ -153,7 +153,7 @@ fn holds(shelf: &MemoryShelf, files: &[File]) -> bool {
 #[test]
 fn scripts_are_carried_out(rt: HostRuntime) -> Result<(), Fail> {
     let alloc = rt.alloc();
-    for session in SESSIONS {
+    for session in &SESSIONS {
         let mut shelf = shelf_of(alloc, session.data[0], session.data[1])?;
         shelf.place(b"s", session.script)?;
         let (status, out) = run_words(alloc, &WORDS, &mut shelf, 1000)?;
@@ -222,30 +222,56 @@ fn long_group(alloc: Global) -> Result<Text, Memory> {
     Ok(script)
 }
 
+/// Scripts with a fault, and the line that is told.
+const FAULTS: [(&[u8], &[u8]); 6] = [
+    (b"add Nope.txt 0041", b"refused: s line 1 E1\n"),
+    (b"set []", b"refused: s line 1 E1\n"),
+    (b"begin", b"refused: s line 1 E2\n"),
+    (b"begin\nbegin", b"refused: s line 2 E3\n"),
+    (b"add UnicodeData.txt 0041;A", b"refused: s line 1 E6 G03\n"),
+    (
+        b"# head\n\nwithdraw PropList.txt 0041\n",
+        b"refused: s line 3 E6 G03\n",
+    ),
+];
+
+/// Whether a run over this UnicodeData.txt and this script is refused by the line, and writes nothing.
+///
+/// - `Memory`: memory ran out.
+fn is_refused(
+    alloc: Global,
+    data: &[u8],
+    script: Option<&[u8]>,
+    line: &[u8],
+) -> Result<bool, Memory> {
+    let mut shelf = shelf_of(alloc, data, b"")?;
+    if let Some(script) = script {
+        shelf.place(b"s", script)?;
+    }
+    let (status, out) = run_words(alloc, &WORDS, &mut shelf, 1000)?;
+    Ok(
+        status == Status::LoadRefused
+            && out.written() == line
+            && shelf.held(CORE_PATH) == Some(b"old".as_slice())
+            && shelf.held(b"o/bench.log").is_none(),
+    )
+}
+
 #[test]
 fn scripts_are_refused_by_their_first_fault(rt: HostRuntime) -> Result<(), Fail> {
     let alloc = rt.alloc();
-    let group = long_group(alloc)?;
-    let cases: [(&[u8], &[u8]); 7] = [
-        (b"add Nope.txt 0041", b"refused: s line 1 E1\n"),
-        (b"set []", b"refused: s line 1 E1\n"),
-        (b"begin", b"refused: s line 1 E2\n"),
-        (b"begin\nbegin", b"refused: s line 2 E3\n"),
-        (b"add UnicodeData.txt 0041;A", b"refused: s line 1 E6 G03\n"),
-        (
-            b"# head\n\nwithdraw PropList.txt 0041\n",
-            b"refused: s line 3 E6 G03\n",
-        ),
-        (group.as_slice(), b"refused: s line 4098 E5\n"),
-    ];
-    for (script, line) in cases {
-        let mut shelf = shelf_of(alloc, LETTERS, b"")?;
-        shelf.place(b"s", script)?;
-        let (status, out) = run_words(alloc, &WORDS, &mut shelf, 1000)?;
-        assert_eq!(rt; (status, out.written()), (Status::LoadRefused, line));
-        assert_eq!(rt; shelf.held(CORE_PATH), Some(b"old".as_slice()));
-        assert_eq!(rt; shelf.held(b"o/bench.log"), None);
+    for (script, line) in FAULTS {
+        assert!(rt; is_refused(alloc, LETTERS, Some(script), line)?);
     }
+    let group = long_group(alloc)?;
+    assert!(rt;
+        is_refused(
+            alloc,
+            LETTERS,
+            Some(group.as_slice()),
+            b"refused: s line 4098 E5\n"
+        )?
+    );
     Ok(())
 }
 
@@ -253,30 +279,21 @@ fn scripts_are_refused_by_their_first_fault(rt: HostRuntime) -> Result<(), Fail>
 #[test]
 fn the_script_is_judged_after_the_folder(rt: HostRuntime) -> Result<(), Fail> {
     let alloc = rt.alloc();
+    assert!(rt; is_refused(alloc, LETTERS, None, b"refused: s line 0 G01\n")?);
     let long = vec![in alloc; b'#'; 16_777_217]?;
-    let cases: [(&[u8], Option<&[u8]>, &[u8]); 4] = [
-        (LETTERS, None, b"refused: s line 0 G01\n"),
-        (LETTERS, Some(long.as_slice()), b"refused: s line 0 G02\n"),
-        (
-            b"0041\n",
-            Some(b"begin"),
-            b"refused: d/UnicodeData.txt line 1 G03\n",
-        ),
-        (
-            b"1000;X;Lo;0;L;1001;;;;N;;;;;\n",
-            None,
-            b"refused: d point 1000 V1\n",
-        ),
-    ];
-    for (data, script, line) in cases {
-        let mut shelf = shelf_of(alloc, data, b"")?;
-        if let Some(script) = script {
-            shelf.place(b"s", script)?;
-        }
-        let (status, out) = run_words(alloc, &WORDS, &mut shelf, 1000)?;
-        assert_eq!(rt; (status, out.written()), (Status::LoadRefused, line));
-        assert_eq!(rt; shelf.held(CORE_PATH), Some(b"old".as_slice()));
-    }
+    assert!(rt;
+        is_refused(
+            alloc,
+            LETTERS,
+            Some(long.as_slice()),
+            b"refused: s line 0 G02\n"
+        )?
+    );
+    let data = b"0041\n";
+    let line = b"refused: d/UnicodeData.txt line 1 G03\n";
+    assert!(rt; is_refused(alloc, data, Some(b"begin"), line)?);
+    let data = b"1000;X;Lo;0;L;1001;;;;N;;;;;\n";
+    assert!(rt; is_refused(alloc, data, None, b"refused: d point 1000 V1\n")?);
     Ok(())
 }
 

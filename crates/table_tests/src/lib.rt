@@ -6,6 +6,8 @@ mod pages;
 #[cfg(test)]
 mod parts;
 #[cfg(test)]
+mod plain;
+#[cfg(test)]
 mod pool;
 #[cfg(test)]
 mod runs;

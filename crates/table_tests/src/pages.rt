@@ -1,13 +1,12 @@
 //! Worked tables, and tables against plain lists.
 
-ghost use Rattle.std.specs.Prelude.{◌<◌};
-
+use crate::plain::{Plain, drawn};
 use paged_table::PagedTable;
 use range_table::{Stretches, Table};
 use std::alloc::Global;
 use std::process::Abort;
 use std::test::Fail;
-use ucd_model::{Memory, Point, Span};
+use ucd_model::{Point, Span};
 
 fn point(number: u32) -> Result<Point, Fail> {
     Ok(Point::new(number).ok_or("a code point")?)
@@ -113,63 +112,8 @@ fn ends(table: &PagedTable, c: Point) -> (u32, u32) {
     )
 }
 
-/// The values of the first code points, now and next, one by one.
-#[derive(Drop)]
-struct Plain {
-    now: Vec<u64>,
-    next: Vec<u64>,
-}
-
 /// How many code points are looked at: six blocks.
 const SHOWN: u32 = 0x600;
-
-impl Plain {
-    fn filled(alloc: Global, value: u64) -> Result<Plain, Memory> {
-        let now = Vec::from_elem(alloc, value, SHOWN as usize)?;
-        let next = Vec::from_elem(alloc, value, SHOWN as usize)?;
-        Ok(Plain { now, next })
-    }
-
-    fn values(&self, at: usize) -> Option<(u64, u64)> {
-        Some((*self.now.get(at)?, *self.next.get(at)?))
-    }
-
-    fn set(&mut self, span: Span, value: u64) {
-        for number in span.first()..span.last() + 1 {
-            let at = number as usize;
-            if at < self.next.len() {
-                self.next[at] = value;
-            }
-        }
-    }
-
-    fn commit(&mut self) {
-        copy(&self.next, &mut self.now);
-    }
-
-    fn discard(&mut self) {
-        copy(&self.now, &mut self.next);
-    }
-}
-
-fn copy(from: &[u64], into: &mut [u64]) {
-    for at in 0..from.len() {
-        if at < into.len() {
-            into[at] = from[at];
-        }
-    }
-}
-
-/// A number below `bound`, and the next state.
-fn drawn(state: u64, bound: u64) -> (u64, u64)
-    requires { 0 < bound }
-    ensures { result.0 < bound }
-{
-    let next = state
-        .wrapping_mul(6_364_136_223_846_793_005)
-        .wrapping_add(1_442_695_040_888_963_407);
-    ((next >> 33) % bound, next)
-}
 
 /// The values of a code point, now and next.
 fn values(table: &PagedTable, number: u32) -> Option<(u64, u64)> {
@@ -229,7 +173,7 @@ fn steps(rt: &impl Abort, table: &mut PagedTable, plain: &mut Plain) {
 
 #[test]
 fn any_steps_as_in_plain_lists(rt: HostRuntime) -> Result<(), Fail> {
-    let mut plain = Plain::filled(rt.alloc(), 0)?;
+    let mut plain = Plain::filled(rt.alloc(), 0, SHOWN as usize)?;
     let mut table = PagedTable::filled(rt.alloc(), 0)?;
     steps(&rt, &mut table, &mut plain);
     Ok(())

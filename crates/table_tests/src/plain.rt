@@ -1,0 +1,68 @@
+//! Plain lists beside a table or a store, and numbers that are drawn one after the other.
+
+ghost use Rattle.std.specs.Prelude.{◌<◌};
+
+use std::alloc::Global;
+use ucd_model::{Memory, Span};
+
+/// The values of the first code points, now and next, one by one.
+#[derive(Drop)]
+pub struct Plain {
+    now: Vec<u64>,
+    next: Vec<u64>,
+}
+
+impl Plain {
+    /// The value at so many code points.
+    ///
+    /// - `Memory`: memory ran out.
+    pub fn filled(alloc: Global, value: u64, count: usize) -> Result<Plain, Memory> {
+        let now = Vec::from_elem(alloc, value, count)?;
+        let next = Vec::from_elem(alloc, value, count)?;
+        Ok(Plain { now, next })
+    }
+
+    /// The values at a place, now and next.
+    pub fn values(&self, at: usize) -> Option<(u64, u64)> {
+        Some((*self.now.get(at)?, *self.next.get(at)?))
+    }
+
+    /// The span has the value next.
+    pub fn set(&mut self, span: Span, value: u64) {
+        for number in span.first()..span.last() + 1 {
+            let at = number as usize;
+            if at < self.next.len() {
+                self.next[at] = value;
+            }
+        }
+    }
+
+    /// What is next becomes now.
+    pub fn commit(&mut self) {
+        copy(&self.next, &mut self.now);
+    }
+
+    /// What is now becomes next.
+    pub fn discard(&mut self) {
+        copy(&self.now, &mut self.next);
+    }
+}
+
+fn copy(from: &[u64], into: &mut [u64]) {
+    for at in 0..from.len() {
+        if at < into.len() {
+            into[at] = from[at];
+        }
+    }
+}
+
+/// A number below `bound`, and the next state.
+pub fn drawn(state: u64, bound: u64) -> (u64, u64)
+    requires { 0 < bound }
+    ensures { result.0 < bound }
+{
+    let next = state
+        .wrapping_mul(6_364_136_223_846_793_005)
+        .wrapping_add(1_442_695_040_888_963_407);
+    ((next >> 33) % bound, next)
+}

@@ -4,12 +4,12 @@ use Rattle.ucd_model.specs.Facts.{Facts}
 use Rattle.ucd_model.specs.Sets.{has_flag}
 use Rattle.ucd_model.specs.Uniform.{Alike}
 use Rattle.code_facts.specs.KeptFacts.{kept_at, all_kept}
+use Rattle.code_facts.specs.Rest.{RestOf}
 use Rattle.code_facts.specs.Word.{assigned_of_word, excluded_of_word, mid_word_of_word, category_of_word, class_of_word, kind_of_word, flags_of_word}
-use Rattle.code_facts.specs.declared.kept_facts.KeptFacts.{KeptFacts}
-use Rattle.code_facts.proofs.FactLemmas.{kept_inside, point_below}
+use Rattle.code_facts.proofs.FactLemmas.{kept_point}
 
-kept_alike : {T : Type 0} (now : T → ℕ → ℕ) (t : KeptFacts T) (c d : ℕ) → now t.words d ≡ now t.words c → Alike (kept_at now t d) (kept_at now t c)
-kept_alike now t c d e = record {
+kept_alike : (c d word word' : ℕ) (rest rest' : RestOf) → word' ≡ word → Alike (kept_at d word' rest') (kept_at c word rest)
+kept_alike c d word word' rest rest' e = record {
   assigned = ap assigned_of_word e;
   category = ap category_of_word e;
   class = ap class_of_word e;
@@ -19,8 +19,7 @@ kept_alike now t c d e = record {
   excluded = ap excluded_of_word e;
 }
 
-pub same_words : {T : Type 0} (now : T → ℕ → ℕ) (t : KeptFacts T) (c d : ℕ) → c < 1114112 → d < 1114112 → now t.words d ≡ now t.words c → Alike (all_kept now t d) (all_kept now t c)
-same_words now t c d first second e =
-    let one = kept_inside now t d (point_below d second) in
-    let other = kept_inside now t c (point_below c first) in
-    subst (λ (F : Facts). Alike F (all_kept now t c)) (sym one) (subst (λ (G : Facts). Alike (kept_at now t d) G) (sym other) (kept_alike now t c d e))
+pub same_words : (words : ℕ → ℕ) (rests : ℕ → RestOf) (c d : ℕ) → c < 1114112 → d < 1114112 → words d ≡ words c → Alike (all_kept words rests d) (all_kept words rests c)
+same_words words rests c d first second e =
+    subst (λ (F : Facts). Alike F (all_kept words rests c)) (sym (kept_point words rests d second))
+    (subst (λ (G : Facts). Alike (kept_at d (words d) (rests d)) G) (sym (kept_point words rests c first)) (kept_alike c d (words c) (words d) (rests c) (rests d) e))

@@ -1,68 +1,130 @@
--- The index grows stretch by stretch.
-use Rattle.std.proofs.Common.{◌≡◌, ℕ, ◌<◌, ◌≤◌, Bool, true, false, cond, ◌&&◌, ◌||◌, Option, Some, None, refl, sym, ap, subst, ◌∙◌, arith, inl, inr}
-use Rattle.std.proofs.lemmas.Bool.{cases_lt}
+-- Composites that are found among those that are listed.
+use Rattle.std.proofs.Common.{◌≡◌, ℕ, ◌+◌, ◌<◌, ◌≤◌, Bool, true, false, ◌&&◌, ◌||◌, List, [], ◌∷◌, length, take, get_or, Option, Some, None, refl, sym, ap, ap₂, subst, ◌∙◌, arith, inl, inr}
+use Rattle.std.specs.Ordering.{nat_cmp}
+use Rattle.std.specs.BTreeSet.{contains}
+use Rattle.std.proofs.lemmas.Bool.{cases_lt, true≢false}
+use Rattle.std.proofs.lemmas.Bool.Decides.{nat_tests}
 use Rattle.ucd_model.specs.Limits.{point_count}
 use Rattle.ucd_model.specs.Facts.{Facts}
-use Rattle.ucd_model.specs.Composites.{primary, is_pair, is_second, composes, ends_with, pair_of, second_of}
+use Rattle.ucd_model.specs.Composites.{is_canonical, first_has_class_zero, primary, is_pair, is_second, composes, ends_with, pair_of, second_of}
 use Rattle.ucd_model.specs.CompositeProofs.{pair_of_first, pair_of_none, second_of_some, second_of_none}
-use Rattle.code_facts.specs.Index.{LeastBelow, SomeBelow, Indexes, first_of, pair_in, second_in, is_that, ends_that}
-use Rattle.code_facts.specs.declared.composites.Composites.{Composites}
+use Rattle.code_facts.specs.Index.{Lists, is_listed, pair_key, second_key, NoneBelow}
+use Rattle.std.specs.List.{list_any}
+use Rattle.std.proofs.lemmas.List.Folds.{list_any_more}
+use Rattle.ucd_model.specs.Bounds.{Bounds}
+use Rattle.ucd_model.specs.Facts.{within}
+use Rattle.code_facts.specs.Copying.{IsListed}
+use Rattle.code_facts.specs.declared.pair_index.PairIndex.{PairIndex}
+use Rattle.code_facts.specs.declared.row_tables.RowTables.{RowTables}
 
-all_false : (p : ℕ → Bool) (a n : ℕ) → ((k : ℕ) → a ≤ k → k < n → p k ≡ p a) → p a ≡ false → ((k : ℕ) → k < a → p k ≡ false) → (k : ℕ) → k < n → p k ≡ false
-all_false p a n same here below k lt = elim (cases_lt k a) [ inl before ↦ below k before | inr from ↦ same k from lt ∙ here ]
+-- ---- a primary composite is listed
 
--- a stretch from a up to n in which the test does not change
-least_more : (p : ℕ → Bool) (a n : ℕ) (b : Bool) (o : Option ℕ) → a < n → ((k : ℕ) → a ≤ k → k < n → p k ≡ p a) → p a ≡ b → LeastBelow p a o → LeastBelow p n (first_of o (cond b (Some a) None))
-least_more p a n b (Some q) h same here least = (omega (arith, least.0), least.1, least.2)
-least_more p a n true None h same here least = (h, here, least)
-least_more p a n false None h same here least = all_false p a n same here least
+and_first : (a b : Bool) → a && b ≡ true → a ≡ true
+and_first true b e = refl
+and_first false b e = absurd cc
 
-some_more : (p : ℕ → Bool) (a n : ℕ) (b o : Bool) → a < n → ((k : ℕ) → a ≤ k → k < n → p k ≡ p a) → p a ≡ b → SomeBelow p a o → SomeBelow p n (o || b)
-some_more p a n b true h same here some = (some.0, omega (arith, some.1), some.2)
-some_more p a n true false h same here none = (a, h, here)
-some_more p a n false false h same here none = all_false p a n same here none
+and_second : (a b : Bool) → a && b ≡ true → b ≡ true
+and_second true b e = e
+and_second false b e = absurd cc
 
--- facts that tell whether a point is a composite, and of which pair
-pub record SameComposite (F : ℕ → Facts) (a k : ℕ) : Type 0 where
-  pub kind : (F k).kind ≡ (F a).kind
-  pub class : (F k).class ≡ (F a).class
-  pub excluded : (F k).excluded ≡ (F a).excluded
-  pub mapping : (F k).mapping ≡ (F a).mapping
+false_by : (b : Bool) → (b ≡ true → ⊥) → b ≡ false
+false_by true h = absurd (h refl)
+false_by false h = refl
 
-same_primary : (F : ℕ → Facts) (a k : ℕ) → SameComposite F a k → primary F k ≡ primary F a
-same_primary F a k same = rw (same.kind, same.class, same.excluded, same.mapping) refl
+pair_members : (s y : ℕ) (m : List ℕ) → is_pair s y m ≡ true → m ≡ s ∷ y ∷ []
+pair_members s y [] e = absurd cc
+pair_members s y (a ∷ []) e = absurd cc
+pair_members s y (a ∷ b ∷ []) e =
+    let first : a ≡ s = grind (arith, nat_tests) in
+    let second : b ≡ y = grind (arith, nat_tests) in
+    ap₂ (λ u v. u ∷ v ∷ []) first second
+pair_members s y (a ∷ b ∷ d ∷ m) e = absurd cc
 
-same_pair : (F : ℕ → Facts) (s y a k : ℕ) → SameComposite F a k → composes F s y k ≡ composes F s y a
-same_pair F s y a k same = ap (λ b. b && is_pair s y (F k).mapping) (same_primary F a k same) ∙ ap (λ m. primary F a && is_pair s y m) same.mapping
+low_of : (q : ℕ) (span : Bounds) → within q span ≡ true → span.lo ≤ q
+low_of q span is = grind (arith, nat_tests)
 
-same_second : (F : ℕ → Facts) (y a k : ℕ) → SameComposite F a k → ends_with F y k ≡ ends_with F y a
-same_second F y a k same = ap (λ b. b && is_second y (F k).mapping) (same_primary F a k same) ∙ ap (λ m. primary F a && is_second y m) same.mapping
+high_of : (q : ℕ) (span : Bounds) → within q span ≡ true → q ≤ span.hi
+high_of q span is = grind (arith, nat_tests)
 
-pub indexes_more : (F : ℕ → Facts) (old new : Composites) (a n : ℕ) (pair : Option (ℕ × ℕ)) → a < n → ((k : ℕ) → a ≤ k → k < n → SameComposite F a k)
-    → ((s y : ℕ) → is_that s y pair ≡ composes F s y a) → ((y : ℕ) → ends_that y pair ≡ ends_with F y a)
-    → ((s y : ℕ) → pair_in new s y ≡ first_of (pair_in old s y) (cond (is_that s y pair) (Some a) None))
-    → ((y : ℕ) → second_in new y ≡ (second_in old y || ends_that y pair)) → Indexes old F a → Indexes new F n
-indexes_more F old new a n pair h same pairs seconds add_pair add_second index = record {
-  pairs = λ s y. subst (LeastBelow (composes F s y) n) (sym (add_pair s y)) (least_more (composes F s y) a n (is_that s y pair) (pair_in old s y) h (λ k from below. same_pair F s y a k (same k from below)) (sym (pairs s y)) (index.pairs s y));
-  seconds = λ y. subst (SomeBelow (ends_with F y) n) (sym (add_second y)) (some_more (ends_with F y) a n (ends_that y pair) (second_in old y) h (λ k from below. same_second F y a k (same k from below)) (sym (seconds y)) (index.seconds y));
-}
+-- one more span is listed
+listed_by : (t : RowTables) (old new : PairIndex) (q : ℕ) (was one : Bool) → (was || one) ≡ true
+    → ((s y r : ℕ) → is_listed old s y r ≡ true → is_listed new s y r ≡ true) → (was ≡ true → IsListed old t q) → (one ≡ true → IsListed new t q) → IsListed new t q
+listed_by t old new q true one either grows before here = λ s y kind is. grows s y q (before refl s y kind is)
+listed_by t old new q false one either grows before here = here either
 
-pub indexes_none : (F : ℕ → Facts) (index : Composites) → ((s y : ℕ) → pair_in index s y ≡ None) → ((y : ℕ) → second_in index y ≡ false) → Indexes index F 0
-indexes_none F index pairs seconds = record {
-  pairs = λ s y. subst (LeastBelow (composes F s y) 0) (sym (pairs s y)) (λ k lt. absurd (omega arith));
-  seconds = λ y. subst (SomeBelow (ends_with F y) 0) (sym (seconds y)) (λ k lt. absurd (omega arith));
-}
+pub listed_more : (spans : List Bounds) (i : ℕ) (d : Bounds) (q : ℕ) (t : RowTables) (old new : PairIndex) → i < length spans → list_any (within q) (take (i + 1) spans) ≡ true
+    → ((s y r : ℕ) → is_listed old s y r ≡ true → is_listed new s y r ≡ true)
+    → (list_any (within q) (take i spans) ≡ true → IsListed old t q)
+    → ((get_or spans i d).lo ≤ q → q ≤ (get_or spans i d).hi → IsListed new t q) → IsListed new t q
+listed_more spans i d q t old new lt is grows before here =
+    listed_by t old new q (list_any (within q) (take i spans)) (within q (get_or spans i d)) (sym (list_any_more (within q) spans i d lt) ∙ is) grows before
+    (λ inside. here (low_of q (get_or spans i d) inside) (high_of q (get_or spans i d) inside))
 
-pair_told : (F : ℕ → Facts) (s y : ℕ) (o : Option ℕ) → LeastBelow (composes F s y) point_count o → o ≡ pair_of F s y
-pair_told F s y None least = sym (pair_of_none F s y least)
-pair_told F s y (Some q) least = sym (pair_of_first F s y q least.0 least.1 least.2)
+-- ---- a composite is listed where its mapping is
 
-second_told : (F : ℕ → Facts) (y : ℕ) (b : Bool) → SomeBelow (ends_with F y) point_count b → b ≡ second_of F y
-second_told F y true some = sym (second_of_some F y some.0 some.1 some.2)
-second_told F y false none = sym (second_of_none F y none)
+primary_kind : (F : ℕ → Facts) (q : ℕ) → primary F q ≡ true → is_canonical (F q).kind ≡ true
+primary_kind F q is = and_first (is_canonical (F q).kind) _ is
 
-pub index_pairs : (F : ℕ → Facts) (index : Composites) → Indexes index F point_count → (s y : ℕ) → pair_in index s y ≡ pair_of F s y
-index_pairs F index is s y = pair_told F s y (pair_in index s y) (is.pairs s y)
+pub pair_kind : (F : ℕ → Facts) (s y q : ℕ) → composes F s y q ≡ true → is_canonical (F q).kind ≡ true
+pair_kind F s y q is = primary_kind F q (and_first (primary F q) (is_pair s y (F q).mapping) is)
 
-pub index_seconds : (F : ℕ → Facts) (index : Composites) → Indexes index F point_count → (y : ℕ) → second_in index y ≡ second_of F y
-index_seconds F index is y = second_told F y (second_in index y) (is.seconds y)
+pub second_kind : (F : ℕ → Facts) (y q : ℕ) → ends_with F y q ≡ true → is_canonical (F q).kind ≡ true
+second_kind F y q is = primary_kind F q (and_first (primary F q) (is_second y (F q).mapping) is)
+
+pub pair_listed : (F : ℕ → Facts) (index : PairIndex) (s y q : ℕ) → Lists index F → composes F s y q ≡ true → contains nat_cmp index.pairs (pair_key s y + q) ≡ true
+pair_listed F index s y q lists is =
+    let members = pair_members s y (F q).mapping (and_second (primary F q) (is_pair s y (F q).mapping) is) in
+    and_first (contains nat_cmp index.pairs (pair_key s y + q)) _ (lists s y q (primary_kind F q (and_first (primary F q) (is_pair s y (F q).mapping) is)) members)
+
+second_members : (F : ℕ → Facts) (index : PairIndex) (y q : ℕ) (m : List ℕ) → m ≡ (F q).mapping → is_second y m ≡ true → is_canonical (F q).kind ≡ true → Lists index F → contains nat_cmp index.seconds (second_key y + q) ≡ true
+second_members F index y q [] e is kind lists = absurd cc
+second_members F index y q (a ∷ []) e is kind lists = absurd cc
+second_members F index y q (a ∷ b ∷ []) e is kind lists =
+    let same : b ≡ y = grind (arith, nat_tests) in
+    subst (λ (n : ℕ). contains nat_cmp index.seconds (second_key n + q) ≡ true) same (and_second (contains nat_cmp index.pairs (pair_key a b + q)) _ (lists a b q kind (sym e)))
+second_members F index y q (a ∷ b ∷ d ∷ m) e is kind lists = absurd cc
+
+pub second_listed : (F : ℕ → Facts) (index : PairIndex) (y q : ℕ) → Lists index F → ends_with F y q ≡ true → contains nat_cmp index.seconds (second_key y + q) ≡ true
+second_listed F index y q lists is =
+    second_members F index y q (F q).mapping refl (and_second (primary F q) (is_second y (F q).mapping) is) (primary_kind F q (and_first (primary F q) (is_second y (F q).mapping) is)) lists
+
+-- what is not listed is no composite
+pub pair_unlisted : (F : ℕ → Facts) (index : PairIndex) (s y q : ℕ) → Lists index F → contains nat_cmp index.pairs (pair_key s y + q) ≡ false → composes F s y q ≡ false
+pair_unlisted F index s y q lists absent = false_by (composes F s y q) (λ is. true≢false (sym (pair_listed F index s y q lists is) ∙ absent))
+
+pub second_unlisted : (F : ℕ → Facts) (index : PairIndex) (y q : ℕ) → Lists index F → contains nat_cmp index.seconds (second_key y + q) ≡ false → ends_with F y q ≡ false
+second_unlisted F index y q lists absent = false_by (ends_with F y q) (λ is. true≢false (sym (second_listed F index y q lists is) ∙ absent))
+
+-- ---- the least one
+
+pub none_more : (p : ℕ → Bool) (n q : ℕ) → NoneBelow p n → ((k : ℕ) → n ≤ k → k < q → p k ≡ false) → NoneBelow p q
+none_more p n q below more k lt = elim (cases_lt k n) [ inl before ↦ below k before | inr from ↦ more k from lt ]
+
+at_end : (k q : ℕ) → q ≤ k → k < q + 1 → q ≡ k
+at_end k q from lt = omega arith
+
+pub none_next : (p : ℕ → Bool) (q n : ℕ) → n ≡ q → NoneBelow p q → p q ≡ false → NoneBelow p (n + 1)
+none_next p q n at below here k under = let lt : k < q + 1 = omega arith in elim (cases_lt k q) [ inl before ↦ below k before | inr from ↦ subst (λ (n : ℕ). p n ≡ false) (at_end k q from lt) here ]
+
+pub below_count : (q : ℕ) → q < 1114112 → q < point_count
+unfolding point_count
+below_count q lt = lt
+
+pub none_count : (p : ℕ → Bool) → NoneBelow p 1114112 → (k : ℕ) → k < point_count → p k ≡ false
+unfolding point_count
+none_count p none = none
+
+pub pair_found : (F : ℕ → Facts) (s y q : ℕ) → q < 1114112 → NoneBelow (composes F s y) q → composes F s y q ≡ true → Some q ≡ pair_of F s y
+pair_found F s y q lt none is = sym (pair_of_first F s y q (below_count q lt) is none)
+
+pub pair_none : (F : ℕ → Facts) (s y : ℕ) → NoneBelow (composes F s y) 1114112 → None ≡ pair_of F s y
+pair_none F s y none = sym (pair_of_none F s y (none_count (composes F s y) none))
+
+pub second_found : (F : ℕ → Facts) (y q : ℕ) → q < 1114112 → ends_with F y q ≡ true → true ≡ second_of F y
+second_found F y q lt is = sym (second_of_some F y q (below_count q lt) is)
+
+pub second_none : (F : ℕ → Facts) (y : ℕ) → NoneBelow (ends_with F y) 1114112 → false ≡ second_of F y
+second_none F y none = sym (second_of_none F y (none_count (ends_with F y) none))
+
+pub second_absent : (F : ℕ → Facts) (index : PairIndex) (y : ℕ) → Lists index F → ((k : ℕ) → k < 1114112 → contains nat_cmp index.seconds (second_key y + k) ≡ false) → second_of F y ≡ false
+second_absent F index y lists absent = sym (second_none F y (λ k lt. second_unlisted F index y k lists (absent k lt)))

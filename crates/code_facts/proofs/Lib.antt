@@ -7,6 +7,6 @@ pub mod FlagLemmas
 pub mod CaseLemmas
 pub mod FactLemmas
 pub mod IndexLemmas
-pub mod PairLemmas
 mod AlikeLemmas
 mod PlainLemmas
+pub mod TableLemmas

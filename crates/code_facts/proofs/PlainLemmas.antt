@@ -1,5 +1,5 @@
 -- Where nothing is kept of mappings, a code point has none.
-use Rattle.std.proofs.Common.{◌≡◌, ℕ, ◌<◌, ◌≤◌, Bool, true, false, IsTrue, List, [], ◌∷◌, Option, Some, None, unwrap_or, refl, ap, ◌∙◌, arith}
+use Rattle.std.proofs.Common.{◌≡◌, ℕ, ◌<◌, ◌≤◌, IsTrue, Bool, true, false, List, [], ◌∷◌, Option, Some, None, refl, ap, subst, sym, ◌∙◌, arith}
 use Rattle.std.specs.Option.{IsSome}
 use Rattle.std.specs.Ordering.{nat_cmp, is_gt}
 use Rattle.std.proofs.lemmas.Slice.Eq.{bytes_eq-Decides}
@@ -7,17 +7,13 @@ use Rattle.std.proofs.lemmas.Map.Keys.{le_from_not_gt}
 use Rattle.std.proofs.lemmas.Bool.Decides.{nat_tests}
 use Rattle.std.specs.BTreeMap.{BTreeMap}
 use Rattle.std.specs.BTreeMap.Range.{IsLeBy}
-use Rattle.ucd_model.specs.Facts.{image, only_or}
+use Rattle.ucd_model.specs.Facts.{Facts, image}
 use Rattle.ucd_model.specs.Uniform.{IsPlain}
 use Rattle.ucd_model.specs.declared.image.Image.TheVariants.{Same}
 use Rattle.code_facts.specs.Found.{found}
-use Rattle.code_facts.specs.Index.{second_in}
-use Rattle.code_facts.specs.KeptFacts.{full_image, kept_at, all_kept}
-use Rattle.code_facts.specs.PointLists.{lists_now}
-use Rattle.code_facts.specs.Plain.{HasNoLists, HasNoImages}
-use Rattle.code_facts.specs.declared.composites.Composites.{Composites}
-use Rattle.code_facts.specs.declared.kept_facts.KeptFacts.{KeptFacts}
-use Rattle.code_facts.proofs.FactLemmas.{kept_inside, point_below}
+use Rattle.code_facts.specs.KeptFacts.{kept_at, all_kept}
+use Rattle.code_facts.specs.Rest.{RestOf, no_rest}
+use Rattle.code_facts.proofs.FactLemmas.{kept_point}
 
 pub not_gt : (a b : ℕ) → a ≤ b → is_gt (nat_cmp a b) ≡ false
 not_gt a b le = grind (arith, nat_tests)
@@ -34,29 +30,26 @@ not_true : (b : Bool) → (IsTrue b → ⊥) → b ≡ false
 not_true false h = refl
 not_true true h = absurd (h refl)
 
--- and so of second members
-pub second_absent : (index : Composites) (next d : ℕ) → d < next → (IsTrue (second_in index d) → IsLeBy nat_cmp next d) → second_in index d ≡ false
-second_absent index next d lt least = not_true (second_in index d) (λ some. omega (arith, le_from_not_gt next d (least some)))
+-- and so of sets of keys
+pub key_absent : (b : Bool) (next d : ℕ) → d < next → (IsTrue b → IsLeBy nat_cmp next d) → b ≡ false
+key_absent b next d lt least = not_true b (λ some. omega (arith, le_from_not_gt next d (least some)))
 
 itself : (c : ℕ) → image c (c ∷ []) ≡ Same
 itself c = rw ((bytes_eq-Decides (c ∷ []) (c ∷ [])).1 refl) refl
 
-kept_plain : {T : Type 0} (now : T → ℕ → ℕ) (t : KeptFacts T) (c : ℕ) → HasNoLists t c → HasNoImages t.cases.value c → IsPlain c (kept_at now t c)
-kept_plain now t c lists images =
-    let upper : only_or c (lists_now t.lists.value.uppers c) ≡ c = ap (only_or c) lists.upper in
-    let lower : only_or c (lists_now t.lists.value.lowers c) ≡ c = ap (only_or c) lists.lower in
-    let title : only_or (only_or c (lists_now t.lists.value.uppers c)) (lists_now t.lists.value.titles c) ≡ c = ap (only_or (only_or c (lists_now t.lists.value.uppers c))) lists.title ∙ upper in
-    record {
-      mapping = lists.mapping;
-      simple_upper = upper;
-      simple_lower = lower;
-      simple_title = title;
-      simple_fold = ap (λ o. only_or c (unwrap_or o (unwrap_or (found t.cases.value.common c) []))) images.simple ∙ ap (λ o. only_or c (unwrap_or o [])) images.common;
-      upper = ap (full_image c (only_or c (lists_now t.lists.value.uppers c))) images.upper ∙ ap (λ s. image c (s ∷ [])) upper ∙ itself c;
-      lower = ap (full_image c (only_or c (lists_now t.lists.value.lowers c))) images.lower ∙ ap (λ s. image c (s ∷ [])) lower ∙ itself c;
-      title = ap (full_image c (only_or (only_or c (lists_now t.lists.value.uppers c)) (lists_now t.lists.value.titles c))) images.title ∙ ap (λ s. image c (s ∷ [])) title ∙ itself c;
-      fold = ap (λ o. image c (unwrap_or o (unwrap_or (found t.cases.value.common c) (c ∷ [])))) images.full ∙ ap (λ o. image c (unwrap_or o (c ∷ []))) images.common ∙ itself c;
-    }
+none_plain : (c word : ℕ) → IsPlain c (kept_at c word no_rest)
+none_plain c word = record {
+  mapping = refl;
+  simple_upper = refl;
+  simple_lower = refl;
+  simple_title = refl;
+  simple_fold = refl;
+  upper = itself c;
+  lower = itself c;
+  title = itself c;
+  fold = itself c;
+}
 
-pub unmapped_plain : {T : Type 0} (now : T → ℕ → ℕ) (t : KeptFacts T) (c : ℕ) → c < 1114112 → HasNoLists t c → HasNoImages t.cases.value c → IsPlain c (all_kept now t c)
-unmapped_plain now t c inside lists images = rw (kept_inside now t c (point_below c inside)) (kept_plain now t c lists images)
+pub unmapped_plain : (words : ℕ → ℕ) (rests : ℕ → RestOf) (c : ℕ) → c < 1114112 → rests c ≡ no_rest → IsPlain c (all_kept words rests c)
+unmapped_plain words rests c inside none =
+    subst (IsPlain c) (sym (kept_point words rests c inside ∙ ap (kept_at c (words c)) none)) (none_plain c (words c))

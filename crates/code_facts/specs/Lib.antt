@@ -8,9 +8,11 @@ pub mod Marks
 pub mod MarkRows
 pub mod Found
 pub mod CaseMaps
+pub mod Rest
 pub mod KeptFacts
+pub mod RowTables
 pub mod Index
-pub mod RowFacts
+pub mod Copying
 pub mod FactTables
 pub mod NowView
 pub mod NextView

@@ -1,6 +1,6 @@
 -- The facts that a view of tables shows.
 --
--- facts_now now view   the facts of all numbers that the tables of the view keep; now reads the table of words
+-- facts_now now view   the facts of all numbers that the tables of the view keep now
 use Rattle.std.specs.Prelude.{ℕ}
 use Rattle.ucd_model.specs.Facts.{Facts}
 use Rattle.range_table.specs.declared.table.Table.{Ghosts}

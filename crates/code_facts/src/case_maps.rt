@@ -1,12 +1,19 @@
 //! The images of all cases.
 
-ghost use Rattle.std.specs.Prelude.{◌≡◌, ℕ, IfOk, OnOk};
+ghost use Rattle.std.specs.Prelude.{◌≡◌, ℕ, None, IfOk, OnOk, IfSome, IsTrue};
+ghost use Rattle.std.specs.Box.{box_value};
+ghost use Rattle.std.specs.Option.{option_map};
 ghost use Rattle.code_facts.specs.Found.{found};
 ghost use Rattle.code_facts.specs.CaseMaps.{KeepsImages, KeepsFoldings, KeepsCasings, SameFoldings};
+ghost use Rattle.code_facts.specs.Plain.{HoldsTo};
+ghost use Rattle.code_facts.specs.Rest.{cases_of, no_cases};
 ghost use Rattle.code_facts.specs.RowLists.{sources_of};
+ghost use Rattle.code_facts.specs.RowTables.{cases_in};
 
 use crate::case::Case;
 use crate::case_map::case_map;
+use crate::cases::Cases;
+use crate::points::{lesser, point};
 use crate::row_lists::RowLists;
 use release_rows::RowText;
 use std::alloc::Global;
@@ -82,4 +89,84 @@ impl CaseMaps {
         self.upper = case_map(alloc, rows, Case::Upper)?;
         Ok(())
     }
+
+    /// The images of a code point; `None` only where it has none.
+    ///
+    /// - `Memory`: memory ran out.
+    pub fn at(&self, alloc: Global, c: Point) -> Result<Option<Box<Cases>>, Memory>
+        ensures { IfOk result (λ cases. cases_of (option_map box_value cases) ≡ cases_in self.now c) }
+    {
+        if self.has_none(c) {
+            return Ok(None);
+        }
+        Ok(Some(Box::new(alloc, self.images(alloc, c)?)?))
+    }
+
+    /// Whether no map has a code point.
+    fn has_none(&self, c: Point) -> bool
+        ensures { IsTrue result → cases_in self.now c ≡ no_cases }
+    {
+        !self.common.contains_key(&c)
+            && !self.full.contains_key(&c)
+            && !self.simple.contains_key(&c)
+            && !self.lower.contains_key(&c)
+            && !self.title.contains_key(&c)
+            && !self.upper.contains_key(&c)
+    }
+
+    /// Copies of the images of a code point.
+    fn images(&self, alloc: Global, c: Point) -> Result<Cases, Memory>
+        ensures { IfOk result (λ cases. cases ≡ cases_in self.now c) }
+    {
+        Ok(Cases {
+            common: image_in(alloc, &self.common, c)?,
+            full: image_in(alloc, &self.full, c)?,
+            simple: image_in(alloc, &self.simple, c)?,
+            lower: image_in(alloc, &self.lower, c)?,
+            title: image_in(alloc, &self.title, c)?,
+            upper: image_in(alloc, &self.upper, c)?,
+        })
+    }
+
+    /// A code point up to which all maps have the same from `c` on.
+    pub fn last_alike(&self, c: Point) -> Point
+        ensures { HoldsTo (λ d. cases_in self.now d ≡ cases_in self.now c) c result }
+    {
+        let common = last_image(&self.common, c);
+        let full = last_image(&self.full, c);
+        let simple = last_image(&self.simple, c);
+        let lower = last_image(&self.lower, c);
+        let title = last_image(&self.title, c);
+        let upper = last_image(&self.upper, c);
+        let foldings = lesser(common, lesser(full, simple));
+        let casings = lesser(lower, lesser(title, upper));
+        lesser(foldings, casings)
+    }
+}
+
+/// A copy of the image of a code point in a map.
+fn image_in(
+    alloc: Global,
+    map: &BTreeMap<Point, Points>,
+    c: Point,
+) -> Result<Option<Points>, Memory>
+    ensures { IfOk result (λ image. image ≡ found map.now c) }
+{
+    match map.get(&c) {
+        Some(points) => Ok(Some(points.copy(alloc)?)),
+        None => Ok(None),
+    }
+}
+
+/// A code point up to which a map has the same from `c` on: `c` itself where it is a key, and else the last before the
+/// next one.
+fn last_image(map: &BTreeMap<Point, Points>, c: Point) -> Point
+    ensures { HoldsTo (λ d. found map.now d ≡ found map.now c) c result }
+{
+    let first = c.number();
+    let Some((key, _)) = map.range(c..).next() else {
+        return point(Point::COUNT - 1);
+    };
+    let key = key.number();
+    if first < key { point(key - 1) } else { c }
 }

@@ -4,11 +4,9 @@ ghost use Rattle.std.specs.Prelude.{◌≡◌, ℕ, [], ◌∷◌, unwrap_or};
 ghost use Rattle.std.specs.Option.{option_copied};
 ghost use Rattle.ucd_model.specs.Facts.{image, only_or};
 ghost use Rattle.ucd_model.specs.View.{image_shown};
-ghost use Rattle.code_facts.specs.Found.{found};
 ghost use Rattle.code_facts.specs.KeptFacts.{full_image};
 
-use std::collections::BTreeMap;
-use ucd_model::{Point, Points};
+use ucd_model::Point;
 
 /// The first of the points, and the code point itself where there are none.
 pub fn first_or(c: Point, points: &[Point]) -> Point
@@ -49,53 +47,39 @@ pub fn simple_image(c: Point, simple: &[Point]) -> Option<&[Point]>
     }
 }
 
-/// The points of a code point in a map; `None` where it has none there.
-pub fn points_in(map: &BTreeMap<Point, Points>, c: Point) -> Option<&[Point]>
-    ensures { option_copied result ≡ found map.now c }
-{
-    match map.get(&c) {
-        Some(points) => Some(points.as_slice()),
-        None => None,
-    }
-}
-
-/// The image in the map, and else the simple image; `None` for the point itself alone.
+/// The full image where there is one, and else the simple image; `None` for the point itself alone.
 pub fn full_image<'a>(
     c: Point,
-    map: &'a BTreeMap<Point, Points>,
+    full: Option<&'a [Point]>,
     simple: &'a [Point],
 ) -> Option<&'a [Point]>
-    ensures { image_shown result ≡ full_image c (only_or c simple.now) (found map.now c) }
+    ensures { image_shown result ≡ full_image c (only_or c simple.now) (option_copied full.entry) }
 {
-    match points_in(map, c) {
+    match full {
         Some(points) => shown_image(c, points),
         None => simple_image(c, simple),
     }
 }
 
-/// The image under the first map, else under the second, else the point itself, which `None` stands for.
+/// The image under the first folding, else under the second, else the point itself, which `None` stands for.
 pub fn folding<'a>(
     c: Point,
-    first: &'a BTreeMap<Point, Points>,
-    second: &'a BTreeMap<Point, Points>,
+    first: Option<&'a [Point]>,
+    second: Option<&'a [Point]>,
 ) -> Option<&'a [Point]>
-    ensures { image_shown result ≡ image c (unwrap_or (found first.now c) (unwrap_or (found second.now c) (c ∷ []))) }
+    ensures { image_shown result ≡ image c (unwrap_or (option_copied first.entry) (unwrap_or (option_copied second.entry) (c ∷ []))) }
 {
-    match (points_in(first, c), points_in(second, c)) {
+    match (first, second) {
         (Some(points), _) | (None, Some(points)) => shown_image(c, points),
         (None, None) => None,
     }
 }
 
-/// The one point under the first map, else under the second, else the code point itself.
-pub fn simple_folding(
-    c: Point,
-    first: &BTreeMap<Point, Points>,
-    second: &BTreeMap<Point, Points>,
-) -> Point
-    ensures { result ≡ only_or c (unwrap_or (found first.now c) (unwrap_or (found second.now c) [])) }
+/// The one point under the first folding, else under the second, else the code point itself.
+pub fn simple_folding(c: Point, first: Option<&[Point]>, second: Option<&[Point]>) -> Point
+    ensures { result ≡ only_or c (unwrap_or (option_copied first.entry) (unwrap_or (option_copied second.entry) [])) }
 {
-    match (points_in(first, c), points_in(second, c)) {
+    match (first, second) {
         (Some(points), _) | (None, Some(points)) => first_or(c, points),
         (None, None) => c,
     }

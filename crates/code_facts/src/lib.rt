@@ -1,32 +1,34 @@
 //! The facts of all code points, packed into tables that are looked up.
 #![tactic(auto)]
 
-mod alike;
-mod building;
 mod case;
 mod case_map;
 mod case_maps;
-mod composites;
+mod cases;
+mod composing;
+mod copying;
 mod data_lists;
 mod data_tables;
 mod fact_tables;
 mod hangul;
 mod images;
-mod indexing;
-mod kept_facts;
-mod kept_view;
 mod list_calls;
 mod mark;
 mod mark_rows;
 mod marks;
 mod next_view;
 mod painting;
+mod pair_index;
 mod place;
 mod plain;
 mod point_lists;
 mod points;
-mod row_facts;
+mod preparing;
+mod reading;
+mod rest;
 mod row_lists;
+mod row_tables;
+mod shown;
 mod uniform;
 mod version;
 mod view;

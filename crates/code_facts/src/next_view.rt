@@ -5,14 +5,14 @@ ghost use Rattle.code_facts.specs.FactTables.{tables_next};
 ghost use Rattle.code_facts.specs.NextView.{facts_next};
 
 use crate::fact_tables::FactTables;
-use crate::row_facts::RowFacts;
+use crate::version::Version;
 use range_table::Table;
 use ucd_model::{FactView, FactsRef, Kind, Point};
 
 /// The facts of code points next.
 #[derive(Clone, Copy)]
 pub struct NextView<'a, T: Table<u64>> {
-    rows: &'a RowFacts<T>,
+    tables: &'a FactTables<T>,
 }
 
 impl<T: Table<u64>> FactTables<T> {
@@ -20,12 +20,7 @@ impl<T: Table<u64>> FactTables<T> {
     pub fn next(&self) -> NextView<'_, T>
         ensures { facts_next T.now result ≡ tables_next T.now self.now }
     {
-        match &self.prepared {
-            Some(rows) => NextView { rows },
-            None => NextView {
-                rows: &self.current,
-            },
-        }
+        NextView { tables: self }
     }
 }
 
@@ -33,30 +28,30 @@ impl<T: Table<u64>> FactView for NextView<'_, T> {
     ghost facts_of = { facts_next T.now };
 
     fn facts(&self, c: Point) -> FactsRef<'_> {
-        self.rows.facts(c)
+        self.tables.shown(Version::Next, c)
     }
 
     fn pair(&self, s: Point, y: Point) -> Option<Point> {
-        self.rows.pair(s, y)
+        self.tables.composite(Version::Next, s, y)
     }
 
     fn second(&self, y: Point) -> bool {
-        self.rows.second(y)
+        self.tables.is_second(Version::Next, y)
     }
 
     fn is_assigned(&self, c: Point) -> bool {
-        self.rows.is_assigned(c)
+        self.tables.is_assigned_in(Version::Next, c)
     }
 
     fn class(&self, c: Point) -> u8 {
-        self.rows.class(c)
+        self.tables.class_in(Version::Next, c)
     }
 
     fn kind(&self, c: Point) -> Kind {
-        self.rows.kind(c)
+        self.tables.kind_in(Version::Next, c)
     }
 
     fn mapping(&self, c: Point) -> &[Point] {
-        self.rows.mapping(c)
+        self.tables.mapping_in(Version::Next, c)
     }
 }

@@ -1,18 +1,19 @@
 //! How far code points have no mapping and the same other facts.
 
-ghost use Rattle.std.specs.Prelude.{◌≡◌, ◌+◌, ◌<◌, ◌↔◌, true, false, IfSome, IsSome};
-ghost use Rattle.ucd_model.specs.Uniform.{IsPlain, Uniform};
-ghost use Rattle.code_facts.specs.Index.{second_in};
+ghost use Rattle.std.specs.Prelude.{◌≡◌, ◌↔◌, IfSome, IsSome};
+ghost use Rattle.ucd_model.specs.Composites.{second_of};
+ghost use Rattle.ucd_model.specs.Uniform.{Alike, IsPlain, Uniform};
+ghost use Rattle.code_facts.specs.FactTables.{tables_facts};
 ghost use Rattle.code_facts.specs.Plain.{HoldsTo};
 
-use crate::composites::Composites;
+use crate::fact_tables::FactTables;
+use crate::pair_index::next_second;
 use crate::points::{lesser, point};
-use crate::row_facts::RowFacts;
 use range_table::Stretches;
 use ucd_model::{FactView, Point};
 
-impl<T: Stretches<u64>> RowFacts<T> {
-    /// A code point up to which all from `c` on are without a mapping of any kind and have the same other facts, and
+impl<T: Stretches<u64>> FactTables<T> {
+    /// A code point up to which all from `c` on are without a mapping of any kind and have the same other facts now, and
     /// are second members of primary composites' mappings alike; `None` exactly where `c` has a mapping. UAX #44,
     /// sections 5.6 and 5.7; The Unicode Standard, section 3.11, D114.
     ///
@@ -20,29 +21,39 @@ impl<T: Stretches<u64>> RowFacts<T> {
     /// point to itself, and a second member is alone.
     pub fn last_uniform(&self, c: Point) -> Option<Point>
         ensures plain { IsSome result
-            ↔ IsPlain c (⟦<RowFacts<T> as FactView>⟧.facts_of self.now c) }
+            ↔ IsPlain c (⟦<FactTables<T> as FactView>⟧.facts_of self.now c) }
         ensures stretch { IfSome result (HoldsTo (λ d.
-            Uniform (⟦<RowFacts<T> as FactView>⟧.facts_of self.now) c d) c) }
+            Uniform (⟦<FactTables<T> as FactView>⟧.facts_of self.now) c d) c) }
     {
         let plain = self.last_plain(c)?;
         let alike = self.last_alike(c);
-        let seconds = self.composites.last_seconds(c);
+        let seconds = self.last_seconds(c);
         Some(lesser(plain, lesser(alike, seconds)))
     }
-}
 
-impl Composites {
-    /// A code point up to which all from `c` on are second members alike: `c` itself where it is one, and else the last
-    /// before the next one.
-    fn last_seconds(&self, c: Point) -> Point
-        ensures same { HoldsTo (λ d. second_in self.now d ≡ second_in self.now c) c result }
-        ensures ends { result + 1 < 1114112 → second_in self.now c ≡ false → second_in self.now (result + 1) ≡ true }
+    /// A code point up to which the facts of all from `c` on differ from those of `c` in mappings and images alone.
+    fn last_alike(&self, c: Point) -> Point
+        ensures { HoldsTo (λ d. Alike (tables_facts T.now self.now d) (tables_facts T.now self.now c)) c result }
     {
-        let first = c.number();
-        let Some(next) = self.seconds.range(c..).next() else {
+        let last = self.words.last_of_stretch(c);
+        let _first = c.number();
+        let _last = last.number();
+        last
+    }
+
+    /// A code point up to which all from `c` on are second members alike: `c` itself where one is listed under it, and
+    /// else the last before the next one.
+    fn last_seconds(&self, c: Point) -> Point
+        ensures { HoldsTo (λ d. second_of (tables_facts T.now self.now) d ≡ second_of (tables_facts T.now self.now) c) c result }
+    {
+        let first = u64::from(c.number());
+        let Some(next) = next_second(&self.index.seconds, c) else {
             return point(Point::COUNT - 1);
         };
-        let next = next.number();
-        if first < next { point(next - 1) } else { c }
+        if first < next && next < 1_114_112 {
+            point(next as u32 - 1)
+        } else {
+            c
+        }
     }
 }

@@ -1,12 +1,11 @@
 //! The tables as a view of facts now.
 
 ghost use Rattle.std.specs.Prelude.{◌≡◌};
-ghost use Rattle.code_facts.specs.RowFacts.{row_facts};
 ghost use Rattle.code_facts.specs.FactTables.{tables_facts};
 ghost use Rattle.code_facts.specs.NowView.{facts_now};
 
 use crate::fact_tables::FactTables;
-use crate::row_facts::RowFacts;
+use crate::version::Version;
 use range_table::Table;
 use ucd_model::{FactView, FactsRef, Kind, Point};
 
@@ -16,67 +15,35 @@ pub struct NowView<'a, T: Table<u64>> {
     tables: &'a FactTables<T>,
 }
 
-impl<T: Table<u64>> FactView for RowFacts<T> {
-    ghost facts_of = { row_facts T.now };
-
-    fn facts(&self, c: Point) -> FactsRef<'_> {
-        self.kept.facts(c)
-    }
-
-    fn pair(&self, s: Point, y: Point) -> Option<Point> {
-        self.composites.pair(s, y)
-    }
-
-    fn second(&self, y: Point) -> bool {
-        self.composites.second(y)
-    }
-
-    fn is_assigned(&self, c: Point) -> bool {
-        self.kept.is_assigned(c)
-    }
-
-    fn class(&self, c: Point) -> u8 {
-        self.kept.class(c)
-    }
-
-    fn kind(&self, c: Point) -> Kind {
-        self.kept.kind(c)
-    }
-
-    fn mapping(&self, c: Point) -> &[Point] {
-        self.kept.mapping(c)
-    }
-}
-
 impl<T: Table<u64>> FactView for FactTables<T> {
     ghost facts_of = { tables_facts T.now };
 
     fn facts(&self, c: Point) -> FactsRef<'_> {
-        self.current.facts(c)
+        self.shown(Version::Now, c)
     }
 
     fn pair(&self, s: Point, y: Point) -> Option<Point> {
-        self.current.pair(s, y)
+        self.composite(Version::Now, s, y)
     }
 
     fn second(&self, y: Point) -> bool {
-        self.current.second(y)
+        self.is_second(Version::Now, y)
     }
 
     fn is_assigned(&self, c: Point) -> bool {
-        self.current.is_assigned(c)
+        self.is_assigned_in(Version::Now, c)
     }
 
     fn class(&self, c: Point) -> u8 {
-        self.current.class(c)
+        self.class_in(Version::Now, c)
     }
 
     fn kind(&self, c: Point) -> Kind {
-        self.current.kind(c)
+        self.kind_in(Version::Now, c)
     }
 
     fn mapping(&self, c: Point) -> &[Point] {
-        self.current.mapping(c)
+        self.mapping_in(Version::Now, c)
     }
 }
 

@@ -1,11 +1,12 @@
-use Rattle.std.proofs.Common.{◌≡◌, ℕ, ◌<◌, subst, arith}
+use Rattle.std.proofs.Common.{◌≡◌, ℕ, ◌+◌, ◌-◌, ◌<◌, ◌∙◌, Ok, subst, arith}
 use Rattle.std.proofs.lemmas.Result.{err_from_is_err_and}
 use Rattle.code_facts.specs.FactTables.{tables_facts}
 use Rattle.range_table.specs.RunTable.{values_now}
 use Rattle.ucd_model.specs.Facts.{Facts}
 use Rattle.ucd_model.specs.Limits.{point_count}
+use Rattle.ucd_model.specs.Records.{kept_record, derived}
 use Rattle.edit_session.specs.RecordLists.{DerivedBelow}
-use Rattle.edit_session.proofs.PointRecords.{all_derived, stopped}
+use Rattle.edit_session.proofs.PointRecords.{all_derived, run_below, stopped}
 use Rattle.edit_session.proofs.record_table.RecordTable.of.Goals as goal
 
 pub returns-in_err-record-clause-records : goal.returns-in_err-record-clause-records
@@ -20,3 +21,19 @@ returns-clause-records g c =
     let F : ℕ → Facts = tables_facts values_now c.args.tables.now in
     let all : c.runs.number ≡ point_count = omega (arith, c.runs-test.false, c.runs.invariant.within, c.point_count-count.ensures.value) in
     all_derived c.runs.list F (subst (λ (n : ℕ). DerivedBelow c.runs.list n F) all c.runs.invariant.derived)
+
+pub runs-preserved : goal.runs-preserved
+runs-preserved g c =
+    let F : ℕ → Facts = tables_facts values_now c.args.tables.now in
+    let more : ℕ = c.end_of_run-end.result - c.runs.number in
+    let end : c.runs.number + more ≡ c.end_of_run-end.result = omega (arith, c.end_of_run-end.ensures.from, c.point_at-c.ensures) in
+    let here : derived F c.point_at-c.result ≡ Ok (kept_record c.in_ok-record.record) = c.in_ok-record.ensures.found in
+    let below : DerivedBelow c.push_run.new.self (c.runs.number + more) F =
+      run_below c.runs.list c.push_run.new.self c.runs.number more F (kept_record c.in_ok-record.record) c.runs.invariant.derived c.in_ok-push_run.ensures.count
+        c.in_ok-push_run.ensures.added c.in_ok-push_run.ensures.others
+        (λ k from lt. c.end_of_run-end.ensures.same k (omega (arith, from, c.point_at-c.ensures)) (omega (arith, lt, end)) ∙ here) in
+    record {
+      derived = subst (λ n. DerivedBelow c.push_run.new.self n F) end below;
+      within = omega (arith, c.end_of_run-end.ensures.inside, c.point_count-count.ensures.number);
+      steps = omega (arith, c.runs.invariant.steps, c.in_ok-record.ensures.step, c.end_of_run-end.ensures.from, c.point_at-c.ensures);
+    }

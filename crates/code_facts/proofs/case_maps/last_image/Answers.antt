@@ -1,0 +1,31 @@
+use Rattle.std.proofs.Common.{◌≡◌, ℕ, ◌≤◌, ◌<◌, None, List, sym, subst, ◌∙◌, arith}
+use Rattle.std.specs.Option.{IfSome}
+use Rattle.std.specs.Ordering.{nat_cmp}
+use Rattle.std.specs.List.{slice_get}
+use Rattle.std.specs.BTreeMap.Range.{IsLeBy}
+use Rattle.code_facts.specs.Found.{found}
+use Rattle.code_facts.proofs.PlainLemmas.{not_gt, absent_before}
+use Rattle.code_facts.proofs.case_maps.last_image.Goals as goal
+
+pub returns-in_default : goal.returns-in_default
+returns-in_default c =
+    let absent : (d : ℕ) → c.args.c ≤ d → found c.args.map.now d ≡ None =
+    λ d low. (c.range.ensures.in_range tt).5 c.in_default.ensures.steps.0 d (not_gt c.args.c d low, tt) in
+    let low : c.args.c ≤ c.args.c = omega arith in
+    record {
+      from = omega arith;
+      each = λ d from high. absent d from ∙ sym (absent c.args.c low);
+    }
+
+pub returns-then-first-key : goal.returns-then-first-key
+returns-then-first-key c =
+    let absent : (d : ℕ) → c.args.c ≤ d → d < c.in-Some.key.now → found c.args.map.now d ≡ None =
+    λ d low high. absent_before c.args.map.now c.in-Some.key.now d high
+    (λ some. subst (λ (es : List (ℕ × List ℕ)). IfSome (slice_get es 0) (λ e. IsLeBy nat_cmp e.0 d)) c.in-Some.ensures.steps
+    ((c.range.ensures.in_range tt).2 d (not_gt c.args.c d low, tt) some)) in
+    let low : c.args.c ≤ c.args.c = omega arith in
+    let high : c.args.c < c.in-Some.key.now = omega arith in
+    record {
+      from = omega arith;
+      each = λ d from to. absent d from (omega arith) ∙ sym (absent c.args.c low high);
+    }

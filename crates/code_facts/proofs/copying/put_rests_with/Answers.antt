@@ -1,0 +1,22 @@
+use Rattle.std.proofs.Common.{◌≡◌, ◌+◌, ◌≤◌, refl, sym, ◌∙◌, arith}
+use Rattle.code_facts.specs.RowTables.{rest_in}
+use Rattle.code_facts.proofs.PaintLemmas.{stretch_more, all_painted}
+use Rattle.code_facts.proofs.copying.put_rests_with.Goals as goal
+
+pub stretches-preserved : goal.stretches-preserved
+stretches-preserved g c = record {
+  from = omega arith;
+  within = omega arith;
+  held = c.in_ok-put_rest.ensures.held;
+  now = λ k lt. c.in_ok-put_rest.ensures.now k lt ∙ c.stretches.invariant.now k lt;
+  next = λ k lt.
+      stretch_more (rest_in c.args.from.now) c.args.span.lo c.stretches.at c.point-first.result c.number-at.result c.lesser-last.result k (rest_in c.args.from.now c.point-first.result) _ _ _
+      (omega arith) (omega arith) refl (omega arith)
+      (λ low high. c.last_rest.ensures.each k low (omega arith))
+      (c.in_ok-put_rest.ensures.ok k lt) (c.stretches.invariant.next k lt) (omega arith);
+}
+
+pub returns-clause-ok : goal.returns-clause-ok
+returns-clause-ok g c k lt =
+    let end : c.stretches.at ≡ c.args.span.hi + 1 = omega arith in
+    c.stretches.invariant.next k lt ∙ all_painted (rest_in c.args.from.now k) (g.S.Store.next c.args.into.now k) c.args.span.lo c.args.span.hi c.stretches.at k end

@@ -1,0 +1,11 @@
+use Rattle.std.proofs.Common.{ap, sym, ◌∙◌, arith}
+use Rattle.ucd_model.specs.Facts.{Facts}
+use Rattle.code_facts.specs.FactTables.{words_at, rests_at}
+use Rattle.code_facts.specs.Rest.{RestOf}
+use Rattle.code_facts.proofs.FactLemmas.{kept_point}
+use Rattle.code_facts.proofs.fact_tables.FactTables.mapping_in.Goals as goal
+
+pub returns : goal.returns
+returns g c =
+    let kept = kept_point (words_at c.args.version c.args.self.now) (rests_at c.args.version c.args.self.now) c.args.c (omega arith) in
+    c.mapping.ensures ∙ ap (λ (rest : RestOf). rest.mapping) c.rest.ensures ∙ ap (λ (F : Facts). F.mapping) (sym kept)

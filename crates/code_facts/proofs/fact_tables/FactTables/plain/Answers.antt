@@ -1,0 +1,13 @@
+use Rattle.std.proofs.Common.{◌≡◌, ℕ, subst, arith}
+use Rattle.ucd_model.specs.Uniform.{IsPlain}
+use Rattle.code_facts.specs.FactTables.{facts_at}
+use Rattle.code_facts.specs.declared.version.Version.TheVariants.{Now}
+use Rattle.code_facts.proofs.fact_tables.FactTables.plain.Goals as goal
+
+pub returns-then-is_plain-clause-stretch : goal.returns-then-is_plain-clause-stretch
+returns-then-is_plain-clause-stretch g c = record {
+  from = omega arith;
+  each = λ d low high.
+      let same : c.args.c ≡ d = omega arith in
+      subst (λ (n : ℕ). IsPlain n (facts_at Now c.args.self.now n)) same ((c.is_plain.ensures _ c.facts.ensures).0 c.if-is_plain.true);
+}

@@ -1,0 +1,25 @@
+use Rattle.std.proofs.Common.{subst, sym, refl, ap, ◌∙◌, arith}
+use Rattle.ucd_model.specs.Facts.{data_row}
+use Rattle.ucd_model.specs.declared.files.SourceFile.TheVariants.{UnicodeData}
+use Rattle.code_facts.specs.RowLists.{sources_of}
+use Rattle.code_facts.specs.DataTables.{data_now}
+use Rattle.code_facts.specs.CaseMaps.{KeepsImages}
+use Rattle.code_facts.specs.declared.case_maps.CaseMaps.{CaseMaps}
+use Rattle.code_facts.proofs.MarkLemmas.{marks_small}
+use Rattle.code_facts.proofs.FactLemmas.{row_shown, word_small}
+use Rattle.code_facts.proofs.row_tables.RowTables.over.Goals as goal
+
+pub summed-requires : goal.summed-requires
+summed-requires c k lt =
+    let sources = sources_of c.args.rows.now in
+    let given = ap (λ d. d.word) (c.requires.gives k lt) in
+    let small = word_small k (data_row (sources UnicodeData) k) (c.requires.class k) in
+    let marked = c.requires.marks k lt in
+    omega (arith, marks_small 16 sources k)
+
+pub returns : goal.returns
+returns c k lt =
+    let sources = sources_of c.args.rows.now in
+    row_shown _ sources k (data_now (record { words = c.args.data_words.now; lists = c.args.lists }) k) _ (c.requires.gives k lt)
+    (c.in_ok-words.ensures k lt) (c.requires.marks k lt) refl refl refl refl (c.requires.class k)
+    (subst (λ (maps : CaseMaps). KeepsImages maps sources) (sym c.in_ok-cases.ensures.ok) c.in_ok-of.ensures)

@@ -1,0 +1,52 @@
+-- What the tables that are made of rows keep for each code point.
+--
+-- word_in t c         the word of c
+-- first_alone xs      the first of a list alone; of an empty list nothing
+-- cases_in maps c     the images of c in the maps
+-- rest_in t c         what is kept of c beside its word
+-- made_facts t c      the facts of c that the tables keep
+-- ShowsRows t rows c  these are the facts that the rows give, and the word is their packed word
+use Rattle.std.specs.Prelude.{◌≡◌, ℕ, List, [], ◌∷◌}
+use Rattle.range_table.specs.RunTable.{values_now}
+use Rattle.ucd_model.specs.Facts.{Sources, Facts, given}
+use Rattle.code_facts.specs.Found.{found}
+use Rattle.code_facts.specs.KeptFacts.{kept_at}
+use Rattle.code_facts.specs.PointLists.{lists_now}
+use Rattle.code_facts.specs.Rest.{RestOf}
+use Rattle.code_facts.specs.Word.{packed}
+use Rattle.code_facts.specs.declared.case_maps.CaseMaps.{CaseMaps}
+use Rattle.code_facts.specs.declared.cases.Cases.{Cases}
+use Rattle.code_facts.specs.declared.row_tables.RowTables.{RowTables}
+
+abbrev pub word_in : RowTables → ℕ → ℕ
+word_in t c = values_now t.words c
+
+abbrev pub first_alone : List ℕ → List ℕ
+first_alone [] = []
+first_alone (c ∷ cs) = c ∷ []
+
+abbrev pub cases_in : CaseMaps → ℕ → Cases
+cases_in maps c = record {
+  common = found maps.common c;
+  full = found maps.full c;
+  simple = found maps.simple c;
+  lower = found maps.lower c;
+  title = found maps.title c;
+  upper = found maps.upper c;
+}
+
+abbrev pub rest_in : RowTables → ℕ → RestOf
+rest_in t c = record {
+  mapping = lists_now t.lists.value.mappings c;
+  upper = first_alone (lists_now t.lists.value.uppers c);
+  lower = first_alone (lists_now t.lists.value.lowers c);
+  title = first_alone (lists_now t.lists.value.titles c);
+  cases = cases_in t.cases.value c;
+}
+
+abbrev pub made_facts : RowTables → ℕ → Facts
+made_facts t c = kept_at c (word_in t c) (rest_in t c)
+
+pub record ShowsRows (t : RowTables) (rows : Sources) (c : ℕ) : Type 0 where
+  pub facts : made_facts t c ≡ given rows c
+  pub word : word_in t c ≡ packed (given rows c)

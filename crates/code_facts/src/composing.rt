@@ -1,0 +1,87 @@
+//! The primary composites of tables, now or next.
+
+ghost use Rattle.std.specs.Prelude.{◌≡◌, ℕ};
+ghost use Rattle.ucd_model.specs.Composites.{composes, ends_with, pair_of, second_of};
+ghost use Rattle.code_facts.specs.FactTables.{facts_at};
+ghost use Rattle.code_facts.specs.Index.{is_that, ends_that};
+
+use crate::fact_tables::FactTables;
+use crate::version::Version;
+use crate::word::is_excluded;
+use range_table::Table;
+use ucd_model::{Kind, Point};
+
+impl<T: Table<u64>> FactTables<T> {
+    /// The least primary composite of a pair: the first that is listed under the pair and composes by the facts. The
+    /// Unicode Standard, section 3.11, D114.
+    pub(crate) fn composite(&self, version: Version, s: Point, y: Point) -> Option<Point>
+        ensures { result ≡ pair_of (facts_at version self.now) s y }
+    {
+        let mut from = 0;
+        'listed: while let Some(q) = self.index.next_of_pair(s, y, from) {
+            if is_pair(self.members(version, q), s, y) {
+                return Some(q);
+            }
+            from = q.number() + 1;
+        }
+        None
+    }
+
+    /// Whether a code point is the second member of a primary composite: of one that is listed under it.
+    pub(crate) fn is_second(&self, version: Version, y: Point) -> bool
+        ensures { result ≡ second_of (facts_at version self.now) y }
+    {
+        let mut from = 0;
+        'listed: while let Some(q) = self.index.next_of_second(y, from) {
+            if ends_pair(self.members(version, q), y) {
+                return true;
+            }
+            from = q.number() + 1;
+        }
+        false
+    }
+
+    /// The members of the mapping of a primary composite; `None` of every other code point.
+    /// The Unicode Standard, section 3.11, D114.
+    fn members(&self, version: Version, q: Point) -> Option<(Point, Point)>
+        ensures pair { (s y : ℕ) → is_that s y result ≡ composes (facts_at version self.now) s y q }
+        ensures second { (y : ℕ) → ends_that y result ≡ ends_with (facts_at version self.now) y q }
+    {
+        match self.mapping_in(version, q) {
+            [s, y]
+                if matches!(self.kind_in(version, q), Kind::Canonical)
+                    && self.class_in(version, q) == 0
+                    && !self.is_excluded_in(version, q)
+                    && self.class_in(version, *s) == 0 => { Some((*s, *y)) }
+            _ => None,
+        }
+    }
+
+    /// Whether CompositionExclusions.txt covers a code point.
+    fn is_excluded_in(&self, version: Version, c: Point) -> bool
+        ensures { result ≡ (facts_at version self.now c).excluded }
+    {
+        let _number = c.number();
+        is_excluded(self.word(version, c))
+    }
+}
+
+/// Whether the members are these two.
+fn is_pair(members: Option<(Point, Point)>, s: Point, y: Point) -> bool
+    ensures { result ≡ is_that s y members }
+{
+    match members {
+        Some((first, second)) => first == s && second == y,
+        None => false,
+    }
+}
+
+/// Whether the second of the members is this one.
+fn ends_pair(members: Option<(Point, Point)>, y: Point) -> bool
+    ensures { result ≡ ends_that y members }
+{
+    match members {
+        Some((_, second)) => second == y,
+        None => false,
+    }
+}

@@ -1,0 +1,169 @@
+//! Copying what rows give, stretch by stretch.
+
+ghost use Rattle.std.specs.Prelude.{◌≡◌, ℕ, ◌≤◌, true, Some, OnOk};
+ghost use Rattle.std.specs.List.{list_any};
+ghost use Rattle.range_table.specs.RunTable.{values_now};
+ghost use Rattle.ucd_model.specs.Facts.{within};
+ghost use Rattle.range_table.specs.Values.{SameValues};
+ghost use Rattle.code_facts.specs.Copying.{with_spans, with_values, IsListed, SamePairs};
+ghost use Rattle.code_facts.specs.Index.{is_listed};
+ghost use Rattle.code_facts.specs.Rest.{no_rest};
+ghost use Rattle.code_facts.specs.RowTables.{word_in, rest_in};
+
+use crate::pair_index::PairIndex;
+use crate::points::{lesser, point};
+use crate::rest::Rest;
+use crate::row_tables::RowTables;
+use kept_values::Store;
+use range_table::{RunTable, Table};
+use std::alloc::Global;
+use ucd_model::{Memory, Span};
+
+/// Makes what is next in spans that of the tables of rows.
+///
+/// - `Memory`: memory ran out. Nothing is told of what is next then; what was listed stays.
+pub fn put_spans<T: Table<u64>, S: Store<Rest>>(
+    alloc: Global,
+    words: &mut T,
+    rests: &mut S,
+    index: &mut PairIndex,
+    from: &RowTables,
+    spans: &[Span],
+) -> Result<(), Memory>
+    ensures words_now { SameValues (T.now words.new) (T.now words.old) }
+    ensures rests_now { SameValues (S.now rests.new) (S.now rests.old) }
+    ensures grows { (s y q : ℕ) → is_listed index.old s y q ≡ true → is_listed index.new s y q ≡ true }
+    ensures words { OnOk result (SameValues (T.next words.new) (with_spans (T.next words.old) spans.now (word_in from.now))) }
+    ensures rests { OnOk result (SameValues (S.next rests.new) (with_spans (S.next rests.old) spans.now (rest_in from.now))) }
+    ensures listed { OnOk result ((q : ℕ) → list_any (within q) spans.now ≡ true → IsListed index.new from.now q) }
+{
+    'spans: for span in spans {
+        list_pairs(index, from, *span)?;
+        put_words(words, &from.words, *span)?;
+        put_rests(alloc, rests, from, *span)?;
+    }
+    Ok(())
+}
+
+/// Makes the values of a span next those of a run table.
+///
+/// - `Memory`: memory ran out. Nothing is told of what is next then.
+pub fn put_words<T: Table<u64>>(
+    into: &mut T,
+    from: &RunTable<u64>,
+    span: Span,
+) -> Result<(), Memory>
+    ensures now { SameValues (T.now into.new) (T.now into.old) }
+    ensures ok { OnOk result (SameValues (T.next into.new) (with_values (T.next into.old) span.lo span.hi (values_now from.now))) }
+{
+    let end = span.last();
+    let mut at = span.first();
+    'stretches: while at <= end {
+        let first = point(at);
+        let last = lesser(from.last_of_run(first), point(end));
+        let part = Span {
+            lo: first,
+            hi: last,
+        };
+        into.prepare(part, from.get(first))?;
+        at = last.number() + 1;
+    }
+    Ok(())
+}
+
+/// Makes what is kept next beside the words of a span that of the tables.
+///
+/// - `Memory`: memory ran out. Nothing is told of what is next then.
+pub fn put_rests<S: Store<Rest>>(
+    alloc: Global,
+    into: &mut S,
+    from: &RowTables,
+    span: Span,
+) -> Result<(), Memory>
+    ensures now { SameValues (S.now into.new) (S.now into.old) }
+    ensures ok { OnOk result (SameValues (S.next into.new) (with_values (S.next into.old) span.lo span.hi (rest_in from.now))) }
+{
+    let none = into.hold(Rest::none(alloc))?;
+    put_rests_with(alloc, into, from, span, none)
+}
+
+/// The same, with the place of the rest of code points that have none.
+fn put_rests_with<S: Store<Rest>>(
+    alloc: Global,
+    into: &mut S,
+    from: &RowTables,
+    span: Span,
+    none: u64,
+) -> Result<(), Memory>
+    requires { S.held into.old none ≡ Some no_rest }
+    ensures now { SameValues (S.now into.new) (S.now into.old) }
+    ensures ok { OnOk result (SameValues (S.next into.new) (with_values (S.next into.old) span.lo span.hi (rest_in from.now))) }
+{
+    let end = span.last();
+    let mut at = span.first();
+    'stretches: while at <= end {
+        let first = point(at);
+        let last = lesser(from.last_rest(first), point(end));
+        let part = Span {
+            lo: first,
+            hi: last,
+        };
+        put_rest(alloc, into, from, part, none)?;
+        at = last.number() + 1;
+    }
+    Ok(())
+}
+
+/// Gives the points of a span what is kept of the first of them.
+fn put_rest<S: Store<Rest>>(
+    alloc: Global,
+    into: &mut S,
+    from: &RowTables,
+    part: Span,
+    none: u64,
+) -> Result<(), Memory>
+    requires { S.held into.old none ≡ Some no_rest }
+    ensures now { SameValues (S.now into.new) (S.now into.old) }
+    ensures held { S.held into.new none ≡ Some no_rest }
+    ensures ok { OnOk result (SameValues (S.next into.new) (with_values (S.next into.old) part.lo part.hi (λ _. rest_in from.now part.lo))) }
+{
+    match from.rest(alloc, part.lo)? {
+        Some(rest) => into.prepare(part, rest),
+        None => into.prepare_held(part, none),
+    }
+}
+
+/// Lists the code points of a span that have a canonical mapping of two members.
+///
+/// - `Memory`: memory ran out. What was listed stays.
+pub fn list_pairs(index: &mut PairIndex, from: &RowTables, span: Span) -> Result<(), Memory>
+    ensures grows { (s y q : ℕ) → is_listed index.old s y q ≡ true → is_listed index.new s y q ≡ true }
+    ensures listed { OnOk result ((q : ℕ) → span.lo ≤ q → q ≤ span.hi → IsListed index.new from.now q) }
+{
+    let end = span.last();
+    let mut at = span.first();
+    'stretches: while at <= end {
+        let first = point(at);
+        let mapping = from.lists.mappings.last_of_run(first);
+        let last = lesser(lesser(from.words.last_of_run(first), mapping), point(end));
+        let part = Span {
+            lo: first,
+            hi: last,
+        };
+        list_part(index, from, part)?;
+        at = last.number() + 1;
+    }
+    Ok(())
+}
+
+/// Lists the points of a span, where they have the same canonical mapping of two members.
+fn list_part(index: &mut PairIndex, from: &RowTables, part: Span) -> Result<(), Memory>
+    requires { (q : ℕ) → part.lo ≤ q → q ≤ part.hi → SamePairs from.now part.lo q }
+    ensures grows { (s y q : ℕ) → is_listed index.old s y q ≡ true → is_listed index.new s y q ≡ true }
+    ensures listed { OnOk result ((q : ℕ) → part.lo ≤ q → q ≤ part.hi → IsListed index.new from.now q) }
+{
+    match from.members(part.lo) {
+        Some((s, y)) => index.list_span(s, y, part),
+        None => Ok(()),
+    }
+}

@@ -1,0 +1,152 @@
+//! Making, preparing and committing the facts of tables.
+
+ghost use Rattle.std.specs.Prelude.{◌≡◌, ℕ, ◌<◌, true, false, IfOk, OnOk, OnErr};
+ghost use Rattle.std.specs.List.{list_any};
+ghost use Rattle.ucd_model.specs.Facts.{facts, within};
+ghost use Rattle.code_facts.specs.Copying.{with_spans};
+ghost use Rattle.code_facts.specs.FactTables.{tables_facts, tables_next};
+ghost use Rattle.code_facts.specs.KeptFacts.{Packs};
+ghost use Rattle.code_facts.specs.RowTables.{word_in, made_facts};
+ghost use Rattle.code_facts.specs.Rows.{release_sources, next_sources};
+ghost use Rattle.code_facts.specs.Word.{packed};
+
+use crate::copying::put_spans;
+use crate::fact_tables::FactTables;
+use crate::pair_index::PairIndex;
+use crate::points::point;
+use crate::rest::Rest;
+use crate::row_lists::RowLists;
+use crate::row_tables::RowTables;
+use crate::version::Version;
+use crate::word::NO_ROW;
+use kept_values::{Kept, Store};
+use range_table::Table;
+use release_rows::Release;
+use std::alloc::Global;
+use ucd_model::{FactView, Memory, Point, Span, Spans};
+
+impl<T: Table<u64>> FactTables<T> {
+    /// The facts of the rows of a release now; next they are the same. UAX #44, sections 5.3, 5.6 and 5.7.
+    ///
+    /// It takes time by the number of rows, and by its logarithm: no work is done for each code point of a span, but
+    /// for Hangul syllables, each of which has a mapping of its own, and for canonical mappings of two members.
+    ///
+    /// - `Memory`: memory ran out.
+    pub fn of(alloc: Global, release: &Release) -> Result<FactTables<T>, Memory>
+        ensures now { IfOk result (λ tables. ⟦<FactTables<T> as FactView>⟧.facts_of tables ≡ facts (release_sources release.now)) }
+        ensures next { IfOk result (λ tables. tables_next T.now tables ≡ facts (release_sources release.now)) }
+    {
+        let rows = RowLists::of(alloc, release, Version::Now)?;
+        let made = RowTables::of(alloc, &rows)?;
+        let mut tables = FactTables::empty(alloc)?;
+        tables.fill(alloc, &made)?;
+        tables.commit();
+        Ok(tables)
+    }
+
+    /// The facts of no rows.
+    fn empty(alloc: Global) -> Result<FactTables<T>, Memory>
+        ensures { IfOk result (λ tables. tables_next T.now tables ≡ tables_facts T.now tables) }
+    {
+        Ok(FactTables {
+            words: T::filled(alloc, NO_ROW)?,
+            rests: Kept::filled(alloc, Rest::none(alloc))?,
+            index: PairIndex::new(alloc),
+        })
+    }
+
+    /// Makes the facts next those of all code points in tables of rows.
+    fn fill(&mut self, alloc: Global, made: &RowTables) -> Result<(), Memory>
+        requires ready { tables_next T.now self.old ≡ tables_facts T.now self.old }
+        requires words { Packs (word_in made.now) (made_facts made.now) }
+        ensures { OnOk result ((c : ℕ) → c < 1114112 → tables_next T.now self.new c ≡ made_facts made.now c) }
+    {
+        let spans = everywhere(alloc)?;
+        self.put(alloc, made, spans.as_slice())
+    }
+
+    /// Makes what is next the facts of the rows of a release next. Outside of the touched spans those are the facts now.
+    /// Where none is touched, nothing is done; else it takes time by the number of rows.
+    ///
+    /// - `Memory`: memory ran out. What is next stays.
+    pub fn prepare(&mut self, alloc: Global, after: &Release, touched: &Spans) -> Result<(), Memory>
+        requires ready { tables_next T.now self.old ≡ tables_facts T.now self.old }
+        requires touched { (c : ℕ) → c < 1114112 → list_any (within c) touched.now ≡ false
+            → tables_facts T.now self.old c ≡ facts (next_sources after.now) c }
+        ensures now { tables_facts T.now self.new ≡ tables_facts T.now self.old }
+        ensures ok { OnOk result (tables_next T.now self.new ≡ facts (next_sources after.now)) }
+        ensures err { OnErr result (tables_next T.now self.new ≡ tables_next T.now self.old) }
+    {
+        if touched.as_slice().is_empty() {
+            return Ok(());
+        }
+        let rows = RowLists::of(alloc, after, Version::Next)?;
+        let made = RowTables::of(alloc, &rows)?;
+        self.put(alloc, &made, touched.as_slice())
+    }
+
+    /// Makes the facts next of the points of spans those of tables of rows.
+    fn put(&mut self, alloc: Global, made: &RowTables, spans: &[Span]) -> Result<(), Memory>
+        requires ready { tables_next T.now self.old ≡ tables_facts T.now self.old }
+        requires words { Packs (word_in made.now) (made_facts made.now) }
+        ensures now { tables_facts T.now self.new ≡ tables_facts T.now self.old }
+        ensures ok { OnOk result ((c : ℕ) → c < 1114112
+            → tables_next T.now self.new c ≡ with_spans (tables_next T.now self.old) spans.now (made_facts made.now) c) }
+        ensures err { OnErr result (tables_next T.now self.new ≡ tables_next T.now self.old) }
+    {
+        let done = put_spans(
+            alloc,
+            &mut self.words,
+            &mut self.rests,
+            &mut self.index,
+            made,
+            spans,
+        );
+        if done.is_err() {
+            self.words.discard();
+            self.rests.discard();
+        }
+        done
+    }
+
+    /// What is next becomes now, and stays next. It takes no memory.
+    pub fn commit(&mut self)
+        ensures committed { tables_facts T.now self.new ≡ tables_next T.now self.old }
+        ensures next { tables_next T.now self.new ≡ tables_next T.now self.old }
+    {
+        self.words.commit();
+        self.rests.commit();
+    }
+
+    /// What is now becomes next: what was prepared since the last `commit` is dropped. It takes no memory.
+    pub fn discard(&mut self)
+        ensures now { tables_facts T.now self.new ≡ tables_facts T.now self.old }
+        ensures discarded { tables_next T.now self.new ≡ tables_facts T.now self.old }
+    {
+        self.words.discard();
+        self.rests.discard();
+    }
+
+    /// The table of the packed words: a word is the sum of 1 where a row of UnicodeData.txt covers the code point, 2
+    /// where CompositionExclusions.txt does, 4 where its Word_Break is MidLetter, MidNumLet or Single_Quote, 8 times the
+    /// place of its category, 256 times its class, 65,536 times the place of its kind, and 2 to the power of 24 and the
+    /// place of each of its flags.
+    pub fn packed(&self) -> &T
+        ensures now { (c : ℕ) → c < 1114112 → T.now result.now c ≡ packed (tables_facts T.now self.now c) }
+        ensures next { (c : ℕ) → c < 1114112 → T.next result.now c ≡ packed (tables_next T.now self.now c) }
+    {
+        &self.words
+    }
+}
+
+/// The span of all code points.
+fn everywhere(alloc: Global) -> Result<Spans, Memory>
+    ensures { IfOk result (λ spans. (c : ℕ) → c < 1114112 → list_any (within c) spans ≡ true) }
+{
+    let mut spans = Spans::new(alloc);
+    spans.push(Span {
+        lo: point(0),
+        hi: point(Point::COUNT - 1),
+    })?;
+    Ok(spans)
+}

@@ -1,0 +1,143 @@
+//! The tables that are made of rows, before they are copied.
+
+ghost use Rattle.std.specs.Prelude.{◌≡◌, ℕ, ◌+◌, ◌<◌, true, [], ◌∷◌, IfOk, MatchOption};
+ghost use Rattle.std.specs.Option.{option_to_list};
+ghost use Rattle.range_table.specs.RunTable.{values_now};
+ghost use Rattle.ucd_model.specs.Facts.{data_row, class_in};
+ghost use Rattle.ucd_model.specs.declared.files.SourceFile.TheVariants.{UnicodeData};
+ghost use Rattle.code_facts.specs.DataTables.{data_now};
+ghost use Rattle.code_facts.specs.Marks.{marks_before};
+ghost use Rattle.code_facts.specs.Plain.{HoldsTo};
+ghost use Rattle.code_facts.specs.Rest.{no_rest};
+ghost use Rattle.code_facts.specs.RowLists.{sources_of};
+ghost use Rattle.code_facts.specs.Rows.{Apart, row_data};
+ghost use Rattle.code_facts.specs.RowTables.{ShowsRows, first_alone, word_in, rest_in};
+ghost use Rattle.code_facts.specs.Word.{kind_of_word};
+ghost use Rattle.ucd_model.specs.Composites.{is_canonical};
+
+use crate::case_maps::CaseMaps;
+use crate::data_lists::DataLists;
+use crate::data_tables::DataTables;
+use crate::marks::marks;
+use crate::painting::summed;
+use crate::points::lesser;
+use crate::rest::Rest;
+use crate::row_lists::RowLists;
+use crate::word::kind_of;
+use range_table::{RunTable, Table};
+use std::alloc::Global;
+use ucd_model::{Kind, Memory, Point, Points};
+
+/// The facts of all code points that rows give, in run tables and maps.
+#[derive(Drop)]
+pub struct RowTables {
+    /// The packed words.
+    pub words: RunTable<u64>,
+    /// The mappings that the rows of UnicodeData.txt give.
+    pub lists: Box<DataLists>,
+    /// The images of CaseFolding.txt and SpecialCasing.txt.
+    pub cases: Box<CaseMaps>,
+}
+
+impl RowTables {
+    /// The tables of these rows. UAX #44, sections 5.3, 5.6 and 5.7.
+    ///
+    /// - `Memory`: memory ran out.
+    pub fn of(alloc: Global, rows: &RowLists<'_>) -> Result<RowTables, Memory>
+        requires { Apart rows.now.unicode_data.items }
+        ensures { IfOk result (λ made. (c : ℕ) → c < 1114112 → ShowsRows made (sources_of rows.now) c) }
+    {
+        let data_tables = DataTables::of(alloc, rows)?;
+        let marked = marks(alloc, rows)?;
+        let DataTables { words, lists } = data_tables;
+        RowTables::over(alloc, rows, &words, lists, &marked)
+    }
+
+    /// The tables over what the rows of UnicodeData.txt give and over the marks.
+    fn over(
+        alloc: Global,
+        rows: &RowLists<'_>,
+        data_words: &RunTable<u64>,
+        lists: Box<DataLists>,
+        marked: &RunTable<u64>,
+    ) -> Result<RowTables, Memory>
+        requires gives { (c : ℕ) → c < 1114112 → data_now (record { words = data_words.now; lists = lists }) c ≡ row_data c (data_row (sources_of rows.now UnicodeData) c) }
+        requires class { (c : ℕ) → class_in (data_row (sources_of rows.now UnicodeData) c) < 256 }
+        requires marks { (c : ℕ) → c < 1114112 → values_now marked.now c ≡ marks_before 16 (sources_of rows.now) c }
+        ensures { IfOk result (λ made. (c : ℕ) → c < 1114112 → ShowsRows made (sources_of rows.now) c) }
+    {
+        let cases = Box::new(alloc, CaseMaps::of(alloc, rows)?)?;
+        let words = summed(alloc, data_words, marked)?;
+        Ok(RowTables {
+            words,
+            lists,
+            cases,
+        })
+    }
+
+    /// What is kept of a code point beside its word; `None` only where that is nothing.
+    ///
+    /// - `Memory`: memory ran out.
+    pub fn rest(&self, alloc: Global, c: Point) -> Result<Option<Rest>, Memory>
+        ensures { IfOk result (λ rest. MatchOption rest (rest_in self.now c ≡ no_rest) (λ kept. kept ≡ rest_in self.now c)) }
+    {
+        let mapping = copied(alloc, self.lists.mappings.get(c))?;
+        let cases = self.cases.at(alloc, c)?;
+        let rest = Rest::new(
+            mapping,
+            first_of(self.lists.uppers.get(c)),
+            first_of(self.lists.lowers.get(c)),
+            first_of(self.lists.titles.get(c)),
+            cases,
+        );
+        if rest.is_none() {
+            Ok(None)
+        } else {
+            Ok(Some(rest))
+        }
+    }
+
+    /// The members of the mapping of a code point, if it is canonical and has two.
+    pub fn members(&self, c: Point) -> Option<(Point, Point)>
+        ensures { MatchOption result
+            ((s y : ℕ) → is_canonical (kind_of_word (word_in self.now c)) ≡ true → (rest_in self.now c).mapping ≡ s ∷ y ∷ [] → ⊥)
+            (λ pair. (rest_in self.now c).mapping ≡ pair.0 ∷ pair.1 ∷ []) }
+    {
+        let kind = kind_of(self.words.get(c));
+        match self.lists.mappings.get(c) {
+            [s, y] if matches!(kind, Kind::Canonical) => Some((*s, *y)),
+            _ => None,
+        }
+    }
+
+    /// A code point up to which the same is kept beside the words from `c` on.
+    pub fn last_rest(&self, c: Point) -> Point
+        ensures { HoldsTo (λ d. rest_in self.now d ≡ rest_in self.now c) c result }
+    {
+        let mapping = self.lists.mappings.last_of_run(c);
+        let upper = self.lists.uppers.last_of_run(c);
+        let lower = self.lists.lowers.last_of_run(c);
+        let title = self.lists.titles.last_of_run(c);
+        let cases = self.cases.last_alike(c);
+        lesser(lesser(mapping, lesser(upper, lower)), lesser(title, cases))
+    }
+}
+
+/// The first of the points, where there is one.
+fn first_of(points: &[Point]) -> Option<Point>
+    ensures { option_to_list result ≡ first_alone points.now }
+{
+    match points {
+        [first, ..] => Some(*first),
+        [] => None,
+    }
+}
+
+/// A list of copies of the points.
+///
+/// - `Memory`: memory ran out.
+pub fn copied(alloc: Global, points: &[Point]) -> Result<Points, Memory>
+    ensures { IfOk result (λ copy. copy ≡ points.now) }
+{
+    Ok(Points::from_vec(Vec::from_slice(alloc, points)?))
+}

@@ -1,0 +1,39 @@
+//! Reading the facts that a word and a rest keep.
+
+ghost use Rattle.std.specs.Prelude.{◌≡◌};
+ghost use Rattle.ucd_model.specs.View.{ShowsFacts};
+ghost use Rattle.code_facts.specs.KeptFacts.{kept_at};
+
+use crate::images::{first_list, first_or, folding, full_image, simple_folding};
+use crate::rest::Rest;
+use crate::word::{
+    category_of, class_of, flags_of, is_assigned, is_excluded, is_mid_word, kind_of,
+};
+use ucd_model::{FactsRef, Point};
+
+/// The facts of a code point by its word and its rest.
+pub fn shown(c: Point, word: u64, rest: &Rest) -> FactsRef<'_>
+    ensures { ShowsFacts result (kept_at c word rest.now) }
+{
+    let upper = rest.upper();
+    let lower = rest.lower();
+    let title = first_list(rest.title(), upper);
+    FactsRef {
+        assigned: is_assigned(word),
+        category: category_of(word),
+        class: class_of(word),
+        kind: kind_of(word),
+        mapping: rest.mapping(),
+        simple_upper: first_or(c, upper),
+        simple_lower: first_or(c, lower),
+        simple_title: first_or(c, title),
+        simple_fold: simple_folding(c, rest.simple_folding(), rest.common_folding()),
+        upper: full_image(c, rest.full_upper(), upper),
+        lower: full_image(c, rest.full_lower(), lower),
+        title: full_image(c, rest.full_title(), title),
+        fold: folding(c, rest.full_folding(), rest.common_folding()),
+        flags: flags_of(word),
+        mid_word: is_mid_word(word),
+        excluded: is_excluded(word),
+    }
+}

@@ -4,7 +4,7 @@
 use crate::sample::{
     Sample, excluded, plain, with_checks, with_class, with_core, with_folding, with_kind, with_more,
 };
-use derived_writer::{equal_pieces, file_text, text_over};
+use derived_writer::{file_text, text_over};
 use std::test::Fail;
 use ucd_model::{Category, Core, DerivedFile, Kind, Quick, Record, Tag};
 

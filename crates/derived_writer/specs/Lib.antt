@@ -1,4 +1,3 @@
 pub mod Listings
-pub mod Cuts
 pub mod Runs
 pub mod TextLaws

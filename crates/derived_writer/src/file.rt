@@ -3,13 +3,12 @@
 ghost use Rattle.std.specs.Prelude.{◌≡◌, IfOk};
 ghost use Rattle.ucd_model.specs.Limits.{point_count};
 ghost use Rattle.ucd_model.specs.DerivedFiles.{derived_text};
-ghost use Rattle.derived_writer.specs.Cuts.{IsCut};
+ghost use Rattle.ucd_model.specs.Cuts.{IsCut};
 
 use crate::listing::file_listings;
-use crate::pieces::equal_pieces;
 use crate::section::put_section;
 use std::alloc::Global;
-use ucd_model::{DerivedFile, Memory, Records, Span, Text};
+use ucd_model::{DerivedFile, Memory, Records, Span, Text, equal_pieces};
 
 /// The text of a derived file: its sections in order, each with `# NAME`, a line for each maximal span of equal value
 /// other than the default, ascending, `# total N` with the number of code points listed, and an empty line.

@@ -6,10 +6,8 @@ mod label;
 pub mod laws;
 mod listing;
 mod names;
-mod pieces;
 mod run;
 mod section;
 mod values;
 
 pub use file::{file_text, text_over};
-pub use pieces::equal_pieces;

@@ -89,7 +89,7 @@ impl Run {
         match self.label.text() {
             None => Ok(0),
             Some(label) => {
-                put_span(point(self.first), point(self.end - 1), text)?;
+                put_span(Point::at(self.first), Point::at(self.end - 1), text)?;
                 text.append(label)?;
                 text.append(b"\n")?;
                 Ok(self.end - self.first)
@@ -109,15 +109,4 @@ fn put_span(first: Point, last: Point, text: &mut Text) -> Result<(), Memory>
     }
     text.append(b"..")?;
     put_hex(last, text)
-}
-
-/// The code point of a number.
-pub fn point(number: u32) -> Point
-    requires { number < 1114112 }
-    ensures { result ≡ number }
-{
-    match Point::new(number) {
-        Some(point) => point,
-        None => unreachable!(),
-    }
 }

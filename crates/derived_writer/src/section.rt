@@ -7,7 +7,7 @@ ghost use Rattle.ucd_model.specs.Limits.{point_count};
 ghost use Rattle.ucd_model.specs.Labels.{label_spans, labelled};
 ghost use Rattle.ucd_model.specs.DerivedText.{section_text, span_line, line_end};
 ghost use Rattle.ucd_model.specs.DerivedFiles.{section_of};
-ghost use Rattle.derived_writer.specs.Cuts.{IsCut};
+ghost use Rattle.ucd_model.specs.Cuts.{IsCut};
 ghost use Rattle.derived_writer.specs.Listings.{listing_section, listing_labels};
 
 use crate::label::LabelText;

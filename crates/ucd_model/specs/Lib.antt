@@ -31,6 +31,8 @@ pub mod Validity
 pub mod ValidityLaws
 pub mod ValidityProofs
 pub mod Uniform
+pub mod Cuts
+pub mod CutLemmas
 pub mod Labels
 pub mod DerivedText
 pub mod DerivedFiles

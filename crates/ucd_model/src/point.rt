@@ -40,6 +40,14 @@ impl Point {
         }
     }
 
+    /// The code point of a number that is known to be one.
+    pub fn at(number: u32) -> Point
+        requires { number < 1114112 }
+        ensures { result ≡ number }
+    {
+        Point { number }
+    }
+
     /// The number of the code point, from 0 to 10FFFF.
     pub fn number(self) -> u32
         ensures value { result ≡ self }

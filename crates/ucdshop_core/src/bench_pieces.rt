@@ -1,7 +1,7 @@
 //! The code points of a bench, cut into spans of equal records.
 
 ghost use Rattle.std.specs.Prelude.{◌≡◌, ◌≤◌, ◌<◌, IfOk};
-ghost use Rattle.derived_writer.specs.Cuts.{IsCut};
+ghost use Rattle.ucd_model.specs.Cuts.{IsCut};
 ghost use Rattle.edit_session.specs.Benches.{bench_record};
 ghost use Rattle.ucd_model.specs.Limits.{point_count};
 
@@ -19,18 +19,10 @@ pub fn bench_pieces(alloc: Global, bench: &Bench) -> Result<Spans, Memory>
     let mut pieces = Spans::new(alloc);
     let mut number = 0;
     'pieces: while number < Point::COUNT {
-        let lo = point_at(number);
+        let lo = Point::at(number);
         let hi = bench.last_alike(lo);
         pieces.push(Span { lo, hi })?;
         number = hi.number() + 1;
     }
     Ok(pieces)
-}
-
-/// The code point of a number.
-fn point_at(number: u32) -> Point
-    requires { number < 1114112 }
-    ensures { result ≡ number }
-{
-    Point::new(number).unwrap()
 }

@@ -1,7 +1,7 @@
 //! The files that a run writes, made before the first is written.
 
 ghost use Rattle.std.specs.Prelude.{◌≡◌, ◌∷◌, ◌++◌, [], IfOk, OnOk, map};
-ghost use Rattle.derived_writer.specs.Cuts.{IsCut};
+ghost use Rattle.ucd_model.specs.Cuts.{IsCut};
 ghost use Rattle.edit_session.specs.Benches.{bench_record};
 ghost use Rattle.ucd_model.specs.DerivedFiles.{derived_files};
 ghost use Rattle.ucd_model.specs.Limits.{point_count};

@@ -4,10 +4,11 @@ use Rattle.ucd_model.specs.Labels.{Label}
 use Rattle.ucd_model.specs.Bounds.{Bounds}
 use Rattle.ucd_model.specs.Records.{Record}
 use Rattle.ucd_model.specs.LabelLemmas.{labelled_before}
-use Rattle.derived_writer.specs.Cuts.{IsCut}
+use Rattle.ucd_model.specs.Cuts.{IsCut}
 use Rattle.derived_writer.specs.Listings.{listing_section, listing_labels}
 use Rattle.derived_writer.specs.Runs.{IsStretch, lines_before, run_line, run_length}
-use Rattle.derived_writer.proofs.CutLemmas.{point_count-is, next_piece, piece_is_stretch, cut_ended}
+use Rattle.derived_writer.proofs.CutLemmas.{piece_is_stretch}
+use Rattle.ucd_model.specs.CutLemmas.{point_count-is, next_piece, cut_ended}
 use Rattle.derived_writer.proofs.RunLemmas.{open_ends}
 use Rattle.derived_writer.proofs.section.put_spans.Goals as goal
 

@@ -1,7 +1,7 @@
 use Rattle.std.proofs.Common.{◌≡◌, ◌≤◌, ◌++◌, drop}
 use Rattle.ucd_model.specs.Limits.{point_count}
 use Rattle.ucd_model.specs.LabelLemmas.{labelled_before}
-use Rattle.derived_writer.specs.Cuts.{IsCut}
+use Rattle.ucd_model.specs.Cuts.{IsCut}
 use Rattle.derived_writer.specs.Listings.{listing_labels}
 use Rattle.derived_writer.specs.Runs.{lines_before, IsOpen}
 use Rattle.derived_writer.proofs.section.put_spans.Given as goal

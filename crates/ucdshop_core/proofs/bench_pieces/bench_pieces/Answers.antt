@@ -1,15 +1,16 @@
 use Rattle.std.proofs.Common.{arith}
 use Rattle.ucd_model.specs.Bounds.{Bounds}
 use Rattle.edit_session.specs.Benches.{bench_record}
-use Rattle.ucdshop_core.proofs.CutLemmas.{cut_more, cut_whole}
+use Rattle.ucd_model.specs.CutLemmas.{cut_push}
+use Rattle.ucdshop_core.proofs.CutLemmas.{cut_whole}
 use Rattle.ucdshop_core.proofs.bench_pieces.bench_pieces.Goals as goal
 
 -- one more span, behind the pieces so far
 pub pieces-preserved : goal.pieces-preserved
 pieces-preserved c =
-    let s : Bounds = record { lo = c.point_at-lo.result; hi = c.last_alike-hi.result } in
+    let s : Bounds = record { lo = c.at-lo.result; hi = c.last_alike-hi.result } in
     record {
-      cut = rw (c.number-number.ensures.value, c.in_ok-push.ensures.ok) (cut_more (bench_record c.args.bench.now) 0 c.pieces.number c.pieces.pieces s c.pieces.invariant.cut c.point_at-lo.ensures c.last_alike-hi.ensures.from c.last_alike-hi.ensures.same);
+      cut = rw (c.number-number.ensures.value, c.in_ok-push.ensures.ok) (cut_push (bench_record c.args.bench.now) 0 c.pieces.number c.pieces.pieces s c.pieces.invariant.cut c.at-lo.ensures c.last_alike-hi.ensures.from c.last_alike-hi.ensures.same);
       within = omega (arith, c.number-number.ensures.bound);
     }
 

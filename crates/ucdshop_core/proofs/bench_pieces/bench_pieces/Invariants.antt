@@ -1,5 +1,5 @@
 use Rattle.std.proofs.Common.{◌-◌, ◌≤◌}
-use Rattle.derived_writer.specs.Cuts.{IsCut}
+use Rattle.ucd_model.specs.Cuts.{IsCut}
 use Rattle.edit_session.specs.Benches.{bench_record}
 use Rattle.ucdshop_core.proofs.bench_pieces.bench_pieces.Given as goal
 

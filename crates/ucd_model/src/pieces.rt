@@ -2,11 +2,14 @@
 
 ghost use Rattle.std.specs.Prelude.{◌≡◌, ◌≤◌, ◌<◌, IfOk};
 ghost use Rattle.ucd_model.specs.Limits.{point_count};
-ghost use Rattle.derived_writer.specs.Cuts.{IsCut};
+ghost use Rattle.ucd_model.specs.Cuts.{IsCut};
 
-use crate::run::point;
+use crate::list::Spans;
+use crate::memory::Memory;
+use crate::point::{Point, point_count};
+use crate::records::Records;
+use crate::span::Span;
 use std::alloc::Global;
-use ucd_model::{Memory, Records, Span, Spans, point_count};
 
 /// Spans that follow one another over all code points, in each of which the records are equal.
 ///
@@ -16,9 +19,9 @@ pub fn equal_pieces<B: Records>(alloc: Global, bench: &B) -> Result<Spans, Memor
 {
     let mut pieces = Spans::new(alloc);
     let mut first = 0;
-    let mut shown = bench.record(point(first));
+    let mut shown = bench.record(Point::at(first));
     'points: for number in 1..point_count() {
-        let next = bench.record(point(number));
+        let next = bench.record(Point::at(number));
         if !shown.is_same(next) {
             pieces.push(span(first, number - 1))?;
             first = number;
@@ -35,7 +38,7 @@ fn span(first: u32, last: u32) -> Span
     requires below { last < 1114112 }
     ensures { result ≡ record { lo = first; hi = last } }
 {
-    match Span::new(point(first), point(last)) {
+    match Span::new(Point::at(first), Point::at(last)) {
         Some(span) => span,
         None => unreachable!(),
     }

@@ -4,10 +4,11 @@ use Rattle.ucd_model.specs.Limits.{point_count}
 use Rattle.ucd_model.specs.Bounds.{Bounds}
 use Rattle.ucd_model.specs.Records.{Record, ShowsRecord}
 use Rattle.ucd_model.specs.declared.records.Record.{Record as KeptRecord}
-use Rattle.derived_writer.specs.Cuts.{IsCut}
-use Rattle.derived_writer.proofs.CutLemmas.{cut_push, shows_one}
-use Rattle.derived_writer.proofs.pieces.equal_pieces.Goals.{then-not-is_same+in_ok-push, else-not-is_same}
-use Rattle.derived_writer.proofs.pieces.equal_pieces.Goals as goal
+use Rattle.ucd_model.specs.Cuts.{IsCut}
+use Rattle.ucd_model.specs.CutLemmas.{cut_push}
+use Rattle.ucd_model.proofs.RecordLemmas.{shows_one}
+use Rattle.ucd_model.proofs.pieces.equal_pieces.Goals.{then-not-is_same+in_ok-push, else-not-is_same}
+use Rattle.ucd_model.proofs.pieces.equal_pieces.Goals as goal
 
 -- the span of the numbers from `first` to before `number`, behind the pieces up to `first`
 cut_more : (R : ℕ → Record) (first number : ℕ) (pieces : List Bounds) → first < number → IsCut R 0 first pieces → ((k : ℕ) → first ≤ k → k < number → R k ≡ R first)
@@ -21,7 +22,7 @@ pub points-preserved : goal.points-preserved
 points-preserved g c =
     let R : ℕ → Record = g.B.Records.record_of c.args.bench.now in
     let begun = c.points.invariant.begun in
-    let next : ShowsRecord c.record-next.result.now (R c.points.number) = rw c.point-in-points.ensures at c.record-next.ensures in
+    let next : ShowsRecord c.record-next.result.now (R c.points.number) = rw c.at-in-points.ensures at c.record-next.ensures in
     elim c.if-not-is_same.branch [
       | then-not-is_same+in_ok-push w ↦ record {
         begun = omega arith;

@@ -1,7 +1,7 @@
 use Rattle.std.proofs.Common.{◌≡◌, ℕ, ◌<◌, ◌≤◌}
 use Rattle.ucd_model.specs.Records.{ShowsRecord}
-use Rattle.derived_writer.specs.Cuts.{IsCut}
-use Rattle.derived_writer.proofs.pieces.equal_pieces.Given as goal
+use Rattle.ucd_model.specs.Cuts.{IsCut}
+use Rattle.ucd_model.proofs.pieces.equal_pieces.Given as goal
 
 -- the pieces go up to `first`, and from there on the records are the one that is shown
 abbrev pub invariant-points : goal.invariant-points

@@ -29,9 +29,9 @@ runs-preserved g c =
     let end : c.runs.number + more ≡ c.end_of_run-end.result = omega (arith, c.end_of_run-end.ensures.from, c.point_at-c.ensures) in
     let here : derived F c.point_at-c.result ≡ Ok (kept_record c.in_ok-record.record) = c.in_ok-record.ensures.found in
     let below : DerivedBelow c.push_run.new.self (c.runs.number + more) F =
-      run_below c.runs.list c.push_run.new.self c.runs.number more F (kept_record c.in_ok-record.record) c.runs.invariant.derived c.in_ok-push_run.ensures.count
-        c.in_ok-push_run.ensures.added c.in_ok-push_run.ensures.others
-        (λ k from lt. c.end_of_run-end.ensures.same k (omega (arith, from, c.point_at-c.ensures)) (omega (arith, lt, end)) ∙ here) in
+    run_below c.runs.list c.push_run.new.self c.runs.number more F (kept_record c.in_ok-record.record) c.runs.invariant.derived c.in_ok-push_run.ensures.count
+    c.in_ok-push_run.ensures.added c.in_ok-push_run.ensures.others
+    (λ k from lt. c.end_of_run-end.ensures.same k (omega (arith, from, c.point_at-c.ensures)) (omega (arith, lt, end)) ∙ here) in
     record {
       derived = subst (λ n. DerivedBelow c.push_run.new.self n F) end below;
       within = omega (arith, c.end_of_run-end.ensures.inside, c.point_count-count.ensures.number);

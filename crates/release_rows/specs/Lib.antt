@@ -16,5 +16,6 @@ pub mod Searches
 pub mod Gaps
 pub mod Finding
 pub mod OperationLaws
+pub mod Unchanged
 pub mod Laws
 pub mod FileLemmas

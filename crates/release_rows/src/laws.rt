@@ -1,6 +1,7 @@
 //! Laws of loaded files.
 
 ghost use Rattle.release_rows.specs.OperationLaws.{OperationsKeepCuts, OperationsKeepOrder, OperationsKeepRows, RowsStay};
+ghost use Rattle.release_rows.specs.Unchanged.{EverythingElseStays};
 ghost use Rattle.release_rows.specs.Laws.{FaultsAreFirst, LoadsExactly, BytesAreKept, LoadedFilesAreSound, ReloadsTheSame};
 
 use source_rows::{rows_are_no_trivia, rows_have_lines};
@@ -67,4 +68,11 @@ pub fn operations_keep_cuts()
 /// A code point outside of what an operation touches has the same rows that speak of it, in the same order.
 pub fn rows_stay()
     ensures { RowsStay }
+{}
+
+/// Everything but the operation's row keeps its bytes and its order, comments and empty lines among it. Only the item in
+/// front of an added row may differ: it has a LF if it had no line end. A changed row keeps its place and its line end,
+/// and each other file keeps its items.
+pub fn everything_else_stays()
+    ensures { EverythingElseStays }
 {}

@@ -1,1 +1,4 @@
 pub mod Ready
+pub mod Runs
+pub mod ScriptsRead
+pub mod FirstFaults

@@ -59,7 +59,7 @@ ended_ready n script None ready held = tt
 one_ready : (op : Op) → IsOp op → AreReady (op ∷ [])
 one_ready op ready = (All-push IsOp [] op (All-nil IsOp) ready, omega arith)
 
-few_more : (ops : List Op) (op : Op) → length ops ≤ 4096 → (length ops ≡ 4096 → ⊥) → length (ops ++ op ∷ []) ≤ 4096
+pub few_more : (ops : List Op) (op : Op) → length ops ≤ 4096 → (length ops ≡ 4096 → ⊥) → length (ops ++ op ∷ []) ≤ 4096
 few_more ops op few other = let one = length_push ops op in omega (arith, one, few, other)
 
 put_ready : (n : ℕ) (op : Op) (script : Script) (group : Option OpenGroup) → All IsReady script.commands → ReadyGroup group → is_full group ≡ false → IsOp op → ReadyScript (with_op_by n op script group)

@@ -13,6 +13,6 @@ mod source_path;
 mod stop;
 
 pub use command::{Command, Commands, What};
-pub use laws::groups_are_ready;
+pub use laws::{faults_are_first, groups_are_ready, scripts_are_read};
 pub use reading::commands;
 pub use stop::{ScriptRule, ScriptStop};

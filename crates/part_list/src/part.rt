@@ -77,13 +77,20 @@ fn spliced<T: Copy>(
     Ok(ListOf::from_vec(new))
 }
 
+/// Whether an entry passes. Of most that do not their bounds tell it, which is the shorter test.
+fn entry_passes<T: Copy, S: Seek<T>>(entry: &Spanned<T>, seek: &S) -> bool
+    ensures { result ≡ S.passing seek.now entry.now }
+{
+    !seek.skips(Reach::NONE.with(entry)) && seek.passes(entry)
+}
+
 /// The place of the first entry that passes.
 fn first_in<T: Copy, S: Seek<T>>(entries: &[Spanned<T>], seek: &S) -> Option<usize>
     ensures { FirstIn result (S.passing seek.now) entries.now }
 {
     let mut at = 0;
     'entries: while at < entries.len() {
-        if seek.passes(&entries[at]) {
+        if entry_passes(&entries[at], seek) {
             return Some(at);
         }
         at += 1;

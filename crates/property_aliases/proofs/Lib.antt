@@ -1,1 +1,4 @@
 pub mod Lookups
+pub mod NumbersAt
+pub mod PropertyLaws
+pub mod RowsNumbers

@@ -4,5 +4,7 @@ pub mod Tables
 pub mod Properties
 pub mod Resolving
 pub mod ResolvingLaws
+pub mod Values
 pub mod NumberMaps
+pub mod Kinds
 pub mod Found

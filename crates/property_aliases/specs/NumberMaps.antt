@@ -2,10 +2,14 @@
 --
 -- number_in m key             the number of a key; None where it has none
 -- found_in direct rows key    the less of the numbers of a key in two maps
+-- index_in_names n key        which property a key names, by a table of the names of properties
 use Rattle.std.specs.Prelude.{ℕ, List, Option}
 use Rattle.std.specs.Str.{bytes_eq}
+use Rattle.std.specs.Option.{option_map}
 use Rattle.indexmap.specs.IndexMap.{get_by}
+use Rattle.property_aliases.specs.Properties.{index_at}
 use Rattle.property_aliases.specs.ResolvingLaws.{least}
+use Rattle.property_aliases.specs.declared.naming.Names.{Names}
 use Rattle.property_aliases.specs.declared.number_map.NumberMap.{NumberMap}
 
 abbrev pub number_in : NumberMap → List ℕ → Option ℕ
@@ -13,3 +17,6 @@ number_in m key = get_by (λ k. bytes_eq key k.items) m.map
 
 abbrev pub found_in : NumberMap → NumberMap → List ℕ → Option ℕ
 found_in direct rows key = least (number_in direct key) (number_in rows key)
+
+abbrev pub index_in_names : Names → List ℕ → Option ℕ
+index_in_names n key = option_map index_at (found_in n.direct n.rows key)

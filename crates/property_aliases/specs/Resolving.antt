@@ -19,7 +19,7 @@ names rows b key = is_name key b || list_any (λ row. ties row key b) rows
 abbrev pub number_of : List (List ℕ) → List (List (List ℕ)) → List ℕ → Option ℕ
 number_of table rows key = position (λ b. names rows b key) table
 
-abbrev or_else : {X : Type 0} → Option X → Option X → Option X
+abbrev pub or_else : {X : Type 0} → Option X → Option X → Option X
 or_else (Some x) other = Some x
 or_else None other = other
 

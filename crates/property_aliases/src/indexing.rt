@@ -1,8 +1,10 @@
 //! Properties by their places.
 
 ghost use Rattle.std.specs.Prelude.{◌≡◌};
+ghost use Rattle.property_aliases.specs.NumberMaps.{index_in_names};
 ghost use Rattle.property_aliases.specs.Properties.{built_in, index_at, property_by};
 
+use crate::naming::{Names, find_in};
 use crate::property::Property;
 use ucd_model::{Core, Form};
 
@@ -48,10 +50,18 @@ fn built_in() -> &'static [Property]
 }
 
 /// Which property the name at a place is of.
-pub(crate) fn index_at(place: usize) -> usize
+fn index_at(place: usize) -> usize
     ensures { result ≡ index_at place }
 {
     if place < 60 { place / 2 } else { place - 30 }
+}
+
+/// Which property a key names by a table of the names of properties.
+pub(crate) fn index_in(properties: &Names, key: &[u8]) -> Option<usize>
+    ensures { result ≡ index_in_names properties.now key.now }
+{
+    let place = find_in(&properties.direct, &properties.rows, key)?;
+    Some(index_at(place))
 }
 
 /// The property with this index.

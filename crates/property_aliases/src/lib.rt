@@ -4,15 +4,21 @@
 mod aliases;
 mod in_order;
 mod indexing;
+mod kinds;
 mod loose;
+mod meaning;
 mod naming;
 mod number_map;
+mod numbers;
+mod places;
 mod property;
 mod rows;
 mod tables;
+mod value_rows;
+mod values;
 
 pub use aliases::Aliases;
-pub use property::Property;
+pub use property::{Group, Property, Test};
 
 #[cfg(test)]
 mod tests;

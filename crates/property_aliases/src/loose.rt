@@ -1,6 +1,7 @@
 //! Loose matching of names. UAX #44, section 5.9.3, rule UAX44-LM3.
 
-ghost use Rattle.std.specs.Prelude.{◌≡◌, IfOk, drop};
+ghost use Rattle.std.specs.Prelude.{◌≡◌, Some, None, IfOk, drop, if◌then◌else◌};
+ghost use Rattle.std.specs.Option.{option_map};
 ghost use Rattle.property_aliases.specs.Loose.{has_is, is_kept, loose, to_lower};
 
 use std::alloc::Global;
@@ -35,22 +36,12 @@ pub(crate) fn loose(alloc: Global, name: &[u8]) -> Result<Vec<u8>, Memory>
     Ok(key)
 }
 
-/// Whether a name begins with `is`; what counts of it is given.
-pub(crate) fn has_is(key: &[u8]) -> bool
-    ensures { result ≡ has_is key.now }
+/// What is behind `is`; `None` where a name does not begin so.
+pub(crate) fn without_is(key: &[u8]) -> Option<&[u8]>
+    ensures { option_map (λ rest. rest.now) result ≡ (if has_is key.now then Some (drop 2 key.now) else None) }
 {
     match key {
-        [first, second, ..] => *first == b'i' && *second == b's',
-        _ => false,
-    }
-}
-
-/// What is behind the first two bytes.
-pub(crate) fn rest_of(key: &[u8]) -> &[u8]
-    ensures { result.now ≡ drop 2 key.now }
-{
-    match key {
-        [_first, _second, rest @ ..] => rest,
-        _ => &[],
+        [b'i', b's', rest @ ..] => Some(rest),
+        _ => None,
     }
 }

@@ -27,7 +27,7 @@ pub(crate) fn direct_of(alloc: Global, names: &[Text]) -> Result<NumberMap, Memo
 }
 
 /// The less of two numbers, of which each may be missing.
-fn less(first: Option<usize>, second: Option<usize>) -> Option<usize>
+pub(crate) fn less(first: Option<usize>, second: Option<usize>) -> Option<usize>
     ensures { result ≡ least first second }
 {
     match (first, second) {
@@ -81,7 +81,7 @@ fn put_row(alloc: Global, rows: &mut NumberMap, number: usize, row: &[Text]) -> 
 /// Gives the least place to which a name of a row leads to each name of the row.
 ///
 /// - `Memory`: memory ran out.
-fn add_row(
+pub(crate) fn add_row(
     alloc: Global,
     direct: &NumberMap,
     rows: &mut NumberMap,

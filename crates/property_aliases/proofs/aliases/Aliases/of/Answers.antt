@@ -1,24 +1,62 @@
-use Rattle.std.proofs.Common.{◌≡◌, ℕ, List, ◌++◌, ap, ◌∙◌}
-use Rattle.std.specs.Option.{option_map}
-use Rattle.property_aliases.specs.Found.{property_in}
-use Rattle.property_aliases.specs.NumberMaps.{found_in}
-use Rattle.property_aliases.specs.Properties.{index_at, property_by, property_names, property_of}
-use Rattle.property_aliases.specs.Resolving.{number_of, or_is}
+use Rattle.std.proofs.Common.{◌≡◌, ℕ, List, Option, None, ◌++◌, refl, ap, ◌∙◌}
+use Rattle.std.specs.List.{flat_map}
+use Rattle.std.specs.Option.{option_map, option_map_or}
+use Rattle.property_aliases.specs.Found.{breaks_in, index_in, lone_in, lone_key_in, place_in, property_in, property_key_in, scripts_in, value_in, value_key_in}
+use Rattle.property_aliases.specs.Kinds.{kind_names, kind_of}
+use Rattle.property_aliases.specs.NumberMaps.{found_in, index_in_names}
+use Rattle.property_aliases.specs.Properties.{index_at, index_named, property_by, property_key, property_names, property_of}
+use Rattle.property_aliases.specs.Resolving.{number_of, or_else, or_is}
 use Rattle.property_aliases.specs.Sources.{Sources, sources_of}
 use Rattle.property_aliases.specs.Tables.{built_in_names}
+use Rattle.property_aliases.specs.Values.{behind, binary, index_of, lone_key, lone_of, other_key, rows_for, test_at, value_key, names_for, value_of}
 use Rattle.property_aliases.specs.declared.aliases.Aliases.{Aliases}
+use Rattle.property_aliases.specs.declared.property.Property.{Property}
+use Rattle.property_aliases.specs.declared.property.Property.TheVariants.{Category, Script}
+use Rattle.property_aliases.specs.declared.property.Test.{Test}
+use Rattle.property_aliases.proofs.PropertyLaws.{kind_names_are}
 use Rattle.property_aliases.proofs.aliases.Aliases.of.Goals as goal
 
-same_property : (a : Aliases) (s : Sources) → ((key : List ℕ) → found_in a.properties.direct a.properties.rows key ≡ number_of (property_names s) s.properties key) → (name : List ℕ) → property_in a name ≡ property_of s name
-same_property a s h name = ap (λ f. or_is f name) (λ i key. option_map property_by (option_map index_at (h key i)))
+module _ (a : Aliases) (s : Sources) (named : (key : List ℕ) → index_in a key ≡ index_named s key) where
+  key_is : (key : List ℕ) → property_key_in a key ≡ property_key s key
+  key_is key = ap (option_map property_by) (named key)
+
+  property_is : (name : List ℕ) → property_in a name ≡ property_of s name
+  property_is name = ap (λ f. or_is f name) (λ i key. key_is key i)
+
+  module _ (scripts : scripts_in a ≡ s.scripts) (breaks : breaks_in a ≡ s.breaks)
+      (placed : (p : Property) (key : List ℕ) → place_in a.places.values p key ≡ number_of (kind_names (scripts_in a) (breaks_in a) (kind_of p)) (flat_map (behind (index_in_names a.places.properties) (index_of p)) s.values) key) where
+    names_are : (p : Property) → kind_names (scripts_in a) (breaks_in a) (kind_of p) ≡ names_for s p
+    names_are p = ap (λ (xs : List (List ℕ)). kind_names xs (breaks_in a) (kind_of p)) scripts ∙ ap (λ (xs : List (List ℕ)). kind_names s.scripts xs (kind_of p)) breaks ∙ kind_names_are s p
+
+    rows_are : (p : Property) → flat_map (behind (index_in_names a.places.properties) (index_of p)) s.values ≡ rows_for s p
+    rows_are p = ap (λ (f : List ℕ → Option ℕ). flat_map (behind f (index_of p)) s.values) (λ i key. named key i)
+
+    value_key_is : (p : Property) (key : List ℕ) → value_key_in a p key ≡ value_key s p key
+    value_key_is p key = ap (λ (n : Option ℕ). option_map_or (test_at p) n None) (
+        placed p key
+        ∙ ap (λ (table : List (List ℕ)). number_of table (flat_map (behind (index_in_names a.places.properties) (index_of p)) s.values) key) (names_are p)
+        ∙ ap (λ (rows : List (List (List ℕ))). number_of (names_for s p) rows key) (rows_are p))
+
+    value_is : (p : Property) (name : List ℕ) → value_in a p name ≡ value_of s p name
+    value_is p name = ap (λ f. or_is f name) (λ i key. value_key_is p key i)
+
+    lone_key_is : (key : List ℕ) → lone_key_in a key ≡ lone_key s key
+    lone_key_is key = rw (value_key_is Category key, value_key_is Script key, key_is key) refl
+
+    lone_is : (name : List ℕ) → lone_in a name ≡ lone_of s name
+    lone_is name = ap (λ f. or_is f name) (λ i key. lone_key_is key i)
 
 pub returns : goal.returns
 returns c =
     let s = sources_of c.args.release.now in
-    let a : Aliases = record { properties = c.in_ok-properties.properties; listed = c.in_ok-listed.listed; scripts = c.in_ok-scripts.scripts; breaks = c.in_ok-breaks.breaks } in
+    let a : Aliases = record { numbers = c.in_ok-numbers.numbers; places = c.in_ok-places.places } in
+    let named : (key : List ℕ) → index_in a key ≡ index_named s key = λ key.
+    ap (option_map index_at) (c.in_ok-places.ensures.properties key ∙ ap (λ (names : List (List ℕ)). number_of (built_in_names ++ names) s.properties key) c.in_ok-numbers.ensures.listed) in
     record {
-      property = same_property a s (λ key. c.in_ok-properties.ensures key ∙ ap (λ (names : List (List ℕ)). number_of (built_in_names ++ names) s.properties key) c.in_ok-listed.ensures);
-      listed = c.in_ok-listed.ensures;
-      scripts = c.in_ok-scripts.ensures;
-      breaks = c.in_ok-breaks.ensures;
+      property = property_is a s named;
+      value = value_is a s named c.in_ok-numbers.ensures.scripts c.in_ok-numbers.ensures.breaks c.in_ok-places.ensures.values;
+      lone = lone_is a s named c.in_ok-numbers.ensures.scripts c.in_ok-numbers.ensures.breaks c.in_ok-places.ensures.values;
+      listed = c.in_ok-numbers.ensures.listed;
+      scripts = c.in_ok-numbers.ensures.scripts;
+      breaks = c.in_ok-numbers.ensures.breaks;
     }

@@ -1,13 +1,6 @@
-use Rattle.std.proofs.Common.{◌≡◌, ℕ, List, Option, sym, ap, ◌∙◌}
 use Rattle.property_aliases.specs.NumberMaps.{number_in}
-use Rattle.property_aliases.specs.Resolving.{number_of}
-use Rattle.property_aliases.specs.ResolvingLaws.{direct, least, rows_number, number_of_is}
+use Rattle.property_aliases.proofs.RowsNumbers.{resolved}
 use Rattle.property_aliases.proofs.naming.Names.of.Goals as goal
-
-resolved : (table : List (List ℕ)) (rows : List (List (List ℕ))) (f g : List ℕ → Option ℕ) → ((key : List ℕ) → f key ≡ direct table key) → ((key : List ℕ) → g key ≡ rows_number f rows key) → (key : List ℕ) → least (f key) (g key) ≡ number_of table rows key
-resolved table rows f g first second key =
-    let same : f ≡ direct table = λ i k. first k i in
-    ap (least (f key)) (second key) ∙ ap (λ (h : List ℕ → Option ℕ). least (h key) (rows_number h rows key)) same ∙ sym (number_of_is table rows key)
 
 pub returns : goal.returns
 returns c = resolved c.args.names.now c.args.rows.now (number_in c.in_ok-direct.direct) (number_in c.in_ok-rows.rows) c.in_ok-direct.ensures c.in_ok-rows.ensures

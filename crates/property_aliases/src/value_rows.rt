@@ -1,0 +1,113 @@
+//! The rows of PropertyValueAliases.txt by the property that they speak of.
+
+ghost use Rattle.std.specs.Prelude.{◌≡◌, ◌<◌, [], ◌∷◌, ℕ, List, None, drop, length, nat_eq, IfOk, OnOk, if◌then◌else◌};
+ghost use Rattle.std.specs.List.{flat_map};
+ghost use Rattle.property_aliases.specs.Kinds.{kind_of, number_at};
+ghost use Rattle.property_aliases.specs.NumberMaps.{index_in_names};
+ghost use Rattle.property_aliases.specs.Properties.{property_by};
+ghost use Rattle.property_aliases.specs.ResolvingLaws.{least, rows_number};
+ghost use Rattle.property_aliases.specs.Values.{behind, first_index};
+
+use crate::indexing::{index_in, property_by};
+use crate::kinds::kind_of;
+use crate::loose::loose;
+use crate::naming::{Names, add_row};
+use crate::number_map::NumberMap;
+use std::alloc::Global;
+use ucd_model::{Memory, Text, Texts};
+
+/// The property that the first name of a row names.
+///
+/// - `Memory`: memory ran out.
+fn first_index(alloc: Global, properties: &Names, row: &[Text]) -> Result<Option<usize>, Memory>
+    ensures { IfOk result (λ index. index ≡ first_index (index_in_names properties.now) row.now) }
+{
+    let [name, ..] = row else {
+        return Ok(None);
+    };
+    let key = loose(alloc, name.as_slice())?;
+    Ok(index_in(properties, key.as_slice()))
+}
+
+/// The names of a row behind the first.
+fn later(row: &[Text]) -> &[Text]
+    ensures { result.now ≡ drop 1 row.now }
+{
+    match row {
+        [_first, rest @ ..] => rest,
+        _ => row,
+    }
+}
+
+/// Makes maps, without a name, up to the one with this index.
+///
+/// - `Memory`: memory ran out.
+fn reach(alloc: Global, maps: &mut Vec<NumberMap>, index: usize) -> Result<(), Memory>
+    ensures reached { OnOk result (index < length maps.new.items) }
+    ensures numbers { OnOk result ((i : ℕ) (key : List ℕ) → number_at maps.new.items i key ≡ number_at maps.old.items i key) }
+{
+    'maps: while maps.len() <= index {
+        maps.push(NumberMap::new(alloc))?;
+    }
+    Ok(())
+}
+
+/// Gives the names of a row the least place to which one of them leads, in the map of a property.
+///
+/// - `Memory`: memory ran out.
+fn add_at(
+    alloc: Global,
+    kinds: &[NumberMap],
+    maps: &mut Vec<NumberMap>,
+    index: usize,
+    row: &[Text],
+) -> Result<(), Memory>
+    requires kinds { length kinds.now ≡ 7 }
+    ensures { OnOk result ((i : ℕ) (key : List ℕ) → number_at maps.new.items i key ≡ least (number_at maps.old.items i key)
+        (rows_number (number_at kinds.now (kind_of (property_by i))) (if nat_eq index i then row.now ∷ [] else []) key)) }
+{
+    reach(alloc, maps, index)?;
+    let direct = &kinds[kind_of(property_by(index))];
+    add_row(alloc, direct, &mut maps[index], row)
+}
+
+/// Gives the later names of a row the least place to which one of them leads, in the map of the property that the first
+/// name names.
+///
+/// - `Memory`: memory ran out.
+fn add_value_row(
+    alloc: Global,
+    properties: &Names,
+    kinds: &[NumberMap],
+    maps: &mut Vec<NumberMap>,
+    row: &[Text],
+) -> Result<(), Memory>
+    requires kinds { length kinds.now ≡ 7 }
+    ensures { OnOk result ((i : ℕ) (key : List ℕ) → number_at maps.new.items i key ≡ least (number_at maps.old.items i key)
+        (rows_number (number_at kinds.now (kind_of (property_by i))) (behind (index_in_names properties.now) i row.now) key)) }
+{
+    match first_index(alloc, properties, row)? {
+        Some(index) => add_at(alloc, kinds, maps, index, later(row)),
+        None => Ok(()),
+    }
+}
+
+/// For each property, the least place to which the rows that speak of it tie each of their later names.
+///
+/// - `Memory`: memory ran out.
+pub(crate) fn rows_by_property(
+    alloc: Global,
+    properties: &Names,
+    kinds: &[NumberMap],
+    rows: &[Texts],
+) -> Result<Vec<NumberMap>, Memory>
+    requires kinds { length kinds.now ≡ 7 }
+    ensures { IfOk result (λ maps. (i : ℕ) (key : List ℕ) → number_at maps.items i key
+        ≡ rows_number (number_at kinds.now (kind_of (property_by i))) (flat_map (behind (index_in_names properties.now) i) rows.now) key) }
+{
+    let mut maps = Vec::new(alloc);
+    'rows: for row in rows {
+        add_value_row(alloc, properties, kinds, &mut maps, row.as_slice())?;
+    }
+    Ok(maps)
+}

@@ -1,0 +1,96 @@
+//! The values of properties by their names.
+
+ghost use Rattle.std.specs.Prelude.{◌≡◌, ◌+◌, ◌^◌, ◌≤◌, ℕ, List, length, map, IfOk, MatchOption};
+ghost use Rattle.std.specs.List.{flat_map};
+ghost use Rattle.property_aliases.specs.Found.{place_in};
+ghost use Rattle.property_aliases.specs.Kinds.{kind_names, kind_of, number_at};
+ghost use Rattle.property_aliases.specs.NumberMaps.{index_in_names};
+ghost use Rattle.property_aliases.specs.Resolving.{number_of};
+ghost use Rattle.property_aliases.specs.Sources.{alias_rows};
+ghost use Rattle.property_aliases.specs.Values.{behind, index_of};
+ghost use Rattle.property_aliases.specs.declared.property.Property.{Property};
+ghost use Rattle.release_rows.specs.Releases.{items_now, rows_at};
+ghost use Rattle.ucd_model.specs.declared.files.SourceFile.TheVariants.{PropertyValueAliases};
+
+use crate::kinds::{kind_of, kinds_of};
+use crate::naming::{Names, less};
+use crate::number_map::NumberMap;
+use crate::numbers::Numbers;
+use crate::property::Property;
+use crate::rows::alias_rows;
+use crate::value_rows::rows_by_property;
+use release_rows::Release;
+use std::alloc::Global;
+use ucd_model::{Form, Memory, SourceFile};
+
+/// The places of the names of values: of the built-in and the numbered ones by kind of property, and of those that rows
+/// tie to them by property.
+#[derive(Drop)]
+pub(crate) struct ValueNames {
+    pub(crate) kinds: Vec<NumberMap>,
+    pub(crate) rows: Vec<NumberMap>,
+}
+
+impl ValueNames {
+    /// The names of values by the rows of a release now.
+    ///
+    /// - `Memory`: memory ran out.
+    pub(crate) fn of(
+        alloc: Global,
+        release: &Release,
+        properties: &Names,
+        numbers: &Numbers,
+    ) -> Result<ValueNames, Memory>
+        ensures { IfOk result (λ values. (p : Property) (key : List ℕ) → place_in values p key
+            ≡ number_of (kind_names (map (λ k. k.items) numbers.now.scripts.keys) (map (λ k. k.items) numbers.now.breaks.keys) (kind_of p))
+            (flat_map (behind (index_in_names properties.now) (index_of p)) (alias_rows (rows_at (items_now release.now PropertyValueAliases)))) key) }
+    {
+        let kinds = kinds_of(alloc, numbers.scripts.as_slice(), numbers.breaks.as_slice())?;
+        let all = alias_rows(alloc, release.rows(SourceFile::PropertyValueAliases))?;
+        let rows = rows_by_property(alloc, properties, kinds.as_slice(), all.as_slice())?;
+        Ok(ValueNames { kinds, rows })
+    }
+
+    /// The place of the first name of a value of a property that a key names.
+    pub(crate) fn find(&self, property: Property, key: &[u8]) -> Option<usize>
+        ensures { result ≡ place_in self.now property key.now }
+    {
+        let direct = number_at(self.kinds.as_slice(), kind_of(property), key);
+        less(direct, self.find_in_rows(property, key))
+    }
+
+    /// The place to which rows tie a key.
+    fn find_in_rows(&self, property: Property, key: &[u8]) -> Option<usize>
+        ensures { result ≡ number_at self.now.rows.items (index_of property) key.now }
+    {
+        number_at(self.rows.as_slice(), index_of(property)?, key)
+    }
+}
+
+/// The number of a key in a map; `None` where there is no such map.
+fn number_at(maps: &[NumberMap], index: usize, key: &[u8]) -> Option<usize>
+    ensures { result ≡ number_at maps.now index key.now }
+{
+    maps.get(index)?.find(key)
+}
+
+/// The place of a property among all; `None` where it is 2^64 or above.
+fn index_of(property: Property) -> Option<usize>
+    ensures { MatchOption result (2 ^ 64 ≤ index_of property) (λ index. index ≡ index_of property) }
+{
+    match property {
+        Property::Category => Some(0),
+        Property::Script => Some(1),
+        Property::Class => Some(2),
+        Property::Decomposition => Some(3),
+        Property::WordBreak => Some(4),
+        Property::Quick(Form::Nfd) => Some(5),
+        Property::Quick(Form::Nfc) => Some(6),
+        Property::Quick(Form::Nfkd) => Some(7),
+        Property::Quick(Form::Nfkc) => Some(8),
+        Property::Core(core) => Some(9 + core.place()),
+        Property::Exclusion => Some(28),
+        Property::ChangesCasefold => Some(29),
+        Property::Listed(number) => (number as usize).checked_add(30),
+    }
+}

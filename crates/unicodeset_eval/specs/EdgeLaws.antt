@@ -45,7 +45,7 @@ stays x q ys low le rises = record {
   early = λ c lt. inside_early q ys low c rises (omega arith);
 }
 
-edge_law : (a b : Bool) (x : ℕ) (rest : List ℕ) (c : ℕ) → (c < x → inside b rest c ≡ b) → inside a (emit a b x rest) c ≡ cond (nat_lt c x) a (inside b rest c)
+pub edge_law : (a b : Bool) (x : ℕ) (rest : List ℕ) (c : ℕ) → (c < x → inside b rest c ≡ b) → inside a (emit a b x rest) c ≡ cond (nat_lt c x) a (inside b rest c)
 edge_law true false x rest c early = refl
 edge_law false true x rest c early = refl
 edge_law true true x rest c early = elim (cases_lt c x) [
@@ -66,7 +66,7 @@ emit_has f x p a p2 a2 q b q2 b2 rest left right has c =
       | inr ge ↦ rw (le-ltb c x ge, left.behind c ge, right.behind c ge) (has c)
     ]
 
-emit_rises : (a b : Bool) (x low : ℕ) (rest : List ℕ) → low ≤ x → Rises (x + 1) rest → Rises low (emit a b x rest)
+pub emit_rises : (a b : Bool) (x low : ℕ) (rest : List ℕ) → low ≤ x → Rises (x + 1) rest → Rises low (emit a b x rest)
 emit_rises true false x low rest le rises = (le, rises)
 emit_rises false true x low rest le rises = (le, rises)
 emit_rises true true x low rest le rises = Rises-from rest (x + 1) low rises (omega arith)

@@ -4,3 +4,14 @@ pub mod EdgeLaws
 pub mod Members
 pub mod Pieces
 pub mod Laws
+pub mod Tests
+pub mod TestExamples
+pub mod PieceSets
+pub mod Found
+pub mod Indexes
+pub mod ValueRows
+pub mod Numbers
+pub mod Given
+pub mod RowSetLaws
+pub mod Assigned
+pub mod IndexLaws

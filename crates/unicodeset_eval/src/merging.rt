@@ -54,7 +54,7 @@ fn passed(at: u32, edges: &[u32]) -> &[u32]
 /// Puts an edge at the end where membership turns at it.
 ///
 /// - `Memory`: memory ran out. The edges stay as they were.
-fn emit(edges: &mut Vec<u32>, before: bool, after: bool, at: u32) -> Result<(), Memory>
+pub(crate) fn emit(edges: &mut Vec<u32>, before: bool, after: bool, at: u32) -> Result<(), Memory>
     ensures ok { OnOk result (edges.new.items ≡ edges.old.items ++ emit before after at []) }
     ensures err { OnErr result (edges.new.items ≡ edges.old.items) }
 {

@@ -1,8 +1,8 @@
 //! Sets of code points.
 
-ghost use Rattle.std.specs.Prelude.{◌≡◌, ℕ, IfOk};
+ghost use Rattle.std.specs.Prelude.{◌≡◌, ◌≤◌, ℕ, nat_lt, IfOk};
 ghost use Rattle.ucd_model.specs.Limits.{point_count};
-ghost use Rattle.unicodeset_eval.specs.Edges.{has};
+ghost use Rattle.unicodeset_eval.specs.Edges.{Rises, has};
 ghost use Rattle.unicodeset_eval.specs.Members.{between, joined, member_spans, nothing, outside};
 
 use crate::covering::span_edges;
@@ -44,6 +44,29 @@ impl PointSet {
             starts: false,
             edges: Vec::new(alloc),
         }
+    }
+
+    /// The set that is told by whether 0 is in, and by its edges above 0. It takes no memory.
+    pub(crate) fn of_edges(starts: bool, edges: Vec<u32>) -> PointSet
+        requires { Rises 1 edges.items }
+        ensures { result ≡ record { starts = starts; edges = edges.items } }
+    {
+        PointSet { starts, edges }
+    }
+
+    /// The numbers before `end`, which is not 0.
+    ///
+    /// - `Memory`: memory ran out.
+    pub(crate) fn before(alloc: Global, end: u32) -> Result<PointSet, Memory>
+        requires { 1 ≤ end }
+        ensures { IfOk result (λ set. (c : ℕ) → has set c ≡ nat_lt c end) }
+    {
+        let mut edges = Vec::new(alloc);
+        edges.push(end)?;
+        Ok(PointSet {
+            starts: true,
+            edges,
+        })
     }
 
     /// The code points of a span.

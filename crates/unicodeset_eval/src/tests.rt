@@ -24,7 +24,11 @@ fn union(alloc: Global, spans: &[(u32, u32)]) -> Result<PointSet, Fail> {
 }
 
 /// Whether these are the spans of a set.
-fn has_spans(alloc: Global, set: &PointSet, expected: &[(u32, u32)]) -> Result<bool, Fail> {
+pub(crate) fn has_spans(
+    alloc: Global,
+    set: &PointSet,
+    expected: &[(u32, u32)],
+) -> Result<bool, Fail> {
     let spans = set.spans(alloc)?;
     let mut pairs = Vec::new(alloc);
     for span in spans.as_slice() {

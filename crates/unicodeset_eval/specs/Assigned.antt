@@ -1,0 +1,90 @@
+-- Which code points are assigned.
+--
+-- AssignedHaveCategories rows   a row of UnicodeData.txt covers c exactly where the category of c is not Cn
+-- assigned_have_categories      so it is of rows that are kept
+use Rattle.std.proofs.Common.{◌≡◌, ◌≢◌, ℕ, ◌<◌, Bool, true, false, not, ◌==◌, List, [], ◌∷◌, ◌++◌, Option, Some, None, Result, Ok, Err, is_some, find, cond, refl, sym, ap, ◌∙◌, arith}
+use Rattle.std.specs.Prelude.{slice_get}
+use Rattle.std.specs.List.{All}
+use Rattle.std.proofs.lemmas.Bool.{eqb-true}
+use Rattle.std.proofs.lemmas.List.Elements.{All-cons, All-head, All-nil, All-tail}
+use Rattle.ucd_model.specs.EnumerationProofs.{enumerates_categories}
+use Rattle.ucd_model.specs.Enumerations.{categories}
+use Rattle.ucd_model.specs.Facts.{Sources, facts, data_row, data_in, is_data_of, category_in}
+use Rattle.ucd_model.specs.FactsLemmas.{facts_inside}
+use Rattle.ucd_model.specs.Limits.{point_count}
+use Rattle.ucd_model.specs.Predicates.{category_place}
+use Rattle.ucd_model.specs.RowValues.{RowOk, DataOk}
+use Rattle.ucd_model.specs.declared.category.Category.{Category}
+use Rattle.ucd_model.specs.declared.category.Category.TheVariants.{Cn}
+use Rattle.ucd_model.specs.declared.files.SourceFile.TheVariants.{UnicodeData}
+use Rattle.ucd_model.specs.declared.row.DataRow.{DataRow}
+use Rattle.ucd_model.specs.declared.row.Row.{Row}
+use Rattle.ucd_model.specs.declared.row.Row.TheVariants.{Unit as DataLine, Value as ValueLine, Exclusion as ExclusionLine, Fold as FoldLine, Casing as CasingLine, Alias as AliasLine}
+use Rattle.ucd_model.specs.Lines.{is_trivia}
+use Rattle.source_rows.specs.Faults.{row_or_fault}
+use Rattle.source_rows.specs.Laws.{RowsAreOk, RowsAreRead}
+use Rattle.source_rows.specs.declared.fault.RowFault.{RowFault}
+use Rattle.release_rows.specs.FileItems.{FileItem, onto_rows, rows_in}
+use Rattle.release_rows.specs.Loading.{content_row}
+use Rattle.release_rows.specs.Releases.{AreKept, AreKeptBelow}
+
+abbrev pub AssignedHaveCategories : Sources → Type 0
+AssignedHaveCategories rows = (c : ℕ) → c < point_count → is_some (data_row (rows UnicodeData) c) ≡ not (category_place (facts rows c).category == category_place Cn)
+
+-- ---- rows that are kept
+
+module _ (read : RowsAreRead) (ok : RowsAreOk) where
+  read_row : (content : List ℕ) (row : Row) → content_row UnicodeData content ≡ Ok (Some row) → row_or_fault UnicodeData content ≡ Ok row
+  read_row content row h = by (is_trivia content) (row_or_fault UnicodeData content) refl refl
+    where
+      same_row : (a b : Row) → (let x : Result (Option Row) RowFault = Ok (Some a) in x ≡ Ok (Some b)) → a ≡ b
+      same_row a b e = cc
+
+      by : (b : Bool) (r : Result Row RowFault) → is_trivia content ≡ b → row_or_fault UnicodeData content ≡ r → row_or_fault UnicodeData content ≡ Ok row
+      by true r e f = absurd (let k = (rw e at h) in cc)
+      by false (Ok other) e f = f ∙ ap Ok (same_row other row (rw (e, f) at h))
+      by false (Err fault) e f = absurd (let k = (rw (e, f) at h) in cc)
+
+  rows_ok : (above items : List FileItem) → AreKeptBelow UnicodeData above items → All (RowOk UnicodeData) (rows_in items)
+  rows_ok above [] kept = All-nil (RowOk UnicodeData)
+  rows_ok above (item ∷ items) kept = by item.row kept.0.is_read (rows_ok (above ++ item ∷ []) items kept.1)
+    where
+      by : (row : Option Row) → content_row UnicodeData item.content ≡ Ok row → All (RowOk UnicodeData) (rows_in items) → All (RowOk UnicodeData) (onto_rows row (rows_in items))
+      by None e rest = rest
+      by (Some row) e rest = All-cons (RowOk UnicodeData) row (rows_in items) ((ok UnicodeData row).1 (item.content, (read UnicodeData item.content row).0 (read_row item.content row e))) rest
+
+-- ---- the category of a row
+
+not_cn : (k : Category) → k ≢ Cn → not (category_place k == category_place Cn) ≡ true
+not_cn k other = by (category_place k == category_place Cn) refl
+  where
+    one : (x y : Category) → Some x ≡ Some y → x ≡ y
+    one x y e = cc
+
+    by : (b : Bool) → (category_place k == category_place Cn) ≡ b → not b ≡ true
+    by true e = absurd (other (one k Cn (sym (enumerates_categories.each k) ∙ ap (slice_get categories) (eqb-true (category_place k) (category_place Cn) e) ∙ enumerates_categories.each Cn)))
+    by false e = refl
+
+assigned_in : (c : ℕ) (rows : List Row) → All (RowOk UnicodeData) rows → is_some (data_row rows c) ≡ not (category_place (category_in (data_row rows c)) == category_place Cn)
+assigned_in c [] ok = refl
+assigned_in c (DataLine row ∷ rows) ok = by (is_data_of c (DataLine row)) (assigned_in c rows (All-tail (RowOk UnicodeData) (DataLine row) rows ok))
+  where
+    here : DataOk row
+    here = All-head (RowOk UnicodeData) (DataLine row) rows ok
+
+    found : Bool → Option DataRow
+    found t = data_in (cond t (Some (DataLine row)) (find (is_data_of c) rows))
+
+    by : (t : Bool) → is_some (data_row rows c) ≡ not (category_place (category_in (data_row rows c)) == category_place Cn) → is_some (found t) ≡ not (category_place (category_in (found t)) == category_place Cn)
+    by true later = sym (not_cn row.category here.category)
+    by false later = later
+assigned_in c (ValueLine row ∷ rows) ok = assigned_in c rows (All-tail (RowOk UnicodeData) (ValueLine row) rows ok)
+assigned_in c (ExclusionLine row ∷ rows) ok = assigned_in c rows (All-tail (RowOk UnicodeData) (ExclusionLine row) rows ok)
+assigned_in c (FoldLine row ∷ rows) ok = assigned_in c rows (All-tail (RowOk UnicodeData) (FoldLine row) rows ok)
+assigned_in c (CasingLine row ∷ rows) ok = assigned_in c rows (All-tail (RowOk UnicodeData) (CasingLine row) rows ok)
+assigned_in c (AliasLine row ∷ rows) ok = assigned_in c rows (All-tail (RowOk UnicodeData) (AliasLine row) rows ok)
+
+pub assigned_have_categories : (rows : Sources) (items : List FileItem) → rows UnicodeData ≡ rows_in items → RowsAreRead → RowsAreOk → AreKept UnicodeData items → AssignedHaveCategories rows
+assigned_have_categories rows items same read ok kept c lt =
+    let all : All (RowOk UnicodeData) (rows UnicodeData) = rw same (rows_ok read ok [] items kept) in
+    assigned_in c (rows UnicodeData) all ∙ ap (λ G. not (category_place G.category == category_place Cn)) (sym (facts_inside rows c lt))

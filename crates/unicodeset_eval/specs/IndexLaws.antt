@@ -1,0 +1,43 @@
+-- What an index says is what the definition says.
+--
+-- says_is   of the code points, where the records have the categories of the rows
+use Rattle.std.proofs.Common.{◌≡◌, ℕ, ◌<◌, Bool, false, not, ◌&&◌, ◌==◌, refl, sym, ap, ◌∙◌, arith, inl, inr}
+use Rattle.std.specs.Prelude.{nat_lt, is_some}
+use Rattle.std.proofs.lemmas.Bool.{cases_lt, le-ltb}
+use Rattle.ucd_model.specs.Facts.{Sources, data_row, facts}
+use Rattle.ucd_model.specs.Limits.{point_count}
+use Rattle.ucd_model.specs.Predicates.{category_place}
+use Rattle.ucd_model.specs.Records.{Record}
+use Rattle.ucd_model.specs.declared.category.Category.{Category}
+use Rattle.ucd_model.specs.declared.category.Category.TheVariants.{Cn}
+use Rattle.ucd_model.specs.declared.files.SourceFile.TheVariants.{UnicodeData}
+use Rattle.property_aliases.specs.declared.property.Test.{Test}
+use Rattle.property_aliases.specs.declared.property.Test.TheVariants as test
+use Rattle.unicodeset_eval.specs.Assigned.{AssignedHaveCategories}
+use Rattle.unicodeset_eval.specs.Found.{AreRowSets, says}
+use Rattle.unicodeset_eval.specs.Tests.{same_truth, test_holds}
+use Rattle.unicodeset_eval.specs.declared.row_sets.RowSets.{RowSets}
+
+module _ (R : ℕ → Record) (rows : Sources) (sets : RowSets) (are : AreRowSets sets rows) (assigned : AssignedHaveCategories rows)
+    (categories : (c : ℕ) → c < point_count → (R c).category ≡ (facts rows c).category) where
+  assigned_is : (c : ℕ) → (nat_lt c point_count && says R sets test.Assigned c) ≡ (nat_lt c point_count && test_holds R rows test.Assigned c)
+  assigned_is c = elim (cases_lt c point_count) [
+    | inl lt ↦ ap (λ b. nat_lt c point_count && b) (ap (λ (k : Category). not (category_place k == category_place Cn)) (categories c lt) ∙ sym (assigned c lt))
+    | inr le ↦ rw (le-ltb c point_count le) refl
+  ]
+
+  pub says_is : (t : Test) (c : ℕ) → (nat_lt c point_count && says R sets t c) ≡ (nat_lt c point_count && test_holds R rows t c)
+  says_is test.Any c = refl
+  says_is test.Ascii c = refl
+  says_is test.Assigned c = assigned_is c
+  says_is (test.Group group) c = refl
+  says_is (test.Category category) c = refl
+  says_is (test.Script number) c = ap (λ b. nat_lt c point_count && b) (are.scripts number c)
+  says_is (test.Class class) c = refl
+  says_is (test.Decomposition kind) c = refl
+  says_is (test.WordBreak number) c = ap (λ b. nat_lt c point_count && b) (are.breaks number c)
+  says_is (test.Quick form value) c = refl
+  says_is (test.Core core wanted) c = refl
+  says_is (test.Exclusion wanted) c = refl
+  says_is (test.ChangesCasefold wanted) c = refl
+  says_is (test.Listed number wanted) c = ap (λ b. nat_lt c point_count && same_truth wanted b) (are.listed number c)

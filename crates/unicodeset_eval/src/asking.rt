@@ -1,0 +1,117 @@
+//! The sets of all tests, made once and asked for one by one.
+
+ghost use Rattle.std.specs.Prelude.{◌≡◌, ℕ, Bool, ◌&&◌, ◌<◌, nat_lt, IfOk};
+ghost use Rattle.property_aliases.specs.declared.property.Test.{Test as TestValue};
+ghost use Rattle.ucd_model.specs.Cuts.{IsCut};
+ghost use Rattle.ucd_model.specs.Facts.{facts};
+ghost use Rattle.ucd_model.specs.Limits.{point_count};
+ghost use Rattle.unicodeset_eval.specs.Edges.{has, holds};
+ghost use Rattle.unicodeset_eval.specs.Found.{has_at};
+ghost use Rattle.unicodeset_eval.specs.Indexes.{index_holds};
+ghost use Rattle.unicodeset_eval.specs.Tests.{rows_of, same_truth, test_holds};
+
+use crate::assigned::assigned_have_categories;
+use crate::index::SetIndex;
+use crate::point_set::PointSet;
+use crate::row_sets::RowSets;
+use crate::test_sets::TestSets;
+use crate::testing::set_over;
+use property_aliases::Test;
+use release_rows::Release;
+use std::alloc::Global;
+use ucd_model::{Memory, Records, Span, point_count};
+use unicodeset_parser::Join;
+
+/// How the set of all code points is joined to those of a value, where they are wanted, or the others.
+fn join_for(wanted: bool) -> Join
+    ensures { (a b : Bool) → holds result a b ≡ (a && same_truth wanted b) }
+{
+    if wanted { Join::Meet } else { Join::Minus }
+}
+
+/// The set of all code points.
+///
+/// - `Memory`: memory ran out.
+fn all_points(alloc: Global) -> Result<PointSet, Memory>
+    ensures { IfOk result (λ set. (c : ℕ) → has set c ≡ nat_lt c point_count) }
+{
+    let set = PointSet::before(alloc, point_count())?;
+    Ok(set)
+}
+
+/// The code points below 80.
+///
+/// - `Memory`: memory ran out.
+fn ascii(alloc: Global) -> Result<PointSet, Memory>
+    ensures { IfOk result (λ set. (c : ℕ) → has set c ≡ (nat_lt c point_count && nat_lt c 0x80)) }
+{
+    let set = PointSet::before(alloc, 0x80)?;
+    Ok(set)
+}
+
+/// The code points of the set with a number, or the others. A number that is not used has no code points.
+///
+/// - `Memory`: memory ran out.
+pub(crate) fn numbered_set(
+    alloc: Global,
+    sets: &[PointSet],
+    number: u64,
+    wanted: bool,
+) -> Result<PointSet, Memory>
+    ensures { IfOk result (λ set. (c : ℕ) → has set c ≡ (nat_lt c point_count && same_truth wanted (has_at sets.now number c))) }
+{
+    let all = all_points(alloc)?;
+    let index = number as usize;
+    if index < sets.len() {
+        let set = PointSet::joined(alloc, join_for(wanted), &all, &sets[index])?;
+        return Ok(set);
+    }
+    let none = PointSet::empty(alloc);
+    let set = PointSet::joined(alloc, join_for(wanted), &all, &none)?;
+    Ok(set)
+}
+
+impl<'b, B: Records> SetIndex<'b, B> {
+    /// The sets of all tests by the rows of a release now, and by what is derived of them: `pieces` are the pieces of equal
+    /// records of the bench, as [`equal_pieces`](ucd_model::equal_pieces) gives them.
+    ///
+    /// - `Memory`: memory ran out.
+    pub fn of(
+        alloc: Global,
+        bench: &'b B,
+        pieces: &'b [Span],
+        release: &Release,
+    ) -> Result<SetIndex<'b, B>, Memory>
+        requires pieces { IsCut (B.record_of bench.now) 0 point_count pieces.now }
+        requires categories { (c : ℕ) → c < point_count → (B.record_of bench.now c).category ≡ (facts (rows_of release.now) c).category }
+        ensures { IfOk result (λ index. (test : TestValue) (c : ℕ) → index_holds B.record_of index test c
+            ≡ (nat_lt c point_count && test_holds (B.record_of bench.now) (rows_of release.now) test c)) }
+    {
+        assigned_have_categories(release);
+        let rows = RowSets::of(alloc, release)?;
+        Ok(SetIndex {
+            bench,
+            pieces,
+            rows,
+        })
+    }
+}
+
+impl<'b, B: Records> TestSets for SetIndex<'b, B> {
+    ghost holds = { index_holds B.record_of };
+
+    fn set_of(&self, alloc: Global, test: Test) -> Result<PointSet, Memory> {
+        match test {
+            Test::Any => all_points(alloc),
+            Test::Ascii => ascii(alloc),
+            Test::Script(number) => numbered_set(alloc, self.rows.scripts.as_slice(), number, true),
+            Test::WordBreak(number) => {
+                numbered_set(alloc, self.rows.breaks.as_slice(), number, true)
+            }
+            Test::Listed(number, wanted) => {
+                numbered_set(alloc, self.rows.listed.as_slice(), number, wanted)
+            }
+            _ => set_over(alloc, self.bench, self.pieces, test),
+        }
+    }
+}

@@ -1,0 +1,17 @@
+//! Which code points are assigned.
+
+ghost use Rattle.unicodeset_eval.specs.Assigned.{AssignedHaveCategories};
+ghost use Rattle.unicodeset_eval.specs.Tests.{rows_of};
+
+use release_rows::Release;
+use source_rows::{rows_are_ok, rows_are_read};
+use ucd_model::SourceFile;
+
+/// A row of UnicodeData.txt covers a code point exactly where its category is not Cn.
+pub(crate) fn assigned_have_categories(release: &Release)
+    ensures { AssignedHaveCategories (rows_of release.now) }
+{
+    rows_are_read();
+    rows_are_ok();
+    let _rows = release.rows(SourceFile::UnicodeData);
+}

@@ -1,0 +1,128 @@
+//! Tests of what is derived of each code point, and their sets.
+
+ghost use Rattle.std.specs.Prelude.{◌≡◌, ℕ, ◌&&◌, nat_lt, IfOk};
+ghost use Rattle.ucd_model.specs.Cuts.{IsCut};
+ghost use Rattle.ucd_model.specs.Limits.{point_count};
+ghost use Rattle.ucd_model.specs.Predicates.{is_one_of};
+ghost use Rattle.ucd_model.specs.Records.{Record as RecordValue, ShowsRecord};
+ghost use Rattle.unicodeset_eval.specs.Edges.{has};
+ghost use Rattle.unicodeset_eval.specs.PieceSets.{piece_edges};
+ghost use Rattle.unicodeset_eval.specs.Found.{tells};
+ghost use Rattle.unicodeset_eval.specs.Tests.{check_of, group_categories};
+
+use crate::merging::emit;
+use crate::point_set::PointSet;
+use property_aliases::{Group, Test};
+use std::alloc::Global;
+use ucd_model::{Category, Form, Memory, Point, Quick, Record, Records, Span, point_count};
+
+/// Whether a category is in a group. UAX #44, section 5.7.1, table 12.
+fn is_in_group(group: Group, category: Category) -> bool
+    ensures { result ≡ is_one_of (group_categories group) category }
+{
+    match group {
+        Group::L => matches!(
+            category,
+            Category::Lu | Category::Ll | Category::Lt | Category::Lm | Category::Lo
+        ),
+        Group::LC => matches!(category, Category::Lu | Category::Ll | Category::Lt),
+        Group::M => matches!(category, Category::Mn | Category::Mc | Category::Me),
+        Group::N => matches!(category, Category::Nd | Category::Nl | Category::No),
+        Group::P => is_punctuation(category),
+        Group::S => matches!(
+            category,
+            Category::Sm | Category::Sc | Category::Sk | Category::So
+        ),
+        Group::Z => matches!(category, Category::Zs | Category::Zl | Category::Zp),
+        Group::C => matches!(
+            category,
+            Category::Cc | Category::Cf | Category::Cs | Category::Co | Category::Cn
+        ),
+    }
+}
+
+/// Whether a category is of punctuation.
+fn is_punctuation(category: Category) -> bool
+    ensures { result ≡ is_one_of (group_categories (Group.P)) category }
+{
+    matches!(
+        category,
+        Category::Pc
+            | Category::Pd
+            | Category::Ps
+            | Category::Pe
+            | Category::Pi
+            | Category::Pf
+            | Category::Po
+    )
+}
+
+/// The quick check of a form.
+fn check_of(form: Form, shown: &Record) -> Quick
+    ensures { (R : RecordValue) → ShowsRecord shown.now R → result ≡ check_of form R }
+{
+    match form {
+        Form::Nfd => shown.nfd,
+        Form::Nfc => shown.nfc,
+        Form::Nfkd => shown.nfkd,
+        Form::Nfkc => shown.nfkc,
+    }
+}
+
+/// What a test says of a code point with this record, where it is Assigned or a test of derived properties; else false.
+fn tells(test: Test, shown: &Record) -> bool
+    ensures { (R : RecordValue) → ShowsRecord shown.now R → result ≡ tells test R }
+{
+    match test {
+        Test::Assigned => shown.category.place() != Category::Cn.place(),
+        Test::Group(group) => is_in_group(group, shown.category),
+        Test::Category(category) => category.place() == shown.category.place(),
+        Test::Class(class) => class == shown.class,
+        Test::Decomposition(kind) => kind.place() == shown.kind.place(),
+        Test::Quick(form, value) => value as u32 == check_of(form, shown) as u32,
+        Test::Core(core, wanted) => shown.core.has(core) == wanted,
+        Test::Exclusion(wanted) => shown.exclusion == wanted,
+        Test::ChangesCasefold(wanted) => shown.changes_casefold == wanted,
+        _ => false,
+    }
+}
+
+/// The numbers at which a test turns, over pieces of equal records; `starts` is what it says of the code point 0.
+///
+/// - `Memory`: memory ran out.
+fn turns<B: Records>(
+    alloc: Global,
+    bench: &B,
+    pieces: &[Span],
+    test: Test,
+    starts: bool,
+) -> Result<Vec<u32>, Memory>
+    ensures { IfOk result (λ edges. edges.items ≡ piece_edges point_count (λ c. tells test (B.record_of bench.now c)) starts pieces.now) }
+{
+    let mut edges = Vec::new(alloc);
+    let mut inside = starts;
+    'pieces: for piece in pieces {
+        let next = tells(test, bench.record(piece.lo));
+        emit(&mut edges, inside, next, piece.first())?;
+        inside = next;
+    }
+    emit(&mut edges, inside, false, point_count())?;
+    Ok(edges)
+}
+
+/// The set of Assigned or of a test of derived properties, over pieces of equal records. Each piece is looked at once.
+///
+/// - `Memory`: memory ran out.
+pub(crate) fn set_over<B: Records>(
+    alloc: Global,
+    bench: &B,
+    pieces: &[Span],
+    test: Test,
+) -> Result<PointSet, Memory>
+    requires { ∥ IsCut (B.record_of bench.now) 0 point_count pieces.now ∥₁ }
+    ensures { IfOk result (λ set. (c : ℕ) → has set c ≡ (nat_lt c point_count && tells test (B.record_of bench.now c))) }
+{
+    let starts = tells(test, bench.record(Point::at(0)));
+    let edges = turns(alloc, bench, pieces, test, starts)?;
+    Ok(PointSet::of_edges(starts, edges))
+}

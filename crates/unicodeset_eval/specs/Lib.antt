@@ -15,3 +15,8 @@ pub mod Given
 pub mod RowSetLaws
 pub mod Assigned
 pub mod IndexLaws
+pub mod Questions
+pub mod Answers
+pub mod Changes
+pub mod QuestionExamples
+pub mod Faults

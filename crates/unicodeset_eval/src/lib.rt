@@ -1,9 +1,12 @@
-//! Sets of code points by their edges. UTS #35, "Unicode Sets".
+//! What UnicodeSets mean: sets of code points by their edges, the sets of tests, and the members of a tree. UTS #35,
+//! "Unicode Sets".
 #![tactic(auto)]
 
 mod asking;
 mod assigned;
+mod changes;
 mod covering;
+mod evaluation;
 mod index;
 mod laws;
 mod merging;
@@ -11,13 +14,16 @@ mod numbers;
 mod point_set;
 mod row_sets;
 mod splitting;
+mod stop;
 mod test_sets;
 mod testing;
 mod unions;
 
+pub use evaluation::eval_over;
 pub use index::SetIndex;
-pub use laws::equal_members_have_equal_edges;
+pub use laws::{equal_members_have_equal_edges, first_fault_is_told};
 pub use point_set::PointSet;
+pub use stop::{EvalStop, NameRule};
 pub use test_sets::TestSets;
 
 #[cfg(test)]

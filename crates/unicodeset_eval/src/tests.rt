@@ -1,10 +1,12 @@
-//! Sets of code points, and their spans.
+//! Sets of code points and their spans, and what UnicodeSets mean.
 
 use crate::*;
+use property_aliases::{Aliases, Test};
+use release_rows::Release;
 use std::alloc::Global;
 use std::test::Fail;
-use ucd_model::{Point, Span};
-use unicodeset_parser::Join;
+use ucd_model::{Memory, Point, Span, Spans};
+use unicodeset_parser::{Join, parse};
 
 /// The span of two numbers.
 fn span(lo: u32, hi: u32) -> Result<Span, Fail> {
@@ -29,7 +31,11 @@ pub(crate) fn has_spans(
     set: &PointSet,
     expected: &[(u32, u32)],
 ) -> Result<bool, Fail> {
-    let spans = set.spans(alloc)?;
+    are(alloc, &set.spans(alloc)?, expected)
+}
+
+/// Whether spans are these.
+fn are(alloc: Global, spans: &Spans, expected: &[(u32, u32)]) -> Result<bool, Fail> {
     let mut pairs = Vec::new(alloc);
     for span in spans.as_slice() {
         pairs.push((span.first(), span.last()))?;
@@ -69,5 +75,74 @@ fn complements_end_with_the_last_code_point(rt: HostRuntime) -> Result<(), Fail>
     assert!(rt; has_spans(alloc, &others, &[(0, 0x10_FFFD)])?);
     let back = others.complement();
     assert!(rt; has_spans(alloc, &back, &[(0x10_FFFE, 0x10_FFFF)])?);
+    Ok(())
+}
+
+/// Tests that all hold of the code points of one span.
+struct OneSpan {
+    span: Span,
+}
+
+impl TestSets for OneSpan {
+    ghost use Rattle.unicodeset_eval.specs.Members.{between};
+
+    ghost holds = { λ s test. between s.span };
+
+    fn set_of(&self, alloc: Global, _test: Test) -> Result<PointSet, Memory> {
+        PointSet::of_span(alloc, self.span)
+    }
+}
+
+/// Texts with the spans of their members, if each test holds of A to Z. The first is the example of UTS #35.
+const ANSWERS: [(&[u8], &[(u32, u32)]); 6] = [
+    (b"[[ace][bdf] - [abc][def]]", &[(0x64, 0x66)]),
+    (b"[[a-z]-[aeiou]&[b-d]]", &[(0x62, 0x64)]),
+    (b"[\\p{Lu}&[A-C]x]", &[(0x41, 0x43), (0x78, 0x78)]),
+    (b"\\P{gc=Lu}", &[(0, 0x40), (0x5b, 0x10_ffff)]),
+    (
+        b"[^[:Lu:][a-z]]",
+        &[(0, 0x40), (0x5b, 0x60), (0x7b, 0x10_ffff)],
+    ),
+    (b"[]", &[]),
+];
+
+/// Texts with the first name that means nothing.
+const FAULTS: [(&[u8], NameRule, usize); 5] = [
+    (b"[\\p{gc=x}\\p{y}]", NameRule::S9, 1),
+    (b"[\\p{y}\\p{gc=x}]", NameRule::S8, 1),
+    (b"[[a]\\p{Lu}-[^\\P{y=Lu}]]", NameRule::S8, 13),
+    (b"[:gc=:]", NameRule::S9, 0),
+    (b"[:^:]", NameRule::S8, 0),
+];
+
+#[test]
+fn sets_have_their_members(rt: HostRuntime) -> Result<(), Fail> {
+    let alloc = rt.alloc();
+    let aliases = Aliases::of(alloc, &Release::empty(alloc))?;
+    let index = OneSpan {
+        span: span(0x41, 0x5a)?,
+    };
+    for (text, expected) in &ANSWERS {
+        let spans = eval_over(alloc, &index, &aliases, &parse(alloc, text)?)?;
+        assert!(rt; are(alloc, &spans, expected)?);
+    }
+    Ok(())
+}
+
+#[test]
+fn the_first_name_without_meaning_is_told(rt: HostRuntime) -> Result<(), Fail> {
+    let alloc = rt.alloc();
+    let aliases = Aliases::of(alloc, &Release::empty(alloc))?;
+    let index = OneSpan {
+        span: span(0x41, 0x5a)?,
+    };
+    for (text, rule, at) in &FAULTS {
+        let stop = eval_over(alloc, &index, &aliases, &parse(alloc, text)?).err();
+        let expected = EvalStop::Fault {
+            rule: *rule,
+            at: *at,
+        };
+        assert!(rt; stop == Some(expected));
+    }
     Ok(())
 }

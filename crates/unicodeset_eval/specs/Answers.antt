@@ -1,0 +1,26 @@
+-- What the code answers, and what is wanted.
+--
+-- Gives view result wanted   the result shows what is wanted: the value, or the fault with its rule and place. Want of memory says nothing
+-- names_in a                 what names mean by a table of aliases
+-- names_are                  those are what they mean by the rows of which the table is
+use Rattle.std.specs.Prelude.{◌≡◌, Result, Ok, Err}
+use Rattle.property_aliases.specs.Found.{AreAliasesOf, property_in, value_in, lone_in}
+use Rattle.property_aliases.specs.Sources.{Sources}
+use Rattle.property_aliases.specs.declared.aliases.Aliases.{Aliases}
+use Rattle.unicodeset_eval.specs.Questions.{NameFault, fault, Names, names_of}
+use Rattle.unicodeset_eval.specs.declared.stop.EvalStop.{EvalStop}
+use Rattle.unicodeset_eval.specs.declared.stop.EvalStop.TheVariants.{Fault, Memory}
+
+abbrev pub Stops : {T : Type 0} → EvalStop → Result T NameFault → Type 0
+Stops (Fault rule at) wanted = wanted ≡ Err (fault rule at)
+Stops Memory wanted = Unit
+
+abbrev pub Gives : {X T : Type 0} → (X → T) → Result X EvalStop → Result T NameFault → Type 0
+Gives view (Ok x) wanted = wanted ≡ Ok (view x)
+Gives view (Err stop) wanted = Stops stop wanted
+
+abbrev pub names_in : Aliases → Names
+names_in a = record { property = property_in a; value = value_in a; lone = lone_in a }
+
+pub names_are : (a : Aliases) (s : Sources) → AreAliasesOf a s → names_in a ≡ names_of s
+names_are a s are = λ i. record { property = λ name. are.property name i; value = λ p name. are.value p name i; lone = λ name. are.lone name i }

@@ -30,3 +30,6 @@ stops_too n Memory m is = tt
 pub answer_stops : (n : ℕ) (a : Aliases) (s : Sources) (tests : Test → ℕ → Bool) (t : Tree) (stop : EvalStop) → AreAliasesOf a s →
     Stops stop (members (names_in a) tests t) → Stops stop (answer s tests n t)
 answer_stops n a s tests t stop are is = stops_too n stop (members (names_of s) tests t) (subst (Stops stop) (same_members a s tests t are) is)
+
+pub answer_by : (n : ℕ) (s : Sources) (tests told : Test → ℕ → Bool) (t : Tree) → ((test : Test) (c : ℕ) → tests test c ≡ told test c) → answer s tests n t ≡ answer s told n t
+answer_by n s tests told t same = ap (λ (f : Test → ℕ → Bool). answer s f n t) (λ i test c. same test c i)

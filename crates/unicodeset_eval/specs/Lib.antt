@@ -20,3 +20,4 @@ pub mod Answers
 pub mod Changes
 pub mod QuestionExamples
 pub mod Faults
+pub mod ReleaseTests

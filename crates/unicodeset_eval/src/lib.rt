@@ -12,6 +12,7 @@ mod laws;
 mod merging;
 mod numbers;
 mod point_set;
+mod release_eval;
 mod row_sets;
 mod splitting;
 mod stop;
@@ -23,6 +24,7 @@ pub use evaluation::eval_over;
 pub use index::SetIndex;
 pub use laws::{equal_members_have_equal_edges, first_fault_is_told};
 pub use point_set::PointSet;
+pub use release_eval::eval;
 pub use stop::{EvalStop, NameRule};
 pub use test_sets::TestSets;
 

@@ -1,0 +1,44 @@
+//! The answer of a UnicodeSet by the rows of a release.
+
+ghost use Rattle.std.specs.Prelude.{◌≡◌, ℕ, ◌<◌};
+ghost use Rattle.property_aliases.specs.Found.{AreAliasesOf};
+ghost use Rattle.property_aliases.specs.Sources.{sources_of};
+ghost use Rattle.ucd_model.specs.Facts.{facts};
+ghost use Rattle.ucd_model.specs.Limits.{point_count};
+ghost use Rattle.unicodeset_eval.specs.Answers.{Gives};
+ghost use Rattle.unicodeset_eval.specs.Questions.{answer};
+ghost use Rattle.unicodeset_eval.specs.ReleaseTests.{release_tests};
+ghost use Rattle.unicodeset_eval.specs.Tests.{rows_of};
+ghost use Rattle.unicodeset_parser.specs.Views.{tree_view};
+
+use crate::evaluation::eval_over;
+use crate::index::SetIndex;
+use crate::stop::EvalStop;
+use property_aliases::Aliases;
+use release_rows::Release;
+use std::alloc::Global;
+use ucd_model::{Records, Spans, equal_pieces};
+use unicodeset_parser::Expr;
+
+/// The members of a UnicodeSet as maximal ascending spans, by the rows of a release now and by what is derived of them.
+/// UTS #35, "Unicode Sets". Whoever asks more than once makes the index once, and asks by [`eval_over`].
+///
+/// - `Fault`: the first name without meaning, in the order of the text. S8: no property has the name, or the name that
+///   stands alone means nothing. S9: the property has no such value. The place is where the property begins.
+/// - `Memory`: memory ran out.
+pub fn eval<B: Records>(
+    alloc: Global,
+    bench: &B,
+    release: &Release,
+    aliases: &Aliases,
+    expr: &Expr,
+) -> Result<Spans, EvalStop>
+    requires aliases { AreAliasesOf aliases.now (sources_of release.now) }
+    requires categories { (c : ℕ) → c < point_count → (B.record_of bench.now c).category ≡ (facts (rows_of release.now) c).category }
+    ensures { Gives (λ spans. spans) result
+        (answer (sources_of release.now) (release_tests (B.record_of bench.now) (rows_of release.now)) point_count (tree_view expr.now)) }
+{
+    let pieces = equal_pieces(alloc, bench)?;
+    let index = SetIndex::of(alloc, bench, pieces.as_slice(), release)?;
+    eval_over(alloc, &index, aliases, expr)
+}

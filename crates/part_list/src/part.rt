@@ -1,6 +1,7 @@
 //! A part of a list, now and next.
 
-ghost use Rattle.std.specs.Prelude.{◌≡◌, ◌+◌, ◌<◌, ◌≤◌, [], ◌∷◌, ◌++◌, true, false, length, take, IfOk, OnOk, OnErr};
+ghost use Rattle.std.specs.Prelude.{◌≡◌, ◌+◌, ◌<◌, ◌≤◌, [], ◌∷◌, ◌++◌, true, false, length, take, drop, IfOk, OnOk, OnErr};
+ghost use Rattle.std.specs.List.{position_or_len};
 ghost use Rattle.part_list.specs.Parts.{spliced};
 ghost use Rattle.std.specs.Option.{option_to_list};
 ghost use Rattle.part_list.specs.Finds.{FirstIn, LastIn};
@@ -77,23 +78,34 @@ fn spliced<T: Copy>(
     Ok(ListOf::from_vec(new))
 }
 
-/// Whether an entry passes. Of most that do not their bounds tell it, which is the shorter test.
-fn entry_passes<T: Copy, S: Seek<T>>(entry: &Spanned<T>, seek: &S) -> bool
-    ensures { result ≡ S.passing seek.now entry.now }
+/// The place from `from` on of the first entry that its bounds do not rule out; the length where they rule out all. The
+/// loop calls nothing, so it is a few comparisons for each entry.
+fn next_candidate<T: Copy, S: Seek<T>>(entries: &[Spanned<T>], seek: &S, from: usize) -> usize
+    requires from { from ≤ length entries.now }
+    ensures within { result ≤ length entries.now }
+    ensures from { from ≤ result }
+    ensures none { position_or_len (S.passing seek.now) (drop from entries.now) + from ≡ position_or_len (S.passing seek.now) (drop result entries.now) + result }
 {
-    !seek.skips(Reach::NONE.with(entry)) && seek.passes(entry)
+    let mut at = from;
+    'entries: while at < entries.len() {
+        if !seek.skips(Reach::NONE.with(&entries[at])) {
+            return at;
+        }
+        at += 1;
+    }
+    at
 }
 
 /// The place of the first entry that passes.
 fn first_in<T: Copy, S: Seek<T>>(entries: &[Spanned<T>], seek: &S) -> Option<usize>
     ensures { FirstIn result (S.passing seek.now) entries.now }
 {
-    let mut at = 0;
+    let mut at = next_candidate(entries, seek, 0);
     'entries: while at < entries.len() {
-        if entry_passes(&entries[at], seek) {
+        if seek.passes(&entries[at]) {
             return Some(at);
         }
-        at += 1;
+        at = next_candidate(entries, seek, at + 1);
     }
     None
 }

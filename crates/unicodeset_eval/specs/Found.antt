@@ -6,7 +6,7 @@
 -- has_at sets k c             whether the set with number k has c; never where the number is not used
 -- AreRowSets sets rows        the sets of scripts, of word breaks and of listed properties are those that the rows give
 -- says R sets test c          what the records and these sets say of c
-use Rattle.std.specs.Prelude.{◌≡◌, ℕ, Bool, true, false, not, ◌&&◌, ◌==◌, nat_lt, List, [], slice_index_or}
+use Rattle.std.specs.Prelude.{◌≡◌, ℕ, Bool, true, false, not, ◌==◌, nat_lt, List, [], slice_index_or}
 use Rattle.ucd_model.specs.Facts.{Sources}
 use Rattle.ucd_model.specs.Predicates.{category_place}
 use Rattle.ucd_model.specs.Records.{Record}

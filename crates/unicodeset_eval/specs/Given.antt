@@ -6,7 +6,7 @@
 -- defaults_are                           the set of the default's number has what no row covers too
 -- spans_cover                            the spans of rows are what they cover
 -- pushed                                 one set more
-use Rattle.std.proofs.Common.{◌≡◌, ℕ, zero, suc, ◌+◌, ◌<◌, ◌≤◌, Bool, true, false, not, ◌&&◌, ◌||◌, List, [], ◌∷◌, ◌++◌, map, length, Option, Some, None, refl, sym, ap, ◌∙◌, arith, inl, inr}
+use Rattle.std.proofs.Common.{◌≡◌, ℕ, zero, suc, ◌<◌, ◌≤◌, Bool, true, false, not, ◌&&◌, ◌||◌, List, [], ◌∷◌, ◌++◌, map, length, Option, Some, None, refl, sym, ap, ◌∙◌, arith, inl, inr}
 use Rattle.std.specs.Prelude.{slice_get, slice_index_or, nat_eq, IfSome}
 use Rattle.std.specs.List.{IsDistinct, flat_map, list_any}
 use Rattle.std.proofs.Math.ListN.{get_or-eq_default}

@@ -2,13 +2,13 @@
 --
 -- numbered_is   of a file where no two rows cover a code point: the rows that give a name, and what no row covers for the default
 -- listed_is     of PropList.txt: the rows that give a name
-use Rattle.std.proofs.Common.{◌≡◌, ℕ, Bool, true, false, not, ◌&&◌, ◌||◌, List, ◌∷◌, Option, Some, None, refl, sym, ap, ◌∙◌}
+use Rattle.std.proofs.Common.{◌≡◌, ℕ, Bool, true, false, not, ◌&&◌, ◌||◌, List, ◌∷◌, Option, Some, None, refl, ap, ◌∙◌}
 use Rattle.std.specs.Prelude.{slice_get}
 use Rattle.std.specs.List.{list_any}
 use Rattle.std.specs.Option.{option_map_or}
 use Rattle.std.specs.Str.{bytes_eq}
 use Rattle.ucd_model.specs.Facts.{gives_value}
-use Rattle.ucd_model.specs.Values.{gives_some, value_at}
+use Rattle.ucd_model.specs.Values.{value_at}
 use Rattle.ucd_model.specs.declared.files.SourceFile.{SourceFile}
 use Rattle.property_aliases.specs.Sources.{in_order, value_names}
 use Rattle.release_rows.specs.FileItems.{FileItem, rows_in}

@@ -1,24 +1,26 @@
 -- What tests say of some code points of Unicode 15.0.0, by lines of its files.
 --
 -- line lo hi value   a line of a span and a value
--- sample             Scripts.txt: 0041..005A and 0061..007A are Latin, 0370..0373 is Greek. WordBreakProperty.txt: 0022 is
---                    Double_Quote, 0027 is Single_Quote. PropList.txt: 0009..000D and 0020 are White_Space, 0020 is
---                    Pattern_White_Space too
+-- letter_a           the line of LATIN CAPITAL LETTER A
+-- sample             UnicodeData.txt: that line. Scripts.txt: 0041..005A and 0061..007A are Latin, 0370..0373 is Greek.
+--                    WordBreakProperty.txt: 0022 is Double_Quote, 0027 is Single_Quote. PropList.txt: 0009..000D and 0020 are
+--                    White_Space, and 0020 is Pattern_White_Space too
 -- values k           a record of category k, class 230 and kind Canonical, with Alphabetic alone, of which NFC's check is Maybe
-use Rattle.std.proofs.Common.{◌≡◌, ℕ, Bool, true, false, ◌==◌, List, [], ◌∷◌, map, refl, codes}
+use Rattle.std.proofs.Common.{◌≡◌, ℕ, Bool, true, false, ◌==◌, List, [], ◌∷◌, Some, None, map, refl, codes}
 use Rattle.ucd_model.specs.Facts.{Sources}
 use Rattle.ucd_model.specs.Records.{Record}
 use Rattle.ucd_model.specs.Sets.{core_place}
 use Rattle.ucd_model.specs.declared.category.Category.{Category}
-use Rattle.ucd_model.specs.declared.category.Category.TheVariants.{Lt, Lm, Mn, Mc, Nl, Pi, Sk, Zl, Cn}
+use Rattle.ucd_model.specs.declared.category.Category.TheVariants.{Lu, Lt, Lm, Mn, Mc, Nl, Pi, Sk, Zl, Cn}
 use Rattle.ucd_model.specs.declared.decomposition.Kind.TheVariants.{Plain, Canonical}
-use Rattle.ucd_model.specs.declared.files.SourceFile.TheVariants.{PropList, Scripts, WordBreakProperty}
+use Rattle.ucd_model.specs.declared.files.SourceFile.TheVariants.{UnicodeData, PropList, Scripts, WordBreakProperty}
 use Rattle.ucd_model.specs.declared.form.Form.TheVariants.{Nfd, Nfc}
 use Rattle.ucd_model.specs.declared.form.Quick.TheVariants.{Yes, No, Maybe}
 use Rattle.ucd_model.specs.declared.image.Image.TheVariants.{Same}
 use Rattle.ucd_model.specs.declared.property.Core.TheVariants.{Math, Alphabetic}
+use Rattle.ucd_model.specs.declared.row.DataRow.{DataRow}
 use Rattle.ucd_model.specs.declared.row.Row.{Row}
-use Rattle.ucd_model.specs.declared.row.Row.TheVariants.{Value as ValueLine}
+use Rattle.ucd_model.specs.declared.row.Row.TheVariants.{Unit as DataLine, Value as ValueLine}
 use Rattle.property_aliases.specs.declared.property.Group.TheVariants.{L, LC, M, N, P, S, Z, C}
 use Rattle.property_aliases.specs.declared.property.Test.{Test}
 use Rattle.property_aliases.specs.declared.property.Test.TheVariants.{Any, Ascii, Assigned, Group, Category as CategoryTest, Script, Class, Decomposition, WordBreak, Quick, Core, Exclusion, ChangesCasefold, Listed}
@@ -27,8 +29,12 @@ use Rattle.unicodeset_eval.specs.Tests.{passes, test_holds}
 abbrev line : ℕ → ℕ → List ℕ → Row
 line lo hi value = ValueLine (record { span = record { lo = lo; hi = hi }; value = value })
 
+abbrev letter_a : DataRow
+letter_a = record { span = record { lo = 0x41; hi = 0x41 }; range = false; name = codes "LATIN CAPITAL LETTER A"; category = Lu; class = 0; kind = Plain; mapping = []; upper = None; lower = Some 0x61; title = None; kept = record { f4 = codes "L"; f6 = []; f7 = []; f8 = []; f9 = codes "N"; f10 = []; f11 = [] } }
+
 abbrev sample : Sources
 sample Scripts = line 0x41 0x5A (codes "Latin") ∷ line 0x61 0x7A (codes "Latin") ∷ line 0x370 0x373 (codes "Greek") ∷ []
+sample UnicodeData = DataLine letter_a ∷ []
 sample WordBreakProperty = line 0x22 0x22 (codes "Double_Quote") ∷ line 0x27 0x27 (codes "Single_Quote") ∷ []
 sample PropList = line 0x9 0xD (codes "White_Space") ∷ line 0x20 0x20 (codes "White_Space") ∷ line 0x20 0x20 (codes "Pattern_White_Space") ∷ []
 sample _ = []
@@ -70,10 +76,10 @@ listed_examples : (map (says (Listed 0 true)) (0x9 ∷ 0x20 ∷ 0x41 ∷ []) ≡
     × (map (says (Listed 2 true)) (0x9 ∷ 0x20 ∷ 0x41 ∷ []) ≡ false ∷ false ∷ false ∷ [])
 listed_examples = (refl, refl, refl, refl)
 
--- the last of ASCII, and the first behind; no row of UnicodeData.txt is in the sample
+-- the last of ASCII, and the first behind; a code point with a row, and one without
 other_examples : (map (says Any) (0x0 ∷ 0x10FFFF ∷ []) ≡ true ∷ true ∷ [])
     × (map (says Ascii) (0x0 ∷ 0x7F ∷ 0x80 ∷ []) ≡ true ∷ true ∷ false ∷ [])
-    × (says Assigned 0x41 ≡ false)
+    × (map (says Assigned) (0x40 ∷ 0x41 ∷ 0x42 ∷ []) ≡ false ∷ true ∷ false ∷ [])
 other_examples = (refl, refl, refl)
 
 -- a titlecase letter is a cased letter, a modifier letter is none; an unassigned code point is in C

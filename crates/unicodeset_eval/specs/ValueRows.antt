@@ -10,7 +10,7 @@
 -- IsApart c rows       no two rows with a value cover c
 -- kept_apart           rows that are kept are apart in a file whose keys have no names
 -- value_is             where rows are apart, the value of the row that covers c is v, or there is no row and v is the default
-use Rattle.std.proofs.Common.{◌≡◌, ℕ, ◌+◌, Bool, true, false, cond, not, ◌&&◌, ◌||◌, List, [], ◌∷◌, ◌++◌, map, Option, Some, None, find, refl, sym, ap, subst, ◌∙◌, arith}
+use Rattle.std.proofs.Common.{◌≡◌, ℕ, ◌+◌, Bool, true, false, cond, not, ◌&&◌, ◌||◌, List, [], ◌∷◌, ◌++◌, Option, Some, None, refl, sym, ap, subst, ◌∙◌, arith}
 use Rattle.std.specs.Prelude.{nat_le}
 use Rattle.std.specs.List.{flat_map, list_any}
 use Rattle.std.specs.Str.{bytes_eq}
@@ -18,9 +18,8 @@ use Rattle.std.proofs.lemmas.Bool.{true≢false, and_parts, and_from, or_parts, 
 use Rattle.std.proofs.lemmas.Bool.Decides.{nat_tests}
 use Rattle.std.proofs.lemmas.List.{append-nil}
 use Rattle.std.proofs.lemmas.List.Folds.{list_any-append}
-use Rattle.ucd_model.specs.Bounds.{Bounds}
 use Rattle.ucd_model.specs.Facts.{within, gives_value}
-use Rattle.ucd_model.specs.Values.{gives_some, value_in, value_at}
+use Rattle.ucd_model.specs.Values.{gives_some, value_at}
 use Rattle.ucd_model.specs.declared.files.SourceFile.{SourceFile}
 use Rattle.ucd_model.specs.declared.row.ValueRow.{ValueRow}
 use Rattle.ucd_model.specs.declared.row.Row.{Row}

@@ -1,11 +1,11 @@
-use Rattle.std.proofs.Common.{◌≡◌, ◌∙◌, ◌&&◌, ◌<◌, ℕ, Bool, List, refl, sym, ap, subst, arith}
+use Rattle.std.proofs.Common.{◌&&◌, ◌<◌, ℕ, subst, arith}
 use Rattle.std.specs.Prelude.{nat_lt}
 use Rattle.std.proofs.Math.Bool.{Bool-set}
 use Rattle.std.proofs.Math.Logic.{∥∥₁_elim}
 use Rattle.ucd_model.specs.CutLemmas.{point_count-is}
 use Rattle.ucd_model.specs.Limits.{point_count}
 use Rattle.ucd_model.specs.Records.{Record, ShowsRecord}
-use Rattle.unicodeset_eval.specs.Edges.{Rises, inside}
+use Rattle.unicodeset_eval.specs.Edges.{inside}
 use Rattle.unicodeset_eval.specs.Found.{tells}
 use Rattle.unicodeset_eval.specs.PieceSets.{piece_edges, piece_edges_are, piece_edges_rise_all, rises_prop}
 use Rattle.unicodeset_eval.proofs.testing.set_over.Goals as goal

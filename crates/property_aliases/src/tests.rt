@@ -3,6 +3,7 @@
 use crate::*;
 use release_rows::Release;
 use std::alloc::Global;
+use std::process::Abort;
 use std::test::Fail;
 use ucd_model::Category::{Cn, Lu, Nd};
 use ucd_model::{Core, Form, Kind, Quick, SourceFile, Tag};
@@ -72,10 +73,19 @@ fn release(alloc: Global) -> Result<Release, Fail> {
     Ok(release)
 }
 
+/// What names mean by that release.
+fn aliases(alloc: Global) -> Result<Aliases, Fail> {
+    let release = release(alloc)?;
+    Ok(Aliases::of(alloc, &release)?)
+}
+
 #[test]
 fn names_match_loosely(rt: HostRuntime) -> Result<(), Fail> {
-    let alloc = rt.alloc();
-    let aliases = Aliases::of(alloc, &release(alloc)?)?;
+    let aliases = aliases(rt.alloc())?;
+    properties_are_found(&rt, rt.alloc(), &aliases)
+}
+
+fn properties_are_found(rt: &impl Abort, alloc: Global, aliases: &Aliases) -> Result<(), Fail> {
     let cases: [(&[u8], Option<Property>); 16] = [
         (b"gc", Some(Property::Category)),
         (b"General_Category", Some(Property::Category)),
@@ -102,8 +112,11 @@ fn names_match_loosely(rt: HostRuntime) -> Result<(), Fail> {
 
 #[test]
 fn names_are_numbered(rt: HostRuntime) -> Result<(), Fail> {
-    let alloc = rt.alloc();
-    let aliases = Aliases::of(alloc, &release(alloc)?)?;
+    let aliases = aliases(rt.alloc())?;
+    numbers_are_found(&rt, &aliases)
+}
+
+fn numbers_are_found(rt: &impl Abort, aliases: &Aliases) -> Result<(), Fail> {
     let scripts: [(u64, Option<&[u8]>); 4] = [
         (0, Some(b"Unknown")),
         (1, Some(b"Latin")),
@@ -156,8 +169,11 @@ const VALUE_CASES: [(Property, &[u8], Option<Test>); 29] = [
 
 #[test]
 fn values_have_names(rt: HostRuntime) -> Result<(), Fail> {
-    let alloc = rt.alloc();
-    let aliases = Aliases::of(alloc, &release(alloc)?)?;
+    let aliases = aliases(rt.alloc())?;
+    values_are_found(&rt, rt.alloc(), &aliases)
+}
+
+fn values_are_found(rt: &impl Abort, alloc: Global, aliases: &Aliases) -> Result<(), Fail> {
     for (property, name, test) in VALUE_CASES {
         assert!(rt; aliases.value(alloc, property, name)? == test);
     }
@@ -185,8 +201,11 @@ const LONE_CASES: [(&[u8], Option<Test>); 15] = [
 
 #[test]
 fn names_stand_alone(rt: HostRuntime) -> Result<(), Fail> {
-    let alloc = rt.alloc();
-    let aliases = Aliases::of(alloc, &release(alloc)?)?;
+    let aliases = aliases(rt.alloc())?;
+    lone_names_are_found(&rt, rt.alloc(), &aliases)
+}
+
+fn lone_names_are_found(rt: &impl Abort, alloc: Global, aliases: &Aliases) -> Result<(), Fail> {
     for (name, test) in LONE_CASES {
         assert!(rt; aliases.lone(alloc, name)? == test);
     }

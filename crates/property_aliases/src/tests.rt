@@ -79,6 +79,26 @@ fn aliases(alloc: Global) -> Result<Aliases, Fail> {
     Ok(Aliases::of(alloc, &release)?)
 }
 
+/// Names of properties, and what they mean by `release`.
+const PROPERTY_CASES: [(&[u8], Option<Property>); 16] = [
+    (b"gc", Some(Property::Category)),
+    (b"General_Category", Some(Property::Category)),
+    (b"generalcategory", Some(Property::Category)),
+    (b"GENERAL-category ", Some(Property::Category)),
+    (b"isGeneral_Category", Some(Property::Category)),
+    (b"ccc", Some(Property::Class)),
+    (b"NFKC_QC", Some(Property::Quick(Form::Nfkc))),
+    (b"Alpha", Some(Property::Core(Core::Alphabetic))),
+    (b"Gr_Link", Some(Property::Core(Core::GraphemeLink))),
+    (b"CWKCF", Some(Property::ChangesCasefold)),
+    (b"White_Space", Some(Property::Listed(0))),
+    (b"space", Some(Property::Listed(0))),
+    (b"is NChar", Some(Property::Listed(1))),
+    (b"age", None),
+    (b"is", None),
+    (b"", None),
+];
+
 #[test]
 fn names_match_loosely(rt: HostRuntime) -> Result<(), Fail> {
     let aliases = aliases(rt.alloc())?;
@@ -86,46 +106,35 @@ fn names_match_loosely(rt: HostRuntime) -> Result<(), Fail> {
 }
 
 fn properties_are_found(rt: &impl Abort, alloc: Global, aliases: &Aliases) -> Result<(), Fail> {
-    let cases: [(&[u8], Option<Property>); 16] = [
-        (b"gc", Some(Property::Category)),
-        (b"General_Category", Some(Property::Category)),
-        (b"generalcategory", Some(Property::Category)),
-        (b"GENERAL-category ", Some(Property::Category)),
-        (b"isGeneral_Category", Some(Property::Category)),
-        (b"ccc", Some(Property::Class)),
-        (b"NFKC_QC", Some(Property::Quick(Form::Nfkc))),
-        (b"Alpha", Some(Property::Core(Core::Alphabetic))),
-        (b"Gr_Link", Some(Property::Core(Core::GraphemeLink))),
-        (b"CWKCF", Some(Property::ChangesCasefold)),
-        (b"White_Space", Some(Property::Listed(0))),
-        (b"space", Some(Property::Listed(0))),
-        (b"is NChar", Some(Property::Listed(1))),
-        (b"age", None),
-        (b"is", None),
-        (b"", None),
-    ];
-    for (name, property) in cases {
-        assert_eq!(rt; aliases.property(alloc, name)?, property);
+    for (name, property) in &PROPERTY_CASES {
+        assert_eq!(rt; aliases.property(alloc, name)?, *property);
     }
     Ok(())
 }
 
+/// Scripts by their numbers, by `release`.
+const SCRIPT_CASES: [(u64, Option<&[u8]>); 4] = [
+    (0, Some(b"Unknown")),
+    (1, Some(b"Latin")),
+    (2, Some(b"Greek")),
+    (3, None),
+];
+
 #[test]
 fn names_are_numbered(rt: HostRuntime) -> Result<(), Fail> {
     let aliases = aliases(rt.alloc())?;
-    numbers_are_found(&rt, &aliases)
+    scripts_are_found(&rt, &aliases)?;
+    others_are_found(&rt, &aliases)
 }
 
-fn numbers_are_found(rt: &impl Abort, aliases: &Aliases) -> Result<(), Fail> {
-    let scripts: [(u64, Option<&[u8]>); 4] = [
-        (0, Some(b"Unknown")),
-        (1, Some(b"Latin")),
-        (2, Some(b"Greek")),
-        (3, None),
-    ];
-    for (number, name) in scripts {
-        assert!(rt; aliases.script_name(number) == name);
+fn scripts_are_found(rt: &impl Abort, aliases: &Aliases) -> Result<(), Fail> {
+    for (number, name) in &SCRIPT_CASES {
+        assert!(rt; aliases.script_name(*number) == *name);
     }
+    Ok(())
+}
+
+fn others_are_found(rt: &impl Abort, aliases: &Aliases) -> Result<(), Fail> {
     let other: Option<&[u8]> = Some(b"Other");
     assert!(rt; aliases.break_name(0) == other);
     let second: Option<&[u8]> = Some(b"Noncharacter_Code_Point");
@@ -174,8 +183,8 @@ fn values_have_names(rt: HostRuntime) -> Result<(), Fail> {
 }
 
 fn values_are_found(rt: &impl Abort, alloc: Global, aliases: &Aliases) -> Result<(), Fail> {
-    for (property, name, test) in VALUE_CASES {
-        assert!(rt; aliases.value(alloc, property, name)? == test);
+    for (property, name, test) in &VALUE_CASES {
+        assert!(rt; aliases.value(alloc, *property, name)? == *test);
     }
     Ok(())
 }
@@ -206,8 +215,8 @@ fn names_stand_alone(rt: HostRuntime) -> Result<(), Fail> {
 }
 
 fn lone_names_are_found(rt: &impl Abort, alloc: Global, aliases: &Aliases) -> Result<(), Fail> {
-    for (name, test) in LONE_CASES {
-        assert!(rt; aliases.lone(alloc, name)? == test);
+    for (name, test) in &LONE_CASES {
+        assert!(rt; aliases.lone(alloc, name)? == *test);
     }
     Ok(())
 }

@@ -125,10 +125,12 @@ impl FileText {
         ensures answer { let op = Add self.old.file row.now bytes.now in
             AnswersOp result (edited self.old.next op) (touched self.old.next op) self.old.next self.new.next }
     {
+        let gap = {
+            let key = row_key(alloc, self.file, row)?;
+            let search = search_row(self.file, self.text.as_slice(), row, &key, bytes);
+            added_gap(&self.items, &search)?
+        };
         let spans = row_spans(alloc, row)?;
-        let key = row_key(alloc, self.file, row)?;
-        let search = search_row(self.file, self.text.as_slice(), row, &key, bytes);
-        let gap = added_gap(&self.items, &search)?;
         let Some(added) = self.added.checked_add(1) else {
             return Err(OpStop::Memory);
         };
@@ -152,9 +154,11 @@ impl FileText {
         ensures answer { let op = Change self.old.file row.now bytes.now in
             AnswersOp result (edited self.old.next op) (touched self.old.next op) self.old.next self.new.next }
     {
-        let key = row_key(alloc, self.file, row)?;
-        let search = search_row(self.file, self.text.as_slice(), row, &key, bytes);
-        let spot = changed_spot(&self.items, &search)?;
+        let spot = {
+            let key = row_key(alloc, self.file, row)?;
+            let search = search_row(self.file, self.text.as_slice(), row, &key, bytes);
+            changed_spot(&self.items, &search)?
+        };
         let old = self.items.get(spot);
         let spans = both_spans(alloc, self.file, &old, row)?;
         self.whole = false;

@@ -182,9 +182,8 @@ kept_given word rest rows c keeps images =
     }
 
 -- facts are those of six files
-pub same_facts : (s t : Sources) → s UnicodeData ≡ t UnicodeData → s CaseFolding ≡ t CaseFolding → s SpecialCasing ≡ t SpecialCasing → s PropList ≡ t PropList → s WordBreakProperty ≡ t WordBreakProperty → s CompositionExclusions ≡ t CompositionExclusions → facts s ≡ facts t
-unfolding facts
-same_facts s t units foldings casings properties breaks exclusions = fun_ext (λ c. rw (units, foldings, casings, properties, breaks, exclusions) refl)
+pub same_given : (s t : Sources) → s UnicodeData ≡ t UnicodeData → s CaseFolding ≡ t CaseFolding → s SpecialCasing ≡ t SpecialCasing → s PropList ≡ t PropList → s WordBreakProperty ≡ t WordBreakProperty → s CompositionExclusions ≡ t CompositionExclusions → (c : ℕ) → given s c ≡ given t c
+same_given s t units foldings casings properties breaks exclusions c = rw (units, foldings, casings, properties, breaks, exclusions) refl
 
 -- ---- as they are made
 

@@ -3,6 +3,7 @@
 -- word_in t c         the word of c
 -- first_alone xs      the first of a list alone; of an empty list nothing
 -- cases_in maps c     the images of c in the maps
+-- with_foldings a b   the foldings of a, and the casings of b
 -- rest_in t c         what is kept of c beside its word
 -- made_facts t c      the facts of c that the tables keep
 -- ShowsRows t rows c  these are the facts that the rows give, and the word is their packed word
@@ -33,6 +34,16 @@ cases_in maps c = record {
   lower = found maps.lower c;
   title = found maps.title c;
   upper = found maps.upper c;
+}
+
+abbrev pub with_foldings : Cases → Cases → Cases
+with_foldings a b = record {
+  common = a.common;
+  full = a.full;
+  simple = a.simple;
+  lower = b.lower;
+  title = b.title;
+  upper = b.upper;
 }
 
 abbrev pub rest_in : RowTables → ℕ → RestOf

@@ -8,7 +8,7 @@ ghost use Rattle.code_facts.specs.CaseMaps.{KeepsImages, KeepsFoldings, KeepsCas
 ghost use Rattle.code_facts.specs.Plain.{HoldsTo};
 ghost use Rattle.code_facts.specs.Rest.{cases_of, no_cases};
 ghost use Rattle.code_facts.specs.RowLists.{sources_of};
-ghost use Rattle.code_facts.specs.RowTables.{cases_in};
+ghost use Rattle.code_facts.specs.RowTables.{cases_in, with_foldings};
 
 use crate::case::Case;
 use crate::case_map::case_map;
@@ -118,14 +118,30 @@ impl CaseMaps {
     fn images(&self, alloc: Global, c: Point) -> Result<Cases, Memory>
         ensures { IfOk result (λ cases. cases ≡ cases_in self.now c) }
     {
-        Ok(Cases {
-            common: image_in(alloc, &self.common, c)?,
-            full: image_in(alloc, &self.full, c)?,
-            simple: image_in(alloc, &self.simple, c)?,
-            lower: image_in(alloc, &self.lower, c)?,
-            title: image_in(alloc, &self.title, c)?,
-            upper: image_in(alloc, &self.upper, c)?,
-        })
+        let mut cases = Cases::none();
+        self.put_folding_images(alloc, c, &mut cases)?;
+        self.put_casing_images(alloc, c, &mut cases)?;
+        Ok(cases)
+    }
+
+    /// Puts copies of the foldings of a code point in their place.
+    fn put_folding_images(&self, alloc: Global, c: Point, cases: &mut Cases) -> Result<(), Memory>
+        ensures { OnOk result (cases.new ≡ with_foldings (cases_in self.now c) cases.old) }
+    {
+        cases.common = image_in(alloc, &self.common, c)?;
+        cases.full = image_in(alloc, &self.full, c)?;
+        cases.simple = image_in(alloc, &self.simple, c)?;
+        Ok(())
+    }
+
+    /// Puts copies of the casings of a code point in their place.
+    fn put_casing_images(&self, alloc: Global, c: Point, cases: &mut Cases) -> Result<(), Memory>
+        ensures { OnOk result (cases.new ≡ with_foldings cases.old (cases_in self.now c)) }
+    {
+        cases.lower = image_in(alloc, &self.lower, c)?;
+        cases.title = image_in(alloc, &self.title, c)?;
+        cases.upper = image_in(alloc, &self.upper, c)?;
+        Ok(())
     }
 
     /// A code point up to which all maps have the same from `c` on.

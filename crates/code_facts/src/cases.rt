@@ -2,6 +2,7 @@
 
 ghost use Rattle.std.specs.Prelude.{◌≡◌};
 ghost use Rattle.std.specs.Option.{option_copied};
+ghost use Rattle.code_facts.specs.Rest.{no_cases};
 
 use ucd_model::{Point, Points};
 
@@ -20,6 +21,22 @@ pub struct Cases {
     pub title: Option<Points>,
     /// The full mapping to upper case without conditions.
     pub upper: Option<Points>,
+}
+
+impl Cases {
+    /// No images.
+    pub fn none() -> Cases
+        ensures { result ≡ no_cases }
+    {
+        Cases {
+            common: None,
+            full: None,
+            simple: None,
+            lower: None,
+            title: None,
+            upper: None,
+        }
+    }
 }
 
 /// The points of an image, where there is one.

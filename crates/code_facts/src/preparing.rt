@@ -6,8 +6,8 @@ ghost use Rattle.ucd_model.specs.Facts.{facts, within};
 ghost use Rattle.code_facts.specs.Copying.{with_spans};
 ghost use Rattle.code_facts.specs.FactTables.{tables_facts, tables_next};
 ghost use Rattle.code_facts.specs.KeptFacts.{Packs};
-ghost use Rattle.code_facts.specs.RowTables.{word_in, made_facts};
-ghost use Rattle.code_facts.specs.Rows.{release_sources, next_sources};
+ghost use Rattle.code_facts.specs.RowTables.{ShowsRows, word_in, made_facts};
+ghost use Rattle.code_facts.specs.Rows.{release_sources, next_sources, sources_at};
 ghost use Rattle.code_facts.specs.Word.{packed};
 
 use crate::copying::put_spans;
@@ -36,10 +36,19 @@ impl<T: Table<u64>> FactTables<T> {
         ensures now { IfOk result (λ tables. ⟦<FactTables<T> as FactView>⟧.facts_of tables ≡ facts (release_sources release.now)) }
         ensures next { IfOk result (λ tables. tables_next T.now tables ≡ facts (release_sources release.now)) }
     {
-        let rows = RowLists::of(alloc, release, Version::Now)?;
-        let made = RowTables::of(alloc, &rows)?;
+        let made = tables_of(alloc, release, Version::Now)?;
+        let tables = FactTables::filled(alloc, &made)?;
+        Ok(tables)
+    }
+
+    /// The facts of all code points in tables of rows; next they are the same.
+    fn filled(alloc: Global, made: &RowTables) -> Result<FactTables<T>, Memory>
+        requires words { Packs (word_in made.now) (made_facts made.now) }
+        ensures now { IfOk result (λ tables. (c : ℕ) → c < 1114112 → tables_facts T.now tables c ≡ made_facts made.now c) }
+        ensures next { IfOk result (λ tables. (c : ℕ) → c < 1114112 → tables_next T.now tables c ≡ made_facts made.now c) }
+    {
         let mut tables = FactTables::empty(alloc)?;
-        tables.fill(alloc, &made)?;
+        tables.fill(alloc, made)?;
         tables.commit();
         Ok(tables)
     }
@@ -80,8 +89,7 @@ impl<T: Table<u64>> FactTables<T> {
         if touched.as_slice().is_empty() {
             return Ok(());
         }
-        let rows = RowLists::of(alloc, after, Version::Next)?;
-        let made = RowTables::of(alloc, &rows)?;
+        let made = tables_of(alloc, after, Version::Next)?;
         self.put(alloc, &made, touched.as_slice())
     }
 
@@ -137,6 +145,17 @@ impl<T: Table<u64>> FactTables<T> {
     {
         &self.words
     }
+}
+
+/// The tables of the rows of a release, now or next.
+///
+/// - `Memory`: memory ran out.
+fn tables_of(alloc: Global, release: &Release, version: Version) -> Result<RowTables, Memory>
+    ensures { IfOk result (λ made. (c : ℕ) → c < 1114112 → ShowsRows made (sources_at version release.now) c) }
+{
+    let rows = RowLists::of(alloc, release, version)?;
+    let made = RowTables::of(alloc, &rows)?;
+    Ok(made)
 }
 
 /// The span of all code points.

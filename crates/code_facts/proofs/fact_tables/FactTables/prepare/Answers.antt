@@ -5,10 +5,9 @@ use Rattle.std.specs.List.{list_any}
 use Rattle.ucd_model.specs.Bounds.{Bounds}
 use Rattle.ucd_model.specs.Facts.{Facts, facts, within}
 use Rattle.code_facts.specs.FactTables.{words_at, rests_at, facts_at}
-use Rattle.code_facts.specs.RowLists.{sources_of}
 use Rattle.code_facts.specs.Rows.{next_sources}
 use Rattle.code_facts.specs.declared.version.Version.TheVariants.{Now, Next}
-use Rattle.code_facts.proofs.FactLemmas.{facts_from_points, same_facts}
+use Rattle.code_facts.proofs.FactLemmas.{facts_from_points}
 use Rattle.code_facts.proofs.TableLemmas.{shown_packs, put_facts, on_ok_map}
 use Rattle.code_facts.proofs.fact_tables.FactTables.prepare.Goals as goal
 
@@ -23,17 +22,14 @@ returns-then-is_empty-clause-ok g c =
     (λ k lt. c.requires.touched k lt (subst (λ (spans : List Bounds). list_any (within k) spans ≡ false) (sym none) refl))
 
 pub put-requires-clause-words : goal.put-requires-clause-words
-put-requires-clause-words g c = shown_packs c.in_ok-made.made (sources_of c.in_ok-rows.rows) c.in_ok-made.ensures
+put-requires-clause-words g c = shown_packs c.in_ok-made.made (next_sources c.args.after.now) c.in_ok-made.ensures
 
 pub returns-clause-ok : goal.returns-clause-ok
 returns-clause-ok g c =
     let t = c.args.self.now in
-    let rows = sources_of c.in_ok-rows.rows in
-    let lists = c.in_ok-rows.ensures.rows in
-    let same : facts rows ≡ facts (next_sources c.args.after.now) = same_facts rows (next_sources c.args.after.now) lists.unicode_data lists.case_folding lists.special_casing lists.prop_list lists.word_break lists.exclusions in
+    let rows = next_sources c.args.after.now in
     on_ok_map c.put.result _ _
     (λ point. put_facts c.in_ok-made.made rows c.as_slice-2.result.now (words_at Next c.put.new.self) (rests_at Next c.put.new.self) (facts_at Next t) point c.in_ok-made.ensures
     (λ k lt none. ap (λ (F : ℕ → Facts). F k) c.requires.ready
-    ∙ c.requires.touched k lt (subst (λ (spans : List Bounds). list_any (within k) spans ≡ false) c.as_slice-2.ensures none)
-    ∙ ap (λ (F : ℕ → Facts). F k) (sym same)) ∙ same)
+    ∙ c.requires.touched k lt (subst (λ (spans : List Bounds). list_any (within k) spans ≡ false) c.as_slice-2.ensures none)))
     c.put.ensures.ok

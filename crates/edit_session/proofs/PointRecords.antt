@@ -1,5 +1,5 @@
 -- The records of the first points, and more of them.
-use Rattle.std.proofs.Common.{◌≡◌, ℕ, ◌+◌, ◌<◌, ◌≤◌, Option, Some, None, Ok, Err, refl, sym, ap, subst, ◌∙◌, arith, inl, inr}
+use Rattle.std.proofs.Common.{◌≡◌, ℕ, ◌+◌, ◌<◌, ◌≤◌, [], Option, Some, None, Ok, Err, refl, sym, ap, subst, ◌∙◌, arith, inl, inr}
 use Rattle.std.proofs.lemmas.Bool.{cases_lt}
 use Rattle.ucd_model.specs.Limits.{point_count}
 use Rattle.ucd_model.specs.Predicates.{is_visible_format}
@@ -21,9 +21,9 @@ pub has_place : (c count : ℕ) → c < 1114112 → count ≡ point_count → c 
 unfolding point_count
 has_place c count lt e = omega (arith, lt, e)
 
-pub place_below : (c count : ℕ) → c < count → count ≡ point_count → c < 1114112
+pub end_below : (end count : ℕ) → end ≤ count → count ≡ point_count → end ≤ 1114112
 unfolding point_count
-place_below c count lt e = omega (arith, lt, e)
+end_below end count le e = omega (arith, le, e)
 
 shows_kept : (kept : KeptRecord) → ShowsRecord kept (kept_record kept)
 shows_kept kept = record {
@@ -43,19 +43,19 @@ shows_kept kept = record {
 pub shows : (kept : KeptRecord) (R : Record) → kept_record kept ≡ R → ShowsRecord kept R
 shows kept R e = subst (ShowsRecord kept) e (shows_kept kept)
 
-pub none_below : (list : RecordsOf) (F : ℕ → Facts) → count_of list ≡ 0 → DerivedBelow list 0 F
-none_below list F e = record { count = e; same = λ c lt. absurd (omega (arith, lt)) }
+pub none_below : (list : RecordsOf) (F : ℕ → Facts) → list ≡ [] → DerivedBelow list 0 F
+none_below list F e = record { count = ap count_of e; same = λ c lt. absurd (omega (arith, lt)) }
 
-pub run_below : (old new : RecordsOf) (n more : ℕ) (F : ℕ → Facts) (here : Record) → DerivedBelow old n F → count_of new ≡ count_of old + more
-    → ((c : ℕ) → count_of old ≤ c → c < count_of old + more → record_of new c ≡ here) → ((c : ℕ) → c < count_of old → record_of new c ≡ record_of old c)
-    → ((c : ℕ) → n ≤ c → c < n + more → derived F c ≡ Ok here) → DerivedBelow new (n + more) F
-run_below old new n more F here holds longer added others same =
+pub run_below : (old new : RecordsOf) (n end : ℕ) (F : ℕ → Facts) (here : Record) → DerivedBelow old n F → count_of new ≡ end
+    → ((c : ℕ) → count_of old ≤ c → c < end → record_of new c ≡ here) → ((c : ℕ) → c < count_of old → record_of new c ≡ record_of old c)
+    → ((c : ℕ) → n ≤ c → c < end → derived F c ≡ Ok here) → DerivedBelow new end F
+run_below old new n end F here holds longer added others same =
     let count = holds.count in
     record {
-      count = longer ∙ ap (λ k. k + more) count;
+      count = longer;
       same = λ c lt. elim (cases_lt c n) [
         | inl less ↦ holds.same c less ∙ ap (λ (R : Record). Ok R) (sym (others c (subst (λ k. c < k) (sym count) less)))
-        | inr past ↦ same c past lt ∙ ap (λ (R : Record). Ok R) (sym (added c (subst (λ k. k ≤ c) (sym count) past) (subst (λ k. c < k + more) (sym count) lt)))
+        | inr past ↦ same c past lt ∙ ap (λ (R : Record). Ok R) (sym (added c (subst (λ k. k ≤ c) (sym count) past) lt))
       ];
     }
 

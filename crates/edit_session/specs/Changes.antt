@@ -1,10 +1,16 @@
--- Records that are compared.
+-- Going over the stretches of all records.
 --
--- IsCompared old new last  what the last comparison found holds of each code point that has these two places in the two lists
-use Rattle.std.specs.Prelude.{◌≡◌, ℕ, ◌<◌}
-use Rattle.ucd_model.specs.Sameness.{same_record}
-use Rattle.edit_session.specs.RecordLists.{RecordsOf, count_of, place_of, record_of}
-use Rattle.edit_session.specs.declared.changes.Compared.{Compared}
+-- left_behind n list       the stretches without the first one, where it ends at n
+-- IsRest whole rest n      the stretches that are left of all are those from n on
+use Rattle.std.specs.Prelude.{◌≡◌, ℕ, ◌≤◌, [], ◌∷◌, ◌==◌, if◌then◌else◌}
+use Rattle.ucd_model.specs.Limits.{point_count}
+use Rattle.edit_session.specs.RecordLists.{RecordsOf, Follow, end_from, record_of}
 
-abbrev pub IsCompared : RecordsOf → RecordsOf → Compared → Type 0
-IsCompared old new last = (c : ℕ) → c < count_of old → c < count_of new → place_of old c ≡ last.before → place_of new c ≡ last.after → last.same ≡ same_record (record_of old c) (record_of new c)
+abbrev pub left_behind : ℕ → RecordsOf → RecordsOf
+left_behind n [] = []
+left_behind n (s ∷ list) = if s.end == n then list else s ∷ list
+
+pub record IsRest (whole rest : RecordsOf) (n : ℕ) : Type 0 where
+  pub follow : Follow n rest
+  pub ends : end_from n rest ≡ point_count
+  pub same : (c : ℕ) → n ≤ c → record_of whole c ≡ record_of rest c

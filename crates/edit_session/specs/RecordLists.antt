@@ -1,12 +1,11 @@
--- The records of the first code points, one after the other.
+-- The records of the first code points, stretch by stretch.
 --
--- kept_or other kept           the kept record; the other one where none is kept
--- record_in places records c   the record at the place of c, or past the last place at 0; where there is no such record, that of
---                              c without a row
--- RecordsOf                    the records that are kept, and for each point the place of its record
--- count_of list                for how many points a place is kept
--- place_of list c              the place of c in the list
--- record_of list c             the record of c in the list, as record_in
+-- RecordsOf                    stretches, one after the other: each from where the one before ends, the first one from 0
+-- record_of list c             the record of the first stretch that ends behind c; that of c without a row where none does
+-- end_from low list            where the last stretch ends; low where there is none
+-- count_of list                how many points have a record: where the last stretch ends
+-- HasAnotherAbove value list   the first stretch of the list has another record than this
+-- Follow low list              the stretches end one behind the other, the first one above low, and neighbours have other records
 -- SameRecords R S              the records of the code points are the same
 -- DerivedBelow list n F        the points below n, and no others, have a record, and it is the one that is derived of the facts F
 -- RecordFound F c result       the result is the record of c, or in its place c with the first rule that it breaks; want of
@@ -14,37 +13,37 @@
 -- AreRecords list F            no code point breaks a rule over the facts F, and the list has the record of each
 -- RecordsAs result F           the result is the records of all points, none of which breaks a rule, or in their place the least
 --                              point that does; want of memory says nothing
--- HavePlaces places records    each place is that of a record
--- IsRecordList places records    each place is that of a record, and there are no more records than places
--- Keeps old new place added    the new list has the old one's records, at most one more, and one that is `added` at the place
-use Rattle.std.specs.Prelude.{◌≡◌, ℕ, ◌+◌, ◌<◌, ◌≤◌, List, length, Option, Some, None, Result, Ok, Err, ⊤, slice_get, slice_index_or}
+use Rattle.std.specs.Prelude.{◌≡◌, ◌≢◌, ℕ, ◌<◌, List, [], ◌∷◌, nat_lt, if◌then◌else◌, Some, None, Result, Ok, Err, ⊤}
 use Rattle.ucd_model.specs.Facts.{Facts, unassigned}
 use Rattle.ucd_model.specs.Limits.{point_count}
 use Rattle.ucd_model.specs.Records.{Record, kept_record, record_at, derived}
 use Rattle.ucd_model.specs.Validity.{first_broken}
 use Rattle.ucd_model.specs.declared.records.Record.{Record as KeptRecord}
+use Rattle.edit_session.specs.declared.stretch.Stretch.{Stretch}
 use Rattle.edit_session.specs.declared.open_stop.OpenStop.{OpenStop}
 use Rattle.edit_session.specs.declared.open_stop.OpenStop.TheVariants.{Invalid, Memory}
 
-abbrev pub kept_or : Record → Option KeptRecord → Record
-kept_or other (Some kept) = kept_record kept
-kept_or other None = other
-
-abbrev pub record_in : List ℕ → List KeptRecord → ℕ → Record
-record_in places records c = kept_or (record_at unassigned c) (slice_get records (slice_index_or places c 0))
-
-pub record RecordsOf : Type 0 where
-  pub places : List ℕ
-  pub kept : List KeptRecord
-
-abbrev pub count_of : RecordsOf → ℕ
-count_of list = length list.places
-
-abbrev pub place_of : RecordsOf → ℕ → ℕ
-place_of list c = slice_index_or list.places c 0
+abbrev pub RecordsOf : Type 0
+RecordsOf = List Stretch
 
 abbrev pub record_of : RecordsOf → ℕ → Record
-record_of list = record_in list.places list.kept
+record_of [] c = record_at unassigned c
+record_of (s ∷ list) c = if nat_lt c s.end then kept_record s.value else record_of list c
+
+abbrev pub end_from : ℕ → RecordsOf → ℕ
+end_from low [] = low
+end_from low (s ∷ list) = end_from s.end list
+
+abbrev pub count_of : RecordsOf → ℕ
+count_of list = end_from 0 list
+
+abbrev pub HasAnotherAbove : KeptRecord → RecordsOf → Type 0
+HasAnotherAbove value [] = ⊤
+HasAnotherAbove value (s ∷ list) = kept_record s.value ≢ kept_record value
+
+abbrev pub Follow : ℕ → RecordsOf → Type 0
+Follow low [] = ⊤
+Follow low (s ∷ list) = (low < s.end) × (HasAnotherAbove s.value list × Follow s.end list)
 
 abbrev pub SameRecords : (ℕ → Record) → (ℕ → Record) → Type 0
 SameRecords R S = (c : ℕ) → c < point_count → R c ≡ S c
@@ -65,17 +64,3 @@ abbrev pub RecordsAs : Result RecordsOf OpenStop → (ℕ → Facts) → Type 0
 RecordsAs (Ok list) F = AreRecords list F
 RecordsAs (Err (Invalid rule point)) F = first_broken F ≡ Some (record { point = point; rule = rule })
 RecordsAs (Err Memory) F = ⊤
-
-abbrev pub HavePlaces : List ℕ → List KeptRecord → Type 0
-HavePlaces places records = (i : ℕ) → i < length places → slice_index_or places i 0 < length records
-
-pub record IsRecordList (places : List ℕ) (records : List KeptRecord) : Type 0 where
-  pub have : HavePlaces places records
-  pub few : length records ≤ length places
-
-pub record Keeps (old new : List KeptRecord) (place : ℕ) (added : KeptRecord) : Type 0 where
-  pub longer : length old ≤ length new
-  pub one_more : length new ≤ length old + 1
-  pub below : place < length new
-  pub others : (i : ℕ) → i < length old → slice_get new i ≡ slice_get old i
-  pub here : (other : Record) → kept_or other (slice_get new place) ≡ kept_record added

@@ -1,6 +1,6 @@
 //! The bench: a valid release, the facts of its rows and the records of all code points.
 
-ghost use Rattle.std.specs.Prelude.{◌≡◌, ℕ, ◌+◌, ◌≤◌, length, IfOk, IfErr, OnOk};
+ghost use Rattle.std.specs.Prelude.{◌≡◌, ◌≢◌, ℕ, ◌+◌, ◌<◌, ◌≤◌, length, IfOk, IfErr, OnOk};
 ghost use Rattle.std.specs.List.{All};
 ghost use Rattle.std.specs.Result.{IsErr};
 ghost use Rattle.code_facts.specs.FactTables.{tables_facts, tables_next};
@@ -118,11 +118,12 @@ impl Bench {
         }
     }
 
-    /// A code point up to which all from `c` on have the record of `c`. All these are looked at, so that going on
-    /// behind each answer looks at no code point twice.
+    /// The last code point of the stretch of equal records that `c` lies in. It takes time by the logarithm of the
+    /// number of stretches.
     pub fn last_alike(&self, c: Point) -> Point
         ensures from { c ≤ result }
         ensures same { (d : ℕ) → c ≤ d → d ≤ result → bench_record self.now d ≡ bench_record self.now c }
+        ensures ends { result + 1 < point_count → bench_record self.now (result + 1) ≢ bench_record self.now c }
     {
         self.records.last_alike(c)
     }

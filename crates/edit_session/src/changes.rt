@@ -1,77 +1,83 @@
 //! The code points whose records differ.
 
-ghost use Rattle.std.specs.Prelude.{◌≡◌, ◌<◌, ◌++◌, ◌∷◌, [], cond, IfOk, IfSome, OnOk};
-ghost use Rattle.edit_session.specs.Changes.{IsCompared};
+ghost use Rattle.std.specs.Prelude.{◌≡◌, ◌-◌, ◌<◌, ◌≤◌, ◌++◌, [], cond, length, IfOk, OnOk};
+ghost use Rattle.std.specs.List.{range_with_len};
+ghost use Rattle.edit_session.specs.Changes.{left_behind};
 ghost use Rattle.edit_session.specs.Groups.{differing};
-ghost use Rattle.edit_session.specs.RecordLists.{count_of, record_of};
+ghost use Rattle.edit_session.specs.RecordLists.{count_of, record_of, Follow};
 ghost use Rattle.ucd_model.specs.Limits.{point_count};
+ghost use Rattle.ucd_model.specs.Records.{kept_record};
 ghost use Rattle.ucd_model.specs.Sameness.{same_record};
 
-use crate::record_list::RecordList;
-use crate::record_table::point_at;
+use crate::stretch::Stretch;
 use std::alloc::Global;
-use ucd_model::{Memory, Point, Points};
+use ucd_model::{Memory, Point, Points, Record};
 
-/// Two records that were compared.
-#[derive(Clone, Copy)]
-pub struct Compared {
-    /// The place of the record before.
-    pub before: u32,
-    /// The place of the record after.
-    pub after: u32,
-    /// Whether they are equal.
-    pub same: bool,
-}
-
-/// The code points whose records differ in two lists of all records, ascending. Two records that were compared for the
-/// code point before are not compared again.
+/// The code points whose records differ in two lists of all records, ascending. Two records are compared once for all
+/// the code points that have both.
 ///
 /// - `Memory`: memory ran out.
-pub fn differing(alloc: Global, before: &RecordList, after: &RecordList) -> Result<Points, Memory>
-    requires before { count_of before.now ≡ point_count }
-    requires after { count_of after.now ≡ point_count }
+pub fn differing(alloc: Global, before: &[Stretch], after: &[Stretch]) -> Result<Points, Memory>
+    requires before { Follow 0 before.now }
+    requires after { Follow 0 after.now }
+    requires all_before { count_of before.now ≡ point_count }
+    requires all_after { count_of after.now ≡ point_count }
     ensures { IfOk result (λ points. points ≡ differing (record_of before.now) (record_of after.now)) }
 {
     let mut points = Points::new(alloc);
-    let mut last = None;
+    let mut old = before;
+    let mut new = after;
     let mut number = 0;
-    'points: while number < Point::COUNT {
-        let found = compare(before, after, number as usize, last);
-        push_if(&mut points, !found.same, point_at(number))?;
-        last = Some(found);
-        number += 1;
+    'overlaps: while number < Point::COUNT {
+        let a = &old[0];
+        let b = &new[0];
+        let end = a.end.min(b.end);
+        push_unless_same(&mut points, &a.value, &b.value, number, end)?;
+        old = left_behind(old, end);
+        new = left_behind(new, end);
+        number = end;
     }
     Ok(points)
 }
 
-/// Compares the records of the code point of this number in two lists. Those that were compared last are not compared
-/// again.
-fn compare(before: &RecordList, after: &RecordList, at: usize, last: Option<Compared>) -> Compared
-    requires before { at < count_of before.now }
-    requires after { at < count_of after.now }
-    requires last { IfSome last (IsCompared before.now after.now) }
-    ensures same { result.same ≡ same_record (record_of before.now at) (record_of after.now at) }
-    ensures compared { IsCompared before.now after.now result }
+/// Puts the code points from `first` up to `end`, which is none of them, at the end, unless their two records are one.
+fn push_unless_same(
+    points: &mut Points,
+    before: &Record,
+    after: &Record,
+    first: u32,
+    end: u32,
+) -> Result<(), Memory>
+    requires { end ≤ 1114112 }
+    ensures { OnOk result (points.new ≡ points.old ++ cond (same_record (kept_record before.now) (kept_record after.now)) [] (range_with_len first (end - first))) }
 {
-    let places = (before.place(at), after.place(at));
-    if let Some(last) = last
-        && (last.before, last.after) == places
-    {
-        return last;
+    if before.is_same(after) {
+        return Ok(());
     }
-    Compared {
-        before: places.0,
-        after: places.1,
-        same: before.record(at).is_same(after.record(at)),
-    }
+    push_all(points, first, end)
 }
 
-/// Puts the code point at the end, if it is wanted.
-fn push_if(points: &mut Points, wanted: bool, c: Point) -> Result<(), Memory>
-    ensures { OnOk result (points.new ≡ points.old ++ cond wanted (c ∷ []) []) }
+/// Puts the code points from `first` up to `end`, which is none of them, at the end.
+fn push_all(points: &mut Points, first: u32, end: u32) -> Result<(), Memory>
+    requires { end ≤ 1114112 }
+    ensures { OnOk result (points.new ≡ points.old ++ range_with_len first (end - first)) }
 {
-    if wanted {
-        points.push(c)?;
+    let mut number = first;
+    'points: while number < end {
+        points.push(Point::at(number))?;
+        number += 1;
     }
     Ok(())
+}
+
+/// The stretches without the first one, if it ends there, else all of them.
+fn left_behind(stretches: &[Stretch], end: u32) -> &[Stretch]
+    requires { 0 < length stretches.now }
+    ensures { result.now ≡ left_behind end stretches.now }
+{
+    if stretches[0].end == end {
+        &stretches[1..]
+    } else {
+        stretches
+    }
 }

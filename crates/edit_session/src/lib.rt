@@ -10,6 +10,7 @@ mod group;
 mod open_stop;
 mod record_list;
 mod record_table;
+mod stretch;
 
 pub use accepted::Accepted;
 pub use apply_stop::{ApplyStop, Refused};

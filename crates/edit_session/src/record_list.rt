@@ -1,109 +1,79 @@
-//! The records of the first code points, one after the other.
+//! The records of the first code points, stretch by stretch.
 
-ghost use Rattle.std.specs.Prelude.{◌≡◌, ◌+◌, ◌<◌, ◌≤◌, ◌^◌, ℕ, OnOk, OnErr, IfOk, length};
+ghost use Rattle.std.specs.Prelude.{◌≡◌, ◌≢◌, ◌<◌, ◌≤◌, ℕ, [], OnOk};
 ghost use Rattle.ucd_model.specs.Records.{kept_record};
-ghost use Rattle.edit_session.specs.RecordLists.{count_of, place_of, record_of, Keeps};
+ghost use Rattle.edit_session.specs.RecordLists.{count_of, record_of, Follow};
 
+use crate::stretch::Stretch;
 use std::alloc::Global;
 use std::marker::Model;
 use ucd_model::{Memory, Record};
 
-/// The records of the first code points. A record that equals one of the two kept last is not kept again.
-/// Contracts see how many points have a record, and the record of each.
+/// The records of the first code points, in stretches as long as can be: neighbours have other records.
 #[derive(Drop)]
 pub struct RecordList {
-    places: Vec<u32>,
-    records: Vec<Record>,
+    stretches: Vec<Stretch>,
 }
 
 impl Model for RecordList {
-    ghost use Rattle.edit_session.specs.RecordLists.{RecordsOf, IsRecordList};
+    ghost use Rattle.edit_session.specs.RecordLists.{RecordsOf, Follow};
 
     ghost Value = { RecordsOf };
 
-    ghost view = { λ l. record { places = l.places.items; kept = l.records.items } };
+    ghost view = { λ l. l.stretches.items };
 
-    ghost invariant = { λ l. IsRecordList l.places.items l.records.items };
+    ghost invariant = { λ l. Follow 0 l.stretches.items };
 }
 
 impl RecordList {
-    /// No records yet, with room for the places of so many points.
-    ///
-    /// - `Memory`: memory ran out.
-    pub fn with_room(alloc: Global, count: usize) -> Result<RecordList, Memory>
-        ensures { IfOk result (λ list. count_of list ≡ 0) }
+    /// No records yet. It takes no memory.
+    pub fn new(alloc: Global) -> RecordList
+        ensures { result ≡ [] }
     {
-        Ok(RecordList {
-            places: Vec::with_capacity(alloc, count)?,
-            records: Vec::new(alloc),
-        })
+        RecordList {
+            stretches: Vec::new(alloc),
+        }
     }
 
-    /// Gives the next points, so many, one or more, their record.
+    /// Gives the next points, up to `end`, which is none of them, their record.
     ///
-    /// - `Memory`: memory ran out. Nothing is told of the list then.
-    #[tactic(auto, using(crate::proofs::RecordSteps::still_places, crate::proofs::RecordSteps::more_places, crate::proofs::RecordSteps::added_record, crate::proofs::RecordSteps::other_records))]
-    pub fn push_run(&mut self, added: Record, times: usize) -> Result<(), Memory>
-        requires some { 1 ≤ times }
-        requires few { count_of self.old + times < 2 ^ 32 }
-        ensures count { OnOk result (count_of self.new ≡ count_of self.old + times) }
-        ensures added { OnOk result ((c : ℕ) → count_of self.old ≤ c → c < count_of self.old + times → record_of self.new c ≡ kept_record added) }
+    /// - `Memory`: memory ran out. The list stays as it was.
+    pub fn push_run(&mut self, added: Record, end: u32) -> Result<(), Memory>
+        requires { count_of self.old < end }
+        ensures count { OnOk result (count_of self.new ≡ end) }
+        ensures added { OnOk result ((c : ℕ) → count_of self.old ≤ c → c < end → record_of self.new c ≡ kept_record added) }
         ensures others { OnOk result ((c : ℕ) → c < count_of self.old → record_of self.new c ≡ record_of self.old c) }
     {
-        // with room for the places no record is kept that no place is of
-        self.places.reserve(times)?;
-        let place = keep(&mut self.records, added)?;
-        self.places.resize(self.places.len() + times, place)?;
+        let count = self.stretches.len();
+        if count > 0 && self.stretches[count - 1].value.is_same(&added) {
+            self.stretches[count - 1].end = end;
+            return Ok(());
+        }
+        self.stretches.push(Stretch { end, value: added })?;
         Ok(())
     }
 
-    /// The place of the record of the point of this number, which has one. Points with one place have one record.
-    pub fn place(&self, at: usize) -> u32
-        requires { at < count_of self.now }
-        ensures place { result ≡ place_of self.now at }
-        ensures same { (c : ℕ) → c < count_of self.now → place_of self.now c ≡ result → record_of self.now c ≡ record_of self.now at }
+    /// The stretch that the point of this number, which has a record, lies in. It takes time by the logarithm of the
+    /// number of stretches.
+    pub fn stretch_of(&self, number: u32) -> &Stretch
+        requires { number < count_of self.now }
+        ensures behind { number < result.now.end }
+        ensures inside { result.now.end ≤ count_of self.now }
+        ensures same { (c : ℕ) → number ≤ c → c < result.now.end → record_of self.now c ≡ kept_record result.now.value }
+        ensures ends { result.now.end < count_of self.now → record_of self.now result.now.end ≢ kept_record result.now.value }
     {
-        self.places[at]
+        let at = self
+            .stretches
+            .as_slice()
+            .partition_point(|stretch| stretch.end <= number);
+        &self.stretches[at]
     }
 
-    /// A point up to which all from the point of this number on have its place, and so its record. Each of them is looked
-    /// at.
-    pub fn last_alike(&self, at: usize) -> usize
-        requires { at < count_of self.now }
-        ensures from { at ≤ result }
-        ensures inside { result < count_of self.now }
-        ensures same { (d : ℕ) → at ≤ d → d ≤ result → record_of self.now d ≡ record_of self.now at }
+    /// The stretches, one after the other.
+    pub fn stretches(&self) -> &[Stretch]
+        ensures same { result.now ≡ self.now }
+        ensures follow { Follow 0 result.now }
     {
-        let mut last = at;
-        'alike: while last + 1 < self.places.len() && self.places[last + 1] == self.places[at] {
-            last += 1;
-        }
-        last
+        self.stretches.as_slice()
     }
-
-    /// The record of the point of this number, which has one.
-    pub fn record(&self, at: usize) -> &Record
-        requires { at < count_of self.now }
-        ensures { kept_record result.now ≡ record_of self.now at }
-    {
-        &self.records[self.places[at] as usize]
-    }
-}
-
-/// Keeps a record, where it is none of the last two already, and answers its place.
-fn keep(records: &mut Vec<Record>, added: Record) -> Result<u32, Memory>
-    requires { length records.old.items < 2 ^ 32 }
-    ensures ok { IfOk result (λ place. Keeps records.old.items records.new.items place added) }
-    ensures err { OnErr result (records.new.items ≡ records.old.items) }
-{
-    let count = records.len();
-    if count >= 1 && records[count - 1].is_same(&added) {
-        return Ok((count - 1) as u32);
-    }
-    // letters of two cases stand in turns
-    if count >= 2 && records[count - 2].is_same(&added) {
-        return Ok((count - 2) as u32);
-    }
-    records.push(added)?;
-    Ok(count as u32)
 }

@@ -1,6 +1,6 @@
 //! The records of all code points.
 
-ghost use Rattle.std.specs.Prelude.{◌≡◌, ℕ, ◌+◌, ◌<◌, ◌≤◌, Ok, IfOk};
+ghost use Rattle.std.specs.Prelude.{◌≡◌, ◌≢◌, ℕ, ◌+◌, ◌<◌, ◌≤◌, Ok, IfOk};
 ghost use Rattle.ucd_model.specs.Limits.{point_count};
 ghost use Rattle.ucd_model.specs.Predicates.{is_visible_format};
 ghost use Rattle.ucd_model.specs.Records.{kept_record, derived, ShowsRecord};
@@ -18,7 +18,7 @@ use std::marker::Model;
 use std::sync::ledger::Ledger;
 use ucd_model::{FactView, FormStop, Memory, Point, Points, Record, Steps, point_count};
 
-/// The records of all code points. Contracts see the records that are kept, and the place of each code point's record.
+/// The records of all code points, one for each stretch of equal ones. Contracts see the stretches.
 #[derive(Drop)]
 pub struct RecordTable {
     list: RecordList,
@@ -52,25 +52,27 @@ impl RecordTable {
         ensures steps { steps.new ≤ steps.old + point_count }
     {
         let count = point_count();
-        let mut list = RecordList::with_room(alloc, count as usize)?;
+        let mut list = RecordList::new(alloc);
         let mut number = 0;
         'runs: while number < count {
             let c = point_at(number);
             let record = record_of(alloc, tables, c, steps)?;
             let end = end_of_run(tables, c);
-            list.push_run(record, (end - number) as usize)?;
+            list.push_run(record, end)?;
             number = end;
         }
         Ok(RecordTable { list })
     }
 
-    /// A code point up to which all from `c` on have the record of `c`. Each of them is looked at.
+    /// The last code point of the stretch of equal records that a code point lies in. It takes time by the logarithm of
+    /// the number of stretches.
     pub fn last_alike(&self, c: Point) -> Point
         ensures from { c ≤ result }
         ensures inside { result < point_count }
         ensures same { (d : ℕ) → c ≤ d → d ≤ result → record_of self.now d ≡ record_of self.now c }
+        ensures ends { result + 1 < point_count → record_of self.now (result + 1) ≢ record_of self.now c }
     {
-        point_at(self.list.last_alike(c.number() as usize) as u32)
+        point_at(self.list.stretch_of(c.number()).end - 1)
     }
 
     /// The code points whose records are others after, ascending.
@@ -79,15 +81,15 @@ impl RecordTable {
     pub fn changes(&self, alloc: Global, after: &RecordTable) -> Result<Points, Memory>
         ensures { IfOk result (λ points. points ≡ differing (record_of self.now) (record_of after.now)) }
     {
-        differing(alloc, &self.list, &after.list)
+        differing(alloc, self.list.stretches(), after.list.stretches())
     }
 
-    /// The record of a code point.
+    /// The record of a code point. It takes time by the logarithm of the number of stretches.
     pub fn record(&self, c: Point) -> &Record
         ensures shows { ShowsRecord result.now (record_of self.now c) }
         ensures inside { c < point_count }
     {
-        self.list.record(c.number() as usize)
+        &self.list.stretch_of(c.number()).value
     }
 }
 

@@ -7,8 +7,8 @@ use Rattle.code_facts.proofs.FactLemmas.{facts_from_points, point_below}
 use Rattle.code_facts.proofs.TableLemmas.{shown_packs}
 use Rattle.code_facts.proofs.fact_tables.FactTables.of.Goals as goal
 
-pub filled-requires-clause-words : goal.filled-requires-clause-words
-filled-requires-clause-words g c = shown_packs c.in_ok-made.made (release_sources c.args.release.now) c.in_ok-made.ensures
+pub filled-requires : goal.filled-requires
+filled-requires g c = record { words = shown_packs c.in_ok-made.made (release_sources c.args.release.now) c.in_ok-made.ensures }
 
 pub returns-clause-now : goal.returns-clause-now
 returns-clause-now g c =

@@ -16,8 +16,8 @@ use Rattle.source_rows.specs.declared.key.Key.{Key}
 use Rattle.release_rows.specs.Operations.{IsOp}
 use Rattle.release_rows.specs.declared.operation.Op.{Op}
 use Rattle.script_lines.specs.Groups.{AreReady, GroupsAreReady, IsReady}
-use Rattle.script_lines.specs.Lines.{Said, nothing, begins, ends, puts, withdraws, no_command, said}
-use Rattle.script_lines.specs.Scripts.{ScriptFault, ScriptPiece, row_text, row_op, row_op_by, key_op, key_op_by, begun_by, ended_by, with_op_by, is_full, with_found, operated, step, step_by, steps, then_steps, closed, closed_by, empty_script, piece_lines, script_or_fault, script_pieces}
+use Rattle.script_lines.specs.Lines.{Said, nothing, begins, ends, asks, puts, withdraws, no_command, said}
+use Rattle.script_lines.specs.Scripts.{ScriptFault, ScriptPiece, row_text, row_op, row_op_by, key_op, key_op_by, begun_by, ended_by, asked_by, with_op_by, is_full, with_found, operated, step, step_by, steps, then_steps, closed, closed_by, empty_script, piece_lines, script_or_fault, script_pieces}
 use Rattle.script_lines.specs.declared.command.Command.{Command}
 use Rattle.script_lines.specs.declared.group.OpenGroup.{OpenGroup}
 use Rattle.script_lines.specs.declared.line.Put.{Put}
@@ -56,6 +56,10 @@ ended_ready : (n : ℕ) (script : Script) (group : Option OpenGroup) → All IsR
 ended_ready n script (Some group) ready held = record { commands = All-push IsReady script.commands _ ready held; group = tt }
 ended_ready n script None ready held = tt
 
+asked_ready : (n : ℕ) (text : List ℕ) (script : Script) (group : Option OpenGroup) → All IsReady script.commands → IfOk (asked_by n text script group) ReadyScript
+asked_ready n text script (Some group) ready = tt
+asked_ready n text script None ready = record { commands = All-push IsReady script.commands _ ready tt; group = tt }
+
 one_ready : (op : Op) → IsOp op → AreReady (op ∷ [])
 one_ready op ready = (All-push IsOp [] op (All-nil IsOp) ready, omega arith)
 
@@ -81,6 +85,7 @@ step_ready : RowsAreRead → RowsAreOk → (n : ℕ) (script : Script) (next : O
 step_ready read ok n script next nothing ready = ready
 step_ready read ok n script next begins ready = begun_ready n script script.group ready.commands
 step_ready read ok n script next ends ready = ended_ready n script script.group ready.commands ready.group
+step_ready read ok n script next (asks text) ready = asked_ready n text script script.group ready.commands
 step_ready read ok n script next (puts put file text) ready =
     operated_ready n script (row_op n put file text next) (is_full script.group) refl ready (row_ready read ok n put file text next (row_or_fault file (row_text text next)) refl)
 step_ready read ok n script next (withdraws file text) ready =

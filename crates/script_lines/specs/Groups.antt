@@ -2,22 +2,23 @@
 --
 -- AreReady ops              each of the operations has a row that its file can have, and bytes that are read as it; and there are at
 --                           most 4,096
--- IsReady command           so are those of its group
+-- IsReady command           so are those of its group, if it is one; nothing is said of a question
 -- GroupsAreReady            so are those of each command of a script without a fault
-use Rattle.std.specs.Prelude.{◌≤◌, List, length, ℕ, IfOk}
+use Rattle.std.specs.Prelude.{◌≤◌, List, length, ℕ, IfOk, ⊤}
 use Rattle.std.specs.List.{All}
 use Rattle.release_rows.specs.Operations.{IsOp}
 use Rattle.release_rows.specs.declared.operation.Op.{Op}
 use Rattle.script_lines.specs.Scripts.{script_or_fault}
 use Rattle.script_lines.specs.declared.command.Command.{Command}
 use Rattle.script_lines.specs.declared.command.What.{What}
-use Rattle.script_lines.specs.declared.command.What.TheVariants.{Group}
+use Rattle.script_lines.specs.declared.command.What.TheVariants.{Group, Question}
 
 abbrev pub AreReady : List Op → Type 0
 AreReady ops = All IsOp ops × (length ops ≤ 4096)
 
 abbrev ReadyWhat : What → Type 0
 ReadyWhat (Group ops) = AreReady ops
+ReadyWhat (Question text) = ⊤
 
 abbrev pub IsReady : Command → Type 0
 IsReady command = ReadyWhat command.what

@@ -1,7 +1,7 @@
 -- What a line of a script says by itself.
 --
--- Said                         nothing, of a blank line and a comment; `begin`; `end`; a row that is put into a file; a key of a row
---                              that is taken out of one; or no command
+-- Said                         nothing, of a blank line and a comment; `begin`; `end`; the text of a question; a row that is put
+--                              into a file; a key of a row that is taken out of one; or no command
 -- is_space b                   the byte is a space
 -- file_named path              the source file that lies at this path below the folder of a release; None where none does
 -- behind word content          what stands behind the word, where the content begins with it, else None
@@ -10,7 +10,10 @@
 -- or_else found other          what was found, where anything was, else the other
 -- orders content               what `add FILE LINE`, `change FILE LINE` or `withdraw FILE KEY` says, with one space between the
 --                              parts; no command of all other contents
--- said content                 what a line of this content says: `begin` and `end` stand alone, the others are orders
+-- asks_or text other           the question of this text, where there is one, else the other
+-- ordered content              what `set TEXT` says, with one space, TEXT being all that follows it, maybe nothing; orders of all
+--                              other contents
+-- said content                 what a line of this content says: `begin` and `end` stand alone, the others have a word and a space
 -- last_text content            LINE, of a line `last LINE`; None of other lines
 -- said_by line                 what a line of the code says
 use Rattle.std.specs.Prelude.{ℕ, Bool, List, length, take, drop, find, Option, Some, None, ◌==◌, nat_lt, codes, if◌then◌else◌}
@@ -21,7 +24,7 @@ use Rattle.ucd_model.specs.Names.{source_path}
 use Rattle.ucd_model.specs.SourceFiles.{source_files}
 use Rattle.ucd_model.specs.declared.files.SourceFile.{SourceFile}
 use Rattle.script_lines.specs.declared.line.Line.{Line}
-use Rattle.script_lines.specs.declared.line.Line.TheVariants.{Skipped, Begin, End, Row, Withdraw, Other}
+use Rattle.script_lines.specs.declared.line.Line.TheVariants.{Skipped, Begin, End, Row, Withdraw, Set, Other}
 use Rattle.script_lines.specs.declared.line.Put.{Put}
 use Rattle.script_lines.specs.declared.line.Put.TheVariants.{Add, Change}
 
@@ -29,6 +32,7 @@ pub data Said : Type 0 where
   nothing : Said
   begins : Said
   ends : Said
+  asks : List ℕ → Said
   puts : Put → SourceFile → List ℕ → Said
   withdraws : SourceFile → List ℕ → Said
   no_command : Said
@@ -56,6 +60,13 @@ or_else say None other = other
 abbrev pub orders : List ℕ → Said
 orders content = or_else (puts Add) (behind (codes "add ") content) (or_else (puts Change) (behind (codes "change ") content) (or_else withdraws (behind (codes "withdraw ") content) no_command))
 
+abbrev pub asks_or : Option (List ℕ) → Said → Said
+asks_or (Some text) other = asks text
+asks_or None other = other
+
+abbrev pub ordered : List ℕ → Said
+ordered content = asks_or (behind (codes "set ") content) (orders content)
+
 abbrev pub said : List ℕ → Said
 said content =
     if is_trivia content
@@ -64,7 +75,7 @@ said content =
     then begins
     else (if bytes_eq content (codes "end")
     then ends
-    else orders content))
+    else ordered content))
 
 abbrev pub last_text : List ℕ → Option (List ℕ)
 last_text content = behind (codes "last ") content
@@ -75,4 +86,5 @@ said_by Begin = begins
 said_by End = ends
 said_by (Row put file text) = puts put file text.now
 said_by (Withdraw file text) = withdraws file text.now
+said_by (Set text) = asks text.now
 said_by Other = no_command

@@ -18,6 +18,8 @@
 -- one_group n ops              the command of a group
 -- begun n script               with a group that is open; E3 where one is
 -- ended n script               with the open group closed; E1 where none is open
+-- question n text              the command that asks a question
+-- asked n text script          with a question of this text; E4 where a group is open
 -- with_op n op script          with one more operation: in the open group, or as a group of its own
 -- is_full group                the open group has 4,096 operations
 -- operated n script op         with one more operation; E5 where the group is full, before the operation's own fault
@@ -41,15 +43,15 @@ use Rattle.source_rows.specs.declared.key.Key.{Key}
 use Rattle.release_rows.specs.Loading.{is_g04, lacks_its_last}
 use Rattle.release_rows.specs.declared.operation.Op.{Op}
 use Rattle.release_rows.specs.declared.operation.Op.TheVariants.{Add as AddRow, Change as ChangeRow, Withdraw as WithdrawRow}
-use Rattle.script_lines.specs.Lines.{Said, nothing, begins, ends, puts, withdraws, no_command, said, last_text}
+use Rattle.script_lines.specs.Lines.{Said, nothing, begins, ends, asks, puts, withdraws, no_command, said, last_text}
 use Rattle.script_lines.specs.declared.command.Command.{Command}
-use Rattle.script_lines.specs.declared.command.What.TheVariants.{Group}
+use Rattle.script_lines.specs.declared.command.What.TheVariants.{Group, Question}
 use Rattle.script_lines.specs.declared.group.OpenGroup.{OpenGroup}
 use Rattle.script_lines.specs.declared.line.Put.{Put}
 use Rattle.script_lines.specs.declared.line.Put.TheVariants.{Add, Change}
 use Rattle.script_lines.specs.declared.script.Script.{Script}
 use Rattle.script_lines.specs.declared.stop.ScriptRule.{ScriptRule}
-use Rattle.script_lines.specs.declared.stop.ScriptRule.TheVariants.{E1, E2, E3, E5, E6}
+use Rattle.script_lines.specs.declared.stop.ScriptRule.TheVariants.{E1, E2, E3, E4, E5, E6}
 use Rattle.script_lines.specs.declared.stop.ScriptStop.{ScriptStop}
 use Rattle.script_lines.specs.declared.stop.ScriptStop.TheVariants.{Fault, Memory}
 
@@ -137,6 +139,16 @@ ended_by n script None = at_line n E1
 abbrev pub ended : ℕ → Script → Result Script ScriptFault
 ended n script = ended_by n script script.group
 
+abbrev pub question : ℕ → List ℕ → Command
+question n text = record { line = n; what = Question text }
+
+abbrev pub asked_by : ℕ → List ℕ → Script → Option OpenGroup → Result Script ScriptFault
+asked_by n text script (Some group) = at_line n E4
+asked_by n text script None = Ok (record { commands = script.commands ++ question n text ∷ []; group = None })
+
+abbrev pub asked : ℕ → List ℕ → Script → Result Script ScriptFault
+asked n text script = asked_by n text script script.group
+
 abbrev pub with_op_by : ℕ → Op → Script → Option OpenGroup → Script
 with_op_by n op script (Some group) = record { commands = script.commands; group = Some (record { line = group.line; ops = group.ops ++ op ∷ [] }) }
 with_op_by n op script None = record { commands = script.commands ++ one_group n (op ∷ []) ∷ []; group = None }
@@ -161,6 +173,7 @@ abbrev pub step_by : ℕ → Script → Option (List ℕ) → Said → Result Sc
 step_by n script next nothing = Ok script
 step_by n script next begins = begun n script
 step_by n script next ends = ended n script
+step_by n script next (asks text) = asked n text script
 step_by n script next (puts put file text) = operated n script (row_op n put file text next)
 step_by n script next (withdraws file text) = operated n script (key_op n file text)
 step_by n script next no_command = at_line n E1

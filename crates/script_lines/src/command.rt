@@ -1,13 +1,15 @@
 //! The commands of a script.
 
 use release_rows::Ops;
-use ucd_model::ListOf;
+use ucd_model::{ListOf, Text};
 
 /// What a command asks for.
 #[derive(Debug, Drop)]
 pub enum What {
     /// The operations of a group, which are carried out together or not at all.
     Group(Ops),
+    /// The members of a UnicodeSet, by its text. The text may be empty, and need not be that of a set. UTS #35.
+    Question(Text),
 }
 
 /// A command of a script.

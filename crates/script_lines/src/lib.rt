@@ -1,4 +1,4 @@
-//! Reads edit scripts: groups of operations on the rows of a release.
+//! Reads edit scripts: groups of operations on the rows of a release, and questions of sets between them.
 #![tactic(auto)]
 
 mod command;

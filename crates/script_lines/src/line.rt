@@ -2,7 +2,7 @@
 
 ghost use Rattle.std.specs.Prelude.{◌≡◌, None, Some};
 ghost use Rattle.std.specs.Option.{MatchOption};
-ghost use Rattle.script_lines.specs.Lines.{behind, last_text, orders, puts, said, said_by, with_file, withdraws};
+ghost use Rattle.script_lines.specs.Lines.{behind, last_text, ordered, orders, puts, said, said_by, with_file, withdraws};
 
 use crate::source_path::file_named;
 use ucd_lines::{cut, first_at, is_trivia};
@@ -30,6 +30,8 @@ pub enum Line<'a> {
     Row(Put, SourceFile, &'a [u8]),
     /// `withdraw FILE KEY`.
     Withdraw(SourceFile, &'a [u8]),
+    /// `set TEXT`.
+    Set(&'a [u8]),
     /// No line by itself: `last LINE`, or no command.
     Other,
 }
@@ -85,6 +87,16 @@ fn order_line(content: &[u8]) -> Line<'_>
     }
 }
 
+/// What a line says that is neither skipped, `begin` nor `end`.
+fn word_line(content: &[u8]) -> Line<'_>
+    ensures { said_by result ≡ ordered content.now }
+{
+    match behind(b"set ", content) {
+        Some(text) => Line::Set(text),
+        None => order_line(content),
+    }
+}
+
 /// What a line says.
 pub fn line_of(content: &[u8]) -> Line<'_>
     ensures { said_by result ≡ said content.now }
@@ -98,7 +110,7 @@ pub fn line_of(content: &[u8]) -> Line<'_>
     if content == b"end".as_slice() {
         return Line::End;
     }
-    order_line(content)
+    word_line(content)
 }
 
 /// LINE, of a line `last LINE`; `None` of other lines.

@@ -33,6 +33,7 @@ fn take(alloc: Global, script: &mut Script, line: u32, piece: Piece<'_>) -> Resu
         Line::Skipped => Ok(()),
         Line::Begin => script.begin(alloc, line),
         Line::End => script.end(line),
+        Line::Set(text) => script.ask(alloc, line, text),
         Line::Other => Err(ScriptStop::Fault {
             line,
             rule: ScriptRule::E1,
@@ -69,12 +70,13 @@ fn closed(script: Script) -> Result<Commands, ScriptStop>
 /// The commands of an edit script, in order.
 ///
 /// Lines end by LF or CR LF. Blank lines are skipped, and lines whose first byte other than space and tab is `#`. The
-/// others are `add FILE LINE`, `change FILE LINE`, `withdraw FILE KEY`, `begin`, `end`, and `last LINE` behind an
-/// `add` or `change` of the first line of a range, whose second line it holds. FILE is the path of a source file below
-/// the folder of a release. Operations between `begin` and `end` are one group, any other is a group of its own.
+/// others are `add FILE LINE`, `change FILE LINE`, `withdraw FILE KEY`, `begin`, `end`, `set TEXT`, and `last LINE` behind
+/// an `add` or `change` of the first line of a range, whose second line it holds. FILE is the path of a source file below
+/// the folder of a release. Operations between `begin` and `end` are one group, any other is a group of its own. TEXT is
+/// the question of a UnicodeSet; whether it is the text of one is not looked at.
 ///
-/// - `Fault { line, rule }`: the first line that breaks a rule, and the first rule that it breaks: `E1`, `E3`, `E5`,
-///   `E6`; where no line breaks one, `E2` with the line of the group that is open at the end.
+/// - `Fault { line, rule }`: the first line that breaks a rule, and the first rule that it breaks: `E1`, `E3`, `E4`,
+///   `E5`, `E6`; where no line breaks one, `E2` with the line of the group that is open at the end.
 /// - `Memory`: memory ran out.
 #[tactic(auto, unfolding(crate::specs::Scripts::script_or_fault, ucd_model::specs::Limits::file_limit))]
 pub fn commands(alloc: Global, bytes: &[u8]) -> Result<Commands, ScriptStop>

@@ -1,14 +1,14 @@
 //! What stands of a script so far.
 
 ghost use Rattle.std.specs.Prelude.{◌≡◌, ◌∷◌, [], IfOk, OnOk};
-ghost use Rattle.script_lines.specs.Scripts.{StepsAs, begun, empty_script, ended, is_full, one_group, with_op};
+ghost use Rattle.script_lines.specs.Scripts.{StepsAs, asked, begun, empty_script, ended, is_full, question, with_op};
 
 use crate::command::{Command, Commands, What};
 use crate::group::OpenGroup;
 use crate::stop::{ScriptRule, ScriptStop};
 use release_rows::{Op, Ops};
 use std::alloc::Global;
-use ucd_model::Memory;
+use ucd_model::{Memory, Text};
 
 /// The greatest number of operations in a group.
 const GROUP_LIMIT: usize = 4096;
@@ -29,6 +29,18 @@ fn one_op(alloc: Global, op: Op) -> Result<Ops, Memory>
     let mut ops = Ops::new(alloc);
     ops.push(op)?;
     Ok(ops)
+}
+
+/// The command that asks a question.
+fn question_of(alloc: Global, line: u32, text: &[u8]) -> Result<Command, Memory>
+    ensures { IfOk result (λ command. command ≡ question line text.now) }
+{
+    let mut question = Text::new(alloc);
+    question.append(text)?;
+    Ok(Command {
+        line,
+        what: What::Question(question),
+    })
 }
 
 impl Script {
@@ -79,6 +91,22 @@ impl Script {
             what: What::Group(ops),
         })?;
         Ok(())
+    }
+
+    /// Puts a question.
+    ///
+    /// - `Fault`: `E4`, where a group is open.
+    /// - `Memory`: memory ran out.
+    pub fn ask(&mut self, alloc: Global, line: u32, text: &[u8]) -> Result<(), ScriptStop>
+        ensures { StepsAs result self.new (asked line text.now self.old) }
+    {
+        match &self.group {
+            Some(_) => Err(ScriptStop::Fault {
+                line,
+                rule: ScriptRule::E4,
+            }),
+            None => Ok(self.commands.push(question_of(alloc, line, text)?)?),
+        }
     }
 
     /// Whether the open group takes no more operations.

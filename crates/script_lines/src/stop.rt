@@ -19,6 +19,9 @@ pub enum ScriptRule {
     /// `begin` stands inside a group.
     #[error("a group is open already")]
     E3,
+    /// `set` stands inside a group.
+    #[error("a question stands inside a group")]
+    E4,
     /// The group has 4,096 operations already.
     #[error("the group has too many operations")]
     E5,

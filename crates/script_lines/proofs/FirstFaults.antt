@@ -9,8 +9,8 @@ use Rattle.release_rows.specs.declared.operation.Op.{Op}
 use Rattle.script_lines.proofs.Runs.{run, run_is, run_append}
 use Rattle.script_lines.specs.Faults.{fault_of, says_group_line, says_operation, is_group_line, is_operation, begin_in, open_begin, operations, is_full, found_fault, fault_by, fault_at, NoFault, FirstFault, Unclosed, FaultsAreFirst}
 use Rattle.script_lines.specs.Grammar.{NumberedPiece, numbered_pieces}
-use Rattle.script_lines.specs.Lines.{Said, nothing, begins, ends, puts, withdraws, no_command, said}
-use Rattle.script_lines.specs.Scripts.{ScriptFault, row_op, key_op, at_line, begun_by, ended_by, with_op_by, is_full as is_full_group, with_found, step, step_by, steps, then_steps, closed, closed_by, empty_script, script_or_fault, script_pieces}
+use Rattle.script_lines.specs.Lines.{Said, nothing, begins, ends, asks, puts, withdraws, no_command, said}
+use Rattle.script_lines.specs.Scripts.{ScriptFault, row_op, key_op, at_line, begun_by, ended_by, asked_by, with_op_by, is_full as is_full_group, with_found, step, step_by, steps, then_steps, closed, closed_by, empty_script, script_or_fault, script_pieces}
 use Rattle.script_lines.specs.declared.command.Command.{Command}
 use Rattle.script_lines.specs.declared.group.OpenGroup.{OpenGroup}
 use Rattle.script_lines.specs.declared.script.Script.{Script}
@@ -61,11 +61,11 @@ full_same : (before : List NumberedPiece) (group : Option OpenGroup) → Follows
 full_same before None f = rw f refl
 full_same before (Some group) f = rw (f.1, f.3) refl
 
-pass_follows : (before : List NumberedPiece) (p : NumberedPiece) (group : Option OpenGroup) → said p.piece.line ≡ nothing → Follows before group → Follows (before ++ p ∷ []) group
-pass_follows before p None e f = inner_more before p (ap says_group_line e) ∙ f
-pass_follows before p (Some group) e f =
-    let same : operations (before ++ p ∷ []) ≡ operations before = since_more before p (ap says_group_line e) ∙ ap (λ b. operations before ++ cond b (p ∷ []) []) (ap says_operation e) ∙ append-nil (operations before) in
-    (f.0, inner_more before p (ap says_group_line e) ∙ f.1, f.2, ap length same ∙ f.3)
+still_follows : (before : List NumberedPiece) (p : NumberedPiece) (group : Option OpenGroup) → is_group_line p ≡ false → is_operation p ≡ false → Follows before group → Follows (before ++ p ∷ []) group
+still_follows before p None inner none f = inner_more before p inner ∙ f
+still_follows before p (Some group) inner none f =
+    let same : operations (before ++ p ∷ []) ≡ operations before = since_more before p inner ∙ ap (λ b. operations before ++ cond b (p ∷ []) []) none ∙ append-nil (operations before) in
+    (f.0, inner_more before p inner ∙ f.1, f.2, ap length same ∙ f.3)
 
 op_follows : (before : List NumberedPiece) (p : NumberedPiece) (op : Op) (script : Script) (group : Option OpenGroup) → is_group_line p ≡ false → is_operation p ≡ true → Follows before group → Follows (before ++ p ∷ []) (with_op_by p.number op script group).group
 op_follows before p op script None inner is f = inner_more before p inner ∙ f
@@ -91,6 +91,10 @@ end_told : (before : List NumberedPiece) (p : NumberedPiece) (script : Script) (
 end_told before p script None e f = ap (fault_by before p) e ∙ rw f refl
 end_told before p script (Some group) e f = (ap (fault_by before p) e ∙ rw f.1 refl, end_more before p e)
 
+ask_told : (before : List NumberedPiece) (p : NumberedPiece) (text : List ℕ) (script : Script) (group : Option OpenGroup) → said p.piece.line ≡ asks text → Follows before group → StepTold before p (asked_by p.number text script group)
+ask_told before p text script None e f = (ap (fault_by before p) e ∙ rw f refl, still_follows before p None (ap says_group_line e) (ap says_operation e) f)
+ask_told before p text script (Some group) e f = ap (fault_by before p) e ∙ rw f.1 refl
+
 found_told : (before : List NumberedPiece) (p : NumberedPiece) (script : Script) (found : Result Op ScriptFault) (full : Bool) → is_full_group script.group ≡ full → is_group_line p ≡ false → is_operation p ≡ true
     → fault_at before p ≡ (if is_full before then Some (fault_of p E5) else found_fault found) → Follows before script.group → StepTold before p (if full then at_line p.number E5 else with_found p.number script found)
 found_told before p script found true e inner is told f = told ∙ rw (full_same before script.group f, e) refl
@@ -98,9 +102,10 @@ found_told before p script (Err fault) false e inner is told f = told ∙ rw (fu
 found_told before p script (Ok op) false e inner is told f = (told ∙ rw (full_same before script.group f, e) refl, op_follows before p op script script.group inner is f)
 
 step_told : (before : List NumberedPiece) (p : NumberedPiece) (script : Script) (what : Said) → said p.piece.line ≡ what → Follows before script.group → StepTold before p (step_by p.number script p.piece.next what)
-step_told before p script nothing e f = (ap (fault_by before p) e, pass_follows before p script.group e f)
+step_told before p script nothing e f = (ap (fault_by before p) e, still_follows before p script.group (ap says_group_line e) (ap says_operation e) f)
 step_told before p script begins e f = begin_told before p script script.group e f
 step_told before p script ends e f = end_told before p script script.group e f
+step_told before p script (asks text) e f = ask_told before p text script script.group e f
 step_told before p script (puts put file text) e f =
     found_told before p script (row_op p.number put file text p.piece.next) (is_full_group script.group) refl (ap says_group_line e) (ap says_operation e) (ap (fault_by before p) e) f
 step_told before p script (withdraws file text) e f =

@@ -15,9 +15,9 @@ use Rattle.source_rows.specs.declared.key.Key.{Key}
 use Rattle.release_rows.specs.declared.operation.Op.{Op}
 use Rattle.script_lines.proofs.Ready.{few_more}
 use Rattle.script_lines.proofs.Runs.{run, run_is, run_after}
-use Rattle.script_lines.specs.Grammar.{NumberedPiece, numbered_pieces, SaysOpBy, AreOps, nothing_inside, passed_inside, one_inside, IsScript, nothing_left, passed, alone, grouped, ScriptsAreRead}
-use Rattle.script_lines.specs.Lines.{Said, nothing, begins, ends, puts, withdraws, no_command, said}
-use Rattle.script_lines.specs.Scripts.{ScriptFault, row_text, row_op, row_op_by, key_op, key_op_by, one_group, at_line, begun_by, ended_by, with_op_by, is_full, with_found, operated, step_by, steps, then_steps, closed, closed_by, empty_script, script_or_fault, script_pieces}
+use Rattle.script_lines.specs.Grammar.{NumberedPiece, numbered_pieces, SaysOpBy, AreOps, nothing_inside, passed_inside, one_inside, IsScript, nothing_left, passed, alone, asking, grouped, ScriptsAreRead}
+use Rattle.script_lines.specs.Lines.{Said, nothing, begins, ends, asks, puts, withdraws, no_command, said}
+use Rattle.script_lines.specs.Scripts.{ScriptFault, row_text, row_op, row_op_by, key_op, key_op_by, one_group, question, at_line, begun_by, ended_by, asked_by, with_op_by, is_full, with_found, operated, step_by, steps, then_steps, closed, closed_by, empty_script, script_or_fault, script_pieces}
 use Rattle.script_lines.specs.declared.command.Command.{Command}
 use Rattle.script_lines.specs.declared.group.OpenGroup.{OpenGroup}
 use Rattle.script_lines.specs.declared.line.Put.{Put}
@@ -41,6 +41,7 @@ op_step : RowsAreRead → KeysAreRead → (n : ℕ) (script : Script) (next : Op
 op_step rows keys n script next nothing op is = absurd is
 op_step rows keys n script next begins op is = absurd is
 op_step rows keys n script next ends op is = absurd is
+op_step rows keys n script next (asks text) op is = absurd is
 op_step rows keys n script next no_command op is = absurd is
 op_step rows keys n script next (puts put file text) op is =
     let read : row_or_fault file (row_text text next) ≡ Ok (is.0) = (rows file (row_text text next) is.0).1 is.1 in
@@ -89,6 +90,10 @@ script_runs rows keys (alone {p} {ps} {op} {commands} is more) done =
     run_after (outside done) (outside (done ++ one_group p.number (op ∷ []) ∷ [])) p ps (op_step rows keys p.number (outside done) p.piece.next (said p.piece.line) op is)
     ∙ script_runs rows keys more (done ++ one_group p.number (op ∷ []) ∷ [])
     ∙ ap whole (append_assoc done (one_group p.number (op ∷ []) ∷ []) commands)
+script_runs rows keys (asking {p} {ps} {commands} text e more) done =
+    run_after (outside done) (outside (done ++ question p.number text ∷ [])) p ps (ap (step_by p.number (outside done) p.piece.next) e)
+    ∙ script_runs rows keys more (done ++ question p.number text ∷ [])
+    ∙ ap whole (append_assoc done (question p.number text ∷ []) commands)
 script_runs rows keys (grouped opening closing inside rest ops commands starts are few stops more) done =
     let group : OpenGroup = record { line = opening.number; ops = [] } in
     run_after (outside done) (within done group) opening (inside ++ closing ∷ rest) (ap (step_by opening.number (outside done) opening.piece.next) starts)
@@ -153,6 +158,12 @@ close_ahead p ps script (Some group) commands e go h = λ room.
       all = a.2 ∙ append_assoc script.commands (one_group group.line group.ops ∷ []) a.0 ∙ ap (λ (ops : List Op). script.commands ++ one_group group.line ops ∷ a.0) (sym (append-nil group.ops));
     }
 
+ask_ahead : (p : NumberedPiece) (ps : List NumberedPiece) (text : List ℕ) (script : Script) (group : Option OpenGroup) (commands : List Command) → said p.piece.line ≡ asks text → Goes ps commands → then_steps (asked_by p.number text script group) (λ next. run next ps) ≡ whole commands → Ahead script.commands group (p ∷ ps) commands
+ask_ahead p ps text script (Some group) commands e go h = absurd cc
+ask_ahead p ps text script None commands e go h =
+    let a = go (outside (script.commands ++ question p.number text ∷ [])) h in
+    (question p.number text ∷ a.0, asking text e a.1, a.2 ∙ append_assoc script.commands (question p.number text ∷ []) a.0)
+
 op_ahead : (p : NumberedPiece) (ps : List NumberedPiece) (script : Script) (group : Option OpenGroup) (op : Op) (commands : List Command) → SaysOpBy p.piece.next (said p.piece.line) op → is_full group ≡ false → Goes ps commands → run (with_op_by p.number op script group) ps ≡ whole commands → Ahead script.commands group (p ∷ ps) commands
 op_ahead p ps script None op commands is free go h =
     let a = go (outside (script.commands ++ one_group p.number (op ∷ []) ∷ [])) h in
@@ -183,6 +194,7 @@ step_ahead : RowsAreRead → KeysAreRead → (p : NumberedPiece) (ps : List Numb
 step_ahead rows keys p ps script nothing commands e go h = pass_ahead p ps script.commands script.group commands e (go script h)
 step_ahead rows keys p ps script begins commands e go h = begin_ahead p ps script script.group commands e go h
 step_ahead rows keys p ps script ends commands e go h = close_ahead p ps script script.group commands e go h
+step_ahead rows keys p ps script (asks text) commands e go h = ask_ahead p ps text script script.group commands e go h
 step_ahead rows keys p ps script (puts put file text) commands e go h =
     let is : IfOk (row_op p.number put file text p.piece.next) (λ op. SaysOpBy p.piece.next (puts put file text) op) = row_read rows p.number put file text p.piece.next (row_or_fault file (row_text text p.piece.next)) refl in
     found_ahead p ps script (row_op p.number put file text p.piece.next) (is_full script.group) commands refl (rw e is) go h

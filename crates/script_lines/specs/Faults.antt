@@ -10,7 +10,7 @@
 -- is_full before          a group is open, and has 4,096 operations
 -- found_fault found       the fault, where one was found in place of an operation
 -- fault_at before p       the fault of a piece behind these: E1 where it is no command, or is an `end` and no group is open; E3 where it is a
---                         `begin` and one is; E5 where it is an operation and the group is full; E6 where it is an operation with a
+--                         `begin` and one is; E4 where it is a question and one is; E5 where it is an operation and the group is full; E6 where it is an operation with a
 --                         fault; else None
 -- NoFault pieces          no piece has a fault behind the ones before it
 -- FirstFault pieces f     a piece has this fault behind the ones before it, and of those none has one
@@ -20,10 +20,10 @@ use Rattle.std.specs.Prelude.{◌≡◌, ◌⊎◌, ◌↔◌, ℕ, Bool, true, 
 use Rattle.std.specs.List.{after_last}
 use Rattle.release_rows.specs.declared.operation.Op.{Op}
 use Rattle.script_lines.specs.Grammar.{NumberedPiece, numbered_pieces}
-use Rattle.script_lines.specs.Lines.{Said, nothing, begins, ends, puts, withdraws, no_command, said}
+use Rattle.script_lines.specs.Lines.{Said, nothing, begins, ends, asks, puts, withdraws, no_command, said}
 use Rattle.script_lines.specs.Scripts.{ScriptFault, row_op, key_op, script_or_fault}
 use Rattle.script_lines.specs.declared.stop.ScriptRule.{ScriptRule}
-use Rattle.script_lines.specs.declared.stop.ScriptRule.TheVariants.{E1, E2, E3, E5}
+use Rattle.script_lines.specs.declared.stop.ScriptRule.TheVariants.{E1, E2, E3, E4, E5}
 
 abbrev pub fault_of : NumberedPiece → ScriptRule → ScriptFault
 fault_of p rule = record { line = p.number; rule = rule }
@@ -76,6 +76,7 @@ abbrev pub fault_by : List NumberedPiece → NumberedPiece → Said → Option S
 fault_by before p nothing = None
 fault_by before p begins = if is_open before then Some (fault_of p E3) else None
 fault_by before p ends = if is_open before then None else Some (fault_of p E1)
+fault_by before p (asks text) = if is_open before then Some (fault_of p E4) else None
 fault_by before p (puts put file text) = if is_full before then Some (fault_of p E5) else found_fault (row_op p.number put file text p.piece.next)
 fault_by before p (withdraws file text) = if is_full before then Some (fault_of p E5) else found_fault (key_op p.number file text)
 fault_by before p no_command = Some (fault_of p E1)

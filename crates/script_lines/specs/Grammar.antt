@@ -13,6 +13,7 @@
 --   nothing_left               no pieces
 --   passed                     a blank line or a comment, and then a script
 --   alone                      an operation, which is a group of its own, and then a script
+--   asking                     a question, and then a script
 --   grouped                    `begin`, at most 4,096 operations, `end`, and then a script; the group's line is that of `begin`
 -- ScriptsAreRead             commands are given exactly where the pieces are a script that has them; so no script has two lists of them
 use Rattle.std.specs.Prelude.{◌≡◌, ◌↔◌, ℕ, ◌+◌, ◌≤◌, List, [], ◌∷◌, ◌++◌, length, Option, Ok}
@@ -23,8 +24,8 @@ use Rattle.source_rows.specs.KeyGrammar.{ReadsKey}
 use Rattle.source_rows.specs.declared.key.Key.{Key}
 use Rattle.release_rows.specs.declared.operation.Op.{Op}
 use Rattle.release_rows.specs.declared.operation.Op.TheVariants.{Withdraw as WithdrawRow}
-use Rattle.script_lines.specs.Lines.{Said, nothing, begins, ends, puts, withdraws, said}
-use Rattle.script_lines.specs.Scripts.{ScriptPiece, script_pieces, piece_lines, row_text, op_of, one_group, script_or_fault}
+use Rattle.script_lines.specs.Lines.{Said, nothing, begins, ends, asks, puts, withdraws, said}
+use Rattle.script_lines.specs.Scripts.{ScriptPiece, script_pieces, piece_lines, row_text, op_of, one_group, question, script_or_fault}
 use Rattle.script_lines.specs.declared.command.Command.{Command}
 
 pub record NumberedPiece : Type 0 where
@@ -59,6 +60,7 @@ pub data IsScript : List NumberedPiece → List Command → Type 0 where
   nothing_left : IsScript [] []
   passed : {p : NumberedPiece} {ps : List NumberedPiece} {commands : List Command} → said p.piece.line ≡ nothing → IsScript ps commands → IsScript (p ∷ ps) commands
   alone : {p : NumberedPiece} {ps : List NumberedPiece} {op : Op} {commands : List Command} → SaysOp p.piece op → IsScript ps commands → IsScript (p ∷ ps) (one_group p.number (op ∷ []) ∷ commands)
+  asking : {p : NumberedPiece} {ps : List NumberedPiece} {commands : List Command} (text : List ℕ) → said p.piece.line ≡ asks text → IsScript ps commands → IsScript (p ∷ ps) (question p.number text ∷ commands)
   grouped : (opening closing : NumberedPiece) (inside rest : List NumberedPiece) (ops : List Op) (commands : List Command)
       → said opening.piece.line ≡ begins → AreOps inside ops → length ops ≤ 4096 → said closing.piece.line ≡ ends → IsScript rest commands
       → IsScript (opening ∷ inside ++ closing ∷ rest) (one_group opening.number ops ∷ commands)

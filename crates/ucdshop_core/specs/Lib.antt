@@ -2,6 +2,8 @@ pub mod Printed
 pub mod Paths
 pub mod Refusals
 pub mod Verdict
+pub mod Questions
+pub mod SetTexts
 pub mod Session
 pub mod Run
 pub mod Outcome
@@ -12,4 +14,5 @@ pub mod Reading
 pub mod Judging
 pub mod Writing
 pub mod Carrying
+pub mod Asking
 pub mod Planning

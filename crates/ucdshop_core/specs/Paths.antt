@@ -5,6 +5,7 @@
 -- sources_in folder        the paths of the source files of a folder, in order
 -- derived_in folder file   the path of a derived file below a folder
 -- log_in folder            the path of the log below a folder
+-- sets_in folder           the path of the answers to questions below a folder
 use Rattle.std.specs.Prelude.{ℕ, List, ◌++◌, map, codes}
 use Rattle.ucd_model.specs.Names.{source_path, derived_path}
 use Rattle.ucd_model.specs.SourceFiles.{source_files}
@@ -25,3 +26,6 @@ derived_in folder file = path_in folder (derived_path file)
 
 abbrev pub log_in : List ℕ → List ℕ
 log_in folder = path_in folder (codes "bench.log")
+
+abbrev pub sets_in : List ℕ → List ℕ
+sets_in folder = path_in folder (codes "sets.txt")

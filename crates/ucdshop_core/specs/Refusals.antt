@@ -6,7 +6,7 @@
 --                                   a script that is too long G02
 use Rattle.std.specs.Prelude.{ℕ, List, ◌++◌, codes}
 use Rattle.script_lines.specs.declared.stop.ScriptRule.{ScriptRule}
-use Rattle.script_lines.specs.declared.stop.ScriptRule.TheVariants.{E1, E2, E3, E5, E6}
+use Rattle.script_lines.specs.declared.stop.ScriptRule.TheVariants.{E1, E2, E3, E4, E5, E6}
 use Rattle.ucdshop_core.specs.Paths.{source_in}
 use Rattle.ucdshop_core.specs.Printed.{refused, refused_point, row_rule_code, rule_code}
 use Rattle.ucdshop_core.specs.declared.refusal.Refusal.{Refusal}
@@ -16,6 +16,7 @@ abbrev pub script_rule_code : ScriptRule → List ℕ
 script_rule_code E1 = codes "E1"
 script_rule_code E2 = codes "E2"
 script_rule_code E3 = codes "E3"
+script_rule_code E4 = codes "E4"
 script_rule_code E5 = codes "E5"
 script_rule_code (E6 fault) = codes "E6 " ++ row_rule_code fault
 

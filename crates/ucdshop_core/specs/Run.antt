@@ -22,8 +22,9 @@
 -- source_file folder files file    a source file as it is among these files: its path below the folder, with its bytes
 -- derived_file folder files file   a derived file of these files: its path below the folder, with its bytes
 -- log_file folder log              the log: its path below the folder, with its bytes
+-- sets_file folder sets            the answers to the questions: their path below the folder, with their bytes
 -- new_files job session            the files that are written after a session, in order: of `derive` the derived files; of `apply`
---                                  the source files, the derived files and the log
+--                                  the source files, the derived files, the log and the answers to the questions
 -- counts_of session                what the summary counts
 -- Ending                           how a run ends that is not refused: the files that are written, in order, each path with its
 --                                  bytes; the summary that is told then; and whether a command was refused or a policy is broken
@@ -54,7 +55,7 @@ use Rattle.release_rows.specs.FileItems.{FileItem, bytes_of}
 use Rattle.release_rows.specs.Releases.{items_at}
 use Rattle.script_lines.specs.declared.command.Command.{Command}
 use Rattle.edit_session.specs.Groups.{files_facts}
-use Rattle.ucdshop_core.specs.Paths.{source_in, sources_in, derived_in, log_in}
+use Rattle.ucdshop_core.specs.Paths.{source_in, sources_in, derived_in, log_in, sets_in}
 use Rattle.ucdshop_core.specs.Printed.{Counts, summary}
 use Rattle.ucdshop_core.specs.Refusals.{refusal_line}
 use Rattle.ucdshop_core.specs.Session.{Session, session}
@@ -128,13 +129,16 @@ derived_file folder files file = record { path = derived_in folder file; bytes =
 abbrev pub log_file : List ℕ → List ℕ → NewFile
 log_file folder log = record { path = log_in folder; bytes = log }
 
+abbrev pub sets_file : List ℕ → List ℕ → NewFile
+sets_file folder sets = record { path = sets_in folder; bytes = sets }
+
 abbrev pub new_files : Job → Session → List NewFile
 new_files (Derive input output) s = map (derived_file output s.files) derived_files
 new_files (Apply input script output) s =
-    map (source_file output s.files) source_files ++ map (derived_file output s.files) derived_files ++ log_file output s.log ∷ []
+    map (source_file output s.files) source_files ++ map (derived_file output s.files) derived_files ++ log_file output s.log ∷ sets_file output s.sets ∷ []
 
 abbrev pub counts_of : Session → Counts
-counts_of s = record { accepted = s.accepted; refused = s.refused; answered = 0; broken = 0 }
+counts_of s = record { accepted = s.accepted; refused = s.refused; answered = s.answered; broken = 0 }
 
 pub record Ending : Type 0 where
   pub files : List NewFile
@@ -146,7 +150,7 @@ ending_of job s = record { files = new_files job s; summary = summary (counts_of
 
 abbrev pub output_paths : Job → List (List ℕ)
 output_paths (Derive input output) = map (derived_in output) derived_files
-output_paths (Apply input script output) = sources_in output ++ map (derived_in output) derived_files ++ log_in output ∷ []
+output_paths (Apply input script output) = sources_in output ++ map (derived_in output) derived_files ++ log_in output ∷ sets_in output ∷ []
 
 pub data Expected : Type 0 where
   NoForm : Expected

@@ -6,26 +6,45 @@
 -- refusal_text why          of a group that was refused: the rule that an operation breaks, and the number of that operation,
 --                           counted from 1; or the rule of a valid release, and the code point that breaks it
 -- refused_line line why     the line that says it
--- Session                   the files as the commands so far leave them, the log, and how many groups were accepted and refused
+-- set_line line count       of a question that was answered: how many code points are members
+-- set_rule_code rule        the code of a rule that the text of a question breaks: S1 to S7
+-- name_rule_code rule       the code of a rule that a name breaks: S8 or S9
+-- ask_rule_code rule        the code of either
+-- unasked_text fault        of a question that was refused: the rule, and the place in its text, in bytes counted from 0
+-- unasked_line line fault   the line that says it
+-- Session                   the files as the commands so far leave them, the log, the answers to the questions, how many groups were
+--                           accepted, commands refused, and questions answered
 -- started files             the session before its first command
--- answered s line answer    the session with the answer of a group: the files of an accepted group take the place of those now, a
+-- after_group s line answer the session with the answer of a group: the files of an accepted group take the place of those now, a
 --                           refused one leaves them; either has its line in the log and is counted
+-- after_question s line answer   the session with the answer to a question, which leaves the files; either has its line in the log
+--                           and is counted, and the members that are answered are a section of the answers
 -- step s command            the session after one more command, which is answered on the files as they are then
 -- session files commands    the session after all commands
 use Rattle.std.specs.Prelude.{ℕ, ◌+◌, List, [], ◌++◌, length, Result, Ok, Err, codes}
 use Rattle.std.specs.Fmt.{decimal}
 use Rattle.std.specs.List.{fold}
+use Rattle.ucd_model.specs.Bounds.{Bounds}
 use Rattle.ucd_model.specs.DerivedText.{hex_text}
 use Rattle.release_rows.specs.FileItems.{FileItem}
 use Rattle.release_rows.specs.declared.key_rule.KeyRule.{KeyRule}
 use Rattle.release_rows.specs.declared.key_rule.KeyRule.TheVariants.{K1, K2, K4}
 use Rattle.script_lines.specs.declared.command.Command.{Command}
 use Rattle.script_lines.specs.declared.command.What.{What}
-use Rattle.script_lines.specs.declared.command.What.TheVariants.{Group}
+use Rattle.script_lines.specs.declared.command.What.TheVariants.{Group, Question}
 use Rattle.edit_session.specs.Groups.{changed, files_facts, group_answer}
 use Rattle.edit_session.specs.declared.apply_stop.Refused.{Refused}
 use Rattle.edit_session.specs.declared.apply_stop.Refused.TheVariants.{Key, Valid}
+use Rattle.unicodeset_eval.specs.declared.stop.NameRule.{NameRule}
+use Rattle.unicodeset_eval.specs.declared.stop.NameRule.TheVariants.{S8, S9}
+use Rattle.unicodeset_parser.specs.declared.stop.SetRule.{SetRule}
+use Rattle.unicodeset_parser.specs.declared.stop.SetRule.TheVariants.{S1, S2, S3, S4, S5, S6, S7}
 use Rattle.ucdshop_core.specs.Printed.{bad_code, line_end}
+use Rattle.ucdshop_core.specs.Questions.{question_answer}
+use Rattle.ucdshop_core.specs.SetTexts.{members_in, set_section}
+use Rattle.ucdshop_core.specs.declared.ask_stop.AskFault.{AskFault}
+use Rattle.ucdshop_core.specs.declared.ask_stop.AskRule.{AskRule}
+use Rattle.ucdshop_core.specs.declared.ask_stop.AskRule.TheVariants.{Text, Name}
 
 -- ---- the log
 
@@ -47,33 +66,84 @@ refusal_text (Valid rule point) = codes "refused " ++ bad_code rule ++ codes " p
 abbrev pub refused_line : ℕ → Refused → List ℕ
 refused_line line why = log_line line (refusal_text why)
 
+abbrev pub set_line : ℕ → ℕ → List ℕ
+set_line line count = log_line line (codes "set " ++ decimal count)
+
+abbrev pub set_rule_code : SetRule → List ℕ
+set_rule_code S1 = codes "S1"
+set_rule_code S2 = codes "S2"
+set_rule_code S3 = codes "S3"
+set_rule_code S4 = codes "S4"
+set_rule_code S5 = codes "S5"
+set_rule_code S6 = codes "S6"
+set_rule_code S7 = codes "S7"
+
+abbrev pub name_rule_code : NameRule → List ℕ
+name_rule_code S8 = codes "S8"
+name_rule_code S9 = codes "S9"
+
+abbrev pub ask_rule_code : AskRule → List ℕ
+ask_rule_code (Text rule) = set_rule_code rule
+ask_rule_code (Name rule) = name_rule_code rule
+
+abbrev pub unasked_text : AskFault → List ℕ
+unasked_text fault = codes "refused " ++ ask_rule_code fault.rule ++ codes " byte " ++ decimal fault.at
+
+abbrev pub unasked_line : ℕ → AskFault → List ℕ
+unasked_line line fault = log_line line (unasked_text fault)
+
 -- ---- the session
 
 pub record Session : Type 0 where
   pub files : List (List FileItem)
   pub log : List ℕ
+  pub sets : List ℕ
   pub accepted : ℕ
   pub refused : ℕ
+  pub answered : ℕ
 
 abbrev pub started : List (List FileItem) → Session
-started files = record { files = files; log = []; accepted = 0; refused = 0 }
+started files = record { files = files; log = []; sets = []; accepted = 0; refused = 0; answered = 0 }
 
-abbrev pub answered : Session → ℕ → Result (List (List FileItem)) Refused → Session
-answered s line (Ok files) = record {
+abbrev pub after_group : Session → ℕ → Result (List (List FileItem)) Refused → Session
+after_group s line (Ok files) = record {
   files = files;
   log = s.log ++ accepted_line line (length (changed (files_facts s.files) (files_facts files)));
+  sets = s.sets;
   accepted = s.accepted + 1;
   refused = s.refused;
+  answered = s.answered;
 }
-answered s line (Err why) = record {
+after_group s line (Err why) = record {
   files = s.files;
   log = s.log ++ refused_line line why;
+  sets = s.sets;
   accepted = s.accepted;
   refused = s.refused + 1;
+  answered = s.answered;
 }
 
-abbrev step_by : Session → ℕ → What → Session
-step_by s line (Group ops) = answered s line (group_answer s.files ops)
+abbrev pub after_question : Session → ℕ → Result (List Bounds) AskFault → Session
+after_question s line (Ok spans) = record {
+  files = s.files;
+  log = s.log ++ set_line line (members_in spans);
+  sets = s.sets ++ set_section line spans;
+  accepted = s.accepted;
+  refused = s.refused;
+  answered = s.answered + 1;
+}
+after_question s line (Err fault) = record {
+  files = s.files;
+  log = s.log ++ unasked_line line fault;
+  sets = s.sets;
+  accepted = s.accepted;
+  refused = s.refused + 1;
+  answered = s.answered;
+}
+
+abbrev pub step_by : Session → ℕ → What → Session
+step_by s line (Group ops) = after_group s line (group_answer s.files ops)
+step_by s line (Question text) = after_question s line (question_answer s.files text)
 
 abbrev pub step : Session → Command → Session
 step s command = step_by s command.line command.what

@@ -5,6 +5,7 @@ pub mod VerdictLemmas
 pub mod BenchLemmas
 pub mod OutputLemmas
 pub mod PlanningLemmas
+pub mod QuestionLemmas
 pub mod CarryingLemmas
 pub mod RunLemmas
 pub mod Clauses

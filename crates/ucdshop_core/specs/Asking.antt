@@ -18,7 +18,7 @@ use Rattle.ucdshop_core.specs.declared.ask_stop.AskStop.{AskStop}
 use Rattle.ucdshop_core.specs.declared.ask_stop.AskStop.TheVariants.{Fault, Memory}
 
 pub record CanAnswer (files : List (List FileItem)) (aliases : Aliases) (holds : Test → ℕ → Bool) : Type 0 where
-  pub aliases : AreAliasesOf aliases (files_sources files)
+  pub meant : AreAliasesOf aliases (files_sources files)
   pub tests : holds ≡ files_hold files
 
 abbrev pub IsUnread : AskStop → SetStop → Type 0

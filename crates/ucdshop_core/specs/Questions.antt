@@ -2,7 +2,8 @@
 --
 -- files_rows files                the rows of each of these files
 -- files_sources files             what names are resolved by in these files
--- files_hold files test c         what a test says of the code point c, by the rows of these files and by what is derived of them
+-- files_hold files test c         what a test says of the code point c, by the rows of these files and by what is derived of them;
+--                                 past 10FFFF it holds of nothing
 -- text_fault f, name_fault f      why a question is refused: its text is out of the grammar; a name in it has no meaning
 -- named_answer answer             the spans, or why a name refuses the question
 -- tree_answer files tree          the members of a tree as maximal ascending spans, or the first name without meaning
@@ -10,7 +11,7 @@
 -- question_answer files text      what a question of this text is answered on these files: the members of its set as maximal ascending
 --                                 spans; or the fault of the text, and if it has none, the first name without meaning
 -- AskedAs result expected         the spans, or the rule and the place, are those that were expected; want of memory says nothing
-use Rattle.std.specs.Prelude.{◌≡◌, ℕ, Bool, List, Result, Ok, Err, ⊤}
+use Rattle.std.specs.Prelude.{◌≡◌, ℕ, Bool, ◌&&◌, nat_lt, List, Result, Ok, Err, ⊤}
 use Rattle.ucd_model.specs.Bounds.{Bounds}
 use Rattle.ucd_model.specs.Limits.{point_count}
 use Rattle.ucd_model.specs.Records.{record_at}
@@ -38,7 +39,7 @@ abbrev pub files_sources : List (List FileItem) → Sources
 files_sources files = sources_of (record { current = files; prepared = files })
 
 abbrev pub files_hold : List (List FileItem) → Test → ℕ → Bool
-files_hold files = test_holds (record_at (files_facts files)) (files_rows files)
+files_hold files test c = nat_lt c point_count && test_holds (record_at (files_facts files)) (files_rows files) test c
 
 abbrev pub text_fault : TextFault → AskFault
 text_fault f = record { rule = Text f.rule; at = f.at }

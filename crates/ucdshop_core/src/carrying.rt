@@ -1,64 +1,23 @@
 //! Carrying out the commands of a script.
 
-ghost use Rattle.std.specs.Prelude.{◌≡◌, ◌+◌, ◌-◌, ◌<◌, ◌^◌, [], ◌++◌, length, IfOk, OnOk};
+ghost use Rattle.std.specs.Prelude.{◌≡◌, ◌∷◌, ◌+◌, ◌<◌, ◌^◌, [], fold, length, IfOk, OnOk};
 ghost use Rattle.std.specs.List.{All};
+ghost use Rattle.script_lines.specs.Groups.{AreReady, IsReady};
+ghost use Rattle.script_lines.specs.declared.command.What.TheVariants.{Group};
 ghost use Rattle.ucdshop_core.specs.Carrying.{counted, session_of};
-ghost use Rattle.script_lines.specs.Groups.{IsReady};
-ghost use Rattle.ucdshop_core.specs.Session.{accepted_line, refused_line, session, step};
+ghost use Rattle.ucdshop_core.specs.Session.{session, step, step_by};
 
-use crate::log::{put_accepted, put_refused};
-use edit_session::{ApplyStop, Bench, Refused};
+use crate::answering::answer_run;
+use crate::carried::Carried;
+use edit_session::{ApplyStop, Bench};
+use release_rows::Op;
 use script_lines::{Command, What};
 use std::alloc::Global;
 use std::sync::ledger::Ledger;
-use ucd_model::{Memory, Steps, Text};
+use ucd_model::{Memory, Steps};
 
-/// What carrying out commands gave.
-#[derive(Drop)]
-pub struct Carried {
-    /// The log: one line for each command.
-    pub log: Text,
-    /// How many groups were accepted.
-    pub accepted: usize,
-    /// How many commands were refused.
-    pub refused: usize,
-}
-
-impl Carried {
-    /// No command yet. It takes no memory.
-    fn new(alloc: Global) -> Carried
-        ensures { result ≡ record { log = []; accepted = 0; refused = 0 } }
-    {
-        Carried {
-            log: Text::new(alloc),
-            accepted: 0,
-            refused: 0,
-        }
-    }
-
-    /// One more group was accepted: the line of its command, and how many code points have another record.
-    fn accept(&mut self, alloc: Global, line: u32, count: usize) -> Result<(), Memory>
-        requires { counted self.old + 1 < 2 ^ 64 }
-        ensures { OnOk result (self.new ≡ record { log = self.old.log ++ accepted_line line count; accepted = self.old.accepted + 1; refused = self.old.refused }) }
-    {
-        put_accepted(alloc, &mut self.log, line, count)?;
-        self.accepted += 1;
-        Ok(())
-    }
-
-    /// One more group was refused: the line of its command, and why.
-    fn refuse(&mut self, alloc: Global, line: u32, why: Refused) -> Result<(), Memory>
-        requires { counted self.old + 1 < 2 ^ 64 }
-        ensures { OnOk result (self.new ≡ record { log = self.old.log ++ refused_line line why; accepted = self.old.accepted; refused = self.old.refused + 1 }) }
-    {
-        put_refused(alloc, &mut self.log, line, why)?;
-        self.refused += 1;
-        Ok(())
-    }
-}
-
-/// Carries out the commands of a script, in order, on the release of a bench. Without commands the counter of steps
-/// stays.
+/// Carries out the commands of a script, in order, on the release of a bench. A question is answered on the rows as the
+/// commands before it leave them. Without commands the counter of steps stays.
 ///
 /// - `Memory`: memory ran out.
 pub fn carry_out<L: Ledger>(
@@ -72,29 +31,67 @@ pub fn carry_out<L: Ledger>(
     ensures steps { commands.now ≡ [] → steps.new ≡ steps.old }
 {
     let mut carried = Carried::new(alloc);
-    'commands: for at in 0..commands.len() {
-        carry_one(alloc, bench, &commands[at], &mut carried, steps)?;
+    let mut rest = commands;
+    'commands: while !rest.is_empty() {
+        rest = carry_some(alloc, bench, rest, &mut carried, steps)?;
     }
     Ok(carried)
 }
 
-/// Carries out one command.
-fn carry_one<L: Ledger>(
+/// Carries out the first command, and if it is a question, all that stand directly behind it. It answers the commands
+/// that are left.
+fn carry_some<'c, L: Ledger>(
     alloc: Global,
     bench: &mut Bench,
-    command: &Command,
+    commands: &'c [Command],
+    carried: &mut Carried,
+    steps: &mut Steps<L>,
+) -> Result<&'c [Command], Memory>
+    requires some { 0 < length commands.now }
+    requires ready { All IsReady commands.now }
+    requires room { counted carried.old + length commands.now < 2 ^ 64 }
+    ensures session { IfOk result (λ rest. fold step (session_of bench.new carried.new) rest.now ≡ fold step (session_of bench.old carried.old) commands.now) }
+    ensures counted { IfOk result (λ rest. counted carried.new + length rest.now ≡ counted carried.old + length commands.now) }
+    ensures shorter { IfOk result (λ rest. length rest.now < length commands.now) }
+    ensures ready { IfOk result (λ rest. All IsReady rest.now) }
+{
+    let (command, behind) = first_command(commands);
+    match &command.what {
+        What::Group(ops) => {
+            carry_group(alloc, bench, command.line, ops.as_slice(), carried, steps)?;
+            Ok(behind)
+        }
+        What::Question(text) => {
+            answer_run(alloc, bench, command.line, text.as_slice(), behind, carried)
+        }
+    }
+}
+
+/// The first command, and those behind it.
+fn first_command(commands: &[Command]) -> (&Command, &[Command])
+    requires { 0 < length commands.now }
+    ensures { commands.now ≡ result.0.now ∷ result.1.now }
+{
+    (&commands[0], &commands[1..])
+}
+
+/// Carries out a group.
+fn carry_group<L: Ledger>(
+    alloc: Global,
+    bench: &mut Bench,
+    line: u32,
+    ops: &[Op],
     carried: &mut Carried,
     steps: &mut Steps<L>,
 ) -> Result<(), Memory>
-    requires command { IsReady command.now }
+    requires ready { AreReady ops.now }
     requires room { counted carried.old + 1 < 2 ^ 64 }
-    ensures session { OnOk result (session_of bench.new carried.new ≡ step (session_of bench.old carried.old) command.now) }
+    ensures session { OnOk result (session_of bench.new carried.new ≡ step_by (session_of bench.old carried.old) line (Group ops.now)) }
     ensures counted { OnOk result (counted carried.new ≡ counted carried.old + 1) }
 {
-    let What::Group(ops) = &command.what;
-    match bench.apply(alloc, ops.as_slice(), steps) {
-        Ok(accepted) => carried.accept(alloc, command.line, accepted.changed.as_slice().len()),
-        Err(ApplyStop::Refused(why)) => carried.refuse(alloc, command.line, why),
+    match bench.apply(alloc, ops, steps) {
+        Ok(accepted) => carried.accept(alloc, line, accepted.changed.as_slice().len()),
+        Err(ApplyStop::Refused(why)) => carried.refuse(alloc, line, why),
         Err(ApplyStop::Memory) => Err(Memory),
     }
 }

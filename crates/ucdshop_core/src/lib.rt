@@ -1,7 +1,11 @@
 //! The run of the program: what it reads, judges, carries out, derives, writes and prints.
 #![tactic(auto)]
 
+mod answering;
+mod ask_stop;
+mod asking;
 mod bench_pieces;
+mod carried;
 mod carrying;
 mod command;
 mod gathering;
@@ -18,12 +22,15 @@ mod program;
 mod reading;
 mod refusal;
 mod refusing;
+mod set_text;
 mod source_path;
 mod status;
 mod stop;
 mod writing;
 
-pub use carrying::{Carried, carry_out};
+pub use ask_stop::{AskFault, AskRule};
+pub use carried::Carried;
+pub use carrying::carry_out;
 pub use command::Command;
 pub use inputs::{Inputs, judge_inputs};
 pub use judging::judge;

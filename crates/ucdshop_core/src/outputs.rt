@@ -8,13 +8,14 @@ ghost use Rattle.ucd_model.specs.Limits.{point_count};
 ghost use Rattle.ucd_model.specs.SourceFiles.{source_files};
 ghost use Rattle.ucdshop_core.specs.Carrying.{session_of};
 ghost use Rattle.ucdshop_core.specs.Commands.{job_of};
+ghost use Rattle.ucdshop_core.specs.Paths.{path_in};
 ghost use Rattle.ucdshop_core.specs.Planning.{HaveLines, Puts};
 ghost use Rattle.ucdshop_core.specs.Printed.{write_failed};
-ghost use Rattle.ucdshop_core.specs.Run.{derived_file, log_file, new_files, source_file};
+ghost use Rattle.ucdshop_core.specs.Run.{derived_file, log_file, new_files, sets_file, source_file};
 ghost use Rattle.ucdshop_core.specs.Writing.{file_of, files_of};
 
 use crate::bench_pieces::bench_pieces;
-use crate::carrying::Carried;
+use crate::carried::Carried;
 use crate::command::Command;
 use crate::printed::write_failed;
 use crate::source_path::path_in;
@@ -45,7 +46,8 @@ pub fn outputs_of(
     Ok(outputs)
 }
 
-/// Puts what `apply` writes below a folder: the source files, the derived files and the log.
+/// Puts what `apply` writes below a folder: the source files, the derived files, the log and the answers to the
+/// questions.
 fn put_all(
     alloc: Global,
     folder: &[u8],
@@ -53,11 +55,12 @@ fn put_all(
     carried: &Carried,
     outputs: &mut Vec<Output>,
 ) -> Result<(), Memory>
-    ensures { OnOk result (Puts (map (source_file folder.now bench.now.current) source_files ++ map (derived_file folder.now bench.now.current) derived_files ++ log_file folder.now carried.now.log ∷ []) outputs.old.items outputs.new.items) }
+    ensures { OnOk result (Puts (map (source_file folder.now bench.now.current) source_files ++ map (derived_file folder.now bench.now.current) derived_files ++ log_file folder.now carried.now.log ∷ sets_file folder.now carried.now.sets ∷ []) outputs.old.items outputs.new.items) }
 {
     put_sources(alloc, folder, bench, outputs)?;
     put_derived(alloc, folder, bench, outputs)?;
     put_log(alloc, folder, carried, outputs)?;
+    put_sets(alloc, folder, carried, outputs)?;
     Ok(())
 }
 
@@ -103,7 +106,21 @@ fn put_log(
 ) -> Result<(), Memory>
     ensures { OnOk result (Puts (log_file folder.now carried.now.log ∷ []) outputs.old.items outputs.new.items) }
 {
-    let output = log_output(alloc, folder, carried)?;
+    let output = text_output(alloc, folder, b"bench.log", &carried.log)?;
+    outputs.push(output)?;
+    Ok(())
+}
+
+/// Puts the answers to the questions below a folder.
+fn put_sets(
+    alloc: Global,
+    folder: &[u8],
+    carried: &Carried,
+    outputs: &mut Vec<Output>,
+) -> Result<(), Memory>
+    ensures { OnOk result (Puts (sets_file folder.now carried.now.sets ∷ []) outputs.old.items outputs.new.items) }
+{
+    let output = text_output(alloc, folder, b"sets.txt", &carried.sets)?;
     outputs.push(output)?;
     Ok(())
 }
@@ -153,12 +170,12 @@ fn derived_output(
     output_of(alloc, path, bytes)
 }
 
-/// The log below a folder.
-fn log_output(alloc: Global, folder: &[u8], carried: &Carried) -> Result<Output, Memory>
-    ensures file { IfOk result (λ output. file_of output ≡ log_file folder.now carried.now.log) }
+/// A file of this name and this text below a folder.
+fn text_output(alloc: Global, folder: &[u8], name: &[u8], text: &Text) -> Result<Output, Memory>
+    ensures file { IfOk result (λ output. file_of output ≡ record { path = path_in folder.now name.now; bytes = text.now }) }
     ensures line { IfOk result (λ output. output.fault_line ≡ write_failed output.path) }
 {
-    let path = path_in(alloc, folder, b"bench.log")?;
-    let bytes = carried.log.copy(alloc)?;
+    let path = path_in(alloc, folder, name)?;
+    let bytes = text.copy(alloc)?;
     output_of(alloc, path, bytes)
 }

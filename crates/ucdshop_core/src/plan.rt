@@ -6,7 +6,7 @@ ghost use Rattle.ucdshop_core.specs.Commands.{job_of};
 ghost use Rattle.ucdshop_core.specs.Planning.{HasPlan};
 ghost use Rattle.ucdshop_core.specs.Run.{ending_of};
 
-use crate::carrying::Carried;
+use crate::carried::Carried;
 use crate::command::Command;
 use crate::outputs::outputs_of;
 use crate::printed::{RunCounts, summary};
@@ -41,7 +41,7 @@ pub fn plan_of(
     let counts = RunCounts {
         accepted: carried.accepted,
         refused: carried.refused,
-        answered: 0,
+        answered: carried.answered,
         broken: 0,
     };
     let summary = summary(alloc, counts)?;

@@ -61,6 +61,7 @@ fn script_rule_code(alloc: Global, rule: ScriptRule) -> Result<Text, Memory>
         ScriptRule::E1 => text.append(b"E1")?,
         ScriptRule::E2 => text.append(b"E2")?,
         ScriptRule::E3 => text.append(b"E3")?,
+        ScriptRule::E4 => text.append(b"E4")?,
         ScriptRule::E5 => text.append(b"E5")?,
         ScriptRule::E6(fault) => {
             text.append(b"E6 ")?;

@@ -1,13 +1,19 @@
-use Rattle.std.proofs.Common.{◌≡◌, [], take}
+use Rattle.std.proofs.Common.{◌≡◌, ◌+◌, [], fold, length}
+use Rattle.std.specs.List.{All}
+use Rattle.script_lines.specs.Groups.{IsReady}
 use Rattle.ucdshop_core.specs.Carrying.{counted, session_of}
-use Rattle.ucdshop_core.specs.Session.{session}
+use Rattle.ucdshop_core.specs.Session.{session, step}
 use Rattle.ucdshop_core.proofs.carrying.carry_out.Given as goal
 
--- the session of the commands so far, each of which is counted
+-- the session so far and the commands that are left give what the whole gives; each other command is counted
 abbrev pub invariant-commands : goal.invariant-commands
 invariant-commands g l =
     record {
-      session : session_of l.bench l.carried ≡ session l.initial.bench.current (take l.at l.commands);
-      counted : counted l.carried ≡ l.at;
+      session : fold step (session_of l.bench l.carried) l.rest ≡ session l.initial.bench.current l.commands;
+      counted : counted l.carried + length l.rest ≡ length l.commands;
+      ready : All IsReady l.rest;
       steps : l.commands ≡ [] → l.steps ≡ l.initial.steps;
     }
+
+abbrev pub decreases-commands : goal.decreases-commands
+decreases-commands g l = length l.rest

@@ -1,0 +1,95 @@
+//! Answering the questions of a script that stand directly behind one another.
+
+ghost use Rattle.std.specs.Prelude.{◌≡◌, ◌∷◌, ◌+◌, ◌<◌, ◌≤◌, ◌^◌, ⊤, fold, length, IfOk, OnOk};
+ghost use Rattle.std.specs.List.{All};
+ghost use Rattle.std.specs.Option.{MatchOption};
+ghost use Rattle.script_lines.specs.Groups.{IsReady};
+ghost use Rattle.script_lines.specs.declared.command.What.TheVariants.{Question};
+ghost use Rattle.ucdshop_core.specs.Carrying.{counted, session_of, session_on, question_command};
+ghost use Rattle.ucdshop_core.specs.Session.{step, step_by};
+
+use crate::ask_stop::AskStop;
+use crate::asking::Asking;
+use crate::bench_pieces::bench_pieces;
+use crate::carried::Carried;
+use edit_session::Bench;
+use script_lines::{Command, What};
+use std::alloc::Global;
+use ucd_model::Memory;
+
+/// Answers the question of this text, and those at the front of the commands that stand behind it, and answers the
+/// commands that are left. What answers them is made once.
+///
+/// - `Memory`: memory ran out.
+pub fn answer_run<'c>(
+    alloc: Global,
+    bench: &Bench,
+    line: u32,
+    text: &[u8],
+    behind: &'c [Command],
+    carried: &mut Carried,
+) -> Result<&'c [Command], Memory>
+    requires room { counted carried.old + 1 + length behind.now < 2 ^ 64 }
+    requires ready { All IsReady behind.now }
+    ensures session { IfOk result (λ rest. fold step (session_of bench.now carried.new) rest.now ≡ fold step (step_by (session_of bench.now carried.old) line (Question text.now)) behind.now) }
+    ensures counted { IfOk result (λ rest. counted carried.new + length rest.now ≡ counted carried.old + 1 + length behind.now) }
+    ensures left { IfOk result (λ rest. length rest.now ≤ length behind.now) }
+    ensures ready { IfOk result (λ rest. All IsReady rest.now) }
+{
+    let pieces = bench_pieces(alloc, bench)?;
+    let asking = Asking::of(alloc, bench, pieces.as_slice())?;
+    answer_one(alloc, &asking, line, text, carried)?;
+    answer_more(alloc, &asking, behind, carried)
+}
+
+/// Answers the questions at the front of the commands, and answers the commands that are left.
+fn answer_more<'c>(
+    alloc: Global,
+    asking: &Asking<'_>,
+    commands: &'c [Command],
+    carried: &mut Carried,
+) -> Result<&'c [Command], Memory>
+    requires room { counted carried.old + length commands.now < 2 ^ 64 }
+    requires ready { All IsReady commands.now }
+    ensures session { IfOk result (λ rest. fold step (session_on asking.now carried.new) rest.now ≡ fold step (session_on asking.now carried.old) commands.now) }
+    ensures counted { IfOk result (λ rest. counted carried.new + length rest.now ≡ counted carried.old + length commands.now) }
+    ensures left { IfOk result (λ rest. length rest.now ≤ length commands.now) }
+    ensures ready { IfOk result (λ rest. All IsReady rest.now) }
+{
+    let mut rest = commands;
+    'questions: while let Some((line, text, behind)) = first_question(rest) {
+        answer_one(alloc, asking, line, text, carried)?;
+        rest = behind;
+    }
+    Ok(rest)
+}
+
+/// The line and the text of the first command and the commands behind it, where it is a question.
+fn first_question(commands: &[Command]) -> Option<(u32, &[u8], &[Command])>
+    ensures { MatchOption result ⊤ (λ q. commands.now ≡ question_command q.0 q.1.now ∷ q.2.now) }
+{
+    let (command, behind) = commands.split_first()?;
+    match &command.what {
+        What::Question(text) => Some((command.line, text.as_slice(), behind)),
+        What::Group(_) => None,
+    }
+}
+
+/// Answers a question.
+fn answer_one(
+    alloc: Global,
+    asking: &Asking<'_>,
+    line: u32,
+    text: &[u8],
+    carried: &mut Carried,
+) -> Result<(), Memory>
+    requires { counted carried.old + 1 < 2 ^ 64 }
+    ensures session { OnOk result (session_on asking.now carried.new ≡ step_by (session_on asking.now carried.old) line (Question text.now)) }
+    ensures counted { OnOk result (counted carried.new ≡ counted carried.old + 1) }
+{
+    match asking.answer(alloc, text) {
+        Ok(spans) => carried.answer(alloc, line, spans.as_slice()),
+        Err(AskStop::Fault(fault)) => carried.refuse_question(alloc, line, fault),
+        Err(AskStop::Memory) => Err(Memory),
+    }
+}

@@ -1,0 +1,129 @@
+//! Answering questions of sets on the release of a bench.
+
+ghost use Rattle.std.specs.Prelude.{◌≡◌, ◌≤◌, IfOk};
+ghost use Rattle.edit_session.specs.Benches.{bench_record};
+ghost use Rattle.ucd_model.specs.Cuts.{IsCut};
+ghost use Rattle.ucd_model.specs.Limits.{point_count};
+ghost use Rattle.ucdshop_core.specs.Asking.{IsUnnamed, IsUnread};
+ghost use Rattle.ucdshop_core.specs.Questions.{AskedAs, files_hold, question_answer, tree_answer};
+ghost use Rattle.ucdshop_core.specs.SetTexts.{members_in};
+ghost use Rattle.unicodeset_eval.specs.Indexes.{index_holds};
+ghost use Rattle.unicodeset_parser.specs.Views.{tree_view};
+
+use crate::ask_stop::{AskFault, AskRule, AskStop};
+use edit_session::Bench;
+use property_aliases::Aliases;
+use std::alloc::Global;
+use std::marker::Model;
+use ucd_model::{Memory, Span, Spans};
+use unicodeset_eval::{EvalStop, SetIndex, eval_over};
+use unicodeset_parser::{Expr, SetStop, parse};
+
+/// What answers questions on the release of a bench: the meaning of names and the sets of tests, made once for its rows.
+/// Contracts see the items of its files.
+#[derive(Drop)]
+pub struct Asking<'b> {
+    bench: &'b Bench,
+    aliases: Aliases,
+    index: SetIndex<'b, Bench>,
+}
+
+impl<'b> Model for Asking<'b> {
+    ghost use Rattle.std.specs.Prelude.{List};
+    ghost use Rattle.edit_session.specs.Benches.{bench_record};
+    ghost use Rattle.release_rows.specs.FileItems.{FileItem};
+    ghost use Rattle.unicodeset_eval.specs.Indexes.{index_holds};
+    ghost use Rattle.ucdshop_core.specs.Asking.{CanAnswer};
+
+    ghost Value = { List (List FileItem) };
+
+    ghost view = { λ a. a.bench.now.current };
+
+    ghost invariant = { λ a. CanAnswer a.bench.now.current a.aliases (index_holds bench_record a.index) };
+}
+
+/// The sets of all tests by the rows of a bench and by its pieces of equal records.
+///
+/// - `Memory`: memory ran out.
+fn index_of<'b>(
+    alloc: Global,
+    bench: &'b Bench,
+    pieces: &'b [Span],
+) -> Result<SetIndex<'b, Bench>, Memory>
+    requires { IsCut (bench_record bench.now) 0 point_count pieces.now }
+    ensures { IfOk result (λ index. index_holds bench_record index ≡ files_hold bench.now.current) }
+{
+    SetIndex::of(alloc, bench, pieces, bench.release())
+}
+
+/// Why a text is refused that is no set.
+fn unread(stop: SetStop) -> AskStop
+    ensures { IsUnread result stop }
+{
+    match stop {
+        SetStop::Fault { rule, at } => AskStop::Fault(AskFault {
+            rule: AskRule::Text(rule),
+            at,
+        }),
+        SetStop::Memory => AskStop::Memory,
+    }
+}
+
+/// Why a set is refused in which a name means nothing.
+fn unnamed(stop: EvalStop) -> AskStop
+    ensures { IsUnnamed result stop }
+{
+    match stop {
+        EvalStop::Fault { rule, at } => AskStop::Fault(AskFault {
+            rule: AskRule::Name(rule),
+            at,
+        }),
+        EvalStop::Memory => AskStop::Memory,
+    }
+}
+
+impl<'b> Asking<'b> {
+    /// What answers questions on the release of a bench, whose pieces of equal records these are.
+    ///
+    /// - `Memory`: memory ran out.
+    pub fn of(alloc: Global, bench: &'b Bench, pieces: &'b [Span]) -> Result<Asking<'b>, Memory>
+        requires { IsCut (bench_record bench.now) 0 point_count pieces.now }
+        ensures { IfOk result (λ asking. asking ≡ bench.now.current) }
+    {
+        let aliases = Aliases::of(alloc, bench.release())?;
+        let index = index_of(alloc, bench, pieces)?;
+        Ok(Asking {
+            bench,
+            aliases,
+            index,
+        })
+    }
+
+    /// The members of the set of this text, as maximal ascending spans. UTS #35, "Unicode Sets".
+    ///
+    /// - `Fault`: the text is no set, with the first rule that it breaks; or the first name in it that means nothing.
+    /// - `Memory`: memory ran out.
+    #[tactic(auto, unfolding(crate::specs::Questions::question_answer))]
+    pub fn answer(&self, alloc: Global, text: &[u8]) -> Result<Spans, AskStop>
+        ensures answer { AskedAs result (question_answer self.now text.now) }
+        ensures members { IfOk result (λ spans. members_in spans ≤ point_count) }
+    {
+        match parse(alloc, text) {
+            Ok(tree) => self.members(alloc, &tree),
+            Err(stop) => Err(unread(stop)),
+        }
+    }
+
+    /// The members of a set, as maximal ascending spans.
+    ///
+    /// - `Fault`: the first name in it that means nothing.
+    /// - `Memory`: memory ran out.
+    fn members(&self, alloc: Global, tree: &Expr) -> Result<Spans, AskStop>
+        ensures { AskedAs result (tree_answer self.now (tree_view tree.now)) }
+    {
+        match eval_over(alloc, &self.index, &self.aliases, tree) {
+            Ok(spans) => Ok(spans),
+            Err(stop) => Err(unnamed(stop)),
+        }
+    }
+}

@@ -1,0 +1,80 @@
+//! The text of the answers to questions.
+
+ghost use Rattle.std.specs.Prelude.{◌≡◌, ◌++◌, ◌≤◌, IfOk, OnOk, codes};
+ghost use Rattle.std.specs.Fmt.{decimal};
+ghost use Rattle.std.specs.List.{flat_map};
+ghost use Rattle.ucd_model.specs.DerivedText.{span_text};
+ghost use Rattle.ucd_model.specs.Limits.{point_count};
+ghost use Rattle.ucdshop_core.specs.Printed.{line_end};
+ghost use Rattle.ucdshop_core.specs.SetTexts.{members_in, set_section, span_entry};
+
+use crate::printed::put_decimal;
+use std::alloc::Global;
+use ucd_lines::put_hex;
+use ucd_model::{Memory, Span, Text};
+
+/// Puts the answer to the question on this line, and answers how many members it has: `# line L`, a line for each span,
+/// `# total N`, and an empty line.
+///
+/// - `Memory`: memory ran out. A part of the answer may stand at the end of the text then.
+pub fn put_answer(
+    alloc: Global,
+    text: &mut Text,
+    line: u32,
+    spans: &[Span],
+) -> Result<usize, Memory>
+    requires { members_in spans.now ≤ point_count }
+    ensures text { OnOk result (text.new ≡ text.old ++ set_section line spans.now) }
+    ensures count { IfOk result (λ count. count ≡ members_in spans.now) }
+{
+    put_head(alloc, text, line)?;
+    let count = put_spans(text, spans)?;
+    put_total(alloc, text, count)?;
+    Ok(count)
+}
+
+/// Puts `# line L`.
+fn put_head(alloc: Global, text: &mut Text, line: u32) -> Result<(), Memory>
+    ensures { OnOk result (text.new ≡ text.old ++ codes "# line " ++ decimal line ++ line_end) }
+{
+    text.append(b"# line ")?;
+    put_decimal(alloc, text, line as usize)?;
+    text.append(b"\n")
+}
+
+/// Puts a line for each span, and answers how many code points lie in them together.
+#[tactic(auto, unfolding(ucd_model::specs::Limits::point_count))]
+fn put_spans(text: &mut Text, spans: &[Span]) -> Result<usize, Memory>
+    requires { members_in spans.now ≤ point_count }
+    ensures text { OnOk result (text.new ≡ text.old ++ flat_map span_entry spans.now) }
+    ensures count { IfOk result (λ count. count ≡ members_in spans.now) }
+{
+    let mut count = 0;
+    'spans: for span in spans {
+        put_entry(text, *span)?;
+        count += (span.last() + 1 - span.first()) as usize;
+    }
+    Ok(count)
+}
+
+/// Puts the line of a span.
+#[tactic(auto, unfolding(ucd_model::specs::DerivedText::span_text))]
+fn put_entry(text: &mut Text, span: Span) -> Result<(), Memory>
+    ensures { OnOk result (text.new ≡ text.old ++ span_entry span) }
+{
+    put_hex(span.lo, text)?;
+    if span.lo != span.hi {
+        text.append(b"..")?;
+        put_hex(span.hi, text)?;
+    }
+    text.append(b"\n")
+}
+
+/// Puts `# total N` and an empty line.
+fn put_total(alloc: Global, text: &mut Text, count: usize) -> Result<(), Memory>
+    ensures { OnOk result (text.new ≡ text.old ++ codes "# total " ++ decimal count ++ line_end ++ line_end) }
+{
+    text.append(b"# total ")?;
+    put_decimal(alloc, text, count)?;
+    text.append(b"\n\n")
+}

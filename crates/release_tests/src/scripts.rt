@@ -23,7 +23,9 @@ fn groups_are(alloc: Global, script: &[u8], expected: &[(u32, usize)]) -> bool {
         return false;
     }
     for (command, (line, count)) in found.as_slice().iter().zip(expected) {
-        let What::Group(ops) = &command.what;
+        let What::Group(ops) = &command.what else {
+            return false;
+        };
         if command.line != *line || ops.len() != *count {
             return false;
         }
@@ -47,7 +49,9 @@ fn adds(alloc: Global, script: &[u8], expected: &[u8]) -> bool {
     let [command, ..] = found.as_slice() else {
         return false;
     };
-    let What::Group(ops) = &command.what;
+    let What::Group(ops) = &command.what else {
+        return false;
+    };
     match ops.as_slice() {
         [Op::Add { file, bytes, .. }] => {
             *file == SourceFile::UnicodeData && bytes.as_slice() == expected
@@ -77,6 +81,36 @@ fn groups_and_their_lines(rt: HostRuntime) {
     }
 }
 
+/// The line of each command of a script, and the text that it asks about.
+fn questions_are(alloc: Global, script: &[u8], expected: &[(u32, &[u8])]) -> bool {
+    let Ok(found) = commands_in(alloc, script) else {
+        return false;
+    };
+    if found.len() != expected.len() {
+        return false;
+    }
+    for (command, (line, text)) in found.as_slice().iter().zip(expected) {
+        let What::Question(asked) = &command.what else {
+            return false;
+        };
+        if command.line != *line || asked.as_slice() != *text {
+            return false;
+        }
+    }
+    true
+}
+
+#[test]
+fn questions_and_their_lines(rt: HostRuntime) {
+    assert!(rt;
+        questions_are(
+            rt.alloc(),
+            b"set \\p{L}\r\n# set [b]\nset \nset  [\xff]\t",
+            &[(1, b"\\p{L}"), (3, b""), (4, b" [\xff]\t")],
+        )
+    );
+}
+
 #[test]
 fn the_lines_of_a_range_are_joined_by_lf(rt: HostRuntime) {
     assert!(rt;
@@ -90,15 +124,16 @@ fn the_lines_of_a_range_are_joined_by_lf(rt: HostRuntime) {
 
 #[test]
 fn first_faults(rt: HostRuntime) {
-    let faults: [(&[u8], u32, ScriptRule); 18] = [
+    let faults: [(&[u8], u32, ScriptRule); 19] = [
         (b"add Nope.txt 0041", 1, ScriptRule::E1),
         (b" begin", 1, ScriptRule::E1),
         (b"begin ", 1, ScriptRule::E1),
         (b"add Scripts.txt", 1, ScriptRule::E1),
         (b"add  Scripts.txt 0041 ; Latin", 1, ScriptRule::E1),
         (b"end", 1, ScriptRule::E1),
-        (b"set []", 1, ScriptRule::E1),
-        (b"begin\nset []\nend", 2, ScriptRule::E1),
+        (b"set", 1, ScriptRule::E1),
+        (b"begin\nset\nend", 2, ScriptRule::E1),
+        (b"begin\nset []\nend", 2, ScriptRule::E4),
         (
             b"withdraw UnicodeData.txt 0041\nlast 0042;;;;;;;;;;;;;;",
             2,

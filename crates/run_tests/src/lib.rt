@@ -14,6 +14,8 @@ mod groups;
 #[cfg(test)]
 mod next_facts;
 #[cfg(test)]
+mod questions;
+#[cfg(test)]
 mod runs;
 #[cfg(test)]
 mod scripts;

@@ -9,6 +9,13 @@ use ucdshop_core::{Status, run};
 pub const LETTERS: &[u8] =
     b"0041;LATIN CAPITAL LETTER A;Lu;0;L;;;;;N;;;;0061;\n0061;LATIN SMALL LETTER A;Ll;0;L;;;;;N;;;0041;;0041\n";
 
+/// A letter, its composite with a mark, and the mark, as UnicodeData.txt has them.
+pub const GRAVE: &[u8] =
+    b"0041;LATIN CAPITAL LETTER A;Lu;0;L;;;;;N;;;;;\n00C0;LATIN CAPITAL LETTER A WITH GRAVE;Lu;0;L;0041 0300;;;;N;;;;;\n0300;COMBINING GRAVE ACCENT;Mn;230;NSM;;;;;N;;;;;\n";
+
+/// A path, and what it holds.
+pub type File = (&'static [u8], &'static [u8]);
+
 /// The summary of a run that wrote all files.
 pub const SUMMARY: &[u8] =
     b"ucdshop: 0 groups accepted, 0 commands refused, 0 sets answered, 0 policy breaks\n";
@@ -86,4 +93,24 @@ pub fn derives(
     let kept = shelf.held(CORE_PATH) == Some(expected.2)
         && shelf.held(b"o/other") == Some(b"kept".as_slice());
     Ok(status == expected.0 && out.written() == expected.1 && kept)
+}
+
+/// The summary of a run: how many groups were accepted, commands refused and sets answered, in digits.
+///
+/// - `Memory`: memory ran out.
+pub fn summary_of(alloc: Global, counts: [&[u8]; 3]) -> Result<Text, Memory> {
+    let mut line = Text::new(alloc);
+    line.append(b"ucdshop: ")?;
+    line.append(counts[0])?;
+    line.append(b" groups accepted, ")?;
+    line.append(counts[1])?;
+    line.append(b" commands refused, ")?;
+    line.append(counts[2])?;
+    line.append(b" sets answered, 0 policy breaks\n")?;
+    Ok(line)
+}
+
+/// Whether a shelf holds these files.
+pub fn holds(shelf: &MemoryShelf, files: &[File]) -> bool {
+    files.iter().all(|file| shelf.held(file.0) == Some(file.1))
 }

@@ -1,14 +1,12 @@
 //! Runs of `apply`: what a script leaves, and each way in which such a run ends.
 
-use crate::runs::{CORE_PATH, LETTERS, SOURCE_PATHS, run_words, shelf_of};
-use shelf_io::MemoryShelf;
+use crate::runs::{
+    CORE_PATH, File, GRAVE, LETTERS, SOURCE_PATHS, holds, run_words, shelf_of, summary_of,
+};
 use std::alloc::Global;
 use std::test::Fail;
 use ucd_model::{Memory, Text};
 use ucdshop_core::Status;
-
-const GRAVE: &[u8] =
-    b"0041;LATIN CAPITAL LETTER A;Lu;0;L;;;;;N;;;;;\n00C0;LATIN CAPITAL LETTER A WITH GRAVE;Lu;0;L;0041 0300;;;;N;;;;;\n0300;COMBINING GRAVE ACCENT;Mn;230;NSM;;;;;N;;;;;\n";
 
 const FOLDED: &[u8] =
     b"0061;LATIN SMALL LETTER A;Ll;0;L;;;;;N;;;;;\n0300;COMBINING GRAVE ACCENT;Mn;230;NSM;;;;;N;;;;;\nFB00;X;Lo;0;L;<compat> 0061 0300;;;;N;;;;;\n";
@@ -17,7 +15,7 @@ const FOLDED: &[u8] =
 const WORDS: [&[u8]; 4] = [b"apply", b"d", b"s", b"o"];
 
 /// The files that a run writes, in their order.
-const OUTPUT_PATHS: [&[u8]; 15] = [
+const OUTPUT_PATHS: [&[u8]; 16] = [
     b"o/UnicodeData.txt",
     b"o/PropList.txt",
     b"o/Scripts.txt",
@@ -33,10 +31,8 @@ const OUTPUT_PATHS: [&[u8]; 15] = [
     b"o/extracted/DerivedCombiningClass.txt",
     b"o/extracted/DerivedDecompositionType.txt",
     b"o/bench.log",
+    b"o/sets.txt",
 ];
-
-/// A path, and what it holds.
-type File = (&'static [u8], &'static [u8]);
 
 /// A script that is carried out.
 #[derive(Clone, Copy)]
@@ -132,24 +128,6 @@ const SESSIONS: [Session; 6] = [
     },
 ];
 
-/// The summary of a run with these counts.
-///
-/// - `Memory`: memory ran out.
-fn summary_of(alloc: Global, counts: [&[u8]; 2]) -> Result<Text, Memory> {
-    let mut line = Text::new(alloc);
-    line.append(b"ucdshop: ")?;
-    line.append(counts[0])?;
-    line.append(b" groups accepted, ")?;
-    line.append(counts[1])?;
-    line.append(b" commands refused, 0 sets answered, 0 policy breaks\n")?;
-    Ok(line)
-}
-
-/// Whether a shelf holds these files.
-fn holds(shelf: &MemoryShelf, files: &[File]) -> bool {
-    files.iter().all(|file| shelf.held(file.0) == Some(file.1))
-}
-
 #[test]
 fn scripts_are_carried_out(rt: HostRuntime) -> Result<(), Fail> {
     let alloc = rt.alloc();
@@ -157,7 +135,8 @@ fn scripts_are_carried_out(rt: HostRuntime) -> Result<(), Fail> {
         let mut shelf = shelf_of(alloc, session.data[0], session.data[1])?;
         shelf.place(b"s", session.script)?;
         let (status, out) = run_words(alloc, &WORDS, &mut shelf, 1000)?;
-        let summary = summary_of(alloc, session.counts)?;
+        let [accepted, refused] = session.counts;
+        let summary = summary_of(alloc, [accepted, refused, b"0"])?;
         let expected = if session.counts[1] == b"0".as_slice() {
             Status::Clean
         } else {
@@ -165,6 +144,7 @@ fn scripts_are_carried_out(rt: HostRuntime) -> Result<(), Fail> {
         };
         assert_eq!(rt; (status, out.written()), (expected, summary.as_slice()));
         assert!(rt; holds(&shelf, session.files));
+        assert_eq!(rt; shelf.held(b"o/sets.txt"), Some(b"".as_slice()));
         assert_eq!(rt; shelf.held(b"d/UnicodeData.txt"), Some(session.data[0]));
         assert_eq!(rt; shelf.held(b"o/other"), Some(b"kept".as_slice()));
     }
@@ -223,9 +203,10 @@ fn long_group(alloc: Global) -> Result<Text, Memory> {
 }
 
 /// Scripts with a fault, and the line that is told.
-const FAULTS: [(&[u8], &[u8]); 6] = [
+const FAULTS: [(&[u8], &[u8]); 7] = [
     (b"add Nope.txt 0041", b"refused: s line 1 E1\n"),
-    (b"set []", b"refused: s line 1 E1\n"),
+    (b"set", b"refused: s line 1 E1\n"),
+    (b"begin\nset []", b"refused: s line 2 E4\n"),
     (b"begin", b"refused: s line 1 E2\n"),
     (b"begin\nbegin", b"refused: s line 2 E3\n"),
     (b"add UnicodeData.txt 0041;A", b"refused: s line 1 E6 G03\n"),

@@ -67,10 +67,7 @@ const ASKED: [Asked; 5] = [
         counts: [b"0", b"1", b"1"],
         files: &[
             (b"o/bench.log", b"1 set 2\n3 refused S2 byte 0\n"),
-            (
-                b"o/sets.txt",
-                b"# line 1\n10FFFE..10FFFF\n# total 2\n\n",
-            ),
+            (b"o/sets.txt", b"# line 1\n10FFFE..10FFFF\n# total 2\n\n"),
         ],
     },
     // the steps of a bracket set are taken from left to right

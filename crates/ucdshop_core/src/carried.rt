@@ -46,11 +46,11 @@ impl Carried {
     pub fn accept(&mut self, alloc: Global, line: u32, count: usize) -> Result<(), Memory>
         requires { counted self.old + 1 < 2 ^ 64 }
         ensures { OnOk result (self.new ≡ record {
-            log = self.old.log ++ accepted_line line count;
-            sets = self.old.sets;
-            accepted = self.old.accepted + 1;
-            refused = self.old.refused;
-            answered = self.old.answered;
+          log = self.old.log ++ accepted_line line count;
+          sets = self.old.sets;
+          accepted = self.old.accepted + 1;
+          refused = self.old.refused;
+          answered = self.old.answered;
         }) }
     {
         put_accepted(alloc, &mut self.log, line, count)?;
@@ -62,11 +62,11 @@ impl Carried {
     pub fn refuse(&mut self, alloc: Global, line: u32, why: Refused) -> Result<(), Memory>
         requires { counted self.old + 1 < 2 ^ 64 }
         ensures { OnOk result (self.new ≡ record {
-            log = self.old.log ++ refused_line line why;
-            sets = self.old.sets;
-            accepted = self.old.accepted;
-            refused = self.old.refused + 1;
-            answered = self.old.answered;
+          log = self.old.log ++ refused_line line why;
+          sets = self.old.sets;
+          accepted = self.old.accepted;
+          refused = self.old.refused + 1;
+          answered = self.old.answered;
         }) }
     {
         put_refused(alloc, &mut self.log, line, why)?;
@@ -79,11 +79,11 @@ impl Carried {
         requires room { counted self.old + 1 < 2 ^ 64 }
         requires members { members_in spans.now ≤ point_count }
         ensures { OnOk result (self.new ≡ record {
-            log = self.old.log ++ set_line line (members_in spans.now);
-            sets = self.old.sets ++ set_section line spans.now;
-            accepted = self.old.accepted;
-            refused = self.old.refused;
-            answered = self.old.answered + 1;
+          log = self.old.log ++ set_line line (members_in spans.now);
+          sets = self.old.sets ++ set_section line spans.now;
+          accepted = self.old.accepted;
+          refused = self.old.refused;
+          answered = self.old.answered + 1;
         }) }
     {
         let count = put_answer(alloc, &mut self.sets, line, spans)?;
@@ -101,11 +101,11 @@ impl Carried {
     ) -> Result<(), Memory>
         requires { counted self.old + 1 < 2 ^ 64 }
         ensures { OnOk result (self.new ≡ record {
-            log = self.old.log ++ unasked_line line fault;
-            sets = self.old.sets;
-            accepted = self.old.accepted;
-            refused = self.old.refused + 1;
-            answered = self.old.answered;
+          log = self.old.log ++ unasked_line line fault;
+          sets = self.old.sets;
+          accepted = self.old.accepted;
+          refused = self.old.refused + 1;
+          answered = self.old.answered;
         }) }
     {
         put_unasked(alloc, &mut self.log, line, fault)?;

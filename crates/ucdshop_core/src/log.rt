@@ -86,12 +86,7 @@ pub fn put_set(alloc: Global, text: &mut Text, line: u32, count: usize) -> Resul
 /// Puts the line of a question that was refused: the number of the command's line, and why.
 ///
 /// - `Memory`: memory ran out.
-pub fn put_unasked(
-    alloc: Global,
-    text: &mut Text,
-    line: u32,
-    fault: AskFault,
-) -> Result<(), Memory>
+pub fn put_unasked(alloc: Global, text: &mut Text, line: u32, fault: AskFault) -> Result<(), Memory>
     ensures { OnOk result (text.new ≡ text.old ++ unasked_line line fault) }
 {
     put_decimal(alloc, text, line as usize)?;

@@ -6,6 +6,7 @@ pub mod BenchLemmas
 pub mod OutputLemmas
 pub mod PlanningLemmas
 pub mod QuestionLemmas
+pub mod AskingLemmas
 pub mod CarryingLemmas
 pub mod RunLemmas
 pub mod Clauses

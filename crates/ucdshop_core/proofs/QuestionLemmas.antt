@@ -1,6 +1,6 @@
 -- A set has no more members than there are code points.
 use Rattle.std.proofs.Common.{◌≡◌, ℕ, ◌+◌, ◌-◌, ◌≤◌, Bool, List, [], ◌∷◌, map, length, is_some, Result, Ok, Err, refl, sym, ap, subst, ◌∙◌, arith}
-use Rattle.std.specs.Prelude.{sum_by}
+use Rattle.std.specs.Prelude.{sum_by, IfOk}
 use Rattle.std.specs.List.{range_with_len}
 use Rattle.std.proofs.lemmas.List.FromFn.{length-range_with_len}
 use Rattle.std.proofs.lemmas.List.Sums.{count_by-le-length, sum_by-cons}
@@ -12,12 +12,12 @@ use Rattle.ucd_model.specs.Limits.{point_count}
 use Rattle.release_rows.specs.FileItems.{FileItem}
 use Rattle.unicodeset_eval.specs.Members.{member_label, member_spans}
 use Rattle.unicodeset_eval.specs.Questions.{NameFault, members, names_of, spans_of}
-use Rattle.unicodeset_parser.specs.Machine.{Fault as TextFault}
-use Rattle.unicodeset_parser.specs.Parsed.{parsed}
 use Rattle.unicodeset_parser.specs.Trees.{Tree}
-use Rattle.ucdshop_core.specs.Questions.{files_hold, files_sources, named_answer, parsed_answer, question_answer, text_fault, name_fault}
+use Rattle.ucdshop_core.specs.Questions.{AskedAs, files_hold, files_sources, name_fault, named_answer, tree_answer}
 use Rattle.ucdshop_core.specs.SetTexts.{members_in}
 use Rattle.ucdshop_core.specs.declared.ask_stop.AskFault.{AskFault}
+use Rattle.ucdshop_core.specs.declared.ask_stop.AskStop.{AskStop}
+use Rattle.ucdshop_core.specs.declared.ask_stop.AskStop.TheVariants.{Fault, Memory}
 
 members_mapped : (spans : List LabelSpan) → members_in (map (λ (s : LabelSpan). s.bounds) spans) ≡ sum_by span_length spans
 members_mapped [] = refl
@@ -44,10 +44,7 @@ few_named : (n : ℕ) (set : Result (ℕ → Bool) NameFault) (spans : List Boun
 few_named n (Ok p) spans e = subst (λ (s : List Bounds). members_in s ≤ n) (ok_is (member_spans n p) spans (named_answer (spans_of n (Ok p))) refl e) (few_members n p)
 few_named n (Err f) spans e = absurd (err_ok (name_fault f) spans (named_answer (spans_of n (Err f))) refl e)
 
-few_parsed : (files : List (List FileItem)) (tree : Result Tree TextFault) (spans : List Bounds) → parsed_answer files tree ≡ Ok spans → members_in spans ≤ point_count
-few_parsed files (Ok tree) spans e = few_named point_count (members (names_of (files_sources files)) (files_hold files) tree) spans e
-few_parsed files (Err f) spans e = absurd (err_ok (text_fault f) spans (parsed_answer files (Err f)) refl e)
-
-pub few_answered : (files : List (List FileItem)) (text : List ℕ) (spans : List Bounds) → question_answer files text ≡ Ok spans → members_in spans ≤ point_count
-unfolding question_answer
-few_answered files text spans e = few_parsed files (parsed text) spans e
+pub few_asked : (files : List (List FileItem)) (tree : Tree) (result : Result (List Bounds) AskStop) → AskedAs result (tree_answer files tree) → IfOk result (λ spans. members_in spans ≤ point_count)
+few_asked files tree (Ok spans) asked = few_named point_count (members (names_of (files_sources files)) (files_hold files) tree) spans asked
+few_asked files tree (Err (Fault refusal)) asked = tt
+few_asked files tree (Err Memory) asked = tt

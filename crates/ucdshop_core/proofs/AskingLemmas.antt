@@ -1,5 +1,5 @@
 -- What a question is answered, from what its tree is answered.
-use Rattle.std.proofs.Common.{◌≡◌, ℕ, Bool, List, Result, Ok, Err, sym, ap, subst, ◌∙◌}
+use Rattle.std.proofs.Common.{◌≡◌, ℕ, Bool, List, Result, Err, sym, ap, ◌∙◌}
 use Rattle.ucd_model.specs.Bounds.{Bounds}
 use Rattle.ucd_model.specs.Limits.{point_count}
 use Rattle.property_aliases.specs.Found.{AreAliasesOf}
@@ -13,7 +13,7 @@ use Rattle.unicodeset_eval.specs.declared.stop.EvalStop.{EvalStop}
 use Rattle.unicodeset_eval.specs.declared.stop.EvalStop.TheVariants as names
 use Rattle.unicodeset_parser.specs.Trees.{Tree}
 use Rattle.ucdshop_core.specs.Asking.{CanAnswer, IsUnnamed}
-use Rattle.ucdshop_core.specs.Questions.{AskedAs, files_hold, files_sources, named_answer, tree_answer}
+use Rattle.ucdshop_core.specs.Questions.{AskedAs, files_sources, named_answer, tree_answer}
 use Rattle.ucdshop_core.specs.declared.ask_stop.AskFault.{AskFault}
 use Rattle.ucdshop_core.specs.declared.ask_stop.AskStop.{AskStop}
 use Rattle.ucdshop_core.specs.declared.ask_stop.AskStop.TheVariants.{Fault, Memory}

@@ -100,8 +100,10 @@ pub fn prepare<S: Shelf, L: Ledger>(
     ensures only_read { OnlyRead (shelf_seen S.Shelf shelf.old shelf.new) }
     ensures steps { MayStep (job_of command.entry) steps.old steps.new }
 {
-    let paths = needed_paths(alloc, command)?;
-    let held = gather(alloc, shelf, paths.as_slice())?;
+    let held = {
+        let paths = needed_paths(alloc, command)?;
+        gather(alloc, shelf, paths.as_slice())?
+    };
     let plan = held_plan(alloc, command, held.as_slice(), steps)?;
     shelf.room(plan.outputs.len())?;
     Ok(plan)

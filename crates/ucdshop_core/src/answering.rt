@@ -3,8 +3,11 @@
 ghost use Rattle.std.specs.Prelude.{◌≡◌, ◌∷◌, ◌+◌, ◌<◌, ◌≤◌, ◌^◌, ⊤, fold, length, IfOk, OnOk};
 ghost use Rattle.std.specs.List.{All};
 ghost use Rattle.std.specs.Option.{MatchOption};
+ghost use Rattle.edit_session.specs.Benches.{bench_record};
 ghost use Rattle.script_lines.specs.Groups.{IsReady};
 ghost use Rattle.script_lines.specs.declared.command.What.TheVariants.{Question};
+ghost use Rattle.ucd_model.specs.Cuts.{IsCut};
+ghost use Rattle.ucd_model.specs.Limits.{point_count};
 ghost use Rattle.ucdshop_core.specs.Carrying.{counted, session_of, session_on, question_command};
 ghost use Rattle.ucdshop_core.specs.Session.{step, step_by};
 
@@ -15,7 +18,7 @@ use crate::carried::Carried;
 use edit_session::Bench;
 use script_lines::{Command, What};
 use std::alloc::Global;
-use ucd_model::Memory;
+use ucd_model::{Memory, Span};
 
 /// Answers the question of this text, and those at the front of the commands that stand behind it, and answers the
 /// commands that are left. What answers them is made once.
@@ -37,9 +40,49 @@ pub fn answer_run<'c>(
     ensures ready { IfOk result (λ rest. All IsReady rest.now) }
 {
     let pieces = bench_pieces(alloc, bench)?;
-    let asking = Asking::of(alloc, bench, pieces.as_slice())?;
-    answer_one(alloc, &asking, line, text, carried)?;
-    answer_more(alloc, &asking, behind, carried)
+    answer_over(alloc, bench, pieces.as_slice(), line, text, behind, carried)
+}
+
+/// The same over the pieces of equal records of the bench.
+fn answer_over<'c>(
+    alloc: Global,
+    bench: &Bench,
+    pieces: &[Span],
+    line: u32,
+    text: &[u8],
+    behind: &'c [Command],
+    carried: &mut Carried,
+) -> Result<&'c [Command], Memory>
+    requires pieces { IsCut (bench_record bench.now) 0 point_count pieces.now }
+    requires room { counted carried.old + 1 + length behind.now < 2 ^ 64 }
+    requires ready { All IsReady behind.now }
+    ensures session { IfOk result (λ rest. fold step (session_of bench.now carried.new) rest.now ≡ fold step (step_by (session_of bench.now carried.old) line (Question text.now)) behind.now) }
+    ensures counted { IfOk result (λ rest. counted carried.new + length rest.now ≡ counted carried.old + 1 + length behind.now) }
+    ensures left { IfOk result (λ rest. length rest.now ≤ length behind.now) }
+    ensures ready { IfOk result (λ rest. All IsReady rest.now) }
+{
+    let asking = Asking::of(alloc, bench, pieces)?;
+    answer_first(alloc, &asking, line, text, behind, carried)
+}
+
+/// The same by what answers questions on the bench.
+fn answer_first<'c>(
+    alloc: Global,
+    asking: &Asking<'_>,
+    line: u32,
+    text: &[u8],
+    behind: &'c [Command],
+    carried: &mut Carried,
+) -> Result<&'c [Command], Memory>
+    requires room { counted carried.old + 1 + length behind.now < 2 ^ 64 }
+    requires ready { All IsReady behind.now }
+    ensures session { IfOk result (λ rest. fold step (session_on asking.now carried.new) rest.now ≡ fold step (step_by (session_on asking.now carried.old) line (Question text.now)) behind.now) }
+    ensures counted { IfOk result (λ rest. counted carried.new + length rest.now ≡ counted carried.old + 1 + length behind.now) }
+    ensures left { IfOk result (λ rest. length rest.now ≤ length behind.now) }
+    ensures ready { IfOk result (λ rest. All IsReady rest.now) }
+{
+    answer_one(alloc, asking, line, text, carried)?;
+    answer_more(alloc, asking, behind, carried)
 }
 
 /// Answers the questions at the front of the commands, and answers the commands that are left.

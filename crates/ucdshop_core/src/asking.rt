@@ -53,7 +53,8 @@ fn index_of<'b>(
     requires { IsCut (bench_record bench.now) 0 point_count pieces.now }
     ensures { IfOk result (λ index. index_holds bench_record index ≡ files_hold bench.now.current) }
 {
-    SetIndex::of(alloc, bench, pieces, bench.release())
+    let index = SetIndex::of(alloc, bench, pieces, bench.release())?;
+    Ok(index)
 }
 
 /// Why a text is refused that is no set.

@@ -20,6 +20,8 @@ use crate::refusal::JudgeStop;
 use crate::refusing::refusal_line;
 use crate::source_path::needed_paths;
 use crate::stop::Stop;
+use edit_session::Bench;
+use script_lines::Command as ScriptCommand;
 use shelf_io::Shelf;
 use std::alloc::Global;
 use std::sync::ledger::Ledger;
@@ -40,8 +42,23 @@ fn carried_plan<L: Ledger>(
         bench: mut bench,
         commands,
     } = inputs;
-    let carried = carry_out(alloc, &mut bench, commands.as_slice(), steps)?;
-    plan_of(alloc, command, &bench, &carried)
+    plan_after(alloc, command, &mut bench, commands.as_slice(), steps)
+}
+
+/// The same of the bench and the commands that were read.
+fn plan_after<L: Ledger>(
+    alloc: Global,
+    command: Command<'_>,
+    bench: &mut Bench,
+    commands: &[ScriptCommand],
+    steps: &mut Steps<L>,
+) -> Result<Plan, Memory>
+    requires { All IsReady commands.now }
+    ensures plan { IfOk result (λ plan. HasPlan (ending_of (job_of command.entry) (session bench.old.current commands.now)) plan) }
+    ensures steps { commands.now ≡ [] → steps.new ≡ steps.old }
+{
+    let carried = carry_out(alloc, bench, commands, steps)?;
+    plan_of(alloc, command, bench, &carried)
 }
 
 /// Why what was read is refused, with the line that is then printed.

@@ -13,8 +13,8 @@ questions-preserved c =
     let asking = c.args.asking.now in
     record {
       session =
-        first_carried rest first behind (Question c.in-Some.text.now) (session_on asking c.questions.carried) (session_on asking c.answer_one.new.carried) here refl c.in_ok-answer_one.ensures.session
-        ∙ c.questions.invariant.session;
+          first_carried rest first behind (Question c.in-Some.text.now) (session_on asking c.questions.carried) (session_on asking c.answer_one.new.carried) here refl c.in_ok-answer_one.ensures.session
+          ∙ c.questions.invariant.session;
       counted = omega (arith, ap length here, c.in_ok-answer_one.ensures.counted, c.questions.invariant.counted);
       left = omega (arith, ap length here, c.questions.invariant.left);
       ready = ready_behind rest first behind here c.questions.invariant.ready;

@@ -6,7 +6,7 @@ use crate::sample::{
 };
 use derived_writer::{file_text, text_over};
 use std::test::Fail;
-use ucd_model::{Category, Core, DerivedFile, Kind, Quick, Record, Tag};
+use ucd_model::{Category, Core, DerivedFile, Kind, Quick, Record, Tag, equal_pieces};
 
 #[test]
 fn categories_up_to_the_last_code_point(rt: HostRuntime) -> Result<(), Fail> {

@@ -4,6 +4,7 @@ use crate::*;
 use property_aliases::{Aliases, Test};
 use release_rows::Release;
 use std::alloc::Global;
+use std::process::Abort;
 use std::test::Fail;
 use ucd_model::{Memory, Point, Span, Spans};
 use unicodeset_parser::{Join, parse};
@@ -79,6 +80,7 @@ fn complements_end_with_the_last_code_point(rt: HostRuntime) -> Result<(), Fail>
 }
 
 /// Tests that all hold of the code points of one span.
+#[derive(Drop)]
 struct OneSpan {
     span: Span,
 }
@@ -115,15 +117,34 @@ const FAULTS: [(&[u8], NameRule, usize); 5] = [
     (b"[:^:]", NameRule::S8, 0),
 ];
 
-#[test]
-fn sets_have_their_members(rt: HostRuntime) -> Result<(), Fail> {
-    let alloc = rt.alloc();
-    let aliases = Aliases::of(alloc, &Release::empty(alloc))?;
+/// What names mean by a release without rows.
+fn aliases(alloc: Global) -> Result<Aliases, Fail> {
+    let release = Release::empty(alloc);
+    Ok(Aliases::of(alloc, &release)?)
+}
+
+/// The answer of a text, if each test holds of A to Z.
+fn answer_of(
+    alloc: Global,
+    aliases: &Aliases,
+    text: &[u8],
+) -> Result<Result<Spans, EvalStop>, Fail> {
     let index = OneSpan {
         span: span(0x41, 0x5a)?,
     };
+    let expr = parse(alloc, text)?;
+    Ok(eval_over(alloc, &index, aliases, &expr))
+}
+
+#[test]
+fn sets_have_their_members(rt: HostRuntime) -> Result<(), Fail> {
+    let aliases = aliases(rt.alloc())?;
+    members_are_found(&rt, rt.alloc(), &aliases)
+}
+
+fn members_are_found(rt: &impl Abort, alloc: Global, aliases: &Aliases) -> Result<(), Fail> {
     for (text, expected) in &ANSWERS {
-        let spans = eval_over(alloc, &index, &aliases, &parse(alloc, text)?)?;
+        let spans = answer_of(alloc, aliases, text)??;
         assert!(rt; are(alloc, &spans, expected)?);
     }
     Ok(())
@@ -131,13 +152,13 @@ fn sets_have_their_members(rt: HostRuntime) -> Result<(), Fail> {
 
 #[test]
 fn the_first_name_without_meaning_is_told(rt: HostRuntime) -> Result<(), Fail> {
-    let alloc = rt.alloc();
-    let aliases = Aliases::of(alloc, &Release::empty(alloc))?;
-    let index = OneSpan {
-        span: span(0x41, 0x5a)?,
-    };
+    let aliases = aliases(rt.alloc())?;
+    faults_are_told(&rt, rt.alloc(), &aliases)
+}
+
+fn faults_are_told(rt: &impl Abort, alloc: Global, aliases: &Aliases) -> Result<(), Fail> {
     for (text, rule, at) in &FAULTS {
-        let stop = eval_over(alloc, &index, &aliases, &parse(alloc, text)?).err();
+        let stop = answer_of(alloc, aliases, text)?.err();
         let expected = EvalStop::Fault {
             rule: *rule,
             at: *at,

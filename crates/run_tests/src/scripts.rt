@@ -41,8 +41,8 @@ struct Session {
     data: [&'static [u8]; 2],
     /// The script.
     script: &'static [u8],
-    /// How many groups are accepted, and how many refused, in digits.
-    counts: [&'static [u8]; 2],
+    /// How many groups are accepted, commands refused and sets answered, in digits.
+    counts: [&'static [u8]; 3],
     /// Files that the run writes.
     files: &'static [File],
 }
@@ -52,7 +52,7 @@ const SESSIONS: [Session; 6] = [
     Session {
         data: [GRAVE, b""],
         script: b"add CompositionExclusions.txt 00C0",
-        counts: [b"1", b"0"],
+        counts: [b"1", b"0", b"0"],
         files: &[
             (b"o/bench.log", b"1 accepted 2\n"),
             (b"o/CompositionExclusions.txt", b"00C0\n"),
@@ -67,7 +67,7 @@ const SESSIONS: [Session; 6] = [
     Session {
         data: [FOLDED, b""],
         script: b"add UnicodeData.txt 00E0;LATIN SMALL LETTER A WITH GRAVE;Ll;0;L;0061 0300;;;;N;;;;;\nadd CaseFolding.txt 00E0; C; 0061\n",
-        counts: [b"2", b"0"],
+        counts: [b"2", b"0", b"0"],
         files: &[
             (b"o/bench.log", b"1 accepted 3\n2 accepted 2\n"),
             (b"o/CaseFolding.txt", b"00E0; C; 0061\n"),
@@ -77,7 +77,7 @@ const SESSIONS: [Session; 6] = [
     Session {
         data: [b"", b""],
         script: b"begin\nadd UnicodeData.txt 1000;A;Lo;0;L;1001;;;;N;;;;;\nadd UnicodeData.txt 1001;B;Lo;0;L;1000;;;;N;;;;;\nend\nadd UnicodeData.txt 1002;C;Lo;0;L;;;;;N;;;;;\n",
-        counts: [b"1", b"1"],
+        counts: [b"1", b"1", b"0"],
         files: &[
             (b"o/bench.log", b"1 refused V2 point 1000\n5 accepted 1\n"),
             (b"o/UnicodeData.txt", b"1002;C;Lo;0;L;;;;;N;;;;;\n"),
@@ -87,7 +87,7 @@ const SESSIONS: [Session; 6] = [
     Session {
         data: [GRAVE, b""],
         script: b"withdraw UnicodeData.txt 0300\nbegin\nwithdraw UnicodeData.txt 0300\nwithdraw UnicodeData.txt 00C0\nend\n",
-        counts: [b"1", b"1"],
+        counts: [b"1", b"1", b"0"],
         files: &[
             (b"o/bench.log", b"1 refused V1 point 00C0\n2 accepted 2\n"),
             (
@@ -103,7 +103,7 @@ const SESSIONS: [Session; 6] = [
             b"# head\r\n0020 ; White_Space # SP\r\n\r\n0009..000D    ; White_Space",
         ],
         script: b"change PropList.txt 0020..0021 ; White_Space\nadd PropList.txt 0085 ; White_Space\n",
-        counts: [b"2", b"0"],
+        counts: [b"2", b"0", b"0"],
         files: &[
             (b"o/bench.log", b"1 accepted 0\n2 accepted 0\n"),
             (
@@ -116,7 +116,7 @@ const SESSIONS: [Session; 6] = [
     Session {
         data: [LETTERS, b""],
         script: b"add UnicodeData.txt 0041;X;Lu;0;L;;;;;N;;;;;\nwithdraw UnicodeData.txt 0042\nadd UnicodeData.txt 0040;<R, First>;Lo;0;L;;;;;N;;;;;\nlast 0050;<R, Last>;Lo;0;L;;;;;N;;;;;\n",
-        counts: [b"0", b"3"],
+        counts: [b"0", b"3", b"0"],
         files: &[
             (
                 b"o/bench.log",
@@ -135,8 +135,7 @@ fn scripts_are_carried_out(rt: HostRuntime) -> Result<(), Fail> {
         let mut shelf = shelf_of(alloc, session.data[0], session.data[1])?;
         shelf.place(b"s", session.script)?;
         let (status, out) = run_words(alloc, &WORDS, &mut shelf, 1000)?;
-        let [accepted, refused] = session.counts;
-        let summary = summary_of(alloc, [accepted, refused, b"0"])?;
+        let summary = summary_of(alloc, session.counts)?;
         let expected = if session.counts[1] == b"0".as_slice() {
             Status::Clean
         } else {

@@ -1,12 +1,14 @@
 //! Runs of `apply`: what a script leaves, and each way in which such a run ends.
 
-use crate::runs::{
-    CORE_PATH, File, GRAVE, LETTERS, SOURCE_PATHS, holds, run_words, shelf_of, summary_of,
-};
+use crate::runs::{CORE_PATH, LETTERS, SOURCE_PATHS, run_words, shelf_of};
+use shelf_io::MemoryShelf;
 use std::alloc::Global;
 use std::test::Fail;
 use ucd_model::{Memory, Text};
 use ucdshop_core::Status;
+
+const GRAVE: &[u8] =
+    b"0041;LATIN CAPITAL LETTER A;Lu;0;L;;;;;N;;;;;\n00C0;LATIN CAPITAL LETTER A WITH GRAVE;Lu;0;L;0041 0300;;;;N;;;;;\n0300;COMBINING GRAVE ACCENT;Mn;230;NSM;;;;;N;;;;;\n";
 
 const FOLDED: &[u8] =
     b"0061;LATIN SMALL LETTER A;Ll;0;L;;;;;N;;;;;\n0300;COMBINING GRAVE ACCENT;Mn;230;NSM;;;;;N;;;;;\nFB00;X;Lo;0;L;<compat> 0061 0300;;;;N;;;;;\n";
@@ -34,6 +36,9 @@ const OUTPUT_PATHS: [&[u8]; 16] = [
     b"o/sets.txt",
 ];
 
+/// A path, and what it holds.
+type File = (&'static [u8], &'static [u8]);
+
 /// A script that is carried out.
 #[derive(Clone, Copy)]
 struct Session {
@@ -41,8 +46,8 @@ struct Session {
     data: [&'static [u8]; 2],
     /// The script.
     script: &'static [u8],
-    /// How many groups are accepted, commands refused and sets answered, in digits.
-    counts: [&'static [u8]; 3],
+    /// How many groups are accepted, and how many refused, in digits.
+    counts: [&'static [u8]; 2],
     /// Files that the run writes.
     files: &'static [File],
 }
@@ -52,7 +57,7 @@ const SESSIONS: [Session; 6] = [
     Session {
         data: [GRAVE, b""],
         script: b"add CompositionExclusions.txt 00C0",
-        counts: [b"1", b"0", b"0"],
+        counts: [b"1", b"0"],
         files: &[
             (b"o/bench.log", b"1 accepted 2\n"),
             (b"o/CompositionExclusions.txt", b"00C0\n"),
@@ -67,7 +72,7 @@ const SESSIONS: [Session; 6] = [
     Session {
         data: [FOLDED, b""],
         script: b"add UnicodeData.txt 00E0;LATIN SMALL LETTER A WITH GRAVE;Ll;0;L;0061 0300;;;;N;;;;;\nadd CaseFolding.txt 00E0; C; 0061\n",
-        counts: [b"2", b"0", b"0"],
+        counts: [b"2", b"0"],
         files: &[
             (b"o/bench.log", b"1 accepted 3\n2 accepted 2\n"),
             (b"o/CaseFolding.txt", b"00E0; C; 0061\n"),
@@ -77,7 +82,7 @@ const SESSIONS: [Session; 6] = [
     Session {
         data: [b"", b""],
         script: b"begin\nadd UnicodeData.txt 1000;A;Lo;0;L;1001;;;;N;;;;;\nadd UnicodeData.txt 1001;B;Lo;0;L;1000;;;;N;;;;;\nend\nadd UnicodeData.txt 1002;C;Lo;0;L;;;;;N;;;;;\n",
-        counts: [b"1", b"1", b"0"],
+        counts: [b"1", b"1"],
         files: &[
             (b"o/bench.log", b"1 refused V2 point 1000\n5 accepted 1\n"),
             (b"o/UnicodeData.txt", b"1002;C;Lo;0;L;;;;;N;;;;;\n"),
@@ -87,7 +92,7 @@ const SESSIONS: [Session; 6] = [
     Session {
         data: [GRAVE, b""],
         script: b"withdraw UnicodeData.txt 0300\nbegin\nwithdraw UnicodeData.txt 0300\nwithdraw UnicodeData.txt 00C0\nend\n",
-        counts: [b"1", b"1", b"0"],
+        counts: [b"1", b"1"],
         files: &[
             (b"o/bench.log", b"1 refused V1 point 00C0\n2 accepted 2\n"),
             (
@@ -103,7 +108,7 @@ const SESSIONS: [Session; 6] = [
             b"# head\r\n0020 ; White_Space # SP\r\n\r\n0009..000D    ; White_Space",
         ],
         script: b"change PropList.txt 0020..0021 ; White_Space\nadd PropList.txt 0085 ; White_Space\n",
-        counts: [b"2", b"0", b"0"],
+        counts: [b"2", b"0"],
         files: &[
             (b"o/bench.log", b"1 accepted 0\n2 accepted 0\n"),
             (
@@ -116,7 +121,7 @@ const SESSIONS: [Session; 6] = [
     Session {
         data: [LETTERS, b""],
         script: b"add UnicodeData.txt 0041;X;Lu;0;L;;;;;N;;;;;\nwithdraw UnicodeData.txt 0042\nadd UnicodeData.txt 0040;<R, First>;Lo;0;L;;;;;N;;;;;\nlast 0050;<R, Last>;Lo;0;L;;;;;N;;;;;\n",
-        counts: [b"0", b"3", b"0"],
+        counts: [b"0", b"3"],
         files: &[
             (
                 b"o/bench.log",
@@ -127,6 +132,24 @@ const SESSIONS: [Session; 6] = [
         ],
     },
 ];
+
+/// The summary of a run with these counts.
+///
+/// - `Memory`: memory ran out.
+fn summary_of(alloc: Global, counts: [&[u8]; 2]) -> Result<Text, Memory> {
+    let mut line = Text::new(alloc);
+    line.append(b"ucdshop: ")?;
+    line.append(counts[0])?;
+    line.append(b" groups accepted, ")?;
+    line.append(counts[1])?;
+    line.append(b" commands refused, 0 sets answered, 0 policy breaks\n")?;
+    Ok(line)
+}
+
+/// Whether a shelf holds these files.
+fn holds(shelf: &MemoryShelf, files: &[File]) -> bool {
+    files.iter().all(|file| shelf.held(file.0) == Some(file.1))
+}
 
 #[test]
 fn scripts_are_carried_out(rt: HostRuntime) -> Result<(), Fail> {
@@ -143,7 +166,6 @@ fn scripts_are_carried_out(rt: HostRuntime) -> Result<(), Fail> {
         };
         assert_eq!(rt; (status, out.written()), (expected, summary.as_slice()));
         assert!(rt; holds(&shelf, session.files));
-        assert_eq!(rt; shelf.held(b"o/sets.txt"), Some(b"".as_slice()));
         assert_eq!(rt; shelf.held(b"d/UnicodeData.txt"), Some(session.data[0]));
         assert_eq!(rt; shelf.held(b"o/other"), Some(b"kept".as_slice()));
     }

@@ -11,3 +11,4 @@ pub mod Lexemes
 pub mod ReadBack
 pub mod Closings
 pub mod Written
+pub mod Places

@@ -274,7 +274,7 @@ read_by : (text : List ℕ) (t : Tree) (b : Bool) (at : Fault) → cond b (run (
 read_by text t true at h = h
 read_by text t false at h = absurd (cc)
 
-read_is : (text : List ℕ) (t : Tree) → parsed text ≡ Ok t → run (length text) before (tokens 0 0 text) ≡ Ok t
+pub read_is : (text : List ℕ) (t : Tree) → parsed text ≡ Ok t → run (length text) before (tokens 0 0 text) ≡ Ok t
 unfolding parsed
 read_is text t h = read_by text t (is_utf8 text) _ h
 

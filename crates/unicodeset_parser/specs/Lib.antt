@@ -12,4 +12,5 @@ pub mod Grammar
 pub mod Laws
 pub mod Spelling
 pub mod Parsed
+pub mod TreeNames
 pub mod StateViews

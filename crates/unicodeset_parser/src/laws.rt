@@ -2,6 +2,7 @@
 
 ghost use Rattle.unicodeset_parser.specs.Laws.{ReadsExactly, OneTree, FaultsAreFirst};
 ghost use Rattle.unicodeset_parser.specs.Spelling.{TextsReadBack, ReadTreesCanBeWritten};
+ghost use Rattle.unicodeset_parser.specs.TreeNames.{PlacesAscend};
 
 /// Tokens are read as a tree exactly where the grammar spells that tree.
 pub fn reads_exactly()
@@ -27,4 +28,9 @@ pub fn texts_read_back()
 /// Each tree that a text is read as can be written.
 pub fn read_trees_can_be_written()
     ensures { ReadTreesCanBeWritten }
+{}
+
+/// The names in the tree of a text stand in the order of their places: each begins behind the one before it.
+pub fn places_ascend()
+    ensures { PlacesAscend }
 {}

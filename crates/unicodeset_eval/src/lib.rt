@@ -22,7 +22,7 @@ mod unions;
 
 pub use evaluation::eval_over;
 pub use index::SetIndex;
-pub use laws::{equal_members_have_equal_edges, first_fault_is_told};
+pub use laws::{equal_members_have_equal_edges, first_fault_is_told, least_fault_is_told};
 pub use point_set::PointSet;
 pub use release_eval::eval;
 pub use stop::{EvalStop, NameRule};

@@ -7,6 +7,7 @@ pub mod Laws
 pub mod Tests
 pub mod TestExamples
 pub mod PieceSets
+pub mod RecordPieces
 pub mod Found
 pub mod Indexes
 pub mod ValueRows

@@ -13,9 +13,9 @@ ghost use Rattle.unicodeset_eval.specs.Tests.{rows_of, same_truth, test_holds};
 use crate::assigned::assigned_have_categories;
 use crate::index::SetIndex;
 use crate::point_set::PointSet;
+use crate::record_pieces::pieces_of;
 use crate::row_sets::RowSets;
 use crate::test_sets::TestSets;
-use crate::testing::set_over;
 use property_aliases::Test;
 use release_rows::Release;
 use std::alloc::Global;
@@ -79,7 +79,7 @@ impl<'b, B: Records> SetIndex<'b, B> {
     pub fn of(
         alloc: Global,
         bench: &'b B,
-        pieces: &'b [Span],
+        pieces: &[Span],
         release: &Release,
     ) -> Result<SetIndex<'b, B>, Memory>
         requires pieces { IsCut (B.record_of bench.now) 0 point_count pieces.now }
@@ -88,6 +88,7 @@ impl<'b, B: Records> SetIndex<'b, B> {
             ≡ (nat_lt c point_count && test_holds (B.record_of bench.now) (rows_of release.now) test c)) }
     {
         assigned_have_categories(release);
+        let pieces = pieces_of(alloc, bench, pieces)?;
         let rows = RowSets::of(alloc, release)?;
         Ok(SetIndex {
             bench,
@@ -111,7 +112,7 @@ impl<'b, B: Records> TestSets for SetIndex<'b, B> {
             Test::Listed(number, wanted) => {
                 numbered_set(alloc, self.rows.listed.as_slice(), number, wanted)
             }
-            _ => set_over(alloc, self.bench, self.pieces, test),
+            _ => self.set_over(alloc, test),
         }
     }
 }

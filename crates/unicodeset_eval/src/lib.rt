@@ -12,6 +12,7 @@ mod laws;
 mod merging;
 mod numbers;
 mod point_set;
+mod record_pieces;
 mod release_eval;
 mod row_sets;
 mod splitting;

@@ -1,20 +1,20 @@
 //! Tests of what is derived of each code point, and their sets.
 
-ghost use Rattle.std.specs.Prelude.{◌≡◌, ℕ, ◌&&◌, nat_lt, IfOk};
-ghost use Rattle.ucd_model.specs.Cuts.{IsCut};
+ghost use Rattle.std.specs.Prelude.{◌≡◌, ℕ, ◌&&◌, map, nat_lt, IfOk};
 ghost use Rattle.ucd_model.specs.Limits.{point_count};
 ghost use Rattle.ucd_model.specs.Predicates.{is_one_of};
-ghost use Rattle.ucd_model.specs.Records.{Record as RecordValue, ShowsRecord};
 ghost use Rattle.unicodeset_eval.specs.Edges.{has};
-ghost use Rattle.unicodeset_eval.specs.PieceSets.{piece_edges};
 ghost use Rattle.unicodeset_eval.specs.Found.{tells};
+ghost use Rattle.unicodeset_eval.specs.RecordPieces.{at_first, piece_turns, piece_value, values_record};
 ghost use Rattle.unicodeset_eval.specs.Tests.{check_of, group_categories};
 
+use crate::index::SetIndex;
 use crate::merging::emit;
 use crate::point_set::PointSet;
+use crate::record_pieces::{Piece, PropertyValues};
 use property_aliases::{Group, Test};
 use std::alloc::Global;
-use ucd_model::{Category, Form, Memory, Point, Quick, Record, Records, Span, point_count};
+use ucd_model::{Category, Form, Memory, Quick, Records, point_count};
 
 /// Whether a category is in a group. UAX #44, section 5.7.1, table 12.
 fn is_in_group(group: Group, category: Category) -> bool
@@ -58,8 +58,8 @@ fn is_punctuation(category: Category) -> bool
 }
 
 /// The quick check of a form.
-fn check_of(form: Form, shown: &Record) -> Quick
-    ensures { (R : RecordValue) → ShowsRecord shown.now R → result ≡ check_of form R }
+fn check_of(form: Form, shown: &PropertyValues) -> Quick
+    ensures { result ≡ check_of form (values_record shown.now) }
 {
     match form {
         Form::Nfd => shown.nfd,
@@ -69,9 +69,9 @@ fn check_of(form: Form, shown: &Record) -> Quick
     }
 }
 
-/// What a test says of a code point with this record, where it is Assigned or a test of derived properties; else false.
-fn tells(test: Test, shown: &Record) -> bool
-    ensures { (R : RecordValue) → ShowsRecord shown.now R → result ≡ tells test R }
+/// What a test says of a code point with these values, where it is Assigned or a test of derived properties; else false.
+fn tells(test: Test, shown: &PropertyValues) -> bool
+    ensures { result ≡ tells test (values_record shown.now) }
 {
     match test {
         Test::Assigned => shown.category.place() != Category::Cn.place(),
@@ -87,42 +87,43 @@ fn tells(test: Test, shown: &Record) -> bool
     }
 }
 
+/// What a test says of the first piece.
+fn at_first(test: Test, pieces: &[Piece]) -> bool
+    ensures { result ≡ at_first (tells test) (map piece_value pieces.now) }
+{
+    match pieces {
+        [first, ..] => tells(test, &first.values),
+        [] => false,
+    }
+}
+
 /// The numbers at which a test turns, over pieces of equal records; `starts` is what it says of the code point 0.
 ///
 /// - `Memory`: memory ran out.
-fn turns<B: Records>(
-    alloc: Global,
-    bench: &B,
-    pieces: &[Span],
-    test: Test,
-    starts: bool,
-) -> Result<Vec<u32>, Memory>
-    ensures { IfOk result (λ edges. edges.items ≡ piece_edges point_count (λ c. tells test (B.record_of bench.now c)) starts pieces.now) }
+fn turns(alloc: Global, pieces: &[Piece], test: Test, starts: bool) -> Result<Vec<u32>, Memory>
+    ensures { IfOk result (λ edges. edges.items ≡ piece_turns point_count (tells test) starts (map piece_value pieces.now)) }
 {
     let mut edges = Vec::new(alloc);
     let mut inside = starts;
     'pieces: for piece in pieces {
-        let next = tells(test, bench.record(piece.lo));
-        emit(&mut edges, inside, next, piece.first())?;
+        let next = tells(test, &piece.values);
+        emit(&mut edges, inside, next, piece.first)?;
         inside = next;
     }
     emit(&mut edges, inside, false, point_count())?;
     Ok(edges)
 }
 
-/// The set of Assigned or of a test of derived properties, over pieces of equal records. Each piece is looked at once.
-///
-/// - `Memory`: memory ran out.
-pub(crate) fn set_over<B: Records>(
-    alloc: Global,
-    bench: &B,
-    pieces: &[Span],
-    test: Test,
-) -> Result<PointSet, Memory>
-    requires { ∥ IsCut (B.record_of bench.now) 0 point_count pieces.now ∥₁ }
-    ensures { IfOk result (λ set. (c : ℕ) → has set c ≡ (nat_lt c point_count && tells test (B.record_of bench.now c))) }
-{
-    let starts = tells(test, bench.record(Point::at(0)));
-    let edges = turns(alloc, bench, pieces, test, starts)?;
-    Ok(PointSet::of_edges(starts, edges))
+impl<'b, B: Records> SetIndex<'b, B> {
+    /// The set of Assigned or of a test of derived properties. Each piece of equal records is looked at once.
+    ///
+    /// - `Memory`: memory ran out.
+    pub(crate) fn set_over(&self, alloc: Global, test: Test) -> Result<PointSet, Memory>
+        ensures { IfOk result (λ set. (c : ℕ) → has set c ≡ (nat_lt c point_count && tells test (B.record_of self.now.bench.now c))) }
+    {
+        let pieces = self.pieces.as_slice();
+        let starts = at_first(test, pieces);
+        let edges = turns(alloc, pieces, test, starts)?;
+        Ok(PointSet::of_edges(starts, edges))
+    }
 }

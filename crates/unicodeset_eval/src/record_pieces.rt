@@ -1,0 +1,69 @@
+//! Pieces of equal records, as tests read them.
+
+ghost use Rattle.std.specs.Prelude.{◌≡◌, ℕ, IfOk, map};
+ghost use Rattle.ucd_model.specs.Records.{Record as RecordValue, ShowsRecord};
+ghost use Rattle.unicodeset_eval.specs.RecordPieces.{piece_at, piece_value, unfolded, values_record};
+
+use std::alloc::Global;
+use ucd_model::{Category, CoreSet, Kind, Memory, Quick, Record, Records, Span};
+
+/// The values of the properties that tests ask for: those of a record but its NFKC_Casefold.
+#[derive(Clone, Copy, Debug)]
+pub(crate) struct PropertyValues {
+    pub(crate) category: Category,
+    pub(crate) class: u8,
+    pub(crate) kind: Kind,
+    pub(crate) core: CoreSet,
+    pub(crate) exclusion: bool,
+    pub(crate) nfd: Quick,
+    pub(crate) nfc: Quick,
+    pub(crate) nfkd: Quick,
+    pub(crate) nfkc: Quick,
+    pub(crate) changes_casefold: bool,
+}
+
+/// Code points that follow one another, with equal records.
+#[derive(Clone, Copy, Debug)]
+pub(crate) struct Piece {
+    /// The number of the first one.
+    pub(crate) first: u32,
+    /// The values of each of them.
+    pub(crate) values: PropertyValues,
+}
+
+/// The values of a record.
+fn values_of(shown: &Record) -> PropertyValues
+    ensures { (R : RecordValue) → ShowsRecord shown.now R → values_record result ≡ unfolded R }
+{
+    PropertyValues {
+        category: shown.category,
+        class: shown.class,
+        kind: shown.kind,
+        core: shown.core,
+        exclusion: shown.exclusion,
+        nfd: shown.nfd,
+        nfc: shown.nfc,
+        nfkd: shown.nfkd,
+        nfkc: shown.nfkc,
+        changes_casefold: shown.changes_casefold,
+    }
+}
+
+/// The pieces of spans of equal records. Each record is looked up once.
+///
+/// - `Memory`: memory ran out.
+pub(crate) fn pieces_of<B: Records>(
+    alloc: Global,
+    bench: &B,
+    spans: &[Span],
+) -> Result<Vec<Piece>, Memory>
+    ensures { IfOk result (λ pieces. map piece_value pieces.items ≡ map (piece_at (B.record_of bench.now)) spans.now) }
+{
+    let mut pieces = Vec::new(alloc);
+    'spans: for span in spans {
+        let values = values_of(bench.record(span.lo));
+        let first = span.first();
+        pieces.push(Piece { first, values })?;
+    }
+    Ok(pieces)
+}

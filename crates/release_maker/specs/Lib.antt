@@ -1,0 +1,3 @@
+pub mod MadeTexts
+pub mod Lines
+pub mod Examples

@@ -1,0 +1,26 @@
+-- Proofs about the tests of questions.
+--
+-- queries_are_told   the law of the same name
+use Rattle.std.proofs.Common.{◌≡◌, ℕ, false, ◌==◌, refl, sym, ap}
+use Rattle.std.specs.Bool.{Decides}
+use Rattle.std.proofs.lemmas.Bool.{true≢false, eqb-true, eq-eqb}
+use Rattle.std.proofs.lemmas.Bool.Decides.{Decides-and, Decides-eqb}
+use Rattle.ucd_model.specs.declared.query.Query.{Query}
+use Rattle.ucd_model.specs.declared.query.Query.TheVariants.{Row, Pair, Second}
+use Rattle.asked_queries.specs.Answers.{QueriesAreTold}
+
+differ : {q r : Query} → (q ≡ r → ⊥) → Decides false (q ≡ r)
+differ never = (λ t. absurd (true≢false (sym t)), λ e. absurd (never e))
+
+pub queries_are_told : QueriesAreTold
+queries_are_told (Row x) (Row y) = (λ t. ap (λ (z : ℕ). Row z) (eqb-true x y t), λ e. eq-eqb x y cc)
+queries_are_told (Pair s x) (Pair t y) =
+    let both = Decides-and (s == t) (x == y) (Decides-eqb s t) (Decides-eqb x y) in
+    (λ e. let same = both.0 e in rw (same.0, same.1) refl, λ e. both.1 (cc, cc))
+queries_are_told (Second x) (Second y) = (λ t. ap (λ (z : ℕ). Second z) (eqb-true x y t), λ e. eq-eqb x y cc)
+queries_are_told (Row x) (Pair s y) = differ (λ e. cc)
+queries_are_told (Row x) (Second y) = differ (λ e. cc)
+queries_are_told (Pair s x) (Row y) = differ (λ e. cc)
+queries_are_told (Pair s x) (Second y) = differ (λ e. cc)
+queries_are_told (Second x) (Row y) = differ (λ e. cc)
+queries_are_told (Second x) (Pair s y) = differ (λ e. cc)

@@ -1,0 +1,50 @@
+-- A code point that the index does not give asks nothing.
+--
+-- unasked       who is not listed under a question, and whose own one it is not, does not ask it
+-- none_more     one more that does not pass
+-- none_between  where none of a stretch passes, and none behind it may pass, none of both does
+use Rattle.std.proofs.Common.{◌≡◌, ◌∙◌, ℕ, ◌+◌, ◌<◌, ◌≤◌, Bool, true, false, ◌||◌, List, Option, Some, None, refl, sym, ap, arith, inl, inr}
+use Rattle.std.specs.BTreeSet.{BTreeSet}
+use Rattle.std.proofs.lemmas.Bool.{cases_lt, true≢false}
+use Rattle.ucd_model.specs.declared.query.Query.{Query}
+use Rattle.ucd_model.specs.declared.query.Query.TheVariants.{Row, Pair, Second}
+use Rattle.asked_queries.specs.Answers.{is_asked}
+use Rattle.dependency_map.specs.Askers.{own_queries, asked_by, asks}
+use Rattle.dependency_map.specs.Index.{is_own, is_listed, may_ask, keeps, Lists, NoneFrom}
+
+-- a plain code point asks its own questions alone
+own_is_asked : (q : Query) (c : ℕ) → is_own q c ≡ false → is_asked (own_queries c) q ≡ false
+own_is_asked (Row x) c h = grind arith
+own_is_asked (Pair s y) c h = refl
+own_is_asked (Second y) c h = grind arith
+
+or_first : (a b : Bool) → (a || b) ≡ false → a ≡ false
+or_first true b h = h
+or_first false b h = refl
+
+or_second : (a b : Bool) → (a || b) ≡ false → b ≡ false
+or_second true b h = absurd (true≢false h)
+or_second false b h = h
+
+kept_is_listed : (queries : List Query) (q : Query) (listed b : Bool) → is_asked queries q ≡ b → (keeps (Some queries) q ≡ true → listed ≡ true) → listed ≡ false → is_asked queries q ≡ false
+kept_is_listed queries q listed true is lists not = absurd (true≢false (sym (lists is) ∙ not))
+kept_is_listed queries q listed false is lists not = is
+
+unasked_by : (keys : BTreeSet ℕ) (kept : Option (List Query)) (c : ℕ) (q : Query) → (keeps kept q ≡ true → is_listed keys q c ≡ true) → may_ask keys q c ≡ false → is_asked (asked_by c kept) q ≡ false
+unasked_by keys None c q lists h = own_is_asked q c (or_second (is_listed keys q c) (is_own q c) h)
+unasked_by keys (Some queries) c q lists h = kept_is_listed queries q (is_listed keys q c) (is_asked queries q) refl lists (or_first (is_listed keys q c) (is_own q c) h)
+
+pub unasked : (keys : BTreeSet ℕ) (kept : ℕ → Option (List Query)) → Lists keys kept → (q : Query) (c : ℕ) → c < 1114112 → may_ask keys q c ≡ false → asks (λ k. asked_by k (kept k)) q c ≡ false
+unasked keys kept lists q c inside h = unasked_by keys (kept c) c q (lists c inside q) h
+
+pub none_between : (p m : ℕ → Bool) (from start n : ℕ) → ((k : ℕ) → k < 1114112 → m k ≡ false → p k ≡ false) → n ≤ 1114112 → NoneFrom p from start → NoneFrom m start n → NoneFrom p from n
+none_between p m from start n rest bound before after k low high = elim (cases_lt k start) [
+  | inl lt ↦ before k low lt
+  | inr ge ↦ rest k (omega arith) (after k ge high)
+]
+
+pub none_more : (p : ℕ → Bool) (from x : ℕ) → NoneFrom p from x → p x ≡ false → NoneFrom p from (x + 1)
+none_more p from x before here k low high = elim (cases_lt k x) [
+  | inl lt ↦ before k low lt
+  | inr ge ↦ let at : k ≡ x = omega arith in ap p at ∙ here
+]

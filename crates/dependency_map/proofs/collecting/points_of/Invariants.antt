@@ -1,0 +1,12 @@
+use Rattle.std.proofs.Common.{◌≡◌, ◌-◌, ◌++◌}
+use Rattle.std.specs.Ordering.{nat_cmp}
+use Rattle.std.specs.BTreeSet.{contains}
+use Rattle.dependency_map.specs.Askers.{points_from}
+use Rattle.dependency_map.proofs.collecting.points_of.Given as goal
+
+-- the code points that were put, and those from there on, are all
+abbrev pub invariant-points : goal.invariant-points
+invariant-points l = l.points ++ points_from (contains nat_cmp l.numbers) l.from ≡ points_from (contains nat_cmp l.numbers) 0
+
+abbrev pub decreases-points : goal.decreases-points
+decreases-points l = 1114112 - l.from

@@ -1,0 +1,16 @@
+use Rattle.std.proofs.Common.{◌≡◌, ◌∙◌, ℕ, List, take, ap}
+use Rattle.std.proofs.lemmas.List.{take_all}
+use Rattle.std.specs.Ordering.{nat_cmp}
+use Rattle.std.specs.BTreeSet.{contains}
+use Rattle.ucd_model.specs.declared.query.Query.{Query}
+use Rattle.dependency_map.specs.Askers.{asks_any}
+use Rattle.dependency_map.specs.Maps.{asked_at}
+use Rattle.dependency_map.proofs.PointLemmas.{points_same}
+use Rattle.dependency_map.proofs.dependencies.DependencyMap.collect.Goals as goal
+
+pub returns : goal.returns
+returns g c =
+    let asked : ℕ → List Query = asked_at g.S.Store.now c.args.self.now in
+    let items : List Query = c.as_slice-query-items.result.now in
+    let all : take c.queries.query-index items ≡ c.args.queries.now = take_all c.queries.query-index items c.queries-test.false ∙ c.as_slice-query-items.ensures in
+    c.in_ok-points.ensures ∙ points_same (contains nat_cmp c.queries.numbers) (asks_any asked c.args.queries.now) (λ k inside. c.queries.invariant k inside ∙ ap (λ Q. asks_any asked Q k) all)

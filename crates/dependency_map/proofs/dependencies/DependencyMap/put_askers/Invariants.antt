@@ -1,0 +1,16 @@
+use Rattle.std.proofs.Common.{◌≡◌, ◌-◌, ◌<◌, ◌≤◌, ◌||◌, ℕ}
+use Rattle.std.specs.Ordering.{nat_cmp}
+use Rattle.std.specs.BTreeSet.{contains}
+use Rattle.dependency_map.specs.Askers.{asks}
+use Rattle.dependency_map.specs.Maps.{asked_at}
+use Rattle.dependency_map.proofs.dependencies.DependencyMap.put_askers.Given as goal
+
+-- the code points below `from` that ask the question are put, and none from there on
+abbrev pub invariant-askers : goal.invariant-askers
+invariant-askers g l = record {
+  below : (k : ℕ) → k < l.from → contains nat_cmp l.numbers k ≡ (contains nat_cmp l.initial.numbers k || asks (asked_at g.S.Store.now l.self) l.query k);
+  above : (k : ℕ) → l.from ≤ k → contains nat_cmp l.numbers k ≡ contains nat_cmp l.initial.numbers k;
+}
+
+abbrev pub decreases-askers : goal.decreases-askers
+decreases-askers g l = 1114112 - l.from

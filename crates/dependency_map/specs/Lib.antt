@@ -1,0 +1,4 @@
+pub mod Index
+pub mod Askers
+pub mod Maps
+pub mod Examples

@@ -1,0 +1,80 @@
+//! The index of the code points that ask a question.
+//!
+//! | bits of a key | what they say |
+//! |---|---|
+//! | 0 to 20 | the code point that asks |
+//! | 21 to 41 | the code point of the question; of a pair the second one |
+//! | 42 to 62 | the first code point of a pair; 110000 (hexadecimal) for a row, 110001 for a second member |
+
+ghost use Rattle.std.specs.Prelude.{◌≡◌, ℕ, ◌+◌, ◌<◌, ◌≤◌, true, false, MatchOption, OnOk};
+ghost use Rattle.ucd_model.specs.declared.query.Query.{Query as Question};
+ghost use Rattle.asked_queries.specs.Answers.{is_asked};
+ghost use Rattle.dependency_map.specs.Index.{query_key, is_listed, is_own, least, may_ask, NoneFrom};
+
+use crate::number_set::{insert, next_point};
+use std::collections::BTreeSet;
+use ucd_model::{Memory, Point, Queries, Query};
+
+/// Stands where a pair has its first code point, in the keys of rows.
+const ROW: u64 = 0x11_0000;
+
+/// The same of second members.
+const SECOND: u64 = 0x11_0001;
+
+/// Lists a code point under each of the questions.
+///
+/// - `Memory`: memory ran out. Nothing that was listed is lost; the code point may be listed under some of them.
+pub fn list(keys: &mut BTreeSet<u64>, c: Point, asked: &Queries) -> Result<(), Memory>
+    ensures grows { (q : Question) (k : ℕ) → is_listed keys.old q k ≡ true → is_listed keys.new q k ≡ true }
+    ensures listed { OnOk result ((q : Question) → is_asked asked.now q ≡ true → is_listed keys.new q c ≡ true) }
+{
+    'queries: for query in asked.as_slice() {
+        insert(keys, query_key(query) + u64::from(c.number()))?;
+    }
+    Ok(())
+}
+
+/// The least code point at or above `from` that is listed under the question, or whose own question it is.
+pub fn next_listed(keys: &BTreeSet<u64>, query: &Query, from: u32) -> Option<Point>
+    ensures { MatchOption result (NoneFrom (may_ask keys.now query.now) from 1114112)
+        (λ c. (from ≤ c) × NoneFrom (may_ask keys.now query.now) from c) }
+{
+    let listed = next_point(keys, query_key(query), from);
+    let own = own_point(query, from);
+    least(listed, own)
+}
+
+/// Where the keys of a question begin.
+fn query_key(query: &Query) -> u64
+    ensures value { result ≡ query_key query.now }
+    ensures below { result < 9223372036850000000 }
+{
+    let (first, last) = match *query {
+        Query::Row(x) => (ROW, x),
+        Query::Pair(s, y) => (u64::from(s.number()), y),
+        Query::Second(y) => (SECOND, y),
+    };
+    (first * 2_097_152 + u64::from(last.number())) * 2_097_152
+}
+
+/// The plain code point whose own question this is, where it is at or above `from`.
+fn own_point(query: &Query, from: u32) -> Option<Point>
+    ensures { MatchOption result (NoneFrom (is_own query.now) from 1114112) (λ c. (from ≤ c) × NoneFrom (is_own query.now) from c) }
+{
+    match *query {
+        Query::Row(x) if x.number() >= from => Some(x),
+        Query::Second(y) if y.number() >= from => Some(y),
+        _ => None,
+    }
+}
+
+/// The lesser of two code points, of those that are there.
+fn least(a: Option<Point>, b: Option<Point>) -> Option<Point>
+    ensures { result ≡ least a b }
+{
+    match (a, b) {
+        (Some(x), Some(y)) => Some(x.min(y)),
+        (Some(x), None) => Some(x),
+        (None, other) => other,
+    }
+}

@@ -1,0 +1,26 @@
+//! Code points that were gathered in any order.
+
+ghost use Rattle.std.specs.Prelude.{◌≡◌, IfOk};
+ghost use Rattle.std.specs.Ordering.{nat_cmp};
+ghost use Rattle.std.specs.BTreeSet.{contains};
+ghost use Rattle.dependency_map.specs.Askers.{points_from};
+
+use crate::number_set::next_in;
+use std::alloc::Global;
+use std::collections::BTreeSet;
+use ucd_model::{Memory, Points};
+
+/// The code points whose numbers these are, ascending.
+///
+/// - `Memory`: memory ran out.
+pub fn points_of(alloc: Global, numbers: &BTreeSet<u64>) -> Result<Points, Memory>
+    ensures { IfOk result (λ points. points ≡ points_from (contains nat_cmp numbers.now) 0) }
+{
+    let mut points = Points::new(alloc);
+    let mut from = 0;
+    'points: while let Some(c) = next_in(numbers, from) {
+        points.push(c)?;
+        from = c.number() + 1;
+    }
+    Ok(points)
+}

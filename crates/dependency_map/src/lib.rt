@@ -6,6 +6,7 @@ mod asker_iter;
 mod asking;
 mod collecting;
 mod dependencies;
+pub mod laws;
 mod number_set;
 mod preparing;
 

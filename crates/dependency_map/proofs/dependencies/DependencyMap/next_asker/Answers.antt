@@ -1,4 +1,4 @@
-use Rattle.std.proofs.Common.{◌≡◌, ◌∙◌, ℕ, ◌<◌, ◌≤◌, Bool, true, false, sym, arith}
+use Rattle.std.proofs.Common.{◌≡◌, ℕ, ◌<◌, ◌≤◌, Bool, true, false, arith}
 use Rattle.dependency_map.specs.Askers.{asks}
 use Rattle.dependency_map.specs.Index.{kept_at, may_ask, NoneFrom}
 use Rattle.dependency_map.specs.Maps.{asked_at}
@@ -15,7 +15,7 @@ returns-then-has_asked g c =
     let inside : x < 1114112 = rw c.number-start.ensures.value at c.number-start.ensures.bound in
     let low : c.args.from ≤ x = omega (arith, c.askers.invariant.low, c.in-Some.ensures.0) in
     let before : NoneFrom p c.args.from x = none_between p (may_ask map.askers q) c.args.from c.askers.start x (unasked map.askers (kept_at g.S.Store.now map.lists) map.now_listed q) (omega (arith, inside)) c.askers.invariant.none c.in-Some.ensures.1 in
-    let here : p x ≡ true = sym c.has_asked.ensures ∙ c.if-has_asked.true in
+    let here : p x ≡ true = rw c.has_asked.ensures at c.if-has_asked.true in
     record { next = (low, here, before); left = points_next p c.args.from x inside low here before }
 
 pub askers-preserved : goal.askers-preserved
@@ -27,7 +27,7 @@ askers-preserved g c =
     let inside : x < 1114112 = rw c.number-start.ensures.value at c.number-start.ensures.bound in
     let low : c.args.from ≤ x = omega (arith, c.askers.invariant.low, c.in-Some.ensures.0) in
     let before : NoneFrom p c.args.from x = none_between p (may_ask map.askers q) c.args.from c.askers.start x (unasked map.askers (kept_at g.S.Store.now map.lists) map.now_listed q) (omega (arith, inside)) c.askers.invariant.none c.in-Some.ensures.1 in
-    let here : p x ≡ false = sym c.has_asked.ensures ∙ c.if-has_asked.false in
+    let here : p x ≡ false = rw c.has_asked.ensures at c.if-has_asked.false in
     rw c.number-start.ensures.value (record { low = omega (arith, low); none = none_more p c.args.from x before here })
 
 pub returns : goal.returns

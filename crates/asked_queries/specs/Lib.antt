@@ -1,2 +1,15 @@
 pub mod Answers
 pub mod AnswerProofs
+pub mod Questions
+pub mod Laws
+pub mod ListProofs
+pub mod ExpansionProofs
+pub mod FormProofs
+pub mod RoundProofs
+pub mod RowProofs
+pub mod RecordProofs
+pub mod TreeProofs
+pub mod PlainProofs
+pub mod Turns
+pub mod TurnProofs
+pub mod QuestionExamples

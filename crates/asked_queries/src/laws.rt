@@ -1,8 +1,83 @@
 //! The laws of what is asked: each function here does nothing, and its contract is a law.
 
 ghost use Rattle.asked_queries.specs.Answers.{QueriesAreTold};
+ghost use Rattle.asked_queries.specs.Laws.{TreeIsLeast, SameExpansions, SameForms, SameRounds, SameFoldings, AskedIsLocal, PlainAskOwn};
+ghost use Rattle.asked_queries.specs.Turns.{OthersStay, CollectedAreDependants, CollectedAreCounted, NextIsValid, NextIsBroken, NextKeepsAsked};
 
 /// The test of whether two questions are the same tells it.
 pub fn queries_are_told()
     ensures { QueriesAreTold }
+{}
+
+/// Where a code point has an expansion, the tree that it looks at is the least set of code points that holds it and, with
+/// each code point, the members of its mapping that counts.
+pub fn trees_are_least()
+    ensures { TreeIsLeast }
+{}
+
+/// Facts that answer the rows of an expansion's tree alike give the same expansion, and the same tree. UAX #15,
+/// section 1.3.
+pub fn expansions_are_local()
+    ensures { SameExpansions }
+{}
+
+/// Facts that answer what a form of a list asks alike put the list in the same form, and ask the same. UAX #15,
+/// section 1.3.
+pub fn forms_are_local()
+    ensures { SameForms }
+{}
+
+/// Facts that answer what a folding round asks alike give the same round, and ask the same. The Unicode Standard,
+/// section 3.13.
+pub fn rounds_are_local()
+    ensures { SameRounds }
+{}
+
+/// Facts that answer what all folding rounds of a code point ask alike give the same rounds up to the one after the
+/// last, the same last round, and ask the same.
+pub fn foldings_are_local()
+    ensures { SameFoldings }
+{}
+
+/// A code point that has its record has the same one over all facts that answer what its derivation asks alike, and its
+/// derivation asks the same of them.
+pub fn asked_is_local()
+    ensures { AskedIsLocal }
+{}
+
+/// A code point without a mapping asks its own row, and whether it is the second member of a primary composite's mapping,
+/// and nothing else.
+pub fn plain_points_ask_their_own()
+    ensures { PlainAskOwn }
+{}
+
+/// In a turn each code point that asks no changed question has the same record, and asks the same.
+pub fn others_stay()
+    ensures { OthersStay }
+{}
+
+/// The code points that ask a changed question are just those that depend on the change.
+pub fn collected_are_dependants()
+    ensures { CollectedAreDependants }
+{}
+
+/// There are at most as many of them as code points that depend on the change.
+pub fn collected_are_counted()
+    ensures { CollectedAreCounted }
+{}
+
+/// If each of them has its record after a turn, the release is valid.
+pub fn next_is_valid()
+    ensures { NextIsValid }
+{}
+
+/// The first of them that has no record after a turn is the first code point without one.
+pub fn next_is_broken()
+    ensures { NextIsBroken }
+{}
+
+/// What is kept of each code point is right after a turn, if it is anew of those code points, and as it was of the
+/// others.
+pub fn next_keeps_asked()
+    ensures { NextKeepsAsked }
 {}

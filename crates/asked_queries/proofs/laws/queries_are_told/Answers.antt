@@ -1,5 +1,5 @@
-use Rattle.asked_queries.specs.AnswerProofs.{queries_are_told as told}
+use Rattle.asked_queries.specs.AnswerProofs.{queries_are_told as law}
 use Rattle.asked_queries.proofs.laws.queries_are_told.Goals as goal
 
 pub returns : goal.returns
-returns c = told
+returns c = law

@@ -1,0 +1,111 @@
+-- The derivation of a code point with its questions.
+--
+-- DerivesAs r value        r is the record, or in its place the rule; want of memory says nothing
+-- plain_shown c G          the point c with the facts G has no mapping
+-- composite_shown F G      the pair of the mapping of a point with the facts G, where it is a primary composite
+-- later_asks F c           what the derivation of c asks beside Row(c) and Second(c)
+-- has_last                 the folding rounds of a point that has its record reach a last one
+-- plain_asked              a point that is shown to have no mapping asks Row(c) and Second(c) alone
+-- asked_is                 what is asked is Row(c), Second(c), and what is asked beside these
+use Rattle.std.proofs.Common.{◌≡◌, ℕ, Bool, true, false, ◌&&◌, not, ◌==◌, List, [], ◌∷◌, ◌++◌, length, Option, Some, None, is_some, Result, Ok, Err, if◌then◌else◌, refl, sym, ap, ◌∙◌}
+use Rattle.std.specs.Prelude.{⊤}
+use Rattle.std.specs.List.{flat_map}
+use Rattle.std.specs.Option.{option_and_then}
+use Rattle.ucd_model.specs.Composites.{is_canonical, first_has_class_zero}
+use Rattle.ucd_model.specs.Facts.{Facts}
+use Rattle.ucd_model.specs.FoldRounds.{rounds}
+use Rattle.ucd_model.specs.Records.{Record, kept_record}
+use Rattle.ucd_model.specs.Uniform.{IsPlain}
+use Rattle.ucd_model.specs.Validity.{mappings, is_none}
+use Rattle.ucd_model.specs.ValidityLaws.{HasRecord}
+use Rattle.ucd_model.specs.ValidityProofs.{broken-none, broken-rules}
+use Rattle.ucd_model.specs.declared.form.Bad.{Bad as Rule}
+use Rattle.ucd_model.specs.declared.form.FormStop.{FormStop}
+use Rattle.ucd_model.specs.declared.form.FormStop.TheVariants.{Bad, Memory}
+use Rattle.ucd_model.specs.declared.image.Image.{Image}
+use Rattle.ucd_model.specs.declared.image.Image.TheVariants.{Same, To}
+use Rattle.ucd_model.specs.declared.query.Query.{Query}
+use Rattle.ucd_model.specs.declared.query.Query.TheVariants.{Row, Second}
+use Rattle.std.proofs.lemmas.Bool.{true≢false, and_parts, eqb-true}
+use Rattle.std.proofs.lemmas.List.{nil_from_length}
+use Rattle.ucd_model.specs.Shown.{shown_facts, shown_is}
+use Rattle.ucd_model.specs.View.{ShowsFacts}
+use Rattle.ucd_model.specs.declared.view.FactsRef.{FactsRef}
+use Rattle.asked_queries.specs.PlainProofs.{plain_ask_own}
+use Rattle.asked_queries.specs.Turns.{SameQueries}
+use Rattle.asked_queries.specs.Questions.{row_queries, asks, last_round, rounds_ask, pair_queries, composite_asks, asked}
+use Rattle.asking_points.specs.declared.derivation.Asked.{Asked}
+
+abbrev pub DerivesAs : Result Asked FormStop → Result Record Rule → Type 0
+DerivesAs (Ok found) value = value ≡ Ok (kept_record found.value)
+DerivesAs (Err (Bad rule)) value = value ≡ Err rule
+DerivesAs (Err Memory) value = ⊤
+
+abbrev pub is_same_image : Image → Bool
+is_same_image Same = true
+is_same_image (To points) = false
+
+abbrev pub plain_shown : ℕ → Facts → Bool
+plain_shown c G =
+    (length G.mapping == 0)
+    && ((G.simple_upper == c)
+    && ((G.simple_lower == c)
+    && ((G.simple_title == c)
+    && ((G.simple_fold == c)
+    && (is_same_image G.upper
+    && (is_same_image G.lower
+    && (is_same_image G.title
+    && is_same_image G.fold)))))))
+
+abbrev pub composite_shown : (ℕ → Facts) → Facts → List Query
+composite_shown F G = if is_canonical G.kind && ((G.class == 0) && (first_has_class_zero F G.mapping && not G.excluded)) then pair_queries G.mapping else []
+
+abbrev pub later_asks : (ℕ → Facts) → ℕ → List Query
+later_asks F c =
+    row_queries (flat_map (λ m. m) (mappings c (F c)))
+    ++ (composite_asks F c ++ (asks F false (c ∷ []) ++ (asks F true (c ∷ []) ++ rounds_ask F c (last_round F c))))
+
+some_last : (F : ℕ → Facts) (c : ℕ) (r : Option ℕ) → is_none (option_and_then (λ i. rounds F i (c ∷ [])) r) ≡ false → is_some r ≡ true
+some_last F c (Some n) e = refl
+some_last F c None e = absurd (true≢false e)
+
+pub has_last : (F : ℕ → Facts) (c : ℕ) → HasRecord F c → is_some (last_round F c) ≡ true
+unfolding last_round
+has_last F c has = some_last F c (last_round F c) (broken-rules F c (broken-none F c has)).folds
+
+pub asked_is : (F : ℕ → Facts) (c : ℕ) → asked F c ≡ Row c ∷ Second c ∷ later_asks F c
+unfolding asked
+asked_is F c = refl
+
+same_is : (i : Image) → is_same_image i ≡ true → i ≡ Same
+same_is Same e = refl
+same_is (To points) e = absurd (true≢false (sym e))
+
+nothing_in : (xs : List ℕ) → (length xs == 0) ≡ true → xs ≡ []
+nothing_in xs e = nil_from_length xs (eqb-true (length xs) 0 e)
+
+plain_is : (c : ℕ) (G : Facts) → plain_shown c G ≡ true → IsPlain c G
+plain_is c G e =
+    let full = is_same_image G.upper && (is_same_image G.lower && (is_same_image G.title && is_same_image G.fold)) in
+    let p1 = and_parts (length G.mapping == 0) ((G.simple_upper == c) && ((G.simple_lower == c) && ((G.simple_title == c) && ((G.simple_fold == c) && full)))) e in
+    let p2 = and_parts (G.simple_upper == c) ((G.simple_lower == c) && ((G.simple_title == c) && ((G.simple_fold == c) && full))) p1.1 in
+    let p3 = and_parts (G.simple_lower == c) ((G.simple_title == c) && ((G.simple_fold == c) && full)) p2.1 in
+    let p4 = and_parts (G.simple_title == c) ((G.simple_fold == c) && full) p3.1 in
+    let p5 = and_parts (G.simple_fold == c) full p4.1 in
+    let p6 = and_parts (is_same_image G.upper) (is_same_image G.lower && (is_same_image G.title && is_same_image G.fold)) p5.1 in
+    let p7 = and_parts (is_same_image G.lower) (is_same_image G.title && is_same_image G.fold) p6.1 in
+    let p8 = and_parts (is_same_image G.title) (is_same_image G.fold) p7.1 in
+    record {
+      mapping = nothing_in G.mapping p1.0;
+      simple_upper = eqb-true G.simple_upper c p2.0;
+      simple_lower = eqb-true G.simple_lower c p3.0;
+      simple_title = eqb-true G.simple_title c p4.0;
+      simple_fold = eqb-true G.simple_fold c p5.0;
+      upper = same_is G.upper p6.0;
+      lower = same_is G.lower p7.0;
+      title = same_is G.title p8.0;
+      fold = same_is G.fold p8.1;
+    }
+
+pub plain_asked : (F : ℕ → Facts) (c : ℕ) (shown : FactsRef) → ShowsFacts shown (F c) → plain_shown c (shown_facts shown) ≡ true → SameQueries (Row c ∷ Second c ∷ []) (asked F c)
+plain_asked F c shown shows e = λ q. sym (plain_ask_own F c (plain_is c (F c) (ap (plain_shown c) (sym (shown_is shown (F c) shows)) ∙ e)) q)

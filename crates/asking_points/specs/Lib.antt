@@ -1,0 +1,9 @@
+pub mod QueryLists
+pub mod Members
+pub mod Tries
+pub mod TryProofs
+pub mod Trees
+pub mod Forms
+pub mod Rounds
+pub mod RoundQuestions
+pub mod Derivation

@@ -1,0 +1,67 @@
+//! Questions of expansions.
+
+ghost use Rattle.std.specs.Prelude.{◌≡◌, ◌++◌, OnOk};
+ghost use Rattle.std.specs.List.{flat_map};
+ghost use Rattle.asked_queries.specs.Questions.{tree, whole_tree, row_queries};
+
+use decomposition::counted;
+use ucd_model::{FactView, Memory, Point, Query};
+
+/// The levels of an expansion: one more than the longest chain of mappings (real releases need 3).
+const LEVELS: u8 = 8;
+
+/// Puts the questions for the facts of the code points that the expansions of these look at at the end.
+/// UAX #15, section 1.3.
+///
+/// - `Memory`: memory ran out.
+pub fn put_trees<W: FactView>(
+    view: &W,
+    compat: bool,
+    points: &[Point],
+    asked: &mut Vec<Query>,
+) -> Result<(), Memory>
+    ensures { OnOk result (asked.new.items
+        ≡ asked.old.items ++ row_queries (flat_map (whole_tree (W.facts_of view.now) compat) points.now)) }
+{
+    'points: for c in points {
+        put_whole_tree(view, compat, *c, asked)?;
+    }
+    Ok(())
+}
+
+/// The same of one code point.
+#[tactic(auto, unfolding(asked_queries::specs::Questions::whole_tree))]
+fn put_whole_tree<W: FactView>(
+    view: &W,
+    compat: bool,
+    c: Point,
+    asked: &mut Vec<Query>,
+) -> Result<(), Memory>
+    ensures { OnOk result (asked.new.items
+        ≡ asked.old.items ++ row_queries (whole_tree (W.facts_of view.now) compat c)) }
+{
+    put_tree(view, compat, LEVELS, c, asked)?;
+    Ok(())
+}
+
+/// The same with some levels left.
+fn put_tree<W: FactView>(
+    view: &W,
+    compat: bool,
+    levels: u8,
+    c: Point,
+    asked: &mut Vec<Query>,
+) -> Result<(), Memory>
+    ensures { OnOk result (asked.new.items
+        ≡ asked.old.items ++ row_queries (tree (W.facts_of view.now) compat levels c)) }
+{
+    if levels == 0 {
+        return Ok(());
+    }
+    asked.push(Query::Row(c))?;
+    let mapping = counted(view, compat, c);
+    'members: for member in mapping {
+        put_tree(view, compat, levels - 1, *member, asked)?;
+    }
+    Ok(())
+}

@@ -11,6 +11,7 @@ pub mod Faults
 pub mod RowsApart
 pub mod Operations
 pub mod Touched
+pub mod MeetingRows
 pub mod Unchanged
 pub mod Order
 pub mod Loads

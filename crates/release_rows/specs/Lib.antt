@@ -16,6 +16,8 @@ pub mod Searches
 pub mod Gaps
 pub mod Finding
 pub mod OperationLaws
+pub mod Touching
+pub mod TouchingProofs
 pub mod Unchanged
 pub mod Laws
 pub mod FileLemmas

@@ -1,13 +1,14 @@
 //! A source file as it is kept.
 
-ghost use Rattle.std.specs.Prelude.{◌≡◌, ◌<◌, ◌^◌, [], length, map, Ok, IfOk};
+ghost use Rattle.std.specs.Prelude.{◌≡◌, ◌<◌, ◌^◌, [], filter, length, map, Ok, IfOk};
 ghost use Rattle.std.specs.List.{All};
 ghost use Rattle.part_list.specs.Parts.{now_in, next_in};
 ghost use Rattle.source_rows.specs.Faults.{row_or_fault};
-ghost use Rattle.release_rows.specs.FileItems.{bytes_of};
+ghost use Rattle.release_rows.specs.FileItems.{bytes_of, rows_in};
 ghost use Rattle.release_rows.specs.Operations.{AnswersOp, IsOp, edited, op_file, touched};
 ghost use Rattle.release_rows.specs.Releases.{AreKept, committed, discarded, rows_at};
 ghost use Rattle.release_rows.specs.StoredItems.{stored_at, IsStored, IsWhole};
+ghost use Rattle.release_rows.specs.Touching.{meets};
 ghost use Rattle.release_rows.specs.declared.operation.Op.TheVariants.{Add, Change, Withdraw};
 
 use crate::edits::put_in;
@@ -16,14 +17,16 @@ use crate::join::joined;
 use crate::op_spans::{both_spans, entry_spans, row_spans};
 use crate::operation::{Op, OpStop};
 use crate::row_iter::Rows;
+use crate::row_text::RowText;
 use crate::stored_row::store_row;
 use crate::stretch::Stretch;
+use crate::touching::touching_rows;
 use part_list::PartList;
 use source_rows::{Key, row_key};
 use std::alloc::Global;
 use std::marker::Model;
 use ucd_lines::Ending;
-use ucd_model::{ListOf, Memory, Row, SourceFile, Spans, Text};
+use ucd_model::{ListOf, Memory, Row, SourceFile, Span, Spans, Text};
 
 /// A text that only grows, and where the items of a file stand in it, now and next. A row is kept as its bytes alone:
 /// they read as it. Contracts see the items.
@@ -108,6 +111,17 @@ impl FileText {
         ensures { result ≡ rows_at self.now.next }
     {
         Rows::new(self.file, self.text.as_slice(), self.items.next_entries())
+    }
+
+    /// The rows of the file next that speak of a code point in some of the spans, in order.
+    ///
+    /// - `Memory`: memory ran out.
+    pub fn next_rows_in(&self, alloc: Global, spans: &[Span]) -> Result<Vec<RowText<'_>>, Memory>
+        ensures { IfOk result (λ rows. rows.items ≡ filter (meets spans.now) (rows_in self.now.next)) }
+    {
+        let text = self.text.as_slice();
+        let rows = touching_rows(alloc, self.file, text, self.items.next_entries(), spans)?;
+        Ok(rows)
     }
 }
 

@@ -1,6 +1,7 @@
 //! Laws of loaded files.
 
 ghost use Rattle.release_rows.specs.OperationLaws.{OperationsKeepCuts, OperationsKeepOrder, OperationsKeepRows, RowsStay};
+ghost use Rattle.release_rows.specs.Touching.{RowsMeet};
 ghost use Rattle.release_rows.specs.Unchanged.{EverythingElseStays};
 ghost use Rattle.release_rows.specs.Laws.{FaultsAreFirst, LoadsExactly, BytesAreKept, LoadedFilesAreSound, ReloadsTheSame};
 
@@ -68,6 +69,11 @@ pub fn operations_keep_cuts()
 /// A code point outside of what an operation touches has the same rows that speak of it, in the same order.
 pub fn rows_stay()
     ensures { RowsStay }
+{}
+
+/// A row that speaks of a code point in one of the spans is among those that meet the spans.
+pub fn rows_meet()
+    ensures { RowsMeet }
 {}
 
 /// Everything but the operation's row keeps its bytes and its order, comments and empty lines among it. Only the item in

@@ -27,11 +27,13 @@ mod row_text;
 mod search;
 mod stored_row;
 mod stretch;
+mod touching;
 
 pub use key_rule::KeyRule;
 pub use laws::{
     bytes_are_kept, everything_else_stays, faults_are_first, loaded_files_are_sound, loads_exactly,
-    operations_keep_cuts, operations_keep_order, operations_keep_rows, reloads_the_same, rows_stay,
+    operations_keep_cuts, operations_keep_order, operations_keep_rows, reloads_the_same, rows_meet,
+    rows_stay,
 };
 pub use load_stop::{LoadRule, LoadStop};
 pub use operation::{Op, OpStop, Ops};

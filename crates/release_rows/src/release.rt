@@ -1,6 +1,6 @@
 //! The source files of a release.
 
-ghost use Rattle.std.specs.Prelude.{◌≡◌, ◌≢◌, [], Ok, IfOk, OnOk};
+ghost use Rattle.std.specs.Prelude.{◌≡◌, ◌≢◌, [], filter, Ok, IfOk, OnOk};
 ghost use Rattle.ucd_model.specs.declared.files.SourceFile.{SourceFile as FileValue};
 ghost use Rattle.release_rows.specs.Cuts.{Ascends};
 ghost use Rattle.release_rows.specs.FileItems.{bytes_of, rows_in};
@@ -8,6 +8,7 @@ ghost use Rattle.release_rows.specs.Laws.{Reloads};
 ghost use Rattle.release_rows.specs.Loading.{load_or_fault};
 ghost use Rattle.release_rows.specs.Operations.{AnswersOp, IsOp, op_file, op_or_rule, touched};
 ghost use Rattle.release_rows.specs.Releases.{AnswersLoad, AreKept, items_now, items_next, no_items, rows_at};
+ghost use Rattle.release_rows.specs.Touching.{meets};
 
 use crate::laws::reloads_the_same;
 use crate::load_items::load_items;
@@ -15,9 +16,10 @@ use crate::load_stop::{LoadRule, LoadStop};
 use crate::nine_files::{NineFiles, commit_all, discard_all, items_at, no_items, prepare_in, put};
 use crate::operation::{Op, OpStop};
 use crate::row_iter::Rows;
+use crate::row_text::RowText;
 use std::alloc::Global;
 use std::marker::Model;
-use ucd_model::{Memory, SourceFile, Spans, Text, file_limit};
+use ucd_model::{Memory, SourceFile, Span, Spans, Text, file_limit};
 
 /// The source files of a release. Contracts see the items of each file, now and next.
 ///
@@ -107,6 +109,21 @@ impl Release {
     {
         reloads_the_same();
         items_at(&self.files, file).next_rows()
+    }
+
+    /// The rows of a file next that speak of a code point in some of the spans, in the order of the file. Of every other
+    /// row only the bounds are compared; it is not read.
+    ///
+    /// - `Memory`: memory ran out.
+    pub fn next_rows_in(
+        &self,
+        alloc: Global,
+        file: SourceFile,
+        spans: &[Span],
+    ) -> Result<Vec<RowText<'_>>, Memory>
+        ensures rows { IfOk result (λ rows. rows.items ≡ filter (meets spans.now) (rows_in (items_next self.now file))) }
+    {
+        items_at(&self.files, file).next_rows_in(alloc, spans)
     }
 
     /// Carries an operation out on what is prepared, and answers the code points that it touches. Outside of them the

@@ -1,0 +1,71 @@
+-- Rows that are looked at one by one.
+use Rattle.std.proofs.Common.{◌≡◌, ℕ, Bool, true, false, ◌||◌, List, [], ◌∷◌, ◌++◌, Option, Some, None, Result, Ok, Err, OnOk, is_some, filter, map, cond, refl, sym, ap, subst, ◌∙◌, append_assoc}
+use Rattle.std.specs.List.{list_any}
+use Rattle.std.proofs.lemmas.List.{append-nil}
+use Rattle.std.proofs.lemmas.List.Elements.{filter-append}
+use Rattle.ucd_model.specs.Bounds.{Bounds}
+use Rattle.ucd_model.specs.declared.files.SourceFile.{SourceFile}
+use Rattle.ucd_model.specs.declared.row.Row.{Row}
+use Rattle.source_rows.specs.KeyNames.{has_code}
+use Rattle.source_rows.specs.Laws.{RowsAreOk, RowsAreRead}
+use Rattle.part_list.specs.declared.spanned.Spanned.{Spanned}
+use Rattle.release_rows.specs.FileItems.{rows_in, onto_rows}
+use Rattle.release_rows.specs.Keys.{spans_meet}
+use Rattle.release_rows.specs.Operations.{row_spans, spans_of}
+use Rattle.release_rows.specs.StoredItems.{stored_at, item_at, IsStored}
+use Rattle.release_rows.specs.Touching.{meets}
+use Rattle.release_rows.specs.declared.stretch.Stretch.{Stretch}
+use Rattle.release_rows.proofs.EntrySpans.{stored_spans, stored_no_spans}
+
+onto_behind : (p : Option Row) (rows : List Row) → onto_rows p rows ≡ onto_rows p [] ++ rows
+onto_behind None rows = refl
+onto_behind (Some row) rows = refl
+
+-- one more item is looked at
+pub rows_more : (file : SourceFile) (text : List ℕ) (spans : List Bounds) (items : List (Spanned Stretch)) (e : Spanned Stretch) (rest : List (Spanned Stretch)) (old new whole : List Row)
+    → items ≡ e ∷ rest → new ≡ old ++ filter (meets spans) (onto_rows (stored_at file text e).row [])
+    → old ++ filter (meets spans) (rows_in (map (stored_at file text) items)) ≡ whole → new ++ filter (meets spans) (rows_in (map (stored_at file text) rest)) ≡ whole
+rows_more file text spans items e rest old new whole split put h =
+    let own : List Row = onto_rows (stored_at file text e).row [] in
+    let left : List Row = rows_in (map (stored_at file text) rest) in
+    let P : List (Spanned Stretch) → Type 0 = λ xs. old ++ filter (meets spans) (rows_in (map (stored_at file text) xs)) ≡ whole in
+    ap (λ (rows : List Row). rows ++ filter (meets spans) left) put
+    ∙ append_assoc old (filter (meets spans) own) (filter (meets spans) left)
+    ∙ ap (λ (rows : List Row). old ++ rows) (sym (filter-append (meets spans) own left) ∙ ap (filter (meets spans)) (sym (onto_behind (stored_at file text e).row left)))
+    ∙ subst P split h
+
+meets_by : (spans owns : List Bounds) (lo hi : ℕ) → owns ≡ record { lo = lo; hi = hi } ∷ [] → list_any (λ own. list_any (spans_meet own) spans) owns ≡ list_any (spans_meet (record { lo = lo; hi = hi })) spans
+meets_by spans owns lo hi e = rw e (or_none (list_any (spans_meet (record { lo = lo; hi = hi })) spans)) where
+  or_none : (b : Bool) → (b || false) ≡ b
+  or_none true = refl
+  or_none false = refl
+
+filter_one : (p : Row → Bool) (row : Row) (b : Bool) → p row ≡ b → filter p (row ∷ []) ≡ cond b (row ∷ []) []
+filter_one p row b e = rw e refl
+
+-- a row with a code speaks of the code points of its entry
+pub met : (file : SourceFile) (text : List ℕ) (spans : List Bounds) (e : Spanned Stretch) (o : Option Row) → (stored_at file text e).row ≡ o → RowsAreRead → RowsAreOk → IsStored file text e → has_code file ≡ true
+    → (b : Bool) → list_any (spans_meet (record { lo = e.code; hi = e.last })) spans ≡ b → filter (meets spans) (onto_rows o []) ≡ cond b (onto_rows o []) []
+met file text spans e None is read ok stored code true test = refl
+met file text spans e None is read ok stored code false test = refl
+met file text spans e (Some row) is read ok stored code b test =
+    let some : is_some (item_at file text e.item).row ≡ true = ap (λ (o : Option Row). is_some o) is in
+    let own = stored_spans file text e read ok stored some code in
+    let spoken : row_spans row ≡ record { lo = e.code; hi = e.last } ∷ [] = sym (ap spans_of is) ∙ own.2 in
+    filter_one (meets spans) row b (meets_by spans (row_spans row) e.code e.last spoken ∙ test)
+
+-- a row of names meets nothing
+pub not_met : (file : SourceFile) (text : List ℕ) (spans : List Bounds) (e : Spanned Stretch) (o : Option Row) → (stored_at file text e).row ≡ o → RowsAreRead → RowsAreOk → IsStored file text e → has_code file ≡ false
+    → filter (meets spans) (onto_rows o []) ≡ []
+not_met file text spans e None is read ok stored none = refl
+not_met file text spans e (Some row) is read ok stored none =
+    let some : is_some (item_at file text e.item).row ≡ true = ap (λ (o : Option Row). is_some o) is in
+    let spoken : row_spans row ≡ [] = sym (ap spans_of is) ∙ stored_no_spans file text e read ok stored some none in
+    filter_one (meets spans) row false (ap (λ (owns : List Bounds). list_any (λ own. list_any (spans_meet own) spans) owns) spoken)
+
+pub put_none : (old : List Row) (rows : List Row) → rows ≡ [] → old ≡ old ++ rows
+put_none old rows none = sym (append-nil old) ∙ ap (λ (rs : List Row). old ++ rs) (sym none)
+
+pub on_ok_by : {A E : Type 0} (r : Result A E) (X Y : Type 0) → (X → Y) → OnOk r X → OnOk r Y
+on_ok_by (Ok a) X Y f h = f h
+on_ok_by (Err e) X Y f h = tt

@@ -1,0 +1,18 @@
+-- The rows that speak of code points in spans.
+--
+-- meets spans row     the row speaks of a code point in some of the spans; never so of a row of names
+-- RowsMeet            each row that speaks of a code point in one of the spans meets them
+use Rattle.std.specs.Prelude.{◌≡◌, ℕ, Bool, true, List}
+use Rattle.std.specs.List.{list_any}
+use Rattle.ucd_model.specs.Bounds.{Bounds}
+use Rattle.ucd_model.specs.Facts.{within}
+use Rattle.ucd_model.specs.declared.row.Row.{Row}
+use Rattle.release_rows.specs.Keys.{spans_meet}
+use Rattle.release_rows.specs.OperationLaws.{speaks_of}
+use Rattle.release_rows.specs.Operations.{row_spans}
+
+abbrev pub meets : List Bounds → Row → Bool
+meets spans row = list_any (λ own. list_any (spans_meet own) spans) (row_spans row)
+
+abbrev pub RowsMeet : Type 0
+RowsMeet = (spans : List Bounds) (c : ℕ) (row : Row) → list_any (within c) spans ≡ true → speaks_of c row ≡ true → meets spans row ≡ true

@@ -1,5 +1,5 @@
 -- What words and rests keep is what the definition gives.
-use Rattle.std.proofs.Common.{◌≡◌, ℕ, ◌+◌, ◌<◌, ◌≤◌, List, [], ◌∷◌, Option, Some, None, is_some, unwrap_or, refl, sym, ap, ap₂, subst, ◌∙◌, arith, inl, inr}
+use Rattle.std.proofs.Common.{◌≡◌, ℕ, ◌+◌, ◌<◌, ◌≤◌, [], ◌∷◌, Option, Some, None, is_some, unwrap_or, refl, sym, ap, ap₂, subst, ◌∙◌, arith, inl, inr}
 use mathlib.Core.Path.{fun_ext}
 use Rattle.std.specs.Option.{option_map, option_to_list}
 use Rattle.std.proofs.lemmas.Bool.{cases_lt, lt-ltb, le-ltb}
@@ -18,7 +18,7 @@ use Rattle.code_facts.specs.Marks.{marks_before}
 use Rattle.code_facts.specs.PointLists.{lists_now}
 use Rattle.code_facts.specs.CaseMaps.{KeepsImages}
 use Rattle.code_facts.specs.Rest.{RestOf}
-use Rattle.code_facts.specs.RowTables.{word_in, rest_in, first_alone, made_facts, ShowsRows}
+use Rattle.code_facts.specs.RowTables.{word_in, rest_in, first_alone, ShowsRows}
 use Rattle.code_facts.specs.KeptFacts.{full_image, kept_at, all_kept}
 use Rattle.code_facts.specs.declared.row_tables.RowTables.{RowTables}
 use Rattle.code_facts.proofs.WordLemmas.{reads_back, one_small, category_small, kind_small}

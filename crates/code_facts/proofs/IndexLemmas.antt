@@ -1,5 +1,5 @@
 -- Composites that are found among those that are listed.
-use Rattle.std.proofs.Common.{◌≡◌, ℕ, ◌+◌, ◌<◌, ◌≤◌, Bool, true, false, ◌&&◌, ◌||◌, List, [], ◌∷◌, length, take, get_or, Option, Some, None, refl, sym, ap, ap₂, subst, ◌∙◌, arith, inl, inr}
+use Rattle.std.proofs.Common.{◌≡◌, ℕ, ◌+◌, ◌<◌, ◌≤◌, Bool, true, false, cond, not, ◌==◌, ◌&&◌, ◌||◌, List, [], ◌∷◌, length, take, get_or, nat_lt, Option, Some, None, refl, sym, ap, ap₂, subst, ◌∙◌, arith, inl, inr}
 use Rattle.std.specs.Ordering.{nat_cmp}
 use Rattle.std.specs.BTreeSet.{contains}
 use Rattle.std.proofs.lemmas.Bool.{cases_lt, true≢false}
@@ -8,7 +8,7 @@ use Rattle.ucd_model.specs.Limits.{point_count}
 use Rattle.ucd_model.specs.Facts.{Facts}
 use Rattle.ucd_model.specs.Composites.{is_canonical, first_has_class_zero, primary, is_pair, is_second, composes, ends_with, pair_of, second_of}
 use Rattle.ucd_model.specs.CompositeProofs.{pair_of_first, pair_of_none, second_of_some, second_of_none}
-use Rattle.code_facts.specs.Index.{Lists, is_listed, pair_key, second_key, NoneBelow}
+use Rattle.code_facts.specs.Index.{Lists, is_listed, pair_key, second_key, NoneBelow, is_that, ends_that, two_of, may_compose, picked}
 use Rattle.std.specs.List.{list_any}
 use Rattle.std.proofs.lemmas.List.Folds.{list_any_more}
 use Rattle.ucd_model.specs.Bounds.{Bounds}
@@ -31,7 +31,7 @@ false_by : (b : Bool) → (b ≡ true → ⊥) → b ≡ false
 false_by true h = absurd (h refl)
 false_by false h = refl
 
-pair_members : (s y : ℕ) (m : List ℕ) → is_pair s y m ≡ true → m ≡ s ∷ y ∷ []
+pub pair_members : (s y : ℕ) (m : List ℕ) → is_pair s y m ≡ true → m ≡ s ∷ y ∷ []
 pair_members s y [] e = absurd cc
 pair_members s y (a ∷ []) e = absurd cc
 pair_members s y (a ∷ b ∷ []) e =
@@ -40,10 +40,10 @@ pair_members s y (a ∷ b ∷ []) e =
     ap₂ (λ u v. u ∷ v ∷ []) first second
 pair_members s y (a ∷ b ∷ d ∷ m) e = absurd cc
 
-low_of : (q : ℕ) (span : Bounds) → within q span ≡ true → span.lo ≤ q
+pub low_of : (q : ℕ) (span : Bounds) → within q span ≡ true → span.lo ≤ q
 low_of q span is = grind (arith, nat_tests)
 
-high_of : (q : ℕ) (span : Bounds) → within q span ≡ true → q ≤ span.hi
+pub high_of : (q : ℕ) (span : Bounds) → within q span ≡ true → q ≤ span.hi
 high_of q span is = grind (arith, nat_tests)
 
 -- one more span is listed
@@ -74,14 +74,14 @@ second_kind F y q is = primary_kind F q (and_first (primary F q) (is_second y (F
 pub pair_listed : (F : ℕ → Facts) (index : PairIndex) (s y q : ℕ) → Lists index F → composes F s y q ≡ true → contains nat_cmp index.pairs (pair_key s y + q) ≡ true
 pair_listed F index s y q lists is =
     let members = pair_members s y (F q).mapping (and_second (primary F q) (is_pair s y (F q).mapping) is) in
-    and_first (contains nat_cmp index.pairs (pair_key s y + q)) _ (lists s y q (primary_kind F q (and_first (primary F q) (is_pair s y (F q).mapping) is)) members)
+    and_first (contains nat_cmp index.pairs (pair_key s y + q)) _ (and_second (nat_lt y 2097152) _ (lists s y q (primary_kind F q (and_first (primary F q) (is_pair s y (F q).mapping) is)) members))
 
 second_members : (F : ℕ → Facts) (index : PairIndex) (y q : ℕ) (m : List ℕ) → m ≡ (F q).mapping → is_second y m ≡ true → is_canonical (F q).kind ≡ true → Lists index F → contains nat_cmp index.seconds (second_key y + q) ≡ true
 second_members F index y q [] e is kind lists = absurd cc
 second_members F index y q (a ∷ []) e is kind lists = absurd cc
 second_members F index y q (a ∷ b ∷ []) e is kind lists =
     let same : b ≡ y = grind (arith, nat_tests) in
-    subst (λ (n : ℕ). contains nat_cmp index.seconds (second_key n + q) ≡ true) same (and_second (contains nat_cmp index.pairs (pair_key a b + q)) _ (lists a b q kind (sym e)))
+    subst (λ (n : ℕ). contains nat_cmp index.seconds (second_key n + q) ≡ true) same (and_second (contains nat_cmp index.pairs (pair_key a b + q)) _ (and_second (nat_lt b 2097152) _ (lists a b q kind (sym e))))
 second_members F index y q (a ∷ b ∷ d ∷ m) e is kind lists = absurd cc
 
 pub second_listed : (F : ℕ → Facts) (index : PairIndex) (y q : ℕ) → Lists index F → ends_with F y q ≡ true → contains nat_cmp index.seconds (second_key y + q) ≡ true
@@ -128,3 +128,37 @@ second_none F y none = sym (second_of_none F y (none_count (ends_with F y) none)
 
 pub second_absent : (F : ℕ → Facts) (index : PairIndex) (y : ℕ) → Lists index F → ((k : ℕ) → k < 1114112 → contains nat_cmp index.seconds (second_key y + k) ≡ false) → second_of F y ≡ false
 second_absent F index y lists absent = sym (second_none F y (λ k lt. second_unlisted F index y k lists (absent k lt)))
+
+-- ---- the members of a composite
+
+none_and : (b : Bool) → false ≡ (b && false)
+none_and true = refl
+none_and false = refl
+
+that_picked : (s y a b : ℕ) (t : Bool) → is_that s y (cond t (Some (a, b)) None) ≡ (t && ((a == s) && (b == y)))
+that_picked s y a b true = refl
+that_picked s y a b false = refl
+
+end_picked : (y a b : ℕ) (t : Bool) → ends_that y (cond t (Some (a, b)) None) ≡ (t && (b == y))
+end_picked y a b true = refl
+end_picked y a b false = refl
+
+pair_of_members : (F : ℕ → Facts) (q s y : ℕ) (m : List ℕ) → is_that s y (picked F q (two_of m)) ≡ ((is_canonical (F q).kind && (((F q).class == 0) && (first_has_class_zero F m && not (F q).excluded))) && is_pair s y m)
+pair_of_members F q s y [] = none_and (is_canonical (F q).kind && (((F q).class == 0) && (first_has_class_zero F [] && not (F q).excluded)))
+pair_of_members F q s y (a ∷ []) = none_and (is_canonical (F q).kind && (((F q).class == 0) && (first_has_class_zero F (a ∷ []) && not (F q).excluded)))
+pair_of_members F q s y (a ∷ b ∷ []) = that_picked s y a b (may_compose F q a)
+pair_of_members F q s y (a ∷ b ∷ d ∷ m) = none_and (is_canonical (F q).kind && (((F q).class == 0) && (first_has_class_zero F (a ∷ b ∷ d ∷ m) && not (F q).excluded)))
+
+second_of_members : (F : ℕ → Facts) (q y : ℕ) (m : List ℕ) → ends_that y (picked F q (two_of m)) ≡ ((is_canonical (F q).kind && (((F q).class == 0) && (first_has_class_zero F m && not (F q).excluded))) && is_second y m)
+second_of_members F q y [] = none_and (is_canonical (F q).kind && (((F q).class == 0) && (first_has_class_zero F [] && not (F q).excluded)))
+second_of_members F q y (a ∷ []) = none_and (is_canonical (F q).kind && (((F q).class == 0) && (first_has_class_zero F (a ∷ []) && not (F q).excluded)))
+second_of_members F q y (a ∷ b ∷ []) = end_picked y a b (may_compose F q a)
+second_of_members F q y (a ∷ b ∷ d ∷ m) = none_and (is_canonical (F q).kind && (((F q).class == 0) && (first_has_class_zero F (a ∷ b ∷ d ∷ m) && not (F q).excluded)))
+
+pub members_pair : (F : ℕ → Facts) (q s y : ℕ) (m : List ℕ) (two r : Option (ℕ × ℕ)) → m ≡ (F q).mapping → two ≡ two_of m → r ≡ picked F q two → is_that s y r ≡ composes F s y q
+members_pair F q s y m two r mapping split pick =
+    ap (is_that s y) (pick ∙ ap (picked F q) (split ∙ ap two_of mapping)) ∙ pair_of_members F q s y (F q).mapping
+
+pub members_second : (F : ℕ → Facts) (q y : ℕ) (m : List ℕ) (two r : Option (ℕ × ℕ)) → m ≡ (F q).mapping → two ≡ two_of m → r ≡ picked F q two → ends_that y r ≡ ends_with F y q
+members_second F q y m two r mapping split pick =
+    ap (ends_that y) (pick ∙ ap (picked F q) (split ∙ ap two_of mapping)) ∙ second_of_members F q y (F q).mapping

@@ -10,3 +10,4 @@ pub mod IndexLemmas
 mod AlikeLemmas
 mod PlainLemmas
 pub mod TableLemmas
+pub mod ChangeLemmas

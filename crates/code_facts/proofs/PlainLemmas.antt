@@ -7,7 +7,7 @@ use Rattle.std.proofs.lemmas.Map.Keys.{le_from_not_gt}
 use Rattle.std.proofs.lemmas.Bool.Decides.{nat_tests}
 use Rattle.std.specs.BTreeMap.{BTreeMap}
 use Rattle.std.specs.BTreeMap.Range.{IsLeBy}
-use Rattle.ucd_model.specs.Facts.{Facts, image}
+use Rattle.ucd_model.specs.Facts.{image}
 use Rattle.ucd_model.specs.Uniform.{IsPlain}
 use Rattle.ucd_model.specs.declared.image.Image.TheVariants.{Same}
 use Rattle.code_facts.specs.Found.{found}

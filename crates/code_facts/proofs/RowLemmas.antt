@@ -1,7 +1,8 @@
 -- Rows of UnicodeData.txt, and the row that covers a code point.
-use Rattle.std.proofs.Common.{◌≡◌, ℕ, zero, suc, ◌+◌, ◌<◌, Bool, true, false, cond, ◌&&◌, ◌||◌, leb, List, [], ◌∷◌, ◌++◌, length, take, get_or, find, Option, Some, None, refl, ap, subst, ◌∙◌, append_assoc, arith}
+use Rattle.std.proofs.Common.{◌≡◌, ℕ, zero, suc, ◌+◌, ◌<◌, Bool, true, false, cond, ◌&&◌, ◌||◌, leb, List, [], ◌∷◌, ◌++◌, length, take, get_or, filter, find, Option, Some, None, refl, ap, subst, ◌∙◌, append_assoc, arith}
 use Rattle.std.specs.List.{list_any}
 use Rattle.std.proofs.lemmas.List.{take_more, append-nil}
+use Rattle.std.proofs.lemmas.List.Elements.{filter-append}
 use Rattle.std.proofs.lemmas.Bool.Decides.{nat_tests}
 use Rattle.ucd_model.specs.Facts.{is_data_of, within, data_in, data_row}
 use Rattle.ucd_model.specs.declared.files.SourceFile.{SourceFile}
@@ -86,6 +87,47 @@ kept_free file above (item ∷ items) kept = free_by file above item items item.
 
 pub kept_apart : (items : List FileItem) → AreKept UnicodeData items → Apart (rows_in items)
 kept_apart items kept i c other h covers = none_above c (take i (rows_in items)) (get_or (rows_in items) i other) (kept_free UnicodeData [] items kept i other h) covers
+
+-- what passes a test of rows that are apart is apart
+
+none_kept : {X : Type 0} (p : X → Bool) (x : X) (xs : List X) (b : Bool) → p x ≡ false → find p xs ≡ None → find p (cond b (x ∷ xs) xs) ≡ None
+none_kept p x xs true e rest = rw e rest
+none_kept p x xs false e rest = rest
+
+none_by : {X : Type 0} (p : X → Bool) (x : X) (xs ys : List X) (t b : Bool) → p x ≡ b → find p (x ∷ xs) ≡ None → (find p xs ≡ None → find p ys ≡ None) → find p (cond t (x ∷ ys) ys) ≡ None
+none_by p x xs ys t true e none rest = absurd (let bad : Some x ≡ None = rw e at none in cc)
+none_by p x xs ys t false e none rest = none_kept p x ys t e (rest (rw e at none))
+
+none_within : {X : Type 0} (p t : X → Bool) (xs : List X) → find p xs ≡ None → find p (filter t xs) ≡ None
+none_within p t [] none = refl
+none_within p t (x ∷ xs) none = none_by p x xs (filter t xs) (t x) (p x) refl none (none_within p t xs)
+
+abbrev ApartFrom : List Row → List Row → Type 0
+ApartFrom above rows = (i c : ℕ) (other : Row) → i < length rows → is_data_of c (get_or rows i other) ≡ true → find (is_data_of c) (above ++ take i rows) ≡ None
+
+apart_rest : (above : List Row) (row : Row) (rows : List Row) → ApartFrom above (row ∷ rows) → ApartFrom (above ++ row ∷ []) rows
+apart_rest above row rows apart i c other lt is = rw (append_assoc above (row ∷ []) (take i rows)) (apart (suc i) c other (omega (arith, lt)) is)
+
+apart_put : (above : List Row) (row : Row) (rows : List Row) → ((c : ℕ) → is_data_of c row ≡ true → find (is_data_of c) above ≡ None) → ApartFrom (above ++ row ∷ []) rows → ApartFrom above (row ∷ rows)
+apart_put above row rows here rest zero c other lt is = rw (append-nil above) (here c is)
+apart_put above row rows here rest (suc i) c other lt is = rw (← append_assoc above (row ∷ []) (take i rows)) (rest i c other (omega (arith, lt)) is)
+
+apart_kept : (t : Row → Bool) (above : List Row) (row : Row) (rows : List Row) (b : Bool) → t row ≡ b → ((c : ℕ) → is_data_of c row ≡ true → find (is_data_of c) (filter t above) ≡ None)
+    → ApartFrom (filter t (above ++ row ∷ [])) (filter t rows) → ApartFrom (filter t above) (cond b (row ∷ filter t rows) (filter t rows))
+apart_kept t above row rows true e here rest =
+    apart_put (filter t above) row (filter t rows) here (subst (λ (xs : List Row). ApartFrom xs (filter t rows)) (filter-append t above (row ∷ []) ∙ ap (λ b. filter t above ++ cond b (row ∷ []) []) e) rest)
+apart_kept t above row rows false e here rest =
+    subst (λ (xs : List Row). ApartFrom xs (filter t rows)) (filter-append t above (row ∷ []) ∙ ap (λ b. filter t above ++ cond b (row ∷ []) []) e ∙ append-nil (filter t above)) rest
+
+apart_filter : (t : Row → Bool) (above rows : List Row) → ApartFrom above rows → ApartFrom (filter t above) (filter t rows)
+apart_filter t above [] apart = λ i c other lt is. absurd (omega (arith, lt))
+apart_filter t above (row ∷ rows) apart =
+    apart_kept t above row rows (t row) refl
+    (λ c is. none_within (is_data_of c) t above (rw append-nil at (apart 0 c row (omega arith) is)))
+    (apart_filter t (above ++ row ∷ []) rows (apart_rest above row rows apart))
+
+pub apart_within : (t : Row → Bool) (rows : List Row) → Apart rows → Apart (filter t rows)
+apart_within t rows apart = apart_filter t [] rows apart
 
 -- ---- the row that covers a code point
 

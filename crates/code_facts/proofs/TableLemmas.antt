@@ -1,23 +1,27 @@
 -- What holds of tables after they were changed.
-use Rattle.std.proofs.Common.{◌≡◌, ℕ, ◌<◌, ◌≤◌, Bool, true, false, cond, List, [], ◌∷◌, Result, Ok, Err, OnOk, OnErr, is_err, refl, sym, ap, ap₂, subst, ◌∙◌, arith, inl, inr}
+use Rattle.std.proofs.Common.{◌≡◌, ℕ, ◌<◌, Bool, true, false, cond, List, [], ◌∷◌, Result, Ok, Err, OnOk, OnErr, is_err, refl, sym, ap, ap₂, subst, ◌∙◌, inl, inr}
 use Rattle.std.specs.List.{list_any}
 use Rattle.std.proofs.lemmas.Bool.{cases_lt, true≢false}
 use Rattle.range_table.specs.Values.{SameValues}
 use Rattle.ucd_model.specs.Limits.{point_count}
 use Rattle.ucd_model.specs.Bounds.{Bounds}
-use Rattle.ucd_model.specs.Facts.{Facts, Sources, facts, given, unassigned, within}
+use Rattle.ucd_model.specs.Facts.{Facts, Sources, facts, unassigned, within}
 use Rattle.ucd_model.specs.FactsLemmas.{facts_inside}
 use Rattle.ucd_model.specs.Composites.{is_canonical, composes, ends_with}
+use Rattle.release_rows.specs.Touching.{meets, RowsMeet}
 use Rattle.range_table.specs.declared.table.Table.{Ghosts}
 use Rattle.code_facts.specs.FactTables.{words_at, rests_at, facts_at}
 use Rattle.code_facts.specs.declared.fact_tables.FactTables.{FactTables}
 use Rattle.code_facts.specs.declared.version.Version.{Version}
 use Rattle.code_facts.specs.declared.version.Version.TheVariants.{Now, Next}
 use Rattle.code_facts.proofs.IndexLemmas.{pair_kind, second_kind}
+use Rattle.code_facts.specs.Changes.{StaysOutside}
 use Rattle.code_facts.specs.Copying.{with_spans, IsListed}
 use Rattle.code_facts.specs.Index.{Lists, is_listed}
 use Rattle.code_facts.specs.KeptFacts.{kept_at, all_kept, Packs}
 use Rattle.code_facts.specs.Rest.{RestOf, no_rest}
+use Rattle.code_facts.specs.Locality.{rows_within}
+use Rattle.code_facts.specs.LocalityProofs.{facts_are_local}
 use Rattle.code_facts.specs.RowTables.{word_in, rest_in, made_facts, ShowsRows}
 use Rattle.code_facts.specs.Word.{packed}
 use Rattle.code_facts.specs.declared.pair_index.PairIndex.{PairIndex}
@@ -67,6 +71,16 @@ listed_by : (b : Bool) (index : PairIndex) (s y q : ℕ) (F' F G : Facts) → F'
 listed_by true index s y q F' F G e made was kind is = made refl (ap (λ (H : Facts). is_canonical H.kind) (sym e) ∙ kind) (ap (λ (H : Facts). H.mapping) (sym e) ∙ is)
 listed_by false index s y q F' F G e made was kind is = was (ap (λ (H : Facts). is_canonical H.kind) (sym e) ∙ kind) (ap (λ (H : Facts). H.mapping) (sym e) ∙ is)
 
+-- what is next stays outside of the spans that were copied
+pub stays_copied : (touched spans : List Bounds) → touched ≡ spans → (F old made : ℕ → Facts) (now words : ℕ → ℕ) (rests rests' : ℕ → RestOf)
+    → all_kept now rests ≡ F → old ≡ F → ((c : ℕ) → c < 1114112 → all_kept words rests' c ≡ with_spans old spans made c)
+    → StaysOutside touched (all_kept now rests) (all_kept words rests')
+stays_copied touched spans e F old made now words rests rests' same ready point c none = elim (cases_lt c point_count) [
+  | inl lt ↦ ap (λ (G : ℕ → Facts). G c) (same ∙ sym ready)
+      ∙ sym (point c (below_point c lt) ∙ ap (λ b. cond b (made c) (old c)) (ap (λ (ss : List Bounds). list_any (within c) ss) (sym e) ∙ none))
+  | inr le ↦ kept_outside now rests c le ∙ sym (kept_outside words rests' c le)
+]
+
 -- past the code points there is no mapping
 none_outside : (F : Facts) (c : ℕ) → F ≡ unassigned c → is_canonical F.kind ≡ true → ⊥
 none_outside F c e kind = true≢false (sym kind ∙ ap (λ (G : Facts). is_canonical G.kind) e)
@@ -91,17 +105,18 @@ sound_put index more t spans words words' rests rests' word rest grows made pack
 pub shown_packs : (t : RowTables) (rows : Sources) → ((c : ℕ) → c < 1114112 → ShowsRows t rows c) → Packs (word_in t) (made_facts t)
 shown_packs t rows shows c lt = (shows c lt).word ∙ sym (ap packed (shows c lt).facts)
 
-facts_by : (b : Bool) (F' F G H : Facts) → F' ≡ cond b G F → G ≡ H → (b ≡ false → F ≡ H) → F' ≡ H
-facts_by true F' F G H e made was = e ∙ made
+facts_by : (b : Bool) (F' F G H : Facts) → F' ≡ cond b G F → (b ≡ true → G ≡ H) → (b ≡ false → F ≡ H) → F' ≡ H
+facts_by true F' F G H e made was = e ∙ made refl
 facts_by false F' F G H e made was = e ∙ was refl
 
--- what is next once the rows' tables were copied where they are touched
+-- what is next once the tables of the rows that speak of touched code points were copied where those are
 pub put_facts : (t : RowTables) (rows : Sources) (spans : List Bounds) (words : ℕ → ℕ) (rests : ℕ → RestOf) (old : ℕ → Facts)
-    → ((c : ℕ) → c < 1114112 → all_kept words rests c ≡ with_spans old spans (made_facts t) c) → ((c : ℕ) → c < 1114112 → ShowsRows t rows c)
+    → ((c : ℕ) → c < 1114112 → all_kept words rests c ≡ with_spans old spans (made_facts t) c) → ((c : ℕ) → c < 1114112 → ShowsRows t (rows_within (meets spans) rows) c) → RowsMeet
     → ((c : ℕ) → c < 1114112 → list_any (within c) spans ≡ false → old c ≡ facts rows c) → all_kept words rests ≡ facts rows
-put_facts t rows spans words rests old point shows outside =
+put_facts t rows spans words rests old point shows meet outside =
     facts_from_points words rests rows (λ c lt. facts_by (list_any (within c) spans) (all_kept words rests c) (old c) (made_facts t c) (facts rows c) (point c lt)
-    ((shows c lt).facts ∙ sym (facts_inside rows c (point_below c lt))) (outside c lt))
+    (λ inside. (shows c lt).facts ∙ sym (facts_inside (rows_within (meets spans) rows) c (point_below c lt)) ∙ sym (facts_are_local (meets spans) rows c (λ row speaks. meet spans c row inside speaks)))
+    (outside c lt))
 
 -- without rows
 pub sound_none : (index : PairIndex) (words : ℕ → ℕ) (rests : ℕ → RestOf) → ((c : ℕ) → c < 1114112 → words c ≡ 232) → ((c : ℕ) → c < 1114112 → rests c ≡ no_rest) → Sound index words rests

@@ -2,11 +2,16 @@
 --
 -- pair_key s y           where the keys of the pair s, y begin: bits 42 to 62 are s, bits 21 to 41 are y
 -- second_key y           where the keys of the second member y begin: bits 21 to 41 are y
--- is_listed index s y q  q is listed under the pair s, y, and under the second member y
+-- first_key s            where the keys of all pairs begin that have s as the first member
+-- is_listed index s y q  q is listed under the pair s, y, and under the second member y, and y has no more than 21 bits
 -- Lists index F          each code point whose mapping is canonical and has two members is listed; others may be too
 -- is_that s y pair       the pair, where there is one, is s and y; ends_that y pair: its second member is y
+-- two_of m               the two members of a mapping; None where it has not two
+-- may_compose F q s      q may be a primary composite whose mapping begins with s: by its kind, its class and its exclusion, and the
+--                        class of s
+-- picked F q two         the two, where there are two and q may compose them
 -- NoneFrom p m n         no number from m up to n passes p (n does not count); NoneBelow p n: none below n does
-use Rattle.std.specs.Prelude.{◌≡◌, ℕ, ◌+◌, ◌*◌, ◌<◌, ◌≤◌, Bool, true, false, ◌&&◌, [], ◌∷◌, Option, Some, None, ◌==◌}
+use Rattle.std.specs.Prelude.{◌≡◌, ℕ, ◌+◌, ◌*◌, ◌<◌, ◌≤◌, Bool, true, false, ◌&&◌, not, List, [], ◌∷◌, Option, Some, None, ◌==◌, nat_lt, if◌then◌else◌}
 use Rattle.std.specs.Ordering.{nat_cmp}
 use Rattle.std.specs.BTreeSet.{contains}
 use Rattle.ucd_model.specs.Facts.{Facts}
@@ -19,8 +24,11 @@ pair_key s y = (s * 2097152 + y) * 2097152
 abbrev pub second_key : ℕ → ℕ
 second_key y = y * 2097152
 
+abbrev pub first_key : ℕ → ℕ
+first_key s = s * 4398046511104
+
 abbrev pub is_listed : PairIndex → ℕ → ℕ → ℕ → Bool
-is_listed index s y q = contains nat_cmp index.pairs (pair_key s y + q) && contains nat_cmp index.seconds (second_key y + q)
+is_listed index s y q = nat_lt y 2097152 && (contains nat_cmp index.pairs (pair_key s y + q) && contains nat_cmp index.seconds (second_key y + q))
 
 abbrev pub Lists : PairIndex → (ℕ → Facts) → Type 0
 Lists index F = (s y q : ℕ) → is_canonical (F q).kind ≡ true → (F q).mapping ≡ s ∷ y ∷ [] → is_listed index s y q ≡ true
@@ -38,3 +46,14 @@ NoneBelow p n = (k : ℕ) → k < n → p k ≡ false
 
 abbrev pub NoneFrom : (ℕ → Bool) → ℕ → ℕ → Type 0
 NoneFrom p m n = (k : ℕ) → m ≤ k → k < n → p k ≡ false
+
+abbrev pub two_of : List ℕ → Option (ℕ × ℕ)
+two_of (a ∷ b ∷ []) = Some (a, b)
+two_of _ = None
+
+abbrev pub may_compose : (ℕ → Facts) → ℕ → ℕ → Bool
+may_compose F q s = is_canonical (F q).kind && (((F q).class == 0) && (((F s).class == 0) && not (F q).excluded))
+
+abbrev pub picked : (ℕ → Facts) → ℕ → Option (ℕ × ℕ) → Option (ℕ × ℕ)
+picked F q (Some two) = if may_compose F q two.0 then Some two else None
+picked F q None = None

@@ -3,6 +3,8 @@ pub mod Lists
 pub mod PointLists
 pub mod Rows
 pub mod RowLists
+pub mod Locality
+pub mod LocalityProofs
 pub mod DataTables
 pub mod Marks
 pub mod MarkRows
@@ -13,6 +15,7 @@ pub mod KeptFacts
 pub mod RowTables
 pub mod Index
 pub mod Copying
+pub mod Changes
 pub mod FactTables
 pub mod NowView
 pub mod NextView

@@ -2,8 +2,6 @@
 --
 -- release_sources release    the rows of each file now
 -- next_sources release       the rows of each file next
--- items_at version release   the items of each file, now or next
--- sources_at version release  the rows of each file, now or next
 -- Apart rows                 no row of UnicodeData.txt covers a code point that a row above it covers
 -- PointData                  what the row gives: its part of the word, the mapping, and the simple mappings, each a list of one
 --                            code point, or an empty one where the row has none
@@ -16,11 +14,8 @@ use Rattle.std.specs.Option.{option_to_list}
 use Rattle.ucd_model.specs.Facts.{Sources, is_data_of, category_in, class_in, kind_in, mapping_in}
 use Rattle.ucd_model.specs.declared.row.Row.{Row}
 use Rattle.ucd_model.specs.declared.row.DataRow.{DataRow}
-use Rattle.ucd_model.specs.declared.files.SourceFile.{SourceFile}
-use Rattle.release_rows.specs.FileItems.{FileItem, rows_in}
+use Rattle.release_rows.specs.FileItems.{rows_in}
 use Rattle.release_rows.specs.Releases.{ReleaseItems, items_now, items_next}
-use Rattle.code_facts.specs.declared.version.Version.{Version}
-use Rattle.code_facts.specs.declared.version.Version.TheVariants.{Now, Next}
 use Rattle.code_facts.specs.Word.{data_part}
 
 abbrev pub release_sources : ReleaseItems → Sources
@@ -28,13 +23,6 @@ release_sources release file = rows_in (items_now release file)
 
 abbrev pub next_sources : ReleaseItems → Sources
 next_sources release file = rows_in (items_next release file)
-
-abbrev pub items_at : Version → ReleaseItems → SourceFile → List FileItem
-items_at Now release file = items_now release file
-items_at Next release file = items_next release file
-
-abbrev pub sources_at : Version → ReleaseItems → Sources
-sources_at version release file = rows_in (items_at version release file)
 
 abbrev pub Apart : List Row → Type 0
 Apart rows = (i c : ℕ) (other : Row) → i < length rows → is_data_of c (slice_index_or rows i other) ≡ true → find (is_data_of c) (take i rows) ≡ None

@@ -1,9 +1,9 @@
 //! The primary composites of tables, now or next.
 
 ghost use Rattle.std.specs.Prelude.{◌≡◌, ℕ};
-ghost use Rattle.ucd_model.specs.Composites.{composes, ends_with, pair_of, second_of};
+ghost use Rattle.ucd_model.specs.Composites.{composes, ends_with, is_canonical, pair_of, second_of};
 ghost use Rattle.code_facts.specs.FactTables.{facts_at};
-ghost use Rattle.code_facts.specs.Index.{is_that, ends_that};
+ghost use Rattle.code_facts.specs.Index.{is_that, ends_that, may_compose, picked, two_of};
 
 use crate::fact_tables::FactTables;
 use crate::version::Version;
@@ -43,18 +43,44 @@ impl<T: Table<u64>> FactTables<T> {
 
     /// The members of the mapping of a primary composite; `None` of every other code point.
     /// The Unicode Standard, section 3.11, D114.
-    fn members(&self, version: Version, q: Point) -> Option<(Point, Point)>
+    pub(crate) fn members(&self, version: Version, q: Point) -> Option<(Point, Point)>
         ensures pair { (s y : ℕ) → is_that s y result ≡ composes (facts_at version self.now) s y q }
         ensures second { (y : ℕ) → ends_that y result ≡ ends_with (facts_at version self.now) y q }
     {
-        match self.mapping_in(version, q) {
-            [s, y]
-                if matches!(self.kind_in(version, q), Kind::Canonical)
-                    && self.class_in(version, q) == 0
-                    && !self.is_excluded_in(version, q)
-                    && self.class_in(version, *s) == 0 => { Some((*s, *y)) }
-            _ => None,
+        let two = two_of(self.mapping_in(version, q));
+        self.picked(version, q, two)
+    }
+
+    /// The members of the mapping of a code point, if its kind, its class and its exclusion let it compose them, and the
+    /// class of the first too.
+    fn picked(
+        &self,
+        version: Version,
+        q: Point,
+        two: Option<(Point, Point)>,
+    ) -> Option<(Point, Point)>
+        ensures { result ≡ picked (facts_at version self.now) q two }
+    {
+        match two {
+            Some(two) => {
+                if self.may_compose(version, q, two.0) {
+                    Some(two)
+                } else {
+                    None
+                }
+            }
+            None => None,
         }
+    }
+
+    /// Whether a code point may be a primary composite whose mapping begins with `s`.
+    fn may_compose(&self, version: Version, q: Point, s: Point) -> bool
+        ensures { result ≡ may_compose (facts_at version self.now) q s }
+    {
+        let canonical = is_canonical(self.kind_in(version, q));
+        let starts = self.class_in(version, q) == 0;
+        let excluded = self.is_excluded_in(version, q);
+        canonical && starts && self.class_in(version, s) == 0 && !excluded
     }
 
     /// Whether CompositionExclusions.txt covers a code point.
@@ -64,6 +90,23 @@ impl<T: Table<u64>> FactTables<T> {
         let _number = c.number();
         is_excluded(self.word(version, c))
     }
+}
+
+/// The members of a mapping that has two; `None` of every other one.
+fn two_of(mapping: &[Point]) -> Option<(Point, Point)>
+    ensures { result ≡ two_of mapping.now }
+{
+    match mapping {
+        [s, y] => Some((*s, *y)),
+        _ => None,
+    }
+}
+
+/// Whether a kind is that of canonical mappings.
+fn is_canonical(kind: Kind) -> bool
+    ensures { result ≡ is_canonical kind }
+{
+    matches!(kind, Kind::Canonical)
 }
 
 /// Whether the members are these two.

@@ -1,6 +1,7 @@
 //! The tables of facts, now and next.
 
 ghost use Rattle.kept_values.specs.Kept.{values};
+ghost use Rattle.code_facts.specs.Changes.{StaysOutside};
 ghost use Rattle.code_facts.specs.Index.{Lists};
 ghost use Rattle.code_facts.specs.KeptFacts.{all_kept, Packs};
 
@@ -8,6 +9,7 @@ use crate::pair_index::PairIndex;
 use crate::rest::Rest;
 use kept_values::Kept;
 use range_table::Table;
+use ucd_model::Spans;
 
 /// The facts of all code points, now and next. The word of a code point lies in a table of type `T`, packed, and its
 /// mappings in a store over such a table.
@@ -21,8 +23,11 @@ pub struct FactTables<T: Table<u64>> {
     pub(crate) rests: Kept<T, Rest>,
     // the code points whose mapping now or next is canonical and has two members; others may be in it too
     pub(crate) index: PairIndex,
+    // the code points outside of which next is now
+    pub(crate) touched: Spans,
     ghost now_listed: { Lists index (all_kept (T.now words) (values T.now rests)) },
     ghost next_listed: { Lists index (all_kept (T.next words) (values T.next rests)) },
     ghost now_packs: { Packs (T.now words) (all_kept (T.now words) (values T.now rests)) },
     ghost next_packs: { Packs (T.next words) (all_kept (T.next words) (values T.next rests)) },
+    ghost stays: { StaysOutside touched (all_kept (T.now words) (values T.now rests)) (all_kept (T.next words) (values T.next rests)) },
 }

@@ -6,10 +6,10 @@
 //! | 21 to 41 | the second member |
 //! | 42 to 62 | the first member, in the keys of pairs |
 
-ghost use Rattle.std.specs.Prelude.{◌≡◌, ℕ, ◌+◌, ◌<◌, ◌≤◌, true, false, OnOk, MatchOption};
+ghost use Rattle.std.specs.Prelude.{◌≡◌, ℕ, ◌+◌, ◌%◌, ◌<◌, ◌≤◌, true, false, OnOk, MatchOption};
 ghost use Rattle.std.specs.Ordering.{nat_cmp};
 ghost use Rattle.std.specs.BTreeSet.{contains};
-ghost use Rattle.code_facts.specs.Index.{pair_key, second_key, is_listed, NoneFrom};
+ghost use Rattle.code_facts.specs.Index.{pair_key, first_key, second_key, is_listed, NoneFrom};
 
 use crate::points::point;
 use std::alloc::Global;
@@ -63,6 +63,19 @@ impl PairIndex {
         next_listed(&self.seconds, second_key(y), from)
     }
 
+    /// The least key at or above `from` of a pair that has `s` as its first member; `None` where there is none.
+    pub fn next_of_first(&self, s: Point, from: u64) -> Option<u64>
+        ensures { MatchOption result (NoneFrom (λ k. contains nat_cmp self.now.pairs k) from (first_key s + 4398046511104))
+            (λ key. (from ≤ key) × (key < first_key s + 4398046511104) × NoneFrom (λ k. contains nat_cmp self.now.pairs k) from key) }
+    {
+        let key = next_key(&self.pairs, from)?;
+        if key < first_key(s) + 4_398_046_511_104 {
+            Some(key)
+        } else {
+            None
+        }
+    }
+
     /// Lists the code points of a span under the members of the mapping that they have in common.
     ///
     /// - `Memory`: memory ran out.
@@ -92,6 +105,21 @@ fn pair_key(s: Point, y: Point) -> u64
     ensures below { result < 9223372036850000000 }
 {
     (u64::from(s.number()) * 2_097_152 + u64::from(y.number())) * 2_097_152
+}
+
+/// Where the keys of all pairs begin that have a code point as their first member.
+pub fn first_key(s: Point) -> u64
+    ensures value { result ≡ first_key s }
+    ensures below { result < 9223372036850000000 }
+{
+    u64::from(s.number()) * 4_398_046_511_104
+}
+
+/// The code point that is listed under a key; `None` where its bits are those of no code point.
+pub fn listed_point(key: u64) -> Option<Point>
+    ensures { MatchOption result (1114112 ≤ key % 2097152) (λ q. q ≡ key % 2097152) }
+{
+    Point::new((key % 2_097_152) as u32)
 }
 
 /// Where the keys of a second member begin.

@@ -3,11 +3,13 @@
 ghost use Rattle.std.specs.Prelude.{◌≡◌, ℕ, ◌<◌, true, false, IfOk, OnOk, OnErr};
 ghost use Rattle.std.specs.List.{list_any};
 ghost use Rattle.ucd_model.specs.Facts.{facts, within};
+ghost use Rattle.release_rows.specs.Touching.{meets};
 ghost use Rattle.code_facts.specs.Copying.{with_spans};
 ghost use Rattle.code_facts.specs.FactTables.{tables_facts, tables_next};
 ghost use Rattle.code_facts.specs.KeptFacts.{Packs};
+ghost use Rattle.code_facts.specs.Locality.{rows_within};
 ghost use Rattle.code_facts.specs.RowTables.{ShowsRows, word_in, made_facts};
-ghost use Rattle.code_facts.specs.Rows.{release_sources, next_sources, sources_at};
+ghost use Rattle.code_facts.specs.Rows.{release_sources, next_sources};
 ghost use Rattle.code_facts.specs.Word.{packed};
 
 use crate::copying::put_spans;
@@ -17,11 +19,10 @@ use crate::points::point;
 use crate::rest::Rest;
 use crate::row_lists::RowLists;
 use crate::row_tables::RowTables;
-use crate::version::Version;
 use crate::word::NO_ROW;
 use kept_values::{Kept, Store};
 use range_table::Table;
-use release_rows::Release;
+use release_rows::{Release, rows_meet};
 use std::alloc::Global;
 use ucd_model::{FactView, Memory, Point, Span, Spans};
 
@@ -36,7 +37,7 @@ impl<T: Table<u64>> FactTables<T> {
         ensures now { IfOk result (λ tables. ⟦<FactTables<T> as FactView>⟧.facts_of tables ≡ facts (release_sources release.now)) }
         ensures next { IfOk result (λ tables. tables_next T.now tables ≡ facts (release_sources release.now)) }
     {
-        let made = tables_of(alloc, release, Version::Now)?;
+        let made = tables_of(alloc, release)?;
         let tables = FactTables::filled(alloc, &made)?;
         Ok(tables)
     }
@@ -61,6 +62,7 @@ impl<T: Table<u64>> FactTables<T> {
             words: T::filled(alloc, NO_ROW)?,
             rests: Kept::filled(alloc, Rest::none(alloc))?,
             index: PairIndex::new(alloc),
+            touched: Spans::new(alloc),
         })
     }
 
@@ -75,7 +77,8 @@ impl<T: Table<u64>> FactTables<T> {
     }
 
     /// Makes what is next the facts of the rows of a release next. Outside of the touched spans those are the facts now.
-    /// Where none is touched, nothing is done; else it takes time by the number of rows.
+    /// Where none is touched, nothing is done. Else the rows that speak of a touched code point are read; of every other
+    /// row only the bounds are compared.
     ///
     /// - `Memory`: memory ran out. What is next stays.
     pub fn prepare(&mut self, alloc: Global, after: &Release, touched: &Spans) -> Result<(), Memory>
@@ -89,7 +92,8 @@ impl<T: Table<u64>> FactTables<T> {
         if touched.as_slice().is_empty() {
             return Ok(());
         }
-        let made = tables_of(alloc, after, Version::Next)?;
+        rows_meet();
+        let made = touching_tables(alloc, after, touched.as_slice())?;
         self.put(alloc, &made, touched.as_slice())
     }
 
@@ -102,6 +106,7 @@ impl<T: Table<u64>> FactTables<T> {
             → tables_next T.now self.new c ≡ with_spans (tables_next T.now self.old) spans.now (made_facts made.now) c) }
         ensures err { OnErr result (tables_next T.now self.new ≡ tables_next T.now self.old) }
     {
+        let touched = copied(alloc, spans)?;
         let done = put_spans(
             alloc,
             &mut self.words,
@@ -113,8 +118,10 @@ impl<T: Table<u64>> FactTables<T> {
         if done.is_err() {
             self.words.discard();
             self.rests.discard();
+            return done;
         }
-        done
+        self.touched = touched;
+        Ok(())
     }
 
     /// What is next becomes now, and stays next. It takes no memory.
@@ -124,6 +131,7 @@ impl<T: Table<u64>> FactTables<T> {
     {
         self.words.commit();
         self.rests.commit();
+        self.touched.truncate(0);
     }
 
     /// What is now becomes next: what was prepared since the last `commit` is dropped. It takes no memory.
@@ -133,6 +141,7 @@ impl<T: Table<u64>> FactTables<T> {
     {
         self.words.discard();
         self.rests.discard();
+        self.touched.truncate(0);
     }
 
     /// The table of the packed words: a word is the sum of 1 where a row of UnicodeData.txt covers the code point, 2
@@ -147,15 +156,35 @@ impl<T: Table<u64>> FactTables<T> {
     }
 }
 
-/// The tables of the rows of a release, now or next.
+/// The tables of the rows of a release now.
 ///
 /// - `Memory`: memory ran out.
-fn tables_of(alloc: Global, release: &Release, version: Version) -> Result<RowTables, Memory>
-    ensures { IfOk result (λ made. (c : ℕ) → c < 1114112 → ShowsRows made (sources_at version release.now) c) }
+fn tables_of(alloc: Global, release: &Release) -> Result<RowTables, Memory>
+    ensures { IfOk result (λ made. (c : ℕ) → c < 1114112 → ShowsRows made (release_sources release.now) c) }
 {
-    let rows = RowLists::of(alloc, release, version)?;
+    let rows = RowLists::of(alloc, release)?;
     let made = RowTables::of(alloc, &rows)?;
     Ok(made)
+}
+
+/// The tables of the rows of a release next that speak of a code point in some of the spans.
+///
+/// - `Memory`: memory ran out.
+fn touching_tables(alloc: Global, release: &Release, spans: &[Span]) -> Result<RowTables, Memory>
+    ensures { IfOk result (λ made. (c : ℕ) → c < 1114112 → ShowsRows made (rows_within (meets spans.now) (next_sources release.now)) c) }
+{
+    let rows = RowLists::touching(alloc, release, spans)?;
+    let made = RowTables::of(alloc, &rows)?;
+    Ok(made)
+}
+
+/// A list of copies of the spans.
+///
+/// - `Memory`: memory ran out.
+fn copied(alloc: Global, spans: &[Span]) -> Result<Spans, Memory>
+    ensures { IfOk result (λ copy. copy ≡ spans.now) }
+{
+    Ok(Spans::from_vec(Vec::from_slice(alloc, spans)?))
 }
 
 /// The span of all code points.

@@ -1,15 +1,15 @@
 //! The rows of a release, file by file.
 
-ghost use Rattle.std.specs.Prelude.{◌≡◌, IfOk};
+ghost use Rattle.std.specs.Prelude.{◌≡◌, filter, IfOk};
 ghost use Rattle.ucd_model.specs.declared.files.SourceFile.TheVariants.{UnicodeData};
-ghost use Rattle.release_rows.specs.Releases.{AreKept, rows_at};
+ghost use Rattle.release_rows.specs.Touching.{meets};
+ghost use Rattle.code_facts.specs.Locality.{rows_within};
 ghost use Rattle.code_facts.specs.RowLists.{AreRowsOf};
-ghost use Rattle.code_facts.specs.Rows.{Apart, items_at, sources_at};
+ghost use Rattle.code_facts.specs.Rows.{Apart, next_sources, release_sources};
 
-use crate::version::Version;
-use release_rows::{Release, RowText, Rows};
+use release_rows::{Release, RowText};
 use std::alloc::Global;
-use ucd_model::{Memory, SourceFile};
+use ucd_model::{Memory, SourceFile, Span};
 
 /// The rows of the files that give facts, each in the order of its file, as they stand in it.
 #[derive(Drop)]
@@ -29,65 +29,83 @@ pub struct RowLists<'a> {
 }
 
 impl<'a> RowLists<'a> {
-    /// The rows of a release, now or next. No two of UnicodeData.txt cover the same code point.
+    /// The rows of a release now. No two of UnicodeData.txt cover the same code point.
     ///
     /// - `Memory`: memory ran out.
-    pub fn of(alloc: Global, release: &'a Release, version: Version) -> Result<RowLists<'a>, Memory>
-        ensures rows { IfOk result (λ lists. AreRowsOf lists (sources_at version release.now)) }
+    pub fn of(alloc: Global, release: &'a Release) -> Result<RowLists<'a>, Memory>
+        ensures rows { IfOk result (λ lists. AreRowsOf lists (release_sources release.now)) }
         ensures apart { IfOk result (λ lists. Apart lists.unicode_data.items) }
     {
         Ok(RowLists {
-            unicode_data: data_rows_of(alloc, release, version)?,
-            case_folding: rows_of(alloc, release, version, SourceFile::CaseFolding)?,
-            special_casing: rows_of(alloc, release, version, SourceFile::SpecialCasing)?,
-            prop_list: rows_of(alloc, release, version, SourceFile::PropList)?,
-            word_break: rows_of(alloc, release, version, SourceFile::WordBreakProperty)?,
-            exclusions: rows_of(alloc, release, version, SourceFile::CompositionExclusions)?,
+            unicode_data: data_rows_of(alloc, release)?,
+            case_folding: rows_of(alloc, release, SourceFile::CaseFolding)?,
+            special_casing: rows_of(alloc, release, SourceFile::SpecialCasing)?,
+            prop_list: rows_of(alloc, release, SourceFile::PropList)?,
+            word_break: rows_of(alloc, release, SourceFile::WordBreakProperty)?,
+            exclusions: rows_of(alloc, release, SourceFile::CompositionExclusions)?,
+        })
+    }
+
+    /// The rows of a release next that speak of a code point in some of the spans. No two of UnicodeData.txt cover the
+    /// same code point.
+    ///
+    /// - `Memory`: memory ran out.
+    pub fn touching(
+        alloc: Global,
+        release: &'a Release,
+        spans: &[Span],
+    ) -> Result<RowLists<'a>, Memory>
+        ensures rows { IfOk result (λ lists. AreRowsOf lists (rows_within (meets spans.now) (next_sources release.now))) }
+        ensures apart { IfOk result (λ lists. Apart lists.unicode_data.items) }
+    {
+        Ok(RowLists {
+            unicode_data: data_rows_in(alloc, release, spans)?,
+            case_folding: release.next_rows_in(alloc, SourceFile::CaseFolding, spans)?,
+            special_casing: release.next_rows_in(alloc, SourceFile::SpecialCasing, spans)?,
+            prop_list: release.next_rows_in(alloc, SourceFile::PropList, spans)?,
+            word_break: release.next_rows_in(alloc, SourceFile::WordBreakProperty, spans)?,
+            exclusions: release.next_rows_in(alloc, SourceFile::CompositionExclusions, spans)?,
         })
     }
 }
 
-/// The rows of a file.
-fn walk(release: &Release, version: Version, file: SourceFile) -> Rows<'_>
-    ensures rows { result ≡ rows_at (items_at version release.now file) }
-    ensures kept { AreKept file (items_at version release.now file) }
-{
-    match version {
-        Version::Now => release.rows(file),
-        Version::Next => release.next_rows(file),
-    }
-}
-
-/// The rows of a file, in the order of the file.
+/// The rows of a file now, in the order of the file.
 ///
 /// - `Memory`: memory ran out.
-fn rows_of(
-    alloc: Global,
-    release: &Release,
-    version: Version,
-    file: SourceFile,
-) -> Result<Vec<RowText<'_>>, Memory>
-    ensures { IfOk result (λ rows. rows.items ≡ sources_at version release.now file) }
+fn rows_of(alloc: Global, release: &Release, file: SourceFile) -> Result<Vec<RowText<'_>>, Memory>
+    ensures { IfOk result (λ rows. rows.items ≡ release_sources release.now file) }
 {
     let mut texts = Vec::new(alloc);
-    let mut rows = walk(release, version, file);
+    let mut rows = release.rows(file);
     'rows: while let Some((_, row)) = rows.next() {
         texts.push(row)?;
     }
     Ok(texts)
 }
 
-/// The rows of UnicodeData.txt. No two of them cover the same code point.
+/// The rows of UnicodeData.txt now. No two of them cover the same code point.
 ///
 /// - `Memory`: memory ran out.
-fn data_rows_of(
-    alloc: Global,
-    release: &Release,
-    version: Version,
-) -> Result<Vec<RowText<'_>>, Memory>
-    ensures rows { IfOk result (λ rows. rows.items ≡ sources_at version release.now UnicodeData) }
+fn data_rows_of(alloc: Global, release: &Release) -> Result<Vec<RowText<'_>>, Memory>
+    ensures rows { IfOk result (λ rows. rows.items ≡ release_sources release.now UnicodeData) }
     ensures apart { IfOk result (λ rows. Apart rows.items) }
 {
-    let _rows = walk(release, version, SourceFile::UnicodeData);
-    rows_of(alloc, release, version, SourceFile::UnicodeData)
+    let _rows = release.rows(SourceFile::UnicodeData);
+    rows_of(alloc, release, SourceFile::UnicodeData)
+}
+
+/// The rows of UnicodeData.txt next that speak of a code point in some of the spans. No two of them cover the same code
+/// point.
+///
+/// - `Memory`: memory ran out.
+fn data_rows_in<'a>(
+    alloc: Global,
+    release: &'a Release,
+    spans: &[Span],
+) -> Result<Vec<RowText<'a>>, Memory>
+    ensures rows { IfOk result (λ rows. rows.items ≡ filter (meets spans.now) (next_sources release.now UnicodeData)) }
+    ensures apart { IfOk result (λ rows. Apart rows.items) }
+{
+    let _rows = release.next_rows(SourceFile::UnicodeData);
+    release.next_rows_in(alloc, SourceFile::UnicodeData, spans)
 }

@@ -1,4 +1,4 @@
-use Rattle.std.proofs.Common.{◌≡◌, ◌+◌, ◌≤◌, refl, sym, ◌∙◌, arith}
+use Rattle.std.proofs.Common.{◌≡◌, ◌+◌, refl, ◌∙◌, arith}
 use Rattle.code_facts.specs.RowTables.{rest_in}
 use Rattle.code_facts.proofs.PaintLemmas.{stretch_more, all_painted}
 use Rattle.code_facts.proofs.copying.put_rests_with.Goals as goal

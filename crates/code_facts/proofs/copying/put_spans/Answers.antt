@@ -1,9 +1,5 @@
-use Rattle.std.proofs.Common.{◌≡◌, ◌+◌, ◌<◌, ◌≤◌, ◌||◌, Bool, true, false, List, length, take, subst, sym, ap, ◌∙◌, arith}
-use Rattle.std.specs.List.{list_any}
+use Rattle.std.proofs.Common.{◌≡◌, ◌<◌, length, take, sym, ◌∙◌, arith}
 use Rattle.std.proofs.lemmas.List.{take_all}
-use Rattle.ucd_model.specs.Bounds.{Bounds}
-use Rattle.ucd_model.specs.Facts.{within}
-use Rattle.code_facts.specs.Copying.{with_spans, IsListed}
 use Rattle.code_facts.specs.RowTables.{word_in, rest_in}
 use Rattle.code_facts.proofs.PaintLemmas.{span_more}
 use Rattle.code_facts.proofs.IndexLemmas.{listed_more}

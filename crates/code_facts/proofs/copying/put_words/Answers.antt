@@ -1,4 +1,4 @@
-use Rattle.std.proofs.Common.{◌≡◌, ◌+◌, ◌≤◌, sym, ◌∙◌, arith}
+use Rattle.std.proofs.Common.{◌≡◌, ◌+◌, ◌∙◌, arith}
 use Rattle.range_table.specs.RunTable.{values_now}
 use Rattle.code_facts.proofs.PaintLemmas.{stretch_more, all_painted}
 use Rattle.code_facts.proofs.copying.put_words.Goals as goal

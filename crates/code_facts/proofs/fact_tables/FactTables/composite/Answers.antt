@@ -2,7 +2,6 @@ use Rattle.std.proofs.Common.{◌≡◌, ℕ, ◌<◌, false, true, sym, ◌∙�
 use Rattle.ucd_model.specs.Facts.{Facts}
 use Rattle.ucd_model.specs.Composites.{composes}
 use Rattle.code_facts.specs.FactTables.{words_at, rests_at, facts_at}
-use Rattle.code_facts.specs.Index.{NoneBelow}
 use Rattle.code_facts.proofs.IndexLemmas.{pair_unlisted, pair_found, pair_none, none_more, none_next}
 use Rattle.code_facts.proofs.TableLemmas.{listed_at, pair_inside}
 use Rattle.code_facts.proofs.fact_tables.FactTables.composite.Goals as goal

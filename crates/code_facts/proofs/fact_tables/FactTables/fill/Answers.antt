@@ -1,5 +1,4 @@
-use Rattle.std.proofs.Common.{ℕ, ◌∙◌}
-use Rattle.ucd_model.specs.Facts.{Facts}
+use Rattle.std.proofs.Common.{◌∙◌}
 use Rattle.code_facts.specs.FactTables.{facts_at}
 use Rattle.code_facts.specs.RowTables.{made_facts}
 use Rattle.code_facts.specs.declared.version.Version.TheVariants.{Next}

@@ -1,5 +1,4 @@
 use Rattle.std.proofs.Common.{◌≡◌, ℕ, ◌≤◌, ◌<◌, false, sym, ◌∙◌, arith}
-use Rattle.ucd_model.specs.Facts.{Facts}
 use Rattle.ucd_model.specs.Composites.{second_of}
 use Rattle.code_facts.specs.FactTables.{facts_at}
 use Rattle.code_facts.specs.declared.version.Version.TheVariants.{Now}

@@ -1,4 +1,4 @@
-use Rattle.std.proofs.Common.{subst, sym, refl, ap, ◌∙◌, arith}
+use Rattle.std.proofs.Common.{subst, sym, refl, ap, arith}
 use Rattle.ucd_model.specs.Facts.{data_row}
 use Rattle.ucd_model.specs.declared.files.SourceFile.TheVariants.{UnicodeData}
 use Rattle.code_facts.specs.RowLists.{sources_of}

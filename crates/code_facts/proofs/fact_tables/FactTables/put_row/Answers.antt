@@ -1,0 +1,16 @@
+use Rattle.ucd_model.specs.declared.query.Query.TheVariants.{Row}
+use Rattle.code_facts.specs.FactTables.{facts_at}
+use Rattle.code_facts.specs.declared.version.Version.TheVariants.{Now, Next}
+use Rattle.code_facts.proofs.ChangeLemmas.{gathers_put, told_put}
+use Rattle.code_facts.proofs.TableLemmas.{on_ok_map}
+use Rattle.code_facts.proofs.fact_tables.FactTables.put_row.Goals as goal
+
+pub returns-clause-gathers : goal.returns-clause-gathers
+returns-clause-gathers g c =
+    let t = c.args.self.now in
+    on_ok_map c.put_unless.result _ _ (λ e. gathers_put (facts_at Now t) (facts_at Next t) c.args.queries.now.items c.put_unless.new.queries.items (Row c.args.c) c.has_same_facts-same.result c.has_same_facts-same.ensures e) c.put_unless.ensures
+
+pub returns-clause-told : goal.returns-clause-told
+returns-clause-told g c =
+    let t = c.args.self.now in
+    on_ok_map c.put_unless.result _ _ (λ e. told_put (facts_at Now t) (facts_at Next t) c.args.queries.now.items c.put_unless.new.queries.items (Row c.args.c) c.has_same_facts-same.result c.has_same_facts-same.ensures e) c.put_unless.ensures

@@ -1,0 +1,137 @@
+//! The questions that an edit answers otherwise.
+
+ghost use Rattle.std.specs.Prelude.{◌≡◌, ℕ, Bool, true, IfOk, OnOk};
+ghost use Rattle.std.specs.Bool.{Decides};
+ghost use Rattle.std.specs.List.{list_any};
+ghost use Rattle.std.specs.List.Sorted.{IsStrictlySortedBy};
+ghost use Rattle.asked_queries.specs.Answers.{TellsChanges, is_asked};
+ghost use Rattle.ucd_model.specs.declared.query.Query.{Query as QueryValue};
+ghost use Rattle.code_facts.specs.Changes.{Gathers, IsTold, is_reached};
+ghost use Rattle.code_facts.specs.FactTables.{tables_facts, tables_next};
+
+use crate::fact_tables::FactTables;
+use crate::reached::Reached;
+use crate::reaching::put_unless;
+use crate::version::Version;
+use range_table::Table;
+use std::alloc::Global;
+use ucd_model::{Memory, Point, Queries, Query};
+
+impl<T: Table<u64>> FactTables<T> {
+    /// The questions that the facts now and next do not answer alike: which facts a code point has, which primary
+    /// composite a pair has, and whether a code point is the second member of one's mapping. They ascend, each once. The
+    /// Unicode Standard, section 3.11, D114.
+    ///
+    /// It looks at the code points that were touched when next was prepared; without such it takes no time.
+    ///
+    /// - `Memory`: memory ran out.
+    pub fn queries_changed(&self, alloc: Global) -> Result<Queries, Memory>
+        ensures tells { IfOk result (λ queries. TellsChanges (tables_facts T.now self.now) (tables_next T.now self.now) queries) }
+        ensures once { IfOk result (λ queries. IsStrictlySortedBy (⟦<Query as Ord>⟧.cmp) queries) }
+    {
+        let reached = self.reached(alloc, self.touched.as_slice())?;
+        let queries = self.all_changed(reached)?;
+        Ok(in_order(queries))
+    }
+
+    /// The questions that were found, and those on the pairs that were reached.
+    fn all_changed(&self, reached: Reached) -> Result<Vec<Query>, Memory>
+        ensures gathers { IfOk result (λ queries. Gathers (tables_facts T.now self.now) (tables_next T.now self.now) reached.queries.items queries.items) }
+        ensures pairs { IfOk result (λ queries. (s y : ℕ) → is_reached reached.pairs.items s y ≡ true
+            → IsTold (tables_facts T.now self.now) (tables_next T.now self.now) queries.items (Query.Pair s y)) }
+        ensures seconds { IfOk result (λ queries. (s y : ℕ) → is_reached reached.pairs.items s y ≡ true
+            → IsTold (tables_facts T.now self.now) (tables_next T.now self.now) queries.items (Query.Second y)) }
+    {
+        let Reached { mut queries, pairs } = reached;
+        self.put_composites(&mut queries, &pairs)?;
+        Ok(queries)
+    }
+
+    /// Adds the questions on pairs and on their second members that are answered otherwise.
+    fn put_composites(
+        &self,
+        queries: &mut Vec<Query>,
+        pairs: &[(Point, Point)],
+    ) -> Result<(), Memory>
+        ensures gathers { OnOk result (Gathers (tables_facts T.now self.now) (tables_next T.now self.now) queries.old.items queries.new.items) }
+        ensures pairs { OnOk result ((s y : ℕ) → is_reached pairs.now s y ≡ true
+            → IsTold (tables_facts T.now self.now) (tables_next T.now self.now) queries.new.items (Query.Pair s y)) }
+        ensures seconds { OnOk result ((s y : ℕ) → is_reached pairs.now s y ≡ true
+            → IsTold (tables_facts T.now self.now) (tables_next T.now self.now) queries.new.items (Query.Second y)) }
+    {
+        'pairs: for pair in pairs {
+            let (s, y) = *pair;
+            self.put_composite(queries, s, y)?;
+        }
+        Ok(())
+    }
+
+    /// Adds the questions on a pair and on its second member, each if it is answered otherwise.
+    fn put_composite(&self, queries: &mut Vec<Query>, s: Point, y: Point) -> Result<(), Memory>
+        ensures gathers { OnOk result (Gathers (tables_facts T.now self.now) (tables_next T.now self.now) queries.old.items queries.new.items) }
+        ensures pair { OnOk result (IsTold (tables_facts T.now self.now) (tables_next T.now self.now) queries.new.items (Query.Pair s y)) }
+        ensures second { OnOk result (IsTold (tables_facts T.now self.now) (tables_next T.now self.now) queries.new.items (Query.Second y)) }
+    {
+        self.put_pair(queries, s, y)?;
+        self.put_second(queries, y)
+    }
+
+    /// Adds the question on a pair, if it is answered otherwise.
+    fn put_pair(&self, queries: &mut Vec<Query>, s: Point, y: Point) -> Result<(), Memory>
+        ensures gathers { OnOk result (Gathers (tables_facts T.now self.now) (tables_next T.now self.now) queries.old.items queries.new.items) }
+        ensures told { OnOk result (IsTold (tables_facts T.now self.now) (tables_next T.now self.now) queries.new.items (Query.Pair s y)) }
+    {
+        let now = self.composite(Version::Now, s, y);
+        let next = self.composite(Version::Next, s, y);
+        let same = is_same_point(now, next);
+        put_unless(queries, Query::Pair(s, y), same)
+    }
+
+    /// Adds the question on a second member, if it is answered otherwise.
+    fn put_second(&self, queries: &mut Vec<Query>, y: Point) -> Result<(), Memory>
+        ensures gathers { OnOk result (Gathers (tables_facts T.now self.now) (tables_next T.now self.now) queries.old.items queries.new.items) }
+        ensures told { OnOk result (IsTold (tables_facts T.now self.now) (tables_next T.now self.now) queries.new.items (Query.Second y)) }
+    {
+        let now = self.is_second(Version::Now, y);
+        let next = self.is_second(Version::Next, y);
+        let same = is_same_answer(now, next);
+        put_unless(queries, Query::Second(y), same)
+    }
+}
+
+/// Whether both are yes, or both no.
+fn is_same_answer(a: bool, b: bool) -> bool
+    ensures { Decides result (a ≡ b) }
+{
+    a == b
+}
+
+/// Whether both are the same code point, or none.
+fn is_same_point(a: Option<Point>, b: Option<Point>) -> bool
+    ensures { Decides result (a ≡ b) }
+{
+    match (a, b) {
+        (None, None) => true,
+        (Some(a), Some(b)) => a == b,
+        _ => false,
+    }
+}
+
+/// The questions in ascending order, each once. It takes no memory.
+fn in_order(mut queries: Vec<Query>) -> Queries
+    ensures asked { (q : QueryValue) → is_asked result q ≡ is_asked queries.items q }
+    ensures once { IsStrictlySortedBy (⟦<Query as Ord>⟧.cmp) result }
+{
+    put_in_order(&mut queries);
+    Queries::from_vec(queries)
+}
+
+/// Sorts items, and keeps each once. It takes no memory.
+fn put_in_order<V: Ord + Drop>(items: &mut Vec<V>)
+    requires { (a b : V) → V.eq a b ≡ true → a ≡ b }
+    ensures same { (p : V → Bool) → list_any p items.new.items ≡ list_any p items.old.items }
+    ensures once { IsStrictlySortedBy V.cmp items.new.items }
+{
+    items.sort_unstable();
+    items.dedup();
+}

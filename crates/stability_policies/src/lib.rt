@@ -1,0 +1,20 @@
+//! The stability policies of the Unicode Standard: what a release breaks of them against an earlier one, and what it keeps
+//! where it breaks none. Unicode Character Encoding Stability Policies.
+#![tactic(auto)]
+
+mod breaks;
+mod case_tests;
+mod caseless;
+mod common;
+mod mapping_tests;
+mod policy;
+mod reporting;
+mod row_tests;
+mod testing;
+mod writing;
+
+pub use breaks::{Break, Breaks, lists};
+pub use common::{Forms, common_caseless, common_forms};
+pub use policy::{POLICIES, Policy};
+pub use reporting::report;
+pub use writing::report_text;

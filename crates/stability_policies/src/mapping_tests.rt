@@ -1,0 +1,96 @@
+//! Policies on canonical mappings and on primary composites. UAX #15, sections 3 and 5.
+
+ghost use Rattle.std.specs.Prelude.{◌≡◌, ◌&&◌, ◌||◌, not, ◌==◌, IfOk};
+ghost use Rattle.std.specs.Str.{bytes_eq};
+ghost use Rattle.ucd_model.specs.CanonicalOrder.{class_of, order};
+ghost use Rattle.ucd_model.specs.Composites.{first_has_class_zero, is_canonical, primary};
+ghost use Rattle.ucd_model.specs.Shown.{shown_facts};
+ghost use Rattle.ucd_model.specs.View.{ShowsFacts};
+ghost use Rattle.stability_policies.specs.Policies.{all_assigned, breaks_by, second_maps};
+ghost use Rattle.stability_policies.specs.declared.policy.Policy.TheVariants.{P05, P18, P19};
+
+use normalisation::order;
+use std::alloc::Global;
+use ucd_model::{FactView, FactsRef, Kind, Memory, Point, Points};
+
+/// P05: a primary composite in old alone, or in new alone over code points that are assigned in old.
+pub fn changes_composite<O: FactView, N: FactView>(
+    old: &O,
+    new: &N,
+    c: Point,
+    a: &FactsRef<'_>,
+    b: &FactsRef<'_>,
+) -> bool
+    requires old { ShowsFacts a.now (O.facts_of old.now c) }
+    requires new { ShowsFacts b.now (N.facts_of new.now c) }
+    ensures { result ≡ breaks_by P05 (O.facts_of old.now) (N.facts_of new.now) c (shown_facts a.now) (shown_facts b.now) }
+{
+    let before = is_primary(old, c, a);
+    let after = is_primary(new, c, b);
+    (before && !after) || (after && !before && are_assigned(old, b.mapping))
+}
+
+/// Whether a code point with these facts is a primary composite. The Unicode Standard, section 3.11, D114.
+fn is_primary<W: FactView>(view: &W, c: Point, facts: &FactsRef<'_>) -> bool
+    requires { ShowsFacts facts.now (W.facts_of view.now c) }
+    ensures { result ≡ primary (W.facts_of view.now) c }
+{
+    matches!(facts.kind, Kind::Canonical)
+        && facts.class == 0
+        && first_has_class_zero(view, facts.mapping)
+        && !facts.excluded
+}
+
+/// Whether a mapping has two members, of which the first has class 0.
+fn first_has_class_zero<W: FactView>(view: &W, mapping: &[Point]) -> bool
+    ensures { result ≡ first_has_class_zero (W.facts_of view.now) mapping.now }
+{
+    match mapping {
+        [first, _] => view.class(*first) == 0,
+        _ => false,
+    }
+}
+
+/// Whether all of these code points are assigned.
+fn are_assigned<W: FactView>(view: &W, points: &[Point]) -> bool
+    ensures { result ≡ all_assigned (W.facts_of view.now) points.now }
+{
+    points.iter().all(|c| view.is_assigned(*c))
+}
+
+/// P18: a canonical mapping of two members, of which the second has a canonical mapping.
+pub fn maps_second_again<W: FactView>(view: &W, facts: &FactsRef<'_>) -> bool
+    ensures { result ≡ (is_canonical (shown_facts facts.now).kind && second_maps (W.facts_of view.now) (shown_facts facts.now).mapping) }
+{
+    matches!(facts.kind, Kind::Canonical) && second_maps(view, facts.mapping)
+}
+
+/// Whether a mapping has two members, of which the second has a canonical mapping.
+fn second_maps<W: FactView>(view: &W, mapping: &[Point]) -> bool
+    ensures { result ≡ second_maps (W.facts_of view.now) mapping.now }
+{
+    match mapping {
+        [_, second] => matches!(view.kind(*second), Kind::Canonical),
+        _ => false,
+    }
+}
+
+/// P19: a canonical mapping that is not in canonical order.
+///
+/// - `Memory`: memory ran out.
+pub fn is_out_of_order<W: FactView>(
+    alloc: Global,
+    view: &W,
+    facts: &FactsRef<'_>,
+) -> Result<bool, Memory>
+    ensures { IfOk result (λ out. out ≡ (is_canonical (shown_facts facts.now).kind
+        && not (bytes_eq (order (class_of (W.facts_of view.now)) (shown_facts facts.now).mapping) (shown_facts facts.now).mapping))) }
+{
+    if !matches!(facts.kind, Kind::Canonical) {
+        return Ok(false);
+    }
+    let mut points = Points::new(alloc);
+    points.append(facts.mapping)?;
+    order(view, &mut points);
+    Ok(points.as_slice() != facts.mapping)
+}

@@ -1,0 +1,85 @@
+//! Whether a code point breaks a policy.
+
+ghost use Rattle.std.specs.Prelude.{◌≡◌, ◌&&◌, not, IfOk};
+ghost use Rattle.ucd_model.specs.Records.{record_at};
+ghost use Rattle.ucd_model.specs.Shown.{shown_facts};
+ghost use Rattle.ucd_model.specs.View.{ShowsFacts};
+ghost use Rattle.stability_policies.specs.Policies.{breaks, breaks_by};
+
+use crate::case_tests::{gains_case_pair, loses_case_pair};
+use crate::caseless::changes_caseless;
+use crate::mapping_tests::{changes_composite, is_out_of_order, maps_second_again};
+use crate::policy::Policy;
+use crate::row_tests::{
+    changes_class, changes_control, changes_mapping, changes_noncharacter, changes_pattern,
+    changes_private_use, has_class_without_mark, loses_its_row,
+};
+use std::alloc::Global;
+use ucd_model::{Core, FactView, FactsRef, Memory, Point, Records};
+
+/// Whether a code point breaks a policy; never P02 and P17, which are of rows.
+///
+/// - `Memory`: memory ran out.
+#[tactic(auto, using(crate::proofs::TestLemmas::told_breaks))]
+pub fn is_broken<O: Records + FactView, N: Records + FactView>(
+    alloc: Global,
+    policy: Policy,
+    old: &O,
+    new: &N,
+    c: Point,
+) -> Result<bool, Memory>
+    requires old { O.record_of old.now ≡ record_at (O.facts_of old.now) }
+    requires new { N.record_of new.now ≡ record_at (N.facts_of new.now) }
+    ensures { IfOk result (λ broken. broken ≡ breaks policy (O.facts_of old.now) (N.facts_of new.now) c) }
+{
+    is_broken_by(alloc, policy, old, new, c, &old.facts(c), &new.facts(c))
+}
+
+/// The same of a code point whose facts are at hand.
+///
+/// - `Memory`: memory ran out.
+fn is_broken_by<O: Records + FactView, N: Records + FactView>(
+    alloc: Global,
+    policy: Policy,
+    old: &O,
+    new: &N,
+    c: Point,
+    a: &FactsRef<'_>,
+    b: &FactsRef<'_>,
+) -> Result<bool, Memory>
+    requires old { O.record_of old.now ≡ record_at (O.facts_of old.now) }
+    requires new { N.record_of new.now ≡ record_at (N.facts_of new.now) }
+    requires old_facts { ShowsFacts a.now (O.facts_of old.now c) }
+    requires new_facts { ShowsFacts b.now (N.facts_of new.now c) }
+    ensures { IfOk result (λ broken. broken ≡ breaks_by policy (O.facts_of old.now) (N.facts_of new.now) c (shown_facts a.now) (shown_facts b.now)) }
+{
+    let broken = match policy {
+        Policy::P01 => loses_its_row(a, b),
+        Policy::P02 | Policy::P17 => false,
+        Policy::P03 => changes_class(a, b),
+        Policy::P04 => changes_mapping(a, b),
+        Policy::P05 => changes_composite(old, new, c, a, b),
+        Policy::P06 => loses_core(old, new, c, Core::IdStart),
+        Policy::P07 => loses_core(old, new, c, Core::IdContinue),
+        Policy::P08 => loses_core(old, new, c, Core::XidStart),
+        Policy::P09 => loses_core(old, new, c, Core::XidContinue),
+        Policy::P10 => return changes_caseless(alloc, old, new, c, a, b),
+        Policy::P11 => loses_case_pair(old, new, c, a, b),
+        Policy::P12 => gains_case_pair(old, new, c, a, b),
+        Policy::P13 => changes_control(a, b),
+        Policy::P14 => changes_private_use(a, b),
+        Policy::P15 => changes_noncharacter(a, b),
+        Policy::P16 => changes_pattern(a, b),
+        Policy::P18 => maps_second_again(new, b),
+        Policy::P19 => return is_out_of_order(alloc, new, b),
+        Policy::P20 => has_class_without_mark(b),
+    };
+    Ok(broken)
+}
+
+/// Whether a code point has a core property in old and not in new.
+fn loses_core<O: Records, N: Records>(old: &O, new: &N, c: Point, core: Core) -> bool
+    ensures { result ≡ ((O.record_of old.now c).core core && not ((N.record_of new.now c).core core)) }
+{
+    old.record(c).core.has(core) && !new.record(c).core.has(core)
+}

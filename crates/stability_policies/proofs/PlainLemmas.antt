@@ -1,19 +1,16 @@
 -- Code points without a mapping: their NFKC and their folding under it.
-use Rattle.std.proofs.Common.{◌≡◌, ℕ, Bool, true, false, ◌&&◌, not, ◌==◌, List, [], ◌∷◌, ◌++◌, Some, None, Result, Ok, Err, if◌then◌else◌, refl, sym, ap, ◌∙◌}
+use Rattle.std.proofs.Common.{◌≡◌, ℕ, Bool, true, false, ◌&&◌, not, ◌==◌, List, [], ◌∷◌, ◌++◌, Result, Ok, Err, if◌then◌else◌, refl, sym, ap, ◌∙◌}
 use Rattle.std.specs.Str.{bytes_eq}
 use Rattle.std.proofs.lemmas.Slice.Eq.{bytes_eq-Decides}
 use Rattle.std.proofs.lemmas.List.{append-nil}
-use Rattle.ucd_model.specs.CanonicalOrder.{class_of, order}
-use Rattle.ucd_model.specs.Casing.{fold, fold_of}
 use Rattle.ucd_model.specs.Composites.{first_has_class_zero, is_canonical, primary}
 use Rattle.ucd_model.specs.Expansion.{counts, counted}
 use Rattle.ucd_model.specs.Facts.{Facts, image_points, is_plain}
-use Rattle.ucd_model.specs.Forms.{appended, composed, decomposed, in_order, nfkc}
+use Rattle.ucd_model.specs.Forms.{appended, composed, in_order, nfkc}
 use Rattle.ucd_model.specs.Uniform.{IsPlain}
 use Rattle.ucd_model.specs.declared.decomposition.Kind.{Kind}
 use Rattle.ucd_model.specs.declared.decomposition.Kind.TheVariants.{Plain, Canonical, Compat}
 use Rattle.ucd_model.specs.declared.form.Bad.{Bad as Rule}
-use Rattle.ucd_model.specs.declared.image.Image.TheVariants.{Same}
 use Rattle.normalisation.specs.FormLemmas.{expansion_alone}
 use Rattle.stability_policies.specs.CaselessLists.{folding_of, same_where, where_list}
 use Rattle.stability_policies.specs.Policies.{caseless, folded, same_list}

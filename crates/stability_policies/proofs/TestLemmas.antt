@@ -1,5 +1,5 @@
 -- What is told of shown facts is told of the code point that has them.
-use Rattle.std.proofs.Common.{◌≡◌, ℕ, Bool, sym, ap, ◌∙◌}
+use Rattle.std.proofs.Common.{◌≡◌, ℕ, ap, ◌∙◌}
 use Rattle.ucd_model.specs.Facts.{Facts}
 use Rattle.ucd_model.specs.Shown.{shown_facts, shown_is}
 use Rattle.ucd_model.specs.View.{ShowsFacts}

@@ -1,15 +1,14 @@
 -- Code points without a mapping whose other facts are the same break the same policies.
-use Rattle.std.proofs.Common.{◌≡◌, ℕ, Bool, true, false, ◌&&◌, ◌||◌, not, ◌==◌, List, [], ◌∷◌, Ok, refl, sym, ap, ◌∙◌}
-use Rattle.std.specs.Str.{bytes_eq}
+use Rattle.std.proofs.Common.{◌≡◌, ℕ, Bool, true, false, ◌&&◌, ◌||◌, not, ◌==◌, ◌<◌, ◌≤◌, [], ◌∷◌, Ok, refl, sym, ap, ◌∙◌, arith, inl, inr}
+use Rattle.std.proofs.lemmas.Bool.{cases_lt}
 use Rattle.std.proofs.lemmas.Bool.{eq-eqb}
-use Rattle.ucd_model.specs.CanonicalOrder.{class_of, order}
 use Rattle.ucd_model.specs.Casing.{where_form}
-use Rattle.ucd_model.specs.Composites.{is_canonical, primary}
+use Rattle.ucd_model.specs.Composites.{primary}
 use Rattle.ucd_model.specs.Facts.{Facts}
 use Rattle.ucd_model.specs.Identifiers.{continues, starts, xid_continue, xid_start}
 use Rattle.ucd_model.specs.Predicates.{id_continue, id_start}
 use Rattle.ucd_model.specs.Uniform.{Alike, IsPlain, Uniform}
-use Rattle.stability_policies.specs.Policies.{all_assigned, breaks, in_one, is_case_pair, is_mark, is_of_category, same_list, same_mapping, second_maps, sort_of, caseless}
+use Rattle.stability_policies.specs.Policies.{all_assigned, breaks, is_case_pair, same_list, same_mapping, sort_of, caseless}
 use Rattle.stability_policies.specs.declared.policy.Policy.{Policy}
 use Rattle.stability_policies.specs.declared.policy.Policy.TheVariants.{P01, P02, P03, P04, P05, P06, P07, P08, P09, P10, P11, P12, P13, P14, P15, P16, P17, P18, P19, P20}
 use Rattle.stability_policies.proofs.PlainLemmas.{caseless_plain, nfkc_plain, primary_plain, same_bytes}
@@ -85,3 +84,12 @@ module _ (O N : ℕ → Facts) (c d : ℕ) (p : IsPlain c (O c)) (u : Uniform O 
   same_breaks P18 = rw (v.alike.kind, v.plain.mapping, q.mapping) refl
   same_breaks P19 = rw (v.alike.kind, v.plain.mapping, q.mapping) refl
   same_breaks P20 = rw (v.alike.class, v.alike.category) refl
+
+-- the code points from c on, as far as both views tell that they are uniform
+pub alike_breaks : (O N : ℕ → Facts) (c before after last : ℕ) → last ≤ before → last ≤ after
+    → (c < before → IsPlain c (O c)) → ((d : ℕ) → c < d → d ≤ before → Uniform O c d) → (c < after → IsPlain c (N c)) → ((d : ℕ) → c < d → d ≤ after → Uniform N c d)
+    → (policy : Policy) (d : ℕ) → c ≤ d → d ≤ last → breaks policy O N d ≡ breaks policy O N c
+alike_breaks O N c before after last old new plain_old alike_old plain_new alike_new policy d from to = elim (cases_lt c d) [
+  | inl lt ↦ same_breaks O N c d (plain_old (omega arith)) (alike_old d lt (omega arith)) (plain_new (omega arith)) (alike_new d lt (omega arith)) policy
+  | inr le ↦ let here : d ≡ c = omega arith in ap (breaks policy O N) here
+]

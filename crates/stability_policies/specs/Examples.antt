@@ -1,21 +1,21 @@
 -- A code point that breaks each policy, and one that keeps it.
 --
 -- The facts are those of code points of real releases where the policy is kept; where it is broken, one of them is changed.
-use Rattle.std.proofs.Common.{◌≡◌, ℕ, Bool, true, false, ◌||◌, ◌==◌, [], ◌∷◌, if◌then◌else◌, codes, refl}
-use Rattle.std.specs.Prelude.{Some, None, map}
+use Rattle.std.proofs.Common.{◌≡◌, ℕ, true, false, ◌==◌, [], ◌∷◌, if◌then◌else◌, codes, refl}
+use Rattle.std.specs.Prelude.{Some, None}
 use Rattle.ucd_model.specs.Expansion.{full}
 use Rattle.ucd_model.specs.Facts.{Facts, unassigned}
 use Rattle.ucd_model.specs.declared.category.Category.{Category}
 use Rattle.ucd_model.specs.declared.category.Category.TheVariants.{Lu, Ll, Lo, Mn, Mc, Cc, Cs, Co, Po, Zs}
 use Rattle.ucd_model.specs.declared.decomposition.Kind.{Kind}
-use Rattle.ucd_model.specs.declared.decomposition.Kind.TheVariants.{Plain, Canonical, Compat}
+use Rattle.ucd_model.specs.declared.decomposition.Kind.TheVariants.{Canonical, Compat}
 use Rattle.ucd_model.specs.declared.decomposition.Tag.TheVariants as tag
-use Rattle.ucd_model.specs.declared.image.Image.TheVariants.{Same, To}
+use Rattle.ucd_model.specs.declared.image.Image.TheVariants.{To}
 use Rattle.ucd_model.specs.declared.property.Flag.{Flag}
 use Rattle.ucd_model.specs.declared.property.Flag.TheVariants.{NoncharacterCodePoint, PatternSyntax, PatternWhiteSpace}
 use Rattle.ucd_model.specs.Sets.{flag_place}
 use Rattle.stability_policies.specs.Policies.{breaks, differ}
-use Rattle.stability_policies.specs.declared.policy.Policy.TheVariants.{P01, P02, P03, P04, P05, P06, P07, P08, P09, P10, P11, P12, P13, P14, P15, P16, P17, P18, P19, P20}
+use Rattle.stability_policies.specs.declared.policy.Policy.TheVariants.{P01, P03, P04, P05, P06, P07, P08, P09, P10, P11, P12, P13, P14, P15, P16, P18, P19, P20}
 
 -- a code point of a category, with nothing else
 abbrev of : Category → ℕ → Facts

@@ -5,3 +5,6 @@ pub mod Views
 pub mod Reports
 pub mod ReportTexts
 pub mod CommonForms
+pub mod Sieves
+pub mod PolicyLists
+pub mod NamedRows

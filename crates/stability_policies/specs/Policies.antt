@@ -40,7 +40,6 @@ use Rattle.ucd_model.specs.declared.decomposition.Kind.TheVariants.{Plain, Canon
 use Rattle.ucd_model.specs.declared.files.SourceFile.TheVariants.{UnicodeData}
 use Rattle.ucd_model.specs.declared.form.Bad.{Bad as Rule}
 use Rattle.ucd_model.specs.declared.property.Core.TheVariants.{IdStart, IdContinue, XidStart, XidContinue}
-use Rattle.ucd_model.specs.declared.property.Flag.{Flag}
 use Rattle.ucd_model.specs.declared.property.Flag.TheVariants.{NoncharacterCodePoint, PatternSyntax, PatternWhiteSpace}
 use Rattle.ucd_model.specs.declared.row.DataRow.{DataRow}
 use Rattle.stability_policies.specs.declared.policy.Policy.{Policy}

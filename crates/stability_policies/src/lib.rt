@@ -2,14 +2,19 @@
 //! where it breaks none. Unicode Character Encoding Stability Policies.
 #![tactic(auto)]
 
+mod alias_rows;
 mod breaks;
 mod case_tests;
 mod caseless;
 mod common;
 mod mapping_tests;
+mod named_row;
+mod names;
+mod point_breaks;
 mod policy;
 mod reporting;
 mod row_tests;
+mod sieving;
 mod testing;
 mod writing;
 

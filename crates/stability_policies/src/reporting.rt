@@ -1,13 +1,21 @@
 //! The report of the breaks of all policies.
 
-ghost use Rattle.std.specs.Prelude.{◌≡◌, IfOk};
-ghost use Rattle.stability_policies.specs.Reports.{report};
+ghost use Rattle.std.specs.Prelude.{◌≡◌, ◌++◌, IfOk, OnOk};
+ghost use Rattle.ucd_model.specs.Limits.{point_count};
+ghost use Rattle.ucd_model.specs.declared.files.SourceFile.TheVariants.{PropertyAliases, PropertyValueAliases};
+ghost use Rattle.stability_policies.specs.Reports.{breaks_of, lost_in, report};
+ghost use Rattle.stability_policies.specs.Sieves.{IsSieve};
 ghost use Rattle.stability_policies.specs.Views.{Belongs, IsValid};
 
+use crate::alias_rows::put_lost;
 use crate::breaks::Breaks;
+use crate::names::put_renamed;
+use crate::point_breaks::put_points;
+use crate::policy::Policy;
+use crate::sieving::broken_stretches;
 use release_rows::Release;
 use std::alloc::Global;
-use ucd_model::{Memory, Records};
+use ucd_model::{FactView, Memory, Records, SourceFile, Span};
 use uniform_facts::UniformFacts;
 
 /// All breaks of the stability policies by a new release against an old one: by policy, then by code point; of P17 by
@@ -16,17 +24,71 @@ use uniform_facts::UniformFacts;
 ///
 /// - `Memory`: memory ran out.
 pub fn report<O: Records + UniformFacts, N: Records + UniformFacts>(
-    _alloc: Global,
-    _old: &O,
-    _old_rows: &Release,
-    _new: &N,
-    _new_rows: &Release,
+    alloc: Global,
+    old: &O,
+    old_rows: &Release,
+    new: &N,
+    new_rows: &Release,
 ) -> Result<Breaks, Memory>
-    requires old { Belongs (O.facts_of _old.now) (O.record_of _old.now) _old_rows.now }
-    requires new { Belongs (N.facts_of _new.now) (N.record_of _new.now) _new_rows.now }
-    requires valid_old { IsValid _old_rows.now }
-    requires valid_new { IsValid _new_rows.now }
-    ensures { IfOk result (λ breaks. breaks ≡ report _old_rows.now _new_rows.now) }
+    requires old { Belongs (O.facts_of old.now) (O.record_of old.now) old_rows.now }
+    requires new { Belongs (N.facts_of new.now) (N.record_of new.now) new_rows.now }
+    requires valid_old { IsValid old_rows.now }
+    requires valid_new { IsValid new_rows.now }
+    ensures { IfOk result (λ breaks. breaks ≡ report old_rows.now new_rows.now) }
 {
-    Err(Memory)
+    let stretches = broken_stretches(alloc, old, new)?;
+    let mut breaks = Breaks::new(alloc);
+    'policies: for policy in Policy::all() {
+        put_breaks(
+            alloc,
+            *policy,
+            old,
+            old_rows,
+            new,
+            new_rows,
+            stretches.as_slice(),
+            &mut breaks,
+        )?;
+    }
+    Ok(breaks)
+}
+
+/// Puts the breaks of a policy. Outside of these stretches no policy of code points is broken.
+///
+/// - `Memory`: memory ran out.
+fn put_breaks<O: Records + FactView, N: Records + FactView>(
+    alloc: Global,
+    policy: Policy,
+    old: &O,
+    old_rows: &Release,
+    new: &N,
+    new_rows: &Release,
+    stretches: &[Span],
+    into: &mut Breaks,
+) -> Result<(), Memory>
+    requires old { Belongs (O.facts_of old.now) (O.record_of old.now) old_rows.now }
+    requires new { Belongs (N.facts_of new.now) (N.record_of new.now) new_rows.now }
+    requires stretches { IsSieve (O.facts_of old.now) (N.facts_of new.now) 0 point_count stretches.now }
+    ensures { OnOk result (into.new ≡ into.old ++ breaks_of policy old_rows.now new_rows.now) }
+{
+    match policy {
+        Policy::P02 => put_renamed(alloc, old_rows, new_rows, into),
+        Policy::P17 => put_lost_names(alloc, old_rows, new_rows, into),
+        _ => put_points(alloc, policy, old, new, stretches, into),
+    }
+}
+
+/// Puts the breaks of P17, file by file.
+///
+/// - `Memory`: memory ran out.
+fn put_lost_names(
+    alloc: Global,
+    old: &Release,
+    new: &Release,
+    into: &mut Breaks,
+) -> Result<(), Memory>
+    ensures { OnOk result (into.new ≡ into.old ++ (lost_in PropertyAliases old.now new.now ++ lost_in PropertyValueAliases old.now new.now)) }
+{
+    put_lost(alloc, SourceFile::PropertyAliases, old, new, into)?;
+    put_lost(alloc, SourceFile::PropertyValueAliases, old, new, into)
 }

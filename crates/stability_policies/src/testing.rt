@@ -1,10 +1,11 @@
 //! Whether a code point breaks a policy.
 
-ghost use Rattle.std.specs.Prelude.{◌≡◌, ◌&&◌, not, IfOk};
+ghost use Rattle.std.specs.Prelude.{◌≡◌, ◌&&◌, not, false, IfOk};
 ghost use Rattle.ucd_model.specs.Records.{record_at};
 ghost use Rattle.ucd_model.specs.Shown.{shown_facts};
 ghost use Rattle.ucd_model.specs.View.{ShowsFacts};
 ghost use Rattle.stability_policies.specs.Policies.{breaks, breaks_by};
+ghost use Rattle.stability_policies.specs.Sieves.{IsKept};
 
 use crate::case_tests::{gains_case_pair, loses_case_pair};
 use crate::caseless::changes_caseless;
@@ -33,6 +34,29 @@ pub fn is_broken<O: Records + FactView, N: Records + FactView>(
     ensures { IfOk result (λ broken. broken ≡ breaks policy (O.facts_of old.now) (N.facts_of new.now) c) }
 {
     is_broken_by(alloc, policy, old, new, c, &old.facts(c), &new.facts(c))
+}
+
+/// Whether a code point may break a policy: where it does not, it breaks none.
+///
+/// - `Memory`: memory ran out.
+pub fn is_any_broken<O: Records + FactView, N: Records + FactView>(
+    alloc: Global,
+    old: &O,
+    new: &N,
+    c: Point,
+) -> Result<bool, Memory>
+    requires old { O.record_of old.now ≡ record_at (O.facts_of old.now) }
+    requires new { N.record_of new.now ≡ record_at (N.facts_of new.now) }
+    ensures { IfOk result (λ any. any ≡ false → IsKept (O.facts_of old.now) (N.facts_of new.now) c) }
+{
+    let a = old.facts(c);
+    let b = new.facts(c);
+    'policies: for policy in Policy::all() {
+        if is_broken_by(alloc, *policy, old, new, c, &a, &b)? {
+            return Ok(true);
+        }
+    }
+    Ok(false)
 }
 
 /// The same of a code point whose facts are at hand.

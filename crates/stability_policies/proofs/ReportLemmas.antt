@@ -1,0 +1,89 @@
+-- A report, policy after policy and row after row.
+use Rattle.std.proofs.Common.{◌≡◌, ◌≢◌, ℕ, ◌+◌, ◌<◌, ◌≤◌, Bool, true, false, cond, not, ◌||◌, List, [], ◌∷◌, ◌++◌, length, get_or, take, map, filter, refl, sym, ap, ◌∙◌}
+use Rattle.std.specs.List.{flat_map, list_any, range_with_len}
+use Rattle.std.proofs.lemmas.List.{append-nil, append_assoc, take_all, take_more}
+use Rattle.std.proofs.lemmas.Grind.{flat_map-append}
+use Rattle.release_rows.specs.Releases.{ReleaseItems}
+use Rattle.ucd_model.specs.Facts.{Facts, facts}
+use Rattle.ucd_model.specs.Limits.{point_count}
+use Rattle.ucd_model.specs.declared.files.SourceFile.{SourceFile}
+use Rattle.ucd_model.specs.declared.row.Row.{Row}
+use Rattle.stability_policies.specs.Policies.{breaks, policies}
+use Rattle.stability_policies.specs.Reports.{breaks_of, is_lost, keeps_names, lost_rows, names_in, report}
+use Rattle.stability_policies.specs.Views.{rows_of}
+use Rattle.stability_policies.specs.declared.breaks.Break.{Break}
+use Rattle.stability_policies.specs.declared.breaks.Break.TheVariants.{At, Alias}
+use Rattle.stability_policies.specs.declared.policy.Policy.{Policy}
+use Rattle.stability_policies.specs.declared.policy.Policy.TheVariants.{P01, P02, P03, P04, P05, P06, P07, P08, P09, P10, P11, P12, P13, P14, P15, P16, P17, P18, P19, P20}
+
+-- ---- lists that are put one after the other
+
+flat_one : {X Y : Type 0} (f : X → List Y) (x : X) → flat_map f (x ∷ []) ≡ f x
+flat_one f x = append-nil (f x)
+
+pub flat_more : {X Y : Type 0} (f : X → List Y) (before new now : List Y) (xs : List X) (i : ℕ) (x : X) → i < length xs → x ≡ get_or xs i x → now ≡ before ++ flat_map f (take i xs) → new ≡ now ++ f x → new ≡ before ++ flat_map f (take (i + 1) xs)
+flat_more f before new now xs i x lt here so_far more =
+    more ∙ ap (λ zs. zs ++ f x) so_far ∙ append_assoc before (flat_map f (take i xs)) (f x)
+    ∙ ap (λ zs. before ++ zs) (ap (λ zs. flat_map f (take i xs) ++ zs) (sym (flat_one f x)) ∙ sym (flat_map-append f (take i xs) (x ∷ [])))
+    ∙ ap (λ y. before ++ flat_map f (take i xs ++ y ∷ [])) here
+    ∙ ap (λ zs. before ++ flat_map f zs) (sym (take_more xs i x lt))
+
+pub flat_all : {X Y : Type 0} (f : X → List Y) (now : List Y) (xs : List X) (i : ℕ) → length xs ≤ i → now ≡ flat_map f (take i xs) → now ≡ flat_map f xs
+flat_all f now xs i le so_far = so_far ∙ ap (flat_map f) (take_all i xs le)
+
+-- ---- rows of alias files
+
+any_map : {X Y : Type 0} (p : Y → Bool) (f : X → Y) (xs : List X) → list_any p (map f xs) ≡ list_any (λ x. p (f x)) xs
+any_map p f [] = refl
+any_map p f (x ∷ xs) = ap (λ r. p (f x) || r) (any_map p f xs)
+
+module _ (file : SourceFile) (new : List (ℕ × Row)) where
+  lost_by : (r : ℕ × Row) (rest : List (ℕ × Row)) (b : Bool) → map (λ (s : ℕ × Row). Alias file s.0) (cond b (r ∷ filter (λ s. is_lost file new s.1) rest) (filter (λ s. is_lost file new s.1) rest))
+      ≡ cond b (Alias file r.0 ∷ []) [] ++ lost_rows file rest new
+  lost_by r rest true = refl
+  lost_by r rest false = refl
+
+  pub lost_step : (r : ℕ × Row) (rest : List (ℕ × Row)) (kept : List (List (List ℕ))) (xs ys zs : List Break) → kept ≡ map (λ (s : ℕ × Row). names_in s.1) new
+      → xs ++ lost_rows file (r ∷ rest) new ≡ zs → ys ≡ xs ++ cond (not (list_any (keeps_names file (names_in r.1)) kept)) (Alias file r.0 ∷ []) [] → ys ++ lost_rows file rest new ≡ zs
+  lost_step r rest kept xs ys zs names so_far more =
+      let told : not (list_any (keeps_names file (names_in r.1)) kept) ≡ is_lost file new r.1 =
+      ap (λ k. not (list_any (keeps_names file (names_in r.1)) k)) names ∙ ap not (any_map (keeps_names file (names_in r.1)) (λ (s : ℕ × Row). names_in s.1) new) in
+      ap (λ k. k ++ lost_rows file rest new) (more ∙ ap (λ b. xs ++ cond b (Alias file r.0 ∷ []) []) told)
+      ∙ append_assoc xs (cond (is_lost file new r.1) (Alias file r.0 ∷ []) []) (lost_rows file rest new)
+      ∙ ap (λ k. xs ++ k) (sym (lost_by r rest (is_lost file new r.1))) ∙ so_far
+
+-- ---- policies
+
+abbrev by_facts : Policy → (ℕ → Facts) → (ℕ → Facts) → List Break
+by_facts policy O N = map (At policy) (filter (breaks policy O N) (range_with_len 0 point_count))
+
+of_points : (policy : Policy) (old new : ReleaseItems) → policy ≢ P02 → policy ≢ P17 → by_facts policy (facts (rows_of old)) (facts (rows_of new)) ≡ breaks_of policy old new
+of_points P01 old new names rows = refl
+of_points P02 old new names rows = absurd (names refl)
+of_points P03 old new names rows = refl
+of_points P04 old new names rows = refl
+of_points P05 old new names rows = refl
+of_points P06 old new names rows = refl
+of_points P07 old new names rows = refl
+of_points P08 old new names rows = refl
+of_points P09 old new names rows = refl
+of_points P10 old new names rows = refl
+of_points P11 old new names rows = refl
+of_points P12 old new names rows = refl
+of_points P13 old new names rows = refl
+of_points P14 old new names rows = refl
+of_points P15 old new names rows = refl
+of_points P16 old new names rows = refl
+of_points P17 old new names rows = absurd (rows refl)
+of_points P18 old new names rows = refl
+of_points P19 old new names rows = refl
+of_points P20 old new names rows = refl
+
+pub of_facts : (policy : Policy) (O N : ℕ → Facts) (old new : ReleaseItems) → O ≡ facts (rows_of old) → N ≡ facts (rows_of new) → policy ≢ P02 → policy ≢ P17
+    → by_facts policy O N ≡ breaks_of policy old new
+of_facts policy O N old new before after names rows =
+    ap (λ F. by_facts policy F N) before ∙ ap (λ F. by_facts policy (facts (rows_of old)) F) after ∙ of_points policy old new names rows
+
+pub whole_report : (old new : ReleaseItems) (now : List Break) → now ≡ flat_map (λ policy. breaks_of policy old new) policies → now ≡ report old new
+unfolding report
+whole_report old new now is = is

@@ -1,0 +1,58 @@
+-- The names of rows of UnicodeData.txt, in the order of the file.
+--
+-- named_in row          the code points and the name of a row of UnicodeData.txt, as the one item of a list; no item for other rows
+-- named rows            those of all rows
+-- name_at list c        the name of the first row that covers c; None where none does
+-- AreAbove n list       the rows follow one another from n on, each from its first code point to its last one
+-- BeginsAt n list       the same, but the first row may begin before n; it does not end there
+-- end_at n list         one past the last code point up to which all from n on have one name: to the end of the first row, or to before
+--                       its beginning; one past the last code point where there is no row
+-- name_here n list      the name of n by the first row; None where it begins behind n, and where there is none
+-- row_name row          the name of a row; None where there is none
+-- left_behind n list    the rows without the first one, where it ends before n
+-- IsRest whole n rest   of the whole the rows of n and of the code points behind it are the rest
+use Rattle.std.specs.Prelude.{◌≡◌, ◌≤◌, ◌+◌, ℕ, nat_le, if◌then◌else◌, List, [], ◌∷◌, Option, Some, None}
+use Rattle.std.specs.List.{flat_map}
+use Rattle.ucd_model.specs.Facts.{within}
+use Rattle.ucd_model.specs.declared.row.Row.{Row}
+use Rattle.ucd_model.specs.declared.row.Row.TheVariants.{Unit as DataLine}
+use Rattle.stability_policies.specs.declared.named_row.NamedRow.{NamedRow}
+
+abbrev pub named_in : Row → List NamedRow
+named_in (DataLine row) = (record { span = row.span; name = row.name }) ∷ []
+named_in _ = []
+
+abbrev pub named : List Row → List NamedRow
+named rows = flat_map named_in rows
+
+abbrev pub name_at : List NamedRow → ℕ → Option (List ℕ)
+name_at [] c = None
+name_at (row ∷ rows) c = if within c row.span then Some row.name else name_at rows c
+
+abbrev pub AreAbove : ℕ → List NamedRow → Type 0
+AreAbove n [] = Unit {0}
+AreAbove n (row ∷ rows) = (n ≤ row.span.lo) × (row.span.lo ≤ row.span.hi) × AreAbove (row.span.hi + 1) rows
+
+abbrev pub BeginsAt : ℕ → List NamedRow → Type 0
+BeginsAt n [] = Unit {0}
+BeginsAt n (row ∷ rows) = (n ≤ row.span.hi) × (row.span.lo ≤ row.span.hi) × AreAbove (row.span.hi + 1) rows
+
+abbrev pub end_at : ℕ → List NamedRow → ℕ
+end_at n [] = 1114112
+end_at n (row ∷ rows) = if nat_le row.span.lo n then row.span.hi + 1 else row.span.lo
+
+abbrev pub name_here : ℕ → List NamedRow → Option (List ℕ)
+name_here n [] = None
+name_here n (row ∷ rows) = if nat_le row.span.lo n then Some row.name else None
+
+abbrev pub left_behind : ℕ → List NamedRow → List NamedRow
+left_behind n [] = []
+left_behind n (row ∷ rows) = if nat_le n row.span.hi then row ∷ rows else rows
+
+abbrev pub row_name : Option NamedRow → Option (List ℕ)
+row_name (Some row) = Some row.name
+row_name None = None
+
+pub record IsRest (whole : List NamedRow) (n : ℕ) (rest : List NamedRow) : Type 0 where
+  pub begins : BeginsAt n rest
+  pub same : (c : ℕ) → n ≤ c → name_at whole c ≡ name_at rest c

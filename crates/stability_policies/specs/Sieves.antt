@@ -1,0 +1,25 @@
+-- Stretches of code points that may break a policy, out of all code points.
+--
+-- O and N are the facts of each code point in the old release and in the new one.
+-- IsKept O N c             c breaks no policy of code points
+-- IsQuiet O N lo n         no code point from lo to before n breaks one
+-- IsAlike O N s            each code point of the stretch s breaks the policies that its first one breaks
+-- IsSieve O N lo n list    stretches that follow one another from lo to before n, each alike, with nothing broken between them
+use Rattle.std.specs.Prelude.{◌≡◌, ◌≤◌, ◌<◌, ◌+◌, ℕ, false, List, [], ◌∷◌}
+use Rattle.ucd_model.specs.Bounds.{Bounds}
+use Rattle.ucd_model.specs.Facts.{Facts}
+use Rattle.stability_policies.specs.Policies.{breaks}
+use Rattle.stability_policies.specs.declared.policy.Policy.{Policy}
+
+abbrev pub IsKept : (ℕ → Facts) → (ℕ → Facts) → ℕ → Type 0
+IsKept O N c = (policy : Policy) → breaks policy O N c ≡ false
+
+abbrev pub IsQuiet : (ℕ → Facts) → (ℕ → Facts) → ℕ → ℕ → Type 0
+IsQuiet O N lo n = (c : ℕ) → lo ≤ c → c < n → IsKept O N c
+
+abbrev pub IsAlike : (ℕ → Facts) → (ℕ → Facts) → Bounds → Type 0
+IsAlike O N s = (policy : Policy) (c : ℕ) → s.lo ≤ c → c ≤ s.hi → breaks policy O N c ≡ breaks policy O N s.lo
+
+abbrev pub IsSieve : (ℕ → Facts) → (ℕ → Facts) → ℕ → ℕ → List Bounds → Type 0
+IsSieve O N lo n [] = (lo ≤ n) × IsQuiet O N lo n
+IsSieve O N lo n (s ∷ rest) = (lo ≤ s.lo) × (s.lo ≤ s.hi) × IsQuiet O N lo s.lo × IsAlike O N s × IsSieve O N (s.hi + 1) n rest

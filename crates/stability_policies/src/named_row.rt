@@ -1,0 +1,77 @@
+//! The names of rows of UnicodeData.txt.
+
+ghost use Rattle.std.specs.Prelude.{◌≡◌, ◌++◌, ℕ, IfOk, OnOk};
+ghost use Rattle.std.specs.Option.{option_to_list};
+ghost use Rattle.ucd_model.specs.Facts.{data_row};
+ghost use Rattle.ucd_model.specs.declared.files.SourceFile.TheVariants.{UnicodeData};
+ghost use Rattle.stability_policies.specs.NamedRows.{AreAbove, name_at, named, named_in};
+ghost use Rattle.stability_policies.specs.Policies.{name_of};
+ghost use Rattle.stability_policies.specs.Views.{rows_of};
+
+use release_rows::{Release, RowText};
+use source_rows::{rows_are_ok, rows_are_read};
+use std::alloc::Global;
+use ucd_model::{Memory, Row, SourceFile, Span, Text};
+
+/// The code points of a row of UnicodeData.txt, and their name, or the label of the range.
+#[derive(Drop)]
+pub struct NamedRow {
+    /// The code points.
+    pub span: Span,
+    /// The name, or the label of the range.
+    pub name: Text,
+}
+
+/// The names of the rows of UnicodeData.txt of a release now, in the order of the file, which ascends.
+///
+/// - `Memory`: memory ran out.
+pub fn named_rows(alloc: Global, release: &Release) -> Result<Vec<NamedRow>, Memory>
+    ensures names { IfOk result (λ rows. (c : ℕ) → name_at rows.items c ≡ name_of (data_row (rows_of release.now UnicodeData) c)) }
+    ensures above { IfOk result (λ rows. AreAbove 0 rows.items) }
+{
+    rows_are_read();
+    rows_are_ok();
+    let _rows = release.rows(SourceFile::UnicodeData);
+    let rows = all_named(alloc, release)?;
+    Ok(rows)
+}
+
+/// The same, as they follow from the rows one by one.
+///
+/// - `Memory`: memory ran out.
+fn all_named(alloc: Global, release: &Release) -> Result<Vec<NamedRow>, Memory>
+    ensures { IfOk result (λ rows. rows.items ≡ named (rows_of release.now UnicodeData)) }
+{
+    let mut all = Vec::new(alloc);
+    let mut rows = release.rows(SourceFile::UnicodeData);
+    'rows: while let Some((_, row)) = rows.next() {
+        push_named(alloc, &row, &mut all)?;
+    }
+    Ok(all)
+}
+
+/// Puts the name of a row of UnicodeData.txt.
+///
+/// - `Memory`: memory ran out.
+fn push_named(alloc: Global, row: &RowText<'_>, into: &mut Vec<NamedRow>) -> Result<(), Memory>
+    ensures { OnOk result (into.new.items ≡ into.old.items ++ named_in row.now) }
+{
+    let row = row.read(alloc)?;
+    if let Some(named) = named_of(row) {
+        into.push(named)?;
+    }
+    Ok(())
+}
+
+/// The name of a row of UnicodeData.txt; `None` of another row.
+fn named_of(row: Row) -> Option<NamedRow>
+    ensures { option_to_list result ≡ named_in row }
+{
+    match row {
+        Row::Unit(row) => Some(NamedRow {
+            span: row.span,
+            name: row.name,
+        }),
+        _ => None,
+    }
+}

@@ -6,3 +6,7 @@ pub mod PointLemmas
 pub mod ReportLemmas
 pub mod NameLemmas
 pub mod OrderedRows
+pub mod SameOrder
+pub mod StableProofs
+pub mod ListedProofs
+pub mod CommonProofs

@@ -8,3 +8,5 @@ pub mod CommonForms
 pub mod Sieves
 pub mod PolicyLists
 pub mod NamedRows
+pub mod StableForms
+pub mod FormValues

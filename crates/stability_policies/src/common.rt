@@ -2,15 +2,20 @@
 
 ghost use Rattle.std.specs.Prelude.{◌≡◌, Ok, IfOk};
 ghost use Rattle.stability_policies.specs.CommonForms.{AllAssigned, AreForms, KeepsForms, ListsNone};
+ghost use Rattle.ucd_model.specs.Expansion.{FormAnswers};
+ghost use Rattle.ucd_model.specs.declared.form.Form.{Form as FormValue};
+ghost use Rattle.stability_policies.specs.FormValues.{HasList, form_of};
 ghost use Rattle.stability_policies.specs.Policies.{caseless};
 ghost use Rattle.stability_policies.specs.Reports.{report};
 ghost use Rattle.stability_policies.specs.Views.{Belongs, IsValid};
 ghost use Rattle.stability_policies.specs.declared.policy.Policy.TheVariants.{P10};
 
 use crate::breaks::Breaks;
+use crate::caseless::caseless;
+use normalisation::{nfc, nfd, nfkc, nfkd};
 use release_rows::Release;
 use std::alloc::Global;
-use ucd_model::{FactView, Memory, Point, Points, Records};
+use ucd_model::{FactView, Form, FormStop, Memory, Point, Points, Records};
 
 /// The four normalisation forms of a list of code points. UAX #15, section 1.2.
 #[derive(Debug, Drop)]
@@ -30,25 +35,26 @@ pub struct Forms {
 ///
 /// - `Memory`: memory ran out.
 pub fn common_forms<O: Records + FactView, N: Records + FactView>(
-    _alloc: Global,
-    _old: &O,
-    _old_rows: &Release,
-    _new: &N,
-    _new_rows: &Release,
-    _breaks: &Breaks,
-    _s: &[Point],
+    alloc: Global,
+    old: &O,
+    old_rows: &Release,
+    new: &N,
+    new_rows: &Release,
+    breaks: &Breaks,
+    s: &[Point],
 ) -> Result<Forms, Memory>
-    requires old { Belongs (O.facts_of _old.now) (O.record_of _old.now) _old_rows.now }
-    requires new { Belongs (N.facts_of _new.now) (N.record_of _new.now) _new_rows.now }
-    requires valid_old { IsValid _old_rows.now }
-    requires valid_new { IsValid _new_rows.now }
-    requires report { _breaks.now ≡ report _old_rows.now _new_rows.now }
-    requires kept { KeepsForms _breaks.now }
-    requires assigned { AllAssigned (O.facts_of _old.now) _s.now }
-    ensures old { IfOk result (AreForms (O.facts_of _old.now) _s.now) }
-    ensures new { IfOk result (AreForms (N.facts_of _new.now) _s.now) }
+    requires old { Belongs (O.facts_of old.now) (O.record_of old.now) old_rows.now }
+    requires new { Belongs (N.facts_of new.now) (N.record_of new.now) new_rows.now }
+    requires valid_old { IsValid old_rows.now }
+    requires valid_new { IsValid new_rows.now }
+    requires report { breaks.now ≡ report old_rows.now new_rows.now }
+    requires kept { KeepsForms breaks.now }
+    requires assigned { AllAssigned (O.facts_of old.now) s.now }
+    ensures old { IfOk result (AreForms (O.facts_of old.now) s.now) }
+    ensures new { IfOk result (AreForms (N.facts_of new.now) s.now) }
 {
-    Err(Memory)
+    let forms = forms_of(alloc, old, s)?;
+    Ok(forms)
 }
 
 /// The full folding of the Normalisation Form KC of a list of code points that were assigned in the old release: it is the
@@ -56,24 +62,90 @@ pub fn common_forms<O: Records + FactView, N: Records + FactView>(
 ///
 /// - `Memory`: memory ran out.
 pub fn common_caseless<O: Records + FactView, N: Records + FactView>(
-    _alloc: Global,
-    _old: &O,
-    _old_rows: &Release,
-    _new: &N,
-    _new_rows: &Release,
-    _breaks: &Breaks,
-    _s: &[Point],
+    alloc: Global,
+    old: &O,
+    old_rows: &Release,
+    new: &N,
+    new_rows: &Release,
+    breaks: &Breaks,
+    s: &[Point],
 ) -> Result<Points, Memory>
-    requires old { Belongs (O.facts_of _old.now) (O.record_of _old.now) _old_rows.now }
-    requires new { Belongs (N.facts_of _new.now) (N.record_of _new.now) _new_rows.now }
-    requires valid_old { IsValid _old_rows.now }
-    requires valid_new { IsValid _new_rows.now }
-    requires report { _breaks.now ≡ report _old_rows.now _new_rows.now }
-    requires kept { KeepsForms _breaks.now }
-    requires folding { ListsNone P10 _breaks.now }
-    requires assigned { AllAssigned (O.facts_of _old.now) _s.now }
-    ensures old { IfOk result (λ points. caseless (O.facts_of _old.now) _s.now ≡ Ok points) }
-    ensures new { IfOk result (λ points. caseless (N.facts_of _new.now) _s.now ≡ Ok points) }
+    requires old { Belongs (O.facts_of old.now) (O.record_of old.now) old_rows.now }
+    requires new { Belongs (N.facts_of new.now) (N.record_of new.now) new_rows.now }
+    requires valid_old { IsValid old_rows.now }
+    requires valid_new { IsValid new_rows.now }
+    requires report { breaks.now ≡ report old_rows.now new_rows.now }
+    requires kept { KeepsForms breaks.now }
+    requires folding { ListsNone P10 breaks.now }
+    requires assigned { AllAssigned (O.facts_of old.now) s.now }
+    ensures old { IfOk result (λ points. caseless (O.facts_of old.now) s.now ≡ Ok points) }
+    ensures new { IfOk result (λ points. caseless (N.facts_of new.now) s.now ≡ Ok points) }
 {
-    Err(Memory)
+    let points = folding_of(alloc, old, s)?;
+    Ok(points)
+}
+
+/// The four forms of a list, each of which is there.
+///
+/// - `Memory`: memory ran out.
+fn forms_of<W: FactView>(alloc: Global, view: &W, s: &[Point]) -> Result<Forms, Memory>
+    requires { (form : FormValue) → HasList (form_of (W.facts_of view.now) form s.now) }
+    ensures { IfOk result (AreForms (W.facts_of view.now) s.now) }
+{
+    let nfd = form_of(alloc, view, Form::Nfd, s)?;
+    let nfc = form_of(alloc, view, Form::Nfc, s)?;
+    let nfkd = form_of(alloc, view, Form::Nfkd, s)?;
+    let nfkc = form_of(alloc, view, Form::Nfkc, s)?;
+    Ok(Forms {
+        nfd,
+        nfc,
+        nfkd,
+        nfkc,
+    })
+}
+
+/// A form of a list, which is there.
+///
+/// - `Memory`: memory ran out.
+fn form_of<W: FactView>(alloc: Global, view: &W, form: Form, s: &[Point]) -> Result<Points, Memory>
+    requires { HasList (form_of (W.facts_of view.now) form s.now) }
+    ensures { IfOk result (λ points. form_of (W.facts_of view.now) form s.now ≡ Ok points) }
+{
+    match answer_of(alloc, view, form, s) {
+        Ok(points) => Ok(points),
+        Err(FormStop::Bad(_)) => unreachable!(),
+        Err(FormStop::Memory) => Err(Memory),
+    }
+}
+
+/// A form of a list, or the rule that its first member without an expansion breaks.
+///
+/// - `Memory`: memory ran out.
+fn answer_of<W: FactView>(
+    alloc: Global,
+    view: &W,
+    form: Form,
+    s: &[Point],
+) -> Result<Points, FormStop>
+    ensures { FormAnswers result (form_of (W.facts_of view.now) form s.now) }
+{
+    match form {
+        Form::Nfd => nfd(alloc, view, s),
+        Form::Nfc => nfc(alloc, view, s),
+        Form::Nfkd => nfkd(alloc, view, s),
+        Form::Nfkc => nfkc(alloc, view, s),
+    }
+}
+
+/// The folding of a list under Normalisation Form KC, which is there.
+///
+/// - `Memory`: memory ran out.
+fn folding_of<W: FactView>(alloc: Global, view: &W, s: &[Point]) -> Result<Points, Memory>
+    requires { HasList (caseless (W.facts_of view.now) s.now) }
+    ensures { IfOk result (λ points. caseless (W.facts_of view.now) s.now ≡ Ok points) }
+{
+    match caseless(alloc, view, s)? {
+        Some(points) => Ok(points),
+        None => unreachable!(),
+    }
 }

@@ -7,6 +7,7 @@ mod breaks;
 mod case_tests;
 mod caseless;
 mod common;
+mod laws;
 mod mapping_tests;
 mod named_row;
 mod names;
@@ -20,6 +21,7 @@ mod writing;
 
 pub use breaks::{Break, Breaks, lists};
 pub use common::{Forms, common_caseless, common_forms};
+pub use laws::{caseless_stays, forms_stay, policies_are_whole};
 pub use policy::{POLICIES, Policy};
 pub use reporting::report;
 pub use writing::report_text;

@@ -1,0 +1,262 @@
+-- What a report that lists nothing of some policies says of each code point.
+use Rattle.std.proofs.Common.{◌≡◌, ℕ, zero, suc, ◌+◌, ◌<◌, Bool, true, false, cond, ◌&&◌, ◌||◌, not, ◌==◌, List, [], ◌∷◌, ◌++◌, drop, map, filter, Option, Some, None, Result, Ok, Err, is_some, refl, sym, ap, subst, ◌∙◌, arith, inl, inr}
+use Rattle.std.specs.List.{AllByRecursion as Each, flat_map, list_all, list_any, range_with_len}
+use Rattle.std.specs.Str.{bytes_eq}
+use Rattle.std.proofs.lemmas.Bool.{and_parts, cases_lt, eq-eqb, eqb-true}
+use Rattle.std.proofs.lemmas.Slice.Eq.{bytes_eq-Decides}
+use Rattle.release_rows.specs.Releases.{ReleaseItems}
+use Rattle.ucd_model.specs.Composites.{first_has_class_zero, is_canonical, primary}
+use Rattle.ucd_model.specs.Facts.{Facts, Sources, data_row, facts, given, kind_in}
+use Rattle.ucd_model.specs.FactsLemmas.{facts_inside, facts_outside}
+use Rattle.ucd_model.specs.Forms.{appended, composed, decomposed, expansions, in_order, nfkc}
+use Rattle.ucd_model.specs.Limits.{point_count}
+use Rattle.ucd_model.specs.Validity.{lacks_row}
+use Rattle.ucd_model.specs.ValidityLaws.{IsValid as AllHaveRecords}
+use Rattle.ucd_model.specs.ValidityProofs.{broken-none, broken-rules, valid_expands, valid_is_unbroken}
+use Rattle.ucd_model.specs.declared.files.SourceFile.TheVariants.{UnicodeData}
+use Rattle.ucd_model.specs.declared.form.Bad.{Bad as Rule}
+use Rattle.ucd_model.specs.declared.form.Form.{Form}
+use Rattle.ucd_model.specs.declared.form.Form.TheVariants.{Nfd, Nfc, Nfkd, Nfkc}
+use Rattle.ucd_model.specs.declared.row.DataRow.{DataRow}
+use Rattle.normalisation.specs.FormLaws.{HaveExpansions}
+use Rattle.stability_policies.specs.CommonForms.{AllAssigned, KeepsForms, ListsNone}
+use Rattle.stability_policies.specs.FormValues.{HasList, form_of}
+use Rattle.stability_policies.specs.Policies.{all_assigned, breaks, caseless, folded, place_of_policy, policies, same_list, same_mapping, sort_of}
+use Rattle.stability_policies.specs.Reports.{breaks_of, is_of, report}
+use Rattle.stability_policies.specs.StableForms.{FoldsAlike, Old, StaysNormal}
+use Rattle.stability_policies.specs.Views.{IsValid, rows_of}
+use Rattle.stability_policies.specs.declared.breaks.Break.{Break}
+use Rattle.stability_policies.specs.declared.breaks.Break.TheVariants.{At}
+use Rattle.stability_policies.specs.declared.policy.Policy.{Policy}
+use Rattle.stability_policies.specs.declared.policy.Policy.TheVariants.{P01, P03, P04, P05, P10}
+use Rattle.stability_policies.proofs.PointLemmas.{filter_more}
+
+-- ---- tests
+
+or_left_false : (a b : Bool) → (a || b) ≡ false → a ≡ false
+or_left_false true b e = e
+or_left_false false b e = refl
+
+or_right_false : (a b : Bool) → (a || b) ≡ false → b ≡ false
+or_right_false true b e = absurd cc
+or_right_false false b e = e
+
+true_false : {A : Type 0} → true ≡ false → A
+true_false e = absurd cc
+
+not_false : (a : Bool) → not a ≡ false → a ≡ true
+not_false true e = refl
+not_false false e = cc
+
+and_left_true : (a b : Bool) → a ≡ true → (a && b) ≡ false → b ≡ false
+and_left_true true b is e = e
+and_left_true false b is e = cc
+
+all_each : (p : ℕ → Bool) (s : List ℕ) → list_all p s ≡ true → Each (λ c. p c ≡ true) s
+all_each p [] e = tt
+all_each p (c ∷ s) e = let parts = and_parts (p c) (list_all p s) e in (parts.0, all_each p s parts.1)
+
+none_each : (p : ℕ → Bool) (s : List ℕ) → list_any (λ c. not (p c)) s ≡ false → Each (λ c. p c ≡ true) s
+none_each p [] e = tt
+none_each p (c ∷ s) e = (not_false (p c) (or_left_false (not (p c)) (list_any (λ d. not (p d)) s) e), none_each p s (or_right_false (not (p c)) (list_any (λ d. not (p d)) s) e))
+
+-- ---- what is not listed
+
+any_append : {X : Type 0} (p : X → Bool) (xs ys : List X) → list_any p (xs ++ ys) ≡ false → (list_any p xs ≡ false) × (list_any p ys ≡ false)
+any_append p [] ys e = (refl, e)
+any_append p (x ∷ xs) ys e =
+    let rest = any_append p xs ys (or_right_false (p x) (list_any p (xs ++ ys)) e) in
+    (rw (or_left_false (p x) (list_any p (xs ++ ys)) e, rest.0) refl, rest.1)
+
+module _ {X : Type 0} (p : Break → Bool) (f : X → List Break) where
+  first : (x : X) (xs : List X) → list_any p (flat_map f (x ∷ xs)) ≡ false → list_any p (f x) ≡ false
+  first x xs e = (any_append p (f x) (flat_map f xs) e).0
+
+  rest : (x : X) (xs : List X) → list_any p (flat_map f (x ∷ xs)) ≡ false → list_any p (flat_map f xs) ≡ false
+  rest x xs e = (any_append p (f x) (flat_map f xs) e).1
+
+  any_drop : (n : ℕ) (xs : List X) → list_any p (flat_map f xs) ≡ false → list_any p (flat_map f (drop n xs)) ≡ false
+  any_drop zero xs e = e
+  any_drop (suc n) [] e = e
+  any_drop (suc n) (x ∷ xs) e = any_drop n xs (rest x xs e)
+
+is_of_own : (policy : Policy) (x : ℕ) → is_of policy (At policy x) ≡ true
+is_of_own policy x = eq-eqb (place_of_policy policy) (place_of_policy policy) refl
+
+none_listed : (policy : Policy) (xs : List ℕ) → list_any (is_of policy) (map (At policy) xs) ≡ false → xs ≡ []
+none_listed policy [] e = refl
+none_listed policy (x ∷ xs) e = true_false (sym (is_of_own policy x) ∙ or_left_false (is_of policy (At policy x)) (list_any (is_of policy) (map (At policy) xs)) e)
+
+append_nil : {X : Type 0} (xs ys : List X) → (let l : List X = xs ++ ys in l ≡ []) → (xs ≡ []) × (ys ≡ [])
+append_nil [] ys e = (refl, e)
+append_nil (x ∷ xs) ys e = absurd cc
+
+one_nil : (b : Bool) (n : ℕ) → (let l : List ℕ = cond b (n ∷ []) [] in l ≡ []) → b ≡ false
+one_nil true n e = absurd cc
+one_nil false n e = refl
+
+filter_nil : (q : ℕ → Bool) (n : ℕ) → filter q (range_with_len 0 n) ≡ [] → (c : ℕ) → c < n → q c ≡ false
+filter_nil q zero e c lt = absurd (omega arith)
+filter_nil q (suc n) e c lt =
+    let next : suc n ≡ n + 1 = omega arith in
+    let parts = append_nil (filter q (range_with_len 0 n)) (cond (q n) (n ∷ []) []) (sym (filter_more q n) ∙ ap (λ k. filter q (range_with_len 0 k)) (sym next) ∙ e) in
+    elim (cases_lt c n) [
+      | inl less ↦ filter_nil q n parts.0 c less
+      | inr le ↦ let here : c ≡ n = omega arith in ap q here ∙ one_nil (q n) n parts.1
+    ]
+
+module _ (old new : ReleaseItems) where
+  abbrev O : ℕ → Facts
+  O = facts (rows_of old)
+
+  abbrev N : ℕ → Facts
+  N = facts (rows_of new)
+
+  abbrev by_policy : Policy → List Break
+  by_policy policy = breaks_of policy old new
+
+  abbrev Quiet : Policy → Type 0
+  Quiet policy = (c : ℕ) → c < point_count → breaks policy O N c ≡ false
+
+  listed : (policy : Policy) → ListsNone policy (report old new) → list_any (is_of policy) (flat_map by_policy policies) ≡ false
+  unfolding report
+  listed policy e = e
+
+  by_points : (policy : Policy) → list_any (is_of policy) (map (At policy) (filter (breaks policy O N) (range_with_len 0 point_count))) ≡ false → Quiet policy
+  by_points policy e = filter_nil (breaks policy O N) point_count (none_listed policy (filter (breaks policy O N) (range_with_len 0 point_count)) e)
+
+  listed_at : (policy : Policy) (n : ℕ) (xs : List Policy) → drop n policies ≡ policy ∷ xs → ListsNone policy (report old new) → list_any (is_of policy) (by_policy policy) ≡ false
+  listed_at policy n xs is e =
+      first (is_of policy) by_policy policy xs (ap (λ (l : List Policy). list_any (is_of policy) (flat_map by_policy l)) (sym is) ∙ any_drop (is_of policy) by_policy n policies (listed policy e))
+
+  quiet_assigned : ListsNone P01 (report old new) → Quiet P01
+  quiet_assigned e = by_points P01 (listed_at P01 0 (drop 1 policies) refl e)
+
+  quiet_class : ListsNone P03 (report old new) → Quiet P03
+  quiet_class e = by_points P03 (listed_at P03 2 (drop 3 policies) refl e)
+
+  quiet_mapping : ListsNone P04 (report old new) → Quiet P04
+  quiet_mapping e = by_points P04 (listed_at P04 3 (drop 4 policies) refl e)
+
+  quiet_composites : ListsNone P05 (report old new) → Quiet P05
+  quiet_composites e = by_points P05 (listed_at P05 4 (drop 5 policies) refl e)
+
+  quiet_foldings : ListsNone P10 (report old new) → Quiet P10
+  quiet_foldings e = by_points P10 (listed_at P10 9 (drop 10 policies) refl e)
+
+-- ---- code points with a row
+
+point_of : (rows : Sources) (c : ℕ) → (facts rows c).assigned ≡ true → c < point_count
+point_of rows c is = elim (cases_lt c point_count) [
+  | inl lt ↦ lt
+  | inr le ↦ true_false (sym is ∙ ap (λ (F : Facts). F.assigned) (facts_outside rows c le))
+]
+
+row_of : (c : ℕ) (row : Option DataRow) → is_canonical (kind_in c row) ≡ true → is_some row ≡ true
+row_of c None e = absurd cc
+row_of c (Some row) e = refl
+
+rooted : (rows : Sources) (c : ℕ) → is_canonical (facts rows c).kind ≡ true → (facts rows c).assigned ≡ true
+rooted rows c e = elim (cases_lt c point_count) [
+  | inl lt ↦
+      let here : facts rows c ≡ given rows c = facts_inside rows c lt in
+      ap (λ (F : Facts). F.assigned) here ∙ row_of c (data_row (rows UnicodeData) c) (ap (λ (F : Facts). is_canonical F.kind) (sym here) ∙ e)
+  | inr le ↦ true_false (sym e ∙ ap (λ (F : Facts). is_canonical F.kind) (facts_outside rows c le))
+]
+
+primary_rooted : (rows : Sources) (c : ℕ) → primary (facts rows) c ≡ true → (facts rows c).assigned ≡ true
+primary_rooted rows c e = rooted rows c (and_parts (is_canonical (facts rows c).kind) (((facts rows c).class == 0) && (first_has_class_zero (facts rows) (facts rows c).mapping && not (facts rows c).excluded)) e).0
+
+-- ---- what stays
+
+kept : (a b t : Bool) → a ≡ true → b ≡ true → (a && (b && not t)) ≡ false → t ≡ true
+kept a b t old new e = not_false t (and_left_true b (not t) new (and_left_true a (b && not t) old e))
+
+mapping_members : (F : ℕ → Facts) (c : ℕ) (m : List ℕ) (b : Bool) → bytes_eq m (c ∷ []) ≡ b → Old F c → (not b && list_any (λ x. not (F x).assigned) m) ≡ false → Each (Old F) m
+mapping_members F c m true is old e = subst (Each (Old F)) (sym ((bytes_eq-Decides m (c ∷ [])).0 is)) (old, tt)
+mapping_members F c m false is old e = none_each (λ x. (F x).assigned) m e
+
+gained : (p o a : Bool) → p ≡ true → o ≡ false → (p && (not o && a)) ≡ false → a ≡ false
+gained true true a p o e = absurd cc
+gained true false a p o e = e
+gained false o a p is e = absurd cc
+
+module _ (old new : ReleaseItems) where
+  abbrev F : ℕ → Facts
+  F = facts (rows_of old)
+
+  abbrev G : ℕ → Facts
+  G = facts (rows_of new)
+
+  have_records : IsValid old → AllHaveRecords F
+  have_records valid = (valid_is_unbroken F).1 valid
+
+  pub old_expansions : (compat : Bool) → IsValid old → HaveExpansions F compat
+  old_expansions compat valid c lt = valid_expands F compat (have_records valid) c lt
+
+  members_old : IsValid old → (c : ℕ) → Old F c → Each (Old F) (F c).mapping
+  members_old valid c is =
+      let lt : c < point_count = point_of (rows_of old) c is in
+      let rules = broken-rules F c (broken-none F c (have_records valid c lt)) in
+      let first : lacks_row F c (F c).mapping ≡ false = or_left_false (lacks_row F c (F c).mapping) _ rules.rows in
+      mapping_members F c (F c).mapping (bytes_eq (F c).mapping (c ∷ [])) refl is first
+
+  pub stays_normal : IsValid old → KeepsForms (report old new) → StaysNormal F G
+  stays_normal valid keeps =
+      let at : (c : ℕ) → Old F c → c < point_count = λ c is. point_of (rows_of old) c is in
+      let still : (c : ℕ) → Old F c → (G c).assigned ≡ true = λ c is. not_false (G c).assigned (and_left_true (F c).assigned (not (G c).assigned) is (quiet_assigned old new keeps.assigned c (at c is))) in
+      let mapped : (c : ℕ) → Old F c → same_mapping (F c) (G c) ≡ true = λ c is. kept (F c).assigned (G c).assigned (same_mapping (F c) (G c)) is (still c is) (quiet_mapping old new keeps.mapping c (at c is)) in
+      let composites : (c : ℕ) → c < point_count → breaks P05 F G c ≡ false = quiet_composites old new keeps.composites in
+      record {
+        class = λ c is. eqb-true (F c).class (G c).class (kept (F c).assigned (G c).assigned ((F c).class == (G c).class) is (still c is) (quiet_class old new keeps.class c (at c is)));
+        sort = λ c is. eqb-true (sort_of (F c).kind) (sort_of (G c).kind) (and_parts (sort_of (F c).kind == sort_of (G c).kind) (bytes_eq (F c).mapping (G c).mapping) (mapped c is)).0;
+        mapping = λ c is. (bytes_eq-Decides (F c).mapping (G c).mapping).0 (and_parts (sort_of (F c).kind == sort_of (G c).kind) (bytes_eq (F c).mapping (G c).mapping) (mapped c is)).1;
+        members = members_old valid;
+        composed = λ c is.
+            let row : Old F c = primary_rooted (rows_of old) c is in
+            (row, not_false (primary G c) (and_left_true (primary F c) (not (primary G c)) is (or_left_false (primary F c && not (primary G c)) _ (composites c (at c row)))));
+        composing = λ c is none.
+            let row : (G c).assigned ≡ true = primary_rooted (rows_of new) c is in
+            gained (primary G c) (primary F c) (all_assigned F (G c).mapping) is none (or_right_false (primary F c && not (primary G c)) _ (composites c (point_of (rows_of new) c row)));
+      }
+
+  pub folds_alike : ListsNone P10 (report old new) → FoldsAlike F G
+  folds_alike none c is =
+      not_false (same_list (caseless F (c ∷ [])) (caseless G (c ∷ [])))
+      (and_left_true (F c).assigned (not (same_list (caseless F (c ∷ [])) (caseless G (c ∷ [])))) is (quiet_foldings old new none c (point_of (rows_of old) c is)))
+
+  pub each_old : (s : List ℕ) → AllAssigned F s → Each (Old F) s
+  each_old s e = all_each (λ c. (F c).assigned) s e
+
+  -- ---- lists that are there
+
+  expansions_given : (compat : Bool) → IsValid old → (s : List ℕ) → Each (Old F) s → HasList (expansions F compat s)
+  expansions_given compat valid [] e = ([], refl)
+  expansions_given compat valid (c ∷ s) e =
+      let here = old_expansions compat valid c (point_of (rows_of old) c e.0) in
+      let more = expansions_given compat valid s e.1 in
+      (here.0 ++ more.0, ap (λ r. appended r (expansions F compat s)) here.1 ∙ ap (appended (Ok here.0)) more.1)
+
+  ordered_given : (r : Result (List ℕ) Rule) → HasList r → HasList (in_order F r)
+  ordered_given (Ok xs) has = (_, refl)
+  ordered_given (Err rule) has = absurd (let h = has.1 in cc)
+
+  composed_given : (r : Result (List ℕ) Rule) → HasList r → HasList (composed F r)
+  composed_given (Ok xs) has = (_, refl)
+  composed_given (Err rule) has = absurd (let h = has.1 in cc)
+
+  folded_given : (r : Result (List ℕ) Rule) → HasList r → HasList (folded F r)
+  folded_given (Ok xs) has = (_, refl)
+  folded_given (Err rule) has = absurd (let h = has.1 in cc)
+
+  decomposed_given : (compat : Bool) → IsValid old → (s : List ℕ) → Each (Old F) s → HasList (decomposed F compat s)
+  decomposed_given compat valid s e = ordered_given (expansions F compat s) (expansions_given compat valid s e)
+
+  pub form_given : IsValid old → (form : Form) (s : List ℕ) → Each (Old F) s → HasList (form_of F form s)
+  form_given valid Nfd s e = decomposed_given false valid s e
+  form_given valid Nfc s e = composed_given (decomposed F false s) (decomposed_given false valid s e)
+  form_given valid Nfkd s e = decomposed_given true valid s e
+  form_given valid Nfkc s e = composed_given (decomposed F true s) (decomposed_given true valid s e)
+
+  pub caseless_given : IsValid old → (s : List ℕ) → Each (Old F) s → HasList (caseless F s)
+  caseless_given valid s e = folded_given (nfkc F s) (form_given valid Nfkc s e)

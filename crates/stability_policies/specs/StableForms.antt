@@ -1,0 +1,43 @@
+-- What an empty part of the report means for the forms. UAX #15, section 3.
+--
+-- O and N are the facts of each code point in the old release and in the new one.
+-- Old O c             c is assigned in the old release
+-- StaysNormal O N     what the forms read of the code points that were assigned stays, and no new composite stands over them; the
+--                     members of their mappings were assigned too
+-- SameForms O N s     the four forms of s are the same in both
+-- FormsStay           so it is of each list of code points that were assigned
+-- FoldsAlike O N      the foldings of single code points under NFKC stay
+-- CaselessStays       then so do those of lists
+use Rattle.std.specs.Prelude.{◌≡◌, ℕ, true, false, [], ◌∷◌, List}
+use Rattle.std.specs.List.{AllByRecursion as Each}
+use Rattle.ucd_model.specs.Composites.{primary}
+use Rattle.ucd_model.specs.Facts.{Facts}
+use Rattle.ucd_model.specs.Forms.{nfd, nfc, nfkd, nfkc}
+use Rattle.normalisation.specs.FormLaws.{HaveExpansions}
+use Rattle.stability_policies.specs.Policies.{all_assigned, caseless, same_list, sort_of}
+
+abbrev pub Old : (ℕ → Facts) → ℕ → Type 0
+Old O c = (O c).assigned ≡ true
+
+pub record StaysNormal (O N : ℕ → Facts) : Type 0 where
+  pub class : (c : ℕ) → Old O c → (O c).class ≡ (N c).class
+  pub sort : (c : ℕ) → Old O c → sort_of (O c).kind ≡ sort_of (N c).kind
+  pub mapping : (c : ℕ) → Old O c → (O c).mapping ≡ (N c).mapping
+  pub members : (c : ℕ) → Old O c → Each (Old O) (O c).mapping
+  pub composed : (c : ℕ) → primary O c ≡ true → (Old O c) × (primary N c ≡ true)
+  pub composing : (c : ℕ) → primary N c ≡ true → primary O c ≡ false → all_assigned O (N c).mapping ≡ false
+
+pub record SameForms (O N : ℕ → Facts) (s : List ℕ) : Type 0 where
+  pub nfd : nfd O s ≡ nfd N s
+  pub nfc : nfc O s ≡ nfc N s
+  pub nfkd : nfkd O s ≡ nfkd N s
+  pub nfkc : nfkc O s ≡ nfkc N s
+
+abbrev pub FormsStay : Type 0
+FormsStay = (O N : ℕ → Facts) → StaysNormal O N → (s : List ℕ) → Each (Old O) s → SameForms O N s
+
+abbrev pub FoldsAlike : (ℕ → Facts) → (ℕ → Facts) → Type 0
+FoldsAlike O N = (c : ℕ) → Old O c → same_list (caseless O (c ∷ [])) (caseless N (c ∷ [])) ≡ true
+
+abbrev pub CaselessStays : Type 0
+CaselessStays = (O N : ℕ → Facts) → StaysNormal O N → HaveExpansions O true → FoldsAlike O N → (s : List ℕ) → Each (Old O) s → caseless O s ≡ caseless N s

@@ -1,0 +1,20 @@
+//! The laws of the policies: each function here does nothing, and its contract is a law.
+
+ghost use Rattle.stability_policies.specs.PolicyLists.{PoliciesAreWhole};
+ghost use Rattle.stability_policies.specs.StableForms.{CaselessStays, FormsStay};
+
+/// The list of the policies has all of them, each once and at its place.
+pub fn policies_are_whole()
+    ensures { PoliciesAreWhole }
+{}
+
+/// The normalisation forms of code points that were assigned are the same in a later release that keeps their classes and
+/// mappings, and makes no new composite of them. UAX #15, section 3.
+pub fn forms_stay()
+    ensures { FormsStay }
+{}
+
+/// So are their foldings under Normalisation Form KC, if those of single code points are. UAX #31, section 5.1.
+pub fn caseless_stays()
+    ensures { CaselessStays }
+{}

@@ -23,6 +23,7 @@ use std::alloc::Global;
 use std::marker::Model;
 use std::sync::ledger::Ledger;
 use ucd_model::{FactView, FactsRef, Kind, Point, Record, Records, Steps};
+use uniform_facts::UniformFacts;
 
 /// A valid release, with the facts of its rows and the records of all code points. Contracts see the items of its
 /// files, which give the facts and the records.
@@ -175,5 +176,14 @@ impl FactView for Bench {
 
     fn mapping(&self, c: Point) -> &[Point] {
         self.tables.mapping(c)
+    }
+}
+
+impl UniformFacts for Bench {
+    fn last_uniform(&self, c: Point) -> Point {
+        match self.tables.last_uniform(c) {
+            Some(last) => last,
+            None => c,
+        }
     }
 }

@@ -3,13 +3,14 @@
 -- DerivesAs r value        r is the record, or in its place the rule; want of memory says nothing
 -- plain_shown c G          the point c with the facts G has no mapping
 -- composite_shown F G      the pair of the mapping of a point with the facts G, where it is a primary composite
--- later_asks F c           what the derivation of c asks beside Row(c) and Second(c)
+-- other_asks F c           what the derivation of c asks beside Row(c) and Second(c). What its NFKC asks is not repeated: it is
+--                          among what the folding rounds ask
 -- has_last                 the folding rounds of a point that has its record reach a last one
 -- plain_asked              a point that is shown to have no mapping asks Row(c) and Second(c) alone
--- asked_is                 what is asked is Row(c), Second(c), and what is asked beside these
-use Rattle.std.proofs.Common.{◌≡◌, ℕ, Bool, true, false, ◌&&◌, not, ◌==◌, List, [], ◌∷◌, ◌++◌, length, Option, Some, None, is_some, Result, Ok, Err, if◌then◌else◌, refl, sym, ap, ◌∙◌}
+-- asked_is                 what is asked of a point that has its record is Row(c), Second(c), and what is asked beside these
+use Rattle.std.proofs.Common.{◌≡◌, ℕ, Bool, true, false, ◌&&◌, not, ◌==◌, List, [], ◌∷◌, ◌++◌, length, Option, Some, None, is_some, Result, Ok, Err, if◌then◌else◌, refl, sym, ap, ◌∙◌, ◌+◌, ◌||◌}
 use Rattle.std.specs.Prelude.{⊤}
-use Rattle.std.specs.List.{flat_map}
+use Rattle.std.specs.List.{flat_map, range_with_len}
 use Rattle.std.specs.Option.{option_and_then}
 use Rattle.ucd_model.specs.Composites.{is_canonical, first_has_class_zero}
 use Rattle.ucd_model.specs.Facts.{Facts}
@@ -28,12 +29,15 @@ use Rattle.ucd_model.specs.declared.query.Query.{Query}
 use Rattle.ucd_model.specs.declared.query.Query.TheVariants.{Row, Second}
 use Rattle.std.proofs.lemmas.Bool.{true≢false, and_parts, eqb-true}
 use Rattle.std.proofs.lemmas.List.{nil_from_length}
+use Rattle.std.proofs.lemmas.List.Folds.{list_any-append}
+use Rattle.ucd_model.specs.Forms.{nfkc}
+use Rattle.asked_queries.specs.Answers.{same_query, is_asked}
 use Rattle.ucd_model.specs.Shown.{shown_facts, shown_is}
 use Rattle.ucd_model.specs.View.{ShowsFacts}
 use Rattle.ucd_model.specs.declared.view.FactsRef.{FactsRef}
 use Rattle.asked_queries.specs.PlainProofs.{plain_ask_own}
 use Rattle.asked_queries.specs.Turns.{SameQueries}
-use Rattle.asked_queries.specs.Questions.{row_queries, asks, last_round, rounds_ask, pair_queries, composite_asks, asked}
+use Rattle.asked_queries.specs.Questions.{row_queries, asks, last_round, rounds_ask, round_asks_at, folding_asks, facts_ask, pair_queries, composite_asks, asked}
 use Rattle.asking_points.specs.declared.derivation.Asked.{Asked}
 
 abbrev pub DerivesAs : Result Asked FormStop → Result Record Rule → Type 0
@@ -60,10 +64,10 @@ plain_shown c G =
 abbrev pub composite_shown : (ℕ → Facts) → Facts → List Query
 composite_shown F G = if is_canonical G.kind && ((G.class == 0) && (first_has_class_zero F G.mapping && not G.excluded)) then pair_queries G.mapping else []
 
-abbrev pub later_asks : (ℕ → Facts) → ℕ → List Query
-later_asks F c =
+abbrev pub other_asks : (ℕ → Facts) → ℕ → List Query
+other_asks F c =
     row_queries (flat_map (λ m. m) (mappings c (F c)))
-    ++ (composite_asks F c ++ (asks F false (c ∷ []) ++ (asks F true (c ∷ []) ++ rounds_ask F c (last_round F c))))
+    ++ (composite_asks F c ++ (asks F false (c ∷ []) ++ rounds_ask F c (last_round F c)))
 
 some_last : (F : ℕ → Facts) (c : ℕ) (r : Option ℕ) → is_none (option_and_then (λ i. rounds F i (c ∷ [])) r) ≡ false → is_some r ≡ true
 some_last F c (Some n) e = refl
@@ -73,9 +77,36 @@ pub has_last : (F : ℕ → Facts) (c : ℕ) → HasRecord F c → is_some (last
 unfolding last_round
 has_last F c has = some_last F c (last_round F c) (broken-rules F c (broken-none F c has)).folds
 
-pub asked_is : (F : ℕ → Facts) (c : ℕ) → asked F c ≡ Row c ∷ Second c ∷ later_asks F c
+-- ---- all questions
+
+repeated : (a b c : Bool) → ((a || b) || c) ≡ (a || ((a || b) || c))
+repeated true b c = refl
+repeated false b c = refl
+
+first_round : (F : ℕ → Facts) (c : ℕ) (q : Query) (last : Option ℕ) → is_some last ≡ true → is_asked (rounds_ask F c last) q ≡ is_asked (asks F true (c ∷ []) ++ rounds_ask F c last) q
+first_round F c q None e = absurd (true≢false (sym e))
+first_round F c q (Some n) e =
+    let form : List Query = asks F true (c ∷ []) in
+    let folding : List Query = folding_asks F (nfkc F (c ∷ [])) in
+    let later : List Query = flat_map (λ i. round_asks_at F (rounds F i (c ∷ []))) (range_with_len (0 + 1) n) in
+    let split : is_asked (rounds_ask F c (Some n)) q ≡ ((is_asked form q || is_asked folding q) || is_asked later q) =
+    list_any-append (same_query q) (form ++ folding) later ∙ ap (λ b. b || is_asked later q) (list_any-append (same_query q) form folding) in
+    split ∙ repeated (is_asked form q) (is_asked folding q) (is_asked later q) ∙ ap (λ b. is_asked form q || b) (sym split) ∙ sym (list_any-append (same_query q) form (rounds_ask F c (Some n)))
+
+behind : (xs ys zs : List Query) (q : Query) → is_asked ys q ≡ is_asked zs q → is_asked (xs ++ ys) q ≡ is_asked (xs ++ zs) q
+behind xs ys zs q e = list_any-append (same_query q) xs ys ∙ ap (λ b. is_asked xs q || b) e ∙ sym (list_any-append (same_query q) xs zs)
+
+pub asked_is : (F : ℕ → Facts) (c : ℕ) → HasRecord F c → SameQueries (Row c ∷ Second c ∷ other_asks F c) (asked F c)
 unfolding asked
-asked_is F c = refl
+asked_is F c has = λ q.
+    let rounds = rounds_ask F c (last_round F c) in
+    let all = asks F true (c ∷ []) ++ rounds in
+    let last = first_round F c q (last_round F c) (has_last F c has) in
+    let canonical = behind (asks F false (c ∷ [])) rounds all q last in
+    let composite = behind (composite_asks F c) (asks F false (c ∷ []) ++ rounds) (asks F false (c ∷ []) ++ all) q canonical in
+    behind (facts_ask F c) (composite_asks F c ++ (asks F false (c ∷ []) ++ rounds)) (composite_asks F c ++ (asks F false (c ∷ []) ++ all)) q composite
+
+-- ---- a point without a mapping
 
 same_is : (i : Image) → is_same_image i ≡ true → i ≡ Same
 same_is Same e = refl

@@ -8,7 +8,7 @@ ghost use Rattle.ucd_model.specs.ValidityLaws.{HasRecord};
 ghost use Rattle.ucd_model.specs.View.{ShowsFacts};
 ghost use Rattle.asked_queries.specs.Questions.{asked};
 ghost use Rattle.asked_queries.specs.Turns.{SameQueries};
-ghost use Rattle.asking_points.specs.Derivation.{DerivesAs, plain_shown, composite_shown, later_asks};
+ghost use Rattle.asking_points.specs.Derivation.{DerivesAs, plain_shown, composite_shown, other_asks};
 
 use crate::forms::put_asks;
 use crate::query_list::query_set;
@@ -90,7 +90,8 @@ pub fn questions_of<W: FactView>(alloc: Global, view: &W, c: Point) -> Result<Qu
     Ok(query_set(asked))
 }
 
-/// Puts the questions that the derivation of a code point asks beside its own at the end.
+/// Puts the questions that the derivation of a code point asks beside its own at the end. Those of its Normalisation
+/// Form KC are the first ones of the folding rounds.
 #[tactic(auto, using(crate::specs::Derivation::has_last))]
 fn put_more<W: FactView>(
     alloc: Global,
@@ -101,12 +102,11 @@ fn put_more<W: FactView>(
 ) -> Result<(), Memory>
     requires facts { ShowsFacts facts.now (W.facts_of view.now c) }
     requires record { HasRecord (W.facts_of view.now) c }
-    ensures { OnOk result (asked.new.items ≡ asked.old.items ++ later_asks (W.facts_of view.now) c) }
+    ensures { OnOk result (asked.new.items ≡ asked.old.items ++ other_asks (W.facts_of view.now) c) }
 {
     put_members(c, facts, asked)?;
     put_composite(view, facts, asked)?;
     put_asks(alloc, view, false, &[c], asked)?;
-    put_asks(alloc, view, true, &[c], asked)?;
     put_rounds(alloc, view, c, asked)?;
     Ok(())
 }

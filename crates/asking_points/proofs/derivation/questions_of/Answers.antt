@@ -3,8 +3,7 @@ use Rattle.ucd_model.specs.Facts.{Facts}
 use Rattle.ucd_model.specs.declared.query.Query.{Query}
 use Rattle.ucd_model.specs.declared.query.Query.TheVariants.{Row, Second}
 use Rattle.asked_queries.specs.Answers.{is_asked}
-use Rattle.asked_queries.specs.Questions.{asked}
-use Rattle.asking_points.specs.Derivation.{plain_asked, asked_is, later_asks}
+use Rattle.asking_points.specs.Derivation.{plain_asked, asked_is, other_asks}
 use Rattle.asking_points.proofs.derivation.questions_of.Goals as goal
 
 pub returns-then-is_plain-clause-asked : goal.returns-then-is_plain-clause-asked
@@ -18,5 +17,5 @@ pub returns-clause-asked : goal.returns-clause-asked
 returns-clause-asked g c =
     let F : ℕ → Facts = g.W.FactView.facts_of c.args.view.now in
     let own : c.push-2.new.self.items ≡ Row c.args.c ∷ Second c.args.c ∷ [] = c.in_ok-push-2.ensures.items ∙ ap (λ (qs : List Query). qs ++ Second c.args.c ∷ []) (c.in_ok-push.ensures.items ∙ ap (λ (qs : List Query). qs ++ Row c.args.c ∷ []) c.new-asked.ensures.items) in
-    let all : c.put_more.new.asked.items ≡ asked F c.args.c = c.in_ok-put_more.ensures ∙ ap (λ (qs : List Query). qs ++ later_asks F c.args.c) own ∙ sym (asked_is F c.args.c) in
-    λ q. c.query_set-2.ensures.same q ∙ ap (λ qs. is_asked qs q) all
+    let all : c.put_more.new.asked.items ≡ Row c.args.c ∷ Second c.args.c ∷ other_asks F c.args.c = c.in_ok-put_more.ensures ∙ ap (λ (qs : List Query). qs ++ other_asks F c.args.c) own in
+    λ q. c.query_set-2.ensures.same q ∙ ap (λ qs. is_asked qs q) all ∙ asked_is F c.args.c c.requires q

@@ -6,7 +6,7 @@
 //! | 21 to 41 | the code point of the question; of a pair the second one |
 //! | 42 to 62 | the first code point of a pair; 110000 (hexadecimal) for a row, 110001 for a second member |
 
-ghost use Rattle.std.specs.Prelude.{◌≡◌, ℕ, ◌+◌, ◌<◌, ◌≤◌, true, false, MatchOption, OnOk};
+ghost use Rattle.std.specs.Prelude.{◌≡◌, ℕ, ◌^◌, ◌<◌, ◌≤◌, true, MatchOption, OnOk};
 ghost use Rattle.ucd_model.specs.declared.query.Query.{Query as Question};
 ghost use Rattle.asked_queries.specs.Answers.{is_asked};
 ghost use Rattle.dependency_map.specs.Index.{query_key, is_listed, is_own, least, may_ask, NoneFrom};
@@ -47,7 +47,7 @@ pub fn next_listed(keys: &BTreeSet<u64>, query: &Query, from: u32) -> Option<Poi
 /// Where the keys of a question begin.
 fn query_key(query: &Query) -> u64
     ensures value { result ≡ query_key query.now }
-    ensures below { result < 9223372036850000000 }
+    ensures below { result < 2 ^ 63 }
 {
     let (first, last) = match *query {
         Query::Row(x) => (ROW, x),

@@ -1,6 +1,6 @@
 //! Sets of numbers in which the next number is looked for.
 
-ghost use Rattle.std.specs.Prelude.{◌≡◌, ℕ, ◌+◌, ◌<◌, ◌≤◌, true, false, ◌==◌, ◌||◌, MatchOption, OnOk};
+ghost use Rattle.std.specs.Prelude.{◌≡◌, ℕ, ◌+◌, ◌^◌, ◌<◌, ◌≤◌, true, false, ◌==◌, ◌||◌, MatchOption, OnOk};
 ghost use Rattle.std.specs.Ordering.{nat_cmp};
 ghost use Rattle.std.specs.BTreeSet.{contains};
 ghost use Rattle.dependency_map.specs.Index.{NoneFrom};
@@ -21,7 +21,7 @@ pub fn insert(numbers: &mut BTreeSet<u64>, number: u64) -> Result<(), Memory>
 
 /// The least code point at or above `from` whose number is in the set, counted from `base` on.
 pub fn next_point(numbers: &BTreeSet<u64>, base: u64, from: u32) -> Option<Point>
-    requires { base < 9223372036850000000 }
+    requires { base < 2 ^ 63 }
     ensures { MatchOption result (NoneFrom (λ k. contains nat_cmp numbers.now (base + k)) from 1114112)
         (λ c. (from ≤ c) × (contains nat_cmp numbers.now (base + c) ≡ true) × NoneFrom (λ k. contains nat_cmp numbers.now (base + k)) from c) }
 {

@@ -1,6 +1,8 @@
-//! Tests of tables, lists in parts, the pool of pages and stores. They stand above the crates that they test, so that each is proved once.
+//! Tests of tables, lists in parts, the pool of pages, stores and maps of dependants. They stand above the crates that they test, so that each is proved once.
 #![tactic(auto)]
 
+#[cfg(test)]
+mod dependants;
 #[cfg(test)]
 mod pages;
 #[cfg(test)]

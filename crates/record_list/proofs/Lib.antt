@@ -1,0 +1,4 @@
+mod RunSteps
+mod PoolSteps
+mod MergeSteps
+mod FoundRun

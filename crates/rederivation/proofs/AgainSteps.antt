@@ -1,0 +1,175 @@
+-- What is derived again, point by point.
+use Rattle.std.proofs.Common.{◌≡◌, ℕ, suc, ◌+◌, ◌<◌, ◌≤◌, Bool, true, false, not, cond, ◌||◌, List, [], ◌∷◌, ◌++◌, length, take, drop, get_or, filter, map, Option, Some, None, Result, Ok, Err, OnOk, IfErr, inl, inr, ◌==◌, refl, sym, ap, subst, ◌∙◌, arith}
+use Rattle.std.specs.Bool.{Decides}
+use Rattle.std.specs.List.{list_any}
+use Rattle.std.proofs.Math.Seq.{drop-cons, take-suc}
+use Rattle.std.proofs.lemmas.Bool.{or_cases}
+use Rattle.std.proofs.lemmas.Bool.Decides.{nat_tests, same_from_decides}
+use Rattle.std.proofs.lemmas.List.{append-nil, map-append, take-append-drop, take_all}
+use Rattle.std.proofs.lemmas.List.Elements.{filter-append}
+use Rattle.std.proofs.lemmas.List.Folds.{list_any-append}
+use Rattle.ucd_model.specs.Facts.{Facts}
+use Rattle.ucd_model.specs.Records.{Record, ShowsRecord, derived, kept_record, record_at, record_or_rule}
+use Rattle.ucd_model.specs.Sameness.{is_in, same_record}
+use Rattle.ucd_model.specs.SamenessProofs.{records_are_told}
+use Rattle.ucd_model.specs.Validity.{broken}
+use Rattle.ucd_model.specs.ValidityLaws.{HasRecord}
+use Rattle.ucd_model.specs.declared.form.Bad.{Bad as Rule}
+use Rattle.ucd_model.specs.declared.query.Query.{Query}
+use Rattle.ucd_model.specs.declared.records.Record.{Record as KeptRecord}
+use Rattle.asked_queries.specs.Questions.{asked}
+use Rattle.asked_queries.specs.Turns.{SameQueries}
+use Rattle.rederivation.specs.Again.{AreAsked, IsAdded, IsAgain, IsFound, IsPut, IsFirstBroken, StopsAt, differs}
+use Rattle.rederivation.specs.declared.again.Again.{Again}
+use Rattle.rederivation.specs.declared.again_stop.AgainStop.{AgainStop}
+use Rattle.rederivation.specs.declared.again_stop.AgainStop.TheVariants.{Broken, Memory}
+use Rattle.rederivation.specs.declared.asked_record.AskedRecord.{AskedRecord}
+
+-- ---- what was found of a point
+
+ok_is : (R S : Record) (b : Option Rule) → record_or_rule R b ≡ Ok S → S ≡ R
+ok_is R S None e = cc
+ok_is R S (Some rule) e = cc
+
+kept_is : (G : ℕ → Facts) (c : ℕ) (found : AskedRecord) → IsFound G c (Ok found) → kept_record found.value ≡ record_at G c
+kept_is G c found (has, asks) = ok_is (record_at G c) (kept_record found.value) (broken G c) has
+
+one : (same : Bool) (c : ℕ) (p : ℕ → Bool) → p c ≡ not same → cond same [] (c ∷ []) ≡ filter p (c ∷ [])
+one true c p e = ap (λ b. cond b (c ∷ []) []) (sym e)
+one false c p e = ap (λ b. cond b (c ∷ []) []) (sym e)
+
+kept_one : (same : Bool) (k : KeptRecord) → map kept_record (cond same [] (k ∷ [])) ≡ cond same [] (kept_record k ∷ [])
+kept_one true k = refl
+kept_one false k = refl
+
+record_one : (same : Bool) (c : ℕ) (f : ℕ → Record) → map f (cond same [] (c ∷ [])) ≡ cond same [] (f c ∷ [])
+record_one true c f = refl
+record_one false c f = refl
+
+pub added : (R : ℕ → Record) (G : ℕ → Facts) (c : ℕ) (found : AskedRecord) (old new : Again) → IsFound G c (Ok found) → IsPut R c found old new → IsAdded R G c old new
+added R G c found old new is put =
+    let same : kept_record found.value ≡ record_at G c = kept_is G c found is in
+    let b : Bool = same_record (R c) (record_at G c) in
+    let points : cond b [] (c ∷ []) ≡ filter (differs R G) (c ∷ []) = one b c (differs R G) refl in
+    record {
+      has = is.0 ∙ ap (λ (r : Record). Ok r) same;
+      changed = put.changed ∙ ap (λ (r : Record). old.changed ++ cond (same_record (R c) r) [] (c ∷ [])) same ∙ ap (λ (xs : List ℕ). old.changed ++ xs) points;
+      records = ap (map kept_record) put.records ∙ map-append kept_record old.records.items (cond (same_record (R c) (kept_record found.value)) [] (found.value ∷ []))
+          ∙ ap (λ (rs : List Record). map kept_record old.records.items ++ rs)
+          (kept_one (same_record (R c) (kept_record found.value)) found.value ∙ ap (λ (r : Record). cond (same_record (R c) r) [] (r ∷ [])) same
+          ∙ sym (record_one b c (record_at G)) ∙ ap (map (record_at G)) points);
+      asked = (found.asked, put.asked, is.1);
+    }
+
+-- ---- a point more
+
+asked_more : (G : ℕ → Facts) (points : List ℕ) (lists : List (List Query)) (c : ℕ) (queries : List Query) → AreAsked G points lists → SameQueries queries (asked G c) → AreAsked G (points ++ c ∷ []) (lists ++ queries ∷ [])
+asked_more G [] [] c queries all more = (more, tt)
+asked_more G [] (q ∷ lists) c queries all more = absurd all
+asked_more G (p ∷ points) [] c queries all more = absurd all
+asked_more G (p ∷ points) (q ∷ lists) c queries all more = (all.0, asked_more G points lists c queries all.1 more)
+
+is_one : (c d : ℕ) → is_in (c ∷ []) d ≡ true → c ≡ d
+is_one c d h = grind (arith, nat_tests)
+
+pub has_more : (G : ℕ → Facts) (points : List ℕ) (c : ℕ) → ((d : ℕ) → is_in points d ≡ true → HasRecord G d) → HasRecord G c → (d : ℕ) → is_in (points ++ c ∷ []) d ≡ true → HasRecord G d
+has_more G points c before here d h =
+    elim (or_cases (is_in points d) (is_in (c ∷ []) d) (sym (list_any-append (λ x. x == d) points (c ∷ [])) ∙ h)) [
+      | inl first ↦ before d first
+      | inr last ↦ subst (HasRecord G) (is_one c d last) here
+    ]
+
+pub none_again : (R : ℕ → Record) (G : ℕ → Facts) (made : Again) → made.changed ≡ [] → made.records.items ≡ [] → made.asked ≡ [] → IsAgain R G [] made
+none_again R G made changed records asked = record {
+  has = λ c h. cc;
+  changed = changed;
+  records = ap (map kept_record) records ∙ ap (map (record_at G)) (sym changed);
+  asked = subst (AreAsked G []) (sym asked) tt;
+}
+
+again_more : (R : ℕ → Record) (G : ℕ → Facts) (points : List ℕ) (c : ℕ) (old new : Again) → IsAgain R G points old → IsAdded R G c old new → IsAgain R G (points ++ c ∷ []) new
+again_more R G points c old new all more =
+    let (queries, lists, same) = more.asked in
+    let last : List ℕ = filter (differs R G) (c ∷ []) in
+    record {
+      has = has_more G points c all.has (record_at G c, more.has);
+      changed = more.changed ∙ ap (λ (xs : List ℕ). xs ++ last) all.changed ∙ sym (filter-append (differs R G) points (c ∷ []));
+      records = more.records ∙ ap (λ (rs : List Record). rs ++ map (record_at G) last) all.records ∙ sym (map-append (record_at G) old.changed last) ∙ ap (map (record_at G)) (sym more.changed);
+      asked = subst (AreAsked G (points ++ c ∷ [])) (sym lists) (asked_more G points old.asked c queries all.asked same);
+    }
+
+pub again_to : (R : ℕ → Record) (G : ℕ → Facts) (points : List ℕ) (i c : ℕ) (old new : Again) → i < length points → c ≡ get_or points i c → IsAgain R G (take i points) old → IsAdded R G c old new → IsAgain R G (take (i + 1) points) new
+again_to R G points i c old new lt is all more =
+    let next : suc i ≡ i + 1 = omega arith in
+    let front : take i points ++ c ∷ [] ≡ take (i + 1) points = ap (λ k. take i points ++ k ∷ []) is ∙ sym (take-suc points i c lt) ∙ ap (λ k. take k points) next in
+    subst (λ (xs : List ℕ). IsAgain R G xs new) front (again_more R G (take i points) c old new all more)
+
+pub again_all : (R : ℕ → Record) (G : ℕ → Facts) (points : List ℕ) (i : ℕ) (made : Again) → length points ≤ i → IsAgain R G (take i points) made → IsAgain R G points made
+again_all R G points i made le all = subst (λ (xs : List ℕ). IsAgain R G xs made) (take_all i points le) all
+
+-- ---- a point without a record
+
+pub stops : (G : ℕ → Facts) (points : List ℕ) (i c : ℕ) (stop : AgainStop) → i < length points → c ≡ get_or points i c → ((d : ℕ) → is_in (take i points) d ≡ true → HasRecord G d) → IsFound G c (Err stop) → StopsAt G points stop
+stops G points i c (Broken rule point) lt is before found =
+    let same : point ≡ get_or points i c = found.0 ∙ is in
+    let split : points ≡ take i points ++ point ∷ drop (suc i) points =
+    sym (take-append-drop i points) ∙ ap (λ (xs : List ℕ). take i points ++ xs) (drop-cons points i c lt) ∙ ap (λ k. take i points ++ k ∷ drop (suc i) points) (sym same) in
+    (take i points, drop (suc i) points, split, before, ap (derived G) found.0 ∙ found.1)
+stops G points i c Memory lt is before found = tt
+
+-- ---- whether the record is another
+
+shows_kept : (kept : KeptRecord) → ShowsRecord kept (kept_record kept)
+shows_kept kept = record {
+  category = refl;
+  class = refl;
+  kind = refl;
+  core = λ core. refl;
+  exclusion = refl;
+  nfd = refl;
+  nfc = refl;
+  nfkd = refl;
+  nfkc = refl;
+  casefold = refl;
+  changes_casefold = refl;
+}
+
+shows_one : (kept : KeptRecord) (A B : Record) → ShowsRecord kept A → ShowsRecord kept B → A ≡ B
+shows_one kept A B a b = λ i. record {
+  category = (sym a.category ∙ b.category) i;
+  class = (sym a.class ∙ b.class) i;
+  kind = (sym a.kind ∙ b.kind) i;
+  core = λ p. (sym (a.core p) ∙ b.core p) i;
+  exclusion = (sym a.exclusion ∙ b.exclusion) i;
+  nfd = (sym a.nfd ∙ b.nfd) i;
+  nfc = (sym a.nfc ∙ b.nfc) i;
+  nfkd = (sym a.nfkd ∙ b.nfkd) i;
+  nfkc = (sym a.nfkc ∙ b.nfkc) i;
+  casefold = (sym a.casefold ∙ b.casefold) i;
+  changes_casefold = (sym a.changes_casefold ∙ b.changes_casefold) i;
+}
+
+told_is : (R : ℕ → Record) (c : ℕ) (kept value : KeptRecord) (t : Bool) → ShowsRecord kept (R c) → Decides t (kept_record kept ≡ kept_record value) → t ≡ same_record (R c) (kept_record value)
+told_is R c kept value t shown told =
+    let is : kept_record kept ≡ R c = shows_one kept (kept_record kept) (R c) (shows_kept kept) shown in
+    same_from_decides t (same_record (kept_record kept) (kept_record value)) told (records_are_told (kept_record kept) (kept_record value)) ∙ ap (λ (r : Record). same_record r (kept_record value)) is
+
+pub put_one : (R : ℕ → Record) (c : ℕ) (found : AskedRecord) (old new : Again) (kept : KeptRecord) (t : Bool) → ShowsRecord kept (R c) → Decides t (kept_record kept ≡ kept_record found.value) → t ≡ false
+    → new.changed ≡ old.changed ++ c ∷ [] → new.records.items ≡ old.records.items ++ found.value ∷ [] → new.asked ≡ old.asked ++ found.asked ∷ [] → IsPut R c found old new
+put_one R c found old new kept t shown told e changed records asked =
+    let same : same_record (R c) (kept_record found.value) ≡ false = sym (told_is R c kept found.value t shown told) ∙ e in
+    record {
+      changed = changed ∙ ap (λ b. old.changed ++ cond b [] (c ∷ [])) (sym same);
+      records = records ∙ ap (λ b. old.records.items ++ cond b [] (found.value ∷ [])) (sym same);
+      asked = asked;
+    }
+
+pub put_none : (R : ℕ → Record) (c : ℕ) (found : AskedRecord) (old new : Again) (kept : KeptRecord) (t : Bool) → ShowsRecord kept (R c) → Decides t (kept_record kept ≡ kept_record found.value) → t ≡ true
+    → new.changed ≡ old.changed → new.records.items ≡ old.records.items → new.asked ≡ old.asked ++ found.asked ∷ [] → IsPut R c found old new
+put_none R c found old new kept t shown told e changed records asked =
+    let same : same_record (R c) (kept_record found.value) ≡ true = sym (told_is R c kept found.value t shown told) ∙ e in
+    record {
+      changed = changed ∙ sym (append-nil old.changed) ∙ ap (λ b. old.changed ++ cond b [] (c ∷ [])) (sym same);
+      records = records ∙ sym (append-nil old.records.items) ∙ ap (λ b. old.records.items ++ cond b [] (found.value ∷ [])) (sym same);
+      asked = asked;
+    }

@@ -1,0 +1,16 @@
+use Rattle.std.proofs.Common.{arith}
+use Rattle.std.proofs.lemmas.Result.{err_from_is_err_and}
+use Rattle.rederivation.proofs.AgainSteps.{again_to, stops}
+use Rattle.rederivation.proofs.points_again.derive_again.Goals as goal
+
+pub returns-in_err-derive_more-clause-stop : goal.returns-in_err-derive_more-clause-stop
+returns-in_err-derive_more-clause-stop g c =
+    let p = err_from_is_err_and c.from_residual.result c.from_residual.ensures.1 in
+    rw (p.1, p.2) (stops (g.W.FactView.facts_of c.args.view.now) c.args.points.now c.points.c-index c.c-item.result _ (omega (arith, c.points-test.true)) c.c-item.is c.points.invariant.again.has c.in_err-derive_more.ensures.stop)
+
+pub points-preserved : goal.points-preserved
+points-preserved g c = record {
+  again = again_to (g.R.Records.record_of c.args.records.now) (g.W.FactView.facts_of c.args.view.now) c.args.points.now c.points.c-index c.c-item.result c.points.made c.derive_more.new.made (omega (arith, c.points-test.true)) c.c-item.is
+      c.points.invariant.again c.in_ok-derive_more.ensures.added;
+  steps = omega (arith, c.points.invariant.steps, c.derive_more.ensures.step);
+}

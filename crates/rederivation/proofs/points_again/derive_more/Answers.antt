@@ -1,0 +1,6 @@
+use Rattle.rederivation.proofs.AgainSteps.{added}
+use Rattle.rederivation.proofs.points_again.derive_more.Goals as goal
+
+pub returns-in_ok-put-in-Ok-clause-added : goal.returns-in_ok-put-in-Ok-clause-added
+returns-in_ok-put-in-Ok-clause-added g c =
+    added (g.R.Records.record_of c.args.records.now) (g.W.FactView.facts_of c.args.view.now) c.args.c c.in-Ok.found c.args.made.now c.put.new.made c.in-Ok.ensures.found c.in_ok-put-in-Ok.ensures

@@ -2,3 +2,4 @@ mod RunSteps
 mod PoolSteps
 mod MergeSteps
 mod FoundRun
+mod TableSteps

@@ -8,6 +8,8 @@
 -- count_of list                how many points have a record: where the last stretch ends
 -- HasAnotherAbove value list   the first stretch of the list has another record than this
 -- Follow low list              the stretches end one behind the other, the first one above low, and neighbours have other records
+-- record_now layers c          the record of c now
+-- IsWhole layers               now and next all code points have a record
 -- written points records R c   of a point that stands in a list of points: the record at its place in the list of records. Of any other
 --                              point, or where there is no record at its place: that of R
 -- IsWritten old new points records   the list new has as many points as old, and their records are those that are written over old
@@ -15,6 +17,7 @@
 -- AllBelow high points         each of the points is below high
 use Rattle.std.specs.Prelude.{◌≡◌, ◌≢◌, ℕ, suc, ◌<◌, ◌≤◌, List, [], ◌∷◌, nat_lt, ◌==◌, if◌then◌else◌, ⊤}
 use Rattle.ucd_model.specs.Facts.{unassigned}
+use Rattle.ucd_model.specs.Limits.{point_count}
 use Rattle.ucd_model.specs.Records.{Record, kept_record, record_at}
 use Rattle.ucd_model.specs.declared.records.Record.{Record as KeptRecord}
 
@@ -47,6 +50,13 @@ HasAnotherAbove value (s ∷ list) = kept_record s.value ≢ kept_record value
 abbrev pub Follow : ℕ → RecordsOf → Type 0
 Follow low [] = ⊤
 Follow low (s ∷ list) = (low < s.end) × (HasAnotherAbove s.value list × Follow s.end list)
+
+abbrev pub record_now : Layers → ℕ → Record
+record_now layers = record_of layers.current
+
+pub record IsWhole (layers : Layers) : Type 0 where
+  pub now : count_of layers.current ≡ point_count
+  pub next : count_of layers.prepared ≡ point_count
 
 abbrev pub written : List ℕ → List KeptRecord → (ℕ → Record) → ℕ → Record
 written [] records R c = R c

@@ -6,6 +6,8 @@ mod merge;
 mod pool;
 mod run_ref;
 mod stretch;
+mod table;
 
 pub use list::RecordList;
 pub use run_ref::RunRef;
+pub use table::RecordTable;

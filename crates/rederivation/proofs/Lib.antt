@@ -1,1 +1,2 @@
 mod AgainSteps
+mod TurnSteps

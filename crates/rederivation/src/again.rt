@@ -3,7 +3,7 @@
 ghost use Rattle.std.specs.Prelude.{◌≡◌, []};
 
 use std::alloc::Global;
-use ucd_model::{ListOf, Points, Queries, Record};
+use ucd_model::{Points, Record};
 
 /// What the derivation of some code points gives.
 #[derive(Drop)]
@@ -12,8 +12,6 @@ pub struct Again {
     pub changed: Points,
     /// The records of these, in the same order.
     pub records: Vec<Record>,
-    /// The questions that each of the code points asks, in their order.
-    pub asked: ListOf<Queries>,
 }
 
 impl Again {
@@ -21,12 +19,10 @@ impl Again {
     pub fn none(alloc: Global) -> Again
         ensures changed { result.changed ≡ [] }
         ensures records { result.records.items ≡ [] }
-        ensures asked { result.asked ≡ [] }
     {
         Again {
             changed: Points::new(alloc),
             records: Vec::new(alloc),
-            asked: ListOf::new(alloc),
         }
     }
 }

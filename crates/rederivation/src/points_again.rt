@@ -1,68 +1,78 @@
 //! The derivation of some code points, which is counted.
 
 ghost use Rattle.std.specs.Prelude.{◌≡◌, ◌+◌, ◌≤◌, length, Err, IfErr, IfOk, OnOk};
-ghost use Rattle.rederivation.specs.Again.{IsAdded, IsAgain, IsFound, IsPut, StopsAt};
+ghost use Rattle.range_table.specs.Values.{SameValues};
+ghost use Rattle.dependency_map.specs.Maps.{asked_at};
+ghost use Rattle.rederivation.specs.Again.{AsksAnew, IsAdded, IsAgain, IsFound, IsPut, StopsAt};
 
 use crate::again::Again;
 use crate::again_stop::AgainStop;
-use crate::asked_record::AskedRecord;
+use asking_points::{Asked, derive_asking};
+use dependency_map::DependencyMap;
+use kept_values::Store;
 use std::alloc::Global;
 use std::sync::ledger::Ledger;
-use ucd_model::{FactView, Memory, Point, Records, Steps};
+use ucd_model::{FactView, FormStop, Memory, Point, Queries, Record, Records, Steps};
 
-/// Derives code points over facts: which of them have another record than before, in order, and what each of them asks.
-/// The counter of steps rises by at most their number.
+/// Derives code points over facts: which of them have another record than before, in order. What each of them asks is
+/// prepared in the map. The counter of steps rises by at most their number.
 ///
 /// - `Broken { rule, point }`: a code point breaks a rule of a valid release: the first of them, with its first rule.
 /// - `Memory`: memory ran out.
-pub fn derive_again<W: FactView, R: Records, L: Ledger>(
+///
+/// After either, what some of the code points ask may be prepared.
+pub fn derive_again<W: FactView, R: Records, S: Store<Option<Queries>>, L: Ledger>(
     alloc: Global,
     view: &W,
     records: &R,
     points: &[Point],
+    map: &mut DependencyMap<S>,
     steps: &mut Steps<L>,
 ) -> Result<Again, AgainStop>
     ensures again { IfOk result (λ made. IsAgain (R.record_of records.now) (W.facts_of view.now) points.now made) }
+    ensures asks { OnOk result (AsksAnew (W.facts_of view.now) points.now (asked_at S.next map.old) (asked_at S.next map.new)) }
+    ensures now { SameValues (asked_at S.now map.new) (asked_at S.now map.old) }
     ensures stop { IfErr result (λ stop. StopsAt (W.facts_of view.now) points.now stop) }
     ensures steps { steps.new ≤ steps.old + length points.now }
 {
     let mut made = Again::none(alloc);
     'points: for c in points {
-        derive_more(alloc, view, records, *c, &mut made, steps)?;
+        derive_more(alloc, view, records, *c, &mut made, map, steps)?;
     }
     Ok(made)
 }
 
-/// Derives a code point, and puts what it gives behind the others, in one step.
-fn derive_more<W: FactView, R: Records, L: Ledger>(
+/// Derives a code point, puts its record behind the others, and prepares what it asks, in one step.
+fn derive_more<W: FactView, R: Records, S: Store<Option<Queries>>, L: Ledger>(
     alloc: Global,
     view: &W,
     records: &R,
     c: Point,
     made: &mut Again,
+    map: &mut DependencyMap<S>,
     steps: &mut Steps<L>,
 ) -> Result<(), AgainStop>
-    ensures added { OnOk result (IsAdded (R.record_of records.now) (W.facts_of view.now) c made.old made.new) }
+    ensures added { OnOk result (IsAdded (R.record_of records.now) (W.facts_of view.now) c made.old made.new (asked_at S.next map.old) (asked_at S.next map.new)) }
+    ensures now { SameValues (asked_at S.now map.new) (asked_at S.now map.old) }
     ensures stop { IfErr result (λ stop. IsFound (W.facts_of view.now) c (Err stop)) }
     ensures step { steps.new ≡ steps.old + 1 }
 {
     match derive_asked(alloc, view, c, steps) {
         Ok(found) => {
-            put(records, c, found, made)?;
+            map.prepare(c, &found.asked)?;
+            put(records, c, found.value, made)?;
             Ok(())
         }
         Err(stop) => Err(stop),
     }
 }
 
-/// Puts what the derivation of a code point gives behind the others.
+/// Puts a code point and its record behind the others, where that is another than before.
 ///
 /// - `Memory`: memory ran out.
-fn put<R: Records>(records: &R, c: Point, found: AskedRecord, made: &mut Again) -> Result<(), Memory>
-    ensures { OnOk result (IsPut (R.record_of records.now) c found made.old made.new) }
+fn put<R: Records>(records: &R, c: Point, value: Record, made: &mut Again) -> Result<(), Memory>
+    ensures { OnOk result (IsPut (R.record_of records.now) c value made.old made.new) }
 {
-    let AskedRecord { value, asked } = found;
-    made.asked.push(asked)?;
     if !records.record(c).is_same(&value) {
         made.changed.push(c)?;
         made.records.push(value)?;
@@ -76,10 +86,13 @@ fn derive_asked<W: FactView, L: Ledger>(
     view: &W,
     c: Point,
     steps: &mut Steps<L>,
-) -> Result<AskedRecord, AgainStop>
+) -> Result<Asked, AgainStop>
     ensures found { IsFound (W.facts_of view.now) c result }
     ensures step { steps.new ≡ steps.old + 1 }
 {
-    steps.tick();
-    Err(AgainStop::Memory)
+    match derive_asking(alloc, view, c, steps) {
+        Ok(found) => Ok(found),
+        Err(FormStop::Bad(rule)) => Err(AgainStop::Broken { rule, point: c }),
+        Err(FormStop::Memory) => Err(AgainStop::Memory),
+    }
 }

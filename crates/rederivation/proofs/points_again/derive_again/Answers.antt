@@ -1,6 +1,7 @@
-use Rattle.std.proofs.Common.{arith}
+use Rattle.std.proofs.Common.{◌∙◌, arith}
 use Rattle.std.proofs.lemmas.Result.{err_from_is_err_and}
-use Rattle.rederivation.proofs.AgainSteps.{again_to, stops}
+use Rattle.dependency_map.specs.Maps.{asked_at}
+use Rattle.rederivation.proofs.AgainSteps.{again_to, anew_to, stops}
 use Rattle.rederivation.proofs.points_again.derive_again.Goals as goal
 
 pub returns-in_err-derive_more-clause-stop : goal.returns-in_err-derive_more-clause-stop
@@ -10,7 +11,10 @@ returns-in_err-derive_more-clause-stop g c =
 
 pub points-preserved : goal.points-preserved
 points-preserved g c = record {
-  again = again_to (g.R.Records.record_of c.args.records.now) (g.W.FactView.facts_of c.args.view.now) c.args.points.now c.points.c-index c.c-item.result c.points.made c.derive_more.new.made (omega (arith, c.points-test.true)) c.c-item.is
+  again = again_to (g.R.Records.record_of c.args.records.now) (g.W.FactView.facts_of c.args.view.now) c.args.points.now c.points.c-index c.c-item.result c.points.made c.derive_more.new.made _ _ (omega (arith, c.points-test.true)) c.c-item.is
       c.points.invariant.again c.in_ok-derive_more.ensures.added;
+  asks = anew_to (g.R.Records.record_of c.args.records.now) (g.W.FactView.facts_of c.args.view.now) c.args.points.now c.points.c-index c.c-item.result c.points.made c.derive_more.new.made (asked_at g.S.Store.next c.args.map.now) _ _ (omega (arith, c.points-test.true)) c.c-item.is
+      c.points.invariant.asks c.in_ok-derive_more.ensures.added;
+  now = λ d lt. c.derive_more.ensures.now d lt ∙ c.points.invariant.now d lt;
   steps = omega (arith, c.points.invariant.steps, c.derive_more.ensures.step);
 }

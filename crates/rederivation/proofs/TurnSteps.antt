@@ -1,0 +1,307 @@
+-- A turn, over the points that are derived again.
+use Rattle.std.proofs.Common.{◌≡◌, ◌≢◌, ℕ, zero, suc, ◌+◌, ◌-◌, ◌<◌, ◌≤◌, ◌==◌, nat_lt, Bool, true, false, true≢false, not, cond, ◌&&◌, ◌||◌, if◌then◌else◌, List, [], ◌∷◌, ◌++◌, length, get_or, filter, map, Ok, inl, inr, refl, sym, ap, subst, ◌∙◌, arith}
+use Rattle.std.specs.List.{list_any, range_with_len}
+use Rattle.std.specs.List.Sorted.{IsStrictlyIncreasing}
+use Rattle.std.proofs.lemmas.Bool.{cases_Bool, cases_eq, cases_lt, or_cases}
+use Rattle.std.proofs.lemmas.Bool.Decides.{nat_tests}
+use Rattle.std.proofs.lemmas.List.{get_or-append-add, length-append}
+use Rattle.std.proofs.lemmas.List.Folds.{Any-from_list_any, list_any-append}
+use Rattle.std.proofs.lemmas.List.Kept.{AllPairs-from_increasing, IsStrictlyIncreasing-filter}
+use Rattle.range_table.specs.Values.{point_count-is}
+use Rattle.ucd_model.specs.Facts.{Facts}
+use Rattle.ucd_model.specs.Limits.{point_count}
+use Rattle.ucd_model.specs.Records.{Record, derived, kept_record, record_at, record_or_rule}
+use Rattle.ucd_model.specs.Sameness.{is_in, same_record}
+use Rattle.ucd_model.specs.SamenessProofs.{records_are_told}
+use Rattle.ucd_model.specs.Validity.{broken}
+use Rattle.ucd_model.specs.ValidityLaws.{HasRecord, IsValid}
+use Rattle.ucd_model.specs.declared.form.Bad.{Bad as Rule}
+use Rattle.ucd_model.specs.declared.query.Query.{Query}
+use Rattle.ucd_model.specs.declared.records.Record.{Record as KeptRecord}
+use Rattle.record_list.specs.Runs.{AllBelow, RecordsOf, record_of, written}
+use Rattle.asked_queries.specs.Answers.{is_asked}
+use Rattle.asked_queries.specs.AnswerProofs.{same_bool}
+use Rattle.asked_queries.specs.Questions.{asked}
+use Rattle.asked_queries.specs.Turns.{IsTurn, KeepsAsked, SameQueries, asks_one}
+use Rattle.asked_queries.specs.TurnProofs.{collected_are_counted, next_is_broken, next_is_valid, next_keeps_asked, others_stay}
+use Rattle.dependency_map.specs.Askers.{askers_of_any, asks_any}
+use Rattle.dependency_map.specs.Laws.{AreThose}
+use Rattle.dependency_map.specs.LawProofs.{askers_are_those}
+use Rattle.rederivation.specs.Again.{AsksAnew, IsAgain, StopsAt, differs}
+use Rattle.rederivation.specs.Turned.{CountsWithin, IsReady, IsTurned, StopsTurn, changed_points}
+use Rattle.rederivation.specs.declared.again.Again.{Again}
+use Rattle.rederivation.specs.declared.again_stop.AgainStop.{AgainStop}
+use Rattle.rederivation.specs.declared.again_stop.AgainStop.TheVariants.{Broken, Memory}
+use Rattle.rederivation.proofs.AgainSteps.{ok_is}
+
+-- ---- tests
+
+below_true : (c n : ℕ) → c < n → nat_lt c n ≡ true
+below_true c n lt = grind (arith, nat_tests)
+
+true_below : (c n : ℕ) → nat_lt c n ≡ true → c < n
+true_below c n h = grind (arith, nat_tests)
+
+both : (x y : Bool) → x ≡ true → y ≡ true → (x && y) ≡ true
+both true y h k = k
+both false y h k = absurd (true≢false (sym h))
+
+parts : (x y : Bool) → (x && y) ≡ true → (x ≡ true) × (y ≡ true)
+parts true y h = (refl, h)
+parts false y h = absurd (true≢false (sym h))
+
+not_true : (b : Bool) → not b ≡ false → b ≡ true
+not_true true h = refl
+not_true false h = absurd (true≢false h)
+
+within : (c n : ℕ) (x y : List Query) → c < n → (if nat_lt c n then x else y) ≡ x
+within c n x y lt = ap (λ b. if b then x else y) (below_true c n lt)
+
+outside : (c n : ℕ) (x y : List Query) → n ≤ c → (if nat_lt c n then x else y) ≡ y
+outside c n x y le = by (nat_lt c n) refl
+  where
+    by : (b : Bool) → nat_lt c n ≡ b → (if nat_lt c n then x else y) ≡ y
+    by true e = let lt : c < n = true_below c n e in absurd (omega arith)
+    by false e = ap (λ t. if t then x else y) e
+
+-- ---- lists
+
+AllBelow-range : (high a n : ℕ) → a + n ≤ high → AllBelow high (range_with_len a n)
+AllBelow-range high a zero le = tt
+AllBelow-range high a (suc n) le = (omega (arith, le), AllBelow-range high (a + 1) n (omega (arith, le)))
+
+AllBelow-filter : (p : ℕ → Bool) (high : ℕ) (xs : List ℕ) → AllBelow high xs → AllBelow high (filter p xs)
+AllBelow-filter p high [] all = tt
+AllBelow-filter p high (x ∷ xs) all = by (p x) (AllBelow-filter p high xs all.1)
+  where
+    by : (b : Bool) → AllBelow high (filter p xs) → AllBelow high (cond b (x ∷ filter p xs) (filter p xs))
+    by true rest = (all.0, rest)
+    by false rest = rest
+
+range-rises : (a n : ℕ) → IsStrictlyIncreasing (range_with_len a n)
+range-rises a zero k lt = absurd (omega (arith, lt))
+range-rises a (suc zero) k lt = absurd (omega (arith, lt))
+range-rises a (suc (suc n)) zero lt = omega arith
+range-rises a (suc (suc n)) (suc k) lt =
+    let rest = range-rises (a + 1) (suc n) k (omega (arith, lt)) in
+    let next : suc k + 1 ≡ suc (k + 1) = omega arith in
+    subst (λ j. get_or (range_with_len a (suc (suc n))) (suc k) 0 < get_or (range_with_len a (suc (suc n))) j 0) (sym next) rest
+
+head : (p d e : ℕ → Bool) (a : ℕ) (xs : List ℕ) (b : Bool) → p a ≡ b → (b ≡ true → d a ≡ e a) → (b ≡ false → e a ≡ false) → filter d (filter p xs) ≡ filter e xs → filter d (filter p (a ∷ xs)) ≡ filter e (a ∷ xs)
+head p d e a xs true is same none rest =
+    ap (λ t. filter d (cond t (a ∷ filter p xs) (filter p xs))) is ∙ ap (λ (ys : List ℕ). cond (d a) (a ∷ ys) ys) rest
+    ∙ ap (λ t. cond t (a ∷ filter e xs) (filter e xs)) (same refl)
+head p d e a xs false is same none rest =
+    ap (λ t. filter d (cond t (a ∷ filter p xs) (filter p xs))) is ∙ rest ∙ ap (λ t. cond t (a ∷ filter e xs) (filter e xs)) (sym (none refl))
+
+filter_both : (p d e : ℕ → Bool) (a n : ℕ) → ((c : ℕ) → a ≤ c → c < a + n → d c ≡ e c) → ((c : ℕ) → a ≤ c → c < a + n → p c ≡ false → e c ≡ false)
+    → filter d (filter p (range_with_len a n)) ≡ filter e (range_with_len a n)
+filter_both p d e a zero same none = refl
+filter_both p d e a (suc n) same none =
+    head p d e a (range_with_len (a + 1) n) (p a) refl (λ h. same a (omega arith) (omega arith)) (none a (omega arith) (omega arith))
+    (filter_both p d e (a + 1) n (λ c le lt. same c (omega (arith, le)) (omega (arith, lt))) (λ c le lt. none c (omega (arith, le)) (omega (arith, lt))))
+
+in_filter : (p : ℕ → Bool) (c : ℕ) (xs : List ℕ) → p c ≡ true → is_in xs c ≡ true → is_in (filter p xs) c ≡ true
+in_filter p c [] passes h = h
+in_filter p c (x ∷ xs) passes h =
+    elim (cases_eq x c) [
+      | inl same ↦
+          let here : p x ≡ true = ap p same ∙ passes in
+          let first : (x == c) ≡ true = grind (arith, nat_tests) in
+          ap (λ b. is_in (cond b (x ∷ filter p xs) (filter p xs)) c) here ∙ ap (λ b. b || is_in (filter p xs) c) first
+      | inr other ↦
+          let first : (x == c) ≡ false = grind (arith, nat_tests) in
+          more (p x) (in_filter p c xs passes (sym (ap (λ b. b || is_in xs c) first) ∙ h))
+    ]
+  where
+    or_right : (a b : Bool) → b ≡ true → (a || b) ≡ true
+    or_right true b e = refl
+    or_right false b e = e
+
+    more : (b : Bool) → is_in (filter p xs) c ≡ true → is_in (cond b (x ∷ filter p xs) (filter p xs)) c ≡ true
+    more true rest = or_right (x == c) (is_in (filter p xs) c) rest
+    more false rest = rest
+
+-- ---- what is written
+
+written_here : (p : ℕ) (points : List ℕ) (r : KeptRecord) (records : List KeptRecord) (R : ℕ → Record) (c : ℕ) → c ≡ p → written (p ∷ points) (r ∷ records) R c ≡ kept_record r
+written_here p points r records R c same = grind (arith, nat_tests)
+
+written_there : (p : ℕ) (points : List ℕ) (r : KeptRecord) (records : List KeptRecord) (R : ℕ → Record) (c : ℕ) → c ≢ p → written (p ∷ points) (r ∷ records) R c ≡ written points records R c
+written_there p points r records R c other = grind (arith, nat_tests)
+
+in_here : (p : ℕ) (points : List ℕ) (c : ℕ) → c ≡ p → is_in (p ∷ points) c ≡ true
+in_here p points c same = grind (arith, nat_tests)
+
+in_there : (p : ℕ) (points : List ℕ) (c : ℕ) → c ≢ p → is_in (p ∷ points) c ≡ is_in points c
+in_there p points c other = grind (arith, nat_tests)
+
+written_one : (points : List ℕ) (records : List KeptRecord) (f R : ℕ → Record) (c : ℕ) → map kept_record records ≡ map f points → is_in points c ≡ true → written points records R c ≡ f c
+written_one [] records f R c is h = absurd (true≢false (sym h))
+written_one (p ∷ points) [] f R c is h = cc
+written_one (p ∷ points) (r ∷ records) f R c is h =
+    let first : kept_record r ≡ f p = cc in
+    let rest : map kept_record records ≡ map f points = cc in
+    elim (cases_eq c p) [
+      | inl same ↦ written_here p points r records R c same ∙ first ∙ ap f (sym same)
+      | inr other ↦ written_there p points r records R c other ∙ written_one points records f R c rest (sym (in_there p points c other) ∙ h)
+    ]
+
+written_none : (points : List ℕ) (records : List KeptRecord) (R : ℕ → Record) (c : ℕ) → is_in points c ≡ false → written points records R c ≡ R c
+written_none [] records R c h = refl
+written_none (p ∷ points) [] R c h = refl
+written_none (p ∷ points) (r ∷ records) R c h =
+    elim (cases_eq c p) [
+      | inl same ↦ absurd (true≢false (sym (in_here p points c same) ∙ h))
+      | inr other ↦ written_there p points r records R c other ∙ written_none points records R c (sym (in_there p points c other) ∙ h)
+    ]
+
+-- ---- the points up to one
+
+not_below : (front behind : List ℕ) (point c : ℕ) → IsStrictlyIncreasing (front ++ point ∷ behind) → is_in (point ∷ behind) c ≡ true → point ≤ c
+not_below front behind point c rising h =
+    let (k, x, lt, at, same) = Any-from_list_any (λ (y : ℕ). y == c) (point ∷ behind) h in
+    let is : x ≡ c = grind (arith, nat_tests) in
+    place k x lt at is
+  where
+    place : (k x : ℕ) → k < length (point ∷ behind) → get_or (point ∷ behind) k x ≡ x → x ≡ c → point ≤ c
+    place zero x lt at is = let here : point ≡ x = at in omega (arith, here, is)
+    place (suc k) x lt at is =
+        let all = length-append front (point ∷ behind) in
+        let first : get_or (front ++ point ∷ behind) (length front + 0) x ≡ point = get_or-append-add front (point ∷ behind) 0 x in
+        let there : get_or (front ++ point ∷ behind) (length front + suc k) x ≡ x = get_or-append-add front (point ∷ behind) (suc k) x ∙ at in
+        let less : get_or (front ++ point ∷ behind) (length front + 0) x < get_or (front ++ point ∷ behind) (length front + suc k) x =
+        AllPairs-from_increasing (front ++ point ∷ behind) rising (length front + 0) (length front + suc k) x (omega arith) (omega (arith, all, lt)) in
+        omega (arith, less, first, there, is)
+
+-- what B gives below the last code point, and A above it
+abbrev picked : (ℕ → List Query) → (ℕ → List Query) → ℕ → List Query
+picked A B k = if nat_lt k point_count then B k else A k
+
+-- ---- what is ready
+
+module _ (F G : ℕ → Facts) (R : ℕ → Record) (A N : ℕ → List Query) (Q : List Query) (points : List ℕ) (ready : IsReady F G R A N Q) (askers : points ≡ askers_of_any A Q) where
+  those : AreThose (asks_any A Q) points
+  those = subst (AreThose (asks_any A Q)) (sym askers) (askers_are_those.1 A Q)
+
+  members : (c : ℕ) → is_in points c ≡ (nat_lt c point_count && asks_one A Q c)
+  members c =
+      same_bool (is_in points c) (nat_lt c point_count && asks_one A Q c)
+      (λ h. let one = those.only c h in both (nat_lt c point_count) (asks_one A Q c) (below_true c point_count (subst (λ n. c < n) (sym point_count-is) one.0)) one.1)
+      (λ h. let two = parts (nat_lt c point_count) (asks_one A Q c) h in those.all c (subst (λ n. c < n) point_count-is (true_below c point_count two.0)) two.1)
+
+  turn_of : IsTurn F G A Q points
+  turn_of = record { valid = ready.valid; kept = ready.kept; changes = ready.changes; collected = record { rising = those.rising; members = members } }
+
+  same_others : (c : ℕ) → c < point_count → is_in points c ≡ false → record_at G c ≡ record_at F c
+  same_others c lt h =
+      let (X, has) = ready.valid c lt in
+      let stay = others_stay F G A Q points turn_of c lt h in
+      sym (ok_is (record_at G c) X (broken G c) (stay.0 ∙ has)) ∙ ok_is (record_at F c) X (broken F c) has
+
+  pub counts : (old new : ℕ) → new ≤ old + length points → CountsWithin F G old new
+  counts old new le = (length points, collected_are_counted F G A Q points turn_of, le)
+
+  -- the stop
+  pub stops_turn : (stop : AgainStop) → StopsAt G points stop → StopsTurn G stop
+  stops_turn (Broken rule point) (front, behind, split, has, breaks) =
+      next_is_broken F G A Q points turn_of (record { point = point; rule = rule }) (subst (λ (xs : List ℕ). is_in xs point ≡ true) (sym split) here) breaks
+      (λ c h lt. has c (in_part c lt (subst (λ (xs : List ℕ). is_in xs c ≡ true) split h)))
+    where
+      halves : (c : ℕ) → is_in (front ++ point ∷ behind) c ≡ (is_in front c || is_in (point ∷ behind) c)
+      halves c = list_any-append (λ x. x == c) front (point ∷ behind)
+
+      or_last : (b : Bool) → (b || true) ≡ true
+      or_last true = refl
+      or_last false = refl
+
+      here : is_in (front ++ point ∷ behind) point ≡ true
+      here = halves point ∙ ap (λ b. is_in front point || b) (in_here point behind point refl) ∙ or_last (is_in front point)
+
+      in_part : (c : ℕ) → c < point → is_in (front ++ point ∷ behind) c ≡ true → is_in front c ≡ true
+      in_part c lt h =
+          elim (or_cases (is_in front c) (is_in (point ∷ behind) c) (sym (halves c) ∙ h)) [
+            | inl first ↦ first
+            | inr last ↦
+                let past : point ≤ c = not_below front behind point c (subst IsStrictlyIncreasing split those.rising) last in
+                absurd (omega (arith, past, lt))
+          ]
+  stops_turn Memory found = tt
+
+  -- the points that changed
+  changed_is : (made : Again) → IsAgain R G points made → made.changed ≡ changed_points F G
+  changed_is made again =
+      let all : 0 + (point_count - 0) ≡ point_count = omega arith in
+      let whole : point_count - 0 ≡ point_count = omega arith in
+      again.changed ∙ ap (filter (differs R G)) askers
+      ∙ filter_both (asks_any A Q) (differs R G) (λ c. not (same_record (record_at F c) (record_at G c))) 0 (point_count - 0)
+      (λ c le lt. ap (λ (r : Record). not (same_record r (record_at G c))) (ready.records c (subst (λ n. c < n) all lt)))
+      (λ c le lt none.
+      let inside : c < point_count = subst (λ n. c < n) all lt in
+      let same : record_at G c ≡ record_at F c = same_others c inside (members c ∙ ap (λ b. nat_lt c point_count && b) none ∙ and_false (nat_lt c point_count)) in
+      ap not ((records_are_told (record_at F c) (record_at G c)).1 (sym same)))
+      ∙ ap (λ n. filter (λ c. not (same_record (record_at F c) (record_at G c))) (range_with_len 0 n)) whole
+    where
+      and_false : (b : Bool) → (b && false) ≡ false
+      and_false true = refl
+      and_false false = refl
+
+  -- the records
+  unchanged : (made : Again) → IsAgain R G points made → (c : ℕ) → c < point_count → is_in made.changed c ≡ false → R c ≡ record_at G c
+  unchanged made again c lt none =
+      elim (cases_Bool (is_in points c)) [
+        | inl inside ↦
+            elim (cases_Bool (differs R G c)) [
+              | inl other ↦ absurd (true≢false (sym (in_filter (differs R G) c points other inside) ∙ sym (ap (λ (xs : List ℕ). is_in xs c) again.changed) ∙ none))
+              | inr same ↦ (records_are_told (R c) (record_at G c)).0 (not_true (same_record (R c) (record_at G c)) same)
+            ]
+        | inr other ↦ ready.records c lt ∙ sym (same_others c lt other)
+      ]
+
+  records_next : (made : Again) → IsAgain R G points made → (c : ℕ) → c < point_count → written made.changed made.records.items R c ≡ record_at G c
+  records_next made again c lt =
+      elim (cases_Bool (is_in made.changed c)) [
+        | inl inside ↦ written_one made.changed made.records.items (record_at G) R c again.records inside
+        | inr other ↦ written_none made.changed made.records.items R c other ∙ unchanged made again c lt other
+      ]
+
+  -- the questions
+  kept_next : (B : ℕ → List Query) → AsksAnew G points N B → KeepsAsked B G
+  kept_next B asks c lt =
+      λ q. ap (λ (qs : List Query). is_asked qs q) (sym (within c point_count (B c) (A c) lt)) ∙ next_keeps_asked F G A (picked A B) Q points turn_of anew others c lt q
+    where
+      anew : (k : ℕ) → is_in points k ≡ true → SameQueries (picked A B k) (asked G k)
+      anew k h =
+          let inside : k < 1114112 = (those.only k h).0 in
+          λ q. ap (λ (qs : List Query). is_asked qs q) (within k point_count (B k) (A k) (subst (λ n. k < n) (sym point_count-is) inside)) ∙ asks.anew k inside h q
+
+      others : (k : ℕ) → is_in points k ≡ false → SameQueries (picked A B k) (A k)
+      others k h =
+          elim (cases_lt k point_count) [
+            | inl inside ↦
+                let at : k < 1114112 = subst (λ n. k < n) point_count-is inside in
+                λ q. ap (λ (qs : List Query). is_asked qs q) (within k point_count (B k) (A k) inside ∙ asks.others k at h ∙ ready.still k at)
+            | inr past ↦ λ q. ap (λ (qs : List Query). is_asked qs q) (outside k point_count (B k) (A k) past)
+          ]
+
+  pub turned : (made : Again) (S : ℕ → Record) (B : ℕ → List Query) → IsAgain R G points made → AsksAnew G points N B → ((c : ℕ) → c < point_count → S c ≡ written made.changed made.records.items R c) → IsTurned F G S B made.changed
+  turned made S B again asks records = record {
+    valid = next_is_valid F G A Q points turn_of again.has;
+    records = λ c lt. records c lt ∙ records_next made again c lt;
+    kept = kept_next B asks;
+    changed = changed_is made again;
+  }
+
+-- ---- what needs no turn
+
+pub changed_rises : (R : ℕ → Record) (G : ℕ → Facts) (A : ℕ → List Query) (Q : List Query) (points : List ℕ) (made : Again) → points ≡ askers_of_any A Q → IsAgain R G points made → IsStrictlyIncreasing made.changed
+changed_rises R G A Q points made askers again =
+    subst IsStrictlyIncreasing (sym again.changed) (IsStrictlyIncreasing-filter (differs R G) points (subst IsStrictlyIncreasing (sym askers) (askers_are_those.1 A Q).rising))
+
+pub changed_below : (R : ℕ → Record) (G : ℕ → Facts) (A : ℕ → List Query) (Q : List Query) (points : List ℕ) (made : Again) → points ≡ askers_of_any A Q → IsAgain R G points made → AllBelow point_count made.changed
+changed_below R G A Q points made askers again =
+    subst (AllBelow point_count) (sym (again.changed ∙ ap (filter (differs R G)) askers))
+    (AllBelow-filter (differs R G) point_count (askers_of_any A Q) (AllBelow-filter (asks_any A Q) point_count (range_with_len 0 (point_count - 0)) (AllBelow-range point_count 0 (point_count - 0) (omega arith))))
+
+pub counts_none : (F G : ℕ → Facts) (n : ℕ) → CountsWithin F G n n
+counts_none F G n = (0, ([], record { rising = λ k lt. absurd (omega (arith, lt)); inside = λ c h. absurd (true≢false (sym h)); each = λ c h. absurd (true≢false (sym h)) }, omega arith), omega arith)

@@ -1,0 +1,48 @@
+-- A turn from the facts of one release to those of the next one: what is kept of all code points, before it and after it.
+--
+-- F is the facts of each code point before, and G the facts after.
+-- changed_points F G         the code points, ascending, whose records differ over F and G
+-- IsReady F G R A N Q        before: all code points have a record over F, R is these records, A what the code points ask, N, what is
+--                            next, is the same, and Q are the questions that F and G do not answer alike
+-- IsTurned F G S B points    after: all code points have a record over G, S is these records, B what the code points ask, and the
+--                            points are those whose records differ
+-- StopsTurn G stop           the stop names the least code point that breaks a rule over G, with its first rule; want of memory says
+--                            nothing
+-- CountsWithin F G old new   the counter rises by at most the number of code points that depend on the change
+use Rattle.std.specs.Prelude.{◌≡◌, ℕ, ◌+◌, ◌<◌, ◌≤◌, not, List, filter, Some, ⊤}
+use Rattle.std.specs.List.{range_with_len}
+use Rattle.range_table.specs.Values.{SameValues}
+use Rattle.ucd_model.specs.Facts.{Facts}
+use Rattle.ucd_model.specs.Limits.{point_count}
+use Rattle.ucd_model.specs.Records.{Record, record_at}
+use Rattle.ucd_model.specs.Sameness.{same_record}
+use Rattle.ucd_model.specs.Validity.{first_broken}
+use Rattle.ucd_model.specs.ValidityLaws.{IsValid}
+use Rattle.ucd_model.specs.declared.query.Query.{Query}
+use Rattle.asked_queries.specs.Answers.{TellsChanges}
+use Rattle.asked_queries.specs.Turns.{IsWithinDependants, KeepsAsked}
+use Rattle.rederivation.specs.declared.again_stop.AgainStop.{AgainStop}
+use Rattle.rederivation.specs.declared.again_stop.AgainStop.TheVariants.{Broken, Memory}
+
+abbrev pub changed_points : (ℕ → Facts) → (ℕ → Facts) → List ℕ
+changed_points F G = filter (λ c. not (same_record (record_at F c) (record_at G c))) (range_with_len 0 point_count)
+
+pub record IsReady (F G : ℕ → Facts) (R : ℕ → Record) (A N : ℕ → List Query) (Q : List Query) : Type 0 where
+  pub valid : IsValid F
+  pub records : (c : ℕ) → c < point_count → R c ≡ record_at F c
+  pub kept : KeepsAsked A F
+  pub still : SameValues N A
+  pub changes : TellsChanges F G Q
+
+pub record IsTurned (F G : ℕ → Facts) (S : ℕ → Record) (B : ℕ → List Query) (points : List ℕ) : Type 0 where
+  pub valid : IsValid G
+  pub records : (c : ℕ) → c < point_count → S c ≡ record_at G c
+  pub kept : KeepsAsked B G
+  pub changed : points ≡ changed_points F G
+
+abbrev pub StopsTurn : (ℕ → Facts) → AgainStop → Type 0
+StopsTurn G (Broken rule point) = first_broken G ≡ Some (record { point = point; rule = rule })
+StopsTurn G Memory = ⊤
+
+abbrev pub CountsWithin : (ℕ → Facts) → (ℕ → Facts) → ℕ → ℕ → Type 0
+CountsWithin F G old new = (n : ℕ) × IsWithinDependants F G n × (new ≤ old + n)

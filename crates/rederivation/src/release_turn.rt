@@ -1,0 +1,60 @@
+//! A turn: what is kept of all code points goes from the facts of one release to those of the next one.
+
+ghost use Rattle.std.specs.Prelude.{◌≡◌, ℕ, IfErr, IfOk};
+ghost use Rattle.range_table.specs.Values.{SameValues};
+ghost use Rattle.ucd_model.specs.Facts.{Facts};
+ghost use Rattle.record_list.specs.Runs.{record_now, record_of};
+ghost use Rattle.dependency_map.specs.Maps.{asked_at};
+ghost use Rattle.rederivation.specs.Turned.{CountsWithin, IsReady, IsTurned, StopsTurn};
+
+use crate::again_stop::AgainStop;
+use crate::points_again::derive_again;
+use dependency_map::DependencyMap;
+use kept_values::Store;
+use record_list::RecordTable;
+use std::alloc::Global;
+use std::sync::ledger::Ledger;
+use ucd_model::{FactView, Points, Queries, Steps};
+
+/// Derives the code points that ask one of the questions over the facts of a view, prepares their records and what they
+/// ask, and answers those whose records differ, in ascending order. No other code point is derived.
+///
+/// The questions are those that the view does not answer as the facts did that the records and the map are of. The counter
+/// rises by at most the number of code points that depend on the change.
+///
+/// - `Broken { rule, point }`: the facts of the view are not valid. The least code point that breaks a rule is named, with
+///   its first rule.
+/// - `Memory`: memory ran out.
+///
+/// After either, some may be prepared.
+pub fn turn<W: FactView, S: Store<Option<Queries>>, L: Ledger>(
+    alloc: Global,
+    view: &W,
+    queries: &Queries,
+    records: &mut RecordTable,
+    map: &mut DependencyMap<S>,
+    steps: &mut Steps<L>,
+) -> Result<Points, AgainStop>
+    ensures now { records.new.current ≡ records.old.current }
+    ensures asked { SameValues (asked_at S.now map.new) (asked_at S.now map.old) }
+    ensures turned { IfOk result (λ changed. (F : ℕ → Facts)
+        → IsReady F (W.facts_of view.now) (record_now records.old) (asked_at S.now map.old) (asked_at S.next map.old) queries.now
+        → IsTurned F (W.facts_of view.now) (record_of records.new.prepared) (asked_at S.next map.new) changed) }
+    ensures stop { IfErr result (λ stop. (F : ℕ → Facts)
+        → IsReady F (W.facts_of view.now) (record_now records.old) (asked_at S.now map.old) (asked_at S.next map.old) queries.now
+        → StopsTurn (W.facts_of view.now) stop) }
+    ensures steps { (F : ℕ → Facts)
+        → IsReady F (W.facts_of view.now) (record_now records.old) (asked_at S.now map.old) (asked_at S.next map.old) queries.now
+        → CountsWithin F (W.facts_of view.now) steps.old steps.new }
+{
+    let points = map.collect(alloc, queries)?;
+    match derive_again(alloc, view, &*records, points.as_slice(), map, steps) {
+        Ok(again) => {
+            let values = again.records;
+            let changed = again.changed;
+            records.prepare(alloc, changed.as_slice(), values)?;
+            Ok(changed)
+        }
+        Err(stop) => Err(stop),
+    }
+}

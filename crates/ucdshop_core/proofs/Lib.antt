@@ -4,6 +4,7 @@ pub mod LoadingLemmas
 pub mod VerdictLemmas
 pub mod BenchLemmas
 pub mod OutputLemmas
+pub mod PathLemmas
 pub mod PlanningLemmas
 pub mod QuestionLemmas
 pub mod AskingLemmas

@@ -8,6 +8,7 @@ pub mod Session
 pub mod Run
 pub mod Outcome
 pub mod Promises
+pub mod OutputLaws
 pub mod Codes
 pub mod Commands
 pub mod Reading

@@ -12,6 +12,7 @@ mod gathering;
 mod inputs;
 mod judging;
 mod judging_script;
+pub mod laws;
 mod log;
 mod outputs;
 mod perfect_run;

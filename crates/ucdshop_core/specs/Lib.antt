@@ -16,4 +16,5 @@ pub mod Judging
 pub mod Writing
 pub mod Carrying
 pub mod Asking
+pub mod Answering
 pub mod Planning

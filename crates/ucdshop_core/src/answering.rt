@@ -1,6 +1,6 @@
 //! Answering the questions of a script that stand directly behind one another.
 
-ghost use Rattle.std.specs.Prelude.{◌≡◌, ◌∷◌, ◌+◌, ◌<◌, ◌≤◌, ◌^◌, ⊤, fold, length, IfOk, OnOk};
+ghost use Rattle.std.specs.Prelude.{◌≡◌, ◌∷◌, ◌+◌, ◌<◌, ◌^◌, ⊤, length, IfOk, OnOk};
 ghost use Rattle.std.specs.List.{All};
 ghost use Rattle.std.specs.Option.{MatchOption};
 ghost use Rattle.edit_session.specs.Benches.{bench_record};
@@ -8,8 +8,9 @@ ghost use Rattle.script_lines.specs.Groups.{IsReady};
 ghost use Rattle.script_lines.specs.declared.command.What.TheVariants.{Question};
 ghost use Rattle.ucd_model.specs.Cuts.{IsCut};
 ghost use Rattle.ucd_model.specs.Limits.{point_count};
-ghost use Rattle.ucdshop_core.specs.Carrying.{counted, session_of, session_on, question_command};
-ghost use Rattle.ucdshop_core.specs.Session.{step, step_by};
+ghost use Rattle.ucdshop_core.specs.Answering.{AnswersFront};
+ghost use Rattle.ucdshop_core.specs.Carrying.{counted, session_on, question_command};
+ghost use Rattle.ucdshop_core.specs.Session.{step_by};
 
 use crate::ask_stop::AskStop;
 use crate::asking::Asking;
@@ -34,10 +35,7 @@ pub fn answer_run<'c>(
 ) -> Result<&'c [Command], Memory>
     requires room { counted carried.old + 1 + length behind.now < 2 ^ 64 }
     requires ready { All IsReady behind.now }
-    ensures session { IfOk result (λ rest. fold step (session_of bench.now carried.new) rest.now ≡ fold step (step_by (session_of bench.now carried.old) line (Question text.now)) behind.now) }
-    ensures counted { IfOk result (λ rest. counted carried.new + length rest.now ≡ counted carried.old + 1 + length behind.now) }
-    ensures left { IfOk result (λ rest. length rest.now ≤ length behind.now) }
-    ensures ready { IfOk result (λ rest. All IsReady rest.now) }
+    ensures { IfOk result (λ rest. AnswersFront bench.now.current (step_by (session_on bench.now.current carried.old) line (Question text.now)) (counted carried.old + 1) behind.now carried.new rest.now) }
 {
     let pieces = bench_pieces(alloc, bench)?;
     answer_over(alloc, bench, pieces.as_slice(), line, text, behind, carried)
@@ -56,13 +54,12 @@ fn answer_over<'c>(
     requires pieces { IsCut (bench_record bench.now) 0 point_count pieces.now }
     requires room { counted carried.old + 1 + length behind.now < 2 ^ 64 }
     requires ready { All IsReady behind.now }
-    ensures session { IfOk result (λ rest. fold step (session_of bench.now carried.new) rest.now ≡ fold step (step_by (session_of bench.now carried.old) line (Question text.now)) behind.now) }
-    ensures counted { IfOk result (λ rest. counted carried.new + length rest.now ≡ counted carried.old + 1 + length behind.now) }
-    ensures left { IfOk result (λ rest. length rest.now ≤ length behind.now) }
-    ensures ready { IfOk result (λ rest. All IsReady rest.now) }
+    ensures { IfOk result (λ rest. AnswersFront bench.now.current (step_by (session_on bench.now.current carried.old) line (Question text.now)) (counted carried.old + 1) behind.now carried.new rest.now) }
 {
-    let asking = Asking::of(alloc, bench, pieces)?;
-    answer_first(alloc, &asking, line, text, behind, carried)
+    match Asking::of(alloc, bench, pieces) {
+        Ok(asking) => answer_first(alloc, &asking, line, text, behind, carried),
+        Err(stop) => Err(stop),
+    }
 }
 
 /// The same by what answers questions on the bench.
@@ -76,10 +73,7 @@ fn answer_first<'c>(
 ) -> Result<&'c [Command], Memory>
     requires room { counted carried.old + 1 + length behind.now < 2 ^ 64 }
     requires ready { All IsReady behind.now }
-    ensures session { IfOk result (λ rest. fold step (session_on asking.now carried.new) rest.now ≡ fold step (step_by (session_on asking.now carried.old) line (Question text.now)) behind.now) }
-    ensures counted { IfOk result (λ rest. counted carried.new + length rest.now ≡ counted carried.old + 1 + length behind.now) }
-    ensures left { IfOk result (λ rest. length rest.now ≤ length behind.now) }
-    ensures ready { IfOk result (λ rest. All IsReady rest.now) }
+    ensures { IfOk result (λ rest. AnswersFront asking.now (step_by (session_on asking.now carried.old) line (Question text.now)) (counted carried.old + 1) behind.now carried.new rest.now) }
 {
     answer_one(alloc, asking, line, text, carried)?;
     answer_more(alloc, asking, behind, carried)
@@ -94,10 +88,7 @@ fn answer_more<'c>(
 ) -> Result<&'c [Command], Memory>
     requires room { counted carried.old + length commands.now < 2 ^ 64 }
     requires ready { All IsReady commands.now }
-    ensures session { IfOk result (λ rest. fold step (session_on asking.now carried.new) rest.now ≡ fold step (session_on asking.now carried.old) commands.now) }
-    ensures counted { IfOk result (λ rest. counted carried.new + length rest.now ≡ counted carried.old + length commands.now) }
-    ensures left { IfOk result (λ rest. length rest.now ≤ length commands.now) }
-    ensures ready { IfOk result (λ rest. All IsReady rest.now) }
+    ensures { IfOk result (λ rest. AnswersFront asking.now (session_on asking.now carried.old) (counted carried.old) commands.now carried.new rest.now) }
 {
     let mut rest = commands;
     'questions: while let Some((line, text, behind)) = first_question(rest) {

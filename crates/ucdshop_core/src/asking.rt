@@ -48,7 +48,7 @@ impl<'b> Model for Asking<'b> {
 fn index_of<'b>(
     alloc: Global,
     bench: &'b Bench,
-    pieces: &'b [Span],
+    pieces: &[Span],
 ) -> Result<SetIndex<'b, Bench>, Memory>
     requires { IsCut (bench_record bench.now) 0 point_count pieces.now }
     ensures { IfOk result (λ index. index_holds bench_record index ≡ files_hold bench.now.current) }
@@ -87,7 +87,7 @@ impl<'b> Asking<'b> {
     /// What answers questions on the release of a bench, whose pieces of equal records these are.
     ///
     /// - `Memory`: memory ran out.
-    pub fn of(alloc: Global, bench: &'b Bench, pieces: &'b [Span]) -> Result<Asking<'b>, Memory>
+    pub fn of(alloc: Global, bench: &'b Bench, pieces: &[Span]) -> Result<Asking<'b>, Memory>
         requires { IsCut (bench_record bench.now) 0 point_count pieces.now }
         ensures { IfOk result (λ asking. asking ≡ bench.now.current) }
     {

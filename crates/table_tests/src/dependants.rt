@@ -37,34 +37,68 @@ fn has_askers(map: &Map, query: Query, wanted: &[u32]) -> bool {
     askers.next().is_none()
 }
 
+fn expect(rt: &impl Abort, map: &Map, query: Query, wanted: &[u32]) {
+    let found = has_askers(map, query, wanted);
+    assert!(rt; found, "{query:?}");
+}
+
+/// Gives a letter what it asks, which decomposes to `base` and `mark`.
+fn put(alloc: Global, map: &mut Map, c: u32, base: u32, mark: u32) -> Result<(), Fail> {
+    let c = point(c)?;
+    let asked = composed(alloc, c, point(base)?, point(mark)?)?;
+    map.prepare(c, &asked)?;
+    Ok(())
+}
+
+/// A with acute is put before A with grave: the answers ascend all the same.
+fn put_letters(alloc: Global, map: &mut Map) -> Result<(), Fail> {
+    put(alloc, map, 0xC1, 0x41, 0x301)?;
+    put(alloc, map, 0xC0, 0x41, 0x300)?;
+    Ok(())
+}
+
+fn row(number: u32) -> Result<Query, Fail> {
+    Ok(Query::Row(point(number)?))
+}
+
+/// The pair that A with grave asks.
+fn grave_pair() -> Result<Query, Fail> {
+    Ok(Query::Pair(point(0x41)?, point(0x300)?))
+}
+
 #[test]
-fn letters_with_marks(rt: HostRuntime) -> Result<(), Fail> {
+fn askers_of_letters_with_marks(rt: HostRuntime) -> Result<(), Fail> {
     let mut map: Map = DependencyMap::new(rt.alloc());
     look_at_letters(&rt, rt.alloc(), &mut map)
 }
 
 fn look_at_letters(rt: &impl Abort, alloc: Global, map: &mut Map) -> Result<(), Fail> {
-    let (a, grave, acute) = (point(0x41)?, point(0x300)?, point(0x301)?);
-    let pair = Query::Pair(a, grave);
-    // A with acute before A with grave: the answers ascend all the same
-    map.prepare(point(0xC1)?, &composed(alloc, point(0xC1)?, a, acute)?)?;
-    map.prepare(point(0xC0)?, &composed(alloc, point(0xC0)?, a, grave)?)?;
-    assert!(rt; has_askers(map, Query::Row(a), &[0x41]));
+    put_letters(alloc, map)?;
+    let (a, pair) = (row(0x41)?, grave_pair()?);
+    expect(rt, map, a, &[0x41]);
     map.commit();
-    assert!(rt; has_askers(map, Query::Row(a), &[0x41, 0xC0, 0xC1]));
-    assert!(rt; has_askers(map, pair, &[0xC0]));
-    assert!(rt; has_askers(map, Query::Second(grave), &[0x300]));
-    assert!(rt; map.asks(point(0xC0)?, pair) && !map.asks(point(0xC1)?, pair));
-    // a list without questions is not that of a plain code point
-    map.prepare(point(0xC0)?, &Queries::new(alloc))?;
-    assert!(rt; has_askers(map, pair, &[0xC0]));
+    expect(rt, map, a, &[0x41, 0xC0, 0xC1]);
+    expect(rt, map, pair, &[0xC0]);
+    Ok(())
+}
+
+#[test]
+fn a_list_without_questions(rt: HostRuntime) -> Result<(), Fail> {
+    let mut map: Map = DependencyMap::new(rt.alloc());
+    take_questions(&rt, rt.alloc(), &mut map)
+}
+
+/// A list without questions is not that of a plain code point.
+fn take_questions(rt: &impl Abort, alloc: Global, map: &mut Map) -> Result<(), Fail> {
+    let (c, own) = (point(0xC0)?, row(0xC0)?);
+    map.prepare(c, &Queries::new(alloc))?;
+    expect(rt, map, own, &[0xC0]);
     map.discard();
     map.commit();
-    assert!(rt; has_askers(map, Query::Row(point(0xC0)?), &[0xC0]));
-    map.prepare(point(0xC0)?, &Queries::new(alloc))?;
+    expect(rt, map, own, &[0xC0]);
+    map.prepare(c, &Queries::new(alloc))?;
     map.commit();
-    assert!(rt; has_askers(map, pair, &[]));
-    assert!(rt; has_askers(map, Query::Row(point(0xC0)?), &[]));
+    expect(rt, map, own, &[]);
     Ok(())
 }
 
@@ -94,16 +128,33 @@ fn agree(rt: &impl Abort, map: &Map, plain: &Plain) {
 }
 
 fn agree_at(rt: &impl Abort, map: &Map, plain: &Plain, query: Query, number: u64) {
+    let same = has_same_askers(map, plain, query, number);
+    assert!(rt;
+        same && is_asked_alike(map, plain, query, number),
+        "{query:?}"
+    );
+}
+
+fn has_same_askers(map: &Map, plain: &Plain, query: Query, number: u64) -> bool {
     let mut askers = map.askers(query);
     for at in 0..POINTS {
         let asks = asked_now(plain, at) >> (number % 64) & 1 == 1;
-        if asks {
-            assert_eq!(rt; askers.next().map(|c| c.number()), Some(at), "{query:?}");
+        if asks && askers.next().map(|c| c.number()) != Some(at) {
+            return false;
         }
-        let found = Point::new(at).map_or(false, |c| map.asks(c, query));
-        assert_eq!(rt; found, asks, "{at} {query:?}");
     }
-    assert!(rt; askers.next().is_none(), "{query:?}");
+    askers.next().is_none()
+}
+
+fn is_asked_alike(map: &Map, plain: &Plain, query: Query, number: u64) -> bool {
+    for at in 0..POINTS {
+        let asks = asked_now(plain, at) >> (number % 64) & 1 == 1;
+        let found = Point::new(at).map_or(false, |c| map.asks(c, query));
+        if found != asks {
+            return false;
+        }
+    }
+    true
 }
 
 /// The questions of a code point now, a bit for each.

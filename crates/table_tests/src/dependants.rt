@@ -92,7 +92,6 @@ fn a_list_without_questions(rt: HostRuntime) -> Result<(), Fail> {
 fn take_questions(rt: &impl Abort, alloc: Global, map: &mut Map) -> Result<(), Fail> {
     let (c, own) = (point(0xC0)?, row(0xC0)?);
     map.prepare(c, &Queries::new(alloc))?;
-    expect(rt, map, own, &[0xC0]);
     map.discard();
     map.commit();
     expect(rt, map, own, &[0xC0]);

@@ -71,7 +71,7 @@ fn with_questions<W: FactView>(
     }
 }
 
-/// The questions that the derivation of a code point asks that has its record, in their order, each of them once.
+/// The questions that the derivation of a code point with a record asks, in their order, each of them once.
 ///
 /// - `Memory`: memory ran out.
 pub fn questions_of<W: FactView>(alloc: Global, view: &W, c: Point) -> Result<Queries, Memory>

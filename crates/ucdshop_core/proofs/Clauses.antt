@@ -1,9 +1,10 @@
 -- What each status says, from what a run leaves.
-use Rattle.std.proofs.Common.{◌≡◌, ◌≢◌, ◌⊎◌, ◌↔◌, ℕ, IsTrue, List, Option, Some, None, refl, ap, subst, inl, inr}
+use Rattle.std.proofs.Common.{◌≡◌, ◌≢◌, ◌⊎◌, ◌↔◌, ℕ, IsTrue, List, [], Option, Some, None, refl, ap, subst, ◌∙◌, inl, inr}
+use Rattle.std.specs.List.{slice_get}
 use Rattle.shelf_io.specs.Counts.{Rose}
 use Rattle.shelf_io.specs.Contents.{SameContents}
 use Rattle.ucdshop_core.specs.Printed.{usage, read_failed, out_of_memory}
-use Rattle.ucdshop_core.specs.Run.{Job, form, Ending, Expected, NoForm, Refuses, Finishes, Seen, expected, expected_of, everywhere, Replaced, Sees, EndsAs, IsFine}
+use Rattle.ucdshop_core.specs.Run.{Job, form, needed, Ending, Expected, NoForm, Refuses, Finishes, Seen, expected, expected_of, everywhere, Replaced, Sees, EndsAs, IsFine}
 use Rattle.ucdshop_core.specs.Outcome.{ShelfSeen, SinkSeen, Told, IsFinished, Leaves, IsWriteStopped, IsUntold, Outcome, IsNeeded, FinishesWell, MayWrite, PassesReads, WritesNothing, status_of}
 use Rattle.ucdshop_core.specs.Promises.{NoFault, Promises}
 use Rattle.ucdshop_core.specs.declared.status.Status.{Status}
@@ -26,8 +27,14 @@ refuses_finishes e line ending p q = cc
 same_ending : (e : Expected) (a b : Ending) → e ≡ Finishes a → e ≡ Finishes b → a ≡ b
 same_ending e a b p q = cc
 
+same_job : (o : Option Job) (a b : Job) → o ≡ Some a → o ≡ Some b → a ≡ b
+same_job o a b p q = cc
+
 some_none : {A : Type 0} (o : Option A) (x : A) → o ≡ Some x → o ≡ None → ⊥
 some_none o x p q = cc
+
+nothing_there : (place : ℕ) (path : List ℕ) → slice_get [] place ≡ Some path → ⊥
+nothing_there place path e = some_none (slice_get [] place) path e refl
 
 -- ---- what was seen, over a shelf that tells what it holds
 
@@ -144,6 +151,13 @@ read_fault_told : (words : List (List ℕ)) (shelf : ShelfSeen) (sink : SinkSeen
     → (path : List ℕ) × IsNeeded words path × (IsTrue shelf.tells_failed → path ≡ shelf.failed) × Told (read_failed path) sink
 read_fault_told words shelf sink status o e = let c : Outcome words shelf sink ReadFault = subst (Outcome words shelf sink) e o in (c.path, (c.job, c.formed, c.place, c.needed), c.last, c.told)
 
+no_read_fault : (words : List (List ℕ)) (shelf : ShelfSeen) (sink : SinkSeen) (status : Status) → Outcome words shelf sink status
+    → (job : Job) → form words ≡ Some job → needed job ≡ [] → status ≢ ReadFault
+no_read_fault words shelf sink status o job formed none e =
+    let c : Outcome words shelf sink ReadFault = subst (Outcome words shelf sink) e o in
+    let unneeded : needed c.job ≡ [] = ap needed (same_job (form words) c.job job c.formed formed) ∙ none in
+    nothing_there c.place c.path (subst (λ (paths : List (List ℕ)). slice_get paths c.place ≡ Some c.path) unneeded c.needed)
+
 write_fault : (words : List (List ℕ)) (shelf : ShelfSeen) (sink : SinkSeen) (status : Status) → Outcome words shelf sink status → status ≡ WriteFault
     → Sees shelf.tells (everywhere shelf.old) (λ seen. EndsAs words seen (λ ending. IsWriteStopped words ending shelf sink ⊎ IsUntold ending shelf sink))
 write_fault words shelf sink status o e = let c : Outcome words shelf sink WriteFault = subst (Outcome words shelf sink) e o in c.ends
@@ -183,6 +197,7 @@ promises words shelf sink status o = record {
   no_failed_read = no_failed_read words shelf sink status o;
   read_fault_only = read_fault_only words shelf sink status o;
   read_fault_told = read_fault_told words shelf sink status o;
+  no_read_fault = no_read_fault words shelf sink status o;
   write_fault = write_fault words shelf sink status o;
   memory_told = memory_told words shelf sink status o;
   unchanged = unchanged words shelf sink status o;

@@ -9,5 +9,6 @@ pub mod PlanningLemmas
 pub mod QuestionLemmas
 pub mod AskingLemmas
 pub mod CarryingLemmas
+pub mod MakingLemmas
 pub mod RunLemmas
 pub mod Clauses

@@ -8,9 +8,10 @@ use Rattle.shelf_io.specs.Counts.{Rose}
 use Rattle.shelf_io.specs.Contents.{SameContents}
 use Rattle.shelf_io.specs.declared.shelf.Shelf.{Ghosts as ShelfGhosts}
 use Rattle.ucdshop_core.specs.Printed.{write_failed}
-use Rattle.ucdshop_core.specs.Run.{Contents, Job, Derive, Apply, Inputs, form, needed, NewFile, Ending, Expected, ending_of, output_paths, Refuses, Finishes, expected, expected_of, judged, job_verdict, after, Replaced, Seen, Sees, EndsAs, everywhere}
+use Rattle.ucdshop_core.specs.Run.{Contents, Job, Derive, Apply, Make, Inputs, form, needed, NewFile, Ending, Expected, ending_of, inputs_ending, output_paths, Refuses, Finishes, expected, expected_of, judged, job_verdict, after, Replaced, Seen, Sees, EndsAs, everywhere}
 use Rattle.ucdshop_core.specs.Planning.{HasPlan, HaveLines, IsPlanOf, OnRefused, OnlyRead, UnreadAs}
 use Rattle.ucdshop_core.specs.Promises.{shelf_seen}
+use Rattle.ucdshop_core.specs.Making.{data_rows}
 use Rattle.ucdshop_core.specs.Session.{Session, session}
 use Rattle.ucdshop_core.specs.declared.refusal.Refusal.{Refusal}
 use Rattle.ucdshop_core.specs.Writing.{file_of, files_of}
@@ -39,15 +40,15 @@ finishes_is a b e p q = cc
 refuses_finishes : (line : List ℕ) (ending : Ending) → Refuses line ≡ Finishes ending → ⊥
 refuses_finishes line ending e = cc
 
-ending_paths : (job : Job) (s : Session) → map (λ (file : NewFile). file.path) (ending_of job s).files ≡ output_paths job
-ending_paths (Derive input output) s = refl
-ending_paths (Apply input script output) s = refl
+ending_paths : (job : Job) (rows : ℕ) (s : Session) → map (λ (file : NewFile). file.path) (ending_of job rows s).files ≡ output_paths job
+ending_paths (Derive input output) rows s = refl
+ending_paths (Apply input script output) rows s = refl
+ending_paths (Make number output) rows s = refl
 
 judged_paths : (job : Job) (verdict : Result Inputs Refusal) (ending : Ending) → judged job verdict ≡ Finishes ending
     → map (λ (file : NewFile). file.path) ending.files ≡ output_paths job
 judged_paths job (Ok inputs) ending e =
-    let s = session inputs.files inputs.commands in
-    subst (λ (it : Ending). map (λ (file : NewFile). file.path) it.files ≡ output_paths job) (finishes_is (ending_of job s) ending (judged job (Ok inputs)) refl e) (ending_paths job s)
+    subst (λ (it : Ending). map (λ (file : NewFile). file.path) it.files ≡ output_paths job) (finishes_is (inputs_ending job inputs) ending (judged job (Ok inputs)) refl e) (ending_paths job (data_rows inputs.files) (session inputs.files inputs.commands))
 judged_paths job (Err refusal) ending e = absurd (refuses_finishes _ ending e)
 
 slice_get_of_map : {A B : Type 0} (f : A → B) (xs : List A) (i : ℕ) (x : A) → slice_get xs i ≡ Some x → slice_get (map f xs) i ≡ Some (f x)

@@ -17,11 +17,13 @@ use Rattle.script_lines.specs.Scripts.{script_or_fault}
 use Rattle.script_lines.specs.declared.command.Command.{Command}
 use Rattle.ucd_model.specs.Validity.{first_broken}
 use Rattle.edit_session.specs.Groups.{files_facts}
-use Rattle.ucdshop_core.specs.Judging.{source_held, script_held, held_verdict}
-use Rattle.ucdshop_core.specs.Paths.{source_in}
+use Rattle.ucdshop_core.specs.Judging.{ReadAs, given_verdict, source_held, script_held}
+use Rattle.ucdshop_core.specs.Paths.{source_in, sources_in}
 use Rattle.ucdshop_core.specs.Reading.{cut}
-use Rattle.ucdshop_core.specs.Run.{Contents, Job, Derive, Apply, Inputs, Sees, everywhere, input_of, script_of, needed, commands_verdict, inputs_verdict, job_verdict}
+use Rattle.ucdshop_core.specs.Run.{Contents, Job, Derive, Apply, Make, Inputs, Sees, everywhere, needed, commands_verdict, inputs_verdict, job_verdict}
 use Rattle.ucdshop_core.specs.Verdict.{and_then, valid_files, told_items, file_verdict, all_items, release_verdict, script_verdict, told_commands}
+use Rattle.ucdshop_core.specs.declared.given.Given.{Given}
+use Rattle.ucdshop_core.specs.declared.given.Given.TheVariants.{Read, Made}
 use Rattle.ucdshop_core.specs.declared.refusal.Refusal.{Refusal}
 use Rattle.ucdshop_core.specs.declared.refusal.Refusal.TheVariants.{LongScript}
 
@@ -51,6 +53,7 @@ cut_script (Some bytes) = cut_decides bytes (Err LongScript) (λ bs. told_comman
 cut_commands : (job : Job) (held : Option (List ℕ)) → commands_verdict job (cut held) ≡ commands_verdict job held
 cut_commands (Derive input output) held = refl
 cut_commands (Apply input script output) held = cut_script held
+cut_commands (Make number output) held = cut_script held
 
 abbrev both : Result (List (List FileItem)) Refusal → Result (List Command) Refusal → Result Inputs Refusal
 both files commands = and_then files (λ f. and_then commands (λ c. Ok (record { files = f; commands = c })))
@@ -65,36 +68,37 @@ cut_inputs job held script =
 
 -- ---- what was read where the shelf tells what it holds
 
-source_read : (job : Job) (holds : Contents) (file : SourceFile) → source_held (map (λ path. cut (holds path)) (needed job)) file ≡ cut (holds (source_in (input_of job) file))
-source_read (Derive input output) holds UnicodeData = refl
-source_read (Derive input output) holds PropList = refl
-source_read (Derive input output) holds Scripts = refl
-source_read (Derive input output) holds WordBreakProperty = refl
-source_read (Derive input output) holds CompositionExclusions = refl
-source_read (Derive input output) holds CaseFolding = refl
-source_read (Derive input output) holds SpecialCasing = refl
-source_read (Derive input output) holds PropertyAliases = refl
-source_read (Derive input output) holds PropertyValueAliases = refl
-source_read (Apply input script output) holds UnicodeData = refl
-source_read (Apply input script output) holds PropList = refl
-source_read (Apply input script output) holds Scripts = refl
-source_read (Apply input script output) holds WordBreakProperty = refl
-source_read (Apply input script output) holds CompositionExclusions = refl
-source_read (Apply input script output) holds CaseFolding = refl
-source_read (Apply input script output) holds SpecialCasing = refl
-source_read (Apply input script output) holds PropertyAliases = refl
-source_read (Apply input script output) holds PropertyValueAliases = refl
+source_read : (folder : List ℕ) (more : List (List ℕ)) (holds : Contents) (file : SourceFile) → source_held (map (λ path. cut (holds path)) (sources_in folder ++ more)) file ≡ cut (holds (source_in folder file))
+source_read folder more holds UnicodeData = refl
+source_read folder more holds PropList = refl
+source_read folder more holds Scripts = refl
+source_read folder more holds WordBreakProperty = refl
+source_read folder more holds CompositionExclusions = refl
+source_read folder more holds CaseFolding = refl
+source_read folder more holds SpecialCasing = refl
+source_read folder more holds PropertyAliases = refl
+source_read folder more holds PropertyValueAliases = refl
 
-script_read : (job : Job) (holds : Contents) → commands_verdict job (script_held (map (λ path. cut (holds path)) (needed job))) ≡ commands_verdict job (cut (holds (script_of job)))
-script_read (Derive input output) holds = refl
-script_read (Apply input script output) holds = refl
+-- the verdict on what was read, of which no more was read than decides it
+read_verdict : (job : Job) (read held : SourceFile → Option (List ℕ)) (script whole : Option (List ℕ)) → ((file : SourceFile) → read file ≡ cut (held file))
+    → commands_verdict job script ≡ commands_verdict job (cut whole) → inputs_verdict job read script ≡ inputs_verdict job held whole
+read_verdict job read held script whole same same_script =
+    ap (λ (h : SourceFile → Option (List ℕ)). both (release_verdict h) (commands_verdict job script)) (fun_ext same)
+    ∙ ap (both (release_verdict (λ file. cut (held file)))) same_script
+    ∙ cut_inputs job held whole
 
-verdict_read : (job : Job) (holds : Contents) (held : List (Option (List ℕ))) → held ≡ map (λ path. cut (holds path)) (needed job) → held_verdict job held ≡ job_verdict job (everywhere holds)
-verdict_read job holds held same =
-    ap (held_verdict job) same
-    ∙ ap (λ (h : SourceFile → Option (List ℕ)). both (release_verdict h) (commands_verdict job (script_held (map (λ path. cut (holds path)) (needed job))))) (fun_ext (source_read job holds))
-    ∙ ap (both (release_verdict (λ file. cut (holds (source_in (input_of job) file))))) (script_read job holds)
-    ∙ cut_inputs job (λ file. holds (source_in (input_of job) file)) (holds (script_of job))
+derive_read : (input output : List ℕ) (holds : Contents) (held : List (Option (List ℕ))) → held ≡ map (λ path. cut (holds path)) (sources_in input)
+    → inputs_verdict (Derive input output) (source_held held) (script_held held) ≡ job_verdict (Derive input output) (everywhere holds)
+derive_read input output holds held same =
+    read_verdict (Derive input output) (source_held held) (λ file. holds (source_in input file)) (script_held held) None
+    (λ file. ap (λ (h : List (Option (List ℕ))). source_held h file) same ∙ source_read input [] holds file) refl
+
+apply_read : (input script output : List ℕ) (holds : Contents) (held : List (Option (List ℕ))) → held ≡ map (λ path. cut (holds path)) (sources_in input ++ script ∷ [])
+    → inputs_verdict (Apply input script output) (source_held held) (script_held held) ≡ job_verdict (Apply input script output) (everywhere holds)
+apply_read input script output holds held same =
+    read_verdict (Apply input script output) (source_held held) (λ file. holds (source_in input file)) (script_held held) (holds script)
+    (λ file. ap (λ (h : List (Option (List ℕ))). source_held h file) same ∙ source_read input (script ∷ []) holds file)
+    (ap (λ (h : List (Option (List ℕ))). script_verdict (script_held h)) same)
 
 -- ---- what was seen where it does not tell
 
@@ -123,11 +127,32 @@ read_of folder held file =
     ap (λ (name : List ℕ). named_in held name source_files) (drop-append_seam (folder ++ codes "/") (source_path file)) ∙ named held file
 
 -- the verdict on what was read is that on what was seen
-pub verdict_seen : (tells : Bool) (holds : Contents) (job : Job) (held : List (Option (List ℕ))) → (IsTrue tells → held ≡ map (λ path. cut (holds path)) (needed job))
-    → Sees tells (everywhere holds) (λ seen. held_verdict job held ≡ job_verdict job seen)
-verdict_seen true holds job held same = (everywhere holds, λ _. refl, verdict_read job holds held (same refl))
-verdict_seen false holds job held same = (
-  record { folder = read_contents (input_of job) (source_held held); script = λ _. script_held held },
+sources_seen : (job : Job) (folder : List ℕ) (held : List (Option (List ℕ))) → inputs_verdict job (source_held held) (script_held held)
+    ≡ inputs_verdict job (λ file. read_contents folder (source_held held) (source_in folder file)) (script_held held)
+sources_seen job folder held =
+    ap (λ (h : SourceFile → Option (List ℕ)). inputs_verdict job h (script_held held)) (fun_ext (λ file. sym (read_of folder (source_held held) file)))
+
+pub derive_seen : (tells : Bool) (holds : Contents) (input output : List ℕ) (given : Given) → ReadAs given tells (map (λ path. cut (holds path)) (needed (Derive input output)))
+    → Sees tells (everywhere holds) (λ seen. given_verdict (Derive input output) given ≡ job_verdict (Derive input output) seen)
+derive_seen true holds input output (Read held) same = (everywhere holds, λ _. refl, derive_read input output holds held.items (same refl))
+derive_seen false holds input output (Read held) same = (
+  record { folder = read_contents input (source_held held.items); script = λ _. script_held held.items },
   λ none. absurd cc,
-  ap (λ (h : SourceFile → Option (List ℕ)). inputs_verdict job h (script_held held)) (fun_ext (λ file. sym (read_of (input_of job) (source_held held) file))),
+  sources_seen (Derive input output) input held.items,
 )
+derive_seen tells holds input output (Made number) same = absurd same
+
+pub apply_seen : (tells : Bool) (holds : Contents) (input script output : List ℕ) (given : Given) → ReadAs given tells (map (λ path. cut (holds path)) (needed (Apply input script output)))
+    → Sees tells (everywhere holds) (λ seen. given_verdict (Apply input script output) given ≡ job_verdict (Apply input script output) seen)
+apply_seen true holds input script output (Read held) same = (everywhere holds, λ _. refl, apply_read input script output holds held.items (same refl))
+apply_seen false holds input script output (Read held) same = (
+  record { folder = read_contents input (source_held held.items); script = λ _. script_held held.items },
+  λ none. absurd cc,
+  sources_seen (Apply input script output) input held.items,
+)
+apply_seen tells holds input script output (Made number) same = absurd same
+
+-- what is made is given, whatever was seen
+pub made_seen : (tells : Bool) (holds : Contents) (number : ℕ) (output : List ℕ) (given : Given) → given ≡ Made number
+    → Sees tells (everywhere holds) (λ seen. given_verdict (Make number output) given ≡ job_verdict (Make number output) seen)
+made_seen tells holds number output given made = (everywhere holds, λ _. refl, ap (given_verdict (Make number output)) made)

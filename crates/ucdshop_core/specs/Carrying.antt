@@ -18,6 +18,7 @@ session_on files carried = record {
   log = carried.log;
   sets = carried.sets;
   accepted = carried.accepted;
+  changed = carried.changed;
   refused = carried.refused;
   answered = carried.answered;
 }

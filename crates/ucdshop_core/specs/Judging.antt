@@ -1,16 +1,20 @@
--- Judging the files that were read.
+-- Judging the texts that a run works on.
 --
 -- held_at held at                 what is held at a place; None where nothing is, and past the last
 -- source_held held file           what is held of a source file, at its place
 -- script_held held                what is held of the script, behind the source files
--- held_verdict job held           what is read gives, or why it is refused
+-- given_source given file         what is given of a source file: what is held of it, or the text that is made
+-- given_script given              what is given of the script: what is held of it, or the script that is made
+-- given_verdict job given         what these give, or why they are refused
+-- AreFor given job                of `make`, what is given is the release that is made of its number
+-- ReadAs given tells held         what is given was read, and is this, where the shelf tells what it holds
 -- inputs_of inputs                what the bench's files and the commands stand for
 -- JudgedAs view result expected   a result, seen by view, is what was expected; want of memory says nothing
 -- BreaksBy stop why               a refusal by the code point and the rule that have no bench; want of memory says nothing
 -- Loads file expected old new     the file has the items that were expected, all other files and their number stay, and nothing is
 --                                 prepared where nothing was
 -- LoadsFile result expected file old new   so it is, or the refusal is the expected one; want of memory says nothing
-use Rattle.std.specs.Prelude.{◌≡◌, ◌≢◌, ℕ, List, length, Option, None, Result, Ok, Err, ⊤, slice_index_or}
+use Rattle.std.specs.Prelude.{◌≡◌, ◌≢◌, ℕ, Bool, IsTrue, List, length, Option, Some, None, Result, Ok, Err, ⊤, slice_index_or}
 use Rattle.ucd_model.specs.declared.files.SourceFile.{SourceFile}
 use Rattle.ucd_model.specs.SourceFiles.{file_place}
 use Rattle.release_rows.specs.FileItems.{FileItem}
@@ -18,7 +22,10 @@ use Rattle.release_rows.specs.Releases.{ReleaseItems, items_now}
 use Rattle.edit_session.specs.Benches.{HasNothingPrepared}
 use Rattle.edit_session.specs.declared.open_stop.OpenStop.{OpenStop}
 use Rattle.edit_session.specs.declared.open_stop.OpenStop.TheVariants.{Invalid}
-use Rattle.ucdshop_core.specs.Run.{Job, Inputs, inputs_verdict}
+use Rattle.release_maker.specs.MadeTexts.{source_text, script_text}
+use Rattle.ucdshop_core.specs.Run.{Job, Derive, Apply, Make, Inputs, inputs_verdict}
+use Rattle.ucdshop_core.specs.declared.given.Given.{Given}
+use Rattle.ucdshop_core.specs.declared.given.Given.TheVariants.{Read, Made}
 use Rattle.ucdshop_core.specs.declared.inputs.Inputs.{Inputs as InputsMade}
 use Rattle.ucdshop_core.specs.declared.refusal.Refusal.{Refusal}
 use Rattle.ucdshop_core.specs.declared.refusal.Refusal.TheVariants.{Point}
@@ -34,11 +41,28 @@ source_held held file = held_at held (file_place file)
 abbrev pub script_held : List (Option (List ℕ)) → Option (List ℕ)
 script_held held = held_at held 9
 
-abbrev pub held_verdict : Job → List (Option (List ℕ)) → Result Inputs Refusal
-held_verdict job held = inputs_verdict job (source_held held) (script_held held)
+abbrev pub given_source : Given → SourceFile → Option (List ℕ)
+given_source (Read held) file = source_held held.items file
+given_source (Made number) file = Some (source_text number file)
+
+abbrev pub given_script : Given → Option (List ℕ)
+given_script (Read held) = script_held held.items
+given_script (Made number) = Some script_text
+
+abbrev pub given_verdict : Job → Given → Result Inputs Refusal
+given_verdict job given = inputs_verdict job (given_source given) (given_script given)
+
+abbrev pub AreFor : Given → Job → Type 0
+AreFor given (Derive input output) = ⊤
+AreFor given (Apply input script output) = ⊤
+AreFor given (Make number output) = given ≡ Made number
 
 abbrev pub inputs_of : InputsMade → Inputs
 inputs_of inputs = record { files = inputs.bench.current; commands = inputs.commands }
+
+abbrev pub ReadAs : Given → Bool → List (Option (List ℕ)) → Type 0
+ReadAs (Read held) tells contents = IsTrue tells → held.items ≡ contents
+ReadAs (Made number) tells contents = ⊥
 
 abbrev pub JudgedAs : {A B : Type 0} → (A → B) → Result A JudgeStop → Result B Refusal → Type 0
 JudgedAs view (Ok value) expected = expected ≡ Ok (view value)

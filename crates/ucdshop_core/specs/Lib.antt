@@ -5,6 +5,7 @@ pub mod Verdict
 pub mod Questions
 pub mod SetTexts
 pub mod Session
+pub mod Making
 pub mod Run
 pub mod Outcome
 pub mod Promises

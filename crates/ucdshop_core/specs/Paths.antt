@@ -6,6 +6,7 @@
 -- derived_in folder file   the path of a derived file below a folder
 -- log_in folder            the path of the log below a folder
 -- sets_in folder           the path of the answers to questions below a folder
+-- script_in folder         the path of a script that is made below a folder
 use Rattle.std.specs.Prelude.{ℕ, List, ◌++◌, map, codes}
 use Rattle.ucd_model.specs.Names.{source_path, derived_path}
 use Rattle.ucd_model.specs.SourceFiles.{source_files}
@@ -29,3 +30,6 @@ log_in folder = path_in folder (codes "bench.log")
 
 abbrev pub sets_in : List ℕ → List ℕ
 sets_in folder = path_in folder (codes "sets.txt")
+
+abbrev pub script_in : List ℕ → List ℕ
+script_in folder = path_in folder (codes "script.txt")

@@ -2,6 +2,7 @@
 --
 -- OnRefused result P              P of the line, where what was read was refused
 -- TellsOf stop job why            a refusal by the line that says why; want of memory says nothing
+-- CountsRows job rows files       of `make`, UnicodeData.txt has so many rows among these files
 -- NamesUnread paths tells failed line   the line names one of the paths, and the last failed one where that is told
 -- OnlyRead shelf                  every path holds what it held, where that is told; the count of failed reads did not fall, and
 --                                 that of failed writes is as it was
@@ -18,8 +19,10 @@
 use Rattle.std.specs.Prelude.{◌≡◌, ◌≤◌, ℕ, List, ◌++◌, map, IsTrue, Bool, Some, Result, Ok, Err, ⊤, slice_get}
 use Rattle.ucdshop_core.specs.Printed.{read_failed, write_failed}
 use Rattle.ucdshop_core.specs.Refusals.{refusal_line}
+use Rattle.release_rows.specs.FileItems.{FileItem}
+use Rattle.ucdshop_core.specs.Making.{data_rows}
 use Rattle.ucdshop_core.specs.Outcome.{ShelfSeen, Unchanged, LastFailedStays}
-use Rattle.ucdshop_core.specs.Run.{Job, NewFile, input_of, script_of, Ending, Expected, Refuses, Finishes}
+use Rattle.ucdshop_core.specs.Run.{Job, Derive, Apply, Make, NewFile, input_of, script_of, Ending, Expected, Refuses, Finishes}
 use Rattle.ucdshop_core.specs.Writing.{files_of}
 use Rattle.shelf_io.specs.Counts.{Rose}
 use Rattle.ucdshop_core.specs.declared.plan.Plan.{Plan}
@@ -50,6 +53,11 @@ PlansAs (Ok plan) expected = IsPlanOf plan expected
 PlansAs (Err (Refused line)) expected = expected ≡ Refuses line
 PlansAs (Err (ReadFailed line)) expected = ⊥
 PlansAs (Err Memory) expected = ⊤
+
+abbrev pub CountsRows : Job → ℕ → List (List FileItem) → Type 0
+CountsRows (Derive input output) rows files = ⊤
+CountsRows (Apply input script output) rows files = ⊤
+CountsRows (Make number output) rows files = rows ≡ data_rows files
 
 abbrev pub OnRefused : {A : Type 0} → Result A Stop → (List ℕ → Type 0) → Type 0
 OnRefused (Ok _) P = ⊤

@@ -8,6 +8,11 @@
 -- out_of_memory            memory was wanted, and there was none
 -- Counts                   how many groups were accepted, commands refused and sets answered, and policies broken
 -- summary counts           the line that says them
+-- MadeCounts               of a release that was made: its number, how many rows its UnicodeData.txt has, how many groups of its
+--                          script were accepted, how many code points these changed together, and how many code points have an
+--                          NFKC_Casefold of their own afterwards
+-- made_release number rows what it says of the release: the number, and how many rows UnicodeData.txt has
+-- made_summary counts      the line that says them
 -- refused_point folder b   a code point of the release in a folder breaks a rule: the point, and the rule's code
 -- bad_code rule            the code of a rule of a valid release: V1 to V5
 -- rule_code rule           the code of a rule that a file breaks
@@ -27,7 +32,7 @@ abbrev pub line_end : List ℕ
 line_end = 10 ∷ []
 
 abbrev pub usage : List ℕ
-usage = codes "usage: ucdshop derive DATA OUT | apply DATA SCRIPT OUT" ++ line_end
+usage = codes "usage: ucdshop derive DATA OUT | apply DATA SCRIPT OUT | make NUMBER OUT" ++ line_end
 
 abbrev pub refused : List ℕ → ℕ → List ℕ → List ℕ
 refused path line rule = codes "refused: " ++ path ++ codes " line " ++ decimal line ++ codes " " ++ rule ++ line_end
@@ -49,6 +54,19 @@ pub record Counts : Type 0 where
 
 abbrev pub summary : Counts → List ℕ
 summary counts = codes "ucdshop: " ++ decimal counts.accepted ++ codes " groups accepted, " ++ decimal counts.refused ++ codes " commands refused, " ++ decimal counts.answered ++ codes " sets answered, " ++ decimal counts.broken ++ codes " policy breaks" ++ line_end
+
+pub record MadeCounts : Type 0 where
+  pub number : ℕ
+  pub rows : ℕ
+  pub accepted : ℕ
+  pub changed : ℕ
+  pub casefolds : ℕ
+
+unfoldable pub made_release : ℕ → ℕ → List ℕ
+made_release number rows = codes "ucdshop: make " ++ decimal number ++ codes ": " ++ decimal rows ++ codes " rows, "
+
+abbrev pub made_summary : MadeCounts → List ℕ
+made_summary counts = made_release counts.number counts.rows ++ decimal counts.accepted ++ codes " groups accepted, " ++ decimal counts.changed ++ codes " code points changed, " ++ decimal counts.casefolds ++ codes " casefold entries" ++ line_end
 
 abbrev pub row_rule_code : RowFault → List ℕ
 row_rule_code G03 = codes "G03"

@@ -17,18 +17,19 @@
 -- no_failed_read      with any status but ReadFault and Memory no other path became that of the last failed read
 -- read_fault_only     ReadFault comes only where a read failed
 -- read_fault_told     its line names a path that is needed, and the last failed one where the shelf tells it
+-- no_read_fault       where the words need no file, as those of `make`, ReadFault does not come
 -- write_fault         with WriteFault what was seen is not refused; a write failed and the line names its path, the files before it
 --                     are written and those after it are not touched; or all files are written and the summary could not be told
 -- memory_told         with Memory the line says so
 -- unchanged, no_write_fault   with BadWords, LoadRefused, ReadFault and Memory nothing was written
-use Rattle.std.specs.Prelude.{◌≡◌, ◌≢◌, ◌⊎◌, ◌↔◌, ℕ, List, IsTrue, None}
+use Rattle.std.specs.Prelude.{◌≡◌, ◌≢◌, ◌⊎◌, ◌↔◌, ℕ, List, [], IsTrue, Some, None}
 use Rattle.shelf_io.specs.Counts.{Rose}
 use Rattle.shelf_io.specs.Contents.{SameContents}
 use Rattle.shelf_io.specs.declared.shelf.Shelf.{Ghosts as ShelfGhosts}
 use Rattle.shelf_io.specs.declared.sink.Sink.{Ghosts as SinkGhosts}
 use Rattle.ucdshop_core.specs.Outcome.{ShelfSeen, SinkSeen, Told, Leaves, IsWriteStopped, IsUntold, IsNeeded, FinishesWell, MayWrite, PassesReads, WritesNothing, status_of}
 use Rattle.ucdshop_core.specs.Printed.{usage, read_failed, out_of_memory}
-use Rattle.ucdshop_core.specs.Run.{Ending, EndsAs, Refuses, Finishes, Replaced, Sees, IsFine, everywhere, expected, form}
+use Rattle.ucdshop_core.specs.Run.{Job, Ending, EndsAs, Refuses, Finishes, Replaced, Sees, IsFine, everywhere, expected, form, needed}
 use Rattle.ucdshop_core.specs.declared.status.Status.{Status}
 use Rattle.ucdshop_core.specs.declared.status.Status.TheVariants.{BadWords, LoadRefused, ReadFault, WriteFault, Memory}
 
@@ -79,6 +80,7 @@ pub record Promises (words : List (List ℕ)) (shelf : ShelfSeen) (sink : SinkSe
   pub read_fault_only : status ≡ ReadFault → Rose shelf.reads_old shelf.reads_new
   pub read_fault_told : status ≡ ReadFault → (path : List ℕ) × IsNeeded words path
       × (IsTrue shelf.tells_failed → path ≡ shelf.failed) × Told (read_failed path) sink
+  pub no_read_fault : (job : Job) → form words ≡ Some job → needed job ≡ [] → status ≢ ReadFault
   pub write_fault : status ≡ WriteFault → Sees shelf.tells (everywhere shelf.old) (λ seen. EndsAs words seen (λ ending.
       IsWriteStopped words ending shelf sink ⊎ IsUntold ending shelf sink))
   pub memory_told : status ≡ Memory → Told out_of_memory sink

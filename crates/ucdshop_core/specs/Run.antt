@@ -3,19 +3,24 @@
 -- Contents                         what a shelf holds at each path: the bytes of a file, or None
 -- Job                              what is asked for: Derive input output, to derive the files of one folder into another; Apply
 --                                  input script output, to carry a script out on the files of a folder, and to write what they are
---                                  then and what is derived of them into another
+--                                  then and what is derived of them into another; Make number output, to make the release of a
+--                                  number and a script for it, and to write both into a folder
 -- form words                       what the words ask for; None where they have no listed form
--- input_of job, script_of job      the folder that is read, and the path of the script; no bytes where none is read
+-- make_form number output          `make` with this number; None where there is none
+-- input_of job, script_of job      the folder whose files are judged, and the path of the script; no bytes where there is none. What
+--                                  is made is judged as the files of the folder that it is written into
 -- needed job                       the paths that are read, in order
 --
 -- The verdict
 -- Inputs                           the items of the source files, in order, and the commands
--- commands_verdict job held        the commands, where the script is held so; `derive` has none
--- inputs_verdict job held script   what is read gives, where the source files and the script are held so; or the refusal of the
---                                  first of these: a file, a code point, the script
+-- commands_verdict job held        the commands, where the script holds this; `derive` has none
+-- inputs_verdict job held script   what the source files and the script give, where they hold this; or the refusal of the first of
+--                                  these: a file, a code point, the script
 -- Seen                             what was seen of each part that is read: of the folder, and of the script, what was held
 -- everywhere holds                 the same contents were seen of each part
--- job_verdict job seen             what is read gives, or why it is refused, by what was seen
+-- source_seen job seen file        what a source file holds: what was seen of it; of `make` the text that is made
+-- script_seen job seen             what the script holds: what was seen of it; of `make` the script that is made
+-- job_verdict job seen             what these give, or why they are refused
 --
 -- What is written
 -- NewFile                          a path, and the bytes that are written there
@@ -23,16 +28,21 @@
 -- derived_file folder files file   a derived file of these files: its path below the folder, with its bytes
 -- log_file folder log              the log: its path below the folder, with its bytes
 -- sets_file folder sets            the answers to the questions: their path below the folder, with their bytes
+-- made_text n file                 the text of a source file of the release that is made of n
+-- made_file folder n file          a source file of the release that is made of n: its path below the folder, with its bytes
+-- made_script folder               the script that is made: its path below the folder, with its bytes
 -- new_files job session            the files that are written after a session, in order: of `derive` the derived files; of `apply`
---                                  the source files, the derived files, the log and the answers to the questions
+--                                  the source files, the derived files, the log and the answers to the questions; of `make` the
+--                                  source files and the script as they are made
 -- counts_of session                what the summary counts
 -- Ending                           how a run ends that is not refused: the files that are written, in order, each path with its
 --                                  bytes; the summary that is told then; and whether a command was refused or a policy is broken
--- ending_of job session            the ending of a job after a session
+-- summary_of job rows session      the summary of a job that began with so many rows of UnicodeData.txt, after a session
+-- ending_of job rows session       the ending of such a job after a session
+-- inputs_ending job inputs         the ending of a job on these inputs: after the session of their commands
 -- output_paths job                 the paths of the files that are written, which the words alone give
 -- Expected                         NoForm; Refuses line; or Finishes ending
--- judged job verdict               Finishes with the ending after the session of what was read; or Refuses with the line of the
---                                  refusal
+-- judged job verdict               Finishes with the ending on what was judged; or Refuses with the line of the refusal
 -- expected_of form seen            what is expected of a job, by what was seen; NoForm where there is none
 -- expected words seen              what is expected of the words
 -- put file holds path              what the path holds once the file is put in its place
@@ -55,8 +65,10 @@ use Rattle.release_rows.specs.FileItems.{FileItem, bytes_of}
 use Rattle.release_rows.specs.Releases.{items_at}
 use Rattle.script_lines.specs.declared.command.Command.{Command}
 use Rattle.edit_session.specs.Groups.{files_facts}
-use Rattle.ucdshop_core.specs.Paths.{source_in, sources_in, derived_in, log_in, sets_in}
-use Rattle.ucdshop_core.specs.Printed.{Counts, summary}
+use Rattle.release_maker.specs.MadeTexts.{source_text, script_text}
+use Rattle.ucdshop_core.specs.Making.{data_rows, made_counts, number_of}
+use Rattle.ucdshop_core.specs.Paths.{source_in, sources_in, derived_in, log_in, sets_in, script_in}
+use Rattle.ucdshop_core.specs.Printed.{Counts, summary, made_summary}
 use Rattle.ucdshop_core.specs.Refusals.{refusal_line}
 use Rattle.ucdshop_core.specs.Session.{Session, session}
 use Rattle.ucdshop_core.specs.Verdict.{and_then, release_verdict, script_verdict}
@@ -70,9 +82,15 @@ Contents = List ℕ → Option (List ℕ)
 pub data Job : Type 0 where
   Derive : (input output : List ℕ) → Job
   Apply : (input script output : List ℕ) → Job
+  Make : (number : ℕ) (output : List ℕ) → Job
+
+abbrev pub make_form : Option ℕ → List ℕ → Option Job
+make_form (Some number) output = Some (Make number output)
+make_form None output = None
 
 abbrev pub form : List (List ℕ) → Option Job
-form (word ∷ input ∷ output ∷ []) = if bytes_eq word (codes "derive") then Some (Derive input output) else None
+form (word ∷ first ∷ output ∷ []) =
+    if bytes_eq word (codes "derive") then Some (Derive first output) else (if bytes_eq word (codes "make") then make_form (number_of first) output else None)
 form (word ∷ input ∷ script ∷ output ∷ []) = if bytes_eq word (codes "apply") then Some (Apply input script output) else None
 form _ = None
 
@@ -81,14 +99,17 @@ form _ = None
 abbrev pub input_of : Job → List ℕ
 input_of (Derive input output) = input
 input_of (Apply input script output) = input
+input_of (Make number output) = output
 
 abbrev pub script_of : Job → List ℕ
 script_of (Derive input output) = []
 script_of (Apply input script output) = script
+script_of (Make number output) = script_in output
 
 abbrev pub needed : Job → List (List ℕ)
 needed (Derive input output) = sources_in input
 needed (Apply input script output) = sources_in input ++ script ∷ []
+needed (Make number output) = []
 
 -- ---- the verdict
 
@@ -99,6 +120,7 @@ pub record Inputs : Type 0 where
 abbrev pub commands_verdict : Job → Option (List ℕ) → Result (List Command) Refusal
 commands_verdict (Derive input output) held = Ok []
 commands_verdict (Apply input script output) held = script_verdict held
+commands_verdict (Make number output) held = script_verdict held
 
 abbrev pub inputs_verdict : Job → (SourceFile → Option (List ℕ)) → Option (List ℕ) → Result Inputs Refusal
 inputs_verdict job held script =
@@ -111,8 +133,18 @@ pub record Seen : Type 0 where
 abbrev pub everywhere : Contents → Seen
 everywhere holds = record { folder = holds; script = holds }
 
+abbrev pub source_seen : Job → Seen → SourceFile → Option (List ℕ)
+source_seen (Derive input output) seen file = seen.folder (source_in input file)
+source_seen (Apply input script output) seen file = seen.folder (source_in input file)
+source_seen (Make number output) seen file = Some (source_text number file)
+
+abbrev pub script_seen : Job → Seen → Option (List ℕ)
+script_seen (Derive input output) seen = None
+script_seen (Apply input script output) seen = seen.script script
+script_seen (Make number output) seen = Some script_text
+
 abbrev pub job_verdict : Job → Seen → Result Inputs Refusal
-job_verdict job seen = inputs_verdict job (λ file. seen.folder (source_in (input_of job) file)) (seen.script (script_of job))
+job_verdict job seen = inputs_verdict job (source_seen job seen) (script_seen job seen)
 
 -- ---- what is written
 
@@ -132,10 +164,20 @@ log_file folder log = record { path = log_in folder; bytes = log }
 abbrev pub sets_file : List ℕ → List ℕ → NewFile
 sets_file folder sets = record { path = sets_in folder; bytes = sets }
 
+unfoldable pub made_text : ℕ → SourceFile → List ℕ
+made_text n file = source_text n file
+
+abbrev pub made_file : List ℕ → ℕ → SourceFile → NewFile
+made_file folder n file = record { path = source_in folder file; bytes = made_text n file }
+
+abbrev pub made_script : List ℕ → NewFile
+made_script folder = record { path = script_in folder; bytes = script_text }
+
 abbrev pub new_files : Job → Session → List NewFile
 new_files (Derive input output) s = map (derived_file output s.files) derived_files
 new_files (Apply input script output) s =
     map (source_file output s.files) source_files ++ map (derived_file output s.files) derived_files ++ log_file output s.log ∷ sets_file output s.sets ∷ []
+new_files (Make number output) s = map (made_file output number) source_files ++ made_script output ∷ []
 
 abbrev pub counts_of : Session → Counts
 counts_of s = record { accepted = s.accepted; refused = s.refused; answered = s.answered; broken = 0 }
@@ -145,12 +187,21 @@ pub record Ending : Type 0 where
   pub summary : List ℕ
   pub done : Bool
 
-abbrev pub ending_of : Job → Session → Ending
-ending_of job s = record { files = new_files job s; summary = summary (counts_of s); done = nat_lt 0 s.refused }
+abbrev pub summary_of : Job → ℕ → Session → List ℕ
+summary_of (Derive input output) rows s = summary (counts_of s)
+summary_of (Apply input script output) rows s = summary (counts_of s)
+summary_of (Make number output) rows s = made_summary (made_counts number rows s)
+
+abbrev pub ending_of : Job → ℕ → Session → Ending
+ending_of job rows s = record { files = new_files job s; summary = summary_of job rows s; done = nat_lt 0 s.refused }
+
+abbrev pub inputs_ending : Job → Inputs → Ending
+inputs_ending job inputs = ending_of job (data_rows inputs.files) (session inputs.files inputs.commands)
 
 abbrev pub output_paths : Job → List (List ℕ)
 output_paths (Derive input output) = map (derived_in output) derived_files
 output_paths (Apply input script output) = sources_in output ++ map (derived_in output) derived_files ++ log_in output ∷ sets_in output ∷ []
+output_paths (Make number output) = sources_in output ++ script_in output ∷ []
 
 pub data Expected : Type 0 where
   NoForm : Expected
@@ -158,7 +209,7 @@ pub data Expected : Type 0 where
   Finishes : (ending : Ending) → Expected
 
 abbrev pub judged : Job → Result Inputs Refusal → Expected
-judged job (Ok inputs) = Finishes (ending_of job (session inputs.files inputs.commands))
+judged job (Ok inputs) = Finishes (inputs_ending job inputs)
 judged job (Err refusal) = Refuses (refusal_line (input_of job) (script_of job) refusal)
 
 abbrev pub expected_of : Option Job → Seen → Expected

@@ -13,7 +13,9 @@
 -- unasked_text fault        of a question that was refused: the rule, and the place in its text, in bytes counted from 0
 -- unasked_line line fault   the line that says it
 -- Session                   the files as the commands so far leave them, the log, the answers to the questions, how many groups were
---                           accepted, commands refused, and questions answered
+--                           accepted, how many code points have another record after each of these, added up, how many commands
+--                           were refused, and questions answered
+-- changed_count old new     how many code points have another record over these files
 -- started files             the session before its first command
 -- after_group s line answer the session with the answer of a group: the files of an accepted group take the place of those now, a
 --                           refused one leaves them; either has its line in the log and is counted
@@ -99,18 +101,23 @@ pub record Session : Type 0 where
   pub log : List ℕ
   pub sets : List ℕ
   pub accepted : ℕ
+  pub changed : ℕ
   pub refused : ℕ
   pub answered : ℕ
 
 abbrev pub started : List (List FileItem) → Session
-started files = record { files = files; log = []; sets = []; accepted = 0; refused = 0; answered = 0 }
+started files = record { files = files; log = []; sets = []; accepted = 0; changed = 0; refused = 0; answered = 0 }
+
+abbrev pub changed_count : List (List FileItem) → List (List FileItem) → ℕ
+changed_count old new = length (changed (files_facts old) (files_facts new))
 
 abbrev pub after_group : Session → ℕ → Result (List (List FileItem)) Refused → Session
 after_group s line (Ok files) = record {
   files = files;
-  log = s.log ++ accepted_line line (length (changed (files_facts s.files) (files_facts files)));
+  log = s.log ++ accepted_line line (changed_count s.files files);
   sets = s.sets;
   accepted = s.accepted + 1;
+  changed = s.changed + changed_count s.files files;
   refused = s.refused;
   answered = s.answered;
 }
@@ -119,6 +126,7 @@ after_group s line (Err why) = record {
   log = s.log ++ refused_line line why;
   sets = s.sets;
   accepted = s.accepted;
+  changed = s.changed;
   refused = s.refused + 1;
   answered = s.answered;
 }
@@ -129,6 +137,7 @@ after_question s line (Ok spans) = record {
   log = s.log ++ set_line line (members_in spans);
   sets = s.sets ++ set_section line spans;
   accepted = s.accepted;
+  changed = s.changed;
   refused = s.refused;
   answered = s.answered + 1;
 }
@@ -137,6 +146,7 @@ after_question s line (Err fault) = record {
   log = s.log ++ unasked_line line fault;
   sets = s.sets;
   accepted = s.accepted;
+  changed = s.changed;
   refused = s.refused + 1;
   answered = s.answered;
 }

@@ -22,6 +22,8 @@ pub struct Carried {
     pub sets: Text,
     /// How many groups were accepted.
     pub accepted: usize,
+    /// How many code points have another record after each of them, added up.
+    pub changed: usize,
     /// How many commands were refused.
     pub refused: usize,
     /// How many questions were answered.
@@ -31,30 +33,38 @@ pub struct Carried {
 impl Carried {
     /// No command yet. It takes no memory.
     pub fn new(alloc: Global) -> Carried
-        ensures { result ≡ record { log = []; sets = []; accepted = 0; refused = 0; answered = 0 } }
+        ensures { result ≡ record { log = []; sets = []; accepted = 0; changed = 0; refused = 0; answered = 0 } }
     {
         Carried {
             log: Text::new(alloc),
             sets: Text::new(alloc),
             accepted: 0,
+            changed: 0,
             refused: 0,
             answered: 0,
         }
     }
 
     /// One more group was accepted: the line of its command, and how many code points have another record.
+    ///
+    /// - `Memory`: memory ran out, or all groups would have changed 2^64 code points or more.
     pub fn accept(&mut self, alloc: Global, line: u32, count: usize) -> Result<(), Memory>
         requires { counted self.old + 1 < 2 ^ 64 }
         ensures { OnOk result (self.new ≡ record {
           log = self.old.log ++ accepted_line line count;
           sets = self.old.sets;
           accepted = self.old.accepted + 1;
+          changed = self.old.changed + count;
           refused = self.old.refused;
           answered = self.old.answered;
         }) }
     {
+        let Some(changed) = self.changed.checked_add(count) else {
+            return Err(Memory);
+        };
         put_accepted(alloc, &mut self.log, line, count)?;
         self.accepted += 1;
+        self.changed = changed;
         Ok(())
     }
 
@@ -65,6 +75,7 @@ impl Carried {
           log = self.old.log ++ refused_line line why;
           sets = self.old.sets;
           accepted = self.old.accepted;
+          changed = self.old.changed;
           refused = self.old.refused + 1;
           answered = self.old.answered;
         }) }
@@ -82,6 +93,7 @@ impl Carried {
           log = self.old.log ++ set_line line (members_in spans.now);
           sets = self.old.sets ++ set_section line spans.now;
           accepted = self.old.accepted;
+          changed = self.old.changed;
           refused = self.old.refused;
           answered = self.old.answered + 1;
         }) }
@@ -104,6 +116,7 @@ impl Carried {
           log = self.old.log ++ unasked_line line fault;
           sets = self.old.sets;
           accepted = self.old.accepted;
+          changed = self.old.changed;
           refused = self.old.refused + 1;
           answered = self.old.answered;
         }) }

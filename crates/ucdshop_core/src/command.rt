@@ -1,9 +1,12 @@
 //! What the words of a run ask for.
 
-ghost use Rattle.std.specs.Prelude.{◌≡◌, ◌∷◌, []};
-ghost use Rattle.ucdshop_core.specs.Commands.{AsksFor, job_of};
-ghost use Rattle.ucdshop_core.specs.Run.{form, input_of, script_of};
+ghost use Rattle.std.specs.Prelude.{◌≡◌, ◌∷◌, [], ⊤};
+ghost use Rattle.std.specs.Option.{MatchOption};
+ghost use Rattle.ucdshop_core.specs.Commands.{AsksFor, IsListed, job_of};
+ghost use Rattle.ucdshop_core.specs.Making.{number_of};
+ghost use Rattle.ucdshop_core.specs.Run.{form, input_of, make_form};
 
+use crate::release_number::number_of;
 use ucd_model::Text;
 
 /// What the words of a run ask for.
@@ -21,51 +24,64 @@ pub enum Command<'a> {
         script: &'a [u8],
         output: &'a [u8],
     },
+    /// Make the release of a number and a script for it. Both go into the folder `output`.
+    Make {
+        /// From 1 to 50.
+        number: u8,
+        output: &'a [u8],
+    },
 }
 
 impl<'a> Command<'a> {
-    /// The folder that is read.
+    /// The folder whose files are judged. What is made is judged as the files of the folder that it is written into.
     pub fn input(self) -> &'a [u8]
         ensures { result.now ≡ input_of (job_of self.entry) }
     {
         match self {
             Command::Derive { input, .. } | Command::Apply { input, .. } => input,
-        }
-    }
-
-    /// The path of the script; no bytes where none is read.
-    pub fn script(self) -> &'a [u8]
-        ensures { result.now ≡ script_of (job_of self.entry) }
-    {
-        match self {
-            Command::Derive { .. } => b"",
-            Command::Apply { script, .. } => script,
+            Command::Make { output, .. } => output,
         }
     }
 }
 
 /// What the words ask for, and `None` exactly where they have no listed form.
 pub fn command_of(words: &[Text]) -> Option<Command<'_>>
-    ensures { AsksFor result (form words.now) }
+    ensures form { AsksFor result (form words.now) }
+    ensures listed { MatchOption result ⊤ (λ command. IsListed (job_of command)) }
 {
     match words {
-        [word, input, output] => derive_of(word, input, output),
+        [word, first, output] => short_form(word, first, output),
         [word, input, script, output] => apply_of(word, input, script, output),
         _ => None,
     }
 }
 
-/// `derive DATA OUT`.
-fn derive_of<'a>(word: &'a Text, input: &'a Text, output: &'a Text) -> Option<Command<'a>>
-    ensures { AsksFor result (form (word.now ∷ input.now ∷ output.now ∷ [])) }
+/// `derive DATA OUT` or `make NUMBER OUT`.
+fn short_form<'a>(word: &'a Text, first: &'a Text, output: &'a Text) -> Option<Command<'a>>
+    ensures form { AsksFor result (form (word.now ∷ first.now ∷ output.now ∷ [])) }
+    ensures listed { MatchOption result ⊤ (λ command. IsListed (job_of command)) }
 {
     if word.as_slice() == b"derive".as_slice() {
-        Some(Command::Derive {
-            input: input.as_slice(),
+        return Some(Command::Derive {
+            input: first.as_slice(),
             output: output.as_slice(),
-        })
+        });
+    }
+    if word.as_slice() == b"make".as_slice() {
+        make_of(first.as_slice(), output.as_slice())
     } else {
         None
+    }
+}
+
+/// `make` with the number that a word writes.
+fn make_of<'a>(word: &[u8], output: &'a [u8]) -> Option<Command<'a>>
+    ensures form { AsksFor result (make_form (number_of word.now) output.now) }
+    ensures listed { MatchOption result ⊤ (λ command. IsListed (job_of command)) }
+{
+    match number_of(word) {
+        Some(number) => Some(Command::Make { number, output }),
+        None => None,
     }
 }
 
@@ -76,7 +92,8 @@ fn apply_of<'a>(
     script: &'a Text,
     output: &'a Text,
 ) -> Option<Command<'a>>
-    ensures { AsksFor result (form (word.now ∷ input.now ∷ script.now ∷ output.now ∷ [])) }
+    ensures form { AsksFor result (form (word.now ∷ input.now ∷ script.now ∷ output.now ∷ [])) }
+    ensures listed { MatchOption result ⊤ (λ command. IsListed (job_of command)) }
 {
     if word.as_slice() == b"apply".as_slice() {
         Some(Command::Apply {

@@ -1,6 +1,6 @@
 //! The files that a run writes, made before the first is written.
 
-ghost use Rattle.std.specs.Prelude.{◌≡◌, ◌∷◌, ◌++◌, [], IfOk, OnOk, map};
+ghost use Rattle.std.specs.Prelude.{◌≡◌, ℕ, ◌∷◌, ◌++◌, [], IfOk, OnOk, map};
 ghost use Rattle.ucd_model.specs.Cuts.{IsCut};
 ghost use Rattle.edit_session.specs.Benches.{bench_record};
 ghost use Rattle.ucd_model.specs.DerivedFiles.{derived_files};
@@ -8,20 +8,24 @@ ghost use Rattle.ucd_model.specs.Limits.{point_count};
 ghost use Rattle.ucd_model.specs.SourceFiles.{source_files};
 ghost use Rattle.ucdshop_core.specs.Carrying.{session_of};
 ghost use Rattle.ucdshop_core.specs.Commands.{job_of};
+ghost use Rattle.ucdshop_core.specs.Judging.{AreFor};
 ghost use Rattle.ucdshop_core.specs.Paths.{path_in};
 ghost use Rattle.ucdshop_core.specs.Planning.{HaveLines, Puts};
 ghost use Rattle.ucdshop_core.specs.Printed.{write_failed};
-ghost use Rattle.ucdshop_core.specs.Run.{derived_file, log_file, new_files, sets_file, source_file};
+ghost use Rattle.ucdshop_core.specs.Run.{derived_file, log_file, made_file, made_script, new_files, sets_file, source_file};
 ghost use Rattle.ucdshop_core.specs.Writing.{file_of, files_of};
+ghost use Rattle.ucdshop_core.specs.declared.given.Given.TheVariants.{Made as MadeOf};
 
 use crate::bench_pieces::bench_pieces;
 use crate::carried::Carried;
 use crate::command::Command;
+use crate::given::Given;
 use crate::printed::write_failed;
-use crate::source_path::path_in;
+use crate::source_path::{path_in, text_of};
 use crate::writing::Output;
 use derived_writer::text_over;
 use edit_session::Bench;
+use release_maker::Made;
 use std::alloc::Global;
 use ucd_model::{DERIVED_FILES, DerivedFile, Memory, SOURCE_FILES, SourceFile, Span, Text};
 
@@ -32,9 +36,11 @@ use ucd_model::{DERIVED_FILES, DerivedFile, Memory, SOURCE_FILES, SourceFile, Sp
 pub fn outputs_of(
     alloc: Global,
     command: Command<'_>,
+    given: &Given,
     bench: &Bench,
     carried: &Carried,
 ) -> Result<Vec<Output>, Memory>
+    requires { AreFor given.now (job_of command) }
     ensures files { IfOk result (λ outputs. files_of outputs.items ≡ new_files (job_of command.entry) (session_of bench.now carried.now)) }
     ensures lines { IfOk result (λ outputs. HaveLines outputs.items) }
 {
@@ -42,6 +48,7 @@ pub fn outputs_of(
     match command {
         Command::Derive { output, .. } => put_derived(alloc, output, bench, &mut outputs)?,
         Command::Apply { output, .. } => put_all(alloc, output, bench, carried, &mut outputs)?,
+        Command::Make { output, .. } => put_given(alloc, output, given, &mut outputs)?,
     }
     Ok(outputs)
 }
@@ -61,6 +68,79 @@ fn put_all(
     put_derived(alloc, folder, bench, outputs)?;
     put_log(alloc, folder, carried, outputs)?;
     put_sets(alloc, folder, carried, outputs)?;
+    Ok(())
+}
+
+/// Puts what `make` writes below a folder: the source files and the script as they are made.
+fn put_given(
+    alloc: Global,
+    folder: &[u8],
+    given: &Given,
+    outputs: &mut Vec<Output>,
+) -> Result<(), Memory>
+    ensures { (n : ℕ) → given.now ≡ MadeOf n → OnOk result (Puts (map (made_file folder.now n) source_files ++ made_script folder.now ∷ []) outputs.old.items outputs.new.items) }
+{
+    match given {
+        Given::Made(made) => put_made(alloc, folder, made, outputs),
+        Given::Read(_) => Ok(()),
+    }
+}
+
+/// Puts a release that is made, and its script, below a folder.
+fn put_made(
+    alloc: Global,
+    folder: &[u8],
+    made: &Made,
+    outputs: &mut Vec<Output>,
+) -> Result<(), Memory>
+    ensures { OnOk result (Puts (map (made_file folder.now made.now) source_files ++ made_script folder.now ∷ []) outputs.old.items outputs.new.items) }
+{
+    put_made_files(alloc, folder, made, outputs)?;
+    put_made_script(alloc, folder, made, outputs)?;
+    Ok(())
+}
+
+/// Puts the source files of a release that is made below a folder.
+fn put_made_files(
+    alloc: Global,
+    folder: &[u8],
+    made: &Made,
+    outputs: &mut Vec<Output>,
+) -> Result<(), Memory>
+    ensures { OnOk result (Puts (map (made_file folder.now made.now) source_files) outputs.old.items outputs.new.items) }
+{
+    'files: for file in &SOURCE_FILES {
+        let output = made_output(alloc, folder, made, *file)?;
+        outputs.push(output)?;
+    }
+    Ok(())
+}
+
+/// A source file of a release that is made below a folder.
+#[tactic(auto, unfolding(crate::specs::Run::made_text))]
+fn made_output(
+    alloc: Global,
+    folder: &[u8],
+    made: &Made,
+    file: SourceFile,
+) -> Result<Output, Memory>
+    ensures file { IfOk result (λ output. file_of output ≡ made_file folder.now made.now file) }
+    ensures line { IfOk result (λ output. output.fault_line ≡ write_failed output.path) }
+{
+    text_output(alloc, folder, file.path(), made.text(file))
+}
+
+/// Puts the script that is made below a folder.
+fn put_made_script(
+    alloc: Global,
+    folder: &[u8],
+    made: &Made,
+    outputs: &mut Vec<Output>,
+) -> Result<(), Memory>
+    ensures { OnOk result (Puts (made_script folder.now ∷ []) outputs.old.items outputs.new.items) }
+{
+    let output = text_output(alloc, folder, b"script.txt", made.script())?;
+    outputs.push(output)?;
     Ok(())
 }
 
@@ -106,7 +186,7 @@ fn put_log(
 ) -> Result<(), Memory>
     ensures { OnOk result (Puts (log_file folder.now carried.now.log ∷ []) outputs.old.items outputs.new.items) }
 {
-    let output = text_output(alloc, folder, b"bench.log", &carried.log)?;
+    let output = text_output(alloc, folder, b"bench.log", carried.log.as_slice())?;
     outputs.push(output)?;
     Ok(())
 }
@@ -120,7 +200,7 @@ fn put_sets(
 ) -> Result<(), Memory>
     ensures { OnOk result (Puts (sets_file folder.now carried.now.sets ∷ []) outputs.old.items outputs.new.items) }
 {
-    let output = text_output(alloc, folder, b"sets.txt", &carried.sets)?;
+    let output = text_output(alloc, folder, b"sets.txt", carried.sets.as_slice())?;
     outputs.push(output)?;
     Ok(())
 }
@@ -171,11 +251,11 @@ fn derived_output(
 }
 
 /// A file of this name and this text below a folder.
-fn text_output(alloc: Global, folder: &[u8], name: &[u8], text: &Text) -> Result<Output, Memory>
+fn text_output(alloc: Global, folder: &[u8], name: &[u8], text: &[u8]) -> Result<Output, Memory>
     ensures file { IfOk result (λ output. file_of output ≡ record { path = path_in folder.now name.now; bytes = text.now }) }
     ensures line { IfOk result (λ output. output.fault_line ≡ write_failed output.path) }
 {
     let path = path_in(alloc, folder, name)?;
-    let bytes = text.copy(alloc)?;
+    let bytes = text_of(alloc, text)?;
     output_of(alloc, path, bytes)
 }

@@ -3,13 +3,16 @@
 ghost use Rattle.std.specs.Prelude.{◌≡◌, IfOk};
 ghost use Rattle.ucdshop_core.specs.Carrying.{session_of};
 ghost use Rattle.ucdshop_core.specs.Commands.{job_of};
+ghost use Rattle.ucdshop_core.specs.Judging.{AreFor};
 ghost use Rattle.ucdshop_core.specs.Planning.{HasPlan};
-ghost use Rattle.ucdshop_core.specs.Run.{ending_of};
+ghost use Rattle.ucdshop_core.specs.Run.{ending_of, summary_of};
 
 use crate::carried::Carried;
 use crate::command::Command;
+use crate::given::Given;
+use crate::making::casefolds;
 use crate::outputs::outputs_of;
-use crate::printed::{RunCounts, summary};
+use crate::printed::{MadeCounts, RunCounts, made_summary, summary};
 use crate::writing::Output;
 use edit_session::Bench;
 use std::alloc::Global;
@@ -26,28 +29,55 @@ pub struct Plan {
     pub done: bool,
 }
 
-/// The files that a command writes, and its summary, once the commands of its script are carried out on a bench.
+/// The files that a command writes, and its summary, once the commands of its script are carried out on a bench. At the
+/// beginning UnicodeData.txt had so many rows.
 ///
 /// - `Memory`: memory ran out.
 pub fn plan_of(
     alloc: Global,
     command: Command<'_>,
+    given: &Given,
+    rows: usize,
     bench: &Bench,
     carried: &Carried,
 ) -> Result<Plan, Memory>
-    ensures { IfOk result (λ plan. HasPlan (ending_of (job_of command.entry) (session_of bench.now carried.now)) plan) }
+    requires { AreFor given.now (job_of command) }
+    ensures { IfOk result (λ plan. HasPlan (ending_of (job_of command.entry) rows (session_of bench.now carried.now)) plan) }
 {
-    let outputs = outputs_of(alloc, command, bench, carried)?;
+    let outputs = outputs_of(alloc, command, given, bench, carried)?;
+    let summary = summary_of(alloc, command, rows, bench, carried)?;
+    Ok(Plan {
+        outputs,
+        summary,
+        done: carried.refused > 0,
+    })
+}
+
+/// The summary of a command.
+fn summary_of(
+    alloc: Global,
+    command: Command<'_>,
+    rows: usize,
+    bench: &Bench,
+    carried: &Carried,
+) -> Result<Text, Memory>
+    ensures { IfOk result (λ line. line ≡ summary_of (job_of command.entry) rows (session_of bench.now carried.now)) }
+{
+    if let Command::Make { number, .. } = command {
+        let counts = MadeCounts {
+            number,
+            rows,
+            accepted: carried.accepted,
+            changed: carried.changed,
+            casefolds: casefolds(bench),
+        };
+        return made_summary(alloc, counts);
+    }
     let counts = RunCounts {
         accepted: carried.accepted,
         refused: carried.refused,
         answered: carried.answered,
         broken: 0,
     };
-    let summary = summary(alloc, counts)?;
-    Ok(Plan {
-        outputs,
-        summary,
-        done: carried.refused > 0,
-    })
+    summary(alloc, counts)
 }

@@ -1,26 +1,31 @@
 //! All that a run does before it writes.
 
-ghost use Rattle.std.specs.Prelude.{◌≡◌, ◌≤◌, ◌+◌, [], IfOk, Some, length};
+ghost use Rattle.std.specs.Prelude.{◌≡◌, ◌≤◌, ◌+◌, [], IfOk, Some, length, map};
 ghost use Rattle.std.specs.List.{All};
 ghost use Rattle.ucd_model.specs.Limits.{point_count};
-ghost use Rattle.ucdshop_core.specs.Commands.{MayStep, job_of};
-ghost use Rattle.ucdshop_core.specs.Judging.{held_verdict};
-ghost use Rattle.ucdshop_core.specs.Planning.{HasPlan, IsPlanOf, OnRefused, OnlyRead, PlansAs, TellsOf, UnreadAs};
+ghost use Rattle.ucdshop_core.specs.Commands.{IsListed, MayStep, job_of};
+ghost use Rattle.ucdshop_core.specs.Judging.{AreFor, ReadAs, given_verdict, inputs_of};
+ghost use Rattle.ucdshop_core.specs.Planning.{CountsRows, HasPlan, IsPlanOf, OnRefused, OnlyRead, PlansAs, TellsOf, UnreadAs};
 ghost use Rattle.ucdshop_core.specs.Promises.{shelf_seen};
-ghost use Rattle.ucdshop_core.specs.Run.{Refuses, Sees, ending_of, everywhere, expected_of, judged, needed};
+ghost use Rattle.ucdshop_core.specs.Reading.{cut};
+ghost use Rattle.ucdshop_core.specs.Refusals.{refusal_line};
+ghost use Rattle.ucdshop_core.specs.Run.{Refuses, Sees, everywhere, expected_of, input_of, inputs_ending, job_verdict, judged, needed, script_of};
 ghost use Rattle.script_lines.specs.Groups.{IsReady};
-ghost use Rattle.ucdshop_core.specs.Session.{session};
+ghost use Rattle.ucdshop_core.specs.declared.given.Given.TheVariants.{Made};
 
 use crate::carrying::carry_out;
 use crate::command::Command;
 use crate::gathering::gather;
+use crate::given::Given;
 use crate::inputs::{Inputs, judge_inputs};
+use crate::making::data_rows;
 use crate::plan::{Plan, plan_of};
-use crate::refusal::JudgeStop;
+use crate::refusal::{JudgeStop, Refusal};
 use crate::refusing::refusal_line;
-use crate::source_path::needed_paths;
+use crate::source_path::{needed_paths, script_path};
 use crate::stop::Stop;
 use edit_session::Bench;
+use release_maker::make;
 use script_lines::Command as ScriptCommand;
 use shelf_io::Shelf;
 use std::alloc::Global;
@@ -31,34 +36,56 @@ use ucd_model::{Memory, Steps, Text};
 fn carried_plan<L: Ledger>(
     alloc: Global,
     command: Command<'_>,
+    given: &Given,
     inputs: Inputs,
     steps: &mut Steps<L>,
 ) -> Result<Plan, Memory>
-    requires { All IsReady inputs.commands }
-    ensures plan { IfOk result (λ plan. HasPlan (ending_of (job_of command.entry) (session inputs.bench.current inputs.commands)) plan) }
+    requires ready { All IsReady inputs.commands }
+    requires given { AreFor given.now (job_of command) }
+    ensures plan { IfOk result (λ plan. HasPlan (inputs_ending (job_of command.entry) (inputs_of inputs)) plan) }
     ensures steps { inputs.commands ≡ [] → steps.new ≡ steps.old }
 {
     let Inputs {
         bench: mut bench,
         commands,
     } = inputs;
-    plan_after(alloc, command, &mut bench, commands.as_slice(), steps)
+    plan_after(
+        alloc,
+        command,
+        given,
+        &mut bench,
+        commands.as_slice(),
+        steps,
+    )
 }
 
 /// The same of the bench and the commands that were read.
 fn plan_after<L: Ledger>(
     alloc: Global,
     command: Command<'_>,
+    given: &Given,
     bench: &mut Bench,
     commands: &[ScriptCommand],
     steps: &mut Steps<L>,
 ) -> Result<Plan, Memory>
-    requires { All IsReady commands.now }
-    ensures plan { IfOk result (λ plan. HasPlan (ending_of (job_of command.entry) (session bench.old.current commands.now)) plan) }
+    requires ready { All IsReady commands.now }
+    requires given { AreFor given.now (job_of command) }
+    ensures plan { IfOk result (λ plan. HasPlan (inputs_ending (job_of command.entry) (record { files = bench.old.current; commands = commands.now })) plan) }
     ensures steps { commands.now ≡ [] → steps.new ≡ steps.old }
 {
+    let rows = counted_rows(command, bench)?;
     let carried = carry_out(alloc, bench, commands, steps)?;
-    plan_of(alloc, command, bench, &carried)
+    plan_of(alloc, command, given, rows, bench, &carried)
+}
+
+/// How many rows UnicodeData.txt has, if the summary of the command tells it; else 0.
+fn counted_rows(command: Command<'_>, bench: &Bench) -> Result<usize, Memory>
+    ensures { IfOk result (λ rows. CountsRows (job_of command.entry) rows bench.now.current) }
+{
+    match command {
+        Command::Make { .. } => data_rows(bench),
+        Command::Derive { .. } | Command::Apply { .. } => Ok(0),
+    }
 }
 
 /// Why what was read is refused, with the line that is then printed.
@@ -68,35 +95,85 @@ fn stop_of(alloc: Global, command: Command<'_>, stop: JudgeStop) -> Stop
     let JudgeStop::Refused(refusal) = stop else {
         return Stop::Memory;
     };
-    match refusal_line(alloc, command.input(), command.script(), refusal) {
+    match told_refusal(alloc, command, refusal) {
         Ok(line) => Stop::Refused(line),
         Err(Memory) => Stop::Memory,
     }
 }
 
-/// Judges what is held at the paths that a command reads, in their order, and does all that the command asks for but
-/// writing. The counter of steps rises by at most the number of code points where the command reads no script.
+/// The line of a refusal of what is given to a command.
+fn told_refusal(alloc: Global, command: Command<'_>, refusal: Refusal) -> Result<Text, Memory>
+    ensures { IfOk result (λ line. line ≡ refusal_line (input_of (job_of command.entry)) (script_of (job_of command.entry)) refusal) }
+{
+    let script = script_path(alloc, command)?;
+    refusal_line(alloc, command.input(), script.as_slice(), refusal)
+}
+
+/// Judges what is given to a command, and does all that the command asks for but writing. The counter of steps rises by at
+/// most the number of code points where no script is carried out.
 ///
 /// - `Refused(line)`: a file, a code point or the script breaks a rule.
 /// - `Memory`: memory ran out.
-fn held_plan<L: Ledger>(
+fn given_plan<L: Ledger>(
     alloc: Global,
     command: Command<'_>,
-    held: &[Option<Text>],
+    given: &Given,
     steps: &mut Steps<L>,
 ) -> Result<Plan, Stop>
-    requires { length held.now ≡ length (needed (job_of command)) }
-    ensures plan { PlansAs result (judged (job_of command.entry) (held_verdict (job_of command.entry) held.now)) }
+    requires { AreFor given.now (job_of command) }
+    ensures plan { PlansAs result (judged (job_of command.entry) (given_verdict (job_of command.entry) given.now)) }
     ensures steps { MayStep (job_of command.entry) steps.old steps.new }
 {
-    match judge_inputs(alloc, command, held, steps) {
-        Ok(inputs) => Ok(carried_plan(alloc, command, inputs, steps)?),
+    match judge_inputs(alloc, command, given, steps) {
+        Ok(inputs) => Ok(carried_plan(alloc, command, given, inputs, steps)?),
         Err(stop) => Err(stop_of(alloc, command, stop)),
     }
 }
 
+/// The texts that a command works on: what is read at the paths that it needs, or what it makes.
+///
+/// - `ReadFailed(line)`: a file could not be read.
+/// - `Memory`: memory ran out.
+fn given_texts<S: Shelf>(alloc: Global, command: Command<'_>, shelf: &mut S) -> Result<Given, Stop>
+    requires { IsListed (job_of command) }
+    ensures given { IfOk result (λ given. AreFor given (job_of command.entry)) }
+    ensures verdict { IfOk result (λ given. Sees S.tells (everywhere (S.holds shelf.old)) (λ seen.
+        given_verdict (job_of command.entry) given ≡ job_verdict (job_of command.entry) seen)) }
+    ensures refused { OnRefused result (λ _. ⊥) }
+    ensures unread { UnreadAs result (needed (job_of command.entry)) (shelf_seen S.Shelf shelf.old shelf.new) }
+    ensures only_read { OnlyRead (shelf_seen S.Shelf shelf.old shelf.new) }
+{
+    match command {
+        Command::Make { number, .. } => Ok(made_texts(alloc, number)?),
+        Command::Derive { .. } => read_texts(alloc, command, shelf),
+        Command::Apply { .. } => read_texts(alloc, command, shelf),
+    }
+}
+
+/// What is read at the paths that a command needs.
+fn read_texts<S: Shelf>(alloc: Global, command: Command<'_>, shelf: &mut S) -> Result<Given, Stop>
+    ensures read { IfOk result (λ given. ReadAs given S.tells (map (λ path. cut (S.holds shelf.old path)) (needed (job_of command.entry)))) }
+    ensures refused { OnRefused result (λ _. ⊥) }
+    ensures unread { UnreadAs result (needed (job_of command.entry)) (shelf_seen S.Shelf shelf.old shelf.new) }
+    ensures only_read { OnlyRead (shelf_seen S.Shelf shelf.old shelf.new) }
+{
+    let paths = needed_paths(alloc, command)?;
+    let held = gather(alloc, shelf, paths.as_slice())?;
+    Ok(Given::Read(held))
+}
+
+/// The release of a number, and its script.
+fn made_texts(alloc: Global, number: u8) -> Result<Given, Memory>
+    requires least { 1 ≤ number }
+    requires most { number ≤ 50 }
+    ensures { IfOk result (λ given. given ≡ Made number) }
+{
+    let made = make(alloc, number)?;
+    Ok(Given::Made(made))
+}
+
 /// Does all of a command that comes before the first write. The counter of steps rises by at most the number of code
-/// points where the command reads no script.
+/// points where no script is carried out.
 ///
 /// - `Refused(line)`: a file is absent, too long, or breaks a rule, a code point breaks a rule of a valid release, or
 ///   the script is refused.
@@ -108,6 +185,7 @@ pub fn prepare<S: Shelf, L: Ledger>(
     shelf: &mut S,
     steps: &mut Steps<L>,
 ) -> Result<Plan, Stop>
+    requires { IsListed (job_of command) }
     ensures planned { IfOk result (λ plan. Sees S.tells (everywhere (S.holds shelf.old)) (λ seen.
         IsPlanOf plan (expected_of (Some (job_of command.entry)) seen))) }
     ensures room { IfOk result (λ plan. length plan.outputs.items ≤ S.spare shelf.new) }
@@ -117,11 +195,8 @@ pub fn prepare<S: Shelf, L: Ledger>(
     ensures only_read { OnlyRead (shelf_seen S.Shelf shelf.old shelf.new) }
     ensures steps { MayStep (job_of command.entry) steps.old steps.new }
 {
-    let held = {
-        let paths = needed_paths(alloc, command)?;
-        gather(alloc, shelf, paths.as_slice())?
-    };
-    let plan = held_plan(alloc, command, held.as_slice(), steps)?;
+    let given = given_texts(alloc, command, shelf)?;
+    let plan = given_plan(alloc, command, &given, steps)?;
     shelf.room(plan.outputs.len())?;
     Ok(plan)
 }

@@ -1,7 +1,7 @@
 //! The lines that a run prints.
 
 ghost use Rattle.std.specs.Prelude.{◌≡◌, ◌++◌, IfOk, OnOk, codes};
-ghost use Rattle.ucdshop_core.specs.Printed.{Counts, bad_code, line_end, refused, refused_point, read_failed, write_failed, row_rule_code, rule_code, summary};
+ghost use Rattle.ucdshop_core.specs.Printed.{Counts, bad_code, line_end, refused, refused_point, read_failed, write_failed, row_rule_code, rule_code, summary, made_release, made_summary};
 ghost use Rattle.std.specs.Fmt.{decimal};
 
 use release_rows::LoadRule;
@@ -11,7 +11,8 @@ use ucd_lines::put_hex;
 use ucd_model::{Bad, Broken, Memory, Text};
 
 /// The line for words that have no listed form.
-pub const USAGE: &[u8] = b"usage: ucdshop derive DATA OUT | apply DATA SCRIPT OUT\n";
+pub const USAGE: &[u8] =
+    b"usage: ucdshop derive DATA OUT | apply DATA SCRIPT OUT | make NUMBER OUT\n";
 
 /// The line for want of memory.
 pub const OUT_OF_MEMORY: &[u8] = b"out of memory\n";
@@ -120,6 +121,46 @@ pub fn summary(alloc: Global, counts: RunCounts) -> Result<Text, Memory>
     put_count(alloc, &mut text, counts.answered, b" sets answered, ")?;
     put_count(alloc, &mut text, counts.broken, b" policy breaks\n")?;
     Ok(text)
+}
+
+/// What a run counts for the summary of `make`.
+#[derive(Clone, Copy, Debug, PartialEq, Eq)]
+pub struct MadeCounts {
+    /// The number that the release is made of.
+    pub number: u8,
+    /// How many rows its UnicodeData.txt has.
+    pub rows: usize,
+    /// How many groups were accepted.
+    pub accepted: usize,
+    /// How many code points have another record after each of them, added up.
+    pub changed: usize,
+    /// How many code points have an NFKC_Casefold of their own afterwards.
+    pub casefolds: usize,
+}
+
+/// The line of a run of `make` that wrote all files.
+///
+/// - `Memory`: memory ran out.
+pub fn made_summary(alloc: Global, counts: MadeCounts) -> Result<Text, Memory>
+    ensures { IfOk result (λ text. text ≡ made_summary (record { number = counts.number; rows = counts.rows; accepted = counts.accepted; changed = counts.changed; casefolds = counts.casefolds })) }
+{
+    let mut text = Text::new(alloc);
+    put_made(alloc, &mut text, counts.number, counts.rows)?;
+    put_count(alloc, &mut text, counts.accepted, b" groups accepted, ")?;
+    put_count(alloc, &mut text, counts.changed, b" code points changed, ")?;
+    put_count(alloc, &mut text, counts.casefolds, b" casefold entries\n")?;
+    Ok(text)
+}
+
+/// Puts what the summary of `make` says of the release that is made.
+#[tactic(auto, unfolding(crate::specs::Printed::made_release))]
+fn put_made(alloc: Global, text: &mut Text, number: u8, rows: usize) -> Result<(), Memory>
+    ensures { OnOk result (text.new ≡ text.old ++ made_release number rows) }
+{
+    text.append(b"ucdshop: make ")?;
+    put_count(alloc, text, number as usize, b": ")?;
+    put_count(alloc, text, rows, b" rows, ")?;
+    Ok(())
 }
 
 /// Puts a number and what it counts.

@@ -1,9 +1,9 @@
 //! Where the files lie.
 
-ghost use Rattle.std.specs.Prelude.{◌≡◌, ◌++◌, IfOk, OnOk, map};
+ghost use Rattle.std.specs.Prelude.{◌≡◌, ◌∷◌, [], ◌++◌, IfOk, OnOk, map};
 ghost use Rattle.ucdshop_core.specs.Commands.{job_of};
 ghost use Rattle.ucdshop_core.specs.Paths.{path_in, source_in, sources_in};
-ghost use Rattle.ucdshop_core.specs.Run.{needed};
+ghost use Rattle.ucdshop_core.specs.Run.{needed, script_of};
 
 use crate::command::Command;
 use std::alloc::Global;
@@ -28,19 +28,43 @@ pub fn path_in(alloc: Global, folder: &[u8], path: &[u8]) -> Result<Text, Memory
 pub fn needed_paths(alloc: Global, command: Command<'_>) -> Result<Texts, Memory>
     ensures { IfOk result (λ paths. paths ≡ needed (job_of command.entry)) }
 {
-    let mut paths = source_paths(alloc, command.input())?;
-    if let Command::Apply { script, .. } = command {
-        paths.push(path_of(alloc, script)?)?;
+    match command {
+        Command::Derive { input, .. } => source_paths(alloc, input),
+        Command::Apply { input, script, .. } => paths_with(alloc, input, script),
+        Command::Make { .. } => Ok(Texts::new(alloc)),
     }
+}
+
+/// The paths of the source files of a folder, in their order, and that of a script.
+fn paths_with(alloc: Global, folder: &[u8], script: &[u8]) -> Result<Texts, Memory>
+    ensures { IfOk result (λ paths. paths ≡ sources_in folder.now ++ script.now ∷ []) }
+{
+    let mut paths = source_paths(alloc, folder)?;
+    paths.push(text_of(alloc, script)?)?;
     Ok(paths)
 }
 
-/// A path of these bytes.
-fn path_of(alloc: Global, path: &[u8]) -> Result<Text, Memory>
-    ensures { IfOk result (λ text. text ≡ path.now) }
+/// The path of the script of a command; no bytes where there is none.
+///
+/// - `Memory`: memory ran out.
+pub fn script_path(alloc: Global, command: Command<'_>) -> Result<Text, Memory>
+    ensures { IfOk result (λ path. path ≡ script_of (job_of command.entry)) }
+{
+    match command {
+        Command::Derive { .. } => Ok(Text::new(alloc)),
+        Command::Apply { script, .. } => text_of(alloc, script),
+        Command::Make { output, .. } => path_in(alloc, output, b"script.txt"),
+    }
+}
+
+/// A text of these bytes.
+///
+/// - `Memory`: memory ran out.
+pub fn text_of(alloc: Global, bytes: &[u8]) -> Result<Text, Memory>
+    ensures { IfOk result (λ text. text ≡ bytes.now) }
 {
     let mut text = Text::new(alloc);
-    text.append(path)?;
+    text.append(bytes)?;
     Ok(text)
 }
 

@@ -1,8 +1,8 @@
-use Rattle.ucdshop_core.specs.Judging.{source_held}
+use Rattle.ucdshop_core.specs.Judging.{given_source}
 use Rattle.ucdshop_core.specs.Verdict.{file_verdict}
 use Rattle.ucdshop_core.proofs.LoadingLemmas.{IsLoadedTo}
 use Rattle.ucdshop_core.proofs.judging.judge.Given as goal
 
 -- the files before this one are loaded
 abbrev pub invariant-files : goal.invariant-files
-invariant-files l = IsLoadedTo (λ file. file_verdict file (source_held l.held file)) l.at l.release
+invariant-files l = IsLoadedTo (λ file. file_verdict file (given_source l.given file)) l.at l.release

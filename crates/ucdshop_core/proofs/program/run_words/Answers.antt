@@ -7,11 +7,11 @@ use Rattle.ucdshop_core.proofs.program.run_words.Goals as goal
 pub returns-in-Ok-clause-outcome : goal.returns-in-Ok-clause-outcome
 returns-in-Ok-clause-outcome g c =
     outcome_finished g.S.Shelf c.args.shelf.now c.prepare.new.shelf c.finish.new.shelf
-    c.args.words.now (job_of c.in-Some.command) c.in-Ok.plan _ c.finish.result (ap form (sym c.as_slice.ensures) ∙ c.in-Some.ensures)
+    c.args.words.now (job_of c.in-Some.command) c.in-Ok.plan _ c.finish.result (ap form (sym c.as_slice.ensures) ∙ c.in-Some.ensures.form)
     c.in-Ok.ensures.planned c.in-Ok.ensures.only_read.held_stays c.in-Ok.ensures.only_read.write_faults_stay
     (λ tells. c.finish.ensures.last_failed_stays tells ∙ c.in-Ok.ensures.unread tells) c.finish.ensures.outcome
 
 pub returns-in-Err-clause-outcome : goal.returns-in-Err-clause-outcome
 returns-in-Err-clause-outcome g c =
-    outcome_stopped c.args.words.now (job_of c.in-Some.command) c.in-Err.stop _ _ c.tell_stop.result (ap form (sym c.as_slice.ensures) ∙ c.in-Some.ensures)
+    outcome_stopped c.args.words.now (job_of c.in-Some.command) c.in-Err.stop _ _ c.tell_stop.result (ap form (sym c.as_slice.ensures) ∙ c.in-Some.ensures.form)
     c.in-Err.ensures.refused c.in-Err.ensures.unread c.in-Err.ensures.only_read c.tell_stop.ensures

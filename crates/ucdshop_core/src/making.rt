@@ -1,0 +1,66 @@
+//! What the summary of `make` counts.
+
+ghost use Rattle.std.specs.Prelude.{◌≡◌, ◌≤◌, IfOk, is_some, if◌then◌else◌};
+ghost use Rattle.edit_session.specs.Benches.{bench_record};
+ghost use Rattle.ucd_model.specs.DerivedFiles.{casefold_listing};
+ghost use Rattle.ucd_model.specs.Records.{Record as RecordValue, ShowsRecord};
+ghost use Rattle.ucdshop_core.specs.Making.{casefolds, data_rows};
+
+use edit_session::Bench;
+use ucd_model::{Image, Memory, Point, Record, Records, SourceFile};
+
+/// How many rows UnicodeData.txt has on a bench.
+///
+/// - `Memory`: there are 2^64 or more.
+#[tactic(auto, using(crate::proofs::MakingLemmas::numbered_count))]
+pub fn data_rows(bench: &Bench) -> Result<usize, Memory>
+    ensures { IfOk result (λ count. count ≡ data_rows bench.now.current) }
+{
+    let mut rows = bench.release().rows(SourceFile::UnicodeData);
+    let mut count: usize = 0;
+    'rows: while let Some(_row) = rows.next() {
+        let Some(more) = count.checked_add(1) else {
+            return Err(Memory);
+        };
+        count = more;
+    }
+    Ok(count)
+}
+
+/// How many code points the section NFKC_CF lists over the release of a bench: it looks once at each stretch of equal records.
+pub fn casefolds(bench: &Bench) -> usize
+    ensures { result ≡ casefolds bench.now.current }
+{
+    let mut count = 0;
+    let mut number = 0;
+    'stretches: while number < Point::COUNT {
+        let lo = Point::at(number);
+        let hi = bench.last_alike(lo);
+        let end = hi.number() + 1;
+        count += listed(bench, lo, end - number);
+        number = end;
+    }
+    count
+}
+
+/// How many of so many code points with the record of this one the section NFKC_CF lists: all or none.
+fn listed(bench: &Bench, c: Point, len: u32) -> usize
+    ensures count { result ≡ (if is_some (casefold_listing.label (bench_record bench.now c)) then len else 0) }
+    ensures few { result ≤ len }
+{
+    if is_listed(bench.record(c)) {
+        len as usize
+    } else {
+        0
+    }
+}
+
+/// Whether the section NFKC_CF lists a code point with this record.
+fn is_listed(shown: &Record) -> bool
+    ensures { (R : RecordValue) → ShowsRecord shown.now R → result ≡ is_some (casefold_listing.label R) }
+{
+    match &shown.casefold {
+        Image::Same => false,
+        Image::To(_) => true,
+    }
+}

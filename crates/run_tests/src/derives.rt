@@ -100,9 +100,12 @@ fn other_files_are_derived(rt: HostRuntime) -> Result<(), Fail> {
 #[test]
 fn words_of_no_form_are_refused(rt: HostRuntime) -> Result<(), Fail> {
     let alloc = rt.alloc();
-    let cases: [&[&[u8]]; 9] = [
+    let cases: [&[&[u8]]; 12] = [
         &[],
         &[b"make", b"51", b"o"],
+        &[b"make", b"1"],
+        &[b"make", b"1", b"s", b"o"],
+        &[b"Make", b"1", b"o"],
         &[b"derive", b"d"],
         &[b"derive", b"d", b"o", b"p"],
         &[b"Derive", b"d", b"o"],
@@ -117,7 +120,7 @@ fn words_of_no_form_are_refused(rt: HostRuntime) -> Result<(), Fail> {
         assert_eq!(rt; status, Status::BadWords);
         assert_eq!(rt;
             out.written(),
-            b"usage: ucdshop derive DATA OUT | apply DATA SCRIPT OUT\n".as_slice()
+            b"usage: ucdshop derive DATA OUT | apply DATA SCRIPT OUT | make NUMBER OUT\n".as_slice()
         );
         assert_eq!(rt; shelf.held(CORE_PATH), Some(b"old".as_slice()));
     }

@@ -12,6 +12,8 @@ mod folding;
 #[cfg(test)]
 mod groups;
 #[cfg(test)]
+mod makes;
+#[cfg(test)]
 mod next_facts;
 #[cfg(test)]
 mod questions;

@@ -54,31 +54,46 @@ fn asks(alloc: Global, list: &FactList, c: Point, wanted: &[Query]) -> Result<bo
     Ok(asked.as_slice() == wanted)
 }
 
+/// What FB00 asks while the letter and the mark have no composite.
+fn without_composite() -> Result<[Query; 5], Fail> {
+    let (letter, mark, ligature) = (point(0x0061)?, point(0x0300)?, point(0xFB00)?);
+    Ok([
+        Query::Row(letter),
+        Query::Row(mark),
+        Query::Row(ligature),
+        Query::Pair(letter, mark),
+        Query::Second(ligature),
+    ])
+}
+
+/// What FB00 asks once they have.
+fn with_composite() -> Result<[Query; 6], Fail> {
+    let [letter, mark, ligature, pair, second] = without_composite()?;
+    let composite = Query::Row(point(0x00E0)?);
+    Ok([letter, composite, mark, ligature, pair, second])
+}
+
 #[test]
-fn questions_are_listed(rt: HostRuntime) -> Result<(), Fail> {
-    let (letter, mark) = (point(0x0061)?, point(0x0300)?);
-    let (ligature, composite) = (point(0xFB00)?, point(0x00E0)?);
-    let before = listed_folded(rt.alloc(), &BEFORE)?;
+fn a_letter_asks_its_own(rt: HostRuntime) -> Result<(), Fail> {
+    let list = listed_folded(rt.alloc(), &BEFORE)?;
+    let letter = point(0x0061)?;
     let own = [Query::Row(letter), Query::Second(letter)];
-    assert!(rt; asks(rt.alloc(), &before, letter, &own)?);
-    // the composite of the two is not there as yet, and is asked for
-    let absent = [
-        Query::Row(letter),
-        Query::Row(mark),
-        Query::Row(ligature),
-        Query::Pair(letter, mark),
-        Query::Second(ligature),
-    ];
-    assert!(rt; asks(rt.alloc(), &before, ligature, &absent)?);
-    let after = listed_folded(rt.alloc(), &AFTER)?;
-    let present = [
-        Query::Row(letter),
-        Query::Row(composite),
-        Query::Row(mark),
-        Query::Row(ligature),
-        Query::Pair(letter, mark),
-        Query::Second(ligature),
-    ];
-    assert!(rt; asks(rt.alloc(), &after, ligature, &present)?);
+    assert!(rt; asks(rt.alloc(), &list, letter, &own)?);
+    Ok(())
+}
+
+#[test]
+fn an_absent_composite_is_asked_for(rt: HostRuntime) -> Result<(), Fail> {
+    let list = listed_folded(rt.alloc(), &BEFORE)?;
+    let wanted = without_composite()?;
+    assert!(rt; asks(rt.alloc(), &list, point(0xFB00)?, &wanted)?);
+    Ok(())
+}
+
+#[test]
+fn a_composite_is_asked_too(rt: HostRuntime) -> Result<(), Fail> {
+    let list = listed_folded(rt.alloc(), &AFTER)?;
+    let wanted = with_composite()?;
+    assert!(rt; asks(rt.alloc(), &list, point(0xFB00)?, &wanted)?);
     Ok(())
 }

@@ -13,7 +13,7 @@ use Rattle.ucd_model.specs.DerivedFiles.{derived_files}
 use Rattle.ucd_model.specs.Names.{source_path, derived_path}
 use Rattle.ucd_model.specs.SourceFiles.{source_files}
 use Rattle.ucdshop_core.specs.Paths.{path_in}
-use Rattle.ucdshop_core.specs.Run.{Contents, Job, Derive, Apply, NewFile, new_files, output_paths, put, after}
+use Rattle.ucdshop_core.specs.Run.{Contents, Job, Derive, Apply, Make, NewFile, new_files, output_paths, put, after}
 use Rattle.ucdshop_core.specs.Session.{Session}
 use Rattle.ucdshop_core.specs.OutputLaws.{PathsAreOfTheWords, OutputsHoldTheirBytes, OtherPathsStay}
 
@@ -76,22 +76,27 @@ others_from path (p ∷ paths) all =
 abbrev names_of : Job → List (List ℕ)
 names_of (Derive input output) = map derived_path derived_files
 names_of (Apply input script output) = map source_path source_files ++ map derived_path derived_files ++ codes "bench.log" ∷ codes "sets.txt" ∷ []
+names_of (Make number output) = map source_path source_files ++ codes "script.txt" ∷ []
 
 abbrev folder_of : Job → List ℕ
 folder_of (Derive input output) = output
 folder_of (Apply input script output) = output
+folder_of (Make number output) = output
 
 names_below : (job : Job) → output_paths job ≡ map (path_in (folder_of job)) (names_of job)
 names_below (Derive input output) = refl
 names_below (Apply input script output) = refl
+names_below (Make number output) = refl
 
 names_apart : (job : Job) → all_apart (names_of job) ≡ true
 names_apart (Derive input output) = refl
 names_apart (Apply input script output) = refl
+names_apart (Make number output) = refl
 
 pub paths_are_of_the_words : PathsAreOfTheWords
 paths_are_of_the_words (Derive input output) s = refl
 paths_are_of_the_words (Apply input script output) s = refl
+paths_are_of_the_words (Make number output) s = refl
 
 outputs_apart : (job : Job) (s : Session) → all_apart (paths_of (new_files job s)) ≡ true
 outputs_apart job s =

@@ -195,8 +195,10 @@ pub fn prepare<S: Shelf, L: Ledger>(
     ensures only_read { OnlyRead (shelf_seen S.Shelf shelf.old shelf.new) }
     ensures steps { MayStep (job_of command.entry) steps.old steps.new }
 {
-    let given = given_texts(alloc, command, shelf)?;
-    let plan = given_plan(alloc, command, &given, steps)?;
+    let plan = {
+        let given = given_texts(alloc, command, shelf)?;
+        given_plan(alloc, command, &given, steps)?
+    };
     shelf.room(plan.outputs.len())?;
     Ok(plan)
 }

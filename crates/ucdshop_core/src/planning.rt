@@ -1,6 +1,6 @@
 //! All that a run does before it writes.
 
-ghost use Rattle.std.specs.Prelude.{◌≡◌, ◌≤◌, ◌+◌, [], IfOk, Some, length, map};
+ghost use Rattle.std.specs.Prelude.{◌≡◌, ◌≤◌, ◌+◌, [], IfOk, IsTrue, OnOk, Some, length, map};
 ghost use Rattle.std.specs.List.{All};
 ghost use Rattle.ucd_model.specs.Limits.{point_count};
 ghost use Rattle.ucdshop_core.specs.Commands.{IsListed, MayStep, job_of};
@@ -172,6 +172,16 @@ fn made_texts(alloc: Global, number: u8) -> Result<Given, Memory>
     Ok(Given::Made(made))
 }
 
+/// Has a shelf take room for the files of a plan.
+fn make_room<S: Shelf>(shelf: &mut S, plan: &Plan) -> Result<(), Memory>
+    ensures room { OnOk result (length plan.now.outputs.items ≤ S.spare shelf.new) }
+    ensures last_failed_stays { IsTrue S.tells_failed → S.last_failed shelf.new ≡ S.last_failed shelf.old }
+    ensures only_read { OnlyRead (shelf_seen S.Shelf shelf.old shelf.new) }
+    ensures read_faults_stay { S.read_faults shelf.new ≡ S.read_faults shelf.old }
+{
+    shelf.room(plan.outputs.len())
+}
+
 /// Does all of a command that comes before the first write. The counter of steps rises by at most the number of code
 /// points where no script is carried out.
 ///
@@ -199,6 +209,6 @@ pub fn prepare<S: Shelf, L: Ledger>(
         let given = given_texts(alloc, command, shelf)?;
         given_plan(alloc, command, &given, steps)?
     };
-    shelf.room(plan.outputs.len())?;
+    make_room(shelf, &plan)?;
     Ok(plan)
 }

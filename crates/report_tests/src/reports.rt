@@ -1,0 +1,200 @@
+//! Reports over releases of a few lines.
+
+ghost use Rattle.std.specs.Prelude.{◌≡◌, IfOk};
+ghost use Rattle.std.specs.List.{list_all};
+ghost use Rattle.edit_session.specs.Benches.{bench_facts};
+ghost use Rattle.stability_policies.specs.Reports.{report};
+
+use edit_session::{Bench, OpenStop};
+use release_rows::Release;
+use stability_policies::{
+    Breaks, Forms, Policy, common_caseless, common_forms, lists, report, report_text,
+};
+use std::alloc::Global;
+use std::marker::Brand;
+use std::sync::ledger::{Blank, Ledger};
+use std::test::Fail;
+use ucd_model::{FactView, Memory, Point, Points, SourceFile, Steps};
+
+/// Letters and marks as UnicodeData.txt has them, without case mappings.
+const LETTERS: &[u8] =
+    b"0041;LATIN CAPITAL LETTER A;Lu;0;L;;;;;N;;;;;\n0061;LATIN SMALL LETTER A;Ll;0;L;;;;;N;;;;;\n0300;COMBINING GRAVE ACCENT;Mn;230;NSM;;;;;N;;;;;\n0301;COMBINING ACUTE ACCENT;Mn;230;NSM;;;;;N;;;;;\n";
+
+/// The same without 0041, with another class of 0300, and with 00E0.
+const LATER: &[u8] =
+    b"0061;LATIN SMALL LETTER A;Ll;0;L;;;;;N;;;;;\n00E0;LATIN SMALL LETTER A WITH GRAVE;Ll;0;L;0061 0300;;;;N;;;;;\n0300;COMBINING GRAVE ACCENT;Mn;220;NSM;;;;;N;;;;;\n0301;COMBINING ACUTE ACCENT;Mn;230;NSM;;;;;N;;;;;\n";
+
+/// A letter with a mark and its parts, and the same with one mark more.
+const GRAVE: &[u8] =
+    b"0061;LATIN SMALL LETTER A;Ll;0;L;;;;;N;;;;;\n00E0;LATIN SMALL LETTER A WITH GRAVE;Ll;0;L;0061 0300;;;;N;;;;;\n0300;COMBINING GRAVE ACCENT;Mn;230;NSM;;;;;N;;;;;\n";
+
+const MORE: &[u8] =
+    b"0061;LATIN SMALL LETTER A;Ll;0;L;;;;;N;;;;;\n00E0;LATIN SMALL LETTER A WITH GRAVE;Ll;0;L;0061 0300;;;;N;;;;;\n0300;COMBINING GRAVE ACCENT;Mn;230;NSM;;;;;N;;;;;\n0301;COMBINING ACUTE ACCENT;Mn;230;NSM;;;;;N;;;;;\n";
+
+/// A range and a letter, and the same with other names.
+const RANGE: &[u8] =
+    b"01A2;LATIN CAPITAL LETTER OI;Lu;0;L;;;;;N;;;;;\n3400;<CJK Ideograph Extension A, First>;Lo;0;L;;;;;N;;;;;\n3403;<CJK Ideograph Extension A, Last>;Lo;0;L;;;;;N;;;;;\n";
+
+const RENAMED: &[u8] =
+    b"01A2;LATIN CAPITAL LETTER GHA;Lu;0;L;;;;;N;;;;;\n3400;<CJK Ideograph Extension A, First>;Lo;0;L;;;;;N;;;;;\n3401;<CJK Ideograph Extension A, Last>;Lo;0;L;;;;;N;;;;;\n3402;<CJK Ideograph, First>;Lo;0;L;;;;;N;;;;;\n3404;<CJK Ideograph, Last>;Lo;0;L;;;;;N;;;;;\n";
+
+/// Names of properties and values, and the same with names moved and lost.
+const PROPERTIES: &[u8] =
+    b"# names\nAlpha ; Alphabetic\nWSpace ; White_Space ; space\nDash ; Dash\n";
+
+const LESS: &[u8] = b"Dash ; Dash\nWSpace ; White_Space\nAlpha ; Alphabetic ; A\n";
+
+const VALUES: &[u8] = b"sc ; Latn ; Latin\ngc ; Lu ; Uppercase_Letter\n";
+
+const MOVED: &[u8] = b"scx ; sc ; Latn ; Latin\ngc ; Lu ; Uppercase_Letter\n";
+
+/// The lines of UnicodeData.txt, PropertyAliases.txt and PropertyValueAliases.txt; the other files are empty.
+#[derive(Clone, Copy)]
+struct Lines {
+    data: &'static [u8],
+    properties: &'static [u8],
+    values: &'static [u8],
+}
+
+/// A bench over a release, which is counted on a ledger of its own.
+fn counted<L: Ledger>(alloc: Global, release: Release, blank: Blank) -> Result<Bench, OpenStop>
+    requires still { release.prepared ≡ release.current }
+    requires name { blank.name ≡ L.name }
+    requires parts { blank.parts ≡ L.parts }
+    requires some { blank.parts ≡ 1 }
+{
+    let mut steps = Steps::<L>::new(blank);
+    Bench::open(alloc, release, &mut steps)
+}
+
+/// A bench over a release with these lines.
+fn bench_over(alloc: Global, lines: &Lines) -> Result<Box<Bench>, Fail> {
+    let mut release = Release::empty(alloc);
+    release.load_file(SourceFile::UnicodeData, lines.data)?;
+    release.load_file(SourceFile::PropertyAliases, lines.properties)?;
+    release.load_file(SourceFile::PropertyValueAliases, lines.values)?;
+    match counted::<Brand>(alloc, release, Blank::new(1)) {
+        Ok(bench) => Ok(Box::new(alloc, bench)?),
+        Err(stop) => Err(Fail::from(stop)),
+    }
+}
+
+/// The report of two benches.
+fn report_of(alloc: Global, old: &Bench, new: &Bench) -> Result<Breaks, Memory>
+    ensures { IfOk result (λ breaks. breaks ≡ report old.now new.now) }
+{
+    let old_rows = old.release();
+    let new_rows = new.release();
+    report(alloc, old, old_rows, new, new_rows)
+}
+
+/// Whether the report of two releases with these lines is this text.
+fn reports(alloc: Global, old: &Lines, new: &Lines, expected: &[u8]) -> Result<bool, Fail> {
+    let old = bench_over(alloc, old)?;
+    let new = bench_over(alloc, new)?;
+    let breaks = report_of(alloc, &old, &new)?;
+    let text = report_text(alloc, &breaks)?;
+    Ok(text.as_slice() == expected)
+}
+
+/// Whether all of these code points are assigned.
+fn are_assigned(bench: &Bench, points: &[Point]) -> bool
+    ensures { result ≡ list_all (λ c. (bench_facts bench.now c).assigned) points.now }
+{
+    points.iter().all(|c| bench.is_assigned(*c))
+}
+
+/// The forms that a list has in both, and its folding under NFKC; `None` where a break of one of their policies is listed,
+/// and where a code point is not assigned.
+fn in_common(
+    alloc: Global,
+    old: &Bench,
+    new: &Bench,
+    s: &[Point],
+) -> Result<Option<(Forms, Points)>, Memory> {
+    let old_rows = old.release();
+    let new_rows = new.release();
+    let breaks = report(alloc, old, old_rows, new, new_rows)?;
+    if lists(&breaks, Policy::P01)
+        || lists(&breaks, Policy::P03)
+        || lists(&breaks, Policy::P04)
+        || lists(&breaks, Policy::P05)
+        || lists(&breaks, Policy::P10)
+        || !are_assigned(old, s)
+    {
+        return Ok(None);
+    }
+    let forms = common_forms(alloc, old, old_rows, new, new_rows, &breaks, s)?;
+    let folding = common_caseless(alloc, old, old_rows, new, new_rows, &breaks, s)?;
+    Ok(Some((forms, folding)))
+}
+
+fn data(lines: &'static [u8]) -> Lines {
+    Lines {
+        data: lines,
+        properties: b"",
+        values: b"",
+    }
+}
+
+#[test]
+fn letters_and_marks_are_compared(rt: HostRuntime) -> Result<(), Fail> {
+    let breaks =
+        b"P01 0041\nP03 0300\nP05 00E0\nP06 0041\nP07 0041\nP08 0041\nP09 0041\n# total 7\n";
+    assert!(rt; reports(rt.alloc(), &data(LETTERS), &data(LATER), breaks)?);
+    assert!(rt; reports(rt.alloc(), &data(LETTERS), &data(LETTERS), b"# total 0\n")?);
+    Ok(())
+}
+
+#[test]
+fn names_and_labels_are_compared(rt: HostRuntime) -> Result<(), Fail> {
+    let breaks = b"P02 01A2\nP02 3402\nP02 3403\n# total 3\n";
+    assert!(rt; reports(rt.alloc(), &data(RANGE), &data(RENAMED), breaks)?);
+    Ok(())
+}
+
+#[test]
+fn names_of_properties_and_values_are_compared(rt: HostRuntime) -> Result<(), Fail> {
+    let old = Lines {
+        data: b"",
+        properties: PROPERTIES,
+        values: VALUES,
+    };
+    let new = Lines {
+        data: b"",
+        properties: LESS,
+        values: MOVED,
+    };
+    let breaks = b"P17 PropertyAliases.txt 3\nP17 PropertyValueAliases.txt 1\n# total 2\n";
+    assert!(rt; reports(rt.alloc(), &old, &new, breaks)?);
+    Ok(())
+}
+
+#[test]
+fn policies_are_listed(rt: HostRuntime) -> Result<(), Fail> {
+    let old = bench_over(rt.alloc(), &data(LETTERS))?;
+    let new = bench_over(rt.alloc(), &data(LATER))?;
+    let breaks = report_of(rt.alloc(), &old, &new)?;
+    assert_eq!(rt; breaks.len(), 7);
+    assert!(rt; lists(&breaks, Policy::P01) && lists(&breaks, Policy::P09));
+    assert!(rt; !lists(&breaks, Policy::P02) && !lists(&breaks, Policy::P17));
+    Ok(())
+}
+
+#[test]
+fn forms_and_foldings_stay(rt: HostRuntime) -> Result<(), Fail> {
+    let old = bench_over(rt.alloc(), &data(GRAVE))?;
+    let new = bench_over(rt.alloc(), &data(MORE))?;
+    let a = Point::new(0x0061).ok_or("a code point")?;
+    let grave = Point::new(0x0300).ok_or("a code point")?;
+    let composed = Point::new(0x00E0).ok_or("a code point")?;
+    let (forms, folding) = in_common(rt.alloc(), &old, &new, &[composed, a, grave])?.ok_or(
+        "no break",
+    )?;
+    assert!(rt; forms.nfd.as_slice() == [a, grave, a, grave].as_slice());
+    assert!(rt; forms.nfc.as_slice() == [composed, composed].as_slice());
+    assert!(rt; folding.as_slice() == [composed, composed].as_slice());
+    let added = Point::new(0x0301).ok_or("a code point")?;
+    assert!(rt; in_common(rt.alloc(), &old, &new, &[added])?.is_none());
+    Ok(())
+}

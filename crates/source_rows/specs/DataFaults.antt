@@ -7,7 +7,9 @@
 -- decomposition_or_fault bs         field 5: a bad mapping or tag (G07), more than two code points without a tag (G10); no bytes
 --                                   are no mapping, and `<` as the first byte begins a tag
 -- values_or_fault fs                fields 2, 3, 5 and 12 to 14 in order: G05, G06, G07 or G10, G07
--- unit_of fs range name values span   the row of these fields, values and span; its kept fields are those of fs
+-- data_of fs range name values span   the row of these fields, values and span; its kept fields are those of fs
+-- unit_of fs range name values span   the same, as a row of any file
+-- text_row text                      the row that stands in the text
 -- with_kept old new                  each of the new kept fields behind the old one
 -- unit_or_fault fs range name end   the row of these fields; last, what was found of its span
 -- single_end c name                 the span of c alone; G09 where the name is that of a range
@@ -17,6 +19,8 @@
 -- are_last_fields label fs          fs has 15 fields, the second of which is `<Label, Last>` with this label
 -- pair_end label lo last            the span of a range: G09 where the last line is not that of the label, then G04
 -- pair_or_fault first last          two lines: G03 where the first one is not that of a range, G04, fields 2 to 14, `pair_end`
+-- DataTextAs result expected         the text is that of the row that was expected, or the result is its fault; want of memory says
+--                                   nothing
 -- ValuesReadAs result expected      the result is the values, or the fault, that were expected; want of memory says nothing
 -- DecompositionReadsAs result expected   the same of field 5
 use Rattle.std.specs.Prelude.{◌≡◌, ℕ, Bool, true, false, ◌&&◌, List, [], ◌∷◌, length, ◌++◌, Option, Some, None, Result, Ok, Err, ◌==◌, nat_le, if◌then◌else◌, codes}
@@ -28,12 +32,15 @@ use Rattle.ucd_model.specs.Fields.{field, point_of, is_name, is_range_name, labe
 use Rattle.ucd_model.specs.Mappings.{mapping_of}
 use Rattle.ucd_model.specs.DataLines.{kept_of}
 use Rattle.ucd_model.specs.declared.decomposition.Kind.TheVariants.{Plain, Canonical, Compat}
+use Rattle.ucd_model.specs.declared.row.DataRow.{DataRow}
 use Rattle.ucd_model.specs.declared.row.Kept.{Kept}
 use Rattle.ucd_model.specs.declared.row.Row.{Row}
 use Rattle.ucd_model.specs.declared.row.Row.TheVariants.{Unit as DataLine}
 use Rattle.source_rows.specs.Lines.{has_last_name, are_first_fields}
+use Rattle.source_rows.specs.Fields.{fields_in}
 use Rattle.source_rows.specs.Steps.{or_fault, and_then}
 use Rattle.source_rows.specs.declared.decomposition.Decomposition.{Decomposition}
+use Rattle.source_rows.specs.declared.data_text.DataText.{DataText}
 use Rattle.source_rows.specs.declared.data_values.Values.{Values}
 use Rattle.source_rows.specs.declared.fault.RowFault.{RowFault}
 use Rattle.source_rows.specs.declared.fault.RowFault.TheVariants.{G03, G04, G05, G06, G07, G09, G10, G11}
@@ -64,8 +71,14 @@ decomposition_or_fault (b ∷ bs) = if b == 60 then compat_or_fault (b ∷ bs) e
 unfoldable pub values_or_fault : List (List ℕ) → Result Values RowFault
 values_or_fault fs = or_fault G05 (category_of (field fs 2)) (λ category. or_fault G06 (class_of (field fs 3)) (λ class. and_then (decomposition_or_fault (field fs 5)) (λ d. or_fault G07 (case_of (field fs 12)) (λ upper. or_fault G07 (case_of (field fs 13)) (λ lower. or_fault G07 (case_of (field fs 14)) (λ title. Ok (record { category = category; class = class; decomposition = d; upper = upper; lower = lower; title = title })))))))
 
+abbrev pub data_of : List (List ℕ) → Bool → List ℕ → Values → Bounds → DataRow
+data_of fs range name v span = record { span = span; range = range; name = name; category = v.category; class = v.class; kind = v.decomposition.kind; mapping = v.decomposition.mapping; upper = v.upper; lower = v.lower; title = v.title; kept = kept_of fs }
+
 abbrev pub unit_of : List (List ℕ) → Bool → List ℕ → Values → Bounds → Row
-unit_of fs range name v span = DataLine (record { span = span; range = range; name = name; category = v.category; class = v.class; kind = v.decomposition.kind; mapping = v.decomposition.mapping; upper = v.upper; lower = v.lower; title = v.title; kept = kept_of fs })
+unit_of fs range name v span = DataLine (data_of fs range name v span)
+
+abbrev pub text_row : DataText → DataRow
+text_row t = data_of (fields_in t.line) t.range t.name.now t.values t.span
 
 abbrev pub with_kept : Kept → Kept → Kept
 with_kept old new = record { f4 = old.f4 ++ new.f4; f6 = old.f6 ++ new.f6; f7 = old.f7 ++ new.f7; f8 = old.f8 ++ new.f8; f9 = old.f9 ++ new.f9; f10 = old.f10 ++ new.f10; f11 = old.f11 ++ new.f11 }
@@ -103,6 +116,11 @@ pair_or_fault first last =
     else Err G03
 
 -- ---- results
+
+abbrev pub DataTextAs : Result DataText RowStop → Result Row RowFault → Type 0
+DataTextAs (Ok text) expected = expected ≡ Ok (DataLine (text_row text))
+DataTextAs (Err (Fault fault)) expected = expected ≡ Err fault
+DataTextAs (Err Memory) expected = Unit {0}
 
 abbrev pub ValuesReadAs : Result Values RowStop → Result Values RowFault → Type 0
 ValuesReadAs (Ok values) expected = expected ≡ Ok values

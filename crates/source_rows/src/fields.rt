@@ -1,8 +1,8 @@
 //! Cuts a line into its fields, each a part of the line. UAX #44, section 4.2.
 
-ghost use Rattle.std.specs.Prelude.{◌≡◌, ℕ, ◌+◌, ◌<◌, ◌∷◌, [], length, count_by, IfOk};
+ghost use Rattle.std.specs.Prelude.{◌≡◌, ℕ, ◌+◌, ◌<◌, ◌≤◌, ◌∷◌, [], length, count_by, IfOk};
 ghost use Rattle.ucd_model.specs.Fields.{field, is_hash, is_semicolon};
-ghost use Rattle.std.specs.List.{before_first};
+ghost use Rattle.std.specs.List.{after_first, before_first, position_or_len};
 ghost use Rattle.source_rows.specs.Fields.{fields_of};
 
 use std::alloc::{AllocError, Global};
@@ -47,6 +47,41 @@ pub fn first_field(text: &[u8]) -> (&[u8], &[u8])
     ensures more { 1 < length (fields_of text.now) → fields_of text.now ≡ result.0.now ∷ fields_of result.1.now }
 {
     let (first, others) = cut(text, b';');
+    (trim(first), others)
+}
+
+/// The place of the first `;`, and the length of the text where there is none. Byte by byte, so it is quick where the
+/// place is near.
+fn near_semicolon(text: &[u8]) -> usize
+    ensures place { result ≡ position_or_len is_semicolon text.now }
+    ensures within { result ≤ length text.now }
+{
+    for (i, b) in text.iter().enumerate() {
+        if *b == b';' {
+            return i;
+        }
+    }
+    text.len()
+}
+
+/// What stands before the first `;`, and what stands behind it. Where there is none, the whole text and nothing.
+fn near_cut(text: &[u8]) -> (&[u8], &[u8])
+    ensures before { result.0.now ≡ before_first is_semicolon text.now }
+    ensures after { result.1.now ≡ after_first is_semicolon text.now }
+{
+    let at = near_semicolon(text);
+    if at == text.len() {
+        return (text, &[]);
+    }
+    (&text[..at], &text[at + 1..])
+}
+
+/// What [`first_field`] gives, for a field that is short or empty.
+pub fn first_short_field(text: &[u8]) -> (&[u8], &[u8])
+    ensures one { length (fields_of text.now) ≡ 1 → fields_of text.now ≡ result.0.now ∷ [] }
+    ensures more { 1 < length (fields_of text.now) → fields_of text.now ≡ result.0.now ∷ fields_of result.1.now }
+{
+    let (first, others) = near_cut(text);
     (trim(first), others)
 }
 

@@ -3,7 +3,7 @@
 ghost use Rattle.std.specs.Prelude.{◌≡◌, length};
 ghost use Rattle.source_rows.specs.Fields.{fields_of, fields_in};
 
-use crate::fields::first_field;
+use crate::fields::{first_field, first_short_field};
 
 /// The number of fields of a line.
 pub const FIELDS: usize = 15;
@@ -48,21 +48,21 @@ pub fn fifteen_fields(text: &[u8]) -> DataFields<'_>
     requires { length (fields_of text.now) ≡ 15 }
     ensures { fields_in result ≡ fields_of text.now }
 {
-    let (f0, rest) = first_field(text);
+    let (f0, rest) = first_short_field(text);
     let (f1, rest) = first_field(rest);
-    let (f2, rest) = first_field(rest);
-    let (f3, rest) = first_field(rest);
-    let (f4, rest) = first_field(rest);
-    let (f5, rest) = first_field(rest);
-    let (f6, rest) = first_field(rest);
-    let (f7, rest) = first_field(rest);
-    let (f8, rest) = first_field(rest);
-    let (f9, rest) = first_field(rest);
-    let (f10, rest) = first_field(rest);
-    let (f11, rest) = first_field(rest);
-    let (f12, rest) = first_field(rest);
-    let (f13, rest) = first_field(rest);
-    let (f14, _) = first_field(rest);
+    let (f2, rest) = first_short_field(rest);
+    let (f3, rest) = first_short_field(rest);
+    let (f4, rest) = first_short_field(rest);
+    let (f5, rest) = first_short_field(rest);
+    let (f6, rest) = first_short_field(rest);
+    let (f7, rest) = first_short_field(rest);
+    let (f8, rest) = first_short_field(rest);
+    let (f9, rest) = first_short_field(rest);
+    let (f10, rest) = first_short_field(rest);
+    let (f11, rest) = first_short_field(rest);
+    let (f12, rest) = first_short_field(rest);
+    let (f13, rest) = first_short_field(rest);
+    let (f14, _) = first_short_field(rest);
     DataFields {
         f0,
         f1,

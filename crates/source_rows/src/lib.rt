@@ -6,6 +6,7 @@ mod case_folding;
 mod category_name;
 mod code_point;
 mod composition_exclusions;
+mod data_text;
 mod data_values;
 mod decomposition;
 mod fault;
@@ -33,7 +34,11 @@ mod unicode_data;
 mod values;
 mod word_break_property;
 
+pub use data_text::DataText;
+pub use data_values::Values;
+pub use decomposition::Decomposition;
 pub use fault::{RowFault, RowStop};
+pub use fifteen::DataFields;
 pub use in_place::{read_names, read_value_text};
 pub use key::Key;
 pub use key_names::{compare_names, content_group};
@@ -46,5 +51,5 @@ pub use laws::{
 pub use read::read_row;
 pub use row_keys::row_key;
 pub use text::row_text;
-pub use unicode_data::begins_range;
+pub use unicode_data::{begins_range, read_data_text};
 pub use values::ValueText;

@@ -3,9 +3,8 @@ use Rattle.ucd_model.specs.Lines.{without_return}
 use Rattle.ucd_model.specs.Fields.{fields}
 use Rattle.ucd_model.specs.declared.files.SourceFile.TheVariants.{UnicodeData}
 use Rattle.source_rows.specs.Fields.{fields_in, fields_of}
-use Rattle.source_rows.specs.Faults.{ReadsAs}
 use Rattle.source_rows.specs.Lines.{are_first_fields}
-use Rattle.source_rows.specs.DataFaults.{pair_or_fault}
+use Rattle.source_rows.specs.DataFaults.{DataTextAs, pair_or_fault}
 use Rattle.source_rows.proofs.DataSteps.{pair_is}
 use Rattle.source_rows.proofs.unicode_data.read_pair.Goals as goal
 
@@ -18,4 +17,4 @@ returns c =
     let begins : are_first_fields line ≡ true = ap (λ (fs : List (List ℕ)). are_first_fields fs) c.fifteen_fields-line.ensures ∙ first in
     let e = pair_is line (fields UnicodeData c.args.last.now) c.in-Some.lo c.label_of-label.result.now c.pair_end.result begins (sym c.hex.ensures ∙ c.in-Some.is) c.label_of-label.ensures c.pair_end.ensures in
     let no_feed = sym c.holds_line_feed.ensures ∙ c.if-holds_line_feed.false in
-    rw no_feed (subst (λ (fs : List (List ℕ)). ReadsAs c.read_unit.result (pair_or_fault fs (fields UnicodeData c.args.last.now))) same (rw e c.read_unit.ensures))
+    rw no_feed (subst (λ (fs : List (List ℕ)). DataTextAs c.read_unit.result (pair_or_fault fs (fields UnicodeData c.args.last.now))) same (rw e c.read_unit.ensures))

@@ -2,8 +2,7 @@ use Rattle.std.proofs.Common.{◌≡◌, ℕ, List, refl, sym, subst, ◌∙◌}
 use Rattle.ucd_model.specs.Fields.{fields}
 use Rattle.ucd_model.specs.declared.files.SourceFile.TheVariants.{UnicodeData}
 use Rattle.source_rows.specs.Fields.{fields_in}
-use Rattle.source_rows.specs.Faults.{ReadsAs}
-use Rattle.source_rows.specs.DataFaults.{single_or_fault}
+use Rattle.source_rows.specs.DataFaults.{DataTextAs, single_or_fault}
 use Rattle.source_rows.proofs.DataSteps.{single_is}
 use Rattle.source_rows.proofs.unicode_data.read_single.Goals as goal
 
@@ -13,4 +12,4 @@ returns c =
     let line = fields_in c.fifteen_fields-line.result in
     let same : line ≡ fields UnicodeData c.args.content.now = c.fifteen_fields-line.ensures in
     let e = single_is line c.in-Some.point c.single_end.result refl (sym c.hex.ensures ∙ c.in-Some.is) (sym c.is_name.ensures ∙ c.if-not-is_name.false) c.single_end.ensures in
-    subst (λ (fs : List (List ℕ)). ReadsAs c.read_unit.result (single_or_fault fs)) same (rw e c.read_unit.ensures)
+    subst (λ (fs : List (List ℕ)). DataTextAs c.read_unit.result (single_or_fault fs)) same (rw e c.read_unit.ensures)

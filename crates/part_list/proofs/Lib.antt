@@ -2,3 +2,4 @@ pub mod ReachLemmas
 pub mod FlatLemmas
 pub mod BeforeLemmas
 pub mod FindLemmas
+pub mod PassingLemmas

@@ -6,6 +6,7 @@ mod entries;
 mod fill;
 mod part;
 mod part_list;
+mod passing;
 mod put;
 mod reach;
 mod search;
@@ -16,6 +17,7 @@ mod version;
 
 pub use entries::Entries;
 pub use part_list::PartList;
+pub use passing::Passing;
 pub use reach::Reach;
 pub use seek::Seek;
 pub use spanned::Spanned;

@@ -1,7 +1,7 @@
 //! A part of a list, now and next.
 
 ghost use Rattle.std.specs.Prelude.{◌≡◌, ◌+◌, ◌<◌, ◌≤◌, [], ◌∷◌, ◌++◌, true, false, length, take, drop, IfOk, OnOk, OnErr};
-ghost use Rattle.std.specs.List.{position_or_len};
+ghost use Rattle.std.specs.List.{filter, position_or_len};
 ghost use Rattle.part_list.specs.Parts.{spliced};
 ghost use Rattle.std.specs.Option.{option_to_list};
 ghost use Rattle.part_list.specs.Finds.{FirstIn, LastIn};
@@ -97,7 +97,7 @@ fn next_candidate<T: Copy, S: Seek<T>>(entries: &[Spanned<T>], seek: &S, from: u
 }
 
 /// The place of the first entry that passes.
-fn first_in<T: Copy, S: Seek<T>>(entries: &[Spanned<T>], seek: &S) -> Option<usize>
+pub fn first_in<T: Copy, S: Seek<T>>(entries: &[Spanned<T>], seek: &S) -> Option<usize>
     ensures { FirstIn result (S.passing seek.now) entries.now }
 {
     let mut at = next_candidate(entries, seek, 0);
@@ -272,5 +272,15 @@ impl<T: Copy> Part<T> {
             return None;
         }
         last_in(self.next(), seek)
+    }
+
+    /// The entries next, or none if the bounds tell that no entry passes.
+    pub fn candidates<S: Seek<T>>(&self, seek: &S) -> &[Spanned<T>]
+        ensures { filter (S.passing seek.now) result.now ≡ filter (S.passing seek.now) self.now.next }
+    {
+        if !seek.skips(self.reach) {
+            return self.next();
+        }
+        &[]
     }
 }

@@ -1,7 +1,7 @@
 //! Lists that can be edited.
 
 ghost use Rattle.std.specs.Prelude.{◌≡◌, ◌+◌, [], ◌∷◌, ◌++◌, slice_index_or, slice_set, OnOk, OnErr};
-ghost use Rattle.std.specs.List.{insert, remove};
+ghost use Rattle.std.specs.List.{filter, insert, remove};
 ghost use Rattle.part_list.specs.Parts.{IsEntry, IsGap, now_in, next_in, place};
 ghost use Rattle.part_list.specs.Finds.{FirstAt, IsBefore, LastAt};
 
@@ -9,6 +9,7 @@ use crate::change::{commit_all, discard_all, drop_empty};
 use crate::entries::Entries;
 use crate::fill::{begin, edit, push};
 use crate::part::Part;
+use crate::passing::Passing;
 use crate::put::Put;
 use crate::search::{first_spot, last_spot, spot_before};
 use crate::seek::Seek;
@@ -155,6 +156,13 @@ impl<T: Copy> PartList<T> {
         ensures { LastAt result (S.passing seek.now) self.now.next }
     {
         last_spot(&self.parts, seek)
+    }
+
+    /// The entries next that pass, in order. Of a part whose bounds tell that no entry passes it looks at no entry.
+    pub fn passing<'a, S: Seek<T>>(&'a self, seek: &'a S) -> Passing<'a, T, S>
+        ensures { result ≡ filter (S.passing seek.now) (next_in self.now) }
+    {
+        Passing::new(&self.parts, seek)
     }
 
     /// The spot of the entry next before another one; `None` where that one is the first.

@@ -1,0 +1,12 @@
+use Rattle.std.proofs.Common.{◌≡◌, ◌++◌, length}
+use Rattle.std.specs.List.{filter}
+use Rattle.part_list.specs.Parts.{flat}
+use Rattle.part_list.specs.PartValues.{parts_next}
+use Rattle.part_list.proofs.passing.PassingIterator.next.Given as goal
+
+-- what passes of the part and of the parts behind it is all that is left
+abbrev pub invariant-parts : goal.invariant-parts
+invariant-parts g l = filter (g.S.Seek.passing l.self-inside.seek.now) (l.self-inside.entries.now ++ flat (parts_next l.self-inside.parts.now)) ≡ l.fn.self
+
+abbrev pub decreases-parts : goal.decreases-parts
+decreases-parts g l = length l.self-inside.parts.now

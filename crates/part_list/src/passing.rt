@@ -1,0 +1,80 @@
+//! Goes over the entries of a list that pass.
+
+ghost use Rattle.std.specs.Prelude.{◌≡◌, ◌+◌, ◌<◌, [], ◌∷◌, drop, length};
+ghost use Rattle.std.specs.List.{filter};
+ghost use Rattle.part_list.specs.Parts.{flat};
+ghost use Rattle.part_list.specs.PartValues.{parts_next};
+
+use crate::part::{Part, first_in};
+use crate::seek::Seek;
+use crate::spanned::Spanned;
+use std::marker::Model;
+
+/// The entries next that pass and are left, in order. Contracts see the list of them.
+///
+/// Of a part whose bounds tell that no entry passes it looks at no entry.
+#[derive(Drop)]
+pub struct Passing<'a, T: Copy, S: Seek<T>> {
+    seek: &'a S,
+    /// The entries of the part that was begun.
+    entries: &'a [Spanned<T>],
+    parts: &'a [Part<T>],
+}
+
+impl<'a, T: Copy, S: Seek<T>> Model for Passing<'a, T, S> {
+    ghost use Rattle.std.specs.Prelude.{List, ◌++◌};
+    ghost use Rattle.std.specs.List.{filter};
+    ghost use Rattle.part_list.specs.declared.spanned.Spanned.{Spanned as Entry};
+    ghost use Rattle.part_list.specs.Parts.{flat};
+    ghost use Rattle.part_list.specs.PartValues.{parts_next};
+
+    ghost Value = { List (Entry T) };
+
+    ghost view = { λ p. filter (S.passing p.seek.now) (p.entries.now ++ flat (parts_next p.parts.now)) };
+}
+
+/// The entries behind the one at a place.
+fn behind<T: Copy>(entries: &[Spanned<T>], at: usize) -> &[Spanned<T>]
+    requires { at < length entries.now }
+    ensures { result.now ≡ drop (at + 1) entries.now }
+{
+    &entries[at + 1..]
+}
+
+impl<'a, T: Copy, S: Seek<T>> Passing<'a, T, S> {
+    /// The entries next of these parts that pass.
+    pub(crate) fn new(parts: &'a [Part<T>], seek: &'a S) -> Passing<'a, T, S>
+        ensures { result ≡ filter (S.passing seek.now) (flat (parts_next parts.now)) }
+    {
+        Passing {
+            seek,
+            entries: &[],
+            parts,
+        }
+    }
+}
+
+impl<'a, T: Copy, S: Seek<T>> Iterator for Passing<'a, T, S> {
+    ghost use Rattle.std.specs.Iterator.{YieldsFirst, item_count};
+
+    type Item = Spanned<T>;
+
+    ghost next_gives = { YieldsFirst (λ rest. rest) };
+
+    ghost remaining = { item_count (λ rest. rest) };
+
+    fn next(&mut self) -> Option<Spanned<T>> {
+        'parts: loop {
+            if let Some(at) = first_in(self.entries, self.seek) {
+                let entry = self.entries[at];
+                self.entries = behind(self.entries, at);
+                return Some(entry);
+            }
+            let [part, rest @ ..] = self.parts else {
+                return None;
+            };
+            self.entries = part.candidates(self.seek);
+            self.parts = rest;
+        }
+    }
+}

@@ -4,6 +4,7 @@ pub mod PlaceOrder
 pub mod Found
 pub mod Apart
 pub mod RowRules
+pub mod RunConflicts
 pub mod Growing
 pub mod Standing
 pub mod Kept
@@ -12,6 +13,7 @@ pub mod RowsApart
 pub mod Operations
 pub mod Touched
 pub mod MeetingRows
+pub mod MeetingEntries
 pub mod Unchanged
 pub mod Order
 pub mod Loads

@@ -1,8 +1,7 @@
--- Rows that are looked at one by one.
-use Rattle.std.proofs.Common.{◌≡◌, ℕ, Bool, true, false, ◌||◌, List, [], ◌∷◌, ◌++◌, Option, Some, None, Result, Ok, Err, OnOk, is_some, filter, map, cond, refl, sym, ap, subst, ◌∙◌, append_assoc}
-use Rattle.std.specs.List.{list_any}
-use Rattle.std.proofs.lemmas.List.{append-nil}
-use Rattle.std.proofs.lemmas.List.Elements.{filter-append}
+-- Rows that meet spans.
+use Rattle.std.proofs.Common.{◌≡◌, ℕ, Bool, true, false, ◌||◌, List, [], ◌∷◌, ◌++◌, Option, Some, None, is_some, filter, map, cond, refl, sym, ap, subst, ◌∙◌, append_assoc}
+use Rattle.std.specs.List.{All, list_any}
+use Rattle.std.proofs.lemmas.List.Elements.{All-head, All-tail, filter-append}
 use Rattle.ucd_model.specs.Bounds.{Bounds}
 use Rattle.ucd_model.specs.declared.files.SourceFile.{SourceFile}
 use Rattle.ucd_model.specs.declared.row.Row.{Row}
@@ -11,6 +10,7 @@ use Rattle.source_rows.specs.Laws.{RowsAreOk, RowsAreRead}
 use Rattle.part_list.specs.declared.spanned.Spanned.{Spanned}
 use Rattle.release_rows.specs.FileItems.{rows_in, onto_rows}
 use Rattle.release_rows.specs.Keys.{spans_meet}
+use Rattle.release_rows.specs.Meetings.{entry_meets}
 use Rattle.release_rows.specs.Operations.{row_spans, spans_of}
 use Rattle.release_rows.specs.StoredItems.{stored_at, item_at, IsStored}
 use Rattle.release_rows.specs.Touching.{meets}
@@ -21,17 +21,17 @@ onto_behind : (p : Option Row) (rows : List Row) → onto_rows p rows ≡ onto_r
 onto_behind None rows = refl
 onto_behind (Some row) rows = refl
 
--- one more item is looked at
-pub rows_more : (file : SourceFile) (text : List ℕ) (spans : List Bounds) (items : List (Spanned Stretch)) (e : Spanned Stretch) (rest : List (Spanned Stretch)) (old new whole : List Row)
-    → items ≡ e ∷ rest → new ≡ old ++ filter (meets spans) (onto_rows (stored_at file text e).row [])
-    → old ++ filter (meets spans) (rows_in (map (stored_at file text) items)) ≡ whole → new ++ filter (meets spans) (rows_in (map (stored_at file text) rest)) ≡ whole
-rows_more file text spans items e rest old new whole split put h =
+-- the row of one more item is put
+pub rows_more : (file : SourceFile) (text : List ℕ) (items : List (Spanned Stretch)) (e : Spanned Stretch) (rest : List (Spanned Stretch)) (old new whole : List Row)
+    → items ≡ e ∷ rest → new ≡ old ++ onto_rows (stored_at file text e).row []
+    → old ++ rows_in (map (stored_at file text) items) ≡ whole → new ++ rows_in (map (stored_at file text) rest) ≡ whole
+rows_more file text items e rest old new whole split put h =
     let own : List Row = onto_rows (stored_at file text e).row [] in
     let left : List Row = rows_in (map (stored_at file text) rest) in
-    let P : List (Spanned Stretch) → Type 0 = λ xs. old ++ filter (meets spans) (rows_in (map (stored_at file text) xs)) ≡ whole in
-    ap (λ (rows : List Row). rows ++ filter (meets spans) left) put
-    ∙ append_assoc old (filter (meets spans) own) (filter (meets spans) left)
-    ∙ ap (λ (rows : List Row). old ++ rows) (sym (filter-append (meets spans) own left) ∙ ap (filter (meets spans)) (sym (onto_behind (stored_at file text e).row left)))
+    let P : List (Spanned Stretch) → Type 0 = λ xs. old ++ rows_in (map (stored_at file text) xs) ≡ whole in
+    ap (λ (rows : List Row). rows ++ left) put
+    ∙ append_assoc old own left
+    ∙ ap (λ (rows : List Row). old ++ rows) (sym (onto_behind (stored_at file text e).row left))
     ∙ subst P split h
 
 meets_by : (spans owns : List Bounds) (lo hi : ℕ) → owns ≡ record { lo = lo; hi = hi } ∷ [] → list_any (λ own. list_any (spans_meet own) spans) owns ≡ list_any (spans_meet (record { lo = lo; hi = hi })) spans
@@ -63,9 +63,45 @@ not_met file text spans e (Some row) is read ok stored none =
     let spoken : row_spans row ≡ [] = sym (ap spans_of is) ∙ stored_no_spans file text e read ok stored some none in
     filter_one (meets spans) row false (ap (λ (owns : List Bounds). list_any (λ own. list_any (spans_meet own) spans) owns) spoken)
 
-pub put_none : (old : List Row) (rows : List Row) → rows ≡ [] → old ≡ old ++ rows
-put_none old rows none = sym (append-nil old) ∙ ap (λ (rs : List Row). old ++ rs) (sym none)
+-- the rows of the entries that meet the spans are the rows that meet them
+pub rows_met : (file : SourceFile) (text : List ℕ) (spans : List Bounds) (items : List (Spanned Stretch)) → RowsAreRead → RowsAreOk → All (IsStored file text) items → has_code file ≡ true
+    → rows_in (map (stored_at file text) (filter (entry_meets spans) items)) ≡ filter (meets spans) (rows_in (map (stored_at file text) items))
+rows_met file text spans [] read ok stored code = refl
+rows_met file text spans (e ∷ items) read ok stored code =
+    by (entry_meets spans e) refl (rows_met file text spans items read ok (All-tail (IsStored file text) e items stored) code)
+  where
+    own : List Row
+    own = onto_rows (stored_at file text e).row []
 
-pub on_ok_by : {A E : Type 0} (r : Result A E) (X Y : Type 0) → (X → Y) → OnOk r X → OnOk r Y
-on_ok_by (Ok a) X Y f h = f h
-on_ok_by (Err e) X Y f h = tt
+    kept : List (Spanned Stretch)
+    kept = filter (entry_meets spans) items
+
+    left : List Row
+    left = rows_in (map (stored_at file text) items)
+
+    split : filter (meets spans) (rows_in (map (stored_at file text) (e ∷ items))) ≡ filter (meets spans) own ++ filter (meets spans) left
+    split = ap (filter (meets spans)) (onto_behind (stored_at file text e).row left) ∙ filter-append (meets spans) own left
+
+    here : (b : Bool) → entry_meets spans e ≡ b → filter (meets spans) own ≡ cond b own []
+    here b test = met file text spans e (stored_at file text e).row refl read ok (All-head (IsStored file text) e items stored) code b test
+
+    by : (b : Bool) → entry_meets spans e ≡ b → rows_in (map (stored_at file text) kept) ≡ filter (meets spans) left
+        → rows_in (map (stored_at file text) (filter (entry_meets spans) (e ∷ items))) ≡ filter (meets spans) (rows_in (map (stored_at file text) (e ∷ items)))
+    by true test rest =
+        rw test (onto_behind (stored_at file text e).row (rows_in (map (stored_at file text) kept))
+        ∙ ap (λ (rows : List Row). own ++ rows) rest
+        ∙ sym (split ∙ ap (λ (rows : List Row). rows ++ filter (meets spans) left) (here true test)))
+    by false test rest = rw test (rest ∙ sym (split ∙ ap (λ (rows : List Row). rows ++ filter (meets spans) left) (here false test)))
+
+-- no row of names meets a span
+pub none_met : (file : SourceFile) (text : List ℕ) (spans : List Bounds) (items : List (Spanned Stretch)) → RowsAreRead → RowsAreOk → All (IsStored file text) items → has_code file ≡ false
+    → [] ≡ filter (meets spans) (rows_in (map (stored_at file text) items))
+none_met file text spans [] read ok stored none = refl
+none_met file text spans (e ∷ items) read ok stored none =
+    let own : List Row = onto_rows (stored_at file text e).row [] in
+    let left : List Row = rows_in (map (stored_at file text) items) in
+    let here = not_met file text spans e (stored_at file text e).row refl read ok (All-head (IsStored file text) e items stored) none in
+    sym (ap (filter (meets spans)) (onto_behind (stored_at file text e).row left)
+    ∙ filter-append (meets spans) own left
+    ∙ ap (λ (rows : List Row). rows ++ filter (meets spans) left) here
+    ∙ sym (none_met file text spans items read ok (All-tail (IsStored file text) e items stored) none))

@@ -1,5 +1,6 @@
 pub mod Extents
 pub mod Places
+pub mod Runs
 pub mod Names
 pub mod Keys
 pub mod Entries
@@ -17,6 +18,7 @@ pub mod Gaps
 pub mod Finding
 pub mod OperationLaws
 pub mod Touching
+pub mod Meetings
 pub mod TouchingProofs
 pub mod Unchanged
 pub mod Laws

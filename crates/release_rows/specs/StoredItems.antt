@@ -13,15 +13,18 @@
 --                           file was loaded, and these are fewer than 2^32
 -- row_or_none result        the row that was read; where there is a fault, a row that nothing rests on
 -- read_as file content      the row that the content is read as, by row_or_none
+-- ShowsData text row        the text is that of the row, of UnicodeData.txt; None of the rows of the other files
 -- ShowsValue value row      the value is that of a row of a span and a value; None of other rows
 use Rattle.std.specs.Prelude.{◌≡◌, ℕ, ◌+◌, ◌<◌, ◌≤◌, ◌^◌, List, map, length, take, drop, Option, Some, None, Result, Ok, Err}
 use Rattle.std.specs.List.{All}
 use Rattle.std.specs.Option.{option_map}
 use Rattle.ucd_model.specs.declared.files.SourceFile.{SourceFile}
 use Rattle.ucd_model.specs.declared.row.Row.{Row}
-use Rattle.ucd_model.specs.declared.row.Row.TheVariants.{Value as ValueLine, Exclusion as ExclusionLine}
+use Rattle.ucd_model.specs.declared.row.Row.TheVariants.{Unit as DataLine, Value as ValueLine, Exclusion as ExclusionLine}
 use Rattle.ucd_lines.specs.Items.{item_of, ending_of}
+use Rattle.source_rows.specs.DataFaults.{text_row}
 use Rattle.source_rows.specs.Faults.{row_or_fault}
+use Rattle.source_rows.specs.declared.data_text.DataText.{DataText}
 use Rattle.source_rows.specs.declared.fault.RowFault.{RowFault}
 use Rattle.source_rows.specs.declared.values.ValueText.{ValueText}
 use Rattle.part_list.specs.Parts.{PartLists, now_in, next_in}
@@ -76,6 +79,11 @@ row_or_none (Err fault) = ExclusionLine (record { span = record { lo = 0; hi = 0
 
 abbrev pub read_as : SourceFile → List ℕ → Row
 read_as file content = row_or_none (row_or_fault file content)
+
+abbrev pub ShowsData : Option DataText → Row → Type 0
+ShowsData (Some text) row = row ≡ DataLine (text_row text)
+ShowsData None (DataLine row) = ⊥
+ShowsData None _ = Unit {0}
 
 abbrev pub ShowsValue : Option ValueText → Row → Type 0
 ShowsValue (Some v) (ValueLine row) = row ≡ record { span = v.span; value = v.value.now }

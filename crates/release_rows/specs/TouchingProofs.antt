@@ -1,17 +1,15 @@
 -- Proof that the rows of a code point are among those that meet its spans.
 --
 -- rows_meet   the law of the same name
-use Rattle.std.proofs.Common.{◌≡◌, ℕ, Bool, true, false, List, [], ◌∷◌, sym, inl, inr, arith}
+use Rattle.std.proofs.Common.{◌≡◌, ℕ, true, List, [], ◌∷◌, inl, inr, arith}
 use Rattle.std.specs.List.{list_any}
-use Rattle.std.proofs.lemmas.Bool.{true≢false, or_cases, or_left, or_right}
+use Rattle.std.proofs.lemmas.Bool.{or_cases, or_left, or_right}
 use Rattle.std.proofs.lemmas.Bool.Decides.{nat_tests}
 use Rattle.ucd_model.specs.Bounds.{Bounds}
 use Rattle.ucd_model.specs.Facts.{within}
-use Rattle.ucd_model.specs.declared.row.Row.{Row}
 use Rattle.release_rows.specs.Keys.{spans_meet}
-use Rattle.release_rows.specs.OperationLaws.{speaks_of}
 use Rattle.release_rows.specs.Operations.{row_spans}
-use Rattle.release_rows.specs.Touching.{meets, RowsMeet}
+use Rattle.release_rows.specs.Touching.{RowsMeet}
 
 meet_one : (own span : Bounds) (c : ℕ) → within c own ≡ true → within c span ≡ true → spans_meet own span ≡ true
 meet_one own span c here there = grind (arith, nat_tests)

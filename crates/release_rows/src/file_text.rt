@@ -120,7 +120,7 @@ impl FileText {
         ensures { IfOk result (λ rows. rows.items ≡ filter (meets spans.now) (rows_in self.now.next)) }
     {
         let text = self.text.as_slice();
-        let rows = touching_rows(alloc, self.file, text, self.items.next_entries(), spans)?;
+        let rows = touching_rows(alloc, self.file, text, &self.items, spans)?;
         Ok(rows)
     }
 }

@@ -1,4 +1,4 @@
-//! The keys and the spans of rows, in the order of the keys.
+//! The extents of the rows of a file so far.
 
 ghost use Rattle.std.specs.Prelude.{◌≡◌, ◌≤◌, ◌||◌, Bool, None, OnOk, OnErr};
 ghost use Rattle.std.specs.List.{list_any};
@@ -7,38 +7,51 @@ ghost use Rattle.release_rows.specs.Places.{extent_at};
 ghost use Rattle.release_rows.specs.Entries.{IsFree};
 
 use crate::conflict::Conflict;
+use crate::end_map::EndMap;
 use crate::place::Place;
+use crate::run::{Run, run_conflict};
 use std::alloc::Global;
-use std::collections::BTreeMap;
 use std::marker::Model;
-use ucd_model::Memory;
+use ucd_model::{Memory, SourceFile};
 
-/// The extents of rows whose keys differ and that do not overlap. Each is kept as its last code point, under the key
-/// of the row. Contracts see the extents in some order.
+/// The extents of rows whose keys differ and that do not overlap. Contracts see them in some order.
+///
+/// A row that begins behind the ends of all of them has no conflict. In UnicodeData.txt each row that may stand does, so
+/// its rows are kept one behind the other: only a row that is a fault is held against each of them.
 #[derive(Drop)]
 pub struct KeySet {
-    ends: BTreeMap<Place, u32>,
+    /// Whether rows without names are kept as runs.
+    keeps_runs: bool,
+    /// The rows that are kept as runs.
+    runs: Vec<Run>,
+    /// The other rows, in the order of their keys.
+    ends: EndMap,
+    /// No extent begins or ends at this number or behind it.
+    end: u64,
 }
 
 impl Model for KeySet {
-    ghost use Rattle.std.specs.Prelude.{List, map};
+    ghost use Rattle.std.specs.Prelude.{◌++◌, List, map};
     ghost use Rattle.release_rows.specs.Extents.{Extent};
-    ghost use Rattle.release_rows.specs.Places.{extent_of, AreApart};
+    ghost use Rattle.release_rows.specs.Runs.{run_extent, AllBefore};
 
     ghost Value = { List Extent };
 
-    ghost view = { λ s. map extent_of s.ends.entries };
+    ghost view = { λ s. map run_extent s.runs.items ++ s.ends };
 
-    ghost invariant = { λ s. AreApart s.ends };
+    ghost invariant = { λ s. AllBefore s.end (map run_extent s.runs.items ++ s.ends) };
 }
 
 impl KeySet {
-    /// No extents. It takes no memory.
-    pub fn new(alloc: Global) -> KeySet
+    /// No extents of rows of a file. It takes no memory.
+    pub fn new(alloc: Global, file: SourceFile) -> KeySet
         ensures { (p : Extent → Bool) → list_any p result ≡ Bool.false }
     {
         KeySet {
-            ends: BTreeMap::new(alloc),
+            keeps_runs: file == SourceFile::UnicodeData,
+            runs: Vec::new(alloc),
+            ends: EndMap::new(alloc),
+            end: 0,
         }
     }
 
@@ -48,26 +61,17 @@ impl KeySet {
         requires { place.code ≤ last }
         ensures { IsFree result place (conflict_with self.now (extent_at place last)) }
     {
-        if self.ends.contains_key(&place) {
-            return Err(Conflict::K1);
+        if self.end <= u64::from(place.code) {
+            return Ok(place);
         }
-        // extents of the same names lie apart: of those that begin no later than this one ends, only the last one can
-        // reach it
-        let Place { names, code } = place;
-        let end = Place { names, code: last };
-        let Some((before, reached)) = self.ends.range(..=&end).next_back() else {
-            return Ok(Place {
-                names: end.names,
-                code,
-            });
-        };
-        if before.names == end.names && code <= *reached {
-            return Err(Conflict::K4);
+        match run_conflict(&self.runs, &place, last) {
+            None => self.ends.checked_place(place, last),
+            Some(Conflict::K1) => Err(Conflict::K1),
+            Some(Conflict::K4) => match self.ends.checked_place(place, last) {
+                Err(Conflict::K1) => Err(Conflict::K1),
+                _ => Err(Conflict::K4),
+            },
         }
-        Ok(Place {
-            names: end.names,
-            code,
-        })
     }
 
     /// Takes up the extent of a row that breaks no rule.
@@ -79,7 +83,17 @@ impl KeySet {
         ensures ok { OnOk result ((p : Extent → Bool) → list_any p self.new ≡ (p (extent_at place last) || list_any p self.old)) }
         ensures err { OnErr result (self.new ≡ self.old) }
     {
+        let end = self.end.max(u64::from(last) + 1);
+        if self.keeps_runs && place.names.is_empty() {
+            self.runs.push(Run {
+                first: place.code,
+                last,
+            })?;
+            self.end = end;
+            return Ok(());
+        }
         self.ends.insert(place, last)?;
+        self.end = end;
         Ok(())
     }
 }

@@ -3,6 +3,7 @@
 
 mod conflict;
 mod edits;
+mod end_map;
 mod entry;
 mod file_text;
 mod finds;
@@ -13,6 +14,7 @@ mod laws;
 mod load_items;
 mod load_stop;
 mod loading;
+mod meeting;
 mod nine_files;
 mod op_spans;
 mod operation;
@@ -24,6 +26,7 @@ mod release;
 mod row_iter;
 mod row_key;
 mod row_text;
+mod run;
 mod search;
 mod stored_row;
 mod stretch;

@@ -113,7 +113,7 @@ impl<'a> Loading<'a> {
             text,
             items: PartList::new(alloc),
             end: 0,
-            keys: KeySet::new(alloc),
+            keys: KeySet::new(alloc, file),
             before: None,
             lines: 0,
         }

@@ -9,7 +9,7 @@ ghost use Rattle.release_rows.specs.Names.{has_names, first_names};
 use crate::entry::Entry;
 use crate::place::Place;
 use crate::row_key::{alias_count, key_text, row_end, row_start};
-use source_rows::{RowStop, read_names, read_row, rows_are_ok, rows_are_read};
+use source_rows::{RowStop, read_data_text, read_names, read_row, rows_are_ok, rows_are_read};
 use std::alloc::{AllocError, Global};
 use ucd_lines::Fields;
 use ucd_model::{Row, SourceFile};
@@ -75,6 +75,20 @@ fn entry_of(alloc: Global, file: SourceFile, row: &Row) -> Result<Entry, RowStop
     })
 }
 
+/// What is kept of a row of UnicodeData.txt. Its texts are not copied.
+fn data_entry(alloc: Global, content: &[u8]) -> Result<Entry, RowStop>
+    ensures { EntersAs SourceFile.UnicodeData result (row_or_fault SourceFile.UnicodeData content.now) }
+{
+    let text = read_data_text(alloc, content)?;
+    Ok(Entry {
+        place: Place {
+            names: Vec::new(alloc),
+            code: text.span.first(),
+        },
+        last: text.span.last(),
+    })
+}
+
 /// What is kept of the row of a content.
 ///
 /// - `Fault(fault)`: the content is no row, and `fault` is the first rule that it breaks.
@@ -84,6 +98,9 @@ pub fn read_entry(alloc: Global, file: SourceFile, content: &[u8]) -> Result<Ent
 {
     if has_names(file) {
         return names_entry(alloc, file, content);
+    }
+    if file == SourceFile::UnicodeData {
+        return data_entry(alloc, content);
     }
     let row = read_row(alloc, file, content)?;
     entry_of(alloc, file, &row)

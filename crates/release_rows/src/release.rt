@@ -111,8 +111,8 @@ impl Release {
         items_at(&self.files, file).next_rows()
     }
 
-    /// The rows of a file next that speak of a code point in some of the spans, in the order of the file. Of every other
-    /// row only the bounds are compared; it is not read.
+    /// The rows of a file next that speak of a code point in some of the spans, in the order of the file. Every other row
+    /// is ruled out by its bounds, or by those of the part of the file in which it stands; it is not read.
     ///
     /// - `Memory`: memory ran out.
     pub fn next_rows_in(

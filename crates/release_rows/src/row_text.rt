@@ -2,9 +2,12 @@
 
 ghost use Rattle.std.specs.Prelude.{◌≡◌, Ok, IfOk};
 ghost use Rattle.source_rows.specs.Faults.{row_or_fault};
-ghost use Rattle.release_rows.specs.StoredItems.{ShowsValue, read_as};
+ghost use Rattle.release_rows.specs.StoredItems.{ShowsData, ShowsValue, read_as};
 
-use source_rows::{RowStop, ValueText, read_row, read_value_text, rows_are_ok, rows_are_read};
+use source_rows::{
+    DataText, RowStop, ValueText, read_data_text, read_row, read_value_text, rows_are_ok,
+    rows_are_read,
+};
 use std::alloc::Global;
 use std::marker::Model;
 use ucd_model::{Memory, Row, SourceFile};
@@ -48,6 +51,24 @@ impl<'a> RowText<'a> {
             Ok(row) => Ok(row),
             Err(RowStop::Fault(_)) => unreachable!(),
             Err(RowStop::Memory) => Err(Memory),
+        }
+    }
+
+    /// What the fields of a row of UnicodeData.txt hold, where they stand; `None` of the rows of the other files.
+    ///
+    /// - `Memory`: memory ran out.
+    pub fn data(&self, alloc: Global) -> Result<Option<DataText<'a>>, Memory>
+        ensures { IfOk result (λ text. ShowsData text self.now) }
+    {
+        rows_are_read();
+        rows_are_ok();
+        match self.file {
+            SourceFile::UnicodeData => match read_data_text(alloc, self.content) {
+                Ok(text) => Ok(Some(text)),
+                Err(RowStop::Fault(_)) => unreachable!(),
+                Err(RowStop::Memory) => Err(Memory),
+            },
+            _ => Ok(None),
         }
     }
 

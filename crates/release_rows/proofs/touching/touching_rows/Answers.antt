@@ -1,15 +1,29 @@
-use Rattle.std.proofs.lemmas.List.Elements.{All-rest}
-use Rattle.release_rows.specs.StoredItems.{IsStored}
-use Rattle.release_rows.proofs.MeetingRows.{rows_more}
-use Rattle.release_rows.proofs.Walks.{first_of}
+use Rattle.std.proofs.Common.{◌≡◌, List, map, true, false, ap, sym, ◌∙◌}
+use Rattle.std.proofs.lemmas.List.Elements.{All-filter}
+use Rattle.std.proofs.lemmas.Result.{IfOk-weaker}
+use Rattle.part_list.specs.Parts.{next_in}
+use Rattle.part_list.specs.declared.spanned.Spanned.{Spanned}
+use Rattle.source_rows.specs.KeyNames.{has_code}
+use Rattle.release_rows.specs.FileItems.{rows_in}
+use Rattle.release_rows.specs.Meetings.{entry_meets}
+use Rattle.release_rows.specs.StoredItems.{stored_at, IsStored}
+use Rattle.release_rows.specs.declared.stretch.Stretch.{Stretch}
+use Rattle.release_rows.proofs.MeetingRows.{rows_met, none_met}
 use Rattle.release_rows.proofs.touching.touching_rows.Goals as goal
 
-pub put_row-requires : goal.put_row-requires
-put_row-requires c = first_of (IsStored c.args.file c.args.text.now) c.items.items c.in-Some.entry c.next.new.self c.in-Some.ensures.steps c.items.invariant.each
+pub returns-then-not-has_code : goal.returns-then-not-has_code
+returns-then-not-has_code c =
+    let code : has_code c.args.file ≡ false = sym c.has_code.ensures ∙ c.if-not-has_code.true in
+    c.new.ensures.items ∙ none_met c.args.file c.args.text.now c.args.spans.now (next_in c.args.items.now) c.rows_are_read.ensures c.rows_are_ok.ensures c.requires code
 
--- one more item is looked at
-pub items-preserved : goal.items-preserved
-items-preserved c = record {
-  each = All-rest (IsStored c.args.file c.args.text.now) c.in-Some.entry c.next.new.self c.items.items c.in-Some.ensures.steps c.items.invariant.each;
-  so_far = rows_more c.args.file c.args.text.now c.args.spans.now c.items.items c.in-Some.entry c.next.new.self c.items.rows.items c.put_row.new.rows.items _ c.in-Some.ensures.steps c.in_ok-put_row.ensures c.items.invariant.so_far;
-}
+pub passing_rows-requires : goal.passing_rows-requires
+passing_rows-requires c = rw c.passing.ensures (All-filter (entry_meets c.args.spans.now) (IsStored c.args.file c.args.text.now) (next_in c.args.items.now) c.requires)
+
+-- the rows of the entries that meet the spans are the rows that meet them
+pub returns : goal.returns
+returns c =
+    let code : has_code c.args.file ≡ true = sym c.has_code.ensures ∙ c.if-not-has_code.false in
+    let same =
+    ap (λ (xs : List (Spanned Stretch)). rows_in (map (stored_at c.args.file c.args.text.now) xs)) c.passing.ensures
+    ∙ rows_met c.args.file c.args.text.now c.args.spans.now (next_in c.args.items.now) c.rows_are_read.ensures c.rows_are_ok.ensures c.requires code in
+    IfOk-weaker c.passing_rows.result _ _ (λ rows is. is ∙ same) c.passing_rows.ensures

@@ -1,36 +1,6 @@
-use Rattle.std.proofs.Common.{◌≡◌, ◌<◌, true, false, refl, sym, ap, ◌∙◌}
-use Rattle.source_rows.specs.Keys.{same_texts}
-use Rattle.release_rows.specs.Places.{names_in}
-use Rattle.release_rows.proofs.Texts.{texts_tell_names}
-use Rattle.release_rows.proofs.PlaceOrder.{itself}
-use Rattle.release_rows.proofs.Apart.{key_there, nothing_before, it_reaches, it_ends}
+use Rattle.std.proofs.Common.{refl, arith}
+use Rattle.release_rows.proofs.RunConflicts.{breaks_none}
 use Rattle.release_rows.proofs.key_set.KeySet.checked_place.Goals as goal
-use Rattle.release_rows.proofs.key_set.KeySet.checked_place.Goals.{else-eq-via-then-eq+else-code-reached, else-eq-via-else-eq}
 
-pub returns-then-contains_key : goal.returns-then-contains_key
-returns-then-contains_key c = rw (← c.self.view_is) (key_there c.self.inside.ends.entries c.args.place c.args.last (sym c.contains_key.ensures ∙ c.if-contains_key.true))
-
-pub returns-in_default : goal.returns-in_default
-returns-in_default c =
-    let none = (c.range.ensures.in_range tt).5 c.in_default.ensures.steps.0 in
-    (refl, rw (← c.self.view_is) (nothing_before c.self.inside.ends c.range.ensures.ordered c.self.invariant c.args.place c.args.last (sym c.contains_key.ensures ∙ c.if-contains_key.false) (λ q le. none q (tt, le))))
-
-pub returns-then-code-reached : goal.returns-then-code-reached
-returns-then-code-reached c =
-    let e = c.in-Some.before.now in
-    let lies = (c.range.ensures.in_range tt).3 _ _ c.in-Some.ensures.steps in
-    let names : same_texts (names_in e) (names_in c.args.place) ≡ true = sym (texts_tell_names e.names.items c.args.place.names.items) ∙ sym c.eq.ensures ∙ c.if-eq.true in
-    rw (← c.self.view_is) (it_reaches c.self.inside.ends c.range.ensures.ordered c.self.invariant c.args.place c.args.last e c.in-Some.reached.now lies.1 lies.0.1 (sym c.contains_key.ensures ∙ c.if-contains_key.false) names c.if-code-reached.true)
-
-pub returns : goal.returns
-returns c =
-    let e = c.in-Some.before.now in
-    let reached = c.in-Some.reached.now in
-    let lies = (c.range.ensures.in_range tt).3 _ _ c.in-Some.ensures.steps in
-    let greatest = (c.range.ensures.in_range tt).4 _ _ c.in-Some.ensures.steps in
-    let names = texts_tell_names e.names.items c.args.place.names.items in
-    let ends : names_in e ≡ names_in c.args.place → reached < c.args.place.code = λ same. elim c.else-eq.branch [
-      | else-eq-via-then-eq+else-code-reached w ↦ w.if-code-reached.false
-      | else-eq-via-else-eq w ↦ absurd (let k : false ≡ true = sym w.if-eq.false ∙ c.eq.ensures ∙ names ∙ ap (λ ns. same_texts ns (names_in c.args.place)) same ∙ itself c.args.place in cc)
-    ] in
-    (refl, rw (← c.self.view_is) (it_ends c.self.inside.ends c.range.ensures.ordered c.self.invariant c.args.place c.args.last e reached lies.1 lies.0.1 (sym c.contains_key.ensures ∙ c.if-contains_key.false) (λ q le some. greatest q (tt, le) some) ends))
+pub returns-then-self-from : goal.returns-then-self-from
+returns-then-self-from c = (refl, rw (← c.self.view_is) (breaks_none c.args.place c.args.last c.self.inside.end (omega (arith, c.from.ensures, c.if-self-from.true)) _ c.self.invariant))

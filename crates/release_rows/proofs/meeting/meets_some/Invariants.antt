@@ -1,7 +1,7 @@
 use Rattle.std.proofs.Common.{◌≡◌, false, take}
 use Rattle.std.specs.List.{list_any}
 use Rattle.release_rows.specs.Keys.{spans_meet}
-use Rattle.release_rows.proofs.touching.meets_some.Given as goal
+use Rattle.release_rows.proofs.meeting.meets_some.Given as goal
 
 -- none of the spans before this one is met
 abbrev pub invariant-spans : goal.invariant-spans

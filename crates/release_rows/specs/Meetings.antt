@@ -1,0 +1,12 @@
+-- The entries of a file that share a code point with spans.
+--
+-- entry_meets spans e    the code points from the first to the last one of the entry share one with some of the spans
+use Rattle.std.specs.Prelude.{Bool, List}
+use Rattle.std.specs.List.{list_any}
+use Rattle.ucd_model.specs.Bounds.{Bounds}
+use Rattle.part_list.specs.declared.spanned.Spanned.{Spanned}
+use Rattle.release_rows.specs.Keys.{spans_meet}
+use Rattle.release_rows.specs.declared.stretch.Stretch.{Stretch}
+
+abbrev pub entry_meets : List Bounds → Spanned Stretch → Bool
+entry_meets spans e = list_any (spans_meet (record { lo = e.code; hi = e.last })) spans

@@ -1,0 +1,85 @@
+//! The keys and the spans of rows, in the order of the keys.
+
+ghost use Rattle.std.specs.Prelude.{◌≡◌, ◌≤◌, ◌||◌, Bool, None, OnOk, OnErr};
+ghost use Rattle.std.specs.List.{list_any};
+ghost use Rattle.release_rows.specs.Extents.{Extent, conflict_with};
+ghost use Rattle.release_rows.specs.Places.{extent_at};
+ghost use Rattle.release_rows.specs.Entries.{IsFree};
+
+use crate::conflict::Conflict;
+use crate::place::Place;
+use std::alloc::Global;
+use std::collections::BTreeMap;
+use std::marker::Model;
+use ucd_model::Memory;
+
+/// The extents of rows whose keys differ and that do not overlap. Each is kept as its last code point, under the key
+/// of the row. Contracts see the extents in some order.
+#[derive(Drop)]
+pub struct EndMap {
+    ends: BTreeMap<Place, u32>,
+}
+
+impl Model for EndMap {
+    ghost use Rattle.std.specs.Prelude.{List, map};
+    ghost use Rattle.release_rows.specs.Extents.{Extent};
+    ghost use Rattle.release_rows.specs.Places.{extent_of, AreApart};
+
+    ghost Value = { List Extent };
+
+    ghost view = { λ s. map extent_of s.ends.entries };
+
+    ghost invariant = { λ s. AreApart s.ends };
+}
+
+impl EndMap {
+    /// No extents. It takes no memory.
+    pub fn new(alloc: Global) -> EndMap
+        ensures { (p : Extent → Bool) → list_any p result ≡ Bool.false }
+    {
+        EndMap {
+            ends: BTreeMap::new(alloc),
+        }
+    }
+
+    /// Hands the place of a row back where the row, up to its last code point, breaks no rule against these extents,
+    /// and else answers the rule. It takes no memory.
+    pub fn checked_place(&self, place: Place, last: u32) -> Result<Place, Conflict>
+        requires { place.code ≤ last }
+        ensures { IsFree result place (conflict_with self.now (extent_at place last)) }
+    {
+        if self.ends.contains_key(&place) {
+            return Err(Conflict::K1);
+        }
+        // extents of the same names lie apart: of those that begin no later than this one ends, only the last one can
+        // reach it
+        let Place { names, code } = place;
+        let end = Place { names, code: last };
+        let Some((before, reached)) = self.ends.range(..=&end).next_back() else {
+            return Ok(Place {
+                names: end.names,
+                code,
+            });
+        };
+        if before.names == end.names && code <= *reached {
+            return Err(Conflict::K4);
+        }
+        Ok(Place {
+            names: end.names,
+            code,
+        })
+    }
+
+    /// Takes up the extent of a row that breaks no rule.
+    ///
+    /// - `Memory`: memory ran out. The map stays as it was.
+    pub fn insert(&mut self, place: Place, last: u32) -> Result<(), Memory>
+        requires ordered { place.code ≤ last }
+        requires apart { conflict_with self.old (extent_at place last) ≡ None }
+        ensures ok { OnOk result ((p : Extent → Bool) → list_any p self.new ≡ (p (extent_at place last) || list_any p self.old)) }
+        ensures err { OnErr result (self.new ≡ self.old) }
+    {
+        self.ends.insert(place, last)?;
+        Ok(())
+    }
+}

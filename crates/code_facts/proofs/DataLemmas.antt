@@ -1,12 +1,12 @@
 -- What the rows so far give to each code point.
 use Rattle.std.proofs.Common.{◌≡◌, ℕ, ◌+◌, ◌<◌, ◌≤◌, Bool, true, false, cond, List, [], ◌∷◌, length, take, get_or, Option, Some, None, refl, sym, ap, subst, ◌∙◌, arith}
 use Rattle.std.proofs.lemmas.List.{take_all}
-use Rattle.ucd_model.specs.Facts.{is_data_of, within, data_row, class_in}
+use Rattle.ucd_model.specs.Facts.{is_data_of, within, data_in, data_row, class_in}
 use Rattle.ucd_model.specs.declared.row.Row.{Row}
 use Rattle.ucd_model.specs.declared.row.DataRow.{DataRow}
 use Rattle.ucd_model.specs.declared.row.Row.TheVariants.{Unit as DataLine, Value as ValueLine, Exclusion as ExclusionLine, Fold as FoldLine, Casing as CasingLine, Alias as AliasLine}
 use Rattle.code_facts.specs.Rows.{Apart, PointData, row_data}
-use Rattle.code_facts.specs.DataTables.{Adds}
+use Rattle.code_facts.specs.DataTables.{Adds, IsFresh}
 use Rattle.code_facts.proofs.RowLemmas.{data_step}
 
 -- the first n rows give what the table shows
@@ -25,6 +25,18 @@ class_by false row o here rest = rest
 gives_by : (b : Bool) (c : ℕ) (row : DataRow) (o : Option DataRow) (new old : PointData) → new ≡ cond b (row_data c (Some row)) old → old ≡ row_data c o → new ≡ row_data c (cond b (Some row) o)
 gives_by true c row o new old is was = is
 gives_by false c row o new old is was = is ∙ was
+
+-- no row above has given the points of a row anything
+fresh_by : (rows : List Row) (i : ℕ) (d row : Row) (shows : ℕ → PointData) → Apart rows → i < length rows → get_or rows i d ≡ row → RowsGive rows i shows → IsFresh row shows
+fresh_by rows i d (DataLine row) shows apart h is old = λ c lt covers. old.gives c lt ∙ ap (λ o. row_data c (data_in o)) (apart i c d h (ap (is_data_of c) is ∙ covers))
+fresh_by rows i d (ValueLine row) shows apart h is old = tt
+fresh_by rows i d (ExclusionLine row) shows apart h is old = tt
+fresh_by rows i d (FoldLine row) shows apart h is old = tt
+fresh_by rows i d (CasingLine row) shows apart h is old = tt
+fresh_by rows i d (AliasLine row) shows apart h is old = tt
+
+pub row_is_fresh : (rows : List Row) (i : ℕ) (d : Row) (shows : ℕ → PointData) → Apart rows → i < length rows → RowsGive rows i shows → IsFresh (get_or rows i d) shows
+row_is_fresh rows i d shows apart h old = fresh_by rows i d (get_or rows i d) shows apart h refl old
 
 -- one more row of UnicodeData.txt
 rows_taken : (rows : List Row) (i : ℕ) (d : Row) (row : DataRow) (shows new : ℕ → PointData) → Apart rows → i < length rows → get_or rows i d ≡ DataLine row → row.class < 256

@@ -11,3 +11,4 @@ mod AlikeLemmas
 mod PlainLemmas
 pub mod TableLemmas
 pub mod ChangeLemmas
+pub mod BareLemmas

@@ -2,9 +2,12 @@
 --
 -- data_now t c, data_next t c   now and next
 -- HasNoneNext l c               each list of c is empty next
+-- AreEmpty lists span           the lists of the points of the span are empty
+-- IsFresh row old               the points of a row of UnicodeData.txt were given nothing; so it is of a row of another file
 -- Adds row old new              what is new is what the row gives where it covers a code point, and else what was; a row of another
 --                               file gives nothing
-use Rattle.std.specs.Prelude.{◌≡◌, ℕ, ◌<◌, [], Some, if◌then◌else◌}
+use Rattle.std.specs.Prelude.{◌≡◌, ℕ, ◌<◌, true, List, [], Some, None, if◌then◌else◌}
+use Rattle.ucd_model.specs.Bounds.{Bounds}
 use Rattle.ucd_model.specs.Facts.{within}
 use Rattle.ucd_model.specs.declared.row.Row.{Row}
 use Rattle.ucd_model.specs.declared.row.Row.TheVariants.{Unit as DataLine}
@@ -37,6 +40,13 @@ pub record HasNoneNext (l : DataLists) (c : ℕ) : Type 0 where
   pub upper : lists_next l.uppers c ≡ []
   pub lower : lists_next l.lowers c ≡ []
   pub title : lists_next l.titles c ≡ []
+
+abbrev pub AreEmpty : (ℕ → List ℕ) → Bounds → Type 0
+AreEmpty lists span = (c : ℕ) → c < 1114112 → within c span ≡ true → lists c ≡ []
+
+abbrev pub IsFresh : Row → (ℕ → PointData) → Type 0
+IsFresh (DataLine row) old = (c : ℕ) → c < 1114112 → within c row.span ≡ true → old c ≡ row_data c None
+IsFresh _ old = Unit {0}
 
 abbrev pub Adds : Row → (ℕ → PointData) → (ℕ → PointData) → Type 0
 Adds (DataLine row) old new = (row.class < 256) × ((c : ℕ) → c < 1114112 → new c ≡ (if within c row.span then row_data c (Some row) else old c))

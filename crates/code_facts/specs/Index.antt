@@ -7,6 +7,8 @@
 -- Lists index F          each code point whose mapping is canonical and has two members is listed; others may be too
 -- is_that s y pair       the pair, where there is one, is s and y; ends_that y pair: its second member is y
 -- two_of m               the two members of a mapping; None where it has not two
+-- is_candidate F q      q may be a primary composite by its kind, its class and its exclusion
+-- is_candidate_word word   the same, by its word
 -- may_compose F q s      q may be a primary composite whose mapping begins with s: by its kind, its class and its exclusion, and the
 --                        class of s
 -- picked F q two         the two, where there are two and q may compose them
@@ -16,6 +18,7 @@ use Rattle.std.specs.Ordering.{nat_cmp}
 use Rattle.std.specs.BTreeSet.{contains}
 use Rattle.ucd_model.specs.Facts.{Facts}
 use Rattle.ucd_model.specs.Composites.{is_canonical}
+use Rattle.code_facts.specs.Word.{class_of_word, excluded_of_word, kind_of_word}
 use Rattle.code_facts.specs.declared.pair_index.PairIndex.{PairIndex}
 
 abbrev pub pair_key : ℕ → ℕ → ℕ
@@ -50,6 +53,12 @@ NoneFrom p m n = (k : ℕ) → m ≤ k → k < n → p k ≡ false
 abbrev pub two_of : List ℕ → Option (ℕ × ℕ)
 two_of (a ∷ b ∷ []) = Some (a, b)
 two_of _ = None
+
+abbrev pub is_candidate : (ℕ → Facts) → ℕ → Bool
+is_candidate F q = is_canonical (F q).kind && (((F q).class == 0) && not (F q).excluded)
+
+abbrev pub is_candidate_word : ℕ → Bool
+is_candidate_word word = is_canonical (kind_of_word word) && ((class_of_word word == 0) && not (excluded_of_word word))
 
 abbrev pub may_compose : (ℕ → Facts) → ℕ → ℕ → Bool
 may_compose F q s = is_canonical (F q).kind && (((F q).class == 0) && (((F s).class == 0) && not (F q).excluded))

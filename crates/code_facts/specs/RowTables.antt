@@ -5,15 +5,17 @@
 -- cases_in maps c     the images of c in the maps
 -- with_foldings a b   the foldings of a, and the casings of b
 -- rest_in t c         what is kept of c beside its word
+-- others_in t c       the same, without the decomposition mapping
+-- IsBare t c          c has no more than a decomposition mapping; AreBare t c end: so it is of all from c to before the end
 -- made_facts t c      the facts of c that the tables keep
 -- ShowsRows t rows c  these are the facts that the rows give, and the word is their packed word
-use Rattle.std.specs.Prelude.{◌≡◌, ℕ, List, [], ◌∷◌}
+use Rattle.std.specs.Prelude.{◌≡◌, ℕ, ◌<◌, ◌≤◌, List, [], ◌∷◌}
 use Rattle.range_table.specs.RunTable.{values_now}
 use Rattle.ucd_model.specs.Facts.{Sources, Facts, given}
 use Rattle.code_facts.specs.Found.{found}
 use Rattle.code_facts.specs.KeptFacts.{kept_at}
 use Rattle.code_facts.specs.PointLists.{lists_now}
-use Rattle.code_facts.specs.Rest.{RestOf}
+use Rattle.code_facts.specs.Rest.{RestOf, no_rest}
 use Rattle.code_facts.specs.Word.{packed}
 use Rattle.code_facts.specs.declared.case_maps.CaseMaps.{CaseMaps}
 use Rattle.code_facts.specs.declared.cases.Cases.{Cases}
@@ -54,6 +56,21 @@ rest_in t c = record {
   title = first_alone (lists_now t.lists.value.titles c);
   cases = cases_in t.cases.value c;
 }
+
+abbrev pub others_in : RowTables → ℕ → RestOf
+others_in t c = record {
+  mapping = [];
+  upper = first_alone (lists_now t.lists.value.uppers c);
+  lower = first_alone (lists_now t.lists.value.lowers c);
+  title = first_alone (lists_now t.lists.value.titles c);
+  cases = cases_in t.cases.value c;
+}
+
+abbrev pub IsBare : RowTables → ℕ → Type 0
+IsBare t c = others_in t c ≡ no_rest
+
+abbrev pub AreBare : RowTables → ℕ → ℕ → Type 0
+AreBare t c end = (d : ℕ) → c ≤ d → d < end → IsBare t d
 
 abbrev pub made_facts : RowTables → ℕ → Facts
 made_facts t c = kept_at c (word_in t c) (rest_in t c)

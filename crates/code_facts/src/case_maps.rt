@@ -103,7 +103,7 @@ impl CaseMaps {
     }
 
     /// Whether no map has a code point.
-    fn has_none(&self, c: Point) -> bool
+    pub fn has_none(&self, c: Point) -> bool
         ensures { IsTrue result → cases_in self.now c ≡ no_cases }
     {
         !self.common.contains_key(&c)

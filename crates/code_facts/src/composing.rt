@@ -3,11 +3,11 @@
 ghost use Rattle.std.specs.Prelude.{◌≡◌, ℕ};
 ghost use Rattle.ucd_model.specs.Composites.{composes, ends_with, is_canonical, pair_of, second_of};
 ghost use Rattle.code_facts.specs.FactTables.{facts_at};
-ghost use Rattle.code_facts.specs.Index.{is_that, ends_that, may_compose, picked, two_of};
+ghost use Rattle.code_facts.specs.Index.{is_that, ends_that, is_candidate, is_candidate_word, may_compose, picked, two_of};
 
 use crate::fact_tables::FactTables;
 use crate::version::Version;
-use crate::word::is_excluded;
+use crate::word::{class_of, is_excluded, kind_of};
 use range_table::Table;
 use ucd_model::{Kind, Point};
 
@@ -77,19 +77,28 @@ impl<T: Table<u64>> FactTables<T> {
     fn may_compose(&self, version: Version, q: Point, s: Point) -> bool
         ensures { result ≡ may_compose (facts_at version self.now) q s }
     {
-        let canonical = is_canonical(self.kind_in(version, q));
-        let starts = self.class_in(version, q) == 0;
-        let excluded = self.is_excluded_in(version, q);
-        canonical && starts && self.class_in(version, s) == 0 && !excluded
+        let candidate = self.is_candidate(version, q);
+        let starts = self.class_in(version, s) == 0;
+        candidate && starts
     }
 
-    /// Whether CompositionExclusions.txt covers a code point.
-    fn is_excluded_in(&self, version: Version, c: Point) -> bool
-        ensures { result ≡ (facts_at version self.now c).excluded }
+    /// Whether a code point may be a primary composite by its kind, its class and its exclusion.
+    fn is_candidate(&self, version: Version, q: Point) -> bool
+        ensures { result ≡ is_candidate (facts_at version self.now) q }
     {
-        let _number = c.number();
-        is_excluded(self.word(version, c))
+        let _number = q.number();
+        is_candidate_word(self.word(version, q))
     }
+}
+
+/// The same, by the packed word of the code point.
+fn is_candidate_word(word: u64) -> bool
+    ensures { result ≡ is_candidate_word word }
+{
+    let canonical = is_canonical(kind_of(word));
+    let starts = class_of(word) == 0;
+    let excluded = is_excluded(word);
+    canonical && starts && !excluded
 }
 
 /// The members of a mapping that has two; `None` of every other one.

@@ -8,7 +8,7 @@ ghost use Rattle.range_table.specs.Values.{SameValues};
 ghost use Rattle.code_facts.specs.Copying.{with_spans, with_values, IsListed, SamePairs};
 ghost use Rattle.code_facts.specs.Index.{is_listed};
 ghost use Rattle.code_facts.specs.Rest.{no_rest};
-ghost use Rattle.code_facts.specs.RowTables.{word_in, rest_in};
+ghost use Rattle.code_facts.specs.RowTables.{AreBare, word_in, rest_in};
 
 use crate::pair_index::PairIndex;
 use crate::points::{lesser, point};
@@ -101,14 +101,19 @@ fn put_rests_with<S: Store<Rest>>(
 {
     let end = span.last();
     let mut at = span.first();
+    // code points from `at` to before `bare` have no more than a decomposition mapping
+    let mut bare = at;
     'stretches: while at <= end {
         let first = point(at);
-        let last = lesser(from.last_rest(first), point(end));
+        if bare <= at {
+            bare = from.bare_until(first);
+        }
+        let last = lesser(from.last_rest(first, bare), point(end));
         let part = Span {
             lo: first,
             hi: last,
         };
-        put_rest(alloc, into, from, part, none)?;
+        put_rest(alloc, into, from, part, bare, none)?;
         at = last.number() + 1;
     }
     Ok(())
@@ -120,14 +125,16 @@ fn put_rest<S: Store<Rest>>(
     into: &mut S,
     from: &RowTables,
     part: Span,
+    bare: u32,
     none: u64,
 ) -> Result<(), Memory>
-    requires { S.held into.old none ≡ Some no_rest }
+    requires bare { AreBare from.now part.lo bare }
+    requires held { S.held into.old none ≡ Some no_rest }
     ensures now { SameValues (S.now into.new) (S.now into.old) }
     ensures held { S.held into.new none ≡ Some no_rest }
     ensures ok { OnOk result (SameValues (S.next into.new) (with_values (S.next into.old) part.lo part.hi (λ _. rest_in from.now part.lo))) }
 {
-    match from.rest(alloc, part.lo)? {
+    match from.rest(alloc, part.lo, bare)? {
         Some(rest) => into.prepare(part, rest),
         None => into.prepare_held(part, none),
     }

@@ -6,9 +6,11 @@ ghost use Rattle.range_table.specs.Values.{SameValues, with_span};
 ghost use Rattle.range_table.specs.RunTable.{values_next};
 ghost use Rattle.ucd_model.specs.Facts.{within, mapping_in, data_row, class_in, is_hangul_syllable, hangul_mapping};
 ghost use Rattle.ucd_model.specs.declared.files.SourceFile.TheVariants.{UnicodeData};
+ghost use Rattle.ucd_model.specs.declared.row.Row.TheVariants.{Unit as DataLine};
+ghost use Rattle.source_rows.specs.DataFaults.{text_row};
 ghost use Rattle.code_facts.specs.RowLists.{sources_of};
 ghost use Rattle.code_facts.specs.Rows.{row_data, Apart};
-ghost use Rattle.code_facts.specs.DataTables.{Adds, data_now, data_next};
+ghost use Rattle.code_facts.specs.DataTables.{Adds, AreEmpty, IsFresh, data_now, data_next};
 ghost use Rattle.code_facts.specs.PointLists.{lists_now, lists_next};
 
 use crate::data_lists::DataLists;
@@ -19,8 +21,9 @@ use crate::row_lists::RowLists;
 use crate::word::{NO_ROW, data_word};
 use range_table::{RunTable, Table};
 use release_rows::RowText;
+use source_rows::DataText;
 use std::alloc::Global;
-use ucd_model::{DataRow, Kind, Memory, Point, Row, Span};
+use ucd_model::{Kind, Memory, Point, Span};
 
 /// The part of the word that the row of a code point gives, and its mappings.
 #[derive(Drop)]
@@ -84,35 +87,29 @@ impl DataTables {
         Ok(())
     }
 
-    /// Gives the points of a row what the row gives, if it is a row of UnicodeData.txt.
+    /// Gives the points of a row what the row gives, if it is a row of UnicodeData.txt. No row has given them anything.
     fn add_text(&mut self, alloc: Global, row: &RowText<'_>) -> Result<(), Memory>
+        requires { IsFresh row.now (data_next self.old) }
         ensures { OnOk result (Adds row.now (data_next self.old) (data_next self.new)) }
     {
-        let row = row.read(alloc)?;
-        self.add_row(&row)
-    }
-
-    /// The same of a row that was read.
-    fn add_row(&mut self, row: &Row) -> Result<(), Memory>
-        ensures { OnOk result (Adds row.now (data_next self.old) (data_next self.new)) }
-    {
-        match row {
-            Row::Unit(row) => self.add(row),
-            _ => Ok(()),
+        match row.data(alloc)? {
+            Some(text) => self.add(&text),
+            None => Ok(()),
         }
     }
 
-    /// Gives the points of a row what the row gives.
-    fn add(&mut self, row: &DataRow) -> Result<(), Memory>
+    /// Gives the points of a row what the row gives. No row has given them anything.
+    fn add(&mut self, row: &DataText<'_>) -> Result<(), Memory>
+        requires fresh { IsFresh (DataLine (text_row row.now)) (data_next self.old) }
         ensures gives { OnOk result ((c : ℕ) → c < 1114112
-            → data_next self.new c ≡ (if within c row.now.span then row_data c (Some row.now) else data_next self.old c)) }
-        ensures class { row.now.class < 256 }
+            → data_next self.new c ≡ (if within c row.now.span then row_data c (Some (text_row row.now)) else data_next self.old c)) }
+        ensures class { row.now.values.class < 256 }
     {
         add_word(&mut self.words, row)?;
         add_mapping(&mut self.lists.mappings, row)?;
-        add_simple(&mut self.lists.uppers, row.span, row.upper)?;
-        add_simple(&mut self.lists.lowers, row.span, row.lower)?;
-        add_simple(&mut self.lists.titles, row.span, row.title)
+        add_simple(&mut self.lists.uppers, row.span, row.values.upper)?;
+        add_simple(&mut self.lists.lowers, row.span, row.values.lower)?;
+        add_simple(&mut self.lists.titles, row.span, row.values.title)
     }
 
     /// What is next becomes now. It takes no memory.
@@ -128,27 +125,33 @@ impl DataTables {
 }
 
 /// Gives the points of a row its part of the word.
-fn add_word(words: &mut RunTable<u64>, row: &DataRow) -> Result<(), Memory>
+fn add_word(words: &mut RunTable<u64>, row: &DataText<'_>) -> Result<(), Memory>
     ensures word { OnOk result ((c : ℕ) → c < 1114112 → values_next words.new c
-        ≡ (if within c row.now.span then (row_data c (Some row.now)).word else values_next words.old c)) }
-    ensures class { row.now.class < 256 }
+        ≡ (if within c row.now.span then (row_data c (Some (text_row row.now))).word else values_next words.old c)) }
+    ensures class { row.now.values.class < 256 }
 {
-    words.prepare(row.span, data_word(row, row.kind))?;
-    if let Kind::Plain = row.kind
+    let kind = row.values.decomposition.kind;
+    words.prepare(row.span, data_word(&row.values, kind))?;
+    if let Kind::Plain = kind
         && let Some(part) = syllables(row.span)
     {
-        words.prepare(part, data_word(row, Kind::Canonical))?;
+        words.prepare(part, data_word(&row.values, Kind::Canonical))?;
     }
     Ok(())
 }
 
-/// Gives the points of a row its mapping, or that of a Hangul syllable.
-fn add_mapping(mappings: &mut PointLists, row: &DataRow) -> Result<(), Memory>
+/// Gives the points of a row its mapping, or that of a Hangul syllable, where they have none.
+fn add_mapping(mappings: &mut PointLists, row: &DataText<'_>) -> Result<(), Memory>
+    requires { AreEmpty (lists_next mappings.old) row.now.span }
     ensures { OnOk result ((c : ℕ) → c < 1114112 → lists_next mappings.new c
-        ≡ (if within c row.now.span then mapping_in c (Some row.now) else lists_next mappings.old c)) }
+        ≡ (if within c row.now.span then mapping_in c (Some (text_row row.now)) else lists_next mappings.old c)) }
 {
-    mappings.prepare(row.span, row.mapping.as_slice())?;
-    if let Kind::Plain = row.kind
+    put_list(
+        mappings,
+        row.span,
+        row.values.decomposition.mapping.as_slice(),
+    )?;
+    if let Kind::Plain = row.values.decomposition.kind
         && let Some(part) = syllables(row.span)
     {
         add_syllables(mappings, part)?;
@@ -169,12 +172,24 @@ fn add_syllables(mappings: &mut PointLists, part: Span) -> Result<(), Memory>
     Ok(())
 }
 
-/// Gives the points of a span a simple mapping.
+/// Gives the points of a span a simple mapping, where they have none.
 fn add_simple(lists: &mut PointLists, span: Span, image: Option<Point>) -> Result<(), Memory>
+    requires { AreEmpty (lists_next lists.old) span }
     ensures { OnOk result (SameValues (lists_next lists.new) (with_span (lists_next lists.old) span.lo span.hi (option_to_list image))) }
 {
     match image {
-        Some(image) => lists.prepare(span, &[image]),
-        None => lists.prepare(span, &[]),
+        Some(image) => put_list(lists, span, &[image]),
+        None => put_list(lists, span, &[]),
     }
+}
+
+/// Gives the points of a span a list, where theirs are empty. For no points nothing is done.
+fn put_list(lists: &mut PointLists, span: Span, points: &[Point]) -> Result<(), Memory>
+    requires { AreEmpty (lists_next lists.old) span }
+    ensures { OnOk result (SameValues (lists_next lists.new) (with_span (lists_next lists.old) span.lo span.hi points.now)) }
+{
+    if points.is_empty() {
+        return Ok(());
+    }
+    lists.prepare(span, points)
 }

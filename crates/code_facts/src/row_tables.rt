@@ -1,6 +1,6 @@
 //! The tables that are made of rows, before they are copied.
 
-ghost use Rattle.std.specs.Prelude.{◌≡◌, ℕ, ◌+◌, ◌<◌, true, [], ◌∷◌, IfOk, MatchOption};
+ghost use Rattle.std.specs.Prelude.{◌≡◌, ℕ, ◌+◌, ◌<◌, ◌≤◌, true, IsTrue, [], ◌∷◌, IfOk, MatchOption};
 ghost use Rattle.std.specs.Option.{option_to_list};
 ghost use Rattle.range_table.specs.RunTable.{values_now};
 ghost use Rattle.ucd_model.specs.Facts.{data_row, class_in};
@@ -11,7 +11,7 @@ ghost use Rattle.code_facts.specs.Plain.{HoldsTo};
 ghost use Rattle.code_facts.specs.Rest.{no_rest};
 ghost use Rattle.code_facts.specs.RowLists.{sources_of};
 ghost use Rattle.code_facts.specs.Rows.{Apart, row_data};
-ghost use Rattle.code_facts.specs.RowTables.{ShowsRows, first_alone, word_in, rest_in};
+ghost use Rattle.code_facts.specs.RowTables.{ShowsRows, AreBare, IsBare, first_alone, others_in, word_in, rest_in};
 ghost use Rattle.code_facts.specs.Word.{kind_of_word};
 ghost use Rattle.ucd_model.specs.Composites.{is_canonical};
 
@@ -20,7 +20,7 @@ use crate::data_lists::DataLists;
 use crate::data_tables::DataTables;
 use crate::marks::marks;
 use crate::painting::summed;
-use crate::points::lesser;
+use crate::points::{lesser, point};
 use crate::rest::Rest;
 use crate::row_lists::RowLists;
 use crate::word::kind_of;
@@ -75,12 +75,17 @@ impl RowTables {
         })
     }
 
-    /// What is kept of a code point beside its word; `None` only where that is nothing.
+    /// What is kept of a code point beside its word; `None` only where that is nothing. Below `bare` code points have no
+    /// more than a decomposition mapping, and it alone is looked up.
     ///
     /// - `Memory`: memory ran out.
-    pub fn rest(&self, alloc: Global, c: Point) -> Result<Option<Rest>, Memory>
+    pub fn rest(&self, alloc: Global, c: Point, bare: u32) -> Result<Option<Rest>, Memory>
+        requires { AreBare self.now c bare }
         ensures { IfOk result (λ rest. MatchOption rest (rest_in self.now c ≡ no_rest) (λ kept. kept ≡ rest_in self.now c)) }
     {
+        if c.number() < bare {
+            return self.bare_rest(alloc, c);
+        }
         let mapping = copied(alloc, self.lists.mappings.get(c))?;
         let cases = self.cases.at(alloc, c)?;
         let rest = Rest::new(
@@ -97,6 +102,19 @@ impl RowTables {
         }
     }
 
+    /// The same of a code point that has no more than a decomposition mapping.
+    fn bare_rest(&self, alloc: Global, c: Point) -> Result<Option<Rest>, Memory>
+        requires { IsBare self.now c }
+        ensures { IfOk result (λ rest. MatchOption rest (rest_in self.now c ≡ no_rest) (λ kept. kept ≡ rest_in self.now c)) }
+    {
+        let mapping = self.lists.mappings.get(c);
+        if mapping.is_empty() {
+            return Ok(None);
+        }
+        let mapping = copied(alloc, mapping)?;
+        Ok(Some(Rest::new(mapping, None, None, None, None)))
+    }
+
     /// The members of the mapping of a code point, if it is canonical and has two.
     pub fn members(&self, c: Point) -> Option<(Point, Point)>
         ensures { MatchOption result
@@ -110,16 +128,51 @@ impl RowTables {
         }
     }
 
-    /// A code point up to which the same is kept beside the words from `c` on.
-    pub fn last_rest(&self, c: Point) -> Point
+    /// A code point up to which the same is kept beside the words from `c` on. Below `bare` code points have no more than
+    /// a decomposition mapping, and it alone is looked up.
+    pub fn last_rest(&self, c: Point, bare: u32) -> Point
+        requires bare { AreBare self.now c bare }
+        requires bound { bare ≤ 1114112 }
         ensures { HoldsTo (λ d. rest_in self.now d ≡ rest_in self.now c) c result }
     {
         let mapping = self.lists.mappings.last_of_run(c);
+        if c.number() < bare {
+            return lesser(mapping, point(bare - 1));
+        }
+        lesser(mapping, self.last_other(c))
+    }
+
+    /// A code point up to which simple mappings and images are the same from `c` on.
+    fn last_other(&self, c: Point) -> Point
+        ensures { HoldsTo (λ d. others_in self.now d ≡ others_in self.now c) c result }
+    {
         let upper = self.lists.uppers.last_of_run(c);
         let lower = self.lists.lowers.last_of_run(c);
         let title = self.lists.titles.last_of_run(c);
         let cases = self.cases.last_alike(c);
-        lesser(lesser(mapping, lesser(upper, lower)), lesser(title, cases))
+        lesser(lesser(upper, lower), lesser(title, cases))
+    }
+
+    /// A number up to which code points from `c` on have no more than a decomposition mapping; `c` itself if it has more.
+    pub fn bare_until(&self, c: Point) -> u32
+        ensures bare { AreBare self.now c result }
+        ensures bound { result ≤ 1114112 }
+    {
+        if self.is_bare(c) {
+            self.last_other(c).number() + 1
+        } else {
+            c.number()
+        }
+    }
+
+    /// Whether a code point has no more than a decomposition mapping.
+    fn is_bare(&self, c: Point) -> bool
+        ensures { IsTrue result → IsBare self.now c }
+    {
+        self.cases.has_none(c)
+            && self.lists.uppers.get(c).is_empty()
+            && self.lists.lowers.get(c).is_empty()
+            && self.lists.titles.get(c).is_empty()
     }
 }
 

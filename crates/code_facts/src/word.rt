@@ -14,18 +14,19 @@
 ghost use Rattle.std.specs.Prelude.{◌≡◌, ◌<◌, true, ◌/◌, ◌%◌};
 ghost use Rattle.code_facts.specs.Word.{data_part, assigned_of_word, excluded_of_word, mid_word_of_word, category_of_word, class_of_word, kind_of_word, flags_of_word};
 
-use ucd_model::{Category, DataRow, Flags, Kind};
+use source_rows::Values;
+use ucd_model::{Category, Flags, Kind};
 
 /// The word of a code point without a row in any file: category `Cn`, and nothing else.
 pub const NO_ROW: u64 = 8 * 29;
 
-/// The part of the word that a row of UnicodeData.txt gives, where the mapping is of this kind.
-pub fn data_word(row: &DataRow, kind: Kind) -> u64
-    ensures value { result ≡ data_part true row.now.category row.now.class kind }
-    ensures class { row.now.class < 256 }
+/// The part of the word that a row of UnicodeData.txt with these values gives, where the mapping is of this kind.
+pub fn data_word(values: &Values, kind: Kind) -> u64
+    ensures value { result ≡ data_part true values.now.category values.now.class kind }
+    ensures class { values.now.class < 256 }
 {
-    let class = row.class;
-    1 + 8 * row.category.place() as u64 + 256 * u64::from(class) + 65_536 * kind.place() as u64
+    let class = values.class;
+    1 + 8 * values.category.place() as u64 + 256 * u64::from(class) + 65_536 * kind.place() as u64
 }
 
 /// Whether a row of UnicodeData.txt covers the point.

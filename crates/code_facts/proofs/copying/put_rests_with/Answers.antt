@@ -2,11 +2,20 @@ use Rattle.std.proofs.Common.{◌≡◌, ◌+◌, refl, ◌∙◌, arith}
 use Rattle.code_facts.specs.RowTables.{rest_in}
 use Rattle.code_facts.proofs.PaintLemmas.{stretch_more, all_painted}
 use Rattle.code_facts.proofs.copying.put_rests_with.Goals as goal
+use Rattle.code_facts.proofs.copying.put_rests_with.Goals.{then-bare-at, else-bare-at}
 
 pub stretches-preserved : goal.stretches-preserved
 stretches-preserved g c = record {
   from = omega arith;
   within = omega arith;
+  bare = λ d low high. elim c.if-bare-at.branch [
+    | then-bare-at w ↦ w.bare_until-bare.ensures.bare d (omega arith) (omega (arith, w.bare-is))
+    | else-bare-at w ↦ c.stretches.invariant.bare d (omega arith) (omega (arith, w.bare-is))
+  ];
+  bound = elim c.if-bare-at.branch [
+    | then-bare-at w ↦ omega (arith, w.bare-is, w.bare_until-bare.ensures.bound)
+    | else-bare-at w ↦ omega (arith, w.bare-is, c.stretches.invariant.bound)
+  ];
   held = c.in_ok-put_rest.ensures.held;
   now = λ k lt. c.in_ok-put_rest.ensures.now k lt ∙ c.stretches.invariant.now k lt;
   next = λ k lt.

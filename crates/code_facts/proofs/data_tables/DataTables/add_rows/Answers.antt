@@ -1,10 +1,17 @@
-use Rattle.std.proofs.Common.{◌<◌, ◌≤◌, sym, arith, length}
-use Rattle.code_facts.specs.DataTables.{data_next}
-use Rattle.code_facts.proofs.DataLemmas.{rows_none, rows_added, rows_all}
+use Rattle.std.proofs.Common.{◌<◌, ◌≤◌, sym, subst, arith, length}
+use Rattle.ucd_model.specs.declared.row.Row.{Row}
+use Rattle.code_facts.specs.DataTables.{IsFresh, data_next}
+use Rattle.code_facts.proofs.DataLemmas.{row_is_fresh, rows_none, rows_added, rows_all}
 use Rattle.code_facts.proofs.data_tables.DataTables.add_rows.Goals as goal
 
 pub rows-init : goal.rows-init
 rows-init c = rows_none c.args.rows.now (data_next c.args.self.now) c.requires.fresh
+
+pub add_text-requires : goal.add_text-requires
+add_text-requires c =
+    let rows = c.args.rows.now in
+    let inside : c.rows.row-index < length rows = omega arith in
+    subst (λ (r : Row). IsFresh r (data_next c.rows.self)) (sym c.row-item.is) (row_is_fresh rows c.rows.row-index c.row-item.result (data_next c.rows.self) c.requires.apart inside c.rows.invariant)
 
 pub rows-preserved : goal.rows-preserved
 rows-preserved c =

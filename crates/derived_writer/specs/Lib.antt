@@ -1,3 +1,4 @@
 pub mod Listings
 pub mod Runs
 pub mod TextLaws
+pub mod Shown

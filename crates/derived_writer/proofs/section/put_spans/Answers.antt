@@ -2,7 +2,9 @@ use Rattle.std.proofs.Common.{◌≡◌, ◌++◌, ◌∙◌, ◌∷◌, ◌+◌
 use Rattle.ucd_model.specs.Limits.{point_count}
 use Rattle.ucd_model.specs.Labels.{Label}
 use Rattle.ucd_model.specs.Bounds.{Bounds}
-use Rattle.ucd_model.specs.Records.{Record}
+use Rattle.std.specs.Borrow.{Bor}
+use Rattle.ucd_model.specs.Records.{Record, ShowsRecord}
+use Rattle.ucd_model.specs.declared.records.Record.{Record as Kept}
 use Rattle.ucd_model.specs.LabelLemmas.{labelled_before}
 use Rattle.ucd_model.specs.Cuts.{IsCut}
 use Rattle.derived_writer.specs.Listings.{listing_section, listing_labels}
@@ -25,10 +27,14 @@ pieces-preserved g c =
     let f : ℕ → Label = listing_labels c.args.listing R in
     let pieces : List Bounds = c.args.pieces.now in
     let rest : List Bounds = drop (c.pieces.piece-index + 1) pieces in
-    let s : Bounds = record { lo = c.piece.inside.lo; hi = c.piece.inside.hi } in
-    let here : s ≡ get_or pieces c.pieces.piece-index s = subst (λ (b : Bounds). b ≡ get_or pieces c.pieces.piece-index b) (sym c.piece.view_is) c.piece-item.is in
+    let s : Bounds = c.piece-item.result in
+    let here : s ≡ get_or pieces c.pieces.piece-index s = c.piece-item.is in
     let cut : IsCut R c.pieces.run.end point_count (s ∷ rest) = next_piece R c.pieces.run.end point_count c.pieces.piece-index pieces s c.pieces-test.true here c.pieces.invariant.cut in
-    let label : c.set_label.new.label ≡ (listing_section c.args.listing).label (R s.lo) = c.in_ok-set_label.ensures (R s.lo) c.record.ensures in
+    let kept = c.index-records-at.result in
+    let found : kept ≡ get_or c.args.records.now c.pieces.piece-index kept = rw c.pieces.invariant.at at c.index-records-at.is in
+    let there : ShowsRecord (get_or c.args.records.now c.pieces.piece-index kept).now (R (get_or pieces c.pieces.piece-index s).lo) = c.requires.records.each c.pieces.piece-index s kept c.pieces-test.true in
+    let shown : ShowsRecord kept.now (R s.lo) = subst (λ (b : Bounds). ShowsRecord kept.now (R b.lo)) (sym here) (subst (λ (r : Bor Kept). ShowsRecord r.now (R (get_or pieces c.pieces.piece-index s).lo)) (sym found) there) in
+    let label : c.set_label.new.label ≡ (listing_section c.args.listing).label (R s.lo) = c.in_ok-set_label.ensures (R s.lo) shown in
     let stretch : IsStretch point_count f c.pieces.run.end (c.last.result + 1) c.set_label.new.label = rw (label, c.last.ensures.value) (piece_is_stretch R (listing_section c.args.listing).label c.pieces.run.end point_count s rest cut) in
     let more = c.in_ok-total.ensures.total point_count f c.pieces.invariant.run stretch in
     let few = c.in_ok-total.ensures.few in
@@ -38,6 +44,7 @@ pieces-preserved g c =
       lines = c.in_ok-total.ensures.lines point_count f c.pieces.invariant.run stretch c.args.text.now c.pieces.invariant.lines;
       total = omega (arith, more, c.pieces.invariant.total);
       few = omega arith;
+      at = omega arith;
     }
 
 pub end-requires-clause-inside : goal.end-requires-clause-inside

@@ -6,17 +6,17 @@ use Rattle.std.proofs.lemmas.List.{get_or_default, length-map}
 use Rattle.ucd_model.specs.Records.{kept_record}
 use Rattle.ucd_model.specs.declared.records.Record.{Record as KeptRecord}
 use Rattle.record_list.specs.Pool.{run_in, runs_in}
-use Rattle.record_list.specs.Runs.{Run, RecordsOf, Follow, count_of, record_of}
+use Rattle.record_list.specs.Runs.{Run, Follow, count_of, record_of}
 use Rattle.record_list.specs.declared.stretch.Stretch.{Stretch}
 use Rattle.record_list.proofs.RunSteps.{ends_ascend, ends_inside, found_within, record_of-ends, record_of-inside}
 
 run_at : (pool : List KeptRecord) (list : List Stretch) (k : ℕ) (d : Stretch) → get_or (runs_in pool list) k (run_in pool d) ≡ run_in pool (get_or list k d)
 run_at pool list k d = get_or-map (run_in pool) list k d
 
-pub stretches_ascend : (pool : List KeptRecord) (list : List Stretch) → Follow 0 (runs_in pool list) → IsNonDecreasingBy (λ (s : Stretch). s.end) list
-stretches_ascend pool list follow i j d le lt =
+pub stretches_ascend : (low : ℕ) (pool : List KeptRecord) (list : List Stretch) → Follow low (runs_in pool list) → IsNonDecreasingBy (λ (s : Stretch). s.end) list
+stretches_ascend low pool list follow i j d le lt =
     let n = length-map list (run_in pool) in
-    let runs : (get_or (runs_in pool list) i (run_in pool d)).end ≤ (get_or (runs_in pool list) j (run_in pool d)).end = ends_ascend 0 (runs_in pool list) follow i j (run_in pool d) le (omega (arith, lt, n)) in
+    let runs : (get_or (runs_in pool list) i (run_in pool d)).end ≤ (get_or (runs_in pool list) j (run_in pool d)).end = ends_ascend low (runs_in pool list) follow i j (run_in pool d) le (omega (arith, lt, n)) in
     let first : (get_or (runs_in pool list) i (run_in pool d)).end ≡ (get_or list i d).end = ap (λ (r : Run). r.end) (run_at pool list i d) in
     let last : (get_or (runs_in pool list) j (run_in pool d)).end ≡ (get_or list j d).end = ap (λ (r : Run). r.end) (run_at pool list j d) in
     omega (arith, runs, first, last)

@@ -2,4 +2,5 @@ mod RunSteps
 mod PoolSteps
 mod MergeSteps
 mod FoundRun
+mod CopySteps
 mod TableSteps

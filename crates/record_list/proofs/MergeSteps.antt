@@ -1,15 +1,13 @@
 -- Stretches and points with other records, gone over together.
-use Rattle.std.proofs.Common.{◌≡◌, ◌≢◌, ℕ, zero, suc, ◌+◌, ◌-◌, ◌<◌, ◌≤◌, ◌==◌, Bool, true, false, List, [], ◌∷◌, length, get_or, drop, refl, sym, ap, subst, ◌∙◌, arith, inl, inr}
-use Rattle.std.specs.List.Sorted.{IsStrictlyIncreasing}
+use Rattle.std.proofs.Common.{◌≡◌, ℕ, suc, ◌+◌, ◌-◌, ◌<◌, ◌≤◌, List, [], ◌∷◌, length, get_or, drop, refl, sym, ap, subst, ◌∙◌, arith, inl, inr}
 use Rattle.std.proofs.Math.Seq.{drop-cons}
-use Rattle.std.proofs.lemmas.Bool.{cases_eq, cases_lt}
+use Rattle.std.proofs.lemmas.Bool.{cases_lt}
 use Rattle.std.proofs.lemmas.Bool.Decides.{nat_tests}
-use Rattle.std.proofs.lemmas.List.{drop_all, get_or_default}
 use Rattle.ucd_model.specs.Records.{Record, kept_record}
 use Rattle.ucd_model.specs.declared.records.Record.{Record as KeptRecord}
 use Rattle.record_list.specs.Merge.{IsLeft, IsMerged, Pushed, last_records, piece, points_left, stretches_left, up_to}
 use Rattle.record_list.specs.Pool.{IsLayer, Lie, blank, record_in, run_in, runs_in}
-use Rattle.record_list.specs.Runs.{AllBelow, IsWritten, RecordsOf, Follow, Rises, Run, count_of, end_from, record_of, written}
+use Rattle.record_list.specs.Runs.{AllBelow, IsWritten, RecordsOf, Follow, Rises, count_of, end_from, record_of, written}
 use Rattle.record_list.specs.declared.stretch.Stretch.{Stretch}
 use Rattle.record_list.proofs.RunSteps.{end_from-above, record_of-behind, record_of-first}
 
@@ -61,7 +59,7 @@ up_to_first s p lt = grind (arith, nat_tests)
 up_to_end : (s : Stretch) (p : ℕ) → s.end ≤ p → up_to s p ≡ s
 up_to_end s p le = grind (arith, nat_tests)
 
-less_left : (t : Stretch) (list : List Stretch) (e : ℕ) → t.end ≡ e → stretches_left e (t ∷ list) ≡ list
+pub less_left : (t : Stretch) (list : List Stretch) (e : ℕ) → t.end ≡ e → stretches_left e (t ∷ list) ≡ list
 less_left t list e same = grind (arith, nat_tests)
 
 as_left : (t : Stretch) (list : List Stretch) (e : ℕ) → e < t.end → stretches_left e (t ∷ list) ≡ t ∷ list

@@ -5,11 +5,14 @@
 --                             the points; else those of s up to the first of the points
 -- points_left n points        the points without the first one, where that is n
 -- stretches_left n list       the stretches without the first one, where it ends at n
+-- ends_by points s            s ends at or before the first of the points; always where there is none
+-- untouched points list       how many stretches, from the first one on, end at or before the first of the points
 -- last_records pool points    the last records of the pool: as many as there are points
 -- IsLeft old rest n           the stretches rest are those of old from n on
 -- IsMerged pool old points new more left n   the stretches new have the records of the code points below n; more and left are what is
 --                             left of the stretches and of the points from n on
-use Rattle.std.specs.Prelude.{◌≡◌, ℕ, ◌+◌, ◌-◌, ◌<◌, ◌≤◌, List, [], ◌∷◌, ◌==◌, nat_lt, if◌then◌else◌, drop, length}
+use Rattle.std.specs.Prelude.{◌≡◌, ℕ, ◌+◌, ◌-◌, ◌<◌, ◌≤◌, Bool, true, List, [], ◌∷◌, ◌==◌, nat_le, nat_lt, if◌then◌else◌, drop, length}
+use Rattle.std.specs.List.{prefix_len}
 use Rattle.ucd_model.specs.Records.{Record}
 use Rattle.ucd_model.specs.declared.records.Record.{Record as KeptRecord}
 use Rattle.record_list.specs.Runs.{RecordsOf, Follow, Rises, AllBelow, count_of, end_from, record_of, written}
@@ -36,6 +39,13 @@ points_left n (p ∷ points) = if p == n then points else p ∷ points
 abbrev pub stretches_left : ℕ → List Stretch → List Stretch
 stretches_left n [] = []
 stretches_left n (s ∷ list) = if s.end == n then list else s ∷ list
+
+abbrev pub ends_by : List ℕ → Stretch → Bool
+ends_by [] s = true
+ends_by (p ∷ points) s = nat_le s.end p
+
+abbrev pub untouched : List ℕ → List Stretch → ℕ
+untouched points list = prefix_len (ends_by points) list
 
 abbrev pub last_records : List KeptRecord → List ℕ → List KeptRecord
 last_records pool points = drop (length pool - length points) pool

@@ -85,7 +85,8 @@ impl RecordList {
     }
 
     /// Gives ascending points these records next, in order, and all others those that they have now. What was prepared
-    /// before is dropped. It takes time by the number of stretches and of points.
+    /// before is dropped. It copies the stretches, and takes steps by the number of points, each by the logarithm of the
+    /// number of stretches.
     ///
     /// - `Memory`: memory ran out. What is next stays.
     pub fn prepare(

@@ -3,7 +3,7 @@
 use ucd_model::ListOf;
 
 /// A stretch of code points with one record. It begins where the one before it ends, and the first one at 0.
-#[derive(Clone, Copy)]
+#[derive(Clone, Copy, PartialEq, Eq)]
 pub struct Stretch {
     /// One past its last code point.
     pub end: u32,

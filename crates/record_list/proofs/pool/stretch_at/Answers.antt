@@ -10,7 +10,7 @@ use Rattle.record_list.proofs.pool.stretch_at.Goals as goal
 parted : (c : goal.After-result-1) → IsPartitionPoint (λ (s : Stretch). leb s.end c.args.number ≡ true) (λ (s : Stretch). leb s.end c.args.number ≡ false) c.args.stretches.now c.partition_point-at.result
 parted c =
     IsPartitionPoint-from_clause (λ (s : Stretch). leb s.end c.args.number) c.args.stretches.now c.partition_point-at.result c.partition_point-at.ensures.partitioned
-    (IsPartitionedBy-leb (λ (s : Stretch). s.end) c.args.stretches.now c.args.number (stretches_ascend c.args.pool.now c.args.stretches.now c.requires.layer.follow)) (λ a r q k. search rules)
+    (IsPartitionedBy-leb (λ (s : Stretch). s.end) c.args.stretches.now c.args.number (stretches_ascend 0 c.args.pool.now c.args.stretches.now c.requires.layer.follow)) (λ a r q k. search rules)
 
 before : (c : goal.After-result-1) → (k : ℕ) (e : Stretch) → k < c.partition_point-at.result → (get_or c.args.stretches.now k e).end ≤ c.args.number
 before c k e lt = leb-true _ _ ((parted c).0 k e (omega arith) lt)
@@ -37,6 +37,6 @@ pub bounds-stretches-at : goal.bounds-stretches-at
 bounds-stretches-at c =
     let point =
     IsPartitionPoint-from_clause (λ (s : Stretch). leb s.end c.args.number) c.args.stretches.now c.partition_point-at.result c.partition_point-at.ensures.partitioned
-    (IsPartitionedBy-leb (λ (s : Stretch). s.end) c.args.stretches.now c.args.number (stretches_ascend c.args.pool.now c.args.stretches.now c.requires.layer.follow)) (λ a r q k. search rules) in
+    (IsPartitionedBy-leb (λ (s : Stretch). s.end) c.args.stretches.now c.args.number (stretches_ascend 0 c.args.pool.now c.args.stretches.now c.requires.layer.follow)) (λ a r q k. search rules) in
     stretch_within c.args.pool.now c.args.stretches.now (record { end = 0; place = 0 }) c.args.number c.partition_point-at.result c.requires.number c.partition_point-at.ensures.bound
     (λ k e lt. leb-true _ _ (point.0 k e (omega arith) lt))

@@ -1,11 +1,10 @@
-use Rattle.std.proofs.Common.{◌≡◌, ◌<◌, ◌∙◌, ◌++◌, ◌∷◌, [], List, ap, sym, subst}
+use Rattle.std.proofs.Common.{◌≡◌, ◌<◌, ◌∙◌, List, ap, sym, subst}
 use Rattle.ucd_model.specs.Records.{kept_record}
 use Rattle.ucd_model.specs.declared.records.Record.{Record as KeptRecord}
 use Rattle.record_list.specs.Merge.{Pushed}
 use Rattle.record_list.specs.Pool.{IsLayer, record_in, runs_in}
 use Rattle.record_list.specs.Runs.{Layers, RecordsOf, count_of}
-use Rattle.record_list.specs.declared.stretch.Stretch.{Stretch}
-use Rattle.record_list.proofs.PoolSteps.{held_there, kept-grown, layer-grown, same-grown}
+use Rattle.record_list.proofs.PoolSteps.{held_there, layer-grown, same-grown}
 use Rattle.record_list.proofs.list.RecordList.push_run.Goals as goal
 
 pub invariant_of-self : goal.invariant_of-self

@@ -1,5 +1,5 @@
-use Rattle.std.proofs.Common.{◌≡◌, ◌≤◌, ◌∙◌, sym, ap, subst, arith}
-use Rattle.record_list.specs.Runs.{Layers, count_of, record_of}
+use Rattle.std.proofs.Common.{◌≤◌, arith}
+use Rattle.record_list.specs.Runs.{count_of}
 use Rattle.record_list.proofs.TableSteps.{end_below, has_place}
 use Rattle.record_list.proofs.table.RecordTable.last_alike.Goals as goal
 

@@ -19,6 +19,3 @@ mod values;
 
 pub use aliases::Aliases;
 pub use property::{Group, Property, Test};
-
-#[cfg(test)]
-mod tests;

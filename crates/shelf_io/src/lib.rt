@@ -13,10 +13,6 @@ mod sink;
 mod standard_output;
 mod system;
 mod system_calls;
-#[cfg(test)]
-mod system_tests;
-#[cfg(test)]
-mod tests;
 mod transfer;
 
 pub use disk_shelf::DiskShelf;

@@ -28,8 +28,3 @@ pub use point_set::PointSet;
 pub use release_eval::eval;
 pub use stop::{EvalStop, NameRule};
 pub use test_sets::TestSets;
-
-#[cfg(test)]
-mod index_tests;
-#[cfg(test)]
-mod tests;

@@ -3,9 +3,8 @@
 
 ghost use Rattle.std.specs.Prelude.{true, if◌then◌else◌, bytes_eq, codes};
 
-use crate::tests::{ReadCase, first_wrong_read, write_once};
-use crate::transfer::{read_most, write_all};
-use crate::{DiskShelf, Failed, Found, OutSink, ReadStop, Shelf, Sink, System};
+use crate::shelves::{ReadCase, first_wrong_read, read_gives, write_once};
+use shelf_io::{DiskShelf, Failed, Found, OutSink, ReadStop, Shelf, Sink, System};
 use std::alloc::Global;
 use std::io::{Cursor, ErrorKind, Read, Write};
 use std::{fs, io};
@@ -105,30 +104,6 @@ impl Read for Drip {
     }
 }
 
-/// What a reader of so many bytes gives, which fails at one of its reads: the answer, and whether `bytes` were read
-/// where it is Ok.
-fn drips(alloc: Global, mut drip: Drip, most: usize, bytes: &[u8]) -> (Result<(), ReadStop>, bool) {
-    let mut into = Vec::new(alloc);
-    let answer = read_most(&mut drip, most, &mut into);
-    (answer, answer.is_err() || into.as_slice() == bytes)
-}
-
-#[test]
-fn reads_in_parts(rt: HostRuntime) {
-    for (left, fails, most, answer, bytes) in [
-        (5, 9, 9, Ok(()), b"xxxxx".as_slice()),
-        (5, 9, 3, Ok(()), b"xxx".as_slice()),
-        (5, 2, 9, Err(ReadStop::Failed), b"".as_slice()),
-        (5, 2, 4, Ok(()), b"xxxx".as_slice()),
-        (0, 1, 9, Ok(()), b"".as_slice()),
-    ] {
-        assert_eq!(rt;
-            drips(rt.alloc(), Drip { left, fails }, most, bytes),
-            (answer, true)
-        );
-    }
-}
-
 /// A writer of a few bytes a time, which takes none once it is full.
 #[derive(Drop)]
 struct Narrow {
@@ -147,23 +122,91 @@ impl Write for Narrow {
     }
 }
 
-/// What a writer with room for so many bytes answers to five of them, for how many it has room then, and what a sink
-/// of such a writer answers.
-fn writes_five(room: usize) -> (Result<(), Failed>, usize, Result<(), Failed>) {
-    let mut narrow = Narrow { room };
-    let written = write_all(&mut narrow, b"abcde");
-    (
-        written,
-        narrow.room,
-        OutSink::to(Narrow { room }).put(b"abcde"),
-    )
+/// A system whose files are read and written a few bytes a time. It tells nothing.
+#[derive(Drop)]
+struct Parts {
+    left: usize,
+    fails: usize,
+    room: usize,
+}
+
+impl System for Parts {
+    ghost use Rattle.std.specs.Prelude.{false};
+    ghost use Rattle.shelf_io.specs.Systems.Entry.{Other};
+
+    type Opened = Drip;
+
+    type Created = Narrow;
+
+    ghost tells = { false };
+
+    ghost at = { λ system path. Other };
+
+    fn open(&self, _path: &str) -> io::Result<Drip> {
+        Ok(Drip {
+            left: self.left,
+            fails: self.fails,
+        })
+    }
+
+    fn make_folders(&mut self, _path: &str) -> io::Result<()> {
+        Ok(())
+    }
+
+    fn create(&mut self, _path: &str) -> io::Result<Narrow> {
+        Ok(Narrow { room: self.room })
+    }
+
+    fn close(&mut self, _path: &str, file: Narrow) {
+        self.room = file.room;
+    }
+}
+
+/// A system whose files have so many bytes, one of whose reads fails, and room for so many.
+fn in_parts(left: usize, fails: usize, room: usize) -> DiskShelf<Parts> {
+    DiskShelf::over(Parts { left, fails, room })
+}
+
+/// How many bytes a file has, which of its reads fails, and what a read gives.
+const READS_IN_PARTS: [(usize, usize, ReadCase<'static>); 5] = [
+    (5, 9, (b"f", 9, Ok(Found::Found), b"xxxxx")),
+    (5, 9, (b"f", 3, Ok(Found::Found), b"xxx")),
+    (5, 2, (b"f", 9, Err(ReadStop::Failed), b"")),
+    (5, 2, (b"f", 4, Ok(Found::Found), b"xxxx")),
+    (0, 1, (b"f", 9, Ok(Found::Found), b"")),
+];
+
+#[test]
+fn reads_in_parts(rt: HostRuntime) {
+    for (left, fails, case) in &READS_IN_PARTS {
+        let gives = read_gives(rt.alloc(), &mut in_parts(*left, *fails, 0), case);
+        assert!(rt; gives);
+    }
+}
+
+/// For how many bytes there is room, and what is answered to five bytes, and then to two more.
+const WRITES_IN_PARTS: [(usize, Result<(), Failed>, Result<(), Failed>); 4] = [
+    (7, Ok(()), Ok(())),
+    (6, Ok(()), Err(Failed)),
+    (5, Ok(()), Err(Failed)),
+    (3, Err(Failed), Err(Failed)),
+];
+
+/// What a sink with this room answers to five bytes, and then to two more.
+fn puts_in_parts(room: usize) -> (Result<(), Failed>, Result<(), Failed>) {
+    let mut sink = OutSink::to(Narrow { room });
+    let five = sink.put(b"abcde");
+    (five, sink.put(b"fg"))
 }
 
 #[test]
-fn writes_in_parts(rt: HostRuntime) {
-    for (room, answer, left) in [(7, Ok(()), 2), (5, Ok(()), 0), (3, Err(Failed), 0)] {
-        assert_eq!(rt; writes_five(room), (answer, left, answer));
+fn writes_in_parts(rt: HostRuntime) -> Result<(), Memory> {
+    for (room, five, two) in &WRITES_IN_PARTS {
+        assert!(rt; puts_in_parts(*room) == (*five, *two));
+        let written = write_once(rt.alloc(), &mut in_parts(0, 0, *room), b"f", b"abcde")?;
+        assert!(rt; written == *five);
     }
+    Ok(())
 }
 
 #[test]

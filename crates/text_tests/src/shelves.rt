@@ -1,13 +1,21 @@
 //! Shelves and sinks in memory at work. Each is owned by a function that makes one call on it.
 
-ghost use Rattle.std.specs.Prelude.{◌≡◌, ◌≢◌, ◌++◌, [], List, Some, IsTrue, take, ℕ};
+ghost use Rattle.std.specs.Prelude.{◌≡◌, ◌≢◌, ◌++◌, [], List, Some, IfOk, IsTrue, take, ℕ};
 ghost use Rattle.shelf_io.specs.Counts.{Rose};
 ghost use Rattle.shelf_io.specs.Contents.{ReplacedAt};
 
-use crate::memory_files::text_of;
-use crate::{Failed, Found, MemoryShelf, MemorySink, PerfectShelf, ReadStop, Shelf, Sink};
+use shelf_io::{Failed, Found, MemoryShelf, MemorySink, PerfectShelf, ReadStop, Shelf, Sink};
 use std::alloc::Global;
 use ucd_model::{Memory, Text};
+
+/// A text of these bytes.
+fn text_of(alloc: Global, bytes: &[u8]) -> Result<Text, Memory>
+    ensures { IfOk result (λ text. text ≡ bytes.now) }
+{
+    let mut text = Text::new(alloc);
+    text.append(bytes)?;
+    Ok(text)
+}
 
 /// What became of two files that were to be joined.
 #[derive(Clone, Copy, Debug, PartialEq, Eq)]
@@ -116,7 +124,7 @@ fn are_bytes(held: Option<&[u8]>, bytes: &[u8]) -> bool {
 pub type ReadCase<'a> = (&'a [u8], usize, Result<Found, ReadStop>, &'a [u8]);
 
 /// Whether a read of this path gives this.
-fn read_gives<S: Shelf>(alloc: Global, shelf: &mut S, case: &ReadCase<'_>) -> bool {
+pub fn read_gives<S: Shelf>(alloc: Global, shelf: &mut S, case: &ReadCase<'_>) -> bool {
     let (path, most, answer, bytes) = *case;
     let mut into = Vec::new(alloc);
     shelf.read(path, most, &mut into) == answer

@@ -1,12 +1,12 @@
 //! Sets of code points and their spans, and what UnicodeSets mean.
 
-use crate::*;
 use property_aliases::{Aliases, Test};
 use release_rows::Release;
 use std::alloc::Global;
 use std::process::Abort;
 use std::test::Fail;
 use ucd_model::{Memory, Point, Span, Spans};
+use unicodeset_eval::{EvalStop, NameRule, PointSet, TestSets, eval_over};
 use unicodeset_parser::{Join, parse};
 
 /// The span of two numbers.
@@ -36,7 +36,7 @@ pub(crate) fn has_spans(
 }
 
 /// Whether spans are these.
-fn are(alloc: Global, spans: &Spans, expected: &[(u32, u32)]) -> Result<bool, Fail> {
+pub(crate) fn are(alloc: Global, spans: &Spans, expected: &[(u32, u32)]) -> Result<bool, Fail> {
     let mut pairs = Vec::new(alloc);
     for span in spans.as_slice() {
         pairs.push((span.first(), span.last()))?;
@@ -44,38 +44,62 @@ fn are(alloc: Global, spans: &Spans, expected: &[(u32, u32)]) -> Result<bool, Fa
     Ok(pairs.as_slice() == expected)
 }
 
-/// `[[ace][bdf] - [abc][def]]`, the example of UTS #35: each step acts on what stands before it.
+/// A step of a bracket set: what is joined to the members so far, and the spans of the members then.
+type Step = (Join, &'static [(u32, u32)], &'static [(u32, u32)]);
+
+const ACE: [(u32, u32); 3] = [(0x61, 0x61), (0x63, 0x63), (0x65, 0x65)];
+
+const BDF: [(u32, u32); 3] = [(0x62, 0x62), (0x64, 0x64), (0x66, 0x66)];
+
+/// `[[ace][bdf] - [abc][def]]`, the example of UTS #35, and `& [ace]`: each step acts on what stands before it.
+const STEPS: [Step; 5] = [
+    (Join::Union, &ACE, &ACE),
+    (Join::Union, &BDF, &[(0x61, 0x66)]),
+    (Join::Minus, &[(0x61, 0x63)], &[(0x64, 0x66)]),
+    (Join::Union, &[(0x64, 0x66)], &[(0x64, 0x66)]),
+    (Join::Meet, &ACE, &[(0x65, 0x65)]),
+];
+
+/// The members behind a step.
+fn stepped(
+    alloc: Global,
+    set: &PointSet,
+    join: Join,
+    spans: &[(u32, u32)],
+) -> Result<PointSet, Fail> {
+    let more = union(alloc, spans)?;
+    Ok(PointSet::joined(alloc, join, set, &more)?)
+}
+
 #[test]
 fn steps_act_from_left_to_right(rt: HostRuntime) -> Result<(), Fail> {
-    let alloc = rt.alloc();
-    let ace = union(alloc, &[(0x61, 0x61), (0x63, 0x63), (0x65, 0x65)])?;
-    let bdf = union(alloc, &[(0x62, 0x62), (0x64, 0x64), (0x66, 0x66)])?;
-    let both = PointSet::joined(alloc, Join::Union, &ace, &bdf)?;
-    assert!(rt; has_spans(alloc, &both, &[(0x61, 0x66)])?);
-    let abc = union(alloc, &[(0x61, 0x63)])?;
-    let left = PointSet::joined(alloc, Join::Minus, &both, &abc)?;
-    let def = union(alloc, &[(0x64, 0x66)])?;
-    let all = PointSet::joined(alloc, Join::Union, &left, &def)?;
-    assert!(rt; has_spans(alloc, &all, &[(0x64, 0x66)])?);
-    let met = PointSet::joined(alloc, Join::Meet, &all, &ace)?;
-    assert!(rt; has_spans(alloc, &met, &[(0x65, 0x65)])?);
+    let mut set = PointSet::empty(rt.alloc());
+    for (join, spans, expected) in &STEPS {
+        set = stepped(rt.alloc(), &set, *join, spans)?;
+        assert!(rt; has_spans(rt.alloc(), &set, expected)?);
+    }
     Ok(())
+}
+
+/// Whether the complement of spans is these, and the complement of that the spans again.
+fn has_complement(
+    alloc: Global,
+    spans: &[(u32, u32)],
+    expected: &[(u32, u32)],
+) -> Result<bool, Fail> {
+    let others = union(alloc, spans)?.complement();
+    if !has_spans(alloc, &others, expected)? {
+        return Ok(false);
+    }
+    has_spans(alloc, &others.complement(), spans)
 }
 
 /// The complement ends at 10FFFF, also where the set ends there, as the noncharacters of PropList.txt do.
 #[test]
 fn complements_end_with_the_last_code_point(rt: HostRuntime) -> Result<(), Fail> {
-    let alloc = rt.alloc();
-    let all = PointSet::empty(alloc).complement();
-    assert!(rt; has_spans(alloc, &all, &[(0, 0x10_FFFF)])?);
-    let none = all.complement();
-    assert!(rt; has_spans(alloc, &none, &[])?);
-    let last = union(alloc, &[(0x10_FFFE, 0x10_FFFF)])?;
-    assert!(rt; has_spans(alloc, &last, &[(0x10_FFFE, 0x10_FFFF)])?);
-    let others = last.complement();
-    assert!(rt; has_spans(alloc, &others, &[(0, 0x10_FFFD)])?);
-    let back = others.complement();
-    assert!(rt; has_spans(alloc, &back, &[(0x10_FFFE, 0x10_FFFF)])?);
+    let last = [(0x10_FFFE, 0x10_FFFF)];
+    assert!(rt; has_complement(rt.alloc(), &[], &[(0, 0x10_FFFF)])?);
+    assert!(rt; has_complement(rt.alloc(), &last, &[(0, 0x10_FFFD)])?);
     Ok(())
 }
 

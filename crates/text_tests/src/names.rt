@@ -1,6 +1,6 @@
 //! Names of properties and of their values by the rows of files.
 
-use crate::*;
+use property_aliases::{Aliases, Group, Property, Test};
 use release_rows::Release;
 use std::alloc::Global;
 use std::process::Abort;

@@ -1,0 +1,13 @@
+-- Where UnicodeData.txt has no row, every code point is unassigned.
+use Rattle.std.proofs.Common.{◌≡◌, ℕ, ◌<◌, List, [], ap, ◌∙◌}
+use Rattle.ucd_model.specs.Facts.{Facts, category_in, data_row, facts}
+use Rattle.ucd_model.specs.FactsLemmas.{facts_inside}
+use Rattle.ucd_model.specs.Limits.{point_count}
+use Rattle.ucd_model.specs.declared.category.Category.TheVariants.{Cn}
+use Rattle.ucd_model.specs.declared.files.SourceFile.TheVariants.{UnicodeData}
+use Rattle.release_rows.specs.FileItems.{FileItem, rows_in}
+use Rattle.release_rows.specs.Releases.{ReleaseItems, items_now}
+use Rattle.unicodeset_eval.specs.Tests.{rows_of}
+
+pub unassigned : (release : ReleaseItems) → items_now release UnicodeData ≡ [] → (c : ℕ) → c < point_count → (facts (rows_of release) c).category ≡ Cn
+unassigned release none c below = ap (λ (F : Facts). F.category) (facts_inside (rows_of release) c below) ∙ ap (λ (items : List FileItem). category_in (data_row (rows_in items) c)) none

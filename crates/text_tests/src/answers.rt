@@ -1,0 +1,166 @@
+//! Sets of values by the rows of files, and answers, where no row of UnicodeData.txt stands beside them: every code point
+//! is unassigned.
+
+ghost use Rattle.std.specs.Prelude.{◌≡◌, [], IfOk};
+ghost use Rattle.property_aliases.specs.Found.{AreAliasesOf};
+ghost use Rattle.property_aliases.specs.Sources.{sources_of};
+ghost use Rattle.release_rows.specs.Releases.{items_now};
+ghost use Rattle.ucd_model.specs.declared.category.Category.TheVariants.{Cn};
+ghost use Rattle.ucd_model.specs.declared.files.SourceFile.TheVariants.{UnicodeData};
+
+use crate::members::{are, has_spans};
+use property_aliases::{Aliases, Test};
+use release_rows::Release;
+use std::alloc::Global;
+use std::process::Abort;
+use std::test::Fail;
+use ucd_model::{
+    Category, CoreSet, Image, Kind, Point, Quick, Record, Records, SourceFile, equal_pieces,
+};
+use unicodeset_eval::{SetIndex, TestSets, eval};
+use unicodeset_parser::parse;
+
+/// One record for all code points.
+#[derive(Drop)]
+struct OneRecord {
+    record: Record,
+}
+
+impl Records for OneRecord {
+    ghost use Rattle.ucd_model.specs.Records.{kept_record};
+
+    ghost record_of = { λ bench c. kept_record bench.record };
+
+    fn record(&self, _c: Point) -> &Record {
+        &self.record
+    }
+}
+
+/// The records of unassigned code points, as far as questions ask for them.
+fn unassigned() -> OneRecord
+    ensures { result.record.category ≡ Cn }
+{
+    OneRecord {
+        record: Record {
+            category: Category::Cn,
+            class: 0,
+            kind: Kind::Plain,
+            core: CoreSet::none(),
+            exclusion: false,
+            nfd: Quick::Yes,
+            nfc: Quick::Yes,
+            nfkd: Quick::Yes,
+            nfkc: Quick::Yes,
+            casefold: Image::Same,
+            changes_casefold: false,
+        },
+    }
+}
+
+/// A release with lines of Scripts.txt, WordBreakProperty.txt and PropList.txt as real releases have them.
+fn release(alloc: Global) -> Result<Release, Fail>
+    ensures { IfOk result (λ release. items_now release UnicodeData ≡ []) }
+{
+    let mut release = Release::empty(alloc);
+    release.load_file(
+        SourceFile::Scripts,
+        b"0041..005A ; Latin # L&  [26]\n0370..0373 ; Greek\n0061..007A ; Latin\n",
+    )?;
+    release.load_file(
+        SourceFile::WordBreakProperty,
+        b"# Word_Break\n0022 ; Double_Quote\n0027 ; Single_Quote\n",
+    )?;
+    release.load_file(
+        SourceFile::PropList,
+        b"0009..000D ; White_Space\n0020 ; White_Space\n0020 ; Pattern_White_Space\n10FFFE..10FFFF ; Noncharacter_Code_Point\n",
+    )?;
+    Ok(release)
+}
+
+/// Tests with their sets, by `release`. Number 0 of the scripts is the default, which has what no row covers too; a number
+/// that is not used has no code points. A code point may have two listed properties; those that have not one of them end
+/// with 10FFFF.
+const SETS: [(Test, &[(u32, u32)]); 9] = [
+    (
+        Test::Script(0),
+        &[(0, 0x40), (0x5B, 0x60), (0x7B, 0x36F), (0x374, 0x10_FFFF)],
+    ),
+    (Test::Script(1), &[(0x41, 0x5A), (0x61, 0x7A)]),
+    (Test::Script(2), &[(0x370, 0x373)]),
+    (Test::Script(3), &[]),
+    (Test::WordBreak(2), &[(0x27, 0x27)]),
+    (Test::Listed(0, true), &[(0x9, 0xD), (0x20, 0x20)]),
+    (Test::Listed(1, true), &[(0x20, 0x20)]),
+    (Test::Listed(1, false), &[(0, 0x1F), (0x21, 0x10_FFFF)]),
+    (Test::Listed(2, false), &[(0, 0x10_FFFD)]),
+];
+
+#[test]
+fn tests_have_sets(rt: HostRuntime) -> Result<(), Fail> {
+    let release = release(rt.alloc())?;
+    sets_are_made(&rt, rt.alloc(), &release)
+}
+
+#[tactic(auto, using(crate::proofs::NoRows::unassigned))]
+fn sets_are_made(rt: &impl Abort, alloc: Global, release: &Release) -> Result<(), Fail>
+    requires { items_now release.now UnicodeData ≡ [] }
+{
+    let bench = unassigned();
+    let pieces = equal_pieces(alloc, &bench)?;
+    let index = SetIndex::of(alloc, &bench, pieces.as_slice(), release)?;
+    sets_are_found(rt, alloc, &index)
+}
+
+fn sets_are_found<T: TestSets>(rt: &impl Abort, alloc: Global, index: &T) -> Result<(), Fail> {
+    for (test, expected) in &SETS {
+        let set = index.set_of(alloc, *test)?;
+        assert!(rt; has_spans(alloc, &set, expected)?);
+    }
+    Ok(())
+}
+
+/// Texts with their answers, by `release`.
+const ANSWERS: [(&[u8], &[(u32, u32)]); 3] = [
+    (
+        b"[\\p{sc=Greek}\\p{White_Space}]",
+        &[(0x9, 0xD), (0x20, 0x20), (0x370, 0x373)],
+    ),
+    (
+        b"[\\p{sc=Latin}-\\p{gc=Lu}-[b-z]]",
+        &[(0x41, 0x5A), (0x61, 0x61)],
+    ),
+    (b"\\p{Assigned}", &[]),
+];
+
+#[test]
+fn texts_have_answers(rt: HostRuntime) -> Result<(), Fail> {
+    let release = release(rt.alloc())?;
+    texts_are_answered(&rt, rt.alloc(), &release)
+}
+
+fn texts_are_answered(rt: &impl Abort, alloc: Global, release: &Release) -> Result<(), Fail>
+    requires { items_now release.now UnicodeData ≡ [] }
+{
+    let aliases = Aliases::of(alloc, release)?;
+    'answers: for (text, expected) in &ANSWERS {
+        assert!(rt; is_answer(alloc, release, &aliases, text, expected)?);
+    }
+    Ok(())
+}
+
+/// Whether a text has this answer.
+#[tactic(auto, using(crate::proofs::NoRows::unassigned))]
+fn is_answer(
+    alloc: Global,
+    release: &Release,
+    aliases: &Aliases,
+    text: &[u8],
+    expected: &[(u32, u32)],
+) -> Result<bool, Fail>
+    requires unassigned { items_now release.now UnicodeData ≡ [] }
+    requires aliases { AreAliasesOf aliases.now (sources_of release.now) }
+{
+    let expr = parse(alloc, text)?;
+    let spans = eval(alloc, &unassigned(), release, aliases, &expr)?;
+    are(alloc, &spans, expected)
+}

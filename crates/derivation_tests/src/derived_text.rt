@@ -2,69 +2,111 @@
 //! and for points that the sample leaves out.
 
 use crate::sample::{
-    Sample, excluded, plain, with_checks, with_class, with_core, with_folding, with_kind, with_more,
+    Sample, excluded, plain, with_checks, with_class, with_core, with_folding, with_kind,
 };
 use derived_writer::{file_text, text_over};
+use std::alloc::Global;
+use std::process::Abort;
 use std::test::Fail;
 use ucd_model::{Category, Core, DerivedFile, Kind, Quick, Record, Tag, equal_pieces};
+
+/// A span with its category and the kind of its mappings.
+type Mapped = (u32, u32, Category, Kind);
+
+/// A span of marks with their combining class.
+type Marks = (u32, u32, u8);
+
+fn put_mapped(bench: &mut Sample, spans: &[Mapped]) -> Result<(), Fail> {
+    for (lo, hi, category, kind) in spans {
+        bench.put(*lo, *hi, with_kind(*category, *kind))?;
+    }
+    Ok(())
+}
+
+fn put_marks(bench: &mut Sample, spans: &[Marks]) -> Result<(), Fail> {
+    for (lo, hi, class) in spans {
+        bench.put(*lo, *hi, with_class(*class))?;
+    }
+    Ok(())
+}
+
+/// Whether a file over the records has this text.
+fn has_text(alloc: Global, bench: &Sample, file: DerivedFile, wanted: &[u8]) -> Result<bool, Fail> {
+    let text = file_text(alloc, bench, file)?;
+    Ok(text.as_slice() == wanted)
+}
+
+/// Two records of one category that follow one another are one span.
+const CATEGORIES: [Mapped; 7] = [
+    (0x0000, 0x001F, Category::Cc, Kind::Plain),
+    (0x0041, 0x005A, Category::Lu, Kind::Plain),
+    (0x0061, 0x007A, Category::Ll, Kind::Plain),
+    (0x00C0, 0x00C5, Category::Lu, Kind::Canonical),
+    (0x00C6, 0x00C6, Category::Lu, Kind::Plain),
+    (0x01C5, 0x01C5, Category::Lt, Kind::Plain),
+    (0x10_0000, 0x10_FFFF, Category::Co, Kind::Plain),
+];
+
+const CATEGORY_TEXT: &[u8] =
+    b"# General_Category\n0000..001F ; Cc\n0041..005A ; Lu\n0061..007A ; Ll\n00C0..00C6 ; Lu\n01C5 ; Lt\n100000..10FFFF ; Co\n# total 65628\n\n";
 
 #[test]
 fn categories_up_to_the_last_code_point(rt: HostRuntime) -> Result<(), Fail> {
     let mut bench = Sample::new(rt.alloc());
-    bench.put(0x0000, 0x001F, plain(Category::Cc))?;
-    bench.put(0x0041, 0x005A, plain(Category::Lu))?;
-    bench.put(0x0061, 0x007A, plain(Category::Ll))?;
-    // two records of one category that follow one another are one span
-    bench.put(0x00C0, 0x00C5, with_kind(Category::Lu, Kind::Canonical))?;
-    bench.put(0x00C6, 0x00C6, plain(Category::Lu))?;
-    bench.put(0x01C5, 0x01C5, plain(Category::Lt))?;
-    bench.put(0x10_0000, 0x10_FFFF, plain(Category::Co))?;
-    let text = file_text(rt.alloc(), &bench, DerivedFile::GeneralCategory)?;
-    let wanted =
-        b"# General_Category\n0000..001F ; Cc\n0041..005A ; Lu\n0061..007A ; Ll\n00C0..00C6 ; Lu\n01C5 ; Lt\n100000..10FFFF ; Co\n# total 65628\n\n";
-    assert!(rt; text.as_slice() == wanted.as_slice());
+    put_mapped(&mut bench, &CATEGORIES)?;
+    assert!(rt;
+        has_text(
+            rt.alloc(),
+            &bench,
+            DerivedFile::GeneralCategory,
+            CATEGORY_TEXT
+        )?
+    );
     Ok(())
 }
+
+const CLASSES: [Marks; 5] = [
+    (0x0300, 0x0314, 230),
+    (0x0315, 0x0315, 232),
+    (0x0316, 0x0319, 220),
+    (0x0334, 0x0338, 1),
+    (0x10A0D, 0x10A0D, 220),
+];
+
+const CLASS_TEXT: &[u8] =
+    b"# Canonical_Combining_Class\n0300..0314 ; 230\n0315 ; 232\n0316..0319 ; 220\n0334..0338 ; 1\n10A0D ; 220\n# total 32\n\n";
 
 #[test]
 fn combining_classes_in_decimal(rt: HostRuntime) -> Result<(), Fail> {
     let mut bench = Sample::new(rt.alloc());
-    bench.put(0x0300, 0x0314, with_class(230))?;
-    bench.put(0x0315, 0x0315, with_class(232))?;
-    bench.put(0x0316, 0x0319, with_class(220))?;
-    bench.put(0x0334, 0x0338, with_class(1))?;
-    bench.put(0x10A0D, 0x10A0D, with_class(220))?;
-    let text = file_text(rt.alloc(), &bench, DerivedFile::CombiningClass)?;
-    let wanted =
-        b"# Canonical_Combining_Class\n0300..0314 ; 230\n0315 ; 232\n0316..0319 ; 220\n0334..0338 ; 1\n10A0D ; 220\n# total 32\n\n";
-    assert!(rt; text.as_slice() == wanted.as_slice());
+    put_marks(&mut bench, &CLASSES)?;
+    assert!(rt; has_text(rt.alloc(), &bench, DerivedFile::CombiningClass, CLASS_TEXT)?);
     Ok(())
 }
+
+const MAPPINGS: [Mapped; 5] = [
+    (0x00A0, 0x00A0, Category::Zs, Kind::Compat(Tag::NoBreak)),
+    (0x00C0, 0x00C5, Category::Lu, Kind::Canonical),
+    (0xAC00, 0xD7A3, Category::Lo, Kind::Canonical),
+    (0xFF01, 0xFF60, Category::Po, Kind::Compat(Tag::Wide)),
+    (0xFF61, 0xFFBE, Category::Po, Kind::Compat(Tag::Narrow)),
+];
+
+const MAPPING_TEXT: &[u8] =
+    b"# Decomposition_Type\n00A0 ; noBreak\n00C0..00C5 ; canonical\nAC00..D7A3 ; canonical\nFF01..FF60 ; wide\nFF61..FFBE ; narrow\n# total 11369\n\n";
 
 #[test]
 fn decomposition_types_without_brackets(rt: HostRuntime) -> Result<(), Fail> {
     let mut bench = Sample::new(rt.alloc());
-    bench.put(
-        0x00A0,
-        0x00A0,
-        with_kind(Category::Zs, Kind::Compat(Tag::NoBreak)),
-    )?;
-    bench.put(0x00C0, 0x00C5, with_kind(Category::Lu, Kind::Canonical))?;
-    bench.put(0xAC00, 0xD7A3, with_kind(Category::Lo, Kind::Canonical))?;
-    bench.put(
-        0xFF01,
-        0xFF60,
-        with_kind(Category::Po, Kind::Compat(Tag::Wide)),
-    )?;
-    bench.put(
-        0xFF61,
-        0xFFBE,
-        with_kind(Category::Po, Kind::Compat(Tag::Narrow)),
-    )?;
-    let text = file_text(rt.alloc(), &bench, DerivedFile::DecompositionType)?;
-    let wanted =
-        b"# Decomposition_Type\n00A0 ; noBreak\n00C0..00C5 ; canonical\nAC00..D7A3 ; canonical\nFF01..FF60 ; wide\nFF61..FFBE ; narrow\n# total 11369\n\n";
-    assert!(rt; text.as_slice() == wanted.as_slice());
+    put_mapped(&mut bench, &MAPPINGS)?;
+    assert!(rt;
+        has_text(
+            rt.alloc(),
+            &bench,
+            DerivedFile::DecompositionType,
+            MAPPING_TEXT
+        )?
+    );
     Ok(())
 }
 
@@ -90,63 +132,81 @@ const CORE_TEXT: &[u8] = b"# Math\n002B ; Math\n# total 1\n\n\
       # Grapheme_Base\n002B ; Grapheme_Base\n0041..005A ; Grapheme_Base\n0061..007A ; Grapheme_Base\n037A ; Grapheme_Base\n# total 54\n\n\
       # Grapheme_Link\n094D ; Grapheme_Link\n# total 1\n\n";
 
-/// What the letters of the sample have in common.
-const LETTER: [Core; 5] = [
+/// A code point or a span with its category and its core properties.
+type Letters = (u32, u32, Category, &'static [Core]);
+
+/// `+`, `A` to `Z`, `a` to `z`, GREEK YPOGEGRAMMENI and DEVANAGARI SIGN VIRAMA.
+const LETTERS: [Letters; 5] = [
+    (
+        0x002B,
+        0x002B,
+        Category::Sm,
+        &[Core::Math, Core::GraphemeBase],
+    ),
+    (0x0041, 0x005A, Category::Lu, &CAPITAL),
+    (0x0061, 0x007A, Category::Ll, &SMALL),
+    (0x037A, 0x037A, Category::Lm, &MODIFIER),
+    (0x094D, 0x094D, Category::Mn, &VIRAMA),
+];
+
+const CAPITAL: [Core; 11] = [
     Core::Alphabetic,
     Core::Cased,
     Core::IdStart,
     Core::IdContinue,
     Core::GraphemeBase,
+    Core::Uppercase,
+    Core::ChangesWhenLowercased,
+    Core::ChangesWhenCasefolded,
+    Core::ChangesWhenCasemapped,
+    Core::XidStart,
+    Core::XidContinue,
 ];
 
-fn capital() -> Record {
-    let changes = [
-        Core::Uppercase,
-        Core::ChangesWhenLowercased,
-        Core::ChangesWhenCasefolded,
-        Core::ChangesWhenCasemapped,
-        Core::XidStart,
-        Core::XidContinue,
-    ];
-    with_more(with_core(Category::Lu, &LETTER), &changes)
-}
+const SMALL: [Core; 11] = [
+    Core::Alphabetic,
+    Core::Cased,
+    Core::IdStart,
+    Core::IdContinue,
+    Core::GraphemeBase,
+    Core::Lowercase,
+    Core::ChangesWhenUppercased,
+    Core::ChangesWhenTitlecased,
+    Core::ChangesWhenCasemapped,
+    Core::XidStart,
+    Core::XidContinue,
+];
 
-fn small() -> Record {
-    let changes = [
-        Core::Lowercase,
-        Core::ChangesWhenUppercased,
-        Core::ChangesWhenTitlecased,
-        Core::ChangesWhenCasemapped,
-        Core::XidStart,
-        Core::XidContinue,
-    ];
-    with_more(with_core(Category::Ll, &LETTER), &changes)
-}
+const MODIFIER: [Core; 7] = [
+    Core::Alphabetic,
+    Core::Cased,
+    Core::IdStart,
+    Core::IdContinue,
+    Core::GraphemeBase,
+    Core::Lowercase,
+    Core::CaseIgnorable,
+];
 
-fn virama() -> Record {
-    let properties = [
-        Core::CaseIgnorable,
-        Core::IdContinue,
-        Core::XidContinue,
-        Core::GraphemeExtend,
-        Core::GraphemeLink,
-    ];
-    with_core(Category::Mn, &properties)
+const VIRAMA: [Core; 5] = [
+    Core::CaseIgnorable,
+    Core::IdContinue,
+    Core::XidContinue,
+    Core::GraphemeExtend,
+    Core::GraphemeLink,
+];
+
+fn put_letters(bench: &mut Sample, spans: &[Letters]) -> Result<(), Fail> {
+    for (lo, hi, category, properties) in spans {
+        bench.put(*lo, *hi, with_core(*category, properties))?;
+    }
+    Ok(())
 }
 
 #[test]
 fn all_core_properties(rt: HostRuntime) -> Result<(), Fail> {
     let mut bench = Sample::new(rt.alloc());
-    let plus = with_core(Category::Sm, &[Core::Math, Core::GraphemeBase]);
-    let modifier = with_core(Category::Lm, &LETTER);
-    let modifier = with_more(modifier, &[Core::Lowercase, Core::CaseIgnorable]);
-    bench.put(0x002B, 0x002B, plus)?;
-    bench.put(0x0041, 0x005A, capital())?;
-    bench.put(0x0061, 0x007A, small())?;
-    bench.put(0x037A, 0x037A, modifier)?;
-    bench.put(0x094D, 0x094D, virama())?;
-    let text = file_text(rt.alloc(), &bench, DerivedFile::CoreProperties)?;
-    assert!(rt; text.as_slice() == CORE_TEXT);
+    put_letters(&mut bench, &LETTERS)?;
+    assert!(rt; has_text(rt.alloc(), &bench, DerivedFile::CoreProperties, CORE_TEXT)?);
     Ok(())
 }
 
@@ -161,59 +221,123 @@ const NORMALIZATION_TEXT: &[u8] =
       # NFKC_CF\n0041 ; NFKC_CF ; 0061\n0042 ; NFKC_CF ; 0062\n00A8 ; NFKC_CF ; 0020 0308\n00AD ; NFKC_CF ;\n0340 ; NFKC_CF ; 0300\n0341 ; NFKC_CF ; 0301\n2000..200A ; NFKC_CF ; 0020\n# total 17\n\n\
       # Changes_When_NFKC_Casefolded\n0041..0042 ; Changes_When_NFKC_Casefolded\n00A8 ; Changes_When_NFKC_Casefolded\n00AD ; Changes_When_NFKC_Casefolded\n0340..0341 ; Changes_When_NFKC_Casefolded\n2000..200A ; Changes_When_NFKC_Casefolded\n# total 17\n\n";
 
-#[test]
-fn all_normalization_properties(rt: HostRuntime) -> Result<(), Fail> {
-    let alloc = rt.alloc();
+/// Whether code points are in the forms: those of NFD and NFC, and those of NFKD and NFKC; or no form, since they are
+/// excluded from composition.
+#[derive(Clone, Copy)]
+enum Forms {
+    All,
+    Canonical,
+    Mark,
+    Excluded,
+}
+
+/// A span with its category, what it is folded to, if that is not itself, and its forms.
+type Normal = (u32, u32, Category, Option<&'static [u32]>, Forms);
+
+/// Neighbours with different mappings are two spans, and with one mapping one span, though the records differ.
+const NORMAL: [Normal; 9] = [
+    (0x0041, 0x0041, Category::Lu, Some(&[0x0061]), Forms::All),
+    (0x0042, 0x0042, Category::Lu, Some(&[0x0062]), Forms::All),
+    (
+        0x00A8,
+        0x00A8,
+        Category::Sk,
+        Some(&[0x0020, 0x0308]),
+        Forms::Canonical,
+    ),
+    (0x00AD, 0x00AD, Category::Cf, Some(&[]), Forms::All),
+    (0x0300, 0x0304, Category::Mn, None, Forms::Mark),
+    (
+        0x0340,
+        0x0340,
+        Category::Mn,
+        Some(&[0x0300]),
+        Forms::Excluded,
+    ),
+    (
+        0x0341,
+        0x0341,
+        Category::Mn,
+        Some(&[0x0301]),
+        Forms::Excluded,
+    ),
+    (
+        0x2000,
+        0x2001,
+        Category::Zs,
+        Some(&[0x0020]),
+        Forms::Excluded,
+    ),
+    (
+        0x2002,
+        0x200A,
+        Category::Zs,
+        Some(&[0x0020]),
+        Forms::Canonical,
+    ),
+];
+
+/// A record with the answers of the quick checks.
+fn with_forms(record: Record, forms: Forms) -> Record {
     let (yes, no, maybe) = (Quick::Yes, Quick::No, Quick::Maybe);
-    let mut bench = Sample::new(alloc);
-    // neighbours with different mappings are two spans
-    bench.put(
-        0x0041,
-        0x0041,
-        with_folding(alloc, Category::Lu, &[0x0061])?,
-    )?;
-    bench.put(
-        0x0042,
-        0x0042,
-        with_folding(alloc, Category::Lu, &[0x0062])?,
-    )?;
-    let diaeresis = with_folding(alloc, Category::Sk, &[0x0020, 0x0308])?;
-    bench.put(0x00A8, 0x00A8, with_checks(diaeresis, (yes, yes), (no, no)))?;
-    bench.put(0x00AD, 0x00AD, with_folding(alloc, Category::Cf, &[])?)?;
-    let mark = with_checks(plain(Category::Mn), (yes, maybe), (yes, maybe));
-    bench.put(0x0300, 0x0304, mark)?;
-    let grave = with_folding(alloc, Category::Mn, &[0x0300])?;
-    bench.put(0x0340, 0x0340, excluded(grave))?;
-    let acute = with_folding(alloc, Category::Mn, &[0x0301])?;
-    bench.put(0x0341, 0x0341, excluded(acute))?;
-    // neighbours with one mapping are one span, though the records differ
-    let quad = with_folding(alloc, Category::Zs, &[0x0020])?;
-    bench.put(0x2000, 0x2001, excluded(quad))?;
-    let space = with_folding(alloc, Category::Zs, &[0x0020])?;
-    bench.put(0x2002, 0x200A, with_checks(space, (yes, yes), (no, no)))?;
-    let text = file_text(alloc, &bench, DerivedFile::NormalizationProps)?;
-    assert!(rt; text.as_slice() == NORMALIZATION_TEXT);
+    match forms {
+        Forms::All => record,
+        Forms::Canonical => with_checks(record, (yes, yes), (no, no)),
+        Forms::Mark => with_checks(record, (yes, maybe), (yes, maybe)),
+        Forms::Excluded => excluded(record),
+    }
+}
+
+/// The record of a category and a folding.
+fn folded(alloc: Global, category: Category, to: Option<&[u32]>) -> Result<Record, Fail> {
+    match to {
+        Some(points) => with_folding(alloc, category, points),
+        None => Ok(plain(category)),
+    }
+}
+
+fn put_normal(alloc: Global, bench: &mut Sample, spans: &[Normal]) -> Result<(), Fail> {
+    for (lo, hi, category, to, forms) in spans {
+        let record = folded(alloc, *category, *to)?;
+        bench.put(*lo, *hi, with_forms(record, *forms))?;
+    }
     Ok(())
 }
 
 #[test]
+fn all_normalization_properties(rt: HostRuntime) -> Result<(), Fail> {
+    let mut bench = Sample::new(rt.alloc());
+    put_normal(rt.alloc(), &mut bench, &NORMAL)?;
+    let file = DerivedFile::NormalizationProps;
+    assert!(rt; has_text(rt.alloc(), &bench, file, NORMALIZATION_TEXT)?);
+    Ok(())
+}
+
+/// Files with their texts, over `A` to `Z` and marks.
+const OVER_PIECES: [(DerivedFile, &[u8]); 2] = [
+    (
+        DerivedFile::CombiningClass,
+        b"# Canonical_Combining_Class\n0300..0314 ; 230\n# total 21\n\n",
+    ),
+    (
+        DerivedFile::GeneralCategory,
+        b"# General_Category\n0041..005A ; Lu\n0300..0314 ; Mn\n# total 47\n\n",
+    ),
+];
+
+#[test]
 fn files_over_the_same_pieces(rt: HostRuntime) -> Result<(), Fail> {
     let mut bench = Sample::new(rt.alloc());
-    bench.put(0x0041, 0x005A, plain(Category::Lu))?;
-    bench.put(0x0300, 0x0314, with_class(230))?;
-    let pieces = equal_pieces(rt.alloc(), &bench)?;
-    for (file, wanted) in [
-        (
-            DerivedFile::CombiningClass,
-            b"# Canonical_Combining_Class\n0300..0314 ; 230\n# total 21\n\n".as_slice(),
-        ),
-        (
-            DerivedFile::GeneralCategory,
-            b"# General_Category\n0041..005A ; Lu\n0300..0314 ; Mn\n# total 47\n\n",
-        ),
-    ] {
-        let text = text_over(rt.alloc(), &bench, pieces.as_slice(), file)?;
-        assert!(rt; text.as_slice() == wanted);
+    put_mapped(&mut bench, &[(0x0041, 0x005A, Category::Lu, Kind::Plain)])?;
+    put_marks(&mut bench, &[(0x0300, 0x0314, 230)])?;
+    texts_are_over_pieces(&rt, rt.alloc(), &bench)
+}
+
+fn texts_are_over_pieces(rt: &impl Abort, alloc: Global, bench: &Sample) -> Result<(), Fail> {
+    let pieces = equal_pieces(alloc, bench)?;
+    for (file, wanted) in &OVER_PIECES {
+        let text = text_over(alloc, bench, pieces.as_slice(), *file)?;
+        assert!(rt; text.as_slice() == *wanted);
     }
     Ok(())
 }

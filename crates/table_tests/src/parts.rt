@@ -3,6 +3,8 @@
 ghost use Rattle.std.specs.Prelude.{nat_eq};
 
 use part_list::{Entries, PartList, Reach, Seek, Spanned};
+use std::alloc::Global;
+use std::process::Abort;
 use std::test::Fail;
 
 /// Passes the entries whose first code point is this.
@@ -72,60 +74,127 @@ fn edit(list: &mut PartList<u32>, plain: &mut Vec<u32>, code: u32, how: u32) -> 
     Ok(())
 }
 
-/// The first code points of entries.
-fn codes(rt: HostRuntime, entries: Entries<'_, u32>) -> Result<Vec<u32>, Fail> {
-    let mut codes = Vec::new(rt.alloc());
-    for entry in entries {
-        codes.push(entry.code)?;
+/// Whether these are the first code points of entries.
+fn has_codes(mut entries: Entries<'_, u32>, codes: &[u32]) -> bool {
+    for code in codes {
+        let Some(entry) = entries.next() else {
+            return false;
+        };
+        if entry.code != *code {
+            return false;
+        }
     }
-    Ok(codes)
+    entries.next().is_none()
+}
+
+/// A list, and the plain lists of what it has now and next.
+#[derive(Drop)]
+struct Both {
+    list: PartList<u32>,
+    now: Vec<u32>,
+    next: Vec<u32>,
+}
+
+impl Both {
+    /// Lists of so many entries, each as far behind the one before.
+    fn filled(alloc: Global, count: u32, step: u32) -> Result<Both, Fail> {
+        let mut both = Both {
+            list: PartList::new(alloc),
+            now: Vec::new(alloc),
+            next: Vec::new(alloc),
+        };
+        both.fill(count, step)?;
+        Ok(both)
+    }
+
+    fn fill(&mut self, count: u32, step: u32) -> Result<(), Fail> {
+        for number in 0..count {
+            let code = number.wrapping_mul(step);
+            self.list.push(entry(code))?;
+            self.now.push(code)?;
+            self.next.push(code)?;
+        }
+        Ok(())
+    }
+
+    fn edit(&mut self, code: u32, how: u32) -> Result<(), Fail> {
+        edit(&mut self.list, &mut self.next, code, how)
+    }
+
+    fn commit(&mut self) -> Result<(), Fail> {
+        self.list.commit();
+        self.now.clear();
+        Ok(self.now.extend_from_slice(self.next.as_slice())?)
+    }
+
+    fn discard(&mut self) -> Result<(), Fail> {
+        self.list.discard();
+        self.next.clear();
+        Ok(self.next.extend_from_slice(self.now.as_slice())?)
+    }
+
+    /// Whether the entries next that begin at a code point are those of the plain list.
+    fn has_alone(&self, code: u32) -> bool {
+        let sought = Code { code };
+        let mut passing = self.list.passing(&sought);
+        for number in self.next.as_slice() {
+            if *number == code && !passing.next().is_some_and(|entry| entry.code == code) {
+                return false;
+            }
+        }
+        passing.next().is_none()
+    }
+
+    /// The list has what the plain lists have, now and next.
+    fn agree(&self, rt: &impl Abort) {
+        assert!(rt; has_codes(self.list.entries(), self.now.as_slice()), "now");
+        assert!(rt;
+            has_codes(self.list.next_entries(), self.next.as_slice()),
+            "next"
+        );
+    }
 }
 
 #[test]
 fn edits_at_random(rt: HostRuntime) -> Result<(), Fail> {
-    let mut list = PartList::new(rt.alloc());
-    let mut plain = Vec::new(rt.alloc());
-    for number in 0..1_500u32 {
-        list.push(entry(number))?;
-        plain.push(number)?;
-    }
+    let mut both = Both::filled(rt.alloc(), 1_500, 1)?;
+    edit_at_random(&rt, &mut both)
+}
+
+fn edit_at_random(rt: &impl Abort, both: &mut Both) -> Result<(), Fail> {
     let mut number = 7;
     for _ in 0..20u32 {
-        let mut edited = Vec::from_slice(rt.alloc(), plain.as_slice())?;
         for _ in 0..150u32 {
             number = follows(number);
-            edit(&mut list, &mut edited, number % 1_600, number / 1_600)?;
+            both.edit(number % 1_600, number / 1_600)?;
         }
-        assert_eq!(rt; codes(rt, list.entries())?, plain, "now");
-        assert_eq!(rt; codes(rt, list.next_entries())?, edited, "next");
+        both.agree(rt);
+        assert!(rt; both.has_alone(number % 1_600), "passing");
         if number % 3 == 0 {
-            list.discard();
+            both.discard()?;
         } else {
-            list.commit();
-            plain = edited;
+            both.commit()?;
         }
-        assert_eq!(rt; codes(rt, list.next_entries())?, plain, "after both");
+        both.agree(rt);
     }
     Ok(())
 }
 
 #[test]
 fn a_part_that_grows_is_cut(rt: HostRuntime) -> Result<(), Fail> {
-    let mut list = PartList::new(rt.alloc());
-    let mut plain = Vec::new(rt.alloc());
-    for number in 0..300u32 {
-        list.push(entry(number * 2))?;
-        plain.push(number * 2)?;
-    }
+    let mut both = Both::filled(rt.alloc(), 300, 2)?;
+    grow_a_part(&rt, &mut both)
+}
+
+fn grow_a_part(rt: &impl Abort, both: &mut Both) -> Result<(), Fail> {
     for _ in 0..2u32 {
-        let mut edited = Vec::from_slice(rt.alloc(), plain.as_slice())?;
         for _ in 0..1_300u32 {
-            edit(&mut list, &mut edited, 300, 0)?;
+            both.edit(300, 0)?;
         }
-        assert_eq!(rt; codes(rt, list.entries())?, plain, "now");
-        assert_eq!(rt; codes(rt, list.next_entries())?, edited, "next");
-        list.discard();
-        assert_eq!(rt; codes(rt, list.next_entries())?, plain, "discarded");
+        both.agree(rt);
+        assert!(rt; both.has_alone(301), "passing");
+        both.discard()?;
+        both.agree(rt);
     }
     Ok(())
 }

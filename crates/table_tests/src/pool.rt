@@ -14,31 +14,39 @@ fn a_new_page_has_zeros(rt: HostRuntime) -> Result<(), Fail> {
     Ok(())
 }
 
-#[test]
-fn pages_have_words_of_their_own(rt: HostRuntime) -> Result<(), Fail> {
-    let mut pool = PagePool::new(rt.alloc());
-    pool.reserve(2)?;
+/// Two words of two pages, of which the second is made as a copy of the first.
+fn words_of_two(pool: &mut PagePool) -> Option<([u64; 2], [u64; 2])> {
+    pool.reserve(2).ok()?;
     let one = pool.take();
     let other = pool.take();
     pool.set(one, 65, 7);
     pool.copy(one, other);
     pool.set(one, 65, 8);
     pool.set(other, 255, u64::MAX);
-    assert_eq!(rt; (pool.get(one, 65), pool.get(one, 255)), (8, 0));
-    assert_eq!(rt; (pool.get(other, 65), pool.get(other, 255)), (7, u64::MAX));
-    Ok(())
+    let first = [pool.get(one, 65), pool.get(one, 255)];
+    Some((first, [pool.get(other, 65), pool.get(other, 255)]))
 }
 
 #[test]
-fn a_page_keeps_its_words_until_it_is_given(rt: HostRuntime) -> Result<(), Fail> {
-    let mut pool = PagePool::new(rt.alloc());
-    pool.reserve(1)?;
+fn pages_have_words_of_their_own(rt: HostRuntime) {
+    let words = words_of_two(&mut PagePool::new(rt.alloc()));
+    assert!(rt; words == Some(([8, 0], [7, u64::MAX])));
+}
+
+/// A word of a page before and after the page is given and taken again.
+fn words_of_one(pool: &mut PagePool) -> Option<(u64, u64)> {
+    pool.reserve(1).ok()?;
     let page = pool.take();
     pool.set(page, 3, 9);
-    pool.reserve(5)?;
-    assert_eq!(rt; pool.get(page, 3), 9);
+    pool.reserve(5).ok()?;
+    let before = pool.get(page, 3);
     pool.give(page);
     let again = pool.take();
-    assert_eq!(rt; pool.get(again, 3), 0);
-    Ok(())
+    Some((before, pool.get(again, 3)))
+}
+
+#[test]
+fn a_page_keeps_its_words_until_it_is_given(rt: HostRuntime) {
+    let words = words_of_one(&mut PagePool::new(rt.alloc()));
+    assert!(rt; words == Some((9, 0)));
 }

@@ -3,10 +3,14 @@
 ghost use Rattle.std.specs.Prelude.{◌≡◌, IfOk};
 ghost use Rattle.range_table.specs.Values.{with_span};
 
+use crate::plain::expect;
 use range_table::{RunTable, Stretches, Table};
 use std::alloc::Global;
+use std::process::Abort;
 use std::test::Fail;
 use ucd_model::{Memory, Point, Span};
+
+type Runs = RunTable<u64>;
 
 /// The value of a code point before and after two spans of a new table were set and committed.
 fn two_spans<T: Table<u64>>(
@@ -26,115 +30,159 @@ fn two_spans<T: Table<u64>>(
     Ok((before, table.get(c)))
 }
 
-fn point(number: u32) -> Result<Point, Fail> {
-    Ok(Point::new(number).ok_or("a code point")?)
+fn span(lo: u32, hi: u32) -> Option<Span> {
+    Span::new(Point::new(lo)?, Point::new(hi)?)
 }
 
-fn span(lo: u32, hi: u32) -> Result<Span, Fail> {
-    Ok(Span::new(point(lo)?, point(hi)?).ok_or("a span")?)
+/// What a caller sees at a code point that sets 41 to 5A and then 5A to 60.
+fn seen_by_a_caller<T: Table<u64>>(alloc: Global, number: u32) -> Option<(u64, u64)> {
+    let c = Point::new(number)?;
+    two_spans::<T>(alloc, span(0x41, 0x5A)?, span(0x5A, 0x60)?, c).ok()
 }
 
 #[test]
-fn a_caller_that_knows_only_the_trait(rt: HostRuntime) -> Result<(), Fail> {
+fn a_caller_that_knows_only_the_trait(rt: HostRuntime) {
     for (number, value) in [(0x40, 0), (0x41, 5), (0x5A, 7), (0x60, 7), (0x61, 0)] {
-        let seen = two_spans::<RunTable<u64>>(
-            rt.alloc(),
-            span(0x41, 0x5A)?,
-            span(0x5A, 0x60)?,
-            point(number)?,
-        )?;
-        assert_eq!(rt; seen, (0, value), "at {number:x}");
+        let seen = seen_by_a_caller::<Runs>(rt.alloc(), number);
+        expect(&rt, number, seen, (0, value));
     }
-    Ok(())
 }
+
+/// Prepares spans with their values; whether all were.
+fn are_prepared(table: &mut Runs, spans: &[(u32, u32, u64)]) -> bool {
+    for (lo, hi, value) in spans {
+        let Some(span) = span(*lo, *hi) else {
+            return false;
+        };
+        if table.prepare(span, *value).is_err() {
+            return false;
+        }
+    }
+    true
+}
+
+/// Spans with their values, and how many runs there are when each is committed.
+const COUNTED: [(u32, u32, u64, u64); 11] = [
+    (0x0100, 0x01FF, 5, 3),
+    (0x0041, 0x0041, 7, 5),
+    (0x0000, 0x00FF, 0, 3),
+    // touches an equal run, on either side, and joins two
+    (0x0200, 0x02FF, 5, 3),
+    (0x00F0, 0x00FF, 5, 3),
+    (0x0400, 0x04FF, 5, 5),
+    (0x0300, 0x03FF, 5, 3),
+    // the first and the last code point, the same again, and all
+    (0x0000, 0x0000, 9, 4),
+    (0x10FFFF, 0x10FFFF, 9, 5),
+    (0x10FFFF, 0x10FFFF, 9, 5),
+    (0x0000, 0x10FFFF, 9, 1),
+];
 
 #[test]
 fn runs_are_counted(rt: HostRuntime) -> Result<(), Fail> {
     let mut table = RunTable::filled(rt.alloc(), 0u64)?;
-    assert_eq!(rt; table.runs(), 1);
-    for (lo, hi, value, runs) in [
-        (0x0100, 0x01FF, 5, 3),
-        (0x0041, 0x0041, 7, 5),
-        (0x0000, 0x00FF, 0, 3),
-        // touches an equal run, on either side, and joins two
-        (0x0200, 0x02FF, 5, 3),
-        (0x00F0, 0x00FF, 5, 3),
-        (0x0400, 0x04FF, 5, 5),
-        (0x0300, 0x03FF, 5, 3),
-        // the first and the last code point, the same again, and all
-        (0x0000, 0x0000, 9, 4),
-        (0x10FFFF, 0x10FFFF, 9, 5),
-        (0x10FFFF, 0x10FFFF, 9, 5),
-        (0x0000, 0x10FFFF, 9, 1),
-    ] {
-        table.prepare(span(lo, hi)?, value)?;
-        table.commit();
-        assert_eq!(rt; table.runs(), runs, "after {lo:x} to {hi:x}");
-    }
+    count_runs(&rt, &mut table);
     Ok(())
 }
+
+fn count_runs(rt: &impl Abort, table: &mut Runs) {
+    let first = table.runs() as u64;
+    expect(rt, 0, Some((first, 0)), (1, 0));
+    for (lo, hi, value, runs) in &COUNTED {
+        let prepared = are_prepared(table, &[(*lo, *hi, *value)]);
+        table.commit();
+        let seen = table.runs() as u64;
+        expect(rt, *lo, Some((seen, u64::from(prepared))), (*runs, 1));
+    }
+}
+
+/// The values of a code point, now and next.
+fn values(table: &Runs, number: u32) -> Option<(u64, u64)> {
+    let c = Point::new(number)?;
+    Some((table.get(c), table.get_next(c)))
+}
+
+/// Code points with their values next.
+const VALUES: [(u32, u64); 12] = [
+    (0x0, 0),
+    (0x2F, 0),
+    (0x30, 1),
+    (0x34, 1),
+    (0x35, 3),
+    (0x45, 3),
+    (0x46, 2),
+    (0x5A, 2),
+    (0x5B, 0),
+    (0x0F_FFFF, 0),
+    (0x10_0000, 4),
+    (0x10_FFFF, 4),
+];
 
 #[test]
 fn values_at_the_ends_of_spans(rt: HostRuntime) -> Result<(), Fail> {
     let mut table = RunTable::filled(rt.alloc(), 0u64)?;
-    table.prepare(span(0x30, 0x39)?, 1)?;
-    table.prepare(span(0x41, 0x5A)?, 2)?;
-    table.prepare(span(0x35, 0x45)?, 3)?;
-    table.prepare(span(0x10_0000, 0x10_FFFF)?, 4)?;
-    for (number, value) in [
-        (0x0, 0),
-        (0x2F, 0),
-        (0x30, 1),
-        (0x34, 1),
-        (0x35, 3),
-        (0x45, 3),
-        (0x46, 2),
-        (0x5A, 2),
-        (0x5B, 0),
-        (0x0F_FFFF, 0),
-        (0x10_0000, 4),
-        (0x10_FFFF, 4),
-    ] {
-        assert_eq!(rt; table.get_next(point(number)?), value, "next at {number:x}");
-        assert_eq!(rt; table.get(point(number)?), 0, "now at {number:x}");
-    }
+    look_at_values(&rt, &mut table);
     Ok(())
+}
+
+fn look_at_values(rt: &impl Abort, table: &mut Runs) {
+    let spans = [
+        (0x30, 0x39, 1),
+        (0x41, 0x5A, 2),
+        (0x35, 0x45, 3),
+        (0x10_0000, 0x10_FFFF, 4),
+    ];
+    assert!(rt; are_prepared(table, &spans));
+    for (number, value) in &VALUES {
+        expect(rt, *number, values(table, *number), (0, *value));
+    }
 }
 
 #[test]
 fn what_is_discarded_is_gone(rt: HostRuntime) -> Result<(), Fail> {
-    let c = point(0x41)?;
     let mut table = RunTable::filled(rt.alloc(), 1u64)?;
-    table.prepare(Span::one(c), 2)?;
-    table.commit();
-    table.prepare(Span::one(c), 3)?;
-    table.discard();
-    assert_eq!(rt; (table.get(c), table.get_next(c)), (2, 2));
-    table.commit();
-    assert_eq!(rt; (table.get(c), table.get_next(c)), (2, 2));
+    discard_one(&rt, &mut table);
     Ok(())
 }
+
+fn discard_one(rt: &impl Abort, table: &mut Runs) {
+    assert!(rt; are_prepared(table, &[(0x41, 0x41, 2)]));
+    table.commit();
+    assert!(rt; are_prepared(table, &[(0x41, 0x41, 3)]));
+    table.discard();
+    expect(rt, 0x41, values(table, 0x41), (2, 2));
+    table.commit();
+    expect(rt, 0x41, values(table, 0x41), (2, 2));
+}
+
+/// Where the stretches of a code point end, now and next.
+fn ends(table: &Runs, number: u32) -> Option<(u64, u64)> {
+    let c = Point::new(number)?;
+    let (now, next) = (table.last_of_stretch(c), table.last_of_stretch_next(c));
+    Some((u64::from(now.number()), u64::from(next.number())))
+}
+
+/// Code points with the ends of their stretches, now and next.
+const ENDS: [(u32, (u64, u64)); 5] = [
+    (0x0, (0x40, 0x40)),
+    (0x41, (0x5A, 0x44)),
+    (0x45, (0x5A, 0x45)),
+    (0x46, (0x5A, 0x5A)),
+    (0x5B, (0x10_FFFF, 0x10_FFFF)),
+];
 
 #[test]
 fn stretches_reach_to_the_next_change(rt: HostRuntime) -> Result<(), Fail> {
     let mut table = RunTable::filled(rt.alloc(), 0u64)?;
-    table.prepare(span(0x41, 0x5A)?, 1)?;
-    table.commit();
-    table.prepare(span(0x45, 0x45)?, 2)?;
-    for (number, now, next) in [
-        (0x0, 0x40, 0x40),
-        (0x41, 0x5A, 0x44),
-        (0x45, 0x5A, 0x45),
-        (0x46, 0x5A, 0x5A),
-        (0x5B, 0x10_FFFF, 0x10_FFFF),
-    ] {
-        let c = point(number)?;
-        assert_eq!(rt; table.last_of_stretch(c), point(now)?, "now at {number:x}");
-        assert_eq!(rt;
-            table.last_of_stretch_next(c),
-            point(next)?,
-            "next at {number:x}"
-        );
-    }
+    look_at_stretches(&rt, &mut table);
     Ok(())
+}
+
+fn look_at_stretches(rt: &impl Abort, table: &mut Runs) {
+    assert!(rt; are_prepared(table, &[(0x41, 0x5A, 1)]));
+    table.commit();
+    assert!(rt; are_prepared(table, &[(0x45, 0x45, 2)]));
+    for (number, expected) in &ENDS {
+        expect(rt, *number, ends(table, *number), *expected);
+    }
 }

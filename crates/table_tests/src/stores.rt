@@ -3,7 +3,7 @@
 ghost use Rattle.std.specs.Prelude.{◌≡◌, IfOk};
 ghost use Rattle.range_table.specs.Values.{with_span};
 
-use crate::plain::{Plain, drawn};
+use crate::plain::{Plain, drawn, expect};
 use kept_values::{Kept, Store};
 use range_table::RunTable;
 use std::alloc::Global;
@@ -25,12 +25,8 @@ fn named(number: u64) -> Name
 
 type Names = Kept<RunTable<u64>, Name>;
 
-fn point(number: u32) -> Result<Point, Fail> {
-    Ok(Point::new(number).ok_or("a code point")?)
-}
-
-fn span(lo: u32, hi: u32) -> Result<Span, Fail> {
-    Ok(Span::new(point(lo)?, point(hi)?).ok_or("a span")?)
+fn span(lo: u32, hi: u32) -> Option<Span> {
+    Span::new(Point::new(lo)?, Point::new(hi)?)
 }
 
 /// The value of a code point before and after two spans of a new store were set and committed.
@@ -51,85 +47,121 @@ fn two_spans<S: Store<Name>>(
     Ok((before, store.get(c).number))
 }
 
+/// What a caller sees at a code point that sets 41 to 5A and then 5A to 60.
+fn seen_by_a_caller<S: Store<Name>>(alloc: Global, number: u32) -> Option<(u64, u64)> {
+    let c = Point::new(number)?;
+    two_spans::<S>(alloc, span(0x41, 0x5A)?, span(0x5A, 0x60)?, c).ok()
+}
+
 #[test]
-fn a_caller_that_knows_only_the_trait(rt: HostRuntime) -> Result<(), Fail> {
+fn a_caller_that_knows_only_the_trait(rt: HostRuntime) {
     for (number, value) in [(0x40, 0), (0x41, 5), (0x5A, 7), (0x60, 7), (0x61, 0)] {
-        let seen = two_spans::<Names>(
-            rt.alloc(),
-            span(0x41, 0x5A)?,
-            span(0x5A, 0x60)?,
-            point(number)?,
-        )?;
-        assert_eq!(rt; seen, (0, value), "at {number:x}");
+        let seen = seen_by_a_caller::<Names>(rt.alloc(), number);
+        expect(&rt, number, seen, (0, value));
     }
-    Ok(())
+}
+
+/// Prepares a span with a value; whether it was.
+fn is_prepared(store: &mut Names, lo: u32, hi: u32, value: u64) -> bool {
+    match span(lo, hi) {
+        Some(span) => store.prepare(span, named(value)).is_ok(),
+        None => false,
+    }
+}
+
+/// Holds 5 at a place and gives it to two spans, the first of which then has 6 within; the place.
+fn share(store: &mut Names) -> Option<u64> {
+    let (one, within, other) = (span(0x30, 0x39)?, span(0x35, 0x36)?, span(0x660, 0x669)?);
+    let place = store.hold(named(5)).ok()?;
+    store.prepare_held(one, place).ok()?;
+    store.prepare(within, named(6)).ok()?;
+    store.prepare_held(other, place).ok()?;
+    Some(place)
 }
 
 #[test]
 fn spans_share_a_held_value(rt: HostRuntime) -> Result<(), Fail> {
     let mut store: Names = Kept::filled(rt.alloc(), named(0))?;
-    share(&rt, &mut store)
-}
-
-fn share(rt: &impl Abort, store: &mut Names) -> Result<(), Fail> {
-    let place = store.hold(named(5))?;
-    store.prepare_held(span(0x30, 0x39)?, place)?;
-    store.prepare(span(0x35, 0x36)?, named(6))?;
-    store.prepare_held(span(0x660, 0x669)?, place)?;
-    for (number, value, shares) in [
-        (0x2F, 0, false),
-        (0x30, 5, true),
-        (0x35, 6, false),
-        (0x37, 5, true),
-        (0x669, 5, true),
-        (0x66A, 0, false),
-    ] {
-        let c = point(number)?;
-        let seen = (store.get_next(c).number, store.place_next(c) == place);
-        assert_eq!(rt; seen, (value, shares), "next at {number:x}");
-        let now = (store.get(c).number, store.place(c) == place);
-        assert_eq!(rt; now, (0, false), "now at {number:x}");
-    }
+    let place = share(&mut store).ok_or("a place")?;
+    look_at_shares(&rt, &store, place);
     Ok(())
 }
 
-#[test]
-fn stretches_reach_to_the_next_place(rt: HostRuntime) -> Result<(), Fail> {
-    let mut store: Names = Kept::filled(rt.alloc(), named(0))?;
-    look_at_stretches(&rt, &mut store)
-}
-
-fn look_at_stretches(rt: &impl Abort, store: &mut Names) -> Result<(), Fail> {
-    store.prepare(span(0x41, 0x5A)?, named(1))?;
-    store.commit();
-    store.prepare(span(0x45, 0x45)?, named(2))?;
-    for (number, now, next) in [
-        (0x0, 0x40, 0x40),
-        (0x41, 0x5A, 0x44),
-        (0x45, 0x5A, 0x45),
-        (0x5B, 0x10_FFFF, 0x10_FFFF),
-    ] {
-        let c = point(number)?;
-        let ends = (store.last_of_stretch(c), store.last_of_stretch_next(c));
-        assert_eq!(rt; ends, (point(now)?, point(next)?), "at {number:x}");
-    }
-    Ok(())
-}
-
-/// How many code points are looked at.
-const SHOWN: u32 = 0x180;
-
+/// Code points, with their values next, and whether that is the one that is held.
+const SHARED: [(u32, u64, bool); 6] = [
+    (0x2F, 0, false),
+    (0x30, 5, true),
+    (0x35, 6, false),
+    (0x37, 5, true),
+    (0x669, 5, true),
+    (0x66A, 0, false),
+];
 /// The values of a code point, now and next.
 fn values(store: &Names, number: u32) -> Option<(u64, u64)> {
     let c = Point::new(number)?;
     Some((store.get(c).number, store.get_next(c).number))
 }
 
+/// Whether the value of a code point stands at a place, now and next.
+fn are_at(store: &Names, number: u32, place: u64) -> Option<(u64, u64)> {
+    let c = Point::new(number)?;
+    let (now, next) = (store.place(c) == place, store.place_next(c) == place);
+    Some((u64::from(now), u64::from(next)))
+}
+
+fn look_at_shares(rt: &impl Abort, store: &Names, place: u64) {
+    for (number, value, shares) in &SHARED {
+        expect(rt, *number, values(store, *number), (0, *value));
+        expect(
+            rt,
+            *number,
+            are_at(store, *number, place),
+            (0, u64::from(*shares)),
+        );
+    }
+}
+
+/// Where the stretches of a code point end, now and next.
+fn ends(store: &Names, number: u32) -> Option<(u64, u64)> {
+    let c = Point::new(number)?;
+    let (now, next) = (store.last_of_stretch(c), store.last_of_stretch_next(c));
+    Some((u64::from(now.number()), u64::from(next.number())))
+}
+
+/// Code points with the ends of their stretches, now and next.
+const ENDS: [(u32, (u64, u64)); 4] = [
+    (0x0, (0x40, 0x40)),
+    (0x41, (0x5A, 0x44)),
+    (0x45, (0x5A, 0x45)),
+    (0x5B, (0x10_FFFF, 0x10_FFFF)),
+];
+
+#[test]
+fn stretches_reach_to_the_next_place(rt: HostRuntime) -> Result<(), Fail> {
+    let mut store: Names = Kept::filled(rt.alloc(), named(0))?;
+    look_at_stretches(&rt, &mut store);
+    Ok(())
+}
+
+fn look_at_stretches(rt: &impl Abort, store: &mut Names) {
+    assert!(rt; is_prepared(store, 0x41, 0x5A, 1));
+    store.commit();
+    assert!(rt; is_prepared(store, 0x45, 0x45, 2));
+    for (number, expected) in &ENDS {
+        expect(rt, *number, ends(store, *number), *expected);
+    }
+}
+
+/// How many code points are looked at.
+const SHOWN: u32 = 0x180;
+
 /// Both have the same values, now and next.
 fn agree(rt: &impl Abort, store: &Names, plain: &Plain) {
     for number in 0..SHOWN {
-        let (seen, expected) = (values(store, number), plain.values(number as usize));
-        assert_eq!(rt; (number, seen), (number, expected));
+        let expected = plain
+            .values(number as usize)
+            .unwrap_or((u64::MAX, u64::MAX));
+        expect(rt, number, values(store, number), expected);
     }
 }
 

@@ -1,23 +1,20 @@
 -- Operations, one after the other.
-use Rattle.std.proofs.Common.{◌≡◌, ℕ, ◌+◌, ◌<◌, ◌≤◌, List, ◌∷◌, drop, slice_index_or, length, true, false, Result, Ok, Err, refl, sym, ap, subst, ◌∙◌, arith}
-use Rattle.std.specs.Result.{IsErr, is_err}
+use Rattle.std.proofs.Common.{◌≡◌, ℕ, ◌+◌, ◌<◌, ◌≤◌, List, ◌∷◌, drop, slice_index_or, length, true, false, Result, Ok, Err, OnOk, refl, sym, ap, subst, ◌∙◌}
+use Rattle.std.specs.Result.{is_err}
 use Rattle.std.proofs.lemmas.List.{drop_all, drop_more}
-use Rattle.ucd_model.specs.Facts.{Facts}
-use Rattle.ucd_model.specs.Limits.{point_count}
-use Rattle.ucd_model.specs.Records.{Record, record_at}
 use Rattle.release_rows.specs.FileItems.{FileItem}
 use Rattle.release_rows.specs.Operations.{op_or_rule}
 use Rattle.release_rows.specs.Releases.{ReleaseItems}
 use Rattle.release_rows.specs.declared.key_rule.KeyRule.{KeyRule}
 use Rattle.release_rows.specs.declared.operation.Op.{Op}
-use Rattle.edit_session.specs.Benches.{IsBench}
-use Rattle.edit_session.specs.Groups.{AnswersAs, AppliesAs, CountsAs, after_op, after_ops, changed, checked_files, differing, files_facts, then_ops}
-use Rattle.edit_session.specs.RecordLists.{AreRecords, RecordsOf, SameRecords}
+use Rattle.edit_session.specs.Derivations.{IsNow, IsStill}
+use Rattle.edit_session.specs.Standing.{IsBench}
+use Rattle.edit_session.specs.declared.derivation.Derivation.{Derivation}
+use Rattle.edit_session.specs.Groups.{AnswersAs, AppliesAs, after_op, after_ops, changed, checked_files, files_facts, then_ops}
 use Rattle.edit_session.specs.declared.accepted.Accepted.{Accepted}
 use Rattle.edit_session.specs.declared.apply_stop.ApplyStop.{ApplyStop}
 use Rattle.edit_session.specs.declared.apply_stop.ApplyStop.TheVariants.{Refused as Refuses, Memory}
 use Rattle.edit_session.specs.declared.apply_stop.Refused.{Refused}
-use Rattle.edit_session.proofs.Differing.{differing_same}
 
 abbrev Told : Type 0
 Told = Result (Unit {0}) ApplyStop
@@ -31,6 +28,15 @@ left_more : (files : Files) (start : Result Files Refused) (n : ℕ) (ops : List
 unfolding after_ops
 left_more files start n ops op lt is left =
     ap (λ (o : Op). after_ops files n (o ∷ drop (n + 1) ops)) is ∙ sym (ap (after_ops files n) (drop_more ops n op lt)) ∙ left
+
+-- it is carried out
+pub on_ok : (told : Told) (P : Type 0) → OnOk told P → is_err told ≡ false → P
+on_ok (Ok x) P h e = h
+on_ok (Err stop) P h e = absurd cc
+
+pub not_ok : (told : Told) (P : Type 0) → is_err told ≡ true → OnOk told P
+not_ok (Ok x) P e = absurd cc
+not_ok (Err stop) P e = tt
 
 -- it stops the group
 stops_by : (told : Told) (files : Result Files KeyRule) (next : Files) (n : ℕ) (more : Files → Result Files Refused) (start : Result Files Refused) → is_err told ≡ true
@@ -78,39 +84,19 @@ stopped_before B (Refuses why) (Ok files) next h = absurd h
 stopped_before B (Refuses why) (Err refused) next h = h
 stopped_before B Memory after next h = tt
 
--- ---- the counter
-
-pub counts_done : {A : Type 0} (x : A) (after : Result Files Refused) (next : Files) (old new : ℕ) → AnswersAs (Ok x) after next → new ≤ old + point_count → CountsAs after old new
-counts_done x (Ok files) next old new h k = k
-counts_done x (Err refused) next old new h k = absurd h
-
-pub counts_none : (after : Result Files Refused) (n : ℕ) → CountsAs after n n
-counts_none (Ok files) n = omega arith
-counts_none (Err refused) n = refl
-
-pub counts_within : (after : Result Files Refused) (old new : ℕ) → CountsAs after old new → new ≤ old + point_count
-counts_within (Ok files) old new h = h
-counts_within (Err refused) old new h = omega (arith, h)
-
-pub counts_not : (after : Result Files Refused) (old new : ℕ) → CountsAs after old new → IsErr after → new ≡ old
-counts_not (Ok files) old new h e = absurd cc
-counts_not (Err refused) old new h e = h
-
 -- ---- the group
 
-pub applied : {A : Type 0} (x : A) (accepted : Accepted) (expected : Result Files Refused) (old new : ReleaseItems) (next : Files) (R S : ℕ → Record)
-    → AnswersAs (Ok x) expected next → new ≡ record { current = next; prepared = next } → SameRecords R (record_at (files_facts old.current)) → SameRecords S (record_at (files_facts next))
-    → accepted.changed ≡ differing R S → AppliesAs (Ok accepted) expected old new
-applied x accepted (Ok files) old new next R S h is before after found = (
+pub applied : {A : Type 0} (x : A) (accepted : Accepted) (expected : Result Files Refused) (old new : ReleaseItems) (next : Files)
+    → AnswersAs (Ok x) expected next → new ≡ record { current = next; prepared = next } → accepted.changed ≡ changed (files_facts old.current) (files_facts next) → AppliesAs (Ok accepted) expected old new
+applied x accepted (Ok files) old new next h is found = (
   is ∙ ap (λ (fs : Files). record { current = fs; prepared = fs }) h,
-  found ∙ differing_same R S (record_at (files_facts old.current)) (record_at (files_facts next)) before after
-      ∙ ap (λ (fs : Files). changed (files_facts old.current) (files_facts fs)) h,
+  found ∙ ap (λ (fs : Files). changed (files_facts old.current) (files_facts fs)) h,
 )
-applied x accepted (Err refused) old new next R S h is before after found = absurd h
+applied x accepted (Err refused) old new next h is found = absurd h
 
-pub bench_after : (release : ReleaseItems) (next : Files) (F G : ℕ → Facts) (list : RecordsOf) → release ≡ record { current = next; prepared = next } → F ≡ files_facts next → G ≡ files_facts next → AreRecords list (files_facts next) → IsBench release F G list
-bench_after release next F G list is now also records =
-    subst (λ (r : ReleaseItems). IsBench r F G list) (sym is) (record { still = refl; facts = now; next = also; records = records })
+pub bench_after : (release : ReleaseItems) (next : Files) (d : Derivation) → release ≡ record { current = next; prepared = next } → IsNow (files_facts next) d → IsStill d → IsBench release d
+bench_after release next d is now still =
+    subst (λ (r : ReleaseItems). IsBench r d) (sym is) (record { still = refl; now = now; next = still })
 
 pub not_applied : (A : Type 0) (stop : ApplyStop) (expected : Result Files Refused) (old new : ReleaseItems) (next : Files) → AnswersAs {A = A} (Err stop) expected next → new ≡ old → AppliesAs (Err stop) expected old new
 not_applied A (Refuses why) (Ok files) old new next h same = absurd h

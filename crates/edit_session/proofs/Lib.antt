@@ -1,5 +1,5 @@
-mod RecordSteps
-mod PointRecords
-mod BenchLemmas
-mod Differing
+mod FirstSteps
+mod DerivationLemmas
+mod TouchedLemmas
+mod CountLemmas
 mod GroupLemmas

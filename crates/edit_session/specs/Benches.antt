@@ -1,20 +1,17 @@
--- What a bench holds.
+-- What a bench shows.
 --
--- bench_facts release       the facts of the release's rows now
--- bench_record release c    the record of c that is derived of these facts
--- IsUnbroken release        no code point breaks a rule of a valid release
--- NamesBroken stop F        the stop names the least code point that breaks a rule over the facts F, with its first rule; want of
---                           memory says nothing
+-- bench_facts release          the facts of the release's rows now
+-- bench_record release c       the record of c that is derived of these facts
+-- IsUnbroken release           no code point breaks a rule of a valid release
+-- NamesBroken stop F           the stop names the least code point that breaks a rule over the facts F, with its first rule; want of
+--                              memory says nothing
 -- HasNothingPrepared release   what is next is what is now
--- IsBench release F G list  nothing is prepared in the release; F, the facts now, and G, those next, are the facts of its rows; and
---                           the list has the record of each code point, none of which breaks a rule
 use Rattle.std.specs.Prelude.{◌≡◌, ℕ, Some, None, ⊤}
 use Rattle.ucd_model.specs.Facts.{Facts, facts}
 use Rattle.ucd_model.specs.Records.{Record, record_at}
 use Rattle.ucd_model.specs.Validity.{first_broken}
 use Rattle.release_rows.specs.Releases.{ReleaseItems}
 use Rattle.code_facts.specs.Rows.{release_sources}
-use Rattle.edit_session.specs.RecordLists.{AreRecords, RecordsOf}
 use Rattle.edit_session.specs.declared.open_stop.OpenStop.{OpenStop}
 use Rattle.edit_session.specs.declared.open_stop.OpenStop.TheVariants.{Invalid, Memory}
 
@@ -33,9 +30,3 @@ NamesBroken Memory F = ⊤
 
 abbrev pub HasNothingPrepared : ReleaseItems → Type 0
 HasNothingPrepared release = release.prepared ≡ release.current
-
-pub record IsBench (release : ReleaseItems) (F G : ℕ → Facts) (list : RecordsOf) : Type 0 where
-  pub still : HasNothingPrepared release
-  pub facts : F ≡ bench_facts release
-  pub next : G ≡ bench_facts release
-  pub records : AreRecords list (bench_facts release)

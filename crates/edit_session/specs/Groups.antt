@@ -12,15 +12,19 @@
 --                              least code point that breaks one
 -- differing R S                the code points, ascending, of which the records R and S differ
 -- changed F G                  the code points, ascending, whose records differ over the facts F and G
--- refused_by stop              what the stop of a bench says of a group whose rows are not valid
+-- refused_by stop              what the stop of a turn says of a group whose rows are not valid
+-- HasTouched old new before after   outside of the spans behind, the facts of the rows are the same of both files; and the spans
+--                              behind reach all that those before reach
 -- AnswersAs result expected next   what operations are answered, and the files that are next then: those that are expected; or the
 --                              rule that is expected; want of memory says nothing
--- CountsAs expected old new    the counter rises by at most the number of code points, and not where an operation is refused
+-- CountsAs expected F old new   the counter rises by at most the number of code points that depend on the change from the facts F
+--                              to those of the expected files, and not where an operation is refused
 -- AppliesAs result expected old new   what a group is answered and what it leaves: the files that are expected, now and next, and
 --                              the code points whose records differ; or the rule that is expected, or want of memory, and what was
-use Rattle.std.specs.Prelude.{◌≡◌, ℕ, ◌+◌, ◌≤◌, not, List, [], ◌∷◌, Option, Some, None, Result, Ok, Err, filter}
-use Rattle.std.specs.List.{range_with_len}
-use Rattle.ucd_model.specs.Facts.{Facts, facts}
+use Rattle.std.specs.Prelude.{◌≡◌, ℕ, ◌+◌, false, not, List, [], ◌∷◌, Option, Some, None, Result, Ok, Err, filter}
+use Rattle.std.specs.List.{list_any, range_with_len}
+use Rattle.ucd_model.specs.Bounds.{Bounds}
+use Rattle.ucd_model.specs.Facts.{Facts, facts, within}
 use Rattle.ucd_model.specs.Limits.{point_count}
 use Rattle.ucd_model.specs.Records.{Record, record_at}
 use Rattle.ucd_model.specs.Sameness.{same_record}
@@ -31,8 +35,9 @@ use Rattle.release_rows.specs.Operations.{op_or_rule}
 use Rattle.release_rows.specs.Releases.{ReleaseItems, items_at}
 use Rattle.release_rows.specs.declared.key_rule.KeyRule.{KeyRule}
 use Rattle.release_rows.specs.declared.operation.Op.{Op}
-use Rattle.edit_session.specs.declared.open_stop.OpenStop.{OpenStop}
-use Rattle.edit_session.specs.declared.open_stop.OpenStop.TheVariants.{Invalid, Memory as Lacking}
+use Rattle.rederivation.specs.Turned.{CountsWithin}
+use Rattle.rederivation.specs.declared.again_stop.AgainStop.{AgainStop}
+use Rattle.rederivation.specs.declared.again_stop.AgainStop.TheVariants.{Broken as Breaks, Memory as Lacking}
 use Rattle.edit_session.specs.declared.accepted.Accepted.{Accepted}
 use Rattle.edit_session.specs.declared.apply_stop.ApplyStop.{ApplyStop}
 use Rattle.edit_session.specs.declared.apply_stop.ApplyStop.TheVariants.{Refused as Refuses, Memory}
@@ -58,6 +63,10 @@ unfoldable pub after_ops : List (List FileItem) → ℕ → List Op → Result (
 after_ops files n [] = Ok files
 after_ops files n (op ∷ ops) = then_ops (n + 1) (op_or_rule files op) (λ next. after_ops next (n + 1) ops)
 
+pub record HasTouched (old new : List (List FileItem)) (before after : List Bounds) : Type 0 where
+  pub stays : (c : ℕ) → list_any (within c) after ≡ false → files_facts new c ≡ files_facts old c
+  pub grows : (c : ℕ) → list_any (within c) after ≡ false → list_any (within c) before ≡ false
+
 -- ---- the group
 
 abbrev pub valid_files : List (List FileItem) → Option Broken → Result (List (List FileItem)) Refused
@@ -81,8 +90,8 @@ changed F G = differing (record_at F) (record_at G)
 
 -- ---- what it is answered
 
-abbrev pub refused_by : OpenStop → ApplyStop
-refused_by (Invalid rule point) = Refuses (Valid rule point)
+abbrev pub refused_by : AgainStop → ApplyStop
+refused_by (Breaks rule point) = Refuses (Valid rule point)
 refused_by Lacking = Memory
 
 abbrev pub AnswersAs : {A : Type 0} → Result A ApplyStop → Result (List (List FileItem)) Refused → List (List FileItem) → Type 0
@@ -91,9 +100,9 @@ AnswersAs (Err (Refuses why)) (Err refused) next = why ≡ refused
 AnswersAs (Err Memory) expected next = Unit {0}
 AnswersAs _ _ next = ⊥
 
-abbrev pub CountsAs : Result (List (List FileItem)) Refused → ℕ → ℕ → Type 0
-CountsAs (Ok files) old new = new ≤ old + point_count
-CountsAs (Err refused) old new = new ≡ old
+abbrev pub CountsAs : Result (List (List FileItem)) Refused → (ℕ → Facts) → ℕ → ℕ → Type 0
+CountsAs (Ok files) F old new = CountsWithin F (files_facts files) old new
+CountsAs (Err refused) F old new = new ≡ old
 
 abbrev pub AppliesAs : Result Accepted ApplyStop → Result (List (List FileItem)) Refused → ReleaseItems → ReleaseItems → Type 0
 AppliesAs (Ok accepted) (Ok files) old new = (new ≡ record { current = files; prepared = files }) × (accepted.changed ≡ changed (files_facts old.current) (files_facts files))

@@ -1,4 +1,6 @@
-pub mod RecordLists
-pub mod Groups
+pub mod FirstRecords
 pub mod Benches
-pub mod Changes
+pub mod Derivations
+pub mod Groups
+pub mod Standing
+pub mod CountProofs

@@ -2,7 +2,7 @@
 
 ghost use Rattle.std.specs.Prelude.{◌≡◌};
 
-use crate::open_stop::OpenStop;
+use rederivation::AgainStop;
 use release_rows::KeyRule;
 use ucd_model::{Bad, Memory, Point};
 
@@ -45,16 +45,16 @@ impl From<Memory> for ApplyStop {
     }
 }
 
-/// A release that is not valid refuses the group.
-impl From<OpenStop> for ApplyStop {
+/// Facts that are not valid refuse the group.
+impl From<AgainStop> for ApplyStop {
     ghost use Rattle.edit_session.specs.Groups.{refused_by};
 
     ghost from_gives = { λ stop e. e ≡ refused_by stop };
 
-    fn from(stop: OpenStop) -> ApplyStop {
+    fn from(stop: AgainStop) -> ApplyStop {
         match stop {
-            OpenStop::Invalid { rule, point } => ApplyStop::Refused(Refused::Valid { rule, point }),
-            OpenStop::Memory => ApplyStop::Memory,
+            AgainStop::Broken { rule, point } => ApplyStop::Refused(Refused::Valid { rule, point }),
+            AgainStop::Memory => ApplyStop::Memory,
         }
     }
 }

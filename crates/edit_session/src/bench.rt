@@ -3,21 +3,20 @@
 ghost use Rattle.std.specs.Prelude.{◌≡◌, ◌≢◌, ℕ, ◌+◌, ◌<◌, ◌≤◌, length, IfOk, IfErr, OnOk};
 ghost use Rattle.std.specs.List.{All};
 ghost use Rattle.std.specs.Result.{IsErr};
-ghost use Rattle.code_facts.specs.FactTables.{tables_facts, tables_next};
-ghost use Rattle.range_table.specs.RunTable.{values_now};
+ghost use Rattle.code_facts.specs.FactTables.{tables_facts};
+ghost use Rattle.paged_table.specs.Paged.{values_now};
 ghost use Rattle.release_rows.specs.Operations.{IsOp};
 ghost use Rattle.ucd_model.specs.Limits.{point_count};
-ghost use Rattle.edit_session.specs.Benches.{bench_facts, bench_record, HasNothingPrepared, IsBench, IsUnbroken, NamesBroken};
-ghost use Rattle.edit_session.specs.Groups.{AppliesAs, after_ops, group_answer, group_limit};
+ghost use Rattle.edit_session.specs.Benches.{bench_facts, bench_record, HasNothingPrepared, IsUnbroken, NamesBroken};
+ghost use Rattle.edit_session.specs.Groups.{AppliesAs, CountsAs, after_ops, group_answer, group_limit};
 
 use crate::accepted::Accepted;
 use crate::apply_stop::ApplyStop;
-use crate::derivation::{Derivation, derive_now};
-use crate::group::{Turn, prepare_group};
+use crate::derivation::Derivation;
+use crate::group::apply_group;
 use crate::open_stop::OpenStop;
-use crate::record_table::RecordTable;
 use code_facts::FactTables;
-use range_table::RunTable;
+use paged_table::PagedTable;
 use release_rows::{Op, Release};
 use std::alloc::Global;
 use std::marker::Model;
@@ -25,26 +24,23 @@ use std::sync::ledger::Ledger;
 use ucd_model::{FactView, FactsRef, Kind, Point, Record, Records, Steps};
 use uniform_facts::UniformFacts;
 
-/// A valid release, with the facts of its rows and the records of all code points. Contracts see the items of its
-/// files, which give the facts and the records.
+/// A valid release, with the facts of its rows, the records of all code points and what each of them asks. Contracts see
+/// the items of its files, which give the facts and the records.
 #[derive(Drop)]
 pub struct Bench {
     release: Release,
-    tables: FactTables<RunTable<u64>>,
-    records: RecordTable,
+    derivation: Box<Derivation>,
 }
 
 impl Model for Bench {
-    ghost use Rattle.code_facts.specs.FactTables.{tables_facts, tables_next};
-    ghost use Rattle.range_table.specs.RunTable.{values_now};
     ghost use Rattle.release_rows.specs.Releases.{ReleaseItems};
-    ghost use Rattle.edit_session.specs.Benches.{IsBench};
+    ghost use Rattle.edit_session.specs.Standing.{IsBench};
 
     ghost Value = { ReleaseItems };
 
     ghost view = { λ b. b.release };
 
-    ghost invariant = { λ b. IsBench b.release (tables_facts values_now b.tables) (tables_next values_now b.tables) b.records };
+    ghost invariant = { λ b. IsBench b.release b.derivation.value };
 }
 
 impl Bench {
@@ -67,19 +63,18 @@ impl Bench {
         ensures invalid { IfErr result (λ stop. NamesBroken stop (bench_facts release)) }
         ensures steps { steps.new ≤ steps.old + point_count }
     {
-        match derive_now(alloc, &release, steps) {
-            Ok(Derivation { tables, records }) => Ok(Bench {
+        match Derivation::of(alloc, &release, steps) {
+            Ok(derivation) => Ok(Bench {
                 release,
-                tables,
-                records,
+                derivation,
             }),
             Err(stop) => Err(stop),
         }
     }
 
     /// Carries the operations of a group out, in order, or none of them. The rows between two operations need not be
-    /// valid; those after the last one are. The counter of steps rises by at most the number of code points, and not
-    /// if an operation is refused.
+    /// valid; those after the last one are. The counter of steps rises by at most the number of code points that depend
+    /// on the change, and not if an operation is refused: no other code point is derived.
     ///
     /// - `Refused(Key { rule, op })`: the first operation that breaks a rule on keys or spans, counted from 1.
     /// - `Refused(Valid { rule, point })`: the rows after the last operation are not valid. The least code point that
@@ -96,27 +91,11 @@ impl Bench {
         requires operations { All IsOp group.now }
         requires few { length group.now ≤ group_limit }
         ensures answer { AppliesAs result (group_answer self.old.current group.now) self.old self.new }
+        ensures counted { CountsAs (after_ops self.old.current 0 group.now) (bench_facts self.old) steps.old steps.new }
         ensures steps { steps.new ≤ steps.old + point_count }
         ensures uncounted { IsErr (after_ops self.old.current 0 group.now) → steps.new ≡ steps.old }
     {
-        let release = &mut self.release;
-        match prepare_group(alloc, release, &self.records, group, steps) {
-            Ok(
-                Turn {
-                    derivation: Derivation { tables, records },
-                    changed,
-                },
-            ) => {
-                self.release.commit();
-                self.tables = tables;
-                self.records = records;
-                Ok(Accepted { changed })
-            }
-            Err(stop) => {
-                self.release.discard();
-                Err(stop)
-            }
-        }
+        apply_group(alloc, &mut self.release, &mut self.derivation, group, steps)
     }
 
     /// The last code point of the stretch of equal records that `c` lies in. It takes time by the logarithm of the
@@ -126,7 +105,7 @@ impl Bench {
         ensures same { (d : ℕ) → c ≤ d → d ≤ result → bench_record self.now d ≡ bench_record self.now c }
         ensures ends { result + 1 < point_count → bench_record self.now (result + 1) ≢ bench_record self.now c }
     {
-        self.records.last_alike(c)
+        self.derivation.records.last_alike(c)
     }
 
     /// The release, which is valid.
@@ -137,13 +116,21 @@ impl Bench {
     {
         &self.release
     }
+
+    /// The tables of the facts of its rows.
+    pub fn tables(&self) -> &FactTables<PagedTable>
+        ensures { tables_facts values_now result.now ≡ bench_facts self.now }
+    {
+        &self.derivation.tables
+    }
 }
 
 impl Records for Bench {
     ghost record_of = { bench_record };
 
     fn record(&self, c: Point) -> &Record {
-        self.records.record(c)
+        let _number = c.number();
+        self.derivation.records.record(c)
     }
 }
 
@@ -151,37 +138,37 @@ impl FactView for Bench {
     ghost facts_of = { bench_facts };
 
     fn facts(&self, c: Point) -> FactsRef<'_> {
-        self.tables.facts(c)
+        self.derivation.tables.facts(c)
     }
 
     fn pair(&self, s: Point, y: Point) -> Option<Point> {
-        self.tables.pair(s, y)
+        self.derivation.tables.pair(s, y)
     }
 
     fn second(&self, y: Point) -> bool {
-        self.tables.second(y)
+        self.derivation.tables.second(y)
     }
 
     fn is_assigned(&self, c: Point) -> bool {
-        self.tables.is_assigned(c)
+        self.derivation.tables.is_assigned(c)
     }
 
     fn class(&self, c: Point) -> u8 {
-        self.tables.class(c)
+        self.derivation.tables.class(c)
     }
 
     fn kind(&self, c: Point) -> Kind {
-        self.tables.kind(c)
+        self.derivation.tables.kind(c)
     }
 
     fn mapping(&self, c: Point) -> &[Point] {
-        self.tables.mapping(c)
+        self.derivation.tables.mapping(c)
     }
 }
 
 impl UniformFacts for Bench {
     fn last_uniform(&self, c: Point) -> Point {
-        match self.tables.last_uniform(c) {
+        match self.derivation.tables.last_uniform(c) {
             Some(last) => last,
             None => c,
         }

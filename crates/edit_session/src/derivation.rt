@@ -1,96 +1,187 @@
-//! What is derived of the rows of a release, now or next.
+//! What is derived of the facts of a release, now and next.
 
-ghost use Rattle.std.specs.Prelude.{◌≡◌, ℕ, ◌+◌, ◌<◌, ◌≤◌, true, IfOk, IfErr};
+ghost use Rattle.std.specs.Prelude.{◌≡◌, ℕ, ◌+◌, ◌≤◌, false, Ok, IfOk, IfErr, OnOk};
 ghost use Rattle.std.specs.List.{list_any};
+ghost use Rattle.asked_queries.specs.Turns.{KeepsAsked};
 ghost use Rattle.code_facts.specs.FactTables.{tables_facts, tables_next};
-ghost use Rattle.range_table.specs.RunTable.{values_now};
-ghost use Rattle.ucd_model.specs.Facts.{within};
+ghost use Rattle.dependency_map.specs.Maps.{asked_at};
+ghost use Rattle.kept_values.specs.Kept.{values};
+ghost use Rattle.paged_table.specs.Paged.{values_next, values_now};
+ghost use Rattle.range_table.specs.Values.{SameValues};
+ghost use Rattle.record_list.specs.Runs.{record_of};
+ghost use Rattle.rederivation.specs.Turned.{CountsWithin};
+ghost use Rattle.ucd_model.specs.Facts.{Facts, within};
 ghost use Rattle.ucd_model.specs.Limits.{point_count};
+ghost use Rattle.ucd_model.specs.Records.{record_at};
+ghost use Rattle.ucd_model.specs.ValidityLaws.{IsValid};
 ghost use Rattle.edit_session.specs.Benches.{bench_facts, NamesBroken};
-ghost use Rattle.edit_session.specs.Groups.{files_facts};
-ghost use Rattle.edit_session.specs.RecordLists.{AreRecords};
+ghost use Rattle.edit_session.specs.Derivations.{IsNext, IsNow, IsStill};
+ghost use Rattle.edit_session.specs.FirstRecords.{SameRecords};
+ghost use Rattle.edit_session.specs.declared.open_stop.OpenStop.TheVariants.{Memory as Lacking};
+ghost use Rattle.edit_session.specs.Groups.{AnswersAs, changed, checked_files, files_facts};
 
+use crate::apply_stop::ApplyStop;
+use crate::first_points::{QuestionMap, derive_all};
 use crate::open_stop::OpenStop;
-use crate::record_table::{RecordTable, point_at};
 use code_facts::FactTables;
-use range_table::RunTable;
+use dependency_map::DependencyMap;
+use paged_table::PagedTable;
+use record_list::RecordTable;
+use rederivation::turn;
 use release_rows::Release;
 use std::alloc::Global;
 use std::sync::ledger::Ledger;
-use ucd_model::{Memory, Point, Span, Spans, Steps};
+use ucd_model::{Points, Spans, Steps};
 
-/// The facts of rows, and the records that are derived of them.
+/// The facts of a release, the records that are derived of them, and what each code point asks of them; now and next.
 #[derive(Drop)]
 pub struct Derivation {
-    /// The facts; next they are the same.
-    pub tables: FactTables<RunTable<u64>>,
+    /// The facts.
+    pub tables: FactTables<PagedTable>,
     /// The records of all code points.
     pub records: RecordTable,
+    /// What they ask.
+    pub map: QuestionMap,
 }
 
-/// What is derived of the rows of a release now.
-pub fn derive_now<L: Ledger>(
+impl Derivation {
+    /// What is derived of the rows of a release now; next it is the same. UAX #44, section 5.3.
+    ///
+    /// - `Invalid { rule, point }`: a code point breaks a rule of a valid release: the least one, with its first rule.
+    /// - `Memory`: memory ran out.
+    pub fn of<L: Ledger>(
+        alloc: Global,
+        release: &Release,
+        steps: &mut Steps<L>,
+    ) -> Result<Box<Derivation>, OpenStop>
+        ensures now { IfOk result (λ made. IsNow (bench_facts release.now) made.value) }
+        ensures still { IfOk result (λ made. IsStill made.value) }
+        ensures invalid { IfErr result (λ stop. NamesBroken stop (bench_facts release.now)) }
+        ensures steps { steps.new ≤ steps.old + point_count }
+    {
+        let tables = FactTables::<PagedTable>::of(alloc, release)?;
+        match derive_over(alloc, tables, steps) {
+            Ok(made) => boxed(alloc, made),
+            Err(stop) => Err(stop),
+        }
+    }
+
+    /// Makes what is next that of the rows of a release next, and answers the code points whose records differ,
+    /// ascending. Only the code points that depend on the change are derived, and counted.
+    ///
+    /// - `Refused(Valid { rule, point })`: the rows next are not valid. The least code point that breaks a rule is named,
+    ///   with its first rule.
+    /// - `Memory`: memory ran out.
+    ///
+    /// After either, some of what is next may be prepared.
+    pub fn turn_to<L: Ledger>(
+        &mut self,
+        alloc: Global,
+        release: &Release,
+        touched: &Spans,
+        steps: &mut Steps<L>,
+    ) -> Result<Points, ApplyStop>
+        requires now { IsNow (files_facts release.now.current) self.old }
+        requires still { IsStill self.old }
+        requires touched { (c : ℕ) → list_any (within c) touched.now ≡ false
+            → files_facts release.now.prepared c ≡ files_facts release.now.current c }
+        ensures answer { AnswersAs result (checked_files (Ok release.now.prepared)) release.now.prepared }
+        ensures now { (F : ℕ → Facts) → IsNow F self.old → IsNow F self.new }
+        ensures next { OnOk result (IsNext (files_facts release.now.prepared) self.new) }
+        ensures changed { IfOk result (λ points. points ≡ changed (files_facts release.now.current) (files_facts release.now.prepared)) }
+        ensures steps { CountsWithin (files_facts release.now.current) (files_facts release.now.prepared) steps.old steps.new }
+    {
+        self.tables.prepare(alloc, release, touched)?;
+        let queries = self.tables.queries_changed(alloc)?;
+        let view = self.tables.next();
+        match turn(
+            alloc,
+            &view,
+            &queries,
+            &mut self.records,
+            &mut self.map,
+            steps,
+        ) {
+            Ok(changed) => Ok(changed),
+            Err(stop) => Err(ApplyStop::from(stop)),
+        }
+    }
+
+    /// What is next becomes now, and stays next. It takes no memory.
+    pub fn commit(&mut self)
+        ensures committed { (F : ℕ → Facts) → IsNext F self.old → IsNow F self.new }
+        ensures still { IsStill self.new }
+    {
+        self.tables.commit();
+        self.records.commit();
+        self.map.commit();
+    }
+
+    /// What is now becomes next. It takes no memory.
+    pub fn discard(&mut self)
+        ensures now { (F : ℕ → Facts) → IsNow F self.old → IsNow F self.new }
+        ensures still { IsStill self.new }
+    {
+        self.tables.discard();
+        self.records.discard();
+        self.map.discard();
+    }
+}
+
+/// What is derived, in a box: it is let go of as one.
+///
+/// - `Memory`: memory ran out.
+fn boxed(alloc: Global, made: Derivation) -> Result<Box<Derivation>, OpenStop>
+    ensures ok { IfOk result (λ boxed. boxed.value ≡ made) }
+    ensures err { IfErr result (λ stop. stop ≡ Lacking) }
+{
+    match Box::new(alloc, made) {
+        Ok(boxed) => Ok(boxed),
+        Err(_) => Err(OpenStop::Memory),
+    }
+}
+
+/// What is derived of the facts that tables have now.
+fn derive_over<L: Ledger>(
     alloc: Global,
-    release: &Release,
+    tables: FactTables<PagedTable>,
     steps: &mut Steps<L>,
 ) -> Result<Derivation, OpenStop>
-    ensures now { IfOk result (λ made. tables_facts values_now made.tables ≡ bench_facts release.now) }
-    ensures next { IfOk result (λ made. tables_next values_now made.tables ≡ bench_facts release.now) }
-    ensures records { IfOk result (λ made. AreRecords made.records (bench_facts release.now)) }
-    ensures invalid { IfErr result (λ stop. NamesBroken stop (bench_facts release.now)) }
+    requires { tables_next values_now tables ≡ tables_facts values_now tables }
+    ensures now { IfOk result (λ made. IsNow (tables_facts values_now tables) made) }
+    ensures still { IfOk result (λ made. IsStill made) }
+    ensures invalid { IfErr result (λ stop. NamesBroken stop (tables_facts values_now tables)) }
     ensures steps { steps.new ≤ steps.old + point_count }
 {
-    let tables = FactTables::<RunTable<u64>>::of(alloc, release)?;
-    match RecordTable::of(alloc, &tables, steps) {
-        Ok(records) => Ok(Derivation { tables, records }),
+    match derive_anew(alloc, &tables, steps) {
+        Ok((records, map)) => Ok(Derivation {
+            tables,
+            records,
+            map,
+        }),
         Err(stop) => Err(stop),
     }
 }
 
-/// What is derived of the rows of a release next.
-pub fn derive_next<L: Ledger>(
+/// The records that are derived of the facts that tables have now, and what the code points ask.
+fn derive_anew<L: Ledger>(
     alloc: Global,
-    release: &Release,
+    tables: &FactTables<PagedTable>,
     steps: &mut Steps<L>,
-) -> Result<Derivation, OpenStop>
-    ensures now { IfOk result (λ made. tables_facts values_now made.tables ≡ files_facts release.now.prepared) }
-    ensures next { IfOk result (λ made. tables_next values_now made.tables ≡ files_facts release.now.prepared) }
-    ensures records { IfOk result (λ made. AreRecords made.records (files_facts release.now.prepared)) }
-    ensures invalid { IfErr result (λ stop. NamesBroken stop (files_facts release.now.prepared)) }
+) -> Result<(RecordTable, QuestionMap), OpenStop>
+    ensures valid { OnOk result (IsValid (tables_facts values_now tables.now)) }
+    ensures records { IfOk result (λ made. SameRecords (record_of made.0.current) (record_at (tables_facts values_now tables.now))) }
+    ensures asked { IfOk result (λ made. KeepsAsked (asked_at (values values_now) made.1) (tables_facts values_now tables.now)) }
+    ensures still { IfOk result (λ made. SameValues (asked_at (values values_next) made.1) (asked_at (values values_now) made.1)) }
+    ensures invalid { IfErr result (λ stop. NamesBroken stop (tables_facts values_now tables.now)) }
     ensures steps { steps.new ≤ steps.old + point_count }
 {
-    let tables = next_tables(alloc, release)?;
-    match RecordTable::of(alloc, &tables, steps) {
-        Ok(records) => Ok(Derivation { tables, records }),
-        Err(stop) => Err(stop),
-    }
-}
-
-/// The facts of the rows of a release next, in tables of their own.
-fn next_tables(alloc: Global, release: &Release) -> Result<FactTables<RunTable<u64>>, Memory>
-    ensures now { IfOk result (λ tables. tables_facts values_now tables ≡ files_facts release.now.prepared) }
-    ensures next { IfOk result (λ tables. tables_next values_now tables ≡ files_facts release.now.prepared) }
-{
-    let all = all_points(alloc)?;
-    let none = Release::empty(alloc);
-    let mut tables = FactTables::<RunTable<u64>>::of(alloc, &none)?;
-    match tables.prepare(alloc, release, &all) {
-        Ok(()) => {
-            tables.commit();
-            Ok(tables)
+    let mut map = DependencyMap::new(alloc);
+    match derive_all(alloc, tables, &mut map, steps) {
+        Ok(records) => {
+            map.commit();
+            Ok((records, map))
         }
         Err(stop) => Err(stop),
     }
-}
-
-/// The span of all code points, alone.
-fn all_points(alloc: Global) -> Result<Spans, Memory>
-    ensures { IfOk result (λ spans. (c : ℕ) → c < 1114112 → list_any (within c) spans ≡ true) }
-{
-    let mut spans = Spans::new(alloc);
-    spans.push(Span {
-        lo: point_at(0),
-        hi: point_at(Point::COUNT - 1),
-    })?;
-    Ok(spans)
 }

@@ -1,65 +1,94 @@
 //! A group of operations, up to where nothing can fail any more.
 
-ghost use Rattle.std.specs.Prelude.{◌≡◌, ◌+◌, ◌<◌, ◌≤◌, length, Ok, IfOk, IfErr};
+ghost use Rattle.std.specs.Prelude.{◌≡◌, ℕ, ◌≤◌, length, IfOk, OnOk};
 ghost use Rattle.std.specs.List.{All};
-ghost use Rattle.code_facts.specs.FactTables.{tables_facts, tables_next};
-ghost use Rattle.range_table.specs.RunTable.{values_now};
-ghost use Rattle.release_rows.specs.Operations.{IsOp, op_or_rule};
-ghost use Rattle.edit_session.specs.Groups.{AnswersAs, CountsAs, after_op, after_ops, checked_files, differing, files_facts, group_answer, group_limit};
-ghost use Rattle.edit_session.specs.RecordLists.{AreRecords, record_of};
-ghost use Rattle.edit_session.specs.declared.apply_stop.ApplyStop.TheVariants.{Memory};
-ghost use Rattle.ucd_model.specs.Limits.{point_count};
+ghost use Rattle.release_rows.specs.Operations.{IsOp};
+ghost use Rattle.ucd_model.specs.Facts.{Facts};
+ghost use Rattle.edit_session.specs.Benches.{HasNothingPrepared, bench_facts};
+ghost use Rattle.edit_session.specs.Derivations.{IsNext, IsNow, IsStill};
+ghost use Rattle.edit_session.specs.Standing.{IsBench};
+ghost use Rattle.edit_session.specs.Groups.{AnswersAs, AppliesAs, CountsAs, HasTouched, after_op, after_ops, changed, files_facts, group_answer, group_limit};
 
+use crate::accepted::Accepted;
 use crate::apply_stop::{ApplyStop, Refused};
-use crate::derivation::{Derivation, derive_next};
-use crate::record_table::RecordTable;
-use release_rows::{Op, OpStop, Release};
+use crate::derivation::Derivation;
+use code_facts::laws::facts_stay;
+use release_rows::{Op, OpStop, Release, rows_stay};
 use std::alloc::Global;
 use std::sync::ledger::Ledger;
-use ucd_model::{Points, Steps};
+use ucd_model::{Points, Spans, Steps};
 
-/// What a group gives once its operations are carried out.
-#[derive(Drop)]
-pub struct Turn {
-    /// What is derived of the rows next.
-    pub derivation: Derivation,
-    /// The code points whose records differ, ascending.
-    pub changed: Points,
-}
-
-/// Carries the operations out on what is prepared, and derives what their rows give. It is the part of a group that can
-/// fail.
-pub fn prepare_group<L: Ledger>(
+/// Carries the operations out on a release and on what is derived of it, or leaves both as they are.
+///
+/// - `Refused(why)`: an operation or the rows after all break a rule.
+/// - `Memory`: memory ran out.
+pub fn apply_group<L: Ledger>(
     alloc: Global,
     release: &mut Release,
-    records: &RecordTable,
+    derivation: &mut Derivation,
     group: &[Op],
     steps: &mut Steps<L>,
-) -> Result<Turn, ApplyStop>
+) -> Result<Accepted, ApplyStop>
     requires operations { All IsOp group.now }
     requires few { length group.now ≤ group_limit }
-    ensures now { release.new.current ≡ release.old.current }
-    ensures answer { AnswersAs result (group_answer release.old.prepared group.now) release.new.prepared }
-    ensures facts_now { IfOk result (λ turn. tables_facts values_now turn.derivation.tables ≡ files_facts release.new.prepared) }
-    ensures facts_next { IfOk result (λ turn. tables_next values_now turn.derivation.tables ≡ files_facts release.new.prepared) }
-    ensures records { IfOk result (λ turn. AreRecords turn.derivation.records (files_facts release.new.prepared)) }
-    ensures changed { IfOk result (λ turn. turn.changed ≡ differing (record_of records.now) (record_of turn.derivation.records)) }
-    ensures steps { CountsAs (after_ops release.old.prepared 0 group.now) steps.old steps.new }
+    requires before { IsBench release.old derivation.old }
+    ensures after { IsBench release.new derivation.new }
+    ensures answer { AppliesAs result (group_answer release.old.current group.now) release.old release.new }
+    ensures counted { CountsAs (after_ops release.old.current 0 group.now) (bench_facts release.old) steps.old steps.new }
 {
-    prepare_rows(release, group)?;
-    derive_turn(alloc, release, records, steps)
+    match prepare_group(alloc, release, derivation, group, steps) {
+        Ok(changed) => {
+            release.commit();
+            derivation.commit();
+            Ok(Accepted { changed })
+        }
+        Err(stop) => {
+            release.discard();
+            derivation.discard();
+            Err(stop)
+        }
+    }
 }
 
-/// Carries the operations out on what is prepared, in order, up to the first that stops the group.
-fn prepare_rows(release: &mut Release, group: &[Op]) -> Result<(), ApplyStop>
+/// Carries the operations out on what is prepared, and prepares what their rows give. It answers the code points whose
+/// records differ, ascending. It is the part of a group that can fail.
+fn prepare_group<L: Ledger>(
+    alloc: Global,
+    release: &mut Release,
+    derivation: &mut Derivation,
+    group: &[Op],
+    steps: &mut Steps<L>,
+) -> Result<Points, ApplyStop>
+    requires operations { All IsOp group.now }
+    requires few { length group.now ≤ group_limit }
+    requires still { HasNothingPrepared release.old }
+    requires now { IsNow (files_facts release.old.current) derivation.old }
+    requires next { IsStill derivation.old }
+    ensures now { release.new.current ≡ release.old.current }
+    ensures answer { AnswersAs result (group_answer release.old.current group.now) release.new.prepared }
+    ensures kept { (F : ℕ → Facts) → IsNow F derivation.old → IsNow F derivation.new }
+    ensures next { OnOk result (IsNext (files_facts release.new.prepared) derivation.new) }
+    ensures changed { IfOk result (λ points. points ≡ changed (files_facts release.old.current) (files_facts release.new.prepared)) }
+    ensures steps { CountsAs (after_ops release.old.current 0 group.now) (files_facts release.old.current) steps.old steps.new }
+{
+    let mut touched = Spans::new(alloc);
+    prepare_rows(release, group, &mut touched)?;
+    let changed = derivation.turn_to(alloc, release, &touched, steps)?;
+    Ok(changed)
+}
+
+/// Carries the operations out on what is prepared, in order, up to the first that stops the group. The code points that
+/// they touch are put behind the others.
+fn prepare_rows(release: &mut Release, group: &[Op], touched: &mut Spans) -> Result<(), ApplyStop>
     requires operations { All IsOp group.now }
     requires few { length group.now ≤ group_limit }
     ensures now { release.new.current ≡ release.old.current }
     ensures answer { AnswersAs result (after_ops release.old.prepared 0 group.now) release.new.prepared }
+    ensures touched { OnOk result (HasTouched release.old.prepared release.new.prepared touched.old touched.new) }
 {
     let mut done = 0;
     'operations: while done < group.len() {
-        let told = prepare_op(release, &group[done], done as u32 + 1);
+        let told = prepare_op(release, &group[done], done as u32 + 1, touched);
         if told.is_err() {
             return told;
         }
@@ -68,54 +97,27 @@ fn prepare_rows(release: &mut Release, group: &[Op]) -> Result<(), ApplyStop>
     Ok(())
 }
 
-/// Carries an operation of this number out on what is prepared.
-fn prepare_op(release: &mut Release, op: &Op, number: u32) -> Result<(), ApplyStop>
+/// Carries an operation of this number out on what is prepared. The code points that it touches are put behind the
+/// others.
+fn prepare_op(
+    release: &mut Release,
+    op: &Op,
+    number: u32,
+    touched: &mut Spans,
+) -> Result<(), ApplyStop>
     requires { IsOp op.now }
     ensures now { release.new.current ≡ release.old.current }
     ensures answer { AnswersAs result (after_op release.old.prepared number op.now) release.new.prepared }
+    ensures touched { OnOk result (HasTouched release.old.prepared release.new.prepared touched.old touched.new) }
 {
+    rows_stay();
+    facts_stay();
     match release.prepare(op) {
-        Ok(_) => Ok(()),
+        Ok(spans) => {
+            touched.append(spans.as_slice())?;
+            Ok(())
+        }
         Err(OpStop::Key(rule)) => Err(ApplyStop::Refused(Refused::Key { rule, op: number })),
         Err(OpStop::Memory) => Err(ApplyStop::Memory),
-    }
-}
-
-/// Derives what the rows next give, and finds the code points whose records differ from those now.
-fn derive_turn<L: Ledger>(
-    alloc: Global,
-    release: &Release,
-    records: &RecordTable,
-    steps: &mut Steps<L>,
-) -> Result<Turn, ApplyStop>
-    ensures answer { AnswersAs result (checked_files (Ok release.now.prepared)) release.now.prepared }
-    ensures facts_now { IfOk result (λ turn. tables_facts values_now turn.derivation.tables ≡ files_facts release.now.prepared) }
-    ensures facts_next { IfOk result (λ turn. tables_next values_now turn.derivation.tables ≡ files_facts release.now.prepared) }
-    ensures records { IfOk result (λ turn. AreRecords turn.derivation.records (files_facts release.now.prepared)) }
-    ensures changed { IfOk result (λ turn. turn.changed ≡ differing (record_of records.now) (record_of turn.derivation.records)) }
-    ensures steps { steps.new ≤ steps.old + point_count }
-{
-    match derive_next(alloc, release, steps) {
-        Ok(derivation) => with_changes(alloc, records, derivation),
-        Err(stop) => Err(ApplyStop::from(stop)),
-    }
-}
-
-/// What was derived, with the code points whose records differ.
-fn with_changes(
-    alloc: Global,
-    records: &RecordTable,
-    derivation: Derivation,
-) -> Result<Turn, ApplyStop>
-    ensures same { IfOk result (λ turn. turn.derivation ≡ derivation) }
-    ensures changed { IfOk result (λ turn. turn.changed ≡ differing (record_of records.now) (record_of derivation.records)) }
-    ensures err { IfErr result (λ stop. stop ≡ Memory) }
-{
-    match records.changes(alloc, &derivation.records) {
-        Ok(changed) => Ok(Turn {
-            derivation,
-            changed,
-        }),
-        Err(_) => Err(ApplyStop::Memory),
     }
 }

@@ -4,13 +4,10 @@
 mod accepted;
 mod apply_stop;
 mod bench;
-mod changes;
 mod derivation;
+mod first_points;
 mod group;
 mod open_stop;
-mod record_list;
-mod record_table;
-mod stretch;
 
 pub use accepted::Accepted;
 pub use apply_stop::{ApplyStop, Refused};

@@ -1,16 +1,16 @@
-//! Tests of facts, of benches and of the run. They stand above the crates that they test, so that each is proved once.
+//! Tests of facts and of the run. They stand above the crates that they test, so that each is proved once.
 #![tactic(auto)]
 
 #[cfg(test)]
-mod benches;
+mod compare_faults;
+#[cfg(test)]
+mod compares;
 #[cfg(test)]
 mod derives;
 #[cfg(test)]
 mod facts;
 #[cfg(test)]
 mod folding;
-#[cfg(test)]
-mod groups;
 #[cfg(test)]
 mod makes;
 #[cfg(test)]

@@ -1,4 +1,4 @@
 use Rattle.edit_session.proofs.bench.BenchFactView.mapping.Goals as goal
 
 pub returns : goal.returns
-returns c = rw (← c.self.view_is, ← c.self.invariant.facts) c.mapping.ensures
+returns c = rw (← c.self.view_is, ← c.self.invariant.now.same, ← c.deref.ensures) c.mapping.ensures

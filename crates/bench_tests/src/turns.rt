@@ -1,0 +1,291 @@
+//! Groups at random on a bench, beside benches that are opened anew on the same rows.
+
+ghost use Rattle.std.specs.Prelude.{◌≡◌, ◌≤◌, IfOk, length};
+ghost use Rattle.std.specs.List.{All};
+ghost use Rattle.release_rows.specs.Operations.{IsOp};
+ghost use Rattle.script_lines.specs.Groups.{IsReady};
+
+use edit_session::{Accepted, ApplyStop, Bench, OpenStop, Refused};
+use release_rows::{Op, OpStop, Release};
+use script_lines::{What, commands, groups_are_ready};
+use std::alloc::Global;
+use std::marker::Brand;
+use std::slice::Iter;
+use std::sync::ledger::{Blank, Ledger};
+use std::test::Fail;
+use ucd_model::{FactView, Point, Records, SourceFile, Steps, file_limit, same_facts};
+
+/// Letters, marks and their composites, to begin with.
+const DATA: &[u8] =
+    b"0061;LATIN SMALL LETTER A;Ll;0;L;;;;;N;;;;;\n00E0;LATIN SMALL LETTER A WITH GRAVE;Ll;0;L;0061 0300;;;;N;;;;;\n0300;COMBINING GRAVE ACCENT;Mn;230;NSM;;;;;N;;;;;\n0301;COMBINING ACUTE ACCENT;Mn;230;NSM;;;;;N;;;;;\nFB00;X;Lo;0;L;<compat> 0061 0300;;;;N;;;;;\n";
+
+/// Lines that a group is made of. Some of them break a rule, by themselves or beside others.
+const LINES: [&[u8]; 30] = [
+    b"add UnicodeData.txt 0041;LATIN CAPITAL LETTER A;Lu;0;L;;;;;N;;;;0061;\n",
+    b"withdraw UnicodeData.txt 0041\n",
+    b"change UnicodeData.txt 0061;LATIN SMALL LETTER A;Ll;0;L;;;;;N;;;0041;;0041\n",
+    b"change UnicodeData.txt 0061;LATIN SMALL LETTER A;Ll;0;L;;;;;N;;;;;\n",
+    b"withdraw UnicodeData.txt 00E0\n",
+    b"add UnicodeData.txt 00E0;LATIN SMALL LETTER A WITH GRAVE;Ll;0;L;0061 0300;;;;N;;;;;\n",
+    b"change UnicodeData.txt 00E0;LATIN SMALL LETTER A WITH GRAVE;Ll;0;L;;;;;N;;;;;\n",
+    b"add UnicodeData.txt 00E1;LATIN SMALL LETTER A WITH ACUTE;Ll;0;L;0061 0301;;;;N;;;;;\n",
+    b"withdraw UnicodeData.txt 00E1\n",
+    b"add UnicodeData.txt 1EA5;X;Ll;0;L;00E0 0301;;;;N;;;;;\n",
+    b"withdraw UnicodeData.txt 1EA5\n",
+    b"change UnicodeData.txt 0300;COMBINING GRAVE ACCENT;Mn;220;NSM;;;;;N;;;;;\n",
+    b"change UnicodeData.txt 0300;COMBINING GRAVE ACCENT;Mn;230;NSM;;;;;N;;;;;\n",
+    b"change UnicodeData.txt 0301;COMBINING ACUTE ACCENT;Mn;0;NSM;;;;;N;;;;;\n",
+    b"withdraw UnicodeData.txt 0301\n",
+    b"add UnicodeData.txt 0301;COMBINING ACUTE ACCENT;Mn;230;NSM;;;;;N;;;;;\n",
+    b"withdraw UnicodeData.txt FB00\n",
+    b"add UnicodeData.txt FB00;X;Lo;0;L;<compat> 0061 0300;;;;N;;;;;\n",
+    b"add UnicodeData.txt FB01;Y;Lo;0;L;<compat> FB00 0301;;;;N;;;;;\n",
+    b"change UnicodeData.txt FB00;X;Lo;0;L;FB01;;;;N;;;;;\n",
+    b"add CompositionExclusions.txt 00E0\n",
+    b"withdraw CompositionExclusions.txt 00E0\n",
+    b"add CaseFolding.txt 00E0; C; 0061\n",
+    b"withdraw CaseFolding.txt 00E0; C\n",
+    b"add CaseFolding.txt 0061; F; 0061 0061\n",
+    b"add PropList.txt 0300..0301 ; Other_Default_Ignorable_Code_Point\n",
+    b"withdraw PropList.txt 0300 ; Other_Default_Ignorable_Code_Point\n",
+    b"add PropList.txt FB00..FB0F ; Other_Math\n",
+    b"withdraw PropList.txt FB00 ; Other_Math\n",
+    b"add UnicodeData.txt 1EA6;X;Ll;0;L;0061 0300;;;;N;;;;;\n",
+];
+
+/// The number that follows in a row of numbers that look random.
+fn follows(number: u32) -> u32 {
+    (number % 0x1_0000) * 25_173 % 0x1_0000 + 13_849
+}
+
+/// A script of one group, of one to four lines by a number.
+fn script(alloc: Global, number: u32) -> Result<Vec<u8>, Fail> {
+    let mut text = Vec::new(alloc);
+    text.extend_from_slice(b"begin\n")?;
+    let mut drawn = number;
+    for _ in 0..number / 64 % 4 + 1 {
+        drawn = follows(drawn);
+        text.extend_from_slice(LINES[(drawn / 16 % 30) as usize])?;
+    }
+    text.extend_from_slice(b"end\n")?;
+    Ok(text)
+}
+
+/// The release that is loaded from the files of another one.
+fn loaded(alloc: Global, other: &Release) -> Result<Release, Fail>
+    ensures { IfOk result (λ release. release.prepared ≡ release.current) }
+{
+    let mut release = Release::empty(alloc);
+    let text = other.text(alloc, SourceFile::UnicodeData)?;
+    release.load_file(SourceFile::UnicodeData, text.as_slice())?;
+    let text = other.text(alloc, SourceFile::PropList)?;
+    release.load_file(SourceFile::PropList, text.as_slice())?;
+    let text = other.text(alloc, SourceFile::CompositionExclusions)?;
+    release.load_file(SourceFile::CompositionExclusions, text.as_slice())?;
+    let text = other.text(alloc, SourceFile::CaseFolding)?;
+    release.load_file(SourceFile::CaseFolding, text.as_slice())?;
+    Ok(release)
+}
+
+/// Carries operations out on a release, or says which one breaks a rule.
+fn prepared(release: &mut Release, ops: &[Op]) -> Result<(), ApplyStop>
+    requires { All IsOp ops.now }
+{
+    let mut number = 1;
+    'ops: for op in ops {
+        match release.prepare(op) {
+            Ok(_) => {}
+            Err(OpStop::Key(rule)) => {
+                return Err(ApplyStop::Refused(Refused::Key { rule, op: number }));
+            }
+            Err(OpStop::Memory) => return Err(ApplyStop::Memory),
+        }
+        number = number % 4096 + 1;
+    }
+    Ok(())
+}
+
+/// Why there is no bench, as a group would say it.
+fn as_told(stop: OpenStop) -> ApplyStop {
+    match stop {
+        OpenStop::Invalid { rule, point } => ApplyStop::Refused(Refused::Valid { rule, point }),
+        OpenStop::Memory => ApplyStop::Memory,
+    }
+}
+
+/// A bench that is opened on a release, or why there is none.
+fn opened<L: Ledger>(
+    alloc: Global,
+    release: Release,
+    steps: &mut Steps<L>,
+) -> Result<Result<Box<Bench>, ApplyStop>, Fail>
+    requires { release.prepared ≡ release.current }
+{
+    match Bench::open(alloc, release, steps) {
+        Ok(bench) => Ok(Ok(Box::new(alloc, bench)?)),
+        Err(stop) => Ok(Err(as_told(stop))),
+    }
+}
+
+/// The bench that is opened anew after operations on the rows of another, or why there is none.
+fn anew<L: Ledger>(
+    alloc: Global,
+    bench: &Bench,
+    ops: &[Op],
+    steps: &mut Steps<L>,
+) -> Result<Result<Box<Bench>, ApplyStop>, Fail>
+    requires { All IsOp ops.now }
+{
+    let mut release = loaded(alloc, bench.release())?;
+    if let Err(stop) = prepared(&mut release, ops) {
+        return Ok(Err(stop));
+    }
+    release.commit();
+    opened(alloc, release, steps)
+}
+
+/// Whether two benches have the same records of all code points, and show the same facts, pairs and second members of
+/// the first ones.
+fn are_same(a: &Bench, b: &Bench) -> bool {
+    let mut number = 0;
+    'pieces: while number < 0x11_0000 {
+        let c = Point::at(number);
+        let last = last_alike(a, b, c);
+        if a.last_alike(c) != b.last_alike(c) || !a.record(c).is_same(b.record(c)) {
+            return false;
+        }
+        number = last.number() + 1;
+    }
+    are_shown_same(a, b)
+}
+
+/// Whether two benches show the same of the code points that the lines name.
+fn are_shown_same(a: &Bench, b: &Bench) -> bool {
+    let mark = Point::at(0x0301);
+    (0..0x2000u32).map(Point::at).all(|c| same_facts(&a.facts(c), &b.facts(c))
+        && a.pair(c, mark) == b.pair(c, mark)
+        && a.second(c) == b.second(c))
+}
+
+/// The last code point up to which the records of both benches stay those of this one.
+fn last_alike(a: &Bench, b: &Bench, c: Point) -> Point
+    ensures { c ≤ result }
+{
+    a.last_alike(c).min(b.last_alike(c))
+}
+
+/// Whether the code points from one number up to another come next.
+fn come_next(points: &mut Iter<'_, Point>, from: u32, to: u32) -> bool
+    requires { to ≤ 1114112 }
+{
+    for number in from..to {
+        if points.next() != Some(&Point::at(number)) {
+            return false;
+        }
+    }
+    true
+}
+
+/// Whether just these code points have other records.
+fn are_changed(old: &Bench, new: &Bench, accepted: &Accepted) -> bool {
+    let mut changed = accepted.changed.as_slice().iter();
+    let mut number = 0;
+    'pieces: while number < 0x11_0000 {
+        let c = Point::at(number);
+        let end = last_alike(old, new, c).number() + 1;
+        if !old.record(c).is_same(new.record(c)) && !come_next(&mut changed, number, end) {
+            return false;
+        }
+        number = end;
+    }
+    changed.next().is_none()
+}
+
+/// Applies a group, and answers the bench that is opened anew after it; `None` where the two do not agree.
+fn turned<L: Ledger>(
+    alloc: Global,
+    bench: &mut Bench,
+    before: Box<Bench>,
+    ops: &[Op],
+    steps: &mut Steps<L>,
+) -> Result<Option<Box<Bench>>, Fail>
+    requires operations { All IsOp ops.now }
+    requires few { length ops.now ≤ 4096 }
+{
+    let expected = anew(alloc, &before, ops, steps)?;
+    let told = bench.apply(alloc, ops, steps);
+    Ok(match (told, expected) {
+        (Ok(accepted), Ok(after)) => {
+            (are_same(bench, &after) && are_changed(&before, &after, &accepted)).then_some(after)
+        }
+        (Err(stop), Err(other)) => (stop == other && are_same(bench, &before)).then_some(before),
+        _ => None,
+    })
+}
+
+/// Applies the group of a script of this number, and answers the bench that is opened anew after it.
+fn turned_by<L: Ledger>(
+    alloc: Global,
+    bench: &mut Bench,
+    before: Box<Bench>,
+    number: u32,
+    steps: &mut Steps<L>,
+) -> Result<Option<Box<Bench>>, Fail> {
+    groups_are_ready();
+    let text = script(alloc, number)?;
+    if text.len() > file_limit() {
+        return Ok(None);
+    }
+    let group = commands(alloc, text.as_slice())?;
+    let Some(first) = group.as_slice().first() else {
+        return Ok(None);
+    };
+    match &first.what {
+        What::Group(ops) => turned(alloc, bench, before, ops.as_slice(), steps),
+        What::Question(_) => Ok(None),
+    }
+}
+
+/// A bench over the release to begin with.
+fn began<L: Ledger>(alloc: Global, steps: &mut Steps<L>) -> Result<Box<Bench>, Fail> {
+    let mut release = Release::empty(alloc);
+    release.load_file(SourceFile::UnicodeData, DATA)?;
+    Ok(opened(alloc, release, steps)?.ok().ok_or("a bench")?)
+}
+
+/// Whether so many groups at random leave a bench as one that is opened anew.
+fn all_turned<L: Ledger>(alloc: Global, count: u32, first: u32, blank: Blank) -> Result<bool, Fail>
+    requires name { blank.name ≡ L.name }
+    requires parts { blank.parts ≡ L.parts }
+    requires some { blank.parts ≡ 1 }
+{
+    let mut steps = Steps::<L>::new(blank);
+    let mut bench = began(alloc, &mut steps)?;
+    let mut model = began(alloc, &mut steps)?;
+    let mut number = first;
+    for _ in 0..count {
+        number = follows(number);
+        match turned_by(alloc, &mut bench, model, number, &mut steps)? {
+            Some(after) => model = after,
+            None => return Ok(false),
+        }
+    }
+    Ok(true)
+}
+
+/// Whether they do, on a ledger of their own.
+fn agree(alloc: Global, count: u32, first: u32) -> Result<bool, Fail> {
+    all_turned::<Brand>(alloc, count, first, Blank::new(1))
+}
+
+#[test]
+fn groups_at_random_leave_a_bench_as_one_opened_anew(rt: HostRuntime) -> Result<(), Fail> {
+    assert!(rt; agree(rt.alloc(), 60, 7)?);
+    Ok(())
+}
+
+#[test]
+fn other_groups_at_random_do_so_too(rt: HostRuntime) -> Result<(), Fail> {
+    assert!(rt; agree(rt.alloc(), 60, 4_711)?);
+    Ok(())
+}

@@ -1,0 +1,89 @@
+-- What is derived, over facts that are the same.
+use Rattle.std.proofs.Common.{◌≡◌, ℕ, List, Option, Some, None, Ok, Err, refl, sym, ap, subst, ◌∙◌}
+use Rattle.range_table.specs.Values.{SameValues}
+use Rattle.ucd_model.specs.Facts.{Facts}
+use Rattle.ucd_model.specs.Limits.{point_count}
+use Rattle.ucd_model.specs.Records.{Record, record_at}
+use Rattle.ucd_model.specs.Validity.{first_broken}
+use Rattle.ucd_model.specs.ValidityLaws.{IsValid}
+use Rattle.ucd_model.specs.ValidityProofs.{valid_is_unbroken}
+use Rattle.ucd_model.specs.declared.form.Broken.{Broken}
+use Rattle.ucd_model.specs.declared.query.Query.{Query}
+use Rattle.asked_queries.specs.Answers.{TellsChanges, is_asked}
+use Rattle.asked_queries.specs.Turns.{KeepsAsked}
+use Rattle.record_list.specs.Runs.{RecordsOf, record_of}
+use Rattle.rederivation.specs.Turned.{CountsWithin, IsReady, IsTurned, StopsTurn}
+use Rattle.rederivation.specs.declared.again_stop.AgainStop.{AgainStop}
+use Rattle.rederivation.specs.declared.again_stop.AgainStop.TheVariants.{Broken as Breaks, Memory as Lacking}
+use Rattle.release_rows.specs.FileItems.{FileItem}
+use Rattle.edit_session.specs.Benches.{NamesBroken}
+use Rattle.edit_session.specs.Derivations.{AreOf}
+use Rattle.edit_session.specs.FirstRecords.{SameRecords}
+use Rattle.edit_session.specs.Groups.{AnswersAs, changed, checked_files, files_facts, refused_by, valid_files}
+use Rattle.edit_session.specs.declared.apply_stop.ApplyStop.{ApplyStop}
+use Rattle.edit_session.specs.declared.apply_stop.ApplyStop.TheVariants.{Refused as Refuses}
+use Rattle.edit_session.specs.declared.apply_stop.Refused.TheVariants.{Valid}
+use Rattle.edit_session.specs.declared.open_stop.OpenStop.{OpenStop}
+
+abbrev Files : Type 0
+Files = List (List FileItem)
+
+-- ---- facts that are the same
+
+pub named_over : (F G : ℕ → Facts) (stop : OpenStop) → F ≡ G → NamesBroken stop F → NamesBroken stop G
+named_over F G stop same named = subst (NamesBroken stop) same named
+
+pub kept_same : (A B : ℕ → List Query) (F : ℕ → Facts) → SameValues B A → KeepsAsked A F → KeepsAsked B F
+unfolding point_count
+kept_same A B F same kept = λ c lt q. ap (λ (qs : List Query). is_asked qs q) (same c lt) ∙ kept c lt q
+
+-- the same facts, records and questions, kept elsewhere
+pub moved : (F before after : ℕ → Facts) (old new : RecordsOf) (A B : ℕ → List Query) → after ≡ before → new ≡ old → SameValues B A → AreOf F before (record_of old) A → AreOf F after (record_of new) B
+moved F before after old new A B same list questions is = record {
+  same = same ∙ is.same;
+  valid = is.valid;
+  records = subst (λ (rs : RecordsOf). SameRecords (record_of rs) (record_at F)) (sym list) is.records;
+  kept = kept_same A B F questions is.kept;
+}
+
+-- ---- a turn
+
+pub ready : (F G start before view : ℕ → Facts) (R : ℕ → Record) (A N : ℕ → List Query) (Q : List Query) → AreOf F start R A → before ≡ start → SameValues N A → view ≡ G → TellsChanges before G Q → IsReady F view R A N Q
+ready F G start before view R A N Q is stays still shown tells = record {
+  valid = is.valid;
+  records = is.records;
+  kept = is.kept;
+  still = still;
+  changes = subst (λ (H : ℕ → Facts). TellsChanges F H Q) (sym shown) (subst (λ (H : ℕ → Facts). TellsChanges H G Q) (stays ∙ is.same) tells);
+}
+
+pub turned : (F G view next : ℕ → Facts) (S : ℕ → Record) (B : ℕ → List Query) (points : List ℕ) → view ≡ next → next ≡ G → IsTurned F view S B points → AreOf G next S B
+turned F G view next S B points shown is turn =
+    let over : IsTurned F G S B points = subst (λ (H : ℕ → Facts). IsTurned F H S B points) (shown ∙ is) turn in
+    record { same = is; valid = over.valid; records = over.records; kept = over.kept }
+
+pub turned_points : (F G view : ℕ → Facts) (S : ℕ → Record) (B : ℕ → List Query) (points : List ℕ) → view ≡ G → IsTurned F view S B points → points ≡ changed F G
+turned_points F G view S B points shown turn =
+    let over : IsTurned F G S B points = subst (λ (H : ℕ → Facts). IsTurned F H S B points) shown turn in
+    over.changed
+
+pub counts_over : (F G view : ℕ → Facts) (old new : ℕ) → view ≡ G → CountsWithin F view old new → CountsWithin F G old new
+counts_over F G view old new shown counts = subst (λ (H : ℕ → Facts). CountsWithin F H old new) shown counts
+
+-- ---- what it is answered
+
+pub answers_valid : {A : Type 0} (x : A) (files : Files) → IsValid (files_facts files) → AnswersAs (Ok x) (checked_files (Ok files)) files
+answers_valid x files valid = by (first_broken (files_facts files)) ((valid_is_unbroken (files_facts files)).0 valid)
+  where
+    by : (b : Option Broken) → b ≡ None → AnswersAs (Ok x) (valid_files files b) files
+    by None e = refl
+    by (Some b) e = absurd cc
+
+pub answers_broken : (A : Type 0) (view : ℕ → Facts) (stop : AgainStop) (told : ApplyStop) (files : Files) → view ≡ files_facts files → told ≡ refused_by stop → StopsTurn view stop
+    → AnswersAs {A = A} (Err told) (checked_files (Ok files)) files
+answers_broken A view stop told files shown is stops =
+    subst (λ (s : ApplyStop). AnswersAs {A = A} (Err s) (checked_files (Ok files)) files) (sym is) (by stop (subst (λ (H : ℕ → Facts). StopsTurn H stop) shown stops))
+  where
+    by : (s : AgainStop) → StopsTurn (files_facts files) s → AnswersAs {A = A} (Err (refused_by s)) (checked_files (Ok files)) files
+    by (Breaks rule point) h = subst (λ (b : Option Broken). AnswersAs {A = A} (Err (Refuses (Valid rule point))) (valid_files files b) files) (sym h) refl
+    by Lacking h = tt

@@ -1,0 +1,23 @@
+use Rattle.std.proofs.Common.{List, sym, subst}
+use Rattle.release_rows.specs.FileItems.{FileItem}
+use Rattle.edit_session.specs.Benches.{bench_facts}
+use Rattle.edit_session.specs.Derivations.{IsNow}
+use Rattle.edit_session.specs.Groups.{files_facts, group_answer}
+use Rattle.edit_session.proofs.GroupLemmas.{applied, bench_after}
+use Rattle.edit_session.proofs.group.apply_group.Goals as goal
+
+pub returns-in-Ok-clause-after : goal.returns-in-Ok-clause-after
+returns-in-Ok-clause-after g c =
+    bench_after c.commit.new.self c.prepare_group.new.release.prepared c.commit-in-Ok.new.self c.commit.ensures
+    (c.commit-in-Ok.ensures.committed (files_facts c.prepare_group.new.release.prepared) c.in-Ok.ensures.next) c.commit-in-Ok.ensures.still
+
+pub returns-in-Err-clause-after : goal.returns-in-Err-clause-after
+returns-in-Err-clause-after g c =
+    let kept = c.discard-in-Err.ensures.now (bench_facts c.args.release.now) (c.prepare_group.ensures.kept (bench_facts c.args.release.now) c.requires.before.now) in
+    bench_after c.discard.new.self c.prepare_group.new.release.current c.discard-in-Err.new.self c.discard.ensures
+    (subst (λ (fs : List (List FileItem)). IsNow (files_facts fs) c.discard-in-Err.new.self) (sym c.prepare_group.ensures.now) kept) c.discard-in-Err.ensures.still
+
+pub returns-in-Ok-clause-answer : goal.returns-in-Ok-clause-answer
+returns-in-Ok-clause-answer g c =
+    applied c.in-Ok.changed (record { changed = c.in-Ok.changed }) (group_answer c.args.release.now.current c.args.group.now) c.args.release.now c.commit.new.self c.prepare_group.new.release.prepared
+    c.in-Ok.ensures.answer c.commit.ensures c.in-Ok.ensures.changed

@@ -100,7 +100,7 @@ fn other_files_are_derived(rt: HostRuntime) -> Result<(), Fail> {
 #[test]
 fn words_of_no_form_are_refused(rt: HostRuntime) -> Result<(), Fail> {
     let alloc = rt.alloc();
-    let cases: [&[&[u8]]; 12] = [
+    let cases: [&[&[u8]]; 14] = [
         &[],
         &[b"make", b"51", b"o"],
         &[b"make", b"1"],
@@ -111,7 +111,9 @@ fn words_of_no_form_are_refused(rt: HostRuntime) -> Result<(), Fail> {
         &[b"Derive", b"d", b"o"],
         &[b"--help"],
         &[b"apply", b"d", b"s"],
-        &[b"apply", b"d", b"s", b"o", b"p"],
+        &[b"apply", b"d", b"s", b"o", b"p", b"q"],
+        &[b"Apply", b"d", b"s", b"o", b"p"],
+        &[b"derive", b"d", b"s", b"o", b"p"],
         &[b"derive", b"d", b"s", b"o"],
     ];
     for words in cases {
@@ -120,7 +122,7 @@ fn words_of_no_form_are_refused(rt: HostRuntime) -> Result<(), Fail> {
         assert_eq!(rt; status, Status::BadWords);
         assert_eq!(rt;
             out.written(),
-            b"usage: ucdshop derive DATA OUT | apply DATA SCRIPT OUT | make NUMBER OUT\n".as_slice()
+            b"usage: ucdshop derive DATA OUT | apply DATA SCRIPT OUT [PREVIOUS] | make NUMBER OUT\n".as_slice()
         );
         assert_eq!(rt; shelf.held(CORE_PATH), Some(b"old".as_slice()));
     }

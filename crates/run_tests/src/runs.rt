@@ -33,6 +33,19 @@ pub const SOURCE_PATHS: [&[u8]; 9] = [
     b"d/PropertyValueAliases.txt",
 ];
 
+/// The source files of an earlier release, in their order.
+pub const PREVIOUS_PATHS: [&[u8]; 9] = [
+    b"p/UnicodeData.txt",
+    b"p/PropList.txt",
+    b"p/Scripts.txt",
+    b"p/auxiliary/WordBreakProperty.txt",
+    b"p/CompositionExclusions.txt",
+    b"p/CaseFolding.txt",
+    b"p/SpecialCasing.txt",
+    b"p/PropertyAliases.txt",
+    b"p/PropertyValueAliases.txt",
+];
+
 /// The path of a derived file.
 pub const CORE_PATH: &[u8] = b"o/DerivedCoreProperties.txt";
 
@@ -107,6 +120,17 @@ pub fn summary_of(alloc: Global, counts: [&[u8]; 3]) -> Result<Text, Memory> {
     line.append(b" commands refused, ")?;
     line.append(counts[2])?;
     line.append(b" sets answered, 0 policy breaks\n")?;
+    Ok(line)
+}
+
+/// The line that names a path.
+///
+/// - `Memory`: memory ran out.
+pub fn line_of(alloc: Global, said: &[u8], path: &[u8]) -> Result<Text, Memory> {
+    let mut line = Text::new(alloc);
+    line.append(said)?;
+    line.append(path)?;
+    line.push(b'\n')?;
     Ok(line)
 }
 

@@ -1,6 +1,6 @@
 //! Runs of `apply`: what a script leaves, and each way in which such a run ends.
 
-use crate::runs::{CORE_PATH, LETTERS, SOURCE_PATHS, run_words, shelf_of};
+use crate::runs::{CORE_PATH, LETTERS, SOURCE_PATHS, line_of, run_words, shelf_of};
 use shelf_io::MemoryShelf;
 use std::alloc::Global;
 use std::test::Fail;
@@ -312,17 +312,6 @@ fn a_script_may_be_a_file_of_the_folder(rt: HostRuntime) -> Result<(), Fail> {
     assert_eq!(rt; shelf.held(b"o/Scripts.txt"), Some(long.as_slice()));
     assert_eq!(rt; shelf.held(b"o/bench.log"), Some(b"".as_slice()));
     Ok(())
-}
-
-/// The line that names a path.
-///
-/// - `Memory`: memory ran out.
-fn line_of(alloc: Global, said: &[u8], path: &[u8]) -> Result<Text, Memory> {
-    let mut line = Text::new(alloc);
-    line.append(said)?;
-    line.append(path)?;
-    line.push(b'\n')?;
-    Ok(line)
 }
 
 /// Each read may fail, that of the script too, and nothing is written then.

@@ -10,22 +10,24 @@ use Rattle.edit_session.specs.declared.open_stop.OpenStop.{OpenStop}
 use Rattle.edit_session.specs.declared.open_stop.OpenStop.TheVariants.{Invalid, Memory as Lacking}
 use Rattle.ucdshop_core.specs.Judging.{BreaksBy, JudgedAs}
 use Rattle.ucdshop_core.specs.Verdict.{and_then, files_verdict, release_verdict, valid_files}
+use Rattle.ucdshop_core.specs.declared.refusal.Folder.{Folder}
 use Rattle.ucdshop_core.specs.declared.refusal.Refusal.{Refusal}
 use Rattle.ucdshop_core.specs.declared.refusal.JudgeStop.{JudgeStop}
 use Rattle.ucdshop_core.specs.declared.refusal.JudgeStop.TheVariants.{Refused, Memory}
 
-loaded_verdict : (files : List (List FileItem)) (held : SourceFile → Option (List ℕ)) → files_verdict held ≡ Ok files → release_verdict held ≡ valid_files files (first_broken (files_facts files))
-loaded_verdict files held loads = ap (λ (r : Result (List (List FileItem)) Refusal). and_then r (λ lists. valid_files lists (first_broken (files_facts lists)))) loads
+module _ (folder : Folder) (held : SourceFile → Option (List ℕ)) where
+  loaded_verdict : (files : List (List FileItem)) → files_verdict folder held ≡ Ok files → release_verdict folder held ≡ valid_files folder files (first_broken (files_facts files))
+  loaded_verdict files loads = ap (λ (r : Result (List (List FileItem)) Refusal). and_then r (λ lists. valid_files folder lists (first_broken (files_facts lists)))) loads
 
-pub opened_verdict : (files opened : List (List FileItem)) (held : SourceFile → Option (List ℕ)) → files_verdict held ≡ Ok files → opened ≡ files → first_broken (files_facts files) ≡ None
-    → release_verdict held ≡ Ok opened
-opened_verdict files opened held loads same valid =
-    loaded_verdict files held loads ∙ ap (valid_files files) valid ∙ ap (λ (lists : List (List FileItem)). Ok lists) (sym same)
+  pub opened_verdict : (files opened : List (List FileItem)) → files_verdict folder held ≡ Ok files → opened ≡ files → first_broken (files_facts files) ≡ None
+      → release_verdict folder held ≡ Ok opened
+  opened_verdict files opened loads same valid =
+      loaded_verdict files loads ∙ ap (valid_files folder files) valid ∙ ap (λ (lists : List (List FileItem)). Ok lists) (sym same)
 
-pub broken_verdict : (files : List (List FileItem)) (held : SourceFile → Option (List ℕ)) (stop : OpenStop) (told : JudgeStop) → files_verdict held ≡ Ok files → NamesBroken stop (files_facts files) → BreaksBy told stop
-    → JudgedAs {A = ReleaseItems} (λ bench. bench.current) (Err told) (release_verdict held)
-broken_verdict files held (Invalid rule point) (Refused refusal) loads broken breaks =
-    loaded_verdict files held loads ∙ ap (valid_files files) broken ∙ ap (λ (r : Refusal). Err r) (sym breaks)
-broken_verdict files held (Invalid rule point) Memory loads broken breaks = tt
-broken_verdict files held Lacking (Refused refusal) loads broken breaks = absurd breaks
-broken_verdict files held Lacking Memory loads broken breaks = tt
+  pub broken_verdict : (files : List (List FileItem)) (stop : OpenStop) (told : JudgeStop) → files_verdict folder held ≡ Ok files → NamesBroken stop (files_facts files) → BreaksBy folder told stop
+      → JudgedAs {A = ReleaseItems} (λ bench. bench.current) (Err told) (release_verdict folder held)
+  broken_verdict files (Invalid rule point) (Refused refusal) loads broken breaks =
+      loaded_verdict files loads ∙ ap (valid_files folder files) broken ∙ ap (λ (r : Refusal). Err r) (sym breaks)
+  broken_verdict files (Invalid rule point) Memory loads broken breaks = tt
+  broken_verdict files Lacking (Refused refusal) loads broken breaks = absurd breaks
+  broken_verdict files Lacking Memory loads broken breaks = tt

@@ -6,9 +6,11 @@ pub mod BenchLemmas
 pub mod OutputLemmas
 pub mod PathLemmas
 pub mod PlanningLemmas
+pub mod PolicyLemmas
 pub mod QuestionLemmas
 pub mod AskingLemmas
 pub mod CarryingLemmas
+pub mod CountingLemmas
 pub mod MakingLemmas
 pub mod RunLemmas
 pub mod Clauses

@@ -7,14 +7,15 @@ use Rattle.ucdshop_core.specs.Commands.{job_of}
 use Rattle.ucdshop_core.specs.Judging.{AreFor, ReadAs, given_verdict}
 use Rattle.ucdshop_core.specs.Making.{data_rows}
 use Rattle.ucdshop_core.specs.Planning.{CountsRows, IsPlanOf, OnRefused, PlansAs}
-use Rattle.ucdshop_core.specs.Run.{Contents, Job, Derive, Apply, Make, Refuses, Sees, ending_of, everywhere, expected_of, job_verdict, judged, needed}
+use Rattle.stability_policies.specs.declared.breaks.Break.{Break}
+use Rattle.ucdshop_core.specs.Run.{Contents, Job, Derive, Apply, Compare, Make, Refuses, Sees, breaks_since, ending_of, everywhere, expected_of, job_verdict, judged, needed}
 use Rattle.ucdshop_core.specs.Session.{Session}
 use Rattle.ucdshop_core.specs.Reading.{cut}
 use Rattle.ucdshop_core.specs.declared.command.Command.{Command}
-use Rattle.ucdshop_core.specs.declared.command.Command.TheVariants.{Derive as DeriveWords, Apply as ApplyWords, Make as MakeWords}
+use Rattle.ucdshop_core.specs.declared.command.Command.TheVariants.{Derive as DeriveWords, Apply as ApplyWords, Compare as CompareWords, Make as MakeWords}
 use Rattle.ucdshop_core.specs.declared.given.Given.{Given}
 use Rattle.ucdshop_core.specs.declared.given.Given.TheVariants.{Made}
-use Rattle.ucdshop_core.proofs.VerdictLemmas.{apply_seen, derive_seen, made_seen}
+use Rattle.ucdshop_core.proofs.VerdictLemmas.{apply_seen, compare_seen, derive_seen, made_seen}
 use Rattle.ucdshop_core.specs.declared.plan.Plan.{Plan}
 use Rattle.ucdshop_core.specs.declared.stop.Stop.{Stop}
 use Rattle.ucdshop_core.specs.declared.stop.Stop.TheVariants.{Refused, ReadFailed, Memory}
@@ -31,10 +32,20 @@ module _ (tells : Bool) (holds : Contents) (job : Job) (given : Given)
   refused Memory h = tt
 
 -- only the summary of `make` tells how many rows there were
-pub ending_counts : (job : Job) (rows : ℕ) (files : List (List FileItem)) (s : Session) → CountsRows job rows files → ending_of job rows s ≡ ending_of job (data_rows files) s
-ending_counts (Derive input output) rows files s counts = refl
-ending_counts (Apply input script output) rows files s counts = refl
-ending_counts (Make number output) rows files s counts = ap (λ (n : ℕ). ending_of (Make number output) n s) counts
+ending_counts : (job : Job) (rows : ℕ) (files : List (List FileItem)) (s : Session) (breaks : List Break) → CountsRows job rows files
+    → ending_of job rows s breaks ≡ ending_of job (data_rows files) s breaks
+ending_counts (Derive input output) rows files s breaks counts = refl
+ending_counts (Apply input script output) rows files s breaks counts = refl
+ending_counts (Compare input script output previous) rows files s breaks counts = refl
+ending_counts (Make number output) rows files s breaks counts = ap (λ (n : ℕ). ending_of (Make number output) n s breaks) counts
+
+-- the ending after a session that was carried out, with the breaks by the files that it leaves
+pub ending_reached : (job : Job) (rows : ℕ) (files : List (List FileItem)) (earlier : Option (List (List FileItem))) (carried s : Session) (breaks : List Break)
+    → CountsRows job rows files → carried ≡ s → breaks ≡ breaks_since earlier carried.files
+    → ending_of job rows carried breaks ≡ ending_of job (data_rows files) s (breaks_since earlier s.files)
+ending_reached job rows files earlier carried s breaks counts reached broken =
+    ending_counts job rows files carried breaks counts ∙ ap (ending_of job (data_rows files) carried) broken
+    ∙ ap (λ (it : Session). ending_of job (data_rows files) it (breaks_since earlier it.files)) reached
 
 -- ---- the texts that a command works on
 
@@ -60,3 +71,11 @@ given_apply tells holds command input script output (Ok given) e read =
     subst (λ (c : Command). AreFor given (job_of c) × GivenAs tells holds c given) (sym e)
     (tt, apply_seen tells holds input.now script.now output.now given (subst (λ (c : Command). ReadAs given tells (map (λ path. cut (holds path)) (needed (job_of c)))) e read))
 given_apply tells holds command input script output (Err stop) e read = (tt, tt)
+
+pub given_compare : (tells : Bool) (holds : Contents) (command : Command) (input script output previous : Bor (List ℕ)) (r : Result Given Stop)
+    → command ≡ CompareWords input script output previous → IfOk r (λ given. ReadAs given tells (map (λ path. cut (holds path)) (needed (job_of command))))
+    → IfOk r (λ given. AreFor given (job_of command)) × IfOk r (λ given. GivenAs tells holds command given)
+given_compare tells holds command input script output previous (Ok given) e read =
+    subst (λ (c : Command). AreFor given (job_of c) × GivenAs tells holds c given) (sym e)
+    (tt, compare_seen tells holds input.now script.now output.now previous.now given (subst (λ (c : Command). ReadAs given tells (map (λ path. cut (holds path)) (needed (job_of c)))) e read))
+given_compare tells holds command input script output previous (Err stop) e read = (tt, tt)

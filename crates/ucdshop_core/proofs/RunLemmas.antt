@@ -8,7 +8,8 @@ use Rattle.shelf_io.specs.Counts.{Rose}
 use Rattle.shelf_io.specs.Contents.{SameContents}
 use Rattle.shelf_io.specs.declared.shelf.Shelf.{Ghosts as ShelfGhosts}
 use Rattle.ucdshop_core.specs.Printed.{write_failed}
-use Rattle.ucdshop_core.specs.Run.{Contents, Job, Derive, Apply, Make, Inputs, form, needed, NewFile, Ending, Expected, ending_of, inputs_ending, output_paths, Refuses, Finishes, expected, expected_of, judged, job_verdict, after, Replaced, Seen, Sees, EndsAs, everywhere}
+use Rattle.stability_policies.specs.declared.breaks.Break.{Break}
+use Rattle.ucdshop_core.specs.Run.{Contents, Job, Derive, Apply, Compare, Make, Inputs, form, needed, NewFile, Ending, Expected, breaks_since, ending_of, inputs_ending, output_paths, Refuses, Finishes, expected, expected_of, judged, job_verdict, after, Replaced, Seen, Sees, EndsAs, everywhere}
 use Rattle.ucdshop_core.specs.Planning.{HasPlan, HaveLines, IsPlanOf, OnRefused, OnlyRead, UnreadAs}
 use Rattle.ucdshop_core.specs.Promises.{shelf_seen}
 use Rattle.ucdshop_core.specs.Making.{data_rows}
@@ -40,15 +41,16 @@ finishes_is a b e p q = cc
 refuses_finishes : (line : List ℕ) (ending : Ending) → Refuses line ≡ Finishes ending → ⊥
 refuses_finishes line ending e = cc
 
-ending_paths : (job : Job) (rows : ℕ) (s : Session) → map (λ (file : NewFile). file.path) (ending_of job rows s).files ≡ output_paths job
-ending_paths (Derive input output) rows s = refl
-ending_paths (Apply input script output) rows s = refl
-ending_paths (Make number output) rows s = refl
+ending_paths : (job : Job) (rows : ℕ) (s : Session) (breaks : List Break) → map (λ (file : NewFile). file.path) (ending_of job rows s breaks).files ≡ output_paths job
+ending_paths (Derive input output) rows s breaks = refl
+ending_paths (Apply input script output) rows s breaks = refl
+ending_paths (Compare input script output previous) rows s breaks = refl
+ending_paths (Make number output) rows s breaks = refl
 
 judged_paths : (job : Job) (verdict : Result Inputs Refusal) (ending : Ending) → judged job verdict ≡ Finishes ending
     → map (λ (file : NewFile). file.path) ending.files ≡ output_paths job
 judged_paths job (Ok inputs) ending e =
-    subst (λ (it : Ending). map (λ (file : NewFile). file.path) it.files ≡ output_paths job) (finishes_is (inputs_ending job inputs) ending (judged job (Ok inputs)) refl e) (ending_paths job (data_rows inputs.files) (session inputs.files inputs.commands))
+    subst (λ (it : Ending). map (λ (file : NewFile). file.path) it.files ≡ output_paths job) (finishes_is (inputs_ending job inputs) ending (judged job (Ok inputs)) refl e) (ending_paths job (data_rows inputs.files) (session inputs.files inputs.commands) (breaks_since inputs.earlier (session inputs.files inputs.commands).files))
 judged_paths job (Err refusal) ending e = absurd (refuses_finishes _ ending e)
 
 slice_get_of_map : {A B : Type 0} (f : A → B) (xs : List A) (i : ℕ) (x : A) → slice_get xs i ≡ Some x → slice_get (map f xs) i ≡ Some (f x)

@@ -15,6 +15,7 @@ pub mod Commands
 pub mod Reading
 pub mod Judging
 pub mod Writing
+pub mod Counting
 pub mod Carrying
 pub mod Asking
 pub mod Answering

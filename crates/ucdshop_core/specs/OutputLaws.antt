@@ -4,16 +4,17 @@
 -- OutputsHoldTheirBytes   once all files are put, the path of each holds the bytes of that file: none takes the place of another
 -- OtherPathsStay          and each path that is none of them holds what it held
 use Rattle.std.specs.Prelude.{◌≡◌, ◌≢◌, ℕ, List, All, map, Some}
+use Rattle.stability_policies.specs.declared.breaks.Break.{Break}
 use Rattle.ucdshop_core.specs.Run.{Contents, Job, NewFile, new_files, output_paths, after}
 use Rattle.ucdshop_core.specs.Session.{Session}
 
 abbrev pub PathsAreOfTheWords : Type 0
-PathsAreOfTheWords = (job : Job) (s : Session) → map (λ (file : NewFile). file.path) (new_files job s) ≡ output_paths job
+PathsAreOfTheWords = (job : Job) (s : Session) (breaks : List Break) → map (λ (file : NewFile). file.path) (new_files job s breaks) ≡ output_paths job
 
 abbrev pub OutputsHoldTheirBytes : Type 0
-OutputsHoldTheirBytes = (job : Job) (s : Session) (holds : Contents)
-    → All (λ (file : NewFile). after (new_files job s) holds file.path ≡ Some file.bytes) (new_files job s)
+OutputsHoldTheirBytes = (job : Job) (s : Session) (breaks : List Break) (holds : Contents)
+    → All (λ (file : NewFile). after (new_files job s breaks) holds file.path ≡ Some file.bytes) (new_files job s breaks)
 
 abbrev pub OtherPathsStay : Type 0
-OtherPathsStay = (job : Job) (s : Session) (holds : Contents) (path : List ℕ)
-    → All (λ (output : List ℕ). output ≢ path) (output_paths job) → after (new_files job s) holds path ≡ holds path
+OtherPathsStay = (job : Job) (s : Session) (breaks : List Break) (holds : Contents) (path : List ℕ)
+    → All (λ (output : List ℕ). output ≢ path) (output_paths job) → after (new_files job s breaks) holds path ≡ holds path

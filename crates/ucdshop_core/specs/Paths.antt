@@ -7,6 +7,7 @@
 -- log_in folder            the path of the log below a folder
 -- sets_in folder           the path of the answers to questions below a folder
 -- script_in folder         the path of a script that is made below a folder
+-- policy_in folder         the path of a policy report below a folder
 use Rattle.std.specs.Prelude.{ℕ, List, ◌++◌, map, codes}
 use Rattle.ucd_model.specs.Names.{source_path, derived_path}
 use Rattle.ucd_model.specs.SourceFiles.{source_files}
@@ -33,3 +34,6 @@ sets_in folder = path_in folder (codes "sets.txt")
 
 abbrev pub script_in : List ℕ → List ℕ
 script_in folder = path_in folder (codes "script.txt")
+
+abbrev pub policy_in : List ℕ → List ℕ
+policy_in folder = path_in folder (codes "policy.txt")

@@ -22,7 +22,7 @@ use Rattle.ucdshop_core.specs.Refusals.{refusal_line}
 use Rattle.release_rows.specs.FileItems.{FileItem}
 use Rattle.ucdshop_core.specs.Making.{data_rows}
 use Rattle.ucdshop_core.specs.Outcome.{ShelfSeen, Unchanged, LastFailedStays}
-use Rattle.ucdshop_core.specs.Run.{Job, Derive, Apply, Make, NewFile, input_of, script_of, Ending, Expected, Refuses, Finishes}
+use Rattle.ucdshop_core.specs.Run.{Job, Derive, Apply, Compare, Make, NewFile, places_of, Ending, Expected, Refuses, Finishes}
 use Rattle.ucdshop_core.specs.Writing.{files_of}
 use Rattle.shelf_io.specs.Counts.{Rose}
 use Rattle.ucdshop_core.specs.declared.plan.Plan.{Plan}
@@ -57,6 +57,7 @@ PlansAs (Err Memory) expected = ⊤
 abbrev pub CountsRows : Job → ℕ → List (List FileItem) → Type 0
 CountsRows (Derive input output) rows files = ⊤
 CountsRows (Apply input script output) rows files = ⊤
+CountsRows (Compare input script output previous) rows files = ⊤
 CountsRows (Make number output) rows files = rows ≡ data_rows files
 
 abbrev pub OnRefused : {A : Type 0} → Result A Stop → (List ℕ → Type 0) → Type 0
@@ -66,7 +67,7 @@ OnRefused (Err (ReadFailed line)) P = ⊤
 OnRefused (Err Memory) P = ⊤
 
 abbrev pub TellsOf : Stop → Job → JudgeStop → Type 0
-TellsOf (Refused line) job (Breaks refusal) = line ≡ refusal_line (input_of job) (script_of job) refusal
+TellsOf (Refused line) job (Breaks refusal) = line ≡ refusal_line (places_of job) refusal
 TellsOf Memory job stop = ⊤
 TellsOf _ job stop = ⊥
 

@@ -6,7 +6,8 @@
 -- read_failed path         a file could not be read
 -- write_failed path        a file could not be written
 -- out_of_memory            memory was wanted, and there was none
--- Counts                   how many groups were accepted, commands refused and sets answered, and policies broken
+-- Counts                   how many groups were accepted, commands refused and sets answered, and how many breaks of policies there
+--                          are
 -- summary counts           the line that says them
 -- MadeCounts               of a release that was made: its number, how many rows its UnicodeData.txt has, how many groups of its
 --                          script were accepted, how many code points these changed together, and how many code points have an
@@ -32,7 +33,7 @@ abbrev pub line_end : List ℕ
 line_end = 10 ∷ []
 
 abbrev pub usage : List ℕ
-usage = codes "usage: ucdshop derive DATA OUT | apply DATA SCRIPT OUT | make NUMBER OUT" ++ line_end
+usage = codes "usage: ucdshop derive DATA OUT | apply DATA SCRIPT OUT [PREVIOUS] | make NUMBER OUT" ++ line_end
 
 abbrev pub refused : List ℕ → ℕ → List ℕ → List ℕ
 refused path line rule = codes "refused: " ++ path ++ codes " line " ++ decimal line ++ codes " " ++ rule ++ line_end

@@ -1,11 +1,12 @@
 //! Carrying out the commands of a script.
 
-ghost use Rattle.std.specs.Prelude.{◌≡◌, ◌∷◌, ◌+◌, ◌<◌, ◌^◌, [], fold, length, IfOk, OnOk};
+ghost use Rattle.std.specs.Prelude.{◌≡◌, ℕ, ◌∷◌, ◌+◌, ◌<◌, ◌^◌, [], fold, length, IfOk, IfErr, OnOk};
 ghost use Rattle.std.specs.List.{All};
 ghost use Rattle.script_lines.specs.Groups.{AreReady, IsReady};
 ghost use Rattle.script_lines.specs.declared.command.What.TheVariants.{Group};
 ghost use Rattle.ucdshop_core.specs.Carrying.{counted, session_of};
-ghost use Rattle.ucdshop_core.specs.Session.{session, step, step_by};
+ghost use Rattle.ucdshop_core.specs.Counting.{CommandCounts, SessionCounts};
+ghost use Rattle.ucdshop_core.specs.Session.{session, started, step, step_by};
 
 use crate::answering::answer_run;
 use crate::carried::Carried;
@@ -17,7 +18,7 @@ use std::sync::ledger::Ledger;
 use ucd_model::{Memory, Steps};
 
 /// Carries out the commands of a script, in order, on the release of a bench. A question is answered on the rows as the
-/// commands before it leave them. Without commands the counter of steps stays.
+/// commands before it leave them. The counter of steps rises by at most the number of code points that depend on each group.
 ///
 /// - `Memory`: memory ran out.
 pub fn carry_out<L: Ledger>(
@@ -28,6 +29,7 @@ pub fn carry_out<L: Ledger>(
 ) -> Result<Carried, Memory>
     requires { All IsReady commands.now }
     ensures session { IfOk result (λ carried. session_of bench.new carried ≡ session bench.old.current commands.now) }
+    ensures counts { SessionCounts (started bench.old.current) commands.now steps.old steps.new }
     ensures steps { commands.now ≡ [] → steps.new ≡ steps.old }
 {
     let mut carried = Carried::new(alloc);
@@ -51,6 +53,8 @@ fn carry_some<'c, L: Ledger>(
     requires ready { All IsReady commands.now }
     requires room { counted carried.old + length commands.now < 2 ^ 64 }
     ensures session { IfOk result (λ rest. fold step (session_of bench.new carried.new) rest.now ≡ fold step (session_of bench.old carried.old) commands.now) }
+    ensures counts { (n : ℕ) → IfOk result (λ rest. SessionCounts (session_of bench.new carried.new) rest.now steps.new n → SessionCounts (session_of bench.old carried.old) commands.now steps.old n) }
+    ensures stopped { IfErr result (λ _. SessionCounts (session_of bench.old carried.old) commands.now steps.old steps.new) }
     ensures counted { IfOk result (λ rest. counted carried.new + length rest.now ≡ counted carried.old + length commands.now) }
     ensures shorter { IfOk result (λ rest. length rest.now < length commands.now) }
     ensures ready { IfOk result (λ rest. All IsReady rest.now) }
@@ -87,6 +91,7 @@ fn carry_group<L: Ledger>(
     requires ready { AreReady ops.now }
     requires room { counted carried.old + 1 < 2 ^ 64 }
     ensures session { OnOk result (session_of bench.new carried.new ≡ step_by (session_of bench.old carried.old) line (Group ops.now)) }
+    ensures counts { CommandCounts bench.old.current (Group ops.now) steps.old steps.new }
     ensures counted { OnOk result (counted carried.new ≡ counted carried.old + 1) }
 {
     match bench.apply(alloc, ops, steps) {

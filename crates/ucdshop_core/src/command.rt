@@ -4,7 +4,7 @@ ghost use Rattle.std.specs.Prelude.{◌≡◌, ◌∷◌, [], ⊤};
 ghost use Rattle.std.specs.Option.{MatchOption};
 ghost use Rattle.ucdshop_core.specs.Commands.{AsksFor, IsListed, job_of};
 ghost use Rattle.ucdshop_core.specs.Making.{number_of};
-ghost use Rattle.ucdshop_core.specs.Run.{form, input_of, make_form};
+ghost use Rattle.ucdshop_core.specs.Run.{form, input_of, make_form, previous_of};
 
 use crate::release_number::number_of;
 use ucd_model::Text;
@@ -24,6 +24,13 @@ pub enum Command<'a> {
         script: &'a [u8],
         output: &'a [u8],
     },
+    /// The same, and report what then breaks a stability policy against the release in the folder `previous`.
+    Compare {
+        input: &'a [u8],
+        script: &'a [u8],
+        output: &'a [u8],
+        previous: &'a [u8],
+    },
     /// Make the release of a number and a script for it. Both go into the folder `output`.
     Make {
         /// From 1 to 50.
@@ -38,8 +45,20 @@ impl<'a> Command<'a> {
         ensures { result.now ≡ input_of (job_of self.entry) }
     {
         match self {
-            Command::Derive { input, .. } | Command::Apply { input, .. } => input,
+            Command::Derive { input, .. }
+            | Command::Apply { input, .. }
+            | Command::Compare { input, .. } => input,
             Command::Make { output, .. } => output,
+        }
+    }
+
+    /// The folder of the earlier release; no bytes where there is none.
+    pub fn previous(self) -> &'a [u8]
+        ensures { result.now ≡ previous_of (job_of self.entry) }
+    {
+        match self {
+            Command::Compare { previous, .. } => previous,
+            Command::Derive { .. } | Command::Apply { .. } | Command::Make { .. } => b"",
         }
     }
 }
@@ -52,6 +71,9 @@ pub fn command_of(words: &[Text]) -> Option<Command<'_>>
     match words {
         [word, first, output] => short_form(word, first, output),
         [word, input, script, output] => apply_of(word, input, script, output),
+        [word, input, script, output, previous] => {
+            compare_of(word, input, script, output, previous)
+        }
         _ => None,
     }
 }
@@ -100,6 +122,29 @@ fn apply_of<'a>(
             input: input.as_slice(),
             script: script.as_slice(),
             output: output.as_slice(),
+        })
+    } else {
+        None
+    }
+}
+
+/// `apply DATA SCRIPT OUT PREVIOUS`.
+fn compare_of<'a>(
+    word: &'a Text,
+    input: &'a Text,
+    script: &'a Text,
+    output: &'a Text,
+    previous: &'a Text,
+) -> Option<Command<'a>>
+    ensures form { AsksFor result (form (word.now ∷ input.now ∷ script.now ∷ output.now ∷ previous.now ∷ [])) }
+    ensures listed { MatchOption result ⊤ (λ command. IsListed (job_of command)) }
+{
+    if word.as_slice() == b"apply".as_slice() {
+        Some(Command::Compare {
+            input: input.as_slice(),
+            script: script.as_slice(),
+            output: output.as_slice(),
+            previous: previous.as_slice(),
         })
     } else {
         None

@@ -2,8 +2,10 @@
 
 ghost use Rattle.std.specs.Prelude.{◌≡◌};
 ghost use Rattle.std.specs.Option.{option_map};
-ghost use Rattle.ucdshop_core.specs.Judging.{given_script, given_source, held_at};
+ghost use Rattle.ucdshop_core.specs.Judging.{given_script, given_source, held_at, held_place};
+ghost use Rattle.ucdshop_core.specs.declared.given.Given.TheVariants.{Made as MadeOf};
 
+use crate::refusal::Folder;
 use release_maker::Made;
 use ucd_model::{SOURCE_FILES, SourceFile, Text};
 
@@ -17,13 +19,14 @@ pub enum Given {
 }
 
 impl Given {
-    /// What a source file holds; `None` where nothing is held at its path.
-    pub fn source(&self, file: SourceFile) -> Option<&[u8]>
-        ensures { option_map (λ bytes. bytes.now) result ≡ given_source self.now file }
+    /// What a source file of a folder holds; `None` where nothing is held at its path, or the folder is not read. No earlier
+    /// release is made.
+    pub fn source(&self, folder: Folder, file: SourceFile) -> Option<&[u8]>
+        ensures { option_map (λ bytes. bytes.now) result ≡ given_source self.now folder file }
     {
         match self {
-            Given::Read(held) => held_at(held.as_slice(), file.place()),
-            Given::Made(made) => Some(made.text(file)),
+            Given::Read(held) => held_at(held.as_slice(), held_place(folder, file)),
+            Given::Made(made) => made_source(made, folder, file),
         }
     }
 
@@ -35,6 +38,26 @@ impl Given {
             Given::Read(held) => held_at(held.as_slice(), SOURCE_FILES.len()),
             Given::Made(made) => Some(made.script()),
         }
+    }
+}
+
+/// The place of a source file of a folder; those of the earlier release stand behind the script.
+fn held_place(folder: Folder, file: SourceFile) -> usize
+    ensures { result ≡ held_place folder file }
+{
+    match folder {
+        Folder::Data => file.place(),
+        Folder::Previous => SOURCE_FILES.len() + 1 + file.place(),
+    }
+}
+
+/// The text of a source file that is made; `None` of an earlier release.
+fn made_source(made: &Made, folder: Folder, file: SourceFile) -> Option<&[u8]>
+    ensures { option_map (λ bytes. bytes.now) result ≡ given_source (MadeOf made.now) folder file }
+{
+    match folder {
+        Folder::Data => Some(made.text(file)),
+        Folder::Previous => None,
     }
 }
 

@@ -12,7 +12,7 @@ ghost use Rattle.ucdshop_core.specs.Judging.{AreFor};
 ghost use Rattle.ucdshop_core.specs.Paths.{path_in};
 ghost use Rattle.ucdshop_core.specs.Planning.{HaveLines, Puts};
 ghost use Rattle.ucdshop_core.specs.Printed.{write_failed};
-ghost use Rattle.ucdshop_core.specs.Run.{derived_file, log_file, made_file, made_script, new_files, sets_file, source_file};
+ghost use Rattle.ucdshop_core.specs.Run.{derived_file, log_file, made_file, made_script, new_files, policy_file, session_files, sets_file, source_file};
 ghost use Rattle.ucdshop_core.specs.Writing.{file_of, files_of};
 ghost use Rattle.ucdshop_core.specs.declared.given.Given.TheVariants.{Made as MadeOf};
 
@@ -26,11 +26,12 @@ use crate::writing::Output;
 use derived_writer::text_over;
 use edit_session::Bench;
 use release_maker::Made;
+use stability_policies::{Breaks, report_text};
 use std::alloc::Global;
 use ucd_model::{DERIVED_FILES, DerivedFile, Memory, SOURCE_FILES, SourceFile, Span, Text};
 
-/// The files that a command writes, once the commands of its script are carried out on a bench, each with the line for
-/// the case that it can't be written.
+/// The files that a command writes, once the commands of its script are carried out on a bench, with these breaks of
+/// policies, each with the line for the case that it can't be written.
 ///
 /// - `Memory`: memory ran out.
 pub fn outputs_of(
@@ -39,15 +40,19 @@ pub fn outputs_of(
     given: &Given,
     bench: &Bench,
     carried: &Carried,
+    breaks: &Breaks,
 ) -> Result<Vec<Output>, Memory>
     requires { AreFor given.now (job_of command) }
-    ensures files { IfOk result (λ outputs. files_of outputs.items ≡ new_files (job_of command.entry) (session_of bench.now carried.now)) }
+    ensures files { IfOk result (λ outputs. files_of outputs.items ≡ new_files (job_of command.entry) (session_of bench.now carried.now) breaks.now) }
     ensures lines { IfOk result (λ outputs. HaveLines outputs.items) }
 {
     let mut outputs = Vec::new(alloc);
     match command {
         Command::Derive { output, .. } => put_derived(alloc, output, bench, &mut outputs)?,
         Command::Apply { output, .. } => put_all(alloc, output, bench, carried, &mut outputs)?,
+        Command::Compare { output, .. } => {
+            put_compared(alloc, output, bench, carried, breaks, &mut outputs)?;
+        }
         Command::Make { output, .. } => put_given(alloc, output, given, &mut outputs)?,
     }
     Ok(outputs)
@@ -62,12 +67,44 @@ fn put_all(
     carried: &Carried,
     outputs: &mut Vec<Output>,
 ) -> Result<(), Memory>
-    ensures { OnOk result (Puts (map (source_file folder.now bench.now.current) source_files ++ map (derived_file folder.now bench.now.current) derived_files ++ log_file folder.now carried.now.log ∷ sets_file folder.now carried.now.sets ∷ []) outputs.old.items outputs.new.items) }
+    ensures { OnOk result (Puts (session_files folder.now (session_of bench.now carried.now)) outputs.old.items outputs.new.items) }
 {
     put_sources(alloc, folder, bench, outputs)?;
     put_derived(alloc, folder, bench, outputs)?;
     put_log(alloc, folder, carried, outputs)?;
     put_sets(alloc, folder, carried, outputs)?;
+    Ok(())
+}
+
+/// Puts what `apply` with an earlier release writes below a folder: the same, and the policy report.
+fn put_compared(
+    alloc: Global,
+    folder: &[u8],
+    bench: &Bench,
+    carried: &Carried,
+    breaks: &Breaks,
+    outputs: &mut Vec<Output>,
+) -> Result<(), Memory>
+    ensures { OnOk result (Puts (session_files folder.now (session_of bench.now carried.now) ++ policy_file folder.now breaks.now ∷ []) outputs.old.items outputs.new.items) }
+{
+    put_all(alloc, folder, bench, carried, outputs)?;
+    put_report(alloc, folder, breaks, outputs)?;
+    Ok(())
+}
+
+/// Puts the policy report of these breaks below a folder.
+fn put_report(
+    alloc: Global,
+    folder: &[u8],
+    breaks: &Breaks,
+    outputs: &mut Vec<Output>,
+) -> Result<(), Memory>
+    ensures { OnOk result (Puts (policy_file folder.now breaks.now ∷ []) outputs.old.items outputs.new.items) }
+{
+    let path = path_in(alloc, folder, b"policy.txt")?;
+    let bytes = report_text(alloc, breaks)?;
+    let output = output_of(alloc, path, bytes)?;
+    outputs.push(output)?;
     Ok(())
 }
 

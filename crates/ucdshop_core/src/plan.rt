@@ -1,6 +1,6 @@
 //! What a run writes and tells, made before anything is written.
 
-ghost use Rattle.std.specs.Prelude.{◌≡◌, IfOk};
+ghost use Rattle.std.specs.Prelude.{◌≡◌, ◌||◌, IfOk, length, nat_lt};
 ghost use Rattle.ucdshop_core.specs.Carrying.{session_of};
 ghost use Rattle.ucdshop_core.specs.Commands.{job_of};
 ghost use Rattle.ucdshop_core.specs.Judging.{AreFor};
@@ -15,6 +15,7 @@ use crate::outputs::outputs_of;
 use crate::printed::{MadeCounts, RunCounts, made_summary, summary};
 use crate::writing::Output;
 use edit_session::Bench;
+use stability_policies::Breaks;
 use std::alloc::Global;
 use ucd_model::{Memory, Text};
 
@@ -29,8 +30,8 @@ pub struct Plan {
     pub done: bool,
 }
 
-/// The files that a command writes, and its summary, once the commands of its script are carried out on a bench. At the
-/// beginning UnicodeData.txt had so many rows.
+/// The files that a command writes, and its summary, once the commands of its script are carried out on a bench, with these
+/// breaks of policies. At the beginning UnicodeData.txt had so many rows.
 ///
 /// - `Memory`: memory ran out.
 pub fn plan_of(
@@ -40,28 +41,37 @@ pub fn plan_of(
     rows: usize,
     bench: &Bench,
     carried: &Carried,
+    breaks: &Breaks,
 ) -> Result<Plan, Memory>
     requires { AreFor given.now (job_of command) }
-    ensures { IfOk result (λ plan. HasPlan (ending_of (job_of command.entry) rows (session_of bench.now carried.now)) plan) }
+    ensures { IfOk result (λ plan. HasPlan (ending_of (job_of command.entry) rows (session_of bench.now carried.now) breaks.now) plan) }
 {
-    let outputs = outputs_of(alloc, command, given, bench, carried)?;
-    let summary = summary_of(alloc, command, rows, bench, carried)?;
+    let outputs = outputs_of(alloc, command, given, bench, carried, breaks)?;
+    let summary = summary_of(alloc, command, rows, bench, carried, breaks)?;
     Ok(Plan {
         outputs,
         summary,
-        done: carried.refused > 0,
+        done: is_done(carried, breaks),
     })
 }
 
-/// The summary of a command.
+/// Whether a command was refused or a policy is broken.
+fn is_done(carried: &Carried, breaks: &Breaks) -> bool
+    ensures { result ≡ (nat_lt 0 carried.now.refused || nat_lt 0 (length breaks.now)) }
+{
+    carried.refused > 0 || breaks.len() > 0
+}
+
+/// The summary of a command, with these breaks of policies.
 fn summary_of(
     alloc: Global,
     command: Command<'_>,
     rows: usize,
     bench: &Bench,
     carried: &Carried,
+    breaks: &Breaks,
 ) -> Result<Text, Memory>
-    ensures { IfOk result (λ line. line ≡ summary_of (job_of command.entry) rows (session_of bench.now carried.now)) }
+    ensures { IfOk result (λ line. line ≡ summary_of (job_of command.entry) rows (session_of bench.now carried.now) breaks.now) }
 {
     if let Command::Make { number, .. } = command {
         let counts = MadeCounts {
@@ -77,7 +87,7 @@ fn summary_of(
         accepted: carried.accepted,
         refused: carried.refused,
         answered: carried.answered,
-        broken: 0,
+        broken: breaks.len(),
     };
     summary(alloc, counts)
 }

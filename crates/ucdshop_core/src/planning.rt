@@ -4,13 +4,16 @@ ghost use Rattle.std.specs.Prelude.{◌≡◌, ◌≤◌, ◌+◌, [], IfOk, IsT
 ghost use Rattle.std.specs.List.{All};
 ghost use Rattle.ucd_model.specs.Limits.{point_count};
 ghost use Rattle.ucdshop_core.specs.Commands.{IsListed, MayStep, job_of};
+ghost use Rattle.ucdshop_core.specs.Counting.{FormCounts, SessionCounts, VerdictCounts};
 ghost use Rattle.ucdshop_core.specs.Judging.{AreFor, ReadAs, given_verdict, inputs_of};
 ghost use Rattle.ucdshop_core.specs.Planning.{CountsRows, HasPlan, IsPlanOf, OnRefused, OnlyRead, PlansAs, TellsOf, UnreadAs};
 ghost use Rattle.ucdshop_core.specs.Promises.{shelf_seen};
 ghost use Rattle.ucdshop_core.specs.Reading.{cut};
 ghost use Rattle.ucdshop_core.specs.Refusals.{refusal_line};
-ghost use Rattle.ucdshop_core.specs.Run.{Refuses, Sees, everywhere, expected_of, input_of, inputs_ending, job_verdict, judged, needed, script_of};
+ghost use Rattle.std.specs.Option.{option_map};
+ghost use Rattle.ucdshop_core.specs.Run.{Refuses, Sees, everywhere, expected_of, inputs_ending, job_verdict, judged, needed, places_of};
 ghost use Rattle.script_lines.specs.Groups.{IsReady};
+ghost use Rattle.ucdshop_core.specs.Session.{started};
 ghost use Rattle.ucdshop_core.specs.declared.given.Given.TheVariants.{Made};
 
 use crate::carrying::carry_out;
@@ -20,13 +23,14 @@ use crate::given::Given;
 use crate::inputs::{Inputs, judge_inputs};
 use crate::making::data_rows;
 use crate::plan::{Plan, plan_of};
+use crate::policies::breaks_since;
 use crate::refusal::{JudgeStop, Refusal};
 use crate::refusing::refusal_line;
 use crate::source_path::{needed_paths, script_path};
 use crate::stop::Stop;
 use edit_session::Bench;
 use release_maker::make;
-use script_lines::Command as ScriptCommand;
+use script_lines::{Command as ScriptCommand, Commands};
 use shelf_io::Shelf;
 use std::alloc::Global;
 use std::sync::ledger::Ledger;
@@ -43,39 +47,65 @@ fn carried_plan<L: Ledger>(
     requires ready { All IsReady inputs.commands }
     requires given { AreFor given.now (job_of command) }
     ensures plan { IfOk result (λ plan. HasPlan (inputs_ending (job_of command.entry) (inputs_of inputs)) plan) }
+    ensures counts { SessionCounts (started inputs.bench.current) inputs.commands steps.old steps.new }
     ensures steps { inputs.commands ≡ [] → steps.new ≡ steps.old }
 {
     let Inputs {
-        bench: mut bench,
+        bench,
         commands,
+        earlier,
     } = inputs;
+    plan_since(alloc, command, given, bench, commands, &earlier, steps)
+}
+
+/// The same of the bench and the commands, which are let go, and of the earlier bench.
+fn plan_since<L: Ledger>(
+    alloc: Global,
+    command: Command<'_>,
+    given: &Given,
+    bench: Bench,
+    commands: Commands,
+    earlier: &Option<Bench>,
+    steps: &mut Steps<L>,
+) -> Result<Plan, Memory>
+    requires ready { All IsReady commands }
+    requires given { AreFor given.now (job_of command) }
+    ensures plan { IfOk result (λ plan. HasPlan (inputs_ending (job_of command.entry) (record { files = bench.current; commands = commands; earlier = option_map (λ before. before.current) earlier.now })) plan) }
+    ensures counts { SessionCounts (started bench.current) commands steps.old steps.new }
+    ensures steps { commands ≡ [] → steps.new ≡ steps.old }
+{
+    let mut bench = bench;
     plan_after(
         alloc,
         command,
         given,
         &mut bench,
         commands.as_slice(),
+        earlier,
         steps,
     )
 }
 
-/// The same of the bench and the commands that were read.
+/// The same of the bench, the commands and the earlier bench that were read.
 fn plan_after<L: Ledger>(
     alloc: Global,
     command: Command<'_>,
     given: &Given,
     bench: &mut Bench,
     commands: &[ScriptCommand],
+    earlier: &Option<Bench>,
     steps: &mut Steps<L>,
 ) -> Result<Plan, Memory>
     requires ready { All IsReady commands.now }
     requires given { AreFor given.now (job_of command) }
-    ensures plan { IfOk result (λ plan. HasPlan (inputs_ending (job_of command.entry) (record { files = bench.old.current; commands = commands.now })) plan) }
+    ensures plan { IfOk result (λ plan. HasPlan (inputs_ending (job_of command.entry) (record { files = bench.old.current; commands = commands.now; earlier = option_map (λ before. before.current) earlier.now })) plan) }
+    ensures counts { SessionCounts (started bench.old.current) commands.now steps.old steps.new }
     ensures steps { commands.now ≡ [] → steps.new ≡ steps.old }
 {
     let rows = counted_rows(command, bench)?;
     let carried = carry_out(alloc, bench, commands, steps)?;
-    plan_of(alloc, command, given, rows, bench, &carried)
+    let breaks = breaks_since(alloc, earlier, bench)?;
+    plan_of(alloc, command, given, rows, bench, &carried, &breaks)
 }
 
 /// How many rows UnicodeData.txt has, if the summary of the command tells it; else 0.
@@ -84,7 +114,7 @@ fn counted_rows(command: Command<'_>, bench: &Bench) -> Result<usize, Memory>
 {
     match command {
         Command::Make { .. } => data_rows(bench),
-        Command::Derive { .. } | Command::Apply { .. } => Ok(0),
+        Command::Derive { .. } | Command::Apply { .. } | Command::Compare { .. } => Ok(0),
     }
 }
 
@@ -103,10 +133,16 @@ fn stop_of(alloc: Global, command: Command<'_>, stop: JudgeStop) -> Stop
 
 /// The line of a refusal of what is given to a command.
 fn told_refusal(alloc: Global, command: Command<'_>, refusal: Refusal) -> Result<Text, Memory>
-    ensures { IfOk result (λ line. line ≡ refusal_line (input_of (job_of command.entry)) (script_of (job_of command.entry)) refusal) }
+    ensures { IfOk result (λ line. line ≡ refusal_line (places_of (job_of command.entry)) refusal) }
 {
     let script = script_path(alloc, command)?;
-    refusal_line(alloc, command.input(), script.as_slice(), refusal)
+    refusal_line(
+        alloc,
+        command.input(),
+        script.as_slice(),
+        command.previous(),
+        refusal,
+    )
 }
 
 /// Judges what is given to a command, and does all that the command asks for but writing. The counter of steps rises by at
@@ -122,6 +158,7 @@ fn given_plan<L: Ledger>(
 ) -> Result<Plan, Stop>
     requires { AreFor given.now (job_of command) }
     ensures plan { PlansAs result (judged (job_of command.entry) (given_verdict (job_of command.entry) given.now)) }
+    ensures counts { VerdictCounts (job_of command.entry) (given_verdict (job_of command.entry) given.now) steps.old steps.new }
     ensures steps { MayStep (job_of command.entry) steps.old steps.new }
 {
     match judge_inputs(alloc, command, given, steps) {
@@ -147,6 +184,7 @@ fn given_texts<S: Shelf>(alloc: Global, command: Command<'_>, shelf: &mut S) -> 
         Command::Make { number, .. } => Ok(made_texts(alloc, number)?),
         Command::Derive { .. } => read_texts(alloc, command, shelf),
         Command::Apply { .. } => read_texts(alloc, command, shelf),
+        Command::Compare { .. } => read_texts(alloc, command, shelf),
     }
 }
 
@@ -203,6 +241,7 @@ pub fn prepare<S: Shelf, L: Ledger>(
         expected_of (Some (job_of command.entry)) seen ≡ Refuses line)) }
     ensures unread { UnreadAs result (needed (job_of command.entry)) (shelf_seen S.Shelf shelf.old shelf.new) }
     ensures only_read { OnlyRead (shelf_seen S.Shelf shelf.old shelf.new) }
+    ensures counts { Sees S.tells (everywhere (S.holds shelf.old)) (λ seen. FormCounts (Some (job_of command.entry)) seen steps.old steps.new) }
     ensures steps { MayStep (job_of command.entry) steps.old steps.new }
 {
     let plan = {

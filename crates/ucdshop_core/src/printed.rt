@@ -12,7 +12,7 @@ use ucd_model::{Bad, Broken, Memory, Text};
 
 /// The line for words that have no listed form.
 pub const USAGE: &[u8] =
-    b"usage: ucdshop derive DATA OUT | apply DATA SCRIPT OUT | make NUMBER OUT\n";
+    b"usage: ucdshop derive DATA OUT | apply DATA SCRIPT OUT [PREVIOUS] | make NUMBER OUT\n";
 
 /// The line for want of memory.
 pub const OUT_OF_MEMORY: &[u8] = b"out of memory\n";
@@ -26,7 +26,7 @@ pub struct RunCounts {
     pub refused: usize,
     /// How many sets were answered.
     pub answered: usize,
-    /// How many policies were broken.
+    /// How many breaks of policies there are.
     pub broken: usize,
 }
 

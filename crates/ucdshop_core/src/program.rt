@@ -4,7 +4,8 @@ ghost use Rattle.std.specs.Prelude.{◌≡◌, ◌≤◌, IsTrue, length};
 ghost use Rattle.ucdshop_core.specs.Commands.{FormMayStep};
 ghost use Rattle.ucdshop_core.specs.Outcome.{Outcome, Told, StoppedWith, Finished, status_if};
 ghost use Rattle.ucdshop_core.specs.Promises.{Promises, shelf_seen, sink_seen};
-ghost use Rattle.ucdshop_core.specs.Run.{form};
+ghost use Rattle.ucdshop_core.specs.Counting.{FormCounts};
+ghost use Rattle.ucdshop_core.specs.Run.{Sees, everywhere, form};
 
 use crate::command::command_of;
 use crate::plan::Plan;
@@ -22,8 +23,9 @@ use ucd_model::{Steps, Texts};
 /// Runs the program on its words, without the program's name: reads what they name from the shelf, writes the files
 /// that it makes to it, and tells one line to the sink.
 ///
-/// The words are `derive DATA OUT` or `apply DATA SCRIPT OUT`. All files are read before any is judged, and all texts are made before the first
-/// is written. Nothing is written unless the status is [`Status::Clean`], [`Status::Done`] or [`Status::WriteFault`].
+/// The words are `derive DATA OUT`, `apply DATA SCRIPT OUT`, `apply DATA SCRIPT OUT PREVIOUS` or `make NUMBER OUT`. All files
+/// are read before any is judged, and all texts are made before the first is written. Nothing is written unless the status
+/// is [`Status::Clean`], [`Status::Done`] or [`Status::WriteFault`].
 ///
 /// What is promised is written in `specs/Promises.antt`, a line for each promise.
 pub fn run<S: Shelf, K: Sink>(alloc: Global, words: &Texts, shelf: &mut S, out: &mut K) -> Status
@@ -49,8 +51,9 @@ fn run_anew<S: Shelf, K: Sink, L: Ledger>(
     run_counted(alloc, words, shelf, out, &mut steps)
 }
 
-/// [`run`], with a counter of the code points that are derived. With `derive` it rises by at most the number of code
-/// points, and not at all where the words have no listed form.
+/// [`run`], with a counter of the code points that are derived. It rises by at most the number of code points for each
+/// release that the words name, and if nothing is refused, by that of the code points that depend on each group of the
+/// script. It stays if the words have no listed form.
 pub fn run_counted<S: Shelf, K: Sink, L: Ledger>(
     alloc: Global,
     words: &Texts,
@@ -59,6 +62,7 @@ pub fn run_counted<S: Shelf, K: Sink, L: Ledger>(
     steps: &mut Steps<L>,
 ) -> Status
     ensures run { Promises words.now (shelf_seen S.Shelf shelf.old shelf.new) (sink_seen K.Sink out.old out.new) result }
+    ensures counted { Sees S.tells (everywhere (S.holds shelf.old)) (λ seen. FormCounts (form words.now) seen steps.old steps.new) }
     ensures steps { FormMayStep (form words.now) steps.old steps.new }
 {
     run_words(alloc, words, shelf, out, steps)
@@ -73,6 +77,7 @@ fn run_words<S: Shelf, K: Sink, L: Ledger>(
     steps: &mut Steps<L>,
 ) -> Status
     ensures outcome { Outcome words.now (shelf_seen S.Shelf shelf.old shelf.new) (sink_seen K.Sink out.old out.new) result }
+    ensures counts { Sees S.tells (everywhere (S.holds shelf.old)) (λ seen. FormCounts (form words.now) seen steps.old steps.new) }
     ensures steps { FormMayStep (form words.now) steps.old steps.new }
 {
     let Some(command) = command_of(words.as_slice()) else {

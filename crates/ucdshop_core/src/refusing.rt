@@ -3,38 +3,59 @@
 ghost use Rattle.std.specs.Prelude.{◌≡◌, ◌++◌, IfOk};
 ghost use Rattle.ucdshop_core.specs.Paths.{source_in};
 ghost use Rattle.ucdshop_core.specs.Printed.{refused, rule_code};
-ghost use Rattle.ucdshop_core.specs.Refusals.{refusal_line, script_rule_code};
+ghost use Rattle.ucdshop_core.specs.Refusals.{path_of, refusal_line, script_rule_code};
 
 use crate::printed::{refused, refused_point, row_rule_code, rule_code};
-use crate::refusal::Refusal;
+use crate::refusal::{Folder, Refusal};
 use crate::source_path::path_in;
 use script_lines::ScriptRule;
 use std::alloc::Global;
 use ucd_model::{Memory, SourceFile, Text};
 
-/// The line of a refusal of what was read below this folder and at this path of a script.
+/// The line of a refusal of what was read below the folder DATA, at this path of a script, and below the folder PREVIOUS.
 ///
 /// - `Memory`: memory ran out.
 pub fn refusal_line(
     alloc: Global,
-    folder: &[u8],
+    input: &[u8],
     script: &[u8],
+    previous: &[u8],
     refusal: Refusal,
 ) -> Result<Text, Memory>
-    ensures { IfOk result (λ line. line ≡ refusal_line folder.now script.now refusal) }
+    ensures { IfOk result (λ line. line ≡ refusal_line (record { input = input.now; script = script.now; previous = previous.now }) refusal) }
 {
     match refusal {
-        Refusal::NoFile { file } => refused_file(alloc, folder, file, 0, b"G01"),
-        Refusal::FileLine { file, line, rule } => {
-            refused_file(alloc, folder, file, line as usize, rule_code(rule))
+        Refusal::NoFile { folder, file } => {
+            refused_file(alloc, path_of(folder, input, previous), file, 0, b"G01")
         }
-        Refusal::Point(broken) => refused_point(alloc, folder, broken),
+        Refusal::FileLine {
+            folder,
+            file,
+            line,
+            rule,
+        } => {
+            let path = path_of(folder, input, previous);
+            refused_file(alloc, path, file, line as usize, rule_code(rule))
+        }
+        Refusal::Point { folder, broken } => {
+            refused_point(alloc, path_of(folder, input, previous), broken)
+        }
         Refusal::NoScript => refused(alloc, script, 0, b"G01"),
         Refusal::LongScript => refused(alloc, script, 0, b"G02"),
         Refusal::ScriptLine { line, rule } => {
             let code = script_rule_code(alloc, rule)?;
             refused(alloc, script, line as usize, code.as_slice())
         }
+    }
+}
+
+/// The path of a folder: the first of DATA, the second of PREVIOUS.
+fn path_of<'a>(folder: Folder, input: &'a [u8], previous: &'a [u8]) -> &'a [u8]
+    ensures { result.now ≡ path_of input.now previous.now folder }
+{
+    match folder {
+        Folder::Data => input,
+        Folder::Previous => previous,
     }
 }
 

@@ -31,6 +31,12 @@ pub fn needed_paths(alloc: Global, command: Command<'_>) -> Result<Texts, Memory
     match command {
         Command::Derive { input, .. } => source_paths(alloc, input),
         Command::Apply { input, script, .. } => paths_with(alloc, input, script),
+        Command::Compare {
+            input,
+            script,
+            previous,
+            ..
+        } => paths_of_two(alloc, input, script, previous),
         Command::Make { .. } => Ok(Texts::new(alloc)),
     }
 }
@@ -44,6 +50,15 @@ fn paths_with(alloc: Global, folder: &[u8], script: &[u8]) -> Result<Texts, Memo
     Ok(paths)
 }
 
+/// The same, and behind them the paths of the source files of a second folder.
+fn paths_of_two(alloc: Global, folder: &[u8], script: &[u8], second: &[u8]) -> Result<Texts, Memory>
+    ensures { IfOk result (λ paths. paths ≡ sources_in folder.now ++ script.now ∷ sources_in second.now) }
+{
+    let mut paths = paths_with(alloc, folder, script)?;
+    put_source_paths(alloc, second, &mut paths)?;
+    Ok(paths)
+}
+
 /// The path of the script of a command; no bytes where there is none.
 ///
 /// - `Memory`: memory ran out.
@@ -52,7 +67,7 @@ pub fn script_path(alloc: Global, command: Command<'_>) -> Result<Text, Memory>
 {
     match command {
         Command::Derive { .. } => Ok(Text::new(alloc)),
-        Command::Apply { script, .. } => text_of(alloc, script),
+        Command::Apply { script, .. } | Command::Compare { script, .. } => text_of(alloc, script),
         Command::Make { output, .. } => path_in(alloc, output, b"script.txt"),
     }
 }
@@ -73,8 +88,16 @@ fn source_paths(alloc: Global, folder: &[u8]) -> Result<Texts, Memory>
     ensures { IfOk result (λ paths. paths ≡ sources_in folder.now) }
 {
     let mut paths = Texts::new(alloc);
-    'files: for file in &SOURCE_FILES {
-        paths.push(path_in(alloc, folder, file.path())?)?;
-    }
+    put_source_paths(alloc, folder, &mut paths)?;
     Ok(paths)
+}
+
+/// Puts the paths of the source files of a folder, in their order.
+fn put_source_paths(alloc: Global, folder: &[u8], into: &mut Texts) -> Result<(), Memory>
+    ensures { OnOk result (into.new ≡ into.old ++ sources_in folder.now) }
+{
+    'files: for file in &SOURCE_FILES {
+        into.push(path_in(alloc, folder, file.path())?)?;
+    }
+    Ok(())
 }

@@ -1,7 +1,8 @@
-use Rattle.std.proofs.Common.{◌≡◌, ◌+◌, ◌≤◌, fold, length}
+use Rattle.std.proofs.Common.{◌≡◌, ℕ, ◌+◌, ◌≤◌, fold, length}
 use Rattle.std.specs.List.{All}
 use Rattle.script_lines.specs.Groups.{IsReady}
 use Rattle.ucdshop_core.specs.Carrying.{counted, session_on}
+use Rattle.ucdshop_core.specs.Counting.{SessionCounts}
 use Rattle.ucdshop_core.specs.Session.{step}
 use Rattle.ucdshop_core.proofs.answering.answer_more.Given as goal
 
@@ -10,6 +11,7 @@ abbrev pub invariant-questions : goal.invariant-questions
 invariant-questions l =
     record {
       session : fold step (session_on l.asking l.carried) l.rest ≡ fold step (session_on l.asking l.initial.carried) l.commands;
+      counts : (old new : ℕ) → SessionCounts (session_on l.asking l.carried) l.rest old new → SessionCounts (session_on l.asking l.initial.carried) l.commands old new;
       counted : counted l.carried + length l.rest ≡ counted l.initial.carried + length l.commands;
       left : length l.rest ≤ length l.commands;
       ready : All IsReady l.rest;

@@ -1,8 +1,9 @@
-use Rattle.std.proofs.Common.{◌≡◌, ◌+◌, [], fold, length}
+use Rattle.std.proofs.Common.{◌≡◌, ℕ, ◌+◌, [], fold, length}
 use Rattle.std.specs.List.{All}
 use Rattle.script_lines.specs.Groups.{IsReady}
 use Rattle.ucdshop_core.specs.Carrying.{counted, session_of}
-use Rattle.ucdshop_core.specs.Session.{session, step}
+use Rattle.ucdshop_core.specs.Counting.{SessionCounts}
+use Rattle.ucdshop_core.specs.Session.{session, started, step}
 use Rattle.ucdshop_core.proofs.carrying.carry_out.Given as goal
 
 -- the session so far and the commands that are left give what the whole gives; each other command is counted
@@ -10,6 +11,7 @@ abbrev pub invariant-commands : goal.invariant-commands
 invariant-commands g l =
     record {
       session : fold step (session_of l.bench l.carried) l.rest ≡ session l.initial.bench.current l.commands;
+      counts : (n : ℕ) → SessionCounts (session_of l.bench l.carried) l.rest l.steps n → SessionCounts (started l.initial.bench.current) l.commands l.initial.steps n;
       counted : counted l.carried + length l.rest ≡ length l.commands;
       ready : All IsReady l.rest;
       steps : l.commands ≡ [] → l.steps ≡ l.initial.steps;

@@ -5,4 +5,4 @@ use Rattle.ucdshop_core.proofs.judging.judge.Given as goal
 
 -- the files before this one are loaded
 abbrev pub invariant-files : goal.invariant-files
-invariant-files l = IsLoadedTo (λ file. file_verdict file (given_source l.given file)) l.at l.release
+invariant-files l = IsLoadedTo (λ file. file_verdict l.folder file (given_source l.given l.folder file)) l.at l.release

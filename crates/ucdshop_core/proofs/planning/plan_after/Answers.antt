@@ -1,13 +1,20 @@
-use Rattle.std.proofs.Common.{ap, subst, ◌∙◌}
+use Rattle.std.proofs.Common.{subst}
 use Rattle.std.specs.Prelude.{IfOk}
+use Rattle.std.specs.Option.{option_map}
 use Rattle.ucdshop_core.specs.Commands.{job_of}
 use Rattle.ucdshop_core.specs.Planning.{HasPlan}
-use Rattle.ucdshop_core.specs.Run.{Ending, ending_of}
-use Rattle.ucdshop_core.proofs.PlanningLemmas.{ending_counts}
+use Rattle.ucdshop_core.specs.Run.{Ending}
+use Rattle.ucdshop_core.specs.Session.{started}
+use Rattle.ucdshop_core.proofs.CarryingLemmas.{session_counts_none}
+use Rattle.ucdshop_core.proofs.PlanningLemmas.{ending_reached}
 use Rattle.ucdshop_core.proofs.planning.plan_after.Goals as goal
 
 pub returns-clause-plan : goal.returns-clause-plan
 returns-clause-plan g c =
     subst (λ (ending : Ending). IfOk c.plan_of.result (HasPlan ending))
-    (ap (ending_of (job_of c.args.command) c.in_ok-rows.rows) c.in_ok-carried.ensures.session ∙ ending_counts (job_of c.args.command) _ _ _ c.in_ok-rows.ensures)
+    (ending_reached (job_of c.args.command) c.in_ok-rows.rows _ (option_map (λ before. before.current) c.args.earlier.now) _ _ _
+    c.in_ok-rows.ensures c.in_ok-carried.ensures.session c.in_ok-breaks.ensures)
     c.plan_of.ensures
+
+pub returns-in_err-rows-clause-counts : goal.returns-in_err-rows-clause-counts
+returns-in_err-rows-clause-counts g c = session_counts_none (started c.args.bench.now.current) c.args.commands.now c.args.steps.now

@@ -1,5 +1,6 @@
 use Rattle.std.proofs.lemmas.Result.{err_from_is_err_and}
 use Rattle.ucdshop_core.specs.Commands.{job_of}
+use Rattle.ucdshop_core.proofs.CountingLemmas.{unread_counts}
 use Rattle.ucdshop_core.proofs.PlanningLemmas.{planned, refused}
 use Rattle.ucdshop_core.proofs.planning.prepare.Goals as goal
 
@@ -13,3 +14,6 @@ returns-in_err-plan-clause-refused g c =
     let p = err_from_is_err_and c.from_residual-in_err-plan.result c.from_residual-in_err-plan.ensures.1 in
     rw (p.1, p.2) (refused g.S.Shelf.tells (g.S.Shelf.holds c.args.shelf.now) (job_of c.args.command) c.in_ok-given.given c.in_ok-given.ensures.verdict
     _ c.in_err-plan.ensures.plan)
+
+pub returns-in_err-given-clause-counts : goal.returns-in_err-given-clause-counts
+returns-in_err-given-clause-counts g c = unread_counts g.S.Shelf.tells (g.S.Shelf.holds c.args.shelf.now) (job_of c.args.command) c.args.steps.now

@@ -1,6 +1,7 @@
-use Rattle.std.proofs.Common.{ap, sym, ◌∙◌}
+use Rattle.std.proofs.Common.{Some, ap, sym, ◌∙◌}
 use Rattle.ucdshop_core.specs.Commands.{job_of}
 use Rattle.ucdshop_core.specs.Run.{form}
+use Rattle.ucdshop_core.proofs.CountingLemmas.{form_counts, formless_counts}
 use Rattle.ucdshop_core.proofs.RunLemmas.{outcome_finished, outcome_stopped}
 use Rattle.ucdshop_core.proofs.program.run_words.Goals as goal
 
@@ -15,3 +16,12 @@ pub returns-in-Err-clause-outcome : goal.returns-in-Err-clause-outcome
 returns-in-Err-clause-outcome g c =
     outcome_stopped c.args.words.now (job_of c.in-Some.command) c.in-Err.stop _ _ c.tell_stop.result (ap form (sym c.as_slice.ensures) ∙ c.in-Some.ensures.form)
     c.in-Err.ensures.refused c.in-Err.ensures.unread c.in-Err.ensures.only_read c.tell_stop.ensures
+
+pub returns-in_default-clause-counts : goal.returns-in_default-clause-counts
+returns-in_default-clause-counts g c =
+    formless_counts g.S.Shelf.tells (g.S.Shelf.holds c.args.shelf.now) (form c.args.words.now) c.args.steps.now (ap form (sym c.as_slice.ensures) ∙ c.in_default.ensures.form)
+
+pub returns-in-Ok-clause-counts : goal.returns-in-Ok-clause-counts
+returns-in-Ok-clause-counts g c =
+    form_counts g.S.Shelf.tells (g.S.Shelf.holds c.args.shelf.now) (form c.args.words.now) (Some (job_of c.in-Some.command)) c.args.steps.now c.prepare.new.steps (ap form (sym c.as_slice.ensures) ∙ c.in-Some.ensures.form)
+    c.prepare.ensures.counts

@@ -1,0 +1,162 @@
+//! Runs of `apply` with an earlier release in which a read, a write or a print fails.
+
+use crate::compares::{BREAKS, BROKEN, EARLIER, LATER, NO_ROW, WORDS, shelf_with};
+use crate::runs::{CORE_PATH, PREVIOUS_PATHS, SOURCE_PATHS, holds, line_of, run_words};
+use shelf_io::MemoryShelf;
+use std::alloc::Global;
+use std::test::Fail;
+use ucd_model::Memory;
+use ucdshop_core::Status;
+
+/// The files that a run writes, in their order.
+const OUTPUT_PATHS: [&[u8]; 17] = [
+    b"o/UnicodeData.txt",
+    b"o/PropList.txt",
+    b"o/Scripts.txt",
+    b"o/auxiliary/WordBreakProperty.txt",
+    b"o/CompositionExclusions.txt",
+    b"o/CaseFolding.txt",
+    b"o/SpecialCasing.txt",
+    b"o/PropertyAliases.txt",
+    b"o/PropertyValueAliases.txt",
+    CORE_PATH,
+    b"o/DerivedNormalizationProps.txt",
+    b"o/extracted/DerivedGeneralCategory.txt",
+    b"o/extracted/DerivedCombiningClass.txt",
+    b"o/extracted/DerivedDecompositionType.txt",
+    b"o/bench.log",
+    b"o/sets.txt",
+    b"o/policy.txt",
+];
+
+/// The path of a read, counted from 1.
+fn read_path(nth: u32) -> &'static [u8] {
+    let place = nth as usize;
+    if 1 <= place && place <= 9 {
+        SOURCE_PATHS[place - 1]
+    } else if 11 <= place && place <= 19 {
+        PREVIOUS_PATHS[place - 11]
+    } else {
+        b"s"
+    }
+}
+
+/// Whether a run over this release is told that a read failed, counted from 1, and writes nothing.
+///
+/// - `Memory`: memory ran out.
+fn tells_read(alloc: Global, data: &[u8], nth: u32) -> Result<bool, Memory> {
+    let mut shelf = shelf_with(alloc, data, EARLIER, b"")?;
+    shelf.fail_read(nth)?;
+    let (status, out) = run_words(alloc, &WORDS, &mut shelf, 1000)?;
+    let line = line_of(alloc, b"read failed: ", read_path(nth))?;
+    Ok(
+        status == Status::ReadFault
+            && out.written() == line.as_slice()
+            && holds(&shelf, &[(CORE_PATH, b"old")])
+            && shelf.held(OUTPUT_PATHS[0]).is_none(),
+    )
+}
+
+/// Each read may fail. A failed read is told also where the release has a fault.
+#[test]
+fn each_failed_read_is_told(rt: HostRuntime) -> Result<(), Fail> {
+    for nth in 1..20 {
+        assert!(rt; tells_read(rt.alloc(), LATER, nth)?, "read {nth}");
+    }
+    for nth in [10, 11, 19] {
+        assert!(rt; tells_read(rt.alloc(), NO_ROW, nth)?, "read {nth}");
+    }
+    Ok(())
+}
+
+/// A shelf with the two releases, on which each output has an old text.
+///
+/// - `Memory`: memory ran out.
+fn shelf_to_fail(alloc: Global) -> Result<Box<MemoryShelf>, Memory> {
+    let mut shelf = shelf_with(alloc, LATER, EARLIER, b"")?;
+    for path in OUTPUT_PATHS {
+        shelf.place(path, b"old")?;
+    }
+    Ok(shelf)
+}
+
+/// Whether the outputs before a place are those of a whole run, and those after it are as they were.
+fn is_written_to(shelf: &MemoryShelf, whole: &MemoryShelf, place: usize) -> bool {
+    (0..OUTPUT_PATHS.len()).all(|at| is_left(shelf, whole, place, at))
+}
+
+/// Whether the output at a place is as it should be, where the write at another one failed.
+fn is_left(shelf: &MemoryShelf, whole: &MemoryShelf, failed: usize, at: usize) -> bool {
+    match OUTPUT_PATHS.get(at) {
+        Some(path) if at < failed => shelf.held(path) == whole.held(path),
+        Some(path) if failed < at => shelf.held(path) == Some(b"old".as_slice()),
+        _ => true,
+    }
+}
+
+/// Whether a run is told that a write failed, counted from 1, with the files before it written and those after it untouched.
+///
+/// - `Memory`: memory ran out.
+fn tells_write(alloc: Global, whole: &MemoryShelf, nth: u32) -> Result<bool, Memory> {
+    let mut shelf = shelf_to_fail(alloc)?;
+    shelf.fail_write(nth)?;
+    let (status, out) = run_words(alloc, &WORDS, &mut shelf, 1000)?;
+    let place = (nth as usize).saturating_sub(1);
+    let path = OUTPUT_PATHS.get(place).copied().unwrap_or(b"");
+    let line = line_of(alloc, b"write failed: ", path)?;
+    Ok(
+        status == Status::WriteFault
+            && out.written() == line.as_slice()
+            && is_written_to(&shelf, whole, place),
+    )
+}
+
+/// Whether the writes from one to before another, counted from 1, are told if they fail.
+///
+/// - `Memory`: memory ran out.
+fn tell_writes(alloc: Global, from: u32, to: u32) -> Result<bool, Memory> {
+    let mut whole = shelf_to_fail(alloc)?;
+    let (status, _) = run_words(alloc, &WORDS, &mut whole, 1000)?;
+    let mut told = status == Status::Done;
+    for nth in from..to {
+        told = tells_write(alloc, &whole, nth)? && told;
+    }
+    Ok(told)
+}
+
+#[test]
+fn failed_writes_of_source_files_are_told(rt: HostRuntime) -> Result<(), Fail> {
+    assert!(rt; tell_writes(rt.alloc(), 1, 10)?);
+    Ok(())
+}
+
+#[test]
+fn failed_writes_of_other_files_are_told(rt: HostRuntime) -> Result<(), Fail> {
+    assert!(rt; tell_writes(rt.alloc(), 10, 18)?);
+    Ok(())
+}
+
+/// Whether a run into a sink with room for so many bytes writes all files, and tells so much of its summary.
+///
+/// - `Memory`: memory ran out.
+fn tells_in_part(alloc: Global, room: usize) -> Result<bool, Memory> {
+    let mut shelf = shelf_to_fail(alloc)?;
+    let (status, out) = run_words(alloc, &WORDS, &mut shelf, room)?;
+    let told = BROKEN.get(..room).unwrap_or(b"");
+    Ok(
+        status == Status::WriteFault
+            && out.written() == told
+            && holds(
+                &shelf,
+                &[(b"o/policy.txt", BREAKS), (b"o/UnicodeData.txt", LATER)],
+            ),
+    )
+}
+
+#[test]
+fn a_short_sink_keeps_the_files(rt: HostRuntime) -> Result<(), Fail> {
+    for room in [0, 1, BROKEN.len() - 1] {
+        assert!(rt; tells_in_part(rt.alloc(), room)?, "room {room}");
+    }
+    Ok(())
+}

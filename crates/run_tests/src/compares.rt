@@ -1,0 +1,265 @@
+//! Runs of `apply` with an earlier release: the policy report, and what is refused.
+
+use crate::runs::{CORE_PATH, File, PREVIOUS_PATHS, holds, run_words, shelf_of};
+use shelf_io::MemoryShelf;
+use std::alloc::Global;
+use std::test::Fail;
+use ucd_model::Memory;
+use ucdshop_core::Status;
+
+/// Letters and marks, as UnicodeData.txt has them but for case mappings.
+pub const EARLIER: &[u8] =
+    b"0041;LATIN CAPITAL LETTER A;Lu;0;L;;;;;N;;;;;\n0061;LATIN SMALL LETTER A;Ll;0;L;;;;;N;;;;;\n0300;COMBINING GRAVE ACCENT;Mn;230;NSM;;;;;N;;;;;\n0301;COMBINING ACUTE ACCENT;Mn;230;NSM;;;;;N;;;;;\n";
+
+/// The same without a letter, with another class of a mark, and with a composite of both.
+pub const LATER: &[u8] =
+    b"0061;LATIN SMALL LETTER A;Ll;0;L;;;;;N;;;;;\n00E0;LATIN SMALL LETTER A WITH GRAVE;Ll;0;L;0061 0300;;;;N;;;;;\n0300;COMBINING GRAVE ACCENT;Mn;220;NSM;;;;;N;;;;;\n0301;COMBINING ACUTE ACCENT;Mn;230;NSM;;;;;N;;;;;\n";
+
+/// A change of a class, a withdrawal of no row, and a row whose mapping has no row.
+const EDITS: &[u8] =
+    b"change UnicodeData.txt 0300;COMBINING GRAVE ACCENT;Mn;220;NSM;;;;;N;;;;;\nwithdraw UnicodeData.txt 0042\nadd UnicodeData.txt 1000;X;Lo;0;L;1001;;;;N;;;;;\n";
+
+/// The policy report of the later release against the earlier one.
+pub const BREAKS: &[u8] =
+    b"P01 0041\nP03 0300\nP05 00E0\nP06 0041\nP07 0041\nP08 0041\nP09 0041\n# total 7\n";
+
+/// The summary with these breaks, and with none.
+pub const BROKEN: &[u8] =
+    b"ucdshop: 0 groups accepted, 0 commands refused, 0 sets answered, 7 policy breaks\n";
+
+const UNBROKEN: &[u8] =
+    b"ucdshop: 0 groups accepted, 0 commands refused, 0 sets answered, 0 policy breaks\n";
+
+/// The words of the runs.
+pub const WORDS: [&[u8]; 5] = [b"apply", b"d", b"s", b"o", b"p"];
+
+/// A run over the two releases: the script, the words, how it ends, and files that it leaves.
+#[derive(Clone, Copy)]
+struct Compared {
+    script: &'static [u8],
+    words: [&'static [u8]; 5],
+    status: Status,
+    summary: &'static [u8],
+    files: &'static [File],
+}
+
+const COMPARED: [Compared; 6] = [
+    Compared {
+        script: b"",
+        words: WORDS,
+        status: Status::Done,
+        summary: BROKEN,
+        files: &[
+            (b"o/policy.txt", BREAKS),
+            (b"o/UnicodeData.txt", LATER),
+            (b"o/bench.log", b""),
+            (b"p/UnicodeData.txt", EARLIER),
+        ],
+    },
+    // nothing is broken against the same release
+    Compared {
+        script: b"",
+        words: [b"apply", b"p", b"s", b"o", b"p"],
+        status: Status::Clean,
+        summary: UNBROKEN,
+        files: &[(b"o/policy.txt", b"# total 0\n")],
+    },
+    // the rows after the script are compared; refused commands leave none
+    Compared {
+        script: EDITS,
+        words: [b"apply", b"p", b"s", b"o", b"p"],
+        status: Status::Done,
+        summary: b"ucdshop: 1 groups accepted, 2 commands refused, 0 sets answered, 1 policy breaks\n",
+        files: &[
+            (b"o/policy.txt", b"P03 0300\n# total 1\n"),
+            (
+                b"o/bench.log",
+                b"1 accepted 1\n2 refused K2 operation 1\n3 refused V1 point 1000\n",
+            ),
+        ],
+    },
+    // a refused command alone gives the status
+    Compared {
+        script: b"withdraw UnicodeData.txt 0042\n",
+        words: [b"apply", b"p", b"s", b"o", b"p"],
+        status: Status::Done,
+        summary: b"ucdshop: 0 groups accepted, 1 commands refused, 0 sets answered, 0 policy breaks\n",
+        files: &[(b"o/policy.txt", b"# total 0\n")],
+    },
+    // the earlier release may be written over, since all is read before
+    Compared {
+        script: b"",
+        words: [b"apply", b"d", b"s", b"p", b"p"],
+        status: Status::Done,
+        summary: BROKEN,
+        files: &[
+            (b"p/policy.txt", BREAKS),
+            (b"p/UnicodeData.txt", LATER),
+            (CORE_PATH, b"old"),
+        ],
+    },
+    // and so may the release
+    Compared {
+        script: EDITS,
+        words: [b"apply", b"p", b"s", b"p", b"p"],
+        status: Status::Done,
+        summary: b"ucdshop: 1 groups accepted, 2 commands refused, 0 sets answered, 1 policy breaks\n",
+        files: &[
+            (b"p/policy.txt", b"P03 0300\n# total 1\n"),
+            (b"d/UnicodeData.txt", LATER),
+        ],
+    },
+];
+
+/// A shelf with the releases of these two UnicodeData.txt in `d` and `p`, and a script.
+///
+/// - `Memory`: memory ran out.
+pub fn shelf_with(
+    alloc: Global,
+    data: &[u8],
+    previous: &[u8],
+    script: &[u8],
+) -> Result<Box<MemoryShelf>, Memory> {
+    let mut shelf = shelf_of(alloc, data, b"")?;
+    for path in PREVIOUS_PATHS {
+        shelf.place(path, b"")?;
+    }
+    shelf.place(b"p/UnicodeData.txt", previous)?;
+    shelf.place(b"s", script)?;
+    Ok(shelf)
+}
+
+/// Whether a run over the two releases ends as it should.
+///
+/// - `Memory`: memory ran out.
+fn ends_so(alloc: Global, compared: &Compared) -> Result<bool, Memory> {
+    let mut shelf = shelf_with(alloc, LATER, EARLIER, compared.script)?;
+    let (status, out) = run_words(alloc, &compared.words, &mut shelf, 1000)?;
+    Ok(
+        status == compared.status
+            && out.written() == compared.summary
+            && holds(&shelf, compared.files)
+            && holds(&shelf, &[(b"o/other", b"kept"), (b"s", compared.script)]),
+    )
+}
+
+#[test]
+fn releases_are_compared(rt: HostRuntime) -> Result<(), Fail> {
+    for at in 0..COMPARED.len() {
+        assert!(rt; ends_so(rt.alloc(), &COMPARED[at])?, "run {at}");
+    }
+    Ok(())
+}
+
+/// Without an earlier release there is no report.
+#[test]
+fn one_release_has_no_report(rt: HostRuntime) -> Result<(), Fail> {
+    let alloc = rt.alloc();
+    let mut shelf = shelf_with(alloc, LATER, EARLIER, b"")?;
+    let (status, _) = run_words(alloc, &[b"apply", b"d", b"s", b"o"], &mut shelf, 1000)?;
+    assert_eq!(rt; status, Status::Clean);
+    assert_eq!(rt; shelf.held(b"o/policy.txt"), None);
+    Ok(())
+}
+
+/// A release with a fault: UnicodeData.txt of `d` and of `p`, the script, the folder of the earlier release, and the line that
+/// refuses it.
+#[derive(Clone, Copy)]
+struct Faulty {
+    data: [&'static [u8]; 2],
+    script: &'static [u8],
+    previous: &'static [u8],
+    line: &'static [u8],
+}
+
+/// A row out of the grammar, and one whose mapping has no row.
+pub const NO_ROW: &[u8] = b"0041\n";
+
+const NO_MEMBER: &[u8] = b"1000;X;Lo;0;L;1001;;;;N;;;;;\n";
+
+const FAULTY: [Faulty; 7] = [
+    Faulty {
+        data: [LATER, NO_ROW],
+        script: b"",
+        previous: b"p",
+        line: b"refused: p/UnicodeData.txt line 1 G03\n",
+    },
+    Faulty {
+        data: [LATER, NO_MEMBER],
+        script: b"",
+        previous: b"p",
+        line: b"refused: p point 1000 V1\n",
+    },
+    // nothing is there
+    Faulty {
+        data: [LATER, EARLIER],
+        script: b"",
+        previous: b"q",
+        line: b"refused: q/UnicodeData.txt line 0 G01\n",
+    },
+    // the script comes before the earlier release, and before both the release
+    Faulty {
+        data: [LATER, NO_ROW],
+        script: b"begin",
+        previous: b"p",
+        line: b"refused: s line 1 E2\n",
+    },
+    Faulty {
+        data: [NO_ROW, NO_ROW],
+        script: b"begin",
+        previous: b"p",
+        line: b"refused: d/UnicodeData.txt line 1 G03\n",
+    },
+    Faulty {
+        data: [NO_MEMBER, NO_ROW],
+        script: b"begin",
+        previous: b"p",
+        line: b"refused: d point 1000 V1\n",
+    },
+    Faulty {
+        data: [NO_MEMBER, NO_MEMBER],
+        script: b"",
+        previous: b"p",
+        line: b"refused: d point 1000 V1\n",
+    },
+];
+
+/// Whether a run is refused by its line, and writes nothing.
+///
+/// - `Memory`: memory ran out.
+fn is_refused(alloc: Global, faulty: &Faulty) -> Result<bool, Memory> {
+    let mut shelf = shelf_with(alloc, faulty.data[0], faulty.data[1], faulty.script)?;
+    let words: [&[u8]; 5] = [b"apply", b"d", b"s", b"o", faulty.previous];
+    let (status, out) = run_words(alloc, &words, &mut shelf, 1000)?;
+    Ok(
+        status == Status::LoadRefused
+            && out.written() == faulty.line
+            && holds(&shelf, &[(CORE_PATH, b"old")])
+            && shelf.held(b"o/policy.txt").is_none(),
+    )
+}
+
+#[test]
+fn the_first_fault_is_told(rt: HostRuntime) -> Result<(), Fail> {
+    for at in 0..FAULTY.len() {
+        assert!(rt; is_refused(rt.alloc(), &FAULTY[at])?, "run {at}");
+    }
+    Ok(())
+}
+
+/// A file of the earlier release has the limit of every file, and the first file with a fault is told.
+#[test]
+fn each_file_of_the_earlier_release_is_judged(rt: HostRuntime) -> Result<(), Fail> {
+    let alloc = rt.alloc();
+    let long = vec![in alloc; b'#'; 16_777_217]?;
+    let mut shelf = shelf_with(alloc, LATER, EARLIER, b"")?;
+    shelf.place(b"p/Scripts.txt", long.as_slice())?;
+    shelf.place(b"p/PropertyAliases.txt", b"x\n")?;
+    let (status, out) = run_words(alloc, &WORDS, &mut shelf, 1000)?;
+    assert_eq!(rt; status, Status::LoadRefused);
+    assert_eq!(rt;
+        out.written(),
+        b"refused: p/Scripts.txt line 0 G02\n".as_slice()
+    );
+    Ok(())
+}

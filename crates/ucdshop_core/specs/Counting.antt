@@ -1,0 +1,45 @@
+-- How far a run raises its counter of steps. A step is the derivation of one code point.
+--
+-- CommandCounts files what old new   a group raises the counter by at most the number of code points that depend on it, and not where
+--                              an operation is refused; a question leaves it
+-- SessionCounts s commands old new   so does each of the commands, in order, on the files as they are then
+-- releases_of job              how many releases the words name
+-- opened_limit job             the number of code points, for each of these releases
+-- VerdictCounts job verdict old new   the counter rises by at most that limit; and, where what is judged is not refused, further by
+--                              what the session of the commands may raise it
+-- FormCounts form seen old new   the same of what the words ask for, by what was seen; the counter stays where they have no listed form
+use Rattle.std.specs.Prelude.{◌≡◌, ◌≤◌, ℕ, ◌+◌, ◌*◌, List, [], ◌∷◌, Option, Some, None, Result, Ok, Err}
+use Rattle.ucd_model.specs.Limits.{point_count}
+use Rattle.release_rows.specs.FileItems.{FileItem}
+use Rattle.script_lines.specs.declared.command.Command.{Command}
+use Rattle.script_lines.specs.declared.command.What.{What}
+use Rattle.script_lines.specs.declared.command.What.TheVariants.{Group, Question}
+use Rattle.edit_session.specs.Groups.{CountsAs, after_ops, files_facts}
+use Rattle.ucdshop_core.specs.Run.{Job, Derive, Apply, Compare, Make, Inputs, Seen, job_verdict}
+use Rattle.ucdshop_core.specs.Session.{Session, started, step}
+use Rattle.ucdshop_core.specs.declared.refusal.Refusal.{Refusal}
+
+abbrev pub CommandCounts : List (List FileItem) → What → ℕ → ℕ → Type 0
+CommandCounts files (Group ops) old new = CountsAs (after_ops files 0 ops) (files_facts files) old new
+CommandCounts files (Question text) old new = new ≡ old
+
+unfoldable pub SessionCounts : Session → List Command → ℕ → ℕ → Type 0
+SessionCounts s [] old new = new ≡ old
+SessionCounts s (command ∷ rest) old new = (between : ℕ) × CommandCounts s.files command.what old between × SessionCounts (step s command) rest between new
+
+abbrev pub releases_of : Job → ℕ
+releases_of (Derive input output) = 1
+releases_of (Apply input script output) = 1
+releases_of (Compare input script output previous) = 2
+releases_of (Make number output) = 1
+
+abbrev pub opened_limit : Job → ℕ
+opened_limit job = releases_of job * point_count
+
+abbrev pub VerdictCounts : Job → Result Inputs Refusal → ℕ → ℕ → Type 0
+VerdictCounts job (Ok inputs) old new = (opened : ℕ) × (opened ≤ old + opened_limit job) × SessionCounts (started inputs.files) inputs.commands opened new
+VerdictCounts job (Err refusal) old new = new ≤ old + opened_limit job
+
+abbrev pub FormCounts : Option Job → Seen → ℕ → ℕ → Type 0
+FormCounts None seen old new = new ≡ old
+FormCounts (Some job) seen old new = VerdictCounts job (job_verdict job seen) old new

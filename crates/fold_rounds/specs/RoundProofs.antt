@@ -4,29 +4,37 @@
 -- found_none      where no number from 0 to 7 is a last one, no list is found
 -- found_stop      where i rounds give a list, one more round gives none, and no number below i is a last one, no list is found
 -- found_same      where i rounds, at most 7, give a list, and one more round a list with the same members, that list is found
+-- found_first_none   if the first round gives no list, no list is found
+-- found_settled   if it gives the NFKC of a settled list, and that is the same list, it is found
+-- folded_round    the first round is the NFKC of the short_fold of the NFKC of c
+-- settled_round   if that NFKC is settled, the first round is the NFKC of it
 -- alone_same      where NFKC and the folding leave c alone as it is, and c is not ignorable, its NFKC_Casefold is Same
 -- alone_ignored   where they do, and c is ignorable, it is the empty list
 -- unfolded        where a view shows no folding of c, c folds to itself alone
 -- ignored         c is ignorable exactly where the facts that a view shows of it say so
 -- alone_form      where the NFKC of c alone is a list with the members of c alone, it is c alone
 -- fixed_is_found, found_is_fixed   the laws of the same names
-use Rattle.std.proofs.Common.{◌≡◌, ℕ, zero, suc, ◌+◌, ◌<◌, ◌≤◌, Bool, true, false, cond, not, nat_le, List, [], ◌∷◌, ◌++◌, length, Option, Some, None, Ok, is_some, Bor, refl, sym, ap, ◌∙◌, arith, add-one, ◌⊎◌, inl, inr}
+use Rattle.std.proofs.Common.{◌≡◌, ℕ, zero, suc, ◌+◌, ◌<◌, ◌≤◌, Bool, true, false, cond, not, ◌&&◌, nat_le, List, [], ◌∷◌, ◌++◌, length, Option, Some, None, Result, Ok, Err, is_some, Bor, refl, sym, ap, ◌∙◌, subst, arith, add-one, ◌⊎◌, inl, inr}
+use Rattle.std.specs.List.{list_all}
 use Rattle.std.specs.Option.{option_and_then}
 use Rattle.std.specs.Str.{bytes_eq}
 use Rattle.std.proofs.lemmas.Bool.{cases_lt}
 use Rattle.std.proofs.lemmas.Bool.Decides.{nat_tests}
 use Rattle.std.proofs.lemmas.Slice.Eq.{bytes_eq-Decides}
 use Rattle.ucd_model.specs.CompositeProofs.{find_first, find_none_below}
-use Rattle.ucd_model.specs.Casing.{fold_of}
+use Rattle.ucd_model.specs.Casing.{fold, fold_of}
 use Rattle.ucd_model.specs.Facts.{Facts, image_points}
 use Rattle.ucd_model.specs.FoldRounds.{drop_ignorable, short, short_form, short_nfkc, short_fold, round, rounds, is_list, is_fixed, is_last, casefold, image_or_rule, casefold_image}
 use Rattle.ucd_model.specs.Forms.{nfkc}
 use Rattle.ucd_model.specs.Predicates.{default_ignorable}
 use Rattle.ucd_model.specs.Shown.{shown_facts, shown_is}
 use Rattle.ucd_model.specs.View.{ShowsFacts, image_shown}
+use Rattle.ucd_model.specs.declared.form.Bad.{Bad as Rule}
+use Rattle.ucd_model.specs.declared.image.Image.{Image}
 use Rattle.ucd_model.specs.declared.image.Image.TheVariants.{Same, To}
 use Rattle.ucd_model.specs.declared.view.FactsRef.{FactsRef}
-use Rattle.fold_rounds.specs.Steps.{folded_form}
+use Rattle.case_derivation.specs.Matching.{is_same}
+use Rattle.fold_rounds.specs.Steps.{folded_form, is_settled}
 use Rattle.fold_rounds.specs.RoundLaws.{IsFixed, FixedIsFound, FoundIsFixed}
 
 -- ---- lists
@@ -46,6 +54,44 @@ round_known : (F : ℕ → Facts) (s form : List ℕ) → nfkc F s ≡ Ok form �
 round_known F s form e few =
     let test : nat_le (length form) 255 ≡ true = grind (arith, nat_tests) in
     ap (λ r. option_and_then (short_nfkc F) (option_and_then (short_fold F) (short_form r))) e ∙ ap (λ b. option_and_then (short_nfkc F) (option_and_then (short_fold F) (cond b (Some form) None))) test
+
+-- ---- settled lists
+
+both_true : (t u : Bool) → (t && u) ≡ true → (t ≡ true) × (u ≡ true)
+both_true true u e = (refl, e)
+both_true false u e = cc
+
+own_image : (c : ℕ) (i : Image) → is_same i ≡ true → image_points c i ≡ c ∷ []
+own_image c Same e = refl
+own_image c (To points) e = cc
+
+settled_fold : (F : ℕ → Facts) (s : List ℕ) → list_all (λ x. is_settled x (F x)) s ≡ true → drop_ignorable F (fold F s) ≡ s
+settled_fold F [] e = refl
+settled_fold F (x ∷ s) e =
+    let parts = both_true (is_settled x (F x)) (list_all (λ y. is_settled y (F y)) s) e in
+    let own = both_true (is_same (F x).fold) (not (default_ignorable x (F x))) parts.0 in
+    let rest : List ℕ = drop_ignorable F (fold F s) in
+    ap (λ xs. drop_ignorable F (xs ++ fold F s)) (own_image x (F x).fold own.0) ∙ ap (λ b. cond b (x ∷ rest) rest) own.1 ∙ ap (λ zs. x ∷ zs) (settled_fold F s parts.1)
+
+-- what is short once is short again
+short_if : (t : Bool) (s list : List ℕ) → nat_le (length s) 255 ≡ t → cond t (Some s) None ≡ Some list → short list ≡ Some list
+short_if true s list few e = let same : s ≡ list = some_same s list e in subst (λ zs. short zs ≡ Some zs) same (ap (λ b. cond b (Some s) None) few)
+short_if false s list few e = cc
+
+form_is_short : (r : Result (List ℕ) Rule) (list : List ℕ) → short_form r ≡ Some list → short list ≡ Some list
+form_is_short (Ok s) list e = short_if (nat_le (length s) 255) s list refl e
+form_is_short (Err rule) list e = cc
+
+-- ---- the first round
+
+pub folded_round : (F : ℕ → Facts) (c : ℕ) (form : List ℕ) (folded : Option (List ℕ)) → nfkc F (c ∷ []) ≡ Ok form → length form ≤ 255 → short_fold F form ≡ folded
+    → round F (c ∷ []) ≡ option_and_then (short_nfkc F) folded
+folded_round F c form folded e few f = round_known F (c ∷ []) form e few ∙ ap (option_and_then (short_nfkc F)) f
+
+pub settled_round : (F : ℕ → Facts) (c : ℕ) (form : List ℕ) → nfkc F (c ∷ []) ≡ Ok form → length form ≤ 255 → list_all (λ x. is_settled x (F x)) form ≡ true → round F (c ∷ []) ≡ short_nfkc F form
+settled_round F c form e few settled =
+    let test : nat_le (length form) 255 ≡ true = grind (arith, nat_tests) in
+    folded_round F c form (Some form) e few (ap short (settled_fold F form settled) ∙ ap (λ b. cond b (Some form) None) test)
 
 -- ---- which rounds are last
 
@@ -144,6 +190,18 @@ module _ (F : ℕ → Facts) (c : ℕ) where
   found_same i s t few e r test =
       let same : t ≡ s = bytes_same t s test in
       found_is t i few (e ∙ ap (λ zs. Some zs) (sym same)) (ap (round F) same ∙ r)
+
+  pub found_first_none : round F (c ∷ []) ≡ None → casefold F c ≡ None
+  found_first_none r = found_stop 0 (c ∷ []) refl r (λ k lt. absurd (omega arith))
+
+  pub found_settled : (folded list : List ℕ) → round F (c ∷ []) ≡ Some list → short_nfkc F folded ≡ Some list → list_all (λ x. is_settled x (F x)) folded ≡ true → bytes_eq list folded ≡ true
+      → casefold F c ≡ Some list
+  found_settled folded list r k settled test =
+      let same : folded ≡ list = sym (bytes_same list folded test) in
+      let own : short_nfkc F list ≡ Some list = ap (short_nfkc F) (sym same) ∙ k in
+      let folds : short_fold F list ≡ Some list = ap (short_fold F) (sym same) ∙ ap short (settled_fold F folded settled) ∙ ap short same ∙ form_is_short (nfkc F folded) list k in
+      let again : round F list ≡ Some list = ap (λ r. option_and_then (short_nfkc F) (option_and_then (short_fold F) r)) own ∙ ap (option_and_then (short_nfkc F)) folds ∙ own in
+      found_is list 1 (omega arith) r again
 
   found_fixed : (s : List ℕ) → casefold F c ≡ Some s → (i : ℕ) × IsFixed F c i s
   found_fixed s e =

@@ -5,6 +5,7 @@ mod casefold;
 mod ignorable;
 pub mod laws;
 mod rounds;
+mod settled;
 
 pub use casefold::{casefold_of, nfkc_casefold};
 pub use ignorable::{default_ignorable, is_default_ignorable, is_visible_format};

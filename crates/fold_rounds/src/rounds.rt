@@ -1,12 +1,14 @@
 //! The rounds of folding.
 
-ghost use Rattle.std.specs.Prelude.{◌≡◌, IfOk, Ok, [], ◌∷◌};
+ghost use Rattle.std.specs.Prelude.{◌≡◌, IfOk, Ok, Some, [], ◌∷◌};
+ghost use Rattle.std.specs.List.{list_all};
 ghost use Rattle.std.specs.Str.{bytes_eq};
 ghost use Rattle.ucd_model.specs.FoldRounds.{short, short_nfkc, short_fold, round, casefold};
 ghost use Rattle.ucd_model.specs.Forms.{nfkc};
-ghost use Rattle.fold_rounds.specs.Steps.{folded_form};
+ghost use Rattle.fold_rounds.specs.Steps.{folded_form, is_settled};
 
 use crate::ignorable::drop_ignorable;
+use crate::settled::is_settled;
 use case_derivation::fold;
 use normalisation::nfkc;
 use std::alloc::Global;
@@ -34,12 +36,54 @@ pub(crate) fn fixed<W: FactView>(
     if form.len() > MOST {
         return Ok(None);
     }
-    let Some(mut list) = folded_form(alloc, view, form)? else {
+    if is_settled(view, form) {
+        return fixed_by(alloc, view, c, form, true);
+    }
+    match short_fold(alloc, view, form)? {
+        Some(folded) => {
+            let settled = is_settled(view, folded.as_slice());
+            fixed_by(alloc, view, c, folded.as_slice(), settled)
+        }
+        None => Ok(None),
+    }
+}
+
+/// The same from the folded list of the first round, of which it is told whether it is settled. If it is, and it is its
+/// own Normalisation Form KC, one more round leaves it as it is, and is not made.
+fn fixed_by<W: FactView>(
+    alloc: Global,
+    view: &W,
+    c: Point,
+    folded: &[Point],
+    settled: bool,
+) -> Result<Option<Points>, Memory>
+    requires first { round (W.facts_of view.now) (c ∷ []) ≡ short_nfkc (W.facts_of view.now) folded.now }
+    requires settled { settled ≡ list_all (λ x. is_settled x (W.facts_of view.now x)) folded.now }
+    ensures { IfOk result (λ found. found ≡ casefold (W.facts_of view.now) c) }
+{
+    let Some(list) = short_nfkc(alloc, view, folded)? else {
         return Ok(None);
     };
-    if is_same(list.as_slice(), &[c]) {
+    if settled && is_same(list.as_slice(), folded) {
         return Ok(Some(list));
     }
+    fixed_behind(alloc, view, c, list)
+}
+
+/// The same from the list after the first round.
+fn fixed_behind<W: FactView>(
+    alloc: Global,
+    view: &W,
+    c: Point,
+    first: Points,
+) -> Result<Option<Points>, Memory>
+    requires { round (W.facts_of view.now) (c ∷ []) ≡ Some first }
+    ensures { IfOk result (λ found. found ≡ casefold (W.facts_of view.now) c) }
+{
+    if is_same(first.as_slice(), &[c]) {
+        return Ok(Some(first));
+    }
+    let mut list = first;
     'rounds: for done in 1..LISTS {
         let Some(next) = round(alloc, view, list.as_slice())? else {
             return Ok(None);

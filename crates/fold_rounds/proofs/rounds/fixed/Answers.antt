@@ -1,24 +1,24 @@
-use Rattle.std.proofs.Common.{◌≡◌, ℕ, true, Some, None, sym, arith}
-use Rattle.std.specs.Str.{bytes_eq}
+use Rattle.std.proofs.Common.{◌≡◌, ℕ, ◌≤◌, length, Some, None, sym, ap, ◌∙◌, arith}
 use Rattle.ucd_model.specs.Facts.{Facts}
-use Rattle.ucd_model.specs.FoldRounds.{round}
-use Rattle.fold_rounds.specs.RoundProofs.{found_stop, found_same, found_none}
+use Rattle.ucd_model.specs.FoldRounds.{short_fold, short_nfkc}
+use Rattle.fold_rounds.specs.RoundProofs.{folded_round, settled_round, found_first_none}
 use Rattle.fold_rounds.proofs.rounds.fixed.Goals as goal
 
-pub returns-in_default-2 : goal.returns-in_default-2
-returns-in_default-2 g c =
-    let F : ℕ → Facts = g.W.FactView.facts_of c.args.view.now in
-    let stops : round F c.rounds.list ≡ None = cc c.in_ok-next.ensures in
-    sym (found_stop F c.args.c c.rounds.done c.rounds.list c.rounds.invariant.list stops c.rounds.invariant.before)
+pub fixed_by-requires-clause-first : goal.fixed_by-requires-clause-first
+fixed_by-requires-clause-first g c =
+    let few : length c.args.form.now ≤ 255 = omega arith in
+    settled_round (g.W.FactView.facts_of c.args.view.now) c.args.c c.args.form.now c.requires few (sym c.is_settled.ensures ∙ c.if-is_settled.true)
 
-pub returns-then-is_same-2 : goal.returns-then-is_same-2
-returns-then-is_same-2 g c =
+pub fixed_by-requires-in-Some-clause-first : goal.fixed_by-requires-in-Some-clause-first
+fixed_by-requires-in-Some-clause-first g c =
     let F : ℕ → Facts = g.W.FactView.facts_of c.args.view.now in
-    let next : round F c.rounds.list ≡ Some c.in-Some-2.next = cc c.in_ok-next.ensures in
-    let same : bytes_eq c.in-Some-2.next c.rounds.list ≡ true = cc in
-    sym (found_same F c.args.c c.rounds.done c.rounds.list c.in-Some-2.next (omega arith) c.rounds.invariant.list next same)
+    let few : length c.args.form.now ≤ 255 = omega arith in
+    let folds : short_fold F c.args.form.now ≡ Some c.in-Some.folded = cc c.in_ok-folded.ensures in
+    folded_round F c.args.c c.args.form.now (Some c.in-Some.folded) c.requires few folds ∙ ap (short_nfkc F) (sym c.as_slice-in-Some.ensures)
 
-pub returns : goal.returns
-returns g c =
+pub returns-in-None : goal.returns-in-None
+returns-in-None g c =
     let F : ℕ → Facts = g.W.FactView.facts_of c.args.view.now in
-    sym (found_none F c.args.c (λ k lt. c.rounds.invariant.before k (omega arith)))
+    let few : length c.args.form.now ≤ 255 = omega arith in
+    let none : short_fold F c.args.form.now ≡ None = cc c.in_ok-folded.ensures in
+    sym (found_first_none F c.args.c (folded_round F c.args.c c.args.form.now None c.requires few none))

@@ -1,6 +1,6 @@
 use Rattle.std.proofs.Common.{◌≡◌, ℕ, ◌<◌, false, [], ◌∷◌, Some}
 use Rattle.ucd_model.specs.FoldRounds.{rounds, is_last}
-use Rattle.fold_rounds.proofs.rounds.fixed.Given as goal
+use Rattle.fold_rounds.proofs.rounds.fixed_behind.Given as goal
 
 -- the list is what the rounds so far give, and each list before it was changed by one more round
 abbrev pub invariant-rounds : goal.invariant-rounds

@@ -1,0 +1,19 @@
+use Rattle.std.proofs.Common.{◌≡◌, ℕ, true, Some, None, sym, ◌∙◌}
+use Rattle.std.specs.Str.{bytes_eq}
+use Rattle.ucd_model.specs.Facts.{Facts}
+use Rattle.ucd_model.specs.FoldRounds.{short_nfkc}
+use Rattle.fold_rounds.specs.RoundProofs.{found_first_none, found_settled}
+use Rattle.fold_rounds.proofs.rounds.fixed_by.Goals as goal
+
+pub returns-in_default : goal.returns-in_default
+returns-in_default g c =
+    let F : ℕ → Facts = g.W.FactView.facts_of c.args.view.now in
+    let none : short_nfkc F c.args.folded.now ≡ None = cc c.in_ok-list.ensures in
+    sym (found_first_none F c.args.c (c.requires.first ∙ none))
+
+pub returns-then-is_same : goal.returns-then-is_same
+returns-then-is_same g c =
+    let F : ℕ → Facts = g.W.FactView.facts_of c.args.view.now in
+    let forms : short_nfkc F c.args.folded.now ≡ Some c.in-Some.list = cc c.in_ok-list.ensures in
+    let same : bytes_eq c.in-Some.list c.args.folded.now ≡ true = cc in
+    sym (found_settled F c.args.c c.args.folded.now c.in-Some.list (c.requires.first ∙ forms) forms (sym c.requires.settled ∙ c.if-settled.true) same)

@@ -1,5 +1,6 @@
 -- The forms of a code point alone, from its expansions.
-use Rattle.std.proofs.Common.{◌≡◌, ◌≢◌, ℕ, Bool, true, false, cond, ◌||◌, nat_lt, List, [], ◌∷◌, length, Option, Some, None, Ok, Err, if◌then◌else◌, refl, sym, ap, ◌∙◌, ◌⊎◌, inl, inr}
+use Rattle.std.proofs.Common.{◌≡◌, ◌≢◌, ℕ, Bool, true, false, cond, ◌||◌, nat_lt, List, [], ◌∷◌, length, Option, Some, None, unwrap_or, Ok, Err, if◌then◌else◌, refl, sym, ap, ◌∙◌, ◌⊎◌, inl, inr}
+use Rattle.std.specs.Option.{option_map}
 use Rattle.std.proofs.lemmas.List.{append-nil}
 use Rattle.ucd_model.specs.CanonicalOrder.{class_of, order}
 use Rattle.ucd_model.specs.Composites.{pair_of}
@@ -10,7 +11,7 @@ use Rattle.ucd_model.specs.Forms.{appended, in_order, composed, decomposed}
 use Rattle.ucd_model.specs.Validity.{is_none, is_long}
 use Rattle.ucd_model.specs.declared.form.Bad.{Bad as Rule}
 use Rattle.ucd_model.specs.declared.form.Bad.TheVariants.{V2, V3}
-use Rattle.identifier_closure.specs.PointForms.{expansion_rule, HaveForms, ExpandTo}
+use Rattle.identifier_closure.specs.PointForms.{expansion_rule, HaveForms, composed_form, ExpandTo}
 
 -- ---- the rule of two expansions
 
@@ -84,13 +85,19 @@ has_long F c rule e other = elim (faulty (full F true c) rule e) [ inl x ↦ abs
 alone : (F : ℕ → Facts) (compat : Bool) (c : ℕ) (p : List ℕ) → expansion F compat c ≡ Ok p → decomposed F compat (c ∷ []) ≡ Ok (order (class_of F) p)
 alone F compat c p e = ap (λ r. in_order F (appended r (Ok []))) e ∙ ap (λ zs. Ok (order (class_of F) zs)) (append-nil p)
 
-pub forms_are : (F : ℕ → Facts) (c : ℕ) (p q nfd nfc nfkd nfkc : List ℕ) → ExpandTo F c p q → nfd ≡ order (class_of F) p → nfc ≡ compose (class_of F) (pair_of F) nfd
-    → nfkd ≡ order (class_of F) q → nfkc ≡ compose (class_of F) (pair_of F) nfkd → HaveForms F c nfd nfc nfkc
-forms_are F c p q nfd nfc nfkd nfkc have d e k l =
+form_or : (f : List ℕ → List ℕ) (p : List ℕ) (q : Option (List ℕ)) → unwrap_or (option_map f q) (f p) ≡ f (unwrap_or q p)
+form_or f p (Some q) = refl
+form_or f p None = refl
+
+pub forms_are : (F : ℕ → Facts) (c : ℕ) (p nfd nfc : List ℕ) (q nfkc : Option (List ℕ)) → ExpandTo F c p (unwrap_or q p) → nfd ≡ order (class_of F) p
+    → nfc ≡ compose (class_of F) (pair_of F) nfd → nfkc ≡ option_map (composed_form F) q → HaveForms F c nfd nfc (unwrap_or nfkc nfc)
+forms_are F c p nfd nfc q nfkc have d e k =
     let canonical : decomposed F false (c ∷ []) ≡ Ok nfd = alone F false c p have.canonical ∙ ap (λ zs. Ok zs) (sym d) in
-    let compat : decomposed F true (c ∷ []) ≡ Ok nfkd = alone F true c q have.compat ∙ ap (λ zs. Ok zs) (sym k) in
+    let compat : decomposed F true (c ∷ []) ≡ Ok (order (class_of F) (unwrap_or q p)) = alone F true c (unwrap_or q p) have.compat in
+    let first : nfc ≡ composed_form F p = e ∙ ap (compose (class_of F) (pair_of F)) d in
+    let kept : unwrap_or nfkc nfc ≡ composed_form F (unwrap_or q p) = ap (λ r. unwrap_or r nfc) k ∙ ap (unwrap_or (option_map (composed_form F) q)) first ∙ form_or (composed_form F) p q in
     record {
       nfd = canonical;
       nfc = ap (composed F) canonical ∙ ap (λ zs. Ok zs) (sym e);
-      nfkc = ap (composed F) compat ∙ ap (λ zs. Ok zs) (sym l);
+      nfkc = ap (composed F) compat ∙ ap (λ zs. Ok zs) (sym kept);
     }

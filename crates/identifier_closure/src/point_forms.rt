@@ -1,14 +1,15 @@
 //! The forms of a code point alone.
 
 ghost use Rattle.std.specs.Prelude.{◌≡◌, Ok, Err, true, false};
-ghost use Rattle.ucd_model.specs.CanonicalOrder.{class_of, order};
+ghost use Rattle.std.specs.List.{list_any};
+ghost use Rattle.std.specs.Option.{option_map};
 ghost use Rattle.ucd_model.specs.Expansion.{expansion};
-ghost use Rattle.identifier_closure.specs.PointForms.{ExpansionsAnswer, FormsAnswer, StopsBy};
+ghost use Rattle.identifier_closure.specs.PointForms.{ExpansionsAnswer, FormsAnswer, StopsBy, composed_form, form_kc, is_compat};
 
 use decomposition::expand;
 use normalisation::{compose, order};
 use std::alloc::Global;
-use ucd_model::{Bad, FactView, FormStop, Point, Points};
+use ucd_model::{Bad, FactView, FormStop, Kind, Point, Points};
 
 /// Normalisation Forms D, C and KC of a code point alone. UAX #15, section 1.2.
 #[derive(Drop)]
@@ -17,8 +18,8 @@ pub struct Forms {
     pub nfd: Points,
     /// Normalisation Form C.
     pub nfc: Points,
-    /// Normalisation Form KC.
-    pub nfkc: Points,
+    /// Normalisation Form KC; `None` if it is Normalisation Form C, since both expansions are the same.
+    pub nfkc: Option<Points>,
 }
 
 /// The same forms, as slices.
@@ -37,12 +38,22 @@ impl Forms {
     pub fn shown(&self) -> FormsRef<'_>
         ensures nfd { result.nfd.now ≡ self.now.nfd }
         ensures nfc { result.nfc.now ≡ self.now.nfc }
-        ensures nfkc { result.nfkc.now ≡ self.now.nfkc }
+        ensures nfkc { result.nfkc.now ≡ form_kc self.now }
     {
         FormsRef {
             nfd: self.nfd.as_slice(),
             nfc: self.nfc.as_slice(),
-            nfkc: self.nfkc.as_slice(),
+            nfkc: self.form_kc(),
+        }
+    }
+
+    /// Normalisation Form KC.
+    fn form_kc(&self) -> &[Point]
+        ensures { result.now ≡ form_kc self.now }
+    {
+        match &self.nfkc {
+            Some(points) => points.as_slice(),
+            None => self.nfc.as_slice(),
         }
     }
 }
@@ -62,14 +73,15 @@ impl<'a> FormsRef<'a> {
     }
 }
 
-/// Both expansions of a code point.
+/// Both expansions of a code point; `compat` is `None` if the compatibility expansion is the canonical one.
 #[derive(Drop)]
 struct Expansions {
     canonical: Points,
-    compat: Points,
+    compat: Option<Points>,
 }
 
-/// The forms of a code point alone. UAX #15, section 1.2.
+/// The forms of a code point alone. UAX #15, section 1.2. If both expansions are the same list, it is put in order and
+/// composed once.
 ///
 /// - `Bad(V2)`: one of its expansions needs a chain of eight mappings or more, or one without end.
 /// - `Bad(V3)`: none does, and one has more than 64 code points.
@@ -80,29 +92,78 @@ pub fn forms_of<W: FactView>(alloc: Global, view: &W, c: Point) -> Result<Forms,
 {
     let Expansions {
         canonical: mut nfd,
-        compat: mut nfkc,
+        compat,
     } = both_expansions(alloc, view, c)?;
     order(view, &mut nfd);
     let mut nfc = nfd.copy(alloc)?;
     compose(view, &mut nfc);
-    order(view, &mut nfkc);
-    compose(view, &mut nfkc);
+    let nfkc = composed_form(view, compat);
     Ok(Forms { nfd, nfc, nfkc })
 }
 
+/// A list, if there is one, in canonical order and composed. It takes no memory.
+fn composed_form<W: FactView>(view: &W, points: Option<Points>) -> Option<Points>
+    ensures { result ≡ option_map (composed_form (W.facts_of view.now)) points }
+{
+    let mut points = points?;
+    order(view, &mut points);
+    compose(view, &mut points);
+    Some(points)
+}
+
 /// Both expansions of a code point, or the first rule that they break.
-#[tactic(auto, using(crate::proofs::FormLemmas::both_expanded, crate::proofs::FormLemmas::compat_rule))]
 fn both_expansions<W: FactView>(alloc: Global, view: &W, c: Point) -> Result<Expansions, FormStop>
     ensures { ExpansionsAnswer (W.facts_of view.now) c result }
 {
     match expand(alloc, view, false, c) {
-        Ok(canonical) => {
-            let compat = expand(alloc, view, true, c)?;
-            Ok(Expansions { canonical, compat })
-        }
+        Ok(canonical) => with_compat(alloc, view, c, canonical),
         Err(FormStop::Bad(rule)) => Err(first_rule(alloc, view, c, rule)),
         Err(FormStop::Memory) => Err(FormStop::Memory),
     }
+}
+
+/// Both expansions of a code point with this canonical expansion, or the first rule that they break. If no member of the
+/// canonical expansion has a compatibility mapping, the other expansion is the same, and is not made.
+#[tactic(auto, using(crate::proofs::FormLemmas::both_expanded, crate::proofs::FormLemmas::compat_rule))]
+fn with_compat<W: FactView>(
+    alloc: Global,
+    view: &W,
+    c: Point,
+    canonical: Points,
+) -> Result<Expansions, FormStop>
+    requires { expansion (W.facts_of view.now) false c ≡ Ok canonical }
+    ensures { ExpansionsAnswer (W.facts_of view.now) c result }
+{
+    if !has_compat(view, canonical.as_slice()) {
+        return Ok(Expansions {
+            canonical,
+            compat: None,
+        });
+    }
+    let compat = expand(alloc, view, true, c)?;
+    Ok(Expansions {
+        canonical,
+        compat: Some(compat),
+    })
+}
+
+/// Whether one of these code points has a compatibility mapping.
+fn has_compat<W: FactView>(view: &W, points: &[Point]) -> bool
+    ensures { result ≡ list_any (λ x. is_compat (W.facts_of view.now x).kind) points.now }
+{
+    'members: for member in points {
+        if is_compat(view.kind(*member)) {
+            return true;
+        }
+    }
+    false
+}
+
+/// Whether a mapping of this kind is a compatibility mapping.
+fn is_compat(kind: Kind) -> bool
+    ensures { result ≡ is_compat kind }
+{
+    matches!(kind, Kind::Compat(_))
 }
 
 /// The first rule that the expansions of a code point break, where the canonical one breaks this rule.

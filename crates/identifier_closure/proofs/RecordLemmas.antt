@@ -46,6 +46,11 @@ lacks_shown F c r shows = ap (λ (G : Facts). list_any (lacks_row F c) (mappings
 pub hidden_shown : (F : ℕ → Facts) (c : ℕ) (r : FactsRef) → ShowsFacts r (F c) → hidden_of F c (shown_facts r) ≡ is_hidden F c
 hidden_shown F c r shows = ap (hidden_of F c) (shown_is r (F c) shows)
 
+-- ---- the checks
+
+pub same_check : (F : ℕ → Facts) (c : ℕ) (s t : List ℕ) → bytes_eq s t ≡ true → quick_composed F c t ≡ quick_composed F c s
+same_check F c s t e = ap (quick_composed F c) (sym ((bytes_eq-Decides s t).0 e))
+
 -- ---- the folding
 
 ok_same : (i j : Image) → ◌≡◌ {A = Result Image Rule} (Ok i) (Ok j) → i ≡ j

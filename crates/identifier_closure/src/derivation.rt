@@ -8,6 +8,7 @@ ghost use Rattle.ucd_model.specs.View.{ShowsFacts};
 ghost use Rattle.identifier_closure.specs.Derived.{DerivesAs, RecordAnswers};
 ghost use Rattle.identifier_closure.specs.PointForms.{expansion_rule, HaveForms};
 
+use crate::composed_checks::composed_checks;
 use crate::composites::is_hidden;
 use crate::core_set::core_set;
 use crate::identifiers::closure_of;
@@ -16,7 +17,7 @@ use crate::point_forms::{FormsRef, forms_of};
 use crate::predicates::ToldByForms;
 use case_derivation::changes_when;
 use fold_rounds::casefold_of;
-use quick_checks::{is_fully_excluded, quick_composed, quick_decomposed};
+use quick_checks::{is_fully_excluded, quick_decomposed};
 use std::alloc::Global;
 use std::sync::ledger::Ledger;
 use ucd_model::{Bad, FactView, FactsRef, FormStop, Image, Kind, Point, Queries, Record, Steps};
@@ -116,6 +117,7 @@ fn record_of<W: FactView>(
         xid_start: closed.start,
         xid_continue: closed.continues,
     };
+    let checks = composed_checks(view, c, forms);
     let changes_casefold = match casefold {
         Image::Same => false,
         Image::To(_) => true,
@@ -127,9 +129,9 @@ fn record_of<W: FactView>(
         core: core_set(c, facts, told),
         exclusion: is_fully_excluded(view, c, facts),
         nfd: quick_decomposed(facts.kind, false),
-        nfc: quick_composed(view, c, forms.nfc),
+        nfc: checks.nfc,
         nfkd: quick_decomposed(facts.kind, true),
-        nfkc: quick_composed(view, c, forms.nfkc),
+        nfkc: checks.nfkc,
         casefold,
         changes_casefold,
     }

@@ -2,6 +2,7 @@
 //! section 5.3; UAX #31, section 5.1.
 #![tactic(auto)]
 
+mod composed_checks;
 mod composites;
 mod core_set;
 mod derivation;

@@ -17,9 +17,9 @@ returns g c =
       core = c.core_set.result;
       exclusion = c.is_fully_excluded.result;
       nfd = c.quick_decomposed.result;
-      nfc = c.quick_composed.result;
+      nfc = c.composed_checks-checks.result.nfc;
       nfkd = c.quick_decomposed-2.result;
-      nfkc = c.quick_composed-2.result;
+      nfkc = c.composed_checks-checks.result.nfkc;
       casefold = c.args.casefold;
       changes_casefold = c.match-casefold.changes_casefold;
     } in
@@ -37,9 +37,9 @@ returns g c =
       xid_continue = c.closure_of-closed.ensures.continues;
       exclusion = c.is_fully_excluded.ensures;
       nfd = c.quick_decomposed.ensures;
-      nfc = c.quick_composed.ensures;
+      nfc = c.composed_checks-checks.ensures.nfc;
       nfkd = c.quick_decomposed-2.ensures;
-      nfkc = c.quick_composed-2.ensures;
+      nfkc = c.composed_checks-checks.ensures.nfkc;
       changes = changes;
     } in
     record_is F c.args.c c.args.facts.now c.args.forms.nfd.now c.args.forms.nfc.now c.args.forms.nfkc.now kept told c.requires.facts c.requires.forms c.requires.casefold refl refl refl c.core_set.ensures found

@@ -1,5 +1,5 @@
 -- What is derived, over facts that are the same.
-use Rattle.std.proofs.Common.{◌≡◌, ℕ, List, Option, Some, None, Ok, Err, refl, sym, ap, subst, ◌∙◌}
+use Rattle.std.proofs.Common.{◌≡◌, ℕ, Bool, true, false, List, Option, Some, None, Ok, Err, refl, sym, ap, subst, ◌∙◌}
 use Rattle.range_table.specs.Values.{SameValues}
 use Rattle.ucd_model.specs.Facts.{Facts}
 use Rattle.ucd_model.specs.Limits.{point_count}
@@ -16,9 +16,16 @@ use Rattle.rederivation.specs.Turned.{CountsWithin, IsReady, IsTurned, StopsTurn
 use Rattle.rederivation.specs.declared.again_stop.AgainStop.{AgainStop}
 use Rattle.rederivation.specs.declared.again_stop.AgainStop.TheVariants.{Broken as Breaks, Memory as Lacking}
 use Rattle.release_rows.specs.FileItems.{FileItem}
+use Rattle.code_facts.specs.FactTables.{tables_facts}
+use Rattle.dependency_map.specs.Maps.{asked_at}
+use Rattle.kept_values.specs.Kept.{values}
+use Rattle.paged_table.specs.Paged.{values_now}
 use Rattle.edit_session.specs.Benches.{NamesBroken}
-use Rattle.edit_session.specs.Derivations.{AreOf}
+use Rattle.edit_session.specs.Derivations.{AreOf, IsNow}
+use Rattle.edit_session.specs.declared.derivation.Derivation.{Derivation}
+use Rattle.edit_session.specs.declared.questions.Questions.{Questions}
 use Rattle.edit_session.specs.FirstRecords.{SameRecords}
+use Rattle.edit_session.specs.Questions.{Keeps, KeepsNow}
 use Rattle.edit_session.specs.Groups.{AnswersAs, changed, checked_files, files_facts, refused_by, valid_files}
 use Rattle.edit_session.specs.declared.apply_stop.ApplyStop.{ApplyStop}
 use Rattle.edit_session.specs.declared.apply_stop.ApplyStop.TheVariants.{Refused as Refuses}
@@ -33,34 +40,65 @@ Files = List (List FileItem)
 pub named_over : (F G : ℕ → Facts) (stop : OpenStop) → F ≡ G → NamesBroken stop F → NamesBroken stop G
 named_over F G stop same named = subst (NamesBroken stop) same named
 
+-- the same questions, kept elsewhere
 pub kept_same : (A B : ℕ → List Query) (F : ℕ → Facts) → SameValues B A → KeepsAsked A F → KeepsAsked B F
 unfolding point_count
 kept_same A B F same kept = λ c lt q. ap (λ (qs : List Query). is_asked qs q) (same c lt) ∙ kept c lt q
 
--- the same facts, records and questions, kept elsewhere
-pub moved : (F before after : ℕ → Facts) (old new : RecordsOf) (A B : ℕ → List Query) → after ≡ before → new ≡ old → SameValues B A → AreOf F before (record_of old) A → AreOf F after (record_of new) B
-moved F before after old new A B same list questions is = record {
+pub keeps_same : (listed : Bool) (A B : ℕ → List Query) (F : ℕ → Facts) → SameValues B A → Keeps listed A F → Keeps listed B F
+keeps_same true A B F same kept = kept_same A B F same kept
+keeps_same false A B F same plain = λ c lt. same c lt ∙ plain c lt
+
+-- once they were listed
+keeps_asked : (listed : Bool) (A : ℕ → List Query) (F : ℕ → Facts) → listed ≡ true → Keeps listed A F → KeepsAsked A F
+keeps_asked true A F is kept = kept
+keeps_asked false A F is plain = absurd cc
+
+keeps_listed : (listed : Bool) (A : ℕ → List Query) (F : ℕ → Facts) → listed ≡ true → KeepsAsked A F → Keeps listed A F
+keeps_listed true A F is kept = kept
+keeps_listed false A F is kept = absurd cc
+
+-- the same facts and records, kept elsewhere, and questions that are kept as well
+pub moved : (F before after : ℕ → Facts) (old new : RecordsOf) (then now : Bool) (A B : ℕ → List Query) → after ≡ before → new ≡ old → (Keeps then A F → Keeps now B F) → AreOf F before (record_of old) then A → AreOf F after (record_of new) now B
+moved F before after old new then now A B same list questions is = record {
   same = same ∙ is.same;
   valid = is.valid;
   records = subst (λ (rs : RecordsOf). SameRecords (record_of rs) (record_at F)) (sym list) is.records;
-  kept = kept_same A B F questions is.kept;
+  kept = questions is.kept;
+}
+
+-- the facts under another name
+pub valid_over : (F G : ℕ → Facts) → F ≡ G → IsValid F → IsValid G
+valid_over F G same valid = subst IsValid same valid
+
+pub keeps_over : (F G : ℕ → Facts) (listed : Bool) (A : ℕ → List Query) → F ≡ G → Keeps listed A F → Keeps listed A G
+keeps_over F G listed A same kept = subst (λ (H : ℕ → Facts). Keeps listed A H) same kept
+
+-- questions that were listed for these facts
+pub listed_now : (d : Derivation) (questions : Questions) (F : ℕ → Facts) → KeepsNow (tables_facts values_now d.tables) questions → IsNow F d
+    → AreOf F (tables_facts values_now d.tables) (record_of d.records.current) questions.listed (asked_at (values values_now) questions.map)
+listed_now d questions F kept is = record {
+  same = is.same;
+  valid = is.valid;
+  records = is.records;
+  kept = keeps_over (tables_facts values_now d.tables) F questions.listed (asked_at (values values_now) questions.map) is.same kept;
 }
 
 -- ---- a turn
 
-pub ready : (F G start before view : ℕ → Facts) (R : ℕ → Record) (A N : ℕ → List Query) (Q : List Query) → AreOf F start R A → before ≡ start → SameValues N A → view ≡ G → TellsChanges before G Q → IsReady F view R A N Q
-ready F G start before view R A N Q is stays still shown tells = record {
+pub ready : (F G start before view : ℕ → Facts) (R : ℕ → Record) (listed : Bool) (A N : ℕ → List Query) (Q : List Query) → listed ≡ true → AreOf F start R listed A → before ≡ start → SameValues N A → view ≡ G → TellsChanges before G Q → IsReady F view R A N Q
+ready F G start before view R listed A N Q known is stays still shown tells = record {
   valid = is.valid;
   records = is.records;
-  kept = is.kept;
+  kept = keeps_asked listed A F known is.kept;
   still = still;
   changes = subst (λ (H : ℕ → Facts). TellsChanges F H Q) (sym shown) (subst (λ (H : ℕ → Facts). TellsChanges H G Q) (stays ∙ is.same) tells);
 }
 
-pub turned : (F G view next : ℕ → Facts) (S : ℕ → Record) (B : ℕ → List Query) (points : List ℕ) → view ≡ next → next ≡ G → IsTurned F view S B points → AreOf G next S B
-turned F G view next S B points shown is turn =
+pub turned : (F G view next : ℕ → Facts) (S : ℕ → Record) (listed : Bool) (B : ℕ → List Query) (points : List ℕ) → listed ≡ true → view ≡ next → next ≡ G → IsTurned F view S B points → AreOf G next S listed B
+turned F G view next S listed B points known shown is turn =
     let over : IsTurned F G S B points = subst (λ (H : ℕ → Facts). IsTurned F H S B points) (shown ∙ is) turn in
-    record { same = is; valid = over.valid; records = over.records; kept = over.kept }
+    record { same = is; valid = over.valid; records = over.records; kept = keeps_listed listed B G known over.kept }
 
 pub turned_points : (F G view : ℕ → Facts) (S : ℕ → Record) (B : ℕ → List Query) (points : List ℕ) → view ≡ G → IsTurned F view S B points → points ≡ changed F G
 turned_points F G view S B points shown turn =

@@ -1,4 +1,5 @@
 mod FirstSteps
+mod FirstQuestions
 mod DerivationLemmas
 mod TouchedLemmas
 mod CountLemmas

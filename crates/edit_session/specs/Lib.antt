@@ -1,5 +1,6 @@
 pub mod FirstRecords
 pub mod Benches
+pub mod Questions
 pub mod Derivations
 pub mod Groups
 pub mod Standing

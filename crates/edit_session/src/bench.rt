@@ -24,8 +24,8 @@ use std::sync::ledger::Ledger;
 use ucd_model::{FactView, FactsRef, Kind, Point, Record, Records, Steps};
 use uniform_facts::UniformFacts;
 
-/// A valid release, with the facts of its rows, the records of all code points and what each of them asks. Contracts see
-/// the items of its files, which give the facts and the records.
+/// A valid release, with the facts of its rows, the records of all code points and, once a group came, what each of them
+/// asks. Contracts see the items of its files, which give the facts and the records.
 #[derive(Drop)]
 pub struct Bench {
     release: Release,

@@ -1,30 +1,22 @@
 //! What is derived of the facts of a release, now and next.
 
-ghost use Rattle.std.specs.Prelude.{◌≡◌, ℕ, ◌+◌, ◌≤◌, false, Ok, IfOk, IfErr, OnOk};
+ghost use Rattle.std.specs.Prelude.{◌≡◌, ℕ, ◌+◌, ◌≤◌, true, false, Ok, IfOk, IfErr, OnOk};
 ghost use Rattle.std.specs.List.{list_any};
-ghost use Rattle.asked_queries.specs.Turns.{KeepsAsked};
 ghost use Rattle.code_facts.specs.FactTables.{tables_facts, tables_next};
-ghost use Rattle.dependency_map.specs.Maps.{asked_at};
-ghost use Rattle.kept_values.specs.Kept.{values};
-ghost use Rattle.paged_table.specs.Paged.{values_next, values_now};
-ghost use Rattle.range_table.specs.Values.{SameValues};
-ghost use Rattle.record_list.specs.Runs.{record_of};
+ghost use Rattle.paged_table.specs.Paged.{values_now};
 ghost use Rattle.rederivation.specs.Turned.{CountsWithin};
 ghost use Rattle.ucd_model.specs.Facts.{Facts, within};
 ghost use Rattle.ucd_model.specs.Limits.{point_count};
-ghost use Rattle.ucd_model.specs.Records.{record_at};
-ghost use Rattle.ucd_model.specs.ValidityLaws.{IsValid};
 ghost use Rattle.edit_session.specs.Benches.{bench_facts, NamesBroken};
 ghost use Rattle.edit_session.specs.Derivations.{IsNext, IsNow, IsStill};
-ghost use Rattle.edit_session.specs.FirstRecords.{SameRecords};
 ghost use Rattle.edit_session.specs.declared.open_stop.OpenStop.TheVariants.{Memory as Lacking};
 ghost use Rattle.edit_session.specs.Groups.{AnswersAs, changed, checked_files, files_facts};
 
 use crate::apply_stop::ApplyStop;
-use crate::first_points::{QuestionMap, derive_all};
+use crate::first_points::derive_all;
 use crate::open_stop::OpenStop;
+use crate::questions::Questions;
 use code_facts::FactTables;
-use dependency_map::DependencyMap;
 use paged_table::PagedTable;
 use record_list::RecordTable;
 use rederivation::turn;
@@ -33,7 +25,8 @@ use std::alloc::Global;
 use std::sync::ledger::Ledger;
 use ucd_model::{Points, Spans, Steps};
 
-/// The facts of a release, the records that are derived of them, and what each code point asks of them; now and next.
+/// The facts of a release, the records that are derived of them, and, once a group came, what each code point asks of them;
+/// now and next.
 #[derive(Drop)]
 pub struct Derivation {
     /// The facts.
@@ -41,7 +34,7 @@ pub struct Derivation {
     /// The records of all code points.
     pub records: RecordTable,
     /// What they ask.
-    pub map: QuestionMap,
+    pub questions: Questions,
 }
 
 impl Derivation {
@@ -91,6 +84,29 @@ impl Derivation {
         ensures changed { IfOk result (λ points. points ≡ changed (files_facts release.now.current) (files_facts release.now.prepared)) }
         ensures steps { CountsWithin (files_facts release.now.current) (files_facts release.now.prepared) steps.old steps.new }
     {
+        self.questions.list(alloc, &self.tables)?;
+        self.turn_listed(alloc, release, touched, steps)
+    }
+
+    /// The same, once it was listed what the code points ask.
+    fn turn_listed<L: Ledger>(
+        &mut self,
+        alloc: Global,
+        release: &Release,
+        touched: &Spans,
+        steps: &mut Steps<L>,
+    ) -> Result<Points, ApplyStop>
+        requires now { IsNow (files_facts release.now.current) self.old }
+        requires still { IsStill self.old }
+        requires listed { self.old.questions.listed ≡ true }
+        requires touched { (c : ℕ) → list_any (within c) touched.now ≡ false
+            → files_facts release.now.prepared c ≡ files_facts release.now.current c }
+        ensures answer { AnswersAs result (checked_files (Ok release.now.prepared)) release.now.prepared }
+        ensures now { (F : ℕ → Facts) → IsNow F self.old → IsNow F self.new }
+        ensures next { OnOk result (IsNext (files_facts release.now.prepared) self.new) }
+        ensures changed { IfOk result (λ points. points ≡ changed (files_facts release.now.current) (files_facts release.now.prepared)) }
+        ensures steps { CountsWithin (files_facts release.now.current) (files_facts release.now.prepared) steps.old steps.new }
+    {
         self.tables.prepare(alloc, release, touched)?;
         let queries = self.tables.queries_changed(alloc)?;
         let view = self.tables.next();
@@ -99,7 +115,7 @@ impl Derivation {
             &view,
             &queries,
             &mut self.records,
-            &mut self.map,
+            &mut self.questions.map,
             steps,
         ) {
             Ok(changed) => Ok(changed),
@@ -114,7 +130,7 @@ impl Derivation {
     {
         self.tables.commit();
         self.records.commit();
-        self.map.commit();
+        self.questions.commit();
     }
 
     /// What is now becomes next. It takes no memory.
@@ -124,7 +140,7 @@ impl Derivation {
     {
         self.tables.discard();
         self.records.discard();
-        self.map.discard();
+        self.questions.discard();
     }
 }
 
@@ -141,7 +157,7 @@ fn boxed(alloc: Global, made: Derivation) -> Result<Box<Derivation>, OpenStop>
     }
 }
 
-/// What is derived of the facts that tables have now.
+/// What is derived of the facts that tables have now; what the code points ask is not listed yet.
 fn derive_over<L: Ledger>(
     alloc: Global,
     tables: FactTables<PagedTable>,
@@ -153,35 +169,12 @@ fn derive_over<L: Ledger>(
     ensures invalid { IfErr result (λ stop. NamesBroken stop (tables_facts values_now tables)) }
     ensures steps { steps.new ≤ steps.old + point_count }
 {
-    match derive_anew(alloc, &tables, steps) {
-        Ok((records, map)) => Ok(Derivation {
+    match derive_all(alloc, &tables, steps) {
+        Ok(records) => Ok(Derivation {
             tables,
             records,
-            map,
+            questions: Questions::new(alloc),
         }),
-        Err(stop) => Err(stop),
-    }
-}
-
-/// The records that are derived of the facts that tables have now, and what the code points ask.
-fn derive_anew<L: Ledger>(
-    alloc: Global,
-    tables: &FactTables<PagedTable>,
-    steps: &mut Steps<L>,
-) -> Result<(RecordTable, QuestionMap), OpenStop>
-    ensures valid { OnOk result (IsValid (tables_facts values_now tables.now)) }
-    ensures records { IfOk result (λ made. SameRecords (record_of made.0.current) (record_at (tables_facts values_now tables.now))) }
-    ensures asked { IfOk result (λ made. KeepsAsked (asked_at (values values_now) made.1) (tables_facts values_now tables.now)) }
-    ensures still { IfOk result (λ made. SameValues (asked_at (values values_next) made.1) (asked_at (values values_now) made.1)) }
-    ensures invalid { IfErr result (λ stop. NamesBroken stop (tables_facts values_now tables.now)) }
-    ensures steps { steps.new ≤ steps.old + point_count }
-{
-    let mut map = DependencyMap::new(alloc);
-    match derive_all(alloc, tables, &mut map, steps) {
-        Ok(records) => {
-            map.commit();
-            Ok((records, map))
-        }
         Err(stop) => Err(stop),
     }
 }

@@ -8,6 +8,7 @@ mod derivation;
 mod first_points;
 mod group;
 mod open_stop;
+mod questions;
 
 pub use accepted::Accepted;
 pub use apply_stop::{ApplyStop, Refused};

@@ -9,12 +9,12 @@ use Rattle.edit_session.proofs.first_points.derive_run.Goals as goal
 pub returns-in_ok-push_run-in-Ok-clause-records : goal.returns-in_ok-push_run-in-Ok-clause-records
 returns-in_ok-push_run-in-Ok-clause-records g c =
     let F : ℕ → Facts = tables_facts values_now c.args.tables.now in
-    let here : derived F c.args.c ≡ Ok (kept_record c.in-Ok.found.value) = c.in-Ok.ensures.found.0 in
-    run_below c.args.list.now.current c.push_run.new.self.current c.args.c c.in_ok-end-in-Ok.end F (kept_record c.in-Ok.found.value) c.requires.records c.in_ok-push_run-in-Ok.ensures.count
-    c.in_ok-push_run-in-Ok.ensures.added c.in_ok-push_run-in-Ok.ensures.others (λ k from lt. c.in_ok-end-in-Ok.ensures.alike k from lt ∙ here)
+    let here : derived F c.args.c ≡ Ok (kept_record c.in-Ok.found.value) = c.in-Ok.ensures.found in
+    run_below c.args.list.now.current c.push_run.new.self.current c.args.c c.end_of_alike-end.result F (kept_record c.in-Ok.found.value) c.requires c.in_ok-push_run-in-Ok.ensures.count
+    c.in_ok-push_run-in-Ok.ensures.added c.in_ok-push_run-in-Ok.ensures.others (λ k from lt. c.end_of_alike-end.ensures.alike k from lt ∙ here)
 
 pub returns-in-Err-clause-invalid : goal.returns-in-Err-clause-invalid
 returns-in-Err-clause-invalid g c =
     let F : ℕ → Facts = tables_facts values_now c.args.tables.now in
     let inside : c.args.c < 1114112 = omega (arith, c.number-number.ensures.value, c.number-number.ensures.bound) in
-    stops c.args.list.now.current c.args.c F c.in-Err.stop inside c.requires.records c.in-Err.ensures.found
+    stops c.args.list.now.current c.args.c F c.in-Err.stop inside c.requires c.in-Err.ensures.found

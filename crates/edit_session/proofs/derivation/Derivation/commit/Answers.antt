@@ -8,4 +8,5 @@ use Rattle.edit_session.proofs.derivation.Derivation.commit.Goals as goal
 pub returns-clause-committed : goal.returns-clause-committed
 returns-clause-committed c = λ F is.
     moved F (tables_next values_now c.args.self.now.tables) (tables_facts values_now c.commit.new.self) c.args.self.now.records.prepared c.commit-2.new.self.current
-    (asked_at (values values_next) c.args.self.now.map) (asked_at (values values_now) c.commit-3.new.self) c.commit.ensures.committed c.commit-2.ensures.committed c.commit-3.ensures.committed is
+    c.args.self.now.questions.listed c.commit-3.new.self.listed (asked_at (values values_next) c.args.self.now.questions.map) (asked_at (values values_now) c.commit-3.new.self.map)
+    c.commit.ensures.committed c.commit-2.ensures.committed (c.commit-3.ensures.committed F) is

@@ -1,7 +1,7 @@
 //! P17: the names of rows of alias files. UAX #44, section 5.8.
 
-ghost use Rattle.std.specs.Prelude.{◌≡◌, ◌++◌, cond, ◌∷◌, [], map, not, IfOk, OnOk};
-ghost use Rattle.std.specs.List.{list_all, list_any};
+ghost use Rattle.std.specs.Prelude.{◌≡◌, ◌++◌, cond, ◌∷◌, [], is_some, map, not, IfOk, OnOk};
+ghost use Rattle.std.specs.List.{list_all, list_any, position};
 ghost use Rattle.std.specs.Str.{bytes_eq};
 ghost use Rattle.release_rows.specs.Releases.{items_now, rows_at};
 ghost use Rattle.stability_policies.specs.Reports.{keeps_first, keeps_names, lost_in, names_in, same_first};
@@ -26,13 +26,15 @@ pub fn put_lost(
 {
     let kept = all_names(alloc, file, new)?;
     let mut rows = old.rows(file);
+    let mut likely = 0;
     'rows: while let Some((line, row)) = rows.next() {
-        put_if_lost(alloc, file, line, &row, kept.as_slice(), into)?;
+        likely = put_if_lost(alloc, file, line, &row, kept.as_slice(), likely, into)?;
     }
     Ok(())
 }
 
-/// Puts a break by a row, if none of the rows with these names keeps its names.
+/// Puts a break by a row, if none of the rows with these names keeps its names. The one at `likely` is tried first.
+/// The answer is where the one that keeps those of the row behind it is likely to be.
 ///
 /// - `Memory`: memory ran out.
 fn put_if_lost(
@@ -41,16 +43,20 @@ fn put_if_lost(
     line: u64,
     row: &RowText<'_>,
     kept: &[Texts],
+    likely: usize,
     into: &mut Breaks,
-) -> Result<(), Memory>
+) -> Result<usize, Memory>
     ensures { OnOk result (into.new ≡ into.old
         ++ cond (not (list_any (keeps_names file (names_in row.now)) kept.now)) ((Alias file line) ∷ []) []) }
 {
     let names = names_of(alloc, row)?;
-    if !is_kept(file, &names, kept) {
-        into.push(Break::Alias { file, line })?;
+    match kept_at(file, &names, kept, likely) {
+        Some(place) => Ok(place.saturating_add(1)),
+        None => {
+            into.push(Break::Alias { file, line })?;
+            Ok(likely)
+        }
     }
-    Ok(())
 }
 
 /// The names of the rows of a file, row by row.
@@ -79,11 +85,22 @@ fn names_of(alloc: Global, row: &RowText<'_>) -> Result<Texts, Memory>
     }
 }
 
-/// Whether one of the rows keeps the names.
-fn is_kept(file: SourceFile, names: &Texts, rows: &[Texts]) -> bool
-    ensures { result ≡ list_any (keeps_names file names.now) rows.now }
+/// The place of a row that keeps the names: `likely`, if that one does, and else the first such place; `None` where no row
+/// keeps them.
+fn kept_at(file: SourceFile, names: &Texts, rows: &[Texts], likely: usize) -> Option<usize>
+    ensures { is_some result ≡ list_any (keeps_names file names.now) rows.now }
 {
-    rows.iter().any(|row| keeps_names(file, names, row))
+    if likely < rows.len() && keeps_names(file, names, &rows[likely]) {
+        return Some(likely);
+    }
+    first_kept(file, names, rows)
+}
+
+/// The first place of a row that keeps the names; `None` where no row keeps them.
+fn first_kept(file: SourceFile, names: &Texts, rows: &[Texts]) -> Option<usize>
+    ensures { result ≡ position (keeps_names file names.now) rows.now }
+{
+    rows.iter().position(|row| keeps_names(file, names, row))
 }
 
 /// Whether a row with the names `b` keeps those of a row with the names `a`.

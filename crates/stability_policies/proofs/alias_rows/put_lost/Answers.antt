@@ -11,4 +11,4 @@ rows-preserved c =
     (c.args.into.now ++ lost_in c.args.file c.args.old.now c.args.new.now)
     (c.as_slice.ensures ∙ c.in_ok-kept.ensures)
     (subst (λ (rest : List (ℕ × Row)). c.rows.into ++ lost_rows c.args.file rest (rows_at (items_now c.args.new.now c.args.file)) ≡ c.args.into.now ++ lost_in c.args.file c.args.old.now c.args.new.now) c.in-Some.ensures.steps c.rows.invariant)
-    c.in_ok-put_if_lost.ensures
+    c.in_ok-likely.ensures

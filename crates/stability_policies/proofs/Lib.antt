@@ -10,3 +10,4 @@ pub mod SameOrder
 pub mod StableProofs
 pub mod ListedProofs
 pub mod CommonProofs
+pub mod QuietFoldings

@@ -23,7 +23,7 @@ use Rattle.stability_policies.specs.CommonForms.{AllAssigned, KeepsForms, ListsN
 use Rattle.stability_policies.specs.FormValues.{HasList, form_of}
 use Rattle.stability_policies.specs.Policies.{all_assigned, breaks, caseless, folded, place_of_policy, policies, same_list, same_mapping, sort_of}
 use Rattle.stability_policies.specs.Reports.{breaks_of, is_of, report}
-use Rattle.stability_policies.specs.StableForms.{FoldsAlike, Old, StaysNormal}
+use Rattle.stability_policies.specs.StableForms.{FoldsAlike, IsRooted, Old, StaysNormal}
 use Rattle.stability_policies.specs.Views.{IsValid, rows_of}
 use Rattle.stability_policies.specs.declared.breaks.Break.{Break}
 use Rattle.stability_policies.specs.declared.breaks.Break.TheVariants.{At}
@@ -105,6 +105,9 @@ filter_nil q (suc n) e c lt =
       | inr le ↦ let here : c ≡ n = omega arith in ap q here ∙ one_nil (q n) n parts.1
     ]
 
+abbrev pub IsQuiet : (ℕ → Facts) → (ℕ → Facts) → Policy → Type 0
+IsQuiet O N policy = (c : ℕ) → c < point_count → breaks policy O N c ≡ false
+
 module _ (old new : ReleaseItems) where
   abbrev O : ℕ → Facts
   O = facts (rows_of old)
@@ -116,7 +119,7 @@ module _ (old new : ReleaseItems) where
   by_policy policy = breaks_of policy old new
 
   abbrev Quiet : Policy → Type 0
-  Quiet policy = (c : ℕ) → c < point_count → breaks policy O N c ≡ false
+  Quiet policy = IsQuiet O N policy
 
   listed : (policy : Policy) → ListsNone policy (report old new) → list_any (is_of policy) (flat_map by_policy policies) ≡ false
   unfolding report
@@ -181,6 +184,22 @@ gained true true a p o e = absurd cc
 gained true false a p o e = e
 gained false o a p is e = absurd cc
 
+-- where no code point breaks the policies on forms
+pub stays_by : (O N : ℕ → Facts) → IsRooted O N → IsQuiet O N P01 → IsQuiet O N P03 → IsQuiet O N P04 → IsQuiet O N P05 → StaysNormal O N
+stays_by O N roots no_loss no_class no_mapping no_composite =
+    let still : (c : ℕ) → Old O c → (N c).assigned ≡ true = λ c is. not_false (N c).assigned (and_left_true (O c).assigned (not (N c).assigned) is (no_loss c (roots.within c is))) in
+    let mapped : (c : ℕ) → Old O c → same_mapping (O c) (N c) ≡ true = λ c is. kept (O c).assigned (N c).assigned (same_mapping (O c) (N c)) is (still c is) (no_mapping c (roots.within c is)) in
+    record {
+      class = λ c is. eqb-true (O c).class (N c).class (kept (O c).assigned (N c).assigned ((O c).class == (N c).class) is (still c is) (no_class c (roots.within c is)));
+      sort = λ c is. eqb-true (sort_of (O c).kind) (sort_of (N c).kind) (and_parts (sort_of (O c).kind == sort_of (N c).kind) (bytes_eq (O c).mapping (N c).mapping) (mapped c is)).0;
+      mapping = λ c is. (bytes_eq-Decides (O c).mapping (N c).mapping).0 (and_parts (sort_of (O c).kind == sort_of (N c).kind) (bytes_eq (O c).mapping (N c).mapping) (mapped c is)).1;
+      members = roots.members;
+      composed = λ c is.
+          let row : Old O c = roots.composites c is in
+          (row, not_false (primary N c) (and_left_true (primary O c) (not (primary N c)) is (or_left_false (primary O c && not (primary N c)) _ (no_composite c (roots.within c row)))));
+      composing = λ c is none. gained (primary N c) (primary O c) (all_assigned O (N c).mapping) is none (or_right_false (primary O c && not (primary N c)) _ (no_composite c (roots.later c is)));
+    }
+
 module _ (old new : ReleaseItems) where
   abbrev F : ℕ → Facts
   F = facts (rows_of old)
@@ -201,24 +220,17 @@ module _ (old new : ReleaseItems) where
       let first : lacks_row F c (F c).mapping ≡ false = or_left_false (lacks_row F c (F c).mapping) _ rules.rows in
       mapping_members F c (F c).mapping (bytes_eq (F c).mapping (c ∷ [])) refl is first
 
+  pub has_rows : IsValid old → IsRooted F G
+  has_rows valid = record {
+    within = point_of (rows_of old);
+    members = members_old valid;
+    composites = primary_rooted (rows_of old);
+    later = λ c is. point_of (rows_of new) c (primary_rooted (rows_of new) c is);
+  }
+
   pub stays_normal : IsValid old → KeepsForms (report old new) → StaysNormal F G
   stays_normal valid keeps =
-      let at : (c : ℕ) → Old F c → c < point_count = λ c is. point_of (rows_of old) c is in
-      let still : (c : ℕ) → Old F c → (G c).assigned ≡ true = λ c is. not_false (G c).assigned (and_left_true (F c).assigned (not (G c).assigned) is (quiet_assigned old new keeps.assigned c (at c is))) in
-      let mapped : (c : ℕ) → Old F c → same_mapping (F c) (G c) ≡ true = λ c is. kept (F c).assigned (G c).assigned (same_mapping (F c) (G c)) is (still c is) (quiet_mapping old new keeps.mapping c (at c is)) in
-      let composites : (c : ℕ) → c < point_count → breaks P05 F G c ≡ false = quiet_composites old new keeps.composites in
-      record {
-        class = λ c is. eqb-true (F c).class (G c).class (kept (F c).assigned (G c).assigned ((F c).class == (G c).class) is (still c is) (quiet_class old new keeps.class c (at c is)));
-        sort = λ c is. eqb-true (sort_of (F c).kind) (sort_of (G c).kind) (and_parts (sort_of (F c).kind == sort_of (G c).kind) (bytes_eq (F c).mapping (G c).mapping) (mapped c is)).0;
-        mapping = λ c is. (bytes_eq-Decides (F c).mapping (G c).mapping).0 (and_parts (sort_of (F c).kind == sort_of (G c).kind) (bytes_eq (F c).mapping (G c).mapping) (mapped c is)).1;
-        members = members_old valid;
-        composed = λ c is.
-            let row : Old F c = primary_rooted (rows_of old) c is in
-            (row, not_false (primary G c) (and_left_true (primary F c) (not (primary G c)) is (or_left_false (primary F c && not (primary G c)) _ (composites c (at c row)))));
-        composing = λ c is none.
-            let row : (G c).assigned ≡ true = primary_rooted (rows_of new) c is in
-            gained (primary G c) (primary F c) (all_assigned F (G c).mapping) is none (or_right_false (primary F c && not (primary G c)) _ (composites c (point_of (rows_of new) c row)));
-      }
+      stays_by F G (has_rows valid) (quiet_assigned old new keeps.assigned) (quiet_class old new keeps.class) (quiet_mapping old new keeps.mapping) (quiet_composites old new keeps.composites)
 
   pub folds_alike : ListsNone P10 (report old new) → FoldsAlike F G
   folds_alike none c is =

@@ -1,5 +1,5 @@
 -- Stretches that are put at the end of a sieve, and what is left of it.
-use Rattle.std.proofs.Common.{◌≡◌, ℕ, ◌+◌, ◌<◌, ◌≤◌, List, [], ◌∷◌, ◌++◌, length, get_or, drop, map, filter, cond, ◌-◌, ◌⊎◌, sym, ap, subst, ◌∙◌, arith, add-one, drop-cons, inl, inr}
+use Rattle.std.proofs.Common.{◌≡◌, ℕ, ◌+◌, ◌<◌, ◌≤◌, true, List, [], ◌∷◌, ◌++◌, length, get_or, drop, map, filter, cond, ◌-◌, ◌⊎◌, sym, ap, subst, ◌∙◌, arith, add-one, drop-cons, inl, inr}
 use Rattle.std.proofs.lemmas.Bool.{cases_lt}
 use Rattle.std.proofs.lemmas.List.{drop_all}
 use Rattle.ucd_model.specs.Bounds.{Bounds}
@@ -10,6 +10,7 @@ use Rattle.stability_policies.specs.Policies.{breaks}
 use Rattle.stability_policies.specs.declared.policy.Policy.{Policy}
 use Rattle.stability_policies.proofs.PointLemmas.{more_breaks, quiet_breaks}
 use Rattle.stability_policies.specs.Sieves.{IsAlike, IsKept, IsQuiet, IsSieve}
+use Rattle.stability_policies.specs.StableForms.{keeps_forms}
 
 pub quiet_more : (O N : ℕ → Facts) (lo n e : ℕ) → IsQuiet O N lo n → IsQuiet O N n e → IsQuiet O N lo e
 quiet_more O N lo n e before after c from lt = elim (cases_lt c n) [
@@ -51,6 +52,19 @@ sieve_next O N n c last k list new begins ends ordered sieve alike (inr put) =
 pub sieve_all : (O N : ℕ → Facts) (n : ℕ) (list : List Bounds) → n ≡ 1114112 → IsSieve O N 0 n list → IsSieve O N 0 point_count list
 unfolding point_count
 sieve_all O N n list all sieve = subst (λ m. IsSieve O N 0 m list) all sieve
+
+-- ---- what forms rest on
+
+pub keeps_next : (O N : ℕ → Facts) (n c last k : ℕ) → c ≡ n → k ≡ last → ((d : ℕ) → c ≤ d → d ≤ last → keeps_forms O N d ≡ keeps_forms O N c) → keeps_forms O N c ≡ true
+    → ((d : ℕ) → d < n → keeps_forms O N d ≡ true) → (d : ℕ) → d < k + 1 → keeps_forms O N d ≡ true
+keeps_next O N n c last k begins ends alike here before d lt = elim (cases_lt d n) [
+  | inl less ↦ before d less
+  | inr past ↦ alike d (omega arith) (omega arith) ∙ here
+]
+
+pub keeps_all : (O N : ℕ → Facts) (n : ℕ) → n ≡ 1114112 → ((c : ℕ) → c < n → keeps_forms O N c ≡ true) → (c : ℕ) → c < point_count → keeps_forms O N c ≡ true
+unfolding point_count
+keeps_all O N n all keep c lt = keep c (omega (arith, all, lt))
 
 -- ---- the breaks of a policy, stretch after stretch
 

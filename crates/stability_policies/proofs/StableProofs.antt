@@ -244,6 +244,19 @@ module _ (O N : ℕ → Facts) (stays : StaysNormal O N) where
       ap (λ a. a ++ fold O t) (fold_one x alike (All-head (λ x. nfkc O (x ∷ []) ≡ Ok (x ∷ [])) x t forms) e.0)
       ∙ ap (λ a. fold_of N x ++ a) (fold_same alike t (All-tail (λ x. nfkc O (x ∷ []) ≡ Ok (x ∷ [])) x t forms) e.1)
 
+  -- where the folding of each code point stays, no form of it is made
+  each_fold_same : ((x : ℕ) → Old O x → fold_of O x ≡ fold_of N x) → (t : List ℕ) → Each (Old O) t → fold O t ≡ fold N t
+  each_fold_same alike [] e = refl
+  each_fold_same alike (x ∷ t) e = ap (λ a. a ++ fold O t) (alike x e.0) ∙ ap (λ a. fold_of N x ++ a) (each_fold_same alike t e.1)
+
+  folded_same : ((x : ℕ) → Old O x → fold_of O x ≡ fold_of N x) → (r : Result (List ℕ) Rule) → AllOld r → folded O r ≡ folded N r
+  folded_same alike (Ok t) old = ap (λ u. Ok u) (each_fold_same alike t (old t refl))
+  folded_same alike (Err rule) old = refl
+
+  pub caseless_where_folds_stay : ((x : ℕ) → Old O x → fold_of O x ≡ fold_of N x) → (s : List ℕ) → Each (Old O) s → caseless O s ≡ caseless N s
+  caseless_where_folds_stay alike s e =
+      folded_same alike (nfkc O s) (composed_old (decomposed O true s) (decomposed_old true s e)) ∙ ap (folded N) (form_same true s e)
+
   caseless_by : (s : List ℕ) (r : Result (List ℕ) Rule) → HaveExpansions O true → FoldsAlike O N → nfkc O s ≡ r → AllOld r → folded O r ≡ folded N r
   caseless_by s (Ok t) have alike is old = ap (λ u. Ok u) (fold_same alike t (nfkc_of_members O s t have is) (old t refl))
   caseless_by s (Err rule) have alike is old = refl

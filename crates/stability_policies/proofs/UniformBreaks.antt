@@ -1,14 +1,16 @@
 -- Code points without a mapping whose other facts are the same break the same policies.
 use Rattle.std.proofs.Common.{◌≡◌, ℕ, Bool, true, false, ◌&&◌, ◌||◌, not, ◌==◌, ◌<◌, ◌≤◌, [], ◌∷◌, Ok, refl, sym, ap, ◌∙◌, arith, inl, inr}
-use Rattle.std.proofs.lemmas.Bool.{cases_lt}
-use Rattle.std.proofs.lemmas.Bool.{eq-eqb}
+use Rattle.std.specs.Str.{bytes_eq}
+use Rattle.std.proofs.lemmas.Bool.{cases_lt, eq-eqb}
 use Rattle.ucd_model.specs.Casing.{where_form}
 use Rattle.ucd_model.specs.Composites.{primary}
-use Rattle.ucd_model.specs.Facts.{Facts}
+use Rattle.ucd_model.specs.Facts.{Facts, image_points}
 use Rattle.ucd_model.specs.Identifiers.{continues, starts, xid_continue, xid_start}
 use Rattle.ucd_model.specs.Predicates.{id_continue, id_start}
 use Rattle.ucd_model.specs.Uniform.{Alike, IsPlain, Uniform}
 use Rattle.stability_policies.specs.Policies.{all_assigned, breaks, is_case_pair, same_list, same_mapping, sort_of, caseless}
+use Rattle.stability_policies.specs.Sieves.{IsAlikeTo}
+use Rattle.stability_policies.specs.StableForms.{all_kept, keeps_forms}
 use Rattle.stability_policies.specs.declared.policy.Policy.{Policy}
 use Rattle.stability_policies.specs.declared.policy.Policy.TheVariants.{P01, P02, P03, P04, P05, P06, P07, P08, P09, P10, P11, P12, P13, P14, P15, P16, P17, P18, P19, P20}
 use Rattle.stability_policies.proofs.PlainLemmas.{caseless_plain, nfkc_plain, primary_plain, same_bytes}
@@ -20,6 +22,13 @@ and_self false = refl
 and_false : (b : Bool) → (b && false) ≡ false
 and_false true = refl
 and_false false = refl
+
+or_true : (b : Bool) → (b || true) ≡ true
+or_true true = refl
+or_true false = refl
+
+abbrev keeps_folding : (ℕ → Facts) → (ℕ → Facts) → ℕ → Bool
+keeps_folding O N e = not (O e).assigned || bytes_eq (image_points e (O e).fold) (image_points e (N e).fold)
 
 -- ---- parts of the formulas
 
@@ -85,11 +94,39 @@ module _ (O N : ℕ → Facts) (c d : ℕ) (p : IsPlain c (O c)) (u : Uniform O 
   same_breaks P19 = rw (v.alike.kind, v.plain.mapping, q.mapping) refl
   same_breaks P20 = rw (v.alike.class, v.alike.category) refl
 
+  folding_kept : (e : ℕ) → IsPlain e (O e) → IsPlain e (N e) → keeps_folding O N e ≡ true
+  folding_kept e r s =
+      ap (λ i. not (O e).assigned || bytes_eq (image_points e i) (image_points e (N e).fold)) r.fold ∙ ap (λ i. not (O e).assigned || bytes_eq (e ∷ []) (image_points e i)) s.fold
+      ∙ ap (λ b. not (O e).assigned || b) (same_bytes (e ∷ [])) ∙ or_true (not (O e).assigned)
+
+  pub same_forms_kept : keeps_forms O N d ≡ keeps_forms O N c
+  same_forms_kept =
+      ap (λ b. all_kept b (breaks P03 O N d) (breaks P04 O N d) (breaks P05 O N d) (keeps_folding O N d)) (same_breaks P01)
+      ∙ ap (λ b. all_kept (breaks P01 O N c) b (breaks P04 O N d) (breaks P05 O N d) (keeps_folding O N d)) (same_breaks P03)
+      ∙ ap (λ b. all_kept (breaks P01 O N c) (breaks P03 O N c) b (breaks P05 O N d) (keeps_folding O N d)) (same_breaks P04)
+      ∙ ap (λ b. all_kept (breaks P01 O N c) (breaks P03 O N c) (breaks P04 O N c) b (keeps_folding O N d)) (same_breaks P05)
+      ∙ ap (λ b. all_kept (breaks P01 O N c) (breaks P03 O N c) (breaks P04 O N c) (breaks P05 O N c) b) (folding_kept d u.plain v.plain ∙ sym (folding_kept c p q))
+
 -- the code points from c on, as far as both views tell that they are uniform
-pub alike_breaks : (O N : ℕ → Facts) (c before after last : ℕ) → last ≤ before → last ≤ after
-    → (c < before → IsPlain c (O c)) → ((d : ℕ) → c < d → d ≤ before → Uniform O c d) → (c < after → IsPlain c (N c)) → ((d : ℕ) → c < d → d ≤ after → Uniform N c d)
-    → (policy : Policy) (d : ℕ) → c ≤ d → d ≤ last → breaks policy O N d ≡ breaks policy O N c
-alike_breaks O N c before after last old new plain_old alike_old plain_new alike_new policy d from to = elim (cases_lt c d) [
-  | inl lt ↦ same_breaks O N c d (plain_old (omega arith)) (alike_old d lt (omega arith)) (plain_new (omega arith)) (alike_new d lt (omega arith)) policy
-  | inr le ↦ let here : d ≡ c = omega arith in ap (breaks policy O N) here
-]
+module _ (O N : ℕ → Facts) (c before after last : ℕ) (old_end : last ≤ before) (new_end : last ≤ after)
+    (plain_old : c < before → IsPlain c (O c)) (alike_old : (d : ℕ) → c < d → d ≤ before → Uniform O c d) (plain_new : c < after → IsPlain c (N c)) (alike_new : (d : ℕ) → c < d → d ≤ after → Uniform N c d) where
+  alike_breaks : (policy : Policy) (d : ℕ) → c ≤ d → d ≤ last → breaks policy O N d ≡ breaks policy O N c
+  alike_breaks policy d from to = elim (cases_lt c d) [
+    | inl lt ↦ same_breaks O N c d (plain_old (omega arith)) (alike_old d lt (omega arith)) (plain_new (omega arith)) (alike_new d lt (omega arith)) policy
+    | inr le ↦ let here : d ≡ c = omega arith in ap (breaks policy O N) here
+  ]
+
+  alike_forms : (d : ℕ) → c ≤ d → d ≤ last → keeps_forms O N d ≡ keeps_forms O N c
+  alike_forms d from to = elim (cases_lt c d) [
+    | inl lt ↦ same_forms_kept O N c d (plain_old (omega arith)) (alike_old d lt (omega arith)) (plain_new (omega arith)) (alike_new d lt (omega arith))
+    | inr le ↦ let here : d ≡ c = omega arith in ap (keeps_forms O N) here
+  ]
+
+  pub uniform_alike : IsAlikeTo O N c last
+  uniform_alike = record { broken = alike_breaks; kept = alike_forms }
+
+pub alone_alike : (O N : ℕ → Facts) (c : ℕ) → IsAlikeTo O N c c
+alone_alike O N c = record {
+  broken = λ policy d from to. (let here : d ≡ c = omega arith in ap (breaks policy O N) here);
+  kept = λ d from to. (let here : d ≡ c = omega arith in ap (keeps_forms O N) here);
+}

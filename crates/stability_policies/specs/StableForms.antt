@@ -8,13 +8,23 @@
 -- FormsStay           so it is of each list of code points that were assigned
 -- FoldsAlike O N      the foldings of single code points under NFKC stay
 -- CaselessStays       then so do those of lists
-use Rattle.std.specs.Prelude.{◌≡◌, ℕ, true, false, [], ◌∷◌, List}
+-- IsRooted O N        what was assigned lies up to 10FFFF, with assigned members of its mapping; each primary composite was
+--                     assigned, and each new one lies up to 10FFFF
+-- all_kept a b c d e  none of the four policies is broken, and e holds
+-- keeps_forms_by O N c F G   c, which has the facts F in old and G in new, breaks none of P01, P03, P04 and P05, and where it was
+--                     assigned, its own full folding stays
+-- keeps_forms O N c   the same, with the facts that O and N give c
+use Rattle.std.specs.Prelude.{◌≡◌, ◌<◌, ℕ, Bool, true, false, ◌&&◌, ◌||◌, not, [], ◌∷◌, List}
 use Rattle.std.specs.List.{AllByRecursion as Each}
+use Rattle.std.specs.Str.{bytes_eq}
 use Rattle.ucd_model.specs.Composites.{primary}
 use Rattle.ucd_model.specs.Facts.{Facts}
 use Rattle.ucd_model.specs.Forms.{nfd, nfc, nfkd, nfkc}
+use Rattle.ucd_model.specs.Limits.{point_count}
 use Rattle.normalisation.specs.FormLaws.{HaveExpansions}
-use Rattle.stability_policies.specs.Policies.{all_assigned, caseless, same_list, sort_of}
+use Rattle.stability_policies.specs.CaselessLists.{folding_of}
+use Rattle.stability_policies.specs.Policies.{all_assigned, breaks_by, caseless, same_list, sort_of}
+use Rattle.stability_policies.specs.declared.policy.Policy.TheVariants.{P01, P03, P04, P05}
 
 abbrev pub Old : (ℕ → Facts) → ℕ → Type 0
 Old O c = (O c).assigned ≡ true
@@ -41,3 +51,20 @@ FoldsAlike O N = (c : ℕ) → Old O c → same_list (caseless O (c ∷ [])) (ca
 
 abbrev pub CaselessStays : Type 0
 CaselessStays = (O N : ℕ → Facts) → StaysNormal O N → HaveExpansions O true → FoldsAlike O N → (s : List ℕ) → Each (Old O) s → caseless O s ≡ caseless N s
+
+pub record IsRooted (O N : ℕ → Facts) : Type 0 where
+  pub within : (c : ℕ) → Old O c → c < point_count
+  pub members : (c : ℕ) → Old O c → Each (Old O) (O c).mapping
+  pub composites : (c : ℕ) → primary O c ≡ true → Old O c
+  pub later : (c : ℕ) → primary N c ≡ true → c < point_count
+
+abbrev pub all_kept : Bool → Bool → Bool → Bool → Bool → Bool
+all_kept a b c d e = not a && (not b && (not c && (not d && e)))
+
+abbrev pub keeps_forms_by : (ℕ → Facts) → (ℕ → Facts) → ℕ → Facts → Facts → Bool
+keeps_forms_by O N c F G =
+    all_kept (breaks_by P01 O N c F G) (breaks_by P03 O N c F G) (breaks_by P04 O N c F G) (breaks_by P05 O N c F G)
+    (not F.assigned || bytes_eq (folding_of c F) (folding_of c G))
+
+abbrev pub keeps_forms : (ℕ → Facts) → (ℕ → Facts) → ℕ → Bool
+keeps_forms O N c = keeps_forms_by O N c (O c) (N c)

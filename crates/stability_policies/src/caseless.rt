@@ -63,7 +63,7 @@ fn has_mapping(facts: &FactsRef<'_>) -> bool
 }
 
 /// Whether the full foldings of a code point with these facts are the same.
-fn has_same_folding(c: Point, a: &FactsRef<'_>, b: &FactsRef<'_>) -> bool
+pub fn has_same_folding(c: Point, a: &FactsRef<'_>, b: &FactsRef<'_>) -> bool
     ensures { result ≡ bytes_eq (folding_of c (shown_facts a.now)) (folding_of c (shown_facts b.now)) }
 {
     let alone = [c];

@@ -1,11 +1,14 @@
 //! Whether a code point breaks a policy.
 
 ghost use Rattle.std.specs.Prelude.{◌≡◌, ◌&&◌, not, false, IfOk};
-ghost use Rattle.ucd_model.specs.Records.{record_at};
+ghost use Rattle.ucd_model.specs.Records.{core_at, record_at};
+ghost use Rattle.ucd_model.specs.Sets.{has_core};
 ghost use Rattle.ucd_model.specs.Shown.{shown_facts};
 ghost use Rattle.ucd_model.specs.View.{ShowsFacts};
+ghost use Rattle.ucd_model.specs.declared.property.Core.{Core as CoreValue};
 ghost use Rattle.stability_policies.specs.Policies.{breaks, breaks_by};
 ghost use Rattle.stability_policies.specs.Sieves.{IsKept};
+ghost use Rattle.stability_policies.specs.declared.policy.Policy.TheVariants.{P10};
 
 use crate::case_tests::{gains_case_pair, loses_case_pair};
 use crate::caseless::changes_caseless;
@@ -16,7 +19,7 @@ use crate::row_tests::{
     changes_private_use, has_class_without_mark, loses_its_row,
 };
 use std::alloc::Global;
-use ucd_model::{Core, FactView, FactsRef, Memory, Point, Records};
+use ucd_model::{Core, CoreSet, FactView, FactsRef, Memory, Point, Records};
 
 /// Whether a code point breaks a policy; never P02 and P17, which are of rows.
 ///
@@ -33,38 +36,26 @@ pub fn is_broken<O: Records + FactView, N: Records + FactView>(
     requires new { N.record_of new.now ≡ record_at (N.facts_of new.now) }
     ensures { IfOk result (λ broken. broken ≡ breaks policy (O.facts_of old.now) (N.facts_of new.now) c) }
 {
-    is_broken_by(alloc, policy, old, new, c, &old.facts(c), &new.facts(c))
+    let x = old.record(c).core;
+    let y = new.record(c).core;
+    is_broken_by(
+        alloc,
+        policy,
+        old,
+        new,
+        c,
+        &old.facts(c),
+        &new.facts(c),
+        x,
+        y,
+    )
 }
 
-/// Whether a code point may break a policy: where it does not, it breaks none.
+/// Whether a code point with these facts may break a policy: where it does not, it breaks none.
 ///
 /// - `Memory`: memory ran out.
 pub fn is_any_broken<O: Records + FactView, N: Records + FactView>(
     alloc: Global,
-    old: &O,
-    new: &N,
-    c: Point,
-) -> Result<bool, Memory>
-    requires old { O.record_of old.now ≡ record_at (O.facts_of old.now) }
-    requires new { N.record_of new.now ≡ record_at (N.facts_of new.now) }
-    ensures { IfOk result (λ any. any ≡ false → IsKept (O.facts_of old.now) (N.facts_of new.now) c) }
-{
-    let a = old.facts(c);
-    let b = new.facts(c);
-    'policies: for policy in Policy::all() {
-        if is_broken_by(alloc, *policy, old, new, c, &a, &b)? {
-            return Ok(true);
-        }
-    }
-    Ok(false)
-}
-
-/// The same of a code point whose facts are at hand.
-///
-/// - `Memory`: memory ran out.
-fn is_broken_by<O: Records + FactView, N: Records + FactView>(
-    alloc: Global,
-    policy: Policy,
     old: &O,
     new: &N,
     c: Point,
@@ -75,6 +66,89 @@ fn is_broken_by<O: Records + FactView, N: Records + FactView>(
     requires new { N.record_of new.now ≡ record_at (N.facts_of new.now) }
     requires old_facts { ShowsFacts a.now (O.facts_of old.now c) }
     requires new_facts { ShowsFacts b.now (N.facts_of new.now c) }
+    ensures { IfOk result (λ any. any ≡ false → IsKept (O.facts_of old.now) (N.facts_of new.now) c) }
+{
+    if is_other_broken(alloc, old, new, c, a, b)? {
+        return Ok(true);
+    }
+    changes_caseless(alloc, old, new, c, a, b)
+}
+
+/// Whether a code point with these facts may break a policy other than P10: where it does not, it breaks none if it keeps
+/// P10. No form is made.
+///
+/// - `Memory`: memory ran out.
+pub fn is_other_broken<O: Records + FactView, N: Records + FactView>(
+    alloc: Global,
+    old: &O,
+    new: &N,
+    c: Point,
+    a: &FactsRef<'_>,
+    b: &FactsRef<'_>,
+) -> Result<bool, Memory>
+    requires old { O.record_of old.now ≡ record_at (O.facts_of old.now) }
+    requires new { N.record_of new.now ≡ record_at (N.facts_of new.now) }
+    requires old_facts { ShowsFacts a.now (O.facts_of old.now c) }
+    requires new_facts { ShowsFacts b.now (N.facts_of new.now c) }
+    ensures { IfOk result (λ any. any ≡ false
+        → breaks P10 (O.facts_of old.now) (N.facts_of new.now) c ≡ false → IsKept (O.facts_of old.now) (N.facts_of new.now) c) }
+{
+    let x = old.record(c).core;
+    let y = new.record(c).core;
+    'policies: for policy in Policy::all() {
+        if is_other_broken_by(alloc, *policy, old, new, c, a, b, x, y)? {
+            return Ok(true);
+        }
+    }
+    Ok(false)
+}
+
+/// Whether a code point with these facts and core properties may break a policy other than P10.
+///
+/// - `Memory`: memory ran out.
+#[tactic(auto, using(crate::proofs::TestLemmas::told_breaks))]
+fn is_other_broken_by<O: FactView, N: FactView>(
+    alloc: Global,
+    policy: Policy,
+    old: &O,
+    new: &N,
+    c: Point,
+    a: &FactsRef<'_>,
+    b: &FactsRef<'_>,
+    x: CoreSet,
+    y: CoreSet,
+) -> Result<bool, Memory>
+    requires old_facts { ShowsFacts a.now (O.facts_of old.now c) }
+    requires new_facts { ShowsFacts b.now (N.facts_of new.now c) }
+    requires old_core { (core : CoreValue) → has_core x core ≡ core_at (O.facts_of old.now) c core }
+    requires new_core { (core : CoreValue) → has_core y core ≡ core_at (N.facts_of new.now) c core }
+    ensures { IfOk result (λ broken. broken ≡ false
+        → breaks P10 (O.facts_of old.now) (N.facts_of new.now) c ≡ false → breaks policy (O.facts_of old.now) (N.facts_of new.now) c ≡ false) }
+{
+    match policy {
+        Policy::P10 => Ok(false),
+        _ => is_broken_by(alloc, policy, old, new, c, a, b, x, y),
+    }
+}
+
+/// Whether a code point with these facts and core properties breaks a policy.
+///
+/// - `Memory`: memory ran out.
+fn is_broken_by<O: FactView, N: FactView>(
+    alloc: Global,
+    policy: Policy,
+    old: &O,
+    new: &N,
+    c: Point,
+    a: &FactsRef<'_>,
+    b: &FactsRef<'_>,
+    x: CoreSet,
+    y: CoreSet,
+) -> Result<bool, Memory>
+    requires old_facts { ShowsFacts a.now (O.facts_of old.now c) }
+    requires new_facts { ShowsFacts b.now (N.facts_of new.now c) }
+    requires old_core { (core : CoreValue) → has_core x core ≡ core_at (O.facts_of old.now) c core }
+    requires new_core { (core : CoreValue) → has_core y core ≡ core_at (N.facts_of new.now) c core }
     ensures { IfOk result (λ broken. broken ≡ breaks_by policy (O.facts_of old.now) (N.facts_of new.now) c (shown_facts a.now) (shown_facts b.now)) }
 {
     let broken = match policy {
@@ -83,10 +157,10 @@ fn is_broken_by<O: Records + FactView, N: Records + FactView>(
         Policy::P03 => changes_class(a, b),
         Policy::P04 => changes_mapping(a, b),
         Policy::P05 => changes_composite(old, new, c, a, b),
-        Policy::P06 => loses_core(old, new, c, Core::IdStart),
-        Policy::P07 => loses_core(old, new, c, Core::IdContinue),
-        Policy::P08 => loses_core(old, new, c, Core::XidStart),
-        Policy::P09 => loses_core(old, new, c, Core::XidContinue),
+        Policy::P06 => loses_core(x, y, Core::IdStart),
+        Policy::P07 => loses_core(x, y, Core::IdContinue),
+        Policy::P08 => loses_core(x, y, Core::XidStart),
+        Policy::P09 => loses_core(x, y, Core::XidContinue),
         Policy::P10 => return changes_caseless(alloc, old, new, c, a, b),
         Policy::P11 => loses_case_pair(old, new, c, a, b),
         Policy::P12 => gains_case_pair(old, new, c, a, b),
@@ -101,9 +175,9 @@ fn is_broken_by<O: Records + FactView, N: Records + FactView>(
     Ok(broken)
 }
 
-/// Whether a code point has a core property in old and not in new.
-fn loses_core<O: Records, N: Records>(old: &O, new: &N, c: Point, core: Core) -> bool
-    ensures { result ≡ ((O.record_of old.now c).core core && not ((N.record_of new.now c).core core)) }
+/// Whether the first of two sets has a core property, and the second has not.
+fn loses_core(old: CoreSet, new: CoreSet, core: Core) -> bool
+    ensures { result ≡ (has_core old core && not (has_core new core)) }
 {
-    old.record(c).core.has(core) && !new.record(c).core.has(core)
+    old.has(core) && !new.has(core)
 }

@@ -1,11 +1,11 @@
 use Rattle.std.proofs.Common.{arith}
 use Rattle.stability_policies.proofs.SieveLemmas.{sieve_all, sieve_next}
-use Rattle.stability_policies.proofs.sieving.broken_stretches.Goals as goal
+use Rattle.stability_policies.proofs.sieving.stretches_by_forms.Goals as goal
 
 pub stretches-preserved : goal.stretches-preserved
 stretches-preserved g c = record {
   sieve = sieve_next (g.O.FactView.facts_of c.args.old.now) (g.N.FactView.facts_of c.args.new.now) c.stretches.number c.at-c.result c.last_alike-last.result c.number-number.result c.stretches.spans c.put_if_broken.new.spans
-      c.at-c.ensures c.number-number.ensures.value c.last_alike-last.ensures.from c.stretches.invariant.sieve c.last_alike-last.ensures.alike c.in_ok-put_if_broken.ensures;
+      c.at-c.ensures c.number-number.ensures.value c.last_alike-last.ensures.from c.stretches.invariant.sieve c.last_alike-last.ensures.alike.broken c.in_ok-put_if_broken.ensures;
   within = omega (arith, c.number-number.ensures.bound);
 }
 

@@ -1,6 +1,6 @@
 use Rattle.std.proofs.Common.{◌-◌, ◌≤◌}
 use Rattle.stability_policies.specs.Sieves.{IsSieve}
-use Rattle.stability_policies.proofs.sieving.broken_stretches.Given as goal
+use Rattle.stability_policies.proofs.sieving.stretches_by_forms.Given as goal
 
 -- the stretches so far are a sieve of the code points so far
 abbrev pub invariant-stretches : goal.invariant-stretches

@@ -36,3 +36,4 @@ mod EntrySpans
 mod FirstRows
 mod SeekingKeys
 mod FilesEdited
+pub mod SameTexts

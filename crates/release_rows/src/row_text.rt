@@ -1,6 +1,6 @@
 //! A row as it is kept: the bytes that read as it.
 
-ghost use Rattle.std.specs.Prelude.{◌≡◌, Ok, IfOk};
+ghost use Rattle.std.specs.Prelude.{◌≡◌, Ok, IfOk, IsTrue};
 ghost use Rattle.source_rows.specs.Faults.{row_or_fault};
 ghost use Rattle.release_rows.specs.StoredItems.{ShowsData, ShowsValue, read_as};
 
@@ -39,6 +39,16 @@ impl<'a> RowText<'a> {
         ensures { result ≡ read_as file content.now }
     {
         RowText { file, content }
+    }
+
+    /// Whether another row stands in the same bytes of the same file: then it is the same row. Neither is read.
+    pub fn is_same_text(&self, other: &RowText<'_>) -> bool
+        ensures { IsTrue result → self.now ≡ other.now }
+    {
+        if self.file.place() != other.file.place() {
+            return false;
+        }
+        self.content == other.content
     }
 
     /// The row.

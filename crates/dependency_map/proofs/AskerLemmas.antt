@@ -18,21 +18,17 @@ own_is_asked (Row x) c h = grind arith
 own_is_asked (Pair s y) c h = refl
 own_is_asked (Second y) c h = grind arith
 
-or_first : (a b : Bool) → (a || b) ≡ false → a ≡ false
-or_first true b h = h
-or_first false b h = refl
-
 or_second : (a b : Bool) → (a || b) ≡ false → b ≡ false
 or_second true b h = absurd (true≢false h)
 or_second false b h = h
 
-kept_is_listed : (queries : List Query) (q : Query) (listed b : Bool) → is_asked queries q ≡ b → (keeps (Some queries) q ≡ true → listed ≡ true) → listed ≡ false → is_asked queries q ≡ false
-kept_is_listed queries q listed true is lists not = absurd (true≢false (sym (lists is) ∙ not))
-kept_is_listed queries q listed false is lists not = is
+kept_may_ask : (queries : List Query) (q : Query) (may b : Bool) → is_asked queries q ≡ b → (keeps (Some queries) q ≡ true → may ≡ true) → may ≡ false → is_asked queries q ≡ false
+kept_may_ask queries q may true is lists not = absurd (true≢false (sym (lists is) ∙ not))
+kept_may_ask queries q may false is lists not = is
 
-unasked_by : (keys : BTreeSet ℕ) (kept : Option (List Query)) (c : ℕ) (q : Query) → (keeps kept q ≡ true → is_listed keys q c ≡ true) → may_ask keys q c ≡ false → is_asked (asked_by c kept) q ≡ false
+unasked_by : (keys : BTreeSet ℕ) (kept : Option (List Query)) (c : ℕ) (q : Query) → (keeps kept q ≡ true → may_ask keys q c ≡ true) → may_ask keys q c ≡ false → is_asked (asked_by c kept) q ≡ false
 unasked_by keys None c q lists h = own_is_asked q c (or_second (is_listed keys q c) (is_own q c) h)
-unasked_by keys (Some queries) c q lists h = kept_is_listed queries q (is_listed keys q c) (is_asked queries q) refl lists (or_first (is_listed keys q c) (is_own q c) h)
+unasked_by keys (Some queries) c q lists h = kept_may_ask queries q (may_ask keys q c) (is_asked queries q) refl lists h
 
 pub unasked : (keys : BTreeSet ℕ) (kept : ℕ → Option (List Query)) → Lists keys kept → (q : Query) (c : ℕ) → c < 1114112 → may_ask keys q c ≡ false → asks (λ k. asked_by k (kept k)) q c ≡ false
 unasked keys kept lists q c inside h = unasked_by keys (kept c) c q (lists c inside q) h

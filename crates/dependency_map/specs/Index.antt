@@ -9,7 +9,8 @@
 -- kept_at at lists c  the questions that are kept for c; none where there are no lists. `at` reads the lists
 -- least a b           the lesser of two numbers, of those that are there
 -- NoneFrom p m n      no number from m up to n passes p (n does not count)
--- Lists keys kept     each code point is listed under the questions that are kept for it; others may be listed too
+-- Lists keys kept     each code point is listed under the questions that are kept for it and are not its own ones; others may be
+--                     listed too
 use Rattle.std.specs.Prelude.{◌≡◌, ℕ, ◌+◌, ◌*◌, ◌<◌, ◌≤◌, Bool, true, false, ◌==◌, ◌||◌, nat_le, if◌then◌else◌, List, Option, Some, None}
 use Rattle.std.specs.Ordering.{nat_cmp}
 use Rattle.std.specs.BTreeSet.{BTreeSet, contains}
@@ -53,4 +54,4 @@ abbrev pub NoneFrom : (ℕ → Bool) → ℕ → ℕ → Type 0
 NoneFrom p m n = (k : ℕ) → m ≤ k → k < n → p k ≡ false
 
 abbrev pub Lists : BTreeSet ℕ → (ℕ → Option (List Query)) → Type 0
-Lists keys kept = (c : ℕ) → c < 1114112 → (q : Query) → keeps (kept c) q ≡ true → is_listed keys q c ≡ true
+Lists keys kept = (c : ℕ) → c < 1114112 → (q : Query) → keeps (kept c) q ≡ true → may_ask keys q c ≡ true

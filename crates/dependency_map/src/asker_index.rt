@@ -9,7 +9,7 @@
 ghost use Rattle.std.specs.Prelude.{◌≡◌, ℕ, ◌^◌, ◌<◌, ◌≤◌, true, MatchOption, OnOk};
 ghost use Rattle.ucd_model.specs.declared.query.Query.{Query as Question};
 ghost use Rattle.asked_queries.specs.Answers.{is_asked};
-ghost use Rattle.dependency_map.specs.Index.{query_key, is_listed, is_own, least, may_ask, NoneFrom};
+ghost use Rattle.dependency_map.specs.Index.{query_key, is_own, least, may_ask, NoneFrom};
 
 use crate::number_set::{insert, next_point};
 use std::collections::BTreeSet;
@@ -21,17 +21,41 @@ const ROW: u64 = 0x11_0000;
 /// The same of second members.
 const SECOND: u64 = 0x11_0001;
 
-/// Lists a code point under each of the questions.
+/// Lists a code point under each of the questions that are not its own ones.
 ///
 /// - `Memory`: memory ran out. Nothing that was listed is lost; the code point may be listed under some of them.
 pub fn list(keys: &mut BTreeSet<u64>, c: Point, asked: &Queries) -> Result<(), Memory>
-    ensures grows { (q : Question) (k : ℕ) → is_listed keys.old q k ≡ true → is_listed keys.new q k ≡ true }
-    ensures listed { OnOk result ((q : Question) → is_asked asked.now q ≡ true → is_listed keys.new q c ≡ true) }
+    ensures grows { (q : Question) (k : ℕ) → may_ask keys.old q k ≡ true → may_ask keys.new q k ≡ true }
+    ensures listed { OnOk result ((q : Question) → is_asked asked.now q ≡ true → may_ask keys.new q c ≡ true) }
 {
     'queries: for query in asked.as_slice() {
-        insert(keys, query_key(query) + u64::from(c.number()))?;
+        list_one(keys, c, query)?;
     }
     Ok(())
+}
+
+/// Lists a code point under a question that is not its own one.
+///
+/// - `Memory`: memory ran out. Nothing that was listed is lost.
+fn list_one(keys: &mut BTreeSet<u64>, c: Point, query: &Query) -> Result<(), Memory>
+    ensures grows { (q : Question) (k : ℕ) → may_ask keys.old q k ≡ true → may_ask keys.new q k ≡ true }
+    ensures listed { OnOk result (may_ask keys.new query.now c ≡ true) }
+{
+    if is_own(query, c) {
+        return Ok(());
+    }
+    insert(keys, query_key(query) + u64::from(c.number()))
+}
+
+/// Whether a question is one of those that a code point asks if it is plain.
+fn is_own(query: &Query, c: Point) -> bool
+    ensures { result ≡ is_own query.now c }
+{
+    match *query {
+        Query::Row(x) => x == c,
+        Query::Pair(_, _) => false,
+        Query::Second(y) => y == c,
+    }
 }
 
 /// The least code point at or above `from` that is listed under the question, or whose own question it is.

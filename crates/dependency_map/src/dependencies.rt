@@ -18,7 +18,7 @@ pub struct DependencyMap<S: Store<Option<Queries>>> {
     pub(crate) alloc: Global,
     // the questions of the code points that are not plain, once there were any
     pub(crate) lists: Option<S>,
-    // the code points under the questions that they ask now or next; they may be under others too
+    // the code points under the questions that they ask now or next, but for their own ones; they may be under others too
     pub(crate) askers: BTreeSet<u64>,
     ghost now_listed: { Lists askers (kept_at S.now lists) },
     ghost next_listed: { Lists askers (kept_at S.next lists) },

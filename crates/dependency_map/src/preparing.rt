@@ -5,7 +5,7 @@ ghost use Rattle.range_table.specs.Values.{SameValues, with_span};
 ghost use Rattle.ucd_model.specs.declared.query.Query.{Query as Question};
 ghost use Rattle.asked_queries.specs.Answers.{is_asked};
 ghost use Rattle.dependency_map.specs.Askers.{own_queries};
-ghost use Rattle.dependency_map.specs.Index.{is_listed};
+ghost use Rattle.dependency_map.specs.Index.{may_ask};
 ghost use Rattle.dependency_map.specs.Maps.{asked_at};
 
 use crate::asker_index::list;
@@ -65,7 +65,7 @@ impl<S: Store<Option<Queries>>> DependencyMap<S> {
     ///
     /// - `Memory`: memory ran out. What is next stays.
     fn put(&mut self, c: Point, asked: Queries) -> Result<(), Memory>
-        requires { (q : Question) → is_asked asked q ≡ true → is_listed self.old.askers q c ≡ true }
+        requires { (q : Question) → is_asked asked q ≡ true → may_ask self.old.askers q c ≡ true }
         ensures now { SameValues (asked_at S.now self.new) (asked_at S.now self.old) }
         ensures ok { OnOk result (SameValues (asked_at S.next self.new) (with_span (asked_at S.next self.old) c c asked)) }
         ensures err { OnErr result (SameValues (asked_at S.next self.new) (asked_at S.next self.old)) }

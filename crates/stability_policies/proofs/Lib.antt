@@ -5,6 +5,7 @@ pub mod SieveLemmas
 pub mod PointLemmas
 pub mod ReportLemmas
 pub mod NameLemmas
+pub mod LeftRows
 pub mod OrderedRows
 pub mod SameOrder
 pub mod StableProofs

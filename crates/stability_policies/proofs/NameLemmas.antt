@@ -1,5 +1,5 @@
 -- The names of code points, row after row.
-use Rattle.std.proofs.Common.{◌≡◌, ℕ, ◌+◌, ◌<◌, ◌≤◌, Bool, true, false, cond, ◌&&◌, leb, if◌then◌else◌, List, [], ◌∷◌, ◌++◌, ◌-◌, map, filter, find, Option, Some, None, refl, sym, ap, subst, ◌∙◌, arith, inl, inr}
+use Rattle.std.proofs.Common.{◌≡◌, ℕ, ◌+◌, ◌<◌, ◌≤◌, Bool, true, false, cond, ◌&&◌, leb, if◌then◌else◌, List, [], ◌∷◌, ◌++◌, ◌-◌, map, filter, find, Some, None, refl, sym, ap, subst, ◌∙◌, arith, inl, inr}
 use Rattle.std.specs.List.{range_with_len}
 use Rattle.std.proofs.lemmas.Bool.{cases_lt}
 use Rattle.std.proofs.lemmas.Bool.Decides.{nat_tests}
@@ -11,7 +11,7 @@ use Rattle.ucd_model.specs.Facts.{data_in, data_row, is_data_of, within}
 use Rattle.ucd_model.specs.declared.row.Row.{Row}
 use Rattle.ucd_model.specs.declared.row.Row.TheVariants.{Unit as DataLine, Value as ValueLine, Exclusion as ExclusionLine, Fold as FoldLine, Casing as CasingLine, Alias as AliasLine}
 use Rattle.stability_policies.specs.NamedRows.{AreAbove, BeginsAt, IsRest, end_at, left_behind, name_at, name_here, named}
-use Rattle.stability_policies.specs.Policies.{differ, name_of}
+use Rattle.stability_policies.specs.Policies.{differ, is_renamed, name_of}
 use Rattle.stability_policies.specs.Reports.{breaks_of}
 use Rattle.stability_policies.specs.Views.{rows_of}
 use Rattle.stability_policies.specs.declared.breaks.Break.TheVariants.{At}
@@ -52,7 +52,7 @@ le_true a b le = grind (arith, nat_tests)
 le_false : (a b : ℕ) → b < a → leb a b ≡ false
 le_false a b lt = grind (arith, nat_tests)
 
-none_below : (n c : ℕ) (rows : List NamedRow) → AreAbove n rows → c < n → name_at rows c ≡ None
+pub none_below : (n c : ℕ) (rows : List NamedRow) → AreAbove n rows → c < n → name_at rows c ≡ None
 none_below n c [] above lt = refl
 none_below n c (row ∷ rows) above lt =
     let from : n ≤ row.span.lo = above.0 in
@@ -131,10 +131,10 @@ pub names_all : {B : Type 0} (f : ℕ → B) (init xs : List B) (before after : 
 unfolding point_count
 names_all f init xs before after n all so_far = so_far ∙ ap (λ k. init ++ map f (filter (changed before after) (range_with_len 0 k))) all
 
-pub names_break : (old new : ReleaseItems) (before after : List NamedRow) → ((c : ℕ) → name_at before c ≡ name_of (data_row (rows_of old UnicodeData) c)) → ((c : ℕ) → name_at after c ≡ name_of (data_row (rows_of new UnicodeData) c))
-    → map (At P02) (filter (changed before after) (range_with_len 0 point_count)) ≡ breaks_of P02 old new
+pub names_break : (old new : ReleaseItems) (before after : List Row) → before ≡ rows_of old UnicodeData → after ≡ rows_of new UnicodeData
+    → map (At P02) (filter (changed (named before) (named after)) (range_with_len 0 point_count)) ≡ breaks_of P02 old new
 names_break old new before after olds news =
-    let named_old : name_at before ≡ (λ c. name_of (data_row (rows_of old UnicodeData) c)) = fun_ext olds in
-    let named_new : name_at after ≡ (λ c. name_of (data_row (rows_of new UnicodeData) c)) = fun_ext news in
-    ap (λ (g : ℕ → Option (List ℕ)). map (At P02) (filter (λ c. differ (g c) (name_at after c)) (range_with_len 0 point_count))) named_old
-    ∙ ap (λ (g : ℕ → Option (List ℕ)). map (At P02) (filter (λ c. differ (name_of (data_row (rows_of old UnicodeData) c)) (g c)) (range_with_len 0 point_count))) named_new
+    ap (λ (g : ℕ → Bool). map (At P02) (filter g (range_with_len 0 point_count)))
+    (fun_ext (λ c. ap (λ name. differ name (name_at (named after) c)) (name_is before c) ∙ ap (differ (name_of (data_row before c))) (name_is after c)))
+    ∙ ap (λ (rows : List Row). map (At P02) (filter (λ c. is_renamed (data_row rows c) (data_row after c)) (range_with_len 0 point_count))) olds
+    ∙ ap (λ (rows : List Row). map (At P02) (filter (λ c. is_renamed (data_row (rows_of old UnicodeData) c) (data_row rows c)) (range_with_len 0 point_count))) news

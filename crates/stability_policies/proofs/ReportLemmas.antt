@@ -32,6 +32,10 @@ flat_more f before new now xs i x lt here so_far more =
 pub flat_all : {X Y : Type 0} (f : X → List Y) (now : List Y) (xs : List X) (i : ℕ) → length xs ≤ i → now ≡ flat_map f (take i xs) → now ≡ flat_map f xs
 flat_all f now xs i le so_far = so_far ∙ ap (flat_map f) (take_all i xs le)
 
+-- behind what was there, all of them
+pub flat_whole : {X Y : Type 0} (f : X → List Y) (before now : List Y) (xs : List X) (i : ℕ) → length xs ≤ i → now ≡ before ++ flat_map f (take i xs) → now ≡ before ++ flat_map f xs
+flat_whole f before now xs i le so_far = so_far ∙ ap (λ ys. before ++ flat_map f ys) (take_all i xs le)
+
 -- ---- rows of alias files
 
 place_is : (t : Bool) (a b : ℕ) → is_some (cond t (Some a) None) ≡ is_some (cond t (Some b) None)

@@ -11,11 +11,20 @@
 -- row_name row          the name of a row; None where there is none
 -- left_behind n list    the rows without the first one, where it ends before n
 -- IsRest whole n rest   of the whole the rows of n and of the code points behind it are the rest
-use Rattle.std.specs.Prelude.{◌≡◌, ◌≤◌, ◌+◌, ℕ, nat_le, if◌then◌else◌, List, [], ◌∷◌, Option, Some, None}
+-- AreLeft old new before after   before and after are rows of old and new that follow one another; the names that they give a
+--                       code point differ where those that old and new give it do
+-- Takes x y step b c d e   of a row x of the old release and a row y of the new one the step takes what it says: for Same both,
+--                       which are one row; for Old the old one, whose name is put behind b, so that c has it; for New the new
+--                       one, whose name is put behind d, so that e has it
+-- olds step, news step   how many rows of each release a step takes
+use Rattle.std.specs.Prelude.{◌≡◌, ◌≤◌, ◌+◌, ℕ, nat_le, if◌then◌else◌, List, [], ◌∷◌, ◌++◌, Option, Some, None}
 use Rattle.std.specs.List.{flat_map}
 use Rattle.ucd_model.specs.Facts.{within}
 use Rattle.ucd_model.specs.declared.row.Row.{Row}
 use Rattle.ucd_model.specs.declared.row.Row.TheVariants.{Unit as DataLine}
+use Rattle.stability_policies.specs.Policies.{differ}
+use Rattle.stability_policies.specs.declared.differing.Step.{Step}
+use Rattle.stability_policies.specs.declared.differing.Step.TheVariants.{Same, Old, New}
 use Rattle.stability_policies.specs.declared.named_row.NamedRow.{NamedRow}
 
 abbrev pub named_in : Row → List NamedRow
@@ -56,3 +65,25 @@ row_name None = None
 pub record IsRest (whole : List NamedRow) (n : ℕ) (rest : List NamedRow) : Type 0 where
   pub begins : BeginsAt n rest
   pub same : (c : ℕ) → n ≤ c → name_at whole c ≡ name_at rest c
+
+-- ---- rows that differ
+
+pub record AreLeft (old new before after : List NamedRow) : Type 0 where
+  pub before_above : AreAbove 0 before
+  pub after_above : AreAbove 0 after
+  pub same : (c : ℕ) → differ (name_at before c) (name_at after c) ≡ differ (name_at old c) (name_at new c)
+
+abbrev pub Takes : Row → Row → Step → List NamedRow → List NamedRow → List NamedRow → List NamedRow → Type 0
+Takes x y Same b c d e = (x ≡ y) × (c ≡ b) × (e ≡ d)
+Takes x y Old b c d e = (c ≡ b ++ named_in x) × (e ≡ d)
+Takes x y New b c d e = (c ≡ b) × (e ≡ d ++ named_in y)
+
+abbrev pub olds : Step → ℕ
+olds Same = 1
+olds Old = 1
+olds New = 0
+
+abbrev pub news : Step → ℕ
+news Same = 1
+news Old = 0
+news New = 1

@@ -7,6 +7,7 @@ mod breaks;
 mod case_tests;
 mod caseless;
 mod common;
+mod differing;
 mod form_tests;
 mod laws;
 mod mapping_tests;

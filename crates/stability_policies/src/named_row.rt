@@ -1,11 +1,9 @@
-//! The names of rows of UnicodeData.txt.
+//! The rows of UnicodeData.txt, and their names.
 
-ghost use Rattle.std.specs.Prelude.{◌≡◌, ◌++◌, ℕ, IfOk, OnOk};
+ghost use Rattle.std.specs.Prelude.{◌≡◌, ◌++◌, IfOk, OnOk};
 ghost use Rattle.std.specs.Option.{option_to_list};
-ghost use Rattle.ucd_model.specs.Facts.{data_row};
 ghost use Rattle.ucd_model.specs.declared.files.SourceFile.TheVariants.{UnicodeData};
-ghost use Rattle.stability_policies.specs.NamedRows.{AreAbove, name_at, named, named_in};
-ghost use Rattle.stability_policies.specs.Policies.{name_of};
+ghost use Rattle.stability_policies.specs.NamedRows.{AreAbove, named, named_in};
 ghost use Rattle.stability_policies.specs.Views.{rows_of};
 
 use release_rows::{Release, RowText};
@@ -22,38 +20,54 @@ pub struct NamedRow {
     pub name: Text,
 }
 
-/// The names of the rows of UnicodeData.txt of a release now, in the order of the file, which ascends.
+/// The rows of UnicodeData.txt of a release now, as they stand in the file, which ascends.
 ///
 /// - `Memory`: memory ran out.
-pub fn named_rows(alloc: Global, release: &Release) -> Result<Vec<NamedRow>, Memory>
-    ensures names { IfOk result (λ rows. (c : ℕ) → name_at rows.items c ≡ name_of (data_row (rows_of release.now UnicodeData) c)) }
-    ensures above { IfOk result (λ rows. AreAbove 0 rows.items) }
+pub fn data_rows(alloc: Global, release: &Release) -> Result<Vec<RowText<'_>>, Memory>
+    ensures rows { IfOk result (λ rows. rows.items ≡ rows_of release.now UnicodeData) }
+    ensures above { IfOk result (λ rows. AreAbove 0 (named rows.items)) }
 {
     rows_are_read();
     rows_are_ok();
     let _rows = release.rows(SourceFile::UnicodeData);
-    let rows = all_named(alloc, release)?;
+    let rows = all_rows(alloc, release)?;
     Ok(rows)
 }
 
 /// The same, as they follow from the rows one by one.
 ///
 /// - `Memory`: memory ran out.
-fn all_named(alloc: Global, release: &Release) -> Result<Vec<NamedRow>, Memory>
-    ensures { IfOk result (λ rows. rows.items ≡ named (rows_of release.now UnicodeData)) }
+fn all_rows(alloc: Global, release: &Release) -> Result<Vec<RowText<'_>>, Memory>
+    ensures { IfOk result (λ rows. rows.items ≡ rows_of release.now UnicodeData) }
 {
     let mut all = Vec::new(alloc);
     let mut rows = release.rows(SourceFile::UnicodeData);
     'rows: while let Some((_, row)) = rows.next() {
-        push_named(alloc, &row, &mut all)?;
+        all.push(row)?;
     }
     Ok(all)
+}
+
+/// Puts the names of rows of UnicodeData.txt, in order.
+///
+/// - `Memory`: memory ran out.
+pub fn put_names(
+    alloc: Global,
+    rows: &[RowText<'_>],
+    into: &mut Vec<NamedRow>,
+) -> Result<(), Memory>
+    ensures { OnOk result (into.new.items ≡ into.old.items ++ named rows.now) }
+{
+    'rows: for row in rows {
+        push_named(alloc, row, into)?;
+    }
+    Ok(())
 }
 
 /// Puts the name of a row of UnicodeData.txt.
 ///
 /// - `Memory`: memory ran out.
-fn push_named(alloc: Global, row: &RowText<'_>, into: &mut Vec<NamedRow>) -> Result<(), Memory>
+pub fn push_named(alloc: Global, row: &RowText<'_>, into: &mut Vec<NamedRow>) -> Result<(), Memory>
     ensures { OnOk result (into.new.items ≡ into.old.items ++ named_in row.now) }
 {
     let row = row.read(alloc)?;

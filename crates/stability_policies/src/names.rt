@@ -4,17 +4,18 @@ ghost use Rattle.std.specs.Prelude.{◌≡◌, ◌++◌, ◌-◌, ◌<◌, ◌�
 ghost use Rattle.std.specs.List.{range_with_len};
 ghost use Rattle.std.specs.Option.{option_copied};
 ghost use Rattle.ucd_model.specs.Limits.{point_count};
-ghost use Rattle.stability_policies.specs.NamedRows.{AreAbove, BeginsAt, end_at, left_behind, name_at, name_here, row_name};
+ghost use Rattle.stability_policies.specs.NamedRows.{AreAbove, BeginsAt, end_at, left_behind, name_at, name_here, named, row_name};
 ghost use Rattle.stability_policies.specs.Policies.{differ};
 ghost use Rattle.stability_policies.specs.Reports.{breaks_of};
 ghost use Rattle.stability_policies.specs.declared.breaks.Break.TheVariants.{At};
 ghost use Rattle.stability_policies.specs.declared.policy.Policy.TheVariants.{P02};
 
 use crate::breaks::Breaks;
-use crate::named_row::{NamedRow, named_rows};
+use crate::differing::put_differing;
+use crate::named_row::{NamedRow, data_rows};
 use crate::point_breaks::put_all;
 use crate::policy::Policy;
-use release_rows::Release;
+use release_rows::{Release, RowText};
 use std::alloc::Global;
 use ucd_model::{Memory, Point};
 
@@ -29,8 +30,28 @@ pub fn put_renamed(
 ) -> Result<(), Memory>
     ensures { OnOk result (into.new ≡ into.old ++ breaks_of P02 old.now new.now) }
 {
-    let before = named_rows(alloc, old)?;
-    let after = named_rows(alloc, new)?;
+    let before = data_rows(alloc, old)?;
+    let after = data_rows(alloc, new)?;
+    put_among(alloc, &before, &after, into)
+}
+
+/// Puts the breaks of P02 by the rows of UnicodeData.txt of two releases. Rows that stand in both are not read.
+///
+/// - `Memory`: memory ran out.
+fn put_among(
+    alloc: Global,
+    old: &[RowText<'_>],
+    new: &[RowText<'_>],
+    into: &mut Breaks,
+) -> Result<(), Memory>
+    requires old { AreAbove 0 (named old.now) }
+    requires new { AreAbove 0 (named new.now) }
+    ensures { OnOk result (into.new ≡ into.old
+        ++ map (At P02) (filter (λ c. differ (name_at (named old.now) c) (name_at (named new.now) c)) (range_with_len 0 point_count))) }
+{
+    let mut before = Vec::new(alloc);
+    let mut after = Vec::new(alloc);
+    put_differing(alloc, old, new, &mut before, &mut after)?;
     put_between(before.as_slice(), after.as_slice(), into)
 }
 

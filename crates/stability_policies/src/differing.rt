@@ -1,0 +1,107 @@
+//! The rows of UnicodeData.txt of two releases that do not stand in both.
+
+ghost use Rattle.std.specs.Prelude.{◌≡◌, ◌++◌, IfOk, OnOk};
+ghost use Rattle.stability_policies.specs.NamedRows.{AreAbove, AreLeft, Takes, named, news, olds};
+
+use crate::named_row::{NamedRow, push_named, put_names};
+use release_rows::RowText;
+use std::alloc::Global;
+use ucd_model::Memory;
+
+/// Which of two rows are taken, of which one stands first in what is left of the old release, and one in that of the new.
+#[derive(Clone, Copy, Debug)]
+pub enum Step {
+    /// Both: they are the same row.
+    Same,
+    /// The one of the old release.
+    Old,
+    /// The one of the new release.
+    New,
+}
+
+impl Step {
+    /// How many rows of the old release it takes.
+    fn olds(self) -> usize
+        ensures { result ≡ olds self }
+    {
+        match self {
+            Step::Same | Step::Old => 1,
+            Step::New => 0,
+        }
+    }
+
+    /// How many rows of the new release it takes.
+    fn news(self) -> usize
+        ensures { result ≡ news self }
+    {
+        match self {
+            Step::Same | Step::New => 1,
+            Step::Old => 0,
+        }
+    }
+}
+
+/// Puts the names of the rows of both releases but for rows that stand in both in the same bytes: only the others are
+/// read. Both files ascend.
+///
+/// - `Memory`: memory ran out.
+pub fn put_differing(
+    alloc: Global,
+    old: &[RowText<'_>],
+    new: &[RowText<'_>],
+    before: &mut Vec<NamedRow>,
+    after: &mut Vec<NamedRow>,
+) -> Result<(), Memory>
+    requires old { AreAbove 0 (before.old.items ++ named old.now) }
+    requires new { AreAbove 0 (after.old.items ++ named new.now) }
+    ensures { OnOk result (AreLeft (before.old.items ++ named old.now) (after.old.items ++ named new.now) before.new.items after.new.items) }
+{
+    let mut at_old = 0;
+    let mut at_new = 0;
+    'rows: while at_old < old.len() && at_new < new.len() {
+        let step = take_one(alloc, &old[at_old], &new[at_new], before, after)?;
+        at_old += step.olds();
+        at_new += step.news();
+    }
+    put_names(alloc, &old[at_old..], before)?;
+    put_names(alloc, &new[at_new..], after)?;
+    Ok(())
+}
+
+/// Takes a row of the old release and one of the new, if they are the same, and else the one that begins before the other,
+/// and puts its name.
+///
+/// - `Memory`: memory ran out.
+fn take_one(
+    alloc: Global,
+    old: &RowText<'_>,
+    new: &RowText<'_>,
+    before: &mut Vec<NamedRow>,
+    after: &mut Vec<NamedRow>,
+) -> Result<Step, Memory>
+    ensures { IfOk result (λ step. Takes old.now new.now step before.old.items before.new.items after.old.items after.new.items) }
+{
+    if old.is_same_text(new) {
+        return Ok(Step::Same);
+    }
+    if begins_first(alloc, old, new)? {
+        push_named(alloc, old, before)?;
+        return Ok(Step::Old);
+    }
+    push_named(alloc, new, after)?;
+    Ok(Step::New)
+}
+
+/// Whether the first of two rows begins before the second, or where it does. It only keeps the two files in step, so that
+/// rows that stand in both meet: what differs is the same for either answer.
+///
+/// - `Memory`: memory ran out.
+fn begins_first(alloc: Global, row: &RowText<'_>, other: &RowText<'_>) -> Result<bool, Memory> {
+    let Some(first) = row.data(alloc)? else {
+        return Ok(true);
+    };
+    let Some(second) = other.data(alloc)? else {
+        return Ok(true);
+    };
+    Ok(first.span.first() <= second.span.first())
+}

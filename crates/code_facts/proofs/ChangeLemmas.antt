@@ -17,7 +17,7 @@ use Rattle.ucd_model.specs.Facts.{Facts, within}
 use Rattle.ucd_model.specs.Limits.{point_count}
 use Rattle.ucd_model.specs.declared.query.Query.{Query}
 use Rattle.ucd_model.specs.declared.query.Query.TheVariants.{Row, Pair, Second}
-use Rattle.code_facts.specs.Changes.{StaysOutside, is_pair_of, is_reached, first_differs, composes_either, IsTold, IsOnlyChanged, Gathers, Grows, ReachesOwn, IsSeen, AreReached}
+use Rattle.code_facts.specs.Changes.{StaysOutside, is_among, is_pair_of, is_reached, first_differs, composes_either, IsTold, IsOnlyChanged, Gathers, Grows, ReachesOwn, IsSeen, AreReached}
 use Rattle.code_facts.specs.Index.{Lists, is_listed, pair_key, first_key}
 use Rattle.code_facts.specs.KeptFacts.{all_kept}
 use Rattle.code_facts.specs.Rest.{RestOf}
@@ -91,12 +91,24 @@ pair_more F G pairs i d s y old new lt is more before here =
     (λ same. let parts = and_parts ((get_or pairs i d).0 == s) ((get_or pairs i d).1 == y) same in
     rw (← eqb-true (get_or pairs i d).0 s parts.0, ← eqb-true (get_or pairs i d).1 y parts.1) here)
 
-pub second_more : (F G : ℕ → Facts) (pairs : List (ℕ × ℕ)) (i : ℕ) (d : ℕ × ℕ) (s y : ℕ) (old new : List Query) → i < length pairs → is_reached (take (i + 1) pairs) s y ≡ true → Gathers F G old new
-    → (is_reached (take i pairs) s y ≡ true → IsTold F G old (Second y)) → IsTold F G new (Second (get_or pairs i d).1) → IsTold F G new (Second y)
-second_more F G pairs i d s y old new lt is more before here =
-    told_by F G old new (Second y) (is_reached (take i pairs) s y) (is_pair_of s y (get_or pairs i d)) (sym (list_any_more (is_pair_of s y) pairs i d lt) ∙ is) more before
-    (λ same. let parts = and_parts ((get_or pairs i d).0 == s) ((get_or pairs i d).1 == y) same in
-    subst (λ (n : ℕ). IsTold F G new (Second n)) (eqb-true (get_or pairs i d).1 y parts.1) here)
+-- one more second member is asked about
+pub second_more : (F G : ℕ → Facts) (seconds : List ℕ) (i d y : ℕ) (old new : List Query) → i < length seconds → is_among (take (i + 1) seconds) y ≡ true → Gathers F G old new
+    → (is_among (take i seconds) y ≡ true → IsTold F G old (Second y)) → IsTold F G new (Second (get_or seconds i d)) → IsTold F G new (Second y)
+second_more F G seconds i d y old new lt is more before here =
+    told_by F G old new (Second y) (is_among (take i seconds) y) (get_or seconds i d == y) (sym (list_any_more (λ n. n == y) seconds i d lt) ∙ is) more before
+    (λ same. subst (λ (n : ℕ). IsTold F G new (Second n)) (eqb-true (get_or seconds i d) y same) here)
+
+-- the second member of one more pair is put
+pub seconds_more : (pairs : List (ℕ × ℕ)) (i : ℕ) (d : ℕ × ℕ) (s y : ℕ) (old new : List ℕ) → i < length pairs → is_reached (take (i + 1) pairs) s y ≡ true
+    → (is_reached (take i pairs) s y ≡ true → is_among old y ≡ true) → new ≡ old ++ (get_or pairs i d).1 ∷ [] → is_among new y ≡ true
+seconds_more pairs i d s y old new lt is before put =
+    ap (λ (l : List ℕ). is_among l y) put
+    ∙ list_any-append (λ n. n == y) old ((get_or pairs i d).1 ∷ [])
+    ∙ elim (or_cases (is_reached (take i pairs) s y) (is_pair_of s y (get_or pairs i d)) (sym (list_any_more (is_pair_of s y) pairs i d lt) ∙ is)) [
+      | inl was ↦ or_left (is_among old y) (is_among ((get_or pairs i d).1 ∷ []) y) (before was)
+      | inr here ↦ or_right (is_among old y) (is_among ((get_or pairs i d).1 ∷ []) y)
+          (or_left ((get_or pairs i d).1 == y) false ((and_parts ((get_or pairs i d).0 == s) ((get_or pairs i d).1 == y) here).1))
+    ]
 
 -- ---- points that are seen one by one
 

@@ -4,6 +4,7 @@
 -- StaysOutside spans F G   outside of the spans F and G are the same
 -- is_pair_of s y pair      the pair is s and y
 -- is_reached pairs s y     s and y are one of the pairs
+-- is_among numbers y       y is one of the numbers
 -- first_differs F G s      whether s has class 0 is not the same in F and G
 -- composes_either F G s y q   q is a primary composite with the mapping s y, by F or by G
 -- IsTold F G Q q           q is among the questions Q, or F and G answer it alike
@@ -35,6 +36,9 @@ is_pair_of s y pair = (pair.0 == s) && (pair.1 == y)
 
 abbrev pub is_reached : List (ℕ × ℕ) → ℕ → ℕ → Bool
 is_reached pairs s y = list_any (is_pair_of s y) pairs
+
+abbrev pub is_among : List ℕ → ℕ → Bool
+is_among numbers y = list_any (λ n. n == y) numbers
 
 abbrev pub first_differs : (ℕ → Facts) → (ℕ → Facts) → ℕ → Bool
 first_differs F G s = not (beq ((F s).class == 0) ((G s).class == 0))

@@ -6,7 +6,7 @@ ghost use Rattle.std.specs.List.{list_any};
 ghost use Rattle.std.specs.List.Sorted.{IsStrictlySortedBy};
 ghost use Rattle.asked_queries.specs.Answers.{TellsChanges, is_asked};
 ghost use Rattle.ucd_model.specs.declared.query.Query.{Query as QueryValue};
-ghost use Rattle.code_facts.specs.Changes.{Gathers, IsTold, is_reached};
+ghost use Rattle.code_facts.specs.Changes.{Gathers, IsTold, is_among, is_reached};
 ghost use Rattle.code_facts.specs.FactTables.{tables_facts, tables_next};
 
 use crate::fact_tables::FactTables;
@@ -30,12 +30,12 @@ impl<T: Table<u64>> FactTables<T> {
         ensures once { IfOk result (λ queries. IsStrictlySortedBy (⟦<Query as Ord>⟧.cmp) queries) }
     {
         let reached = self.reached(alloc, self.touched.as_slice())?;
-        let queries = self.all_changed(reached)?;
+        let queries = self.all_changed(alloc, reached)?;
         Ok(in_order(queries))
     }
 
     /// The questions that were found, and those on the pairs that were reached.
-    fn all_changed(&self, reached: Reached) -> Result<Vec<Query>, Memory>
+    fn all_changed(&self, alloc: Global, reached: Reached) -> Result<Vec<Query>, Memory>
         ensures gathers { IfOk result (λ queries. Gathers (tables_facts T.now self.now) (tables_next T.now self.now) reached.queries.items queries.items) }
         ensures pairs { IfOk result (λ queries. (s y : ℕ) → is_reached reached.pairs.items s y ≡ true
             → IsTold (tables_facts T.now self.now) (tables_next T.now self.now) queries.items (Query.Pair s y)) }
@@ -43,13 +43,15 @@ impl<T: Table<u64>> FactTables<T> {
             → IsTold (tables_facts T.now self.now) (tables_next T.now self.now) queries.items (Query.Second y)) }
     {
         let Reached { mut queries, pairs } = reached;
-        self.put_composites(&mut queries, &pairs)?;
+        self.put_composites(alloc, &mut queries, &pairs)?;
         Ok(queries)
     }
 
-    /// Adds the questions on pairs and on their second members that are answered otherwise.
+    /// Adds the questions on pairs and on their second members that are answered otherwise. A second member is asked about
+    /// once, whatever number of pairs has it: the code points that are listed under it are gone through for each question.
     fn put_composites(
         &self,
+        alloc: Global,
         queries: &mut Vec<Query>,
         pairs: &[(Point, Point)],
     ) -> Result<(), Memory>
@@ -59,21 +61,34 @@ impl<T: Table<u64>> FactTables<T> {
         ensures seconds { OnOk result ((s y : ℕ) → is_reached pairs.now s y ≡ true
             → IsTold (tables_facts T.now self.now) (tables_next T.now self.now) queries.new.items (Query.Second y)) }
     {
+        self.put_pairs(queries, pairs)?;
+        let seconds = seconds_of(alloc, pairs)?;
+        self.put_seconds(queries, &seconds)
+    }
+
+    /// Adds the questions on pairs that are answered otherwise.
+    fn put_pairs(&self, queries: &mut Vec<Query>, pairs: &[(Point, Point)]) -> Result<(), Memory>
+        ensures gathers { OnOk result (Gathers (tables_facts T.now self.now) (tables_next T.now self.now) queries.old.items queries.new.items) }
+        ensures pairs { OnOk result ((s y : ℕ) → is_reached pairs.now s y ≡ true
+            → IsTold (tables_facts T.now self.now) (tables_next T.now self.now) queries.new.items (Query.Pair s y)) }
+    {
         'pairs: for pair in pairs {
             let (s, y) = *pair;
-            self.put_composite(queries, s, y)?;
+            self.put_pair(queries, s, y)?;
         }
         Ok(())
     }
 
-    /// Adds the questions on a pair and on its second member, each if it is answered otherwise.
-    fn put_composite(&self, queries: &mut Vec<Query>, s: Point, y: Point) -> Result<(), Memory>
+    /// Adds the questions on second members that are answered otherwise.
+    fn put_seconds(&self, queries: &mut Vec<Query>, seconds: &[Point]) -> Result<(), Memory>
         ensures gathers { OnOk result (Gathers (tables_facts T.now self.now) (tables_next T.now self.now) queries.old.items queries.new.items) }
-        ensures pair { OnOk result (IsTold (tables_facts T.now self.now) (tables_next T.now self.now) queries.new.items (Query.Pair s y)) }
-        ensures second { OnOk result (IsTold (tables_facts T.now self.now) (tables_next T.now self.now) queries.new.items (Query.Second y)) }
+        ensures told { OnOk result ((y : ℕ) → is_among seconds.now y ≡ true
+            → IsTold (tables_facts T.now self.now) (tables_next T.now self.now) queries.new.items (Query.Second y)) }
     {
-        self.put_pair(queries, s, y)?;
-        self.put_second(queries, y)
+        'seconds: for second in seconds {
+            self.put_second(queries, *second)?;
+        }
+        Ok(())
     }
 
     /// Adds the question on a pair, if it is answered otherwise.
@@ -97,6 +112,22 @@ impl<T: Table<u64>> FactTables<T> {
         let same = is_same_answer(now, next);
         put_unless(queries, Query::Second(y), same)
     }
+}
+
+/// The second members of pairs, ascending, each once.
+///
+/// - `Memory`: memory ran out.
+fn seconds_of(alloc: Global, pairs: &[(Point, Point)]) -> Result<Vec<Point>, Memory>
+    ensures among { IfOk result (λ seconds. (s y : ℕ) → is_reached pairs.now s y ≡ true → is_among seconds.items y ≡ true) }
+    ensures once { IfOk result (λ seconds. IsStrictlySortedBy (⟦<Point as Ord>⟧.cmp) seconds.items) }
+{
+    let mut seconds = Vec::new(alloc);
+    'pairs: for pair in pairs {
+        let (_, y) = *pair;
+        seconds.push(y)?;
+    }
+    put_in_order(&mut seconds);
+    Ok(seconds)
 }
 
 /// Whether both are yes, or both no.

@@ -1,37 +1,21 @@
-use Rattle.std.proofs.Common.{◌≡◌, ◌<◌, length, take, sym, arith}
-use Rattle.std.proofs.lemmas.Bool.{true≢false}
-use Rattle.std.proofs.lemmas.List.{take_all}
+use Rattle.std.proofs.Common.{ℕ, List, ap, ◌∙◌}
+use Rattle.ucd_model.specs.declared.query.Query.TheVariants.{Pair}
+use Rattle.code_facts.specs.Changes.{is_among}
 use Rattle.code_facts.specs.FactTables.{facts_at}
 use Rattle.code_facts.specs.declared.version.Version.TheVariants.{Now, Next}
-use Rattle.code_facts.proofs.ChangeLemmas.{gathers_same, gathers_more, pair_more, second_more}
+use Rattle.code_facts.proofs.ChangeLemmas.{gathers_more, told_grows}
+use Rattle.code_facts.proofs.TableLemmas.{on_ok_map}
 use Rattle.code_facts.proofs.fact_tables.FactTables.put_composites.Goals as goal
 
-pub pairs-init : goal.pairs-init
-pairs-init g c = record {
-  gathers = gathers_same (facts_at Now c.args.self.now) (facts_at Next c.args.self.now) c.args.queries.now.items;
-  pairs = λ s y is. absurd (true≢false (sym is));
-  seconds = λ s y is. absurd (true≢false (sym is));
-}
-
-pub pairs-preserved : goal.pairs-preserved
-pairs-preserved g c =
+pub returns-clause-gathers : goal.returns-clause-gathers
+returns-clause-gathers g c =
     let t = c.args.self.now in
-    let step = c.in_ok-put_composite.ensures in
-    let inside : c.pairs.pair-index < length c.args.pairs.now = omega arith in
-    record {
-      gathers = gathers_more (facts_at Now t) (facts_at Next t) _ _ _ c.pairs.invariant.gathers step.gathers;
-      pairs = λ s y is. pair_more (facts_at Now t) (facts_at Next t) c.args.pairs.now c.pairs.pair-index c.pair-item.result s y c.pairs.queries.items c.put_composite.new.queries.items inside is step.gathers (c.pairs.invariant.pairs s y)
-          (rw (sym c.pair-item.is) step.pair);
-      seconds = λ s y is. second_more (facts_at Now t) (facts_at Next t) c.args.pairs.now c.pairs.pair-index c.pair-item.result s y c.pairs.queries.items c.put_composite.new.queries.items inside is step.gathers (c.pairs.invariant.seconds s y)
-          (rw (sym c.pair-item.is) step.second);
-    }
+    on_ok_map c.put_seconds.result _ _ (λ more. gathers_more (facts_at Now t) (facts_at Next t) _ _ _ c.in_ok-put_pairs.ensures.gathers more) c.put_seconds.ensures.gathers
 
 pub returns-clause-pairs : goal.returns-clause-pairs
-returns-clause-pairs g c s y is =
-    let all : take c.pairs.pair-index c.args.pairs.now ≡ c.args.pairs.now = take_all c.pairs.pair-index c.args.pairs.now (omega arith) in
-    c.pairs.invariant.pairs s y (rw all is)
+returns-clause-pairs g c =
+    let t = c.args.self.now in
+    on_ok_map c.put_seconds.result _ _ (λ more s y is. told_grows (facts_at Now t) (facts_at Next t) c.put_pairs.new.queries.items c.put_seconds.new.queries.items (Pair s y) more (c.in_ok-put_pairs.ensures.pairs s y is)) c.put_seconds.ensures.gathers
 
 pub returns-clause-seconds : goal.returns-clause-seconds
-returns-clause-seconds g c s y is =
-    let all : take c.pairs.pair-index c.args.pairs.now ≡ c.args.pairs.now = take_all c.pairs.pair-index c.args.pairs.now (omega arith) in
-    c.pairs.invariant.seconds s y (rw all is)
+returns-clause-seconds g c = on_ok_map c.put_seconds.result _ _ (λ told s y is. told y (ap (λ (l : List ℕ). is_among l y) c.deref.ensures.value ∙ c.in_ok-seconds.ensures.among s y is)) c.put_seconds.ensures.told

@@ -1,0 +1,13 @@
+use Rattle.std.proofs.Common.{◌≡◌, ℕ, true, take}
+use Rattle.ucd_model.specs.declared.query.Query.TheVariants.{Second}
+use Rattle.code_facts.specs.Changes.{Gathers, IsTold, is_among}
+use Rattle.code_facts.specs.FactTables.{facts_at}
+use Rattle.code_facts.specs.declared.version.Version.TheVariants.{Now, Next}
+use Rattle.code_facts.proofs.fact_tables.FactTables.put_seconds.Given as goal
+
+-- the questions on the second members before this one are told
+abbrev pub invariant-seconds : goal.invariant-seconds
+invariant-seconds g l = record {
+  gathers : Gathers (facts_at Now l.self) (facts_at Next l.self) l.initial.queries.items l.queries.items;
+  told : (y : ℕ) → is_among (take l.second-index l.seconds) y ≡ true → IsTold (facts_at Now l.self) (facts_at Next l.self) l.queries.items (Second y);
+}

@@ -10,6 +10,8 @@ pub fn query_set(mut asked: Vec<Query>) -> Queries
     ensures same { SameQueries result asked.items }
     ensures rising { IsStrictlySortedBy (⟦<Query as Ord>⟧.cmp) result }
 {
+    // most repeats stand one behind the other, and are dropped before the list is sorted
+    asked.dedup();
     asked.sort_unstable();
     asked.dedup();
     Queries::from_vec(asked)

@@ -2,6 +2,7 @@ use Rattle.std.proofs.Common.{◌≡◌, ℕ, true, ◌==◌, refl, ap, sym, ◌
 use Rattle.std.specs.List.Sorted.{IsStrictlySortedBy}
 use Rattle.std.proofs.lemmas.Bool.{eqb-true, and_parts}
 use Rattle.std.proofs.lemmas.List.Filters.{dedup_is}
+use Rattle.std.proofs.lemmas.List.Sorted.{IsPermutation-refl}
 use Rattle.ucd_model.specs.declared.query.Query.{Query}
 use Rattle.ucd_model.specs.declared.query.Query.TheVariants.{Row, Pair, Second}
 use Rattle.ucd_model.specs.contracts.query.QueryPartialEq.TheImpl as equality
@@ -24,8 +25,10 @@ eq_same (Second x) (Row y) e = cc
 eq_same (Second x) (Pair s y) e = cc
 
 pub returns-clause-same : goal.returns-clause-same
-returns-clause-same c = λ q. ap (λ l. is_asked l q) c.from_vec.ensures ∙ set_has equality.eq-value.it laws-law eq_same c.args.asked.items c.sort_unstable.new.self.items c.dedup.new.self.items c.sort_unstable.ensures.permutation (dedup_is equality.eq-value.it c.sort_unstable.new.self.items c.dedup.new.self.items c.dedup.ensures.filtered) q
+returns-clause-same c = λ q. ap (λ l. is_asked l q) c.from_vec.ensures
+    ∙ set_has equality.eq-value.it laws-law eq_same c.dedup.new.self.items c.sort_unstable.new.self.items c.dedup-2.new.self.items c.sort_unstable.ensures.permutation (dedup_is equality.eq-value.it c.sort_unstable.new.self.items c.dedup-2.new.self.items c.dedup-2.ensures.filtered) q
+    ∙ set_has equality.eq-value.it laws-law eq_same c.args.asked.items c.args.asked.items c.dedup.new.self.items (IsPermutation-refl c.args.asked.items) (dedup_is equality.eq-value.it c.args.asked.items c.dedup.new.self.items c.dedup.ensures.filtered) q
 
 pub returns-clause-rising : goal.returns-clause-rising
 returns-clause-rising c = subst (IsStrictlySortedBy ordering.cmp-value.it) (sym c.from_vec.ensures)
-    (set_rises ordering.cmp-value.it total-law equality.eq-value.it matches_eq-law c.sort_unstable.new.self.items c.dedup.new.self.items c.sort_unstable.ensures.sorted (dedup_is equality.eq-value.it c.sort_unstable.new.self.items c.dedup.new.self.items c.dedup.ensures.filtered))
+    (set_rises ordering.cmp-value.it total-law equality.eq-value.it matches_eq-law c.sort_unstable.new.self.items c.dedup-2.new.self.items c.sort_unstable.ensures.sorted (dedup_is equality.eq-value.it c.sort_unstable.new.self.items c.dedup-2.new.self.items c.dedup-2.ensures.filtered))

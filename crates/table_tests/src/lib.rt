@@ -15,3 +15,5 @@ mod pool;
 mod runs;
 #[cfg(test)]
 mod stores;
+#[cfg(test)]
+mod tables;

@@ -1,6 +1,6 @@
-//! Worked tables, and tables against plain lists.
+//! Worked tables of pages.
 
-use crate::plain::{Plain, drawn, expect};
+use crate::plain::expect;
 use paged_table::PagedTable;
 use range_table::{Stretches, Table};
 use std::alloc::Global;
@@ -114,73 +114,4 @@ fn look_at_stretches(rt: &impl Abort, table: &mut PagedTable) {
     for (number, expected) in &ENDS {
         expect(rt, *number, ends(table, *number), *expected);
     }
-}
-
-/// How many code points are looked at: six blocks.
-const SHOWN: u32 = 0x600;
-
-/// The values of a code point, now and next.
-fn values(table: &PagedTable, number: u32) -> Option<(u64, u64)> {
-    let c = Point::new(number)?;
-    Some((table.get(c), table.get_next(c)))
-}
-
-/// Both tables have the same values, now and next.
-fn agree(rt: &impl Abort, table: &PagedTable, plain: &Plain) {
-    for number in 0..SHOWN {
-        let expected = plain
-            .values(number as usize)
-            .unwrap_or((u64::MAX, u64::MAX));
-        expect(rt, number, values(table, number), expected);
-    }
-}
-
-/// One step, drawn by lot: a span is prepared, or what is next is committed or discarded.
-/// Where memory is refused, next stays.
-fn step(table: &mut PagedTable, plain: &mut Plain, state: u64) -> u64 {
-    let (kind, state) = drawn(state, 8);
-    match kind {
-        0 => {
-            table.commit();
-            plain.commit();
-            state
-        }
-        1 => {
-            table.discard();
-            plain.discard();
-            state
-        }
-        _ => prepare(table, plain, state),
-    }
-}
-
-fn prepare(table: &mut PagedTable, plain: &mut Plain, state: u64) -> u64 {
-    let (one, state) = drawn(state, u64::from(SHOWN));
-    let (other, state) = drawn(state, 300);
-    let (value, state) = drawn(state, 3);
-    let last = (one + other).min(u64::from(SHOWN) - 1);
-    if let (Some(lo), Some(hi)) = (Point::new(one as u32), Point::new(last as u32)) {
-        if let Some(span) = Span::new(lo, hi) {
-            if table.prepare(span, value).is_ok() {
-                plain.set(span, value);
-            }
-        }
-    }
-    state
-}
-
-fn steps(rt: &impl Abort, table: &mut PagedTable, plain: &mut Plain) {
-    let mut state = 1;
-    for _ in 0..120 {
-        state = step(table, plain, state);
-        agree(rt, table, plain);
-    }
-}
-
-#[test]
-fn any_steps_as_in_plain_lists(rt: HostRuntime) -> Result<(), Fail> {
-    let mut plain = Plain::filled(rt.alloc(), 0, SHOWN as usize)?;
-    let mut table = PagedTable::filled(rt.alloc(), 0)?;
-    steps(&rt, &mut table, &mut plain);
-    Ok(())
 }

@@ -5,6 +5,7 @@ ghost use Rattle.range_table.specs.Values.{with_span};
 
 use crate::plain::{Plain, drawn, expect};
 use kept_values::{Kept, Store};
+use paged_table::PagedTable;
 use range_table::RunTable;
 use std::alloc::Global;
 use std::process::Abort;
@@ -24,6 +25,8 @@ fn named(number: u64) -> Name
 }
 
 type Names = Kept<RunTable<u64>, Name>;
+
+type PagedNames = Kept<PagedTable, Name>;
 
 fn span(lo: u32, hi: u32) -> Option<Span> {
     Span::new(Point::new(lo)?, Point::new(hi)?)
@@ -96,8 +99,9 @@ const SHARED: [(u32, u64, bool); 6] = [
     (0x669, 5, true),
     (0x66A, 0, false),
 ];
+
 /// The values of a code point, now and next.
-fn values(store: &Names, number: u32) -> Option<(u64, u64)> {
+fn values<S: Store<Name>>(store: &S, number: u32) -> Option<(u64, u64)> {
     let c = Point::new(number)?;
     Some((store.get(c).number, store.get_next(c).number))
 }
@@ -156,7 +160,7 @@ fn look_at_stretches(rt: &impl Abort, store: &mut Names) {
 const SHOWN: u32 = 0x180;
 
 /// Both have the same values, now and next.
-fn agree(rt: &impl Abort, store: &Names, plain: &Plain) {
+fn agree<S: Store<Name>>(rt: &impl Abort, store: &S, plain: &Plain) {
     for number in 0..SHOWN {
         let expected = plain
             .values(number as usize)
@@ -167,7 +171,7 @@ fn agree(rt: &impl Abort, store: &Names, plain: &Plain) {
 
 /// One step, drawn by lot: a span is prepared, or what is next is committed or discarded.
 /// Where memory is refused, next stays.
-fn step(store: &mut Names, plain: &mut Plain, state: u64) -> u64 {
+fn step<S: Store<Name>>(store: &mut S, plain: &mut Plain, state: u64) -> u64 {
     let (kind, state) = drawn(state, 8);
     match kind {
         0 => {
@@ -184,7 +188,7 @@ fn step(store: &mut Names, plain: &mut Plain, state: u64) -> u64 {
     }
 }
 
-fn prepare(store: &mut Names, plain: &mut Plain, state: u64) -> u64 {
+fn prepare<S: Store<Name>>(store: &mut S, plain: &mut Plain, state: u64) -> u64 {
     let (one, state) = drawn(state, u64::from(SHOWN));
     let (other, state) = drawn(state, 60);
     let (value, state) = drawn(state, 3);
@@ -200,7 +204,7 @@ fn prepare(store: &mut Names, plain: &mut Plain, state: u64) -> u64 {
 }
 
 /// Prepares a value: where a code point of the span has it next, at its place.
-fn put(store: &mut Names, span: Span, value: u64) -> Result<(), Memory> {
+fn put<S: Store<Name>>(store: &mut S, span: Span, value: u64) -> Result<(), Memory> {
     if store.get_next(span.lo).number == value {
         let place = store.place_next(span.lo);
         store.prepare_held(span, place)
@@ -209,7 +213,7 @@ fn put(store: &mut Names, span: Span, value: u64) -> Result<(), Memory> {
     }
 }
 
-fn steps(rt: &impl Abort, store: &mut Names, plain: &mut Plain) {
+fn steps<S: Store<Name>>(rt: &impl Abort, store: &mut S, plain: &mut Plain) {
     let mut state = 1;
     for _ in 0..120 {
         state = step(store, plain, state);
@@ -218,9 +222,17 @@ fn steps(rt: &impl Abort, store: &mut Names, plain: &mut Plain) {
 }
 
 #[test]
-fn any_steps_as_in_plain_lists(rt: HostRuntime) -> Result<(), Fail> {
+fn any_steps_over_runs_as_in_plain_lists(rt: HostRuntime) -> Result<(), Fail> {
     let mut plain = Plain::filled(rt.alloc(), 0, SHOWN as usize)?;
     let mut store: Names = Kept::filled(rt.alloc(), named(0))?;
+    steps(&rt, &mut store, &mut plain);
+    Ok(())
+}
+
+#[test]
+fn any_steps_over_pages_as_in_plain_lists(rt: HostRuntime) -> Result<(), Fail> {
+    let mut plain = Plain::filled(rt.alloc(), 0, SHOWN as usize)?;
+    let mut store: PagedNames = Kept::filled(rt.alloc(), named(0))?;
     steps(&rt, &mut store, &mut plain);
     Ok(())
 }

@@ -1,6 +1,6 @@
 //! The derivation of a code point.
 
-ghost use Rattle.std.specs.Prelude.{◌≡◌, ◌+◌, [], ◌∷◌, Ok, None, false};
+ghost use Rattle.std.specs.Prelude.{◌≡◌, ◌+◌, [], ◌∷◌, Ok, None, false, IfOk};
 ghost use Rattle.ucd_model.specs.FoldRounds.{casefold_image};
 ghost use Rattle.ucd_model.specs.Records.{kept_record, record_at, derived};
 ghost use Rattle.ucd_model.specs.Validity.{lacks_a_row};
@@ -27,7 +27,7 @@ use ucd_model::{Bad, FactView, FactsRef, FormStop, Image, Kind, Point, Queries, 
 pub struct Derived {
     /// The derived properties.
     pub value: Record,
-    /// The questions that were asked. None are listed as yet.
+    /// The questions that were asked. [`derive_point`] lists none.
     pub asked: Queries,
 }
 
@@ -42,6 +42,7 @@ pub fn derive_point<W: FactView, L: Ledger>(
     steps: &mut Steps<L>,
 ) -> Result<Derived, FormStop>
     ensures value { DerivesAs result (derived (W.facts_of view.now) c) }
+    ensures unasked { IfOk result (λ found. found.asked ≡ []) }
     ensures step { steps.new ≡ steps.old + 1 }
 {
     steps.tick();

@@ -35,11 +35,14 @@ const LETTERS: [Row<'static>; 12] = [
 /// A form, a list, and the form of the list.
 type Case = (Form, &'static [u32], &'static [u32]);
 
-const MARK_CASES: [Case; 6] = [
-    // marks are put in order and composed
+const MARK_CASES: [Case; 9] = [
+    // marks are put in order and composed, in the forms of compatibility too
     (Form::Nfd, &[0x63, 0x301, 0x327], &[0x63, 0x327, 0x301]),
+    (Form::Nfkd, &[0x63, 0x301, 0x327], &[0x63, 0x327, 0x301]),
     (Form::Nfc, &[0x63, 0x301, 0x327], &[0x1E09]),
+    (Form::Nfkc, &[0x63, 0x301, 0x327], &[0x1E09]),
     (Form::Nfc, &[0xE7, 0x327, 0x301], &[0x1E09, 0x327]),
+    (Form::Nfkc, &[0xE7, 0x327, 0x301], &[0x1E09, 0x327]),
     // a mark is blocked by one of its class, and by a starter
     (Form::Nfc, &[0xE7, 0x300, 0x301], &[0xE7, 0x300, 0x301]),
     (Form::Nfkc, &[0xE7, 0x300, 0x301], &[0xE7, 0x300, 0x301]),

@@ -16,6 +16,8 @@ mod makes;
 #[cfg(test)]
 mod next_facts;
 #[cfg(test)]
+mod other_files;
+#[cfg(test)]
 mod questions;
 #[cfg(test)]
 mod runs;

@@ -5,6 +5,7 @@ pub mod VerdictLemmas
 pub mod BenchLemmas
 pub mod OutputLemmas
 pub mod PathLemmas
+pub mod LineLemmas
 pub mod PlanningLemmas
 pub mod PolicyLemmas
 pub mod QuestionLemmas

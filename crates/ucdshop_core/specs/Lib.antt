@@ -10,6 +10,7 @@ pub mod Run
 pub mod Outcome
 pub mod Promises
 pub mod OutputLaws
+pub mod LineLaws
 pub mod Codes
 pub mod Commands
 pub mod Reading

@@ -1,6 +1,9 @@
-//! The laws of what a run writes: each function here does nothing, and its contract is a law.
+//! The laws of what a run writes and tells: each function here does nothing, and its contract is a law.
 
+ghost use Rattle.ucdshop_core.specs.LineLaws.{LinesAreCounted};
 ghost use Rattle.ucdshop_core.specs.OutputLaws.{OtherPathsStay, OutputsHoldTheirBytes, PathsAreOfTheWords};
+
+use ucd_lines::{endings_are_told_apart, no_line_feed_inside, only_the_last_is_unended};
 
 /// The words alone give the paths of the files that are written, in order.
 pub fn paths_are_of_the_words()
@@ -16,3 +19,12 @@ pub fn outputs_hold_their_bytes()
 pub fn other_paths_stay()
     ensures { OtherPathsStay }
 {}
+
+/// The number of a line of a source file is one more than the LFs before it: so many lines have the pieces above a piece.
+pub fn lines_are_counted()
+    ensures { LinesAreCounted }
+{
+    no_line_feed_inside();
+    only_the_last_is_unended();
+    endings_are_told_apart();
+}

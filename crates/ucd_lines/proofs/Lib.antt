@@ -1,4 +1,5 @@
 pub mod Places
+pub mod Blanks
 pub mod ItemCuts
 pub mod FieldCuts
 pub mod Digits

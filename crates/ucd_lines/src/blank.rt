@@ -1,9 +1,11 @@
 //! White space in a line: space and tab. UAX #44, section 4.2.
 
-ghost use Rattle.std.specs.Prelude.{◌≡◌, ◌≤◌, length};
-ghost use Rattle.std.specs.List.{prefix_len};
+ghost use Rattle.std.specs.Prelude.{◌≡◌, ◌-◌, ◌≤◌, length};
+ghost use Rattle.std.specs.List.{prefix_len, suffix_len};
 ghost use Rattle.ucd_model.specs.Fields.{trim_start, trim_end, trim};
 ghost use Rattle.ucd_model.specs.Lines.{is_blank};
+
+use bstr::ByteSlice;
 
 /// Whether a byte is white space: space or tab.
 #[inline]
@@ -13,17 +15,26 @@ pub fn is_blank(byte: u8) -> bool
     byte == b' ' || byte == b'\t'
 }
 
-/// How many bytes of white space the text begins with.
+/// How many bytes of white space the text begins with. Most fields begin with none, and are not searched.
 pub fn leading_blanks(text: &[u8]) -> usize
     ensures count { result ≡ prefix_len is_blank text.now }
     ensures within { result ≤ length text.now }
 {
-    for (i, b) in text.iter().enumerate() {
-        if !is_blank(*b) {
-            return i;
-        }
+    match text {
+        [first, ..] if !is_blank(*first) => 0,
+        _ => first_other(text),
     }
-    text.len()
+}
+
+/// The place of the first byte that is no white space, and the length of the text where there is none.
+fn first_other(text: &[u8]) -> usize
+    ensures place { result ≡ prefix_len is_blank text.now }
+    ensures within { result ≤ length text.now }
+{
+    match text.find_not_byteset(b" \t") {
+        Some(at) => at,
+        None => text.len(),
+    }
 }
 
 /// The text without white space at its beginning.
@@ -33,15 +44,25 @@ fn trim_start(text: &[u8]) -> &[u8]
     &text[leading_blanks(text)..]
 }
 
-/// The text without white space at its end.
+/// The place behind the last byte that is no white space, and 0 where there is none.
+fn behind_last_other(text: &[u8]) -> usize
+    ensures place { result ≡ length text.now - suffix_len is_blank text.now }
+    ensures within { result ≤ length text.now }
+{
+    match text.rfind_not_byteset(b" \t") {
+        Some(at) => at + 1,
+        None => 0,
+    }
+}
+
+/// The text without white space at its end. Most fields end in none, and are not searched.
 fn trim_end(text: &[u8]) -> &[u8]
     ensures { result.now ≡ trim_end text.now }
 {
-    let mut end = text.len();
-    'blanks: while end > 0 && is_blank(text[end - 1]) {
-        end -= 1;
+    match text {
+        [.., last] if !is_blank(*last) => text,
+        _ => &text[..behind_last_other(text)],
     }
-    &text[..end]
 }
 
 /// The text without white space (space and tab) at both ends. UAX #44, section 4.2.

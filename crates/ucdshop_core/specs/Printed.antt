@@ -1,6 +1,5 @@
 -- The lines that a run prints, each ended by LF.
 --
--- line_end                 LF
 -- usage                    of words that have no listed form
 -- refused path line rule   a file is refused: the number of the line, 0 for the file as a whole, and the rule's code
 -- read_failed path         a file could not be read
@@ -18,9 +17,9 @@
 -- bad_code rule            the code of a rule of a valid release: V1 to V5
 -- rule_code rule           the code of a rule that a file breaks
 -- row_rule_code fault      the code of a rule that a line breaks by itself: G03 to G11
-use Rattle.std.specs.Prelude.{ℕ, List, [], ◌∷◌, ◌++◌, codes}
+use Rattle.std.specs.Prelude.{ℕ, List, ◌++◌, codes}
 use Rattle.std.specs.Fmt.{decimal}
-use Rattle.ucd_model.specs.DerivedText.{hex_text}
+use Rattle.ucd_model.specs.DerivedText.{hex_text, line_end}
 use Rattle.ucd_model.specs.declared.form.Bad.{Bad}
 use Rattle.ucd_model.specs.declared.form.Bad.TheVariants.{V1, V2, V3, V4, V5}
 use Rattle.ucd_model.specs.declared.form.Broken.{Broken}
@@ -28,9 +27,6 @@ use Rattle.release_rows.specs.declared.load_stop.LoadRule.{LoadRule}
 use Rattle.release_rows.specs.declared.load_stop.LoadRule.TheVariants.{G02, Row, K1, K4, K5}
 use Rattle.source_rows.specs.declared.fault.RowFault.{RowFault}
 use Rattle.source_rows.specs.declared.fault.RowFault.TheVariants.{G03, G04, G05, G06, G07, G08, G09, G10, G11}
-
-abbrev pub line_end : List ℕ
-line_end = 10 ∷ []
 
 abbrev pub usage : List ℕ
 usage = codes "usage: ucdshop derive DATA OUT | apply DATA SCRIPT OUT [PREVIOUS] | make NUMBER OUT" ++ line_end

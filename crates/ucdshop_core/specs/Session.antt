@@ -27,7 +27,7 @@ use Rattle.std.specs.Prelude.{ℕ, ◌+◌, List, [], ◌++◌, length, Result, 
 use Rattle.std.specs.Fmt.{decimal}
 use Rattle.std.specs.List.{fold}
 use Rattle.ucd_model.specs.Bounds.{Bounds}
-use Rattle.ucd_model.specs.DerivedText.{hex_text}
+use Rattle.ucd_model.specs.DerivedText.{hex_text, line_end}
 use Rattle.release_rows.specs.FileItems.{FileItem}
 use Rattle.release_rows.specs.declared.key_rule.KeyRule.{KeyRule}
 use Rattle.release_rows.specs.declared.key_rule.KeyRule.TheVariants.{K1, K2, K4}
@@ -41,7 +41,7 @@ use Rattle.unicodeset_eval.specs.declared.stop.NameRule.{NameRule}
 use Rattle.unicodeset_eval.specs.declared.stop.NameRule.TheVariants.{S8, S9}
 use Rattle.unicodeset_parser.specs.declared.stop.SetRule.{SetRule}
 use Rattle.unicodeset_parser.specs.declared.stop.SetRule.TheVariants.{S1, S2, S3, S4, S5, S6, S7}
-use Rattle.ucdshop_core.specs.Printed.{bad_code, line_end}
+use Rattle.ucdshop_core.specs.Printed.{bad_code}
 use Rattle.ucdshop_core.specs.Questions.{question_answer}
 use Rattle.ucdshop_core.specs.SetTexts.{members_in, set_section}
 use Rattle.ucdshop_core.specs.declared.ask_stop.AskFault.{AskFault}

@@ -2,7 +2,6 @@
 
 ghost use Rattle.std.specs.Prelude.{◌≡◌, ◌++◌, OnOk, codes};
 ghost use Rattle.std.specs.Fmt.{decimal};
-ghost use Rattle.ucdshop_core.specs.Printed.{line_end};
 ghost use Rattle.ucdshop_core.specs.Session.{accepted_line, ask_rule_code, key_rule_code, refusal_text, refused_line, set_line, set_rule_code, unasked_line};
 
 use crate::ask_stop::{AskFault, AskRule};

@@ -1,8 +1,9 @@
 //! The lines that a run prints.
 
 ghost use Rattle.std.specs.Prelude.{◌≡◌, ◌++◌, IfOk, OnOk, codes};
-ghost use Rattle.ucdshop_core.specs.Printed.{Counts, bad_code, line_end, refused, refused_point, read_failed, write_failed, row_rule_code, rule_code, summary, made_release, made_summary};
+ghost use Rattle.ucdshop_core.specs.Printed.{Counts, bad_code, refused, refused_point, read_failed, write_failed, row_rule_code, rule_code, summary, made_release, made_summary};
 ghost use Rattle.std.specs.Fmt.{decimal};
+ghost use Rattle.ucd_model.specs.DerivedText.{line_end};
 
 use release_rows::LoadRule;
 use source_rows::RowFault;

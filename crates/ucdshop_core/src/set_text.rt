@@ -3,9 +3,8 @@
 ghost use Rattle.std.specs.Prelude.{◌≡◌, ◌++◌, ◌≤◌, IfOk, OnOk, codes};
 ghost use Rattle.std.specs.Fmt.{decimal};
 ghost use Rattle.std.specs.List.{flat_map};
-ghost use Rattle.ucd_model.specs.DerivedText.{span_text};
+ghost use Rattle.ucd_model.specs.DerivedText.{line_end, span_text};
 ghost use Rattle.ucd_model.specs.Limits.{point_count};
-ghost use Rattle.ucdshop_core.specs.Printed.{line_end};
 ghost use Rattle.ucdshop_core.specs.SetTexts.{members_in, set_section, span_entry};
 
 use crate::printed::put_decimal;

@@ -22,6 +22,8 @@ mod questions;
 #[cfg(test)]
 mod runs;
 #[cfg(test)]
+mod script_ends;
+#[cfg(test)]
 mod scripts;
 #[cfg(test)]
 mod validity;

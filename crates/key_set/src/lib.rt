@@ -1,0 +1,7 @@
+//! Sets of numbers in which the next one is looked for.
+#![tactic(auto)]
+
+mod key_set;
+mod keys;
+
+pub use key_set::KeySet;

@@ -4,7 +4,6 @@
 -- none_more     one more that does not pass
 -- none_between  where none of a stretch passes, and none behind it may pass, none of both does
 use Rattle.std.proofs.Common.{◌≡◌, ◌∙◌, ℕ, ◌+◌, ◌<◌, ◌≤◌, Bool, true, false, ◌||◌, List, Option, Some, None, refl, sym, ap, arith, inl, inr}
-use Rattle.std.specs.BTreeSet.{BTreeSet}
 use Rattle.std.proofs.lemmas.Bool.{cases_lt, true≢false}
 use Rattle.ucd_model.specs.declared.query.Query.{Query}
 use Rattle.ucd_model.specs.declared.query.Query.TheVariants.{Row, Pair, Second}
@@ -26,12 +25,12 @@ kept_may_ask : (queries : List Query) (q : Query) (may b : Bool) → is_asked qu
 kept_may_ask queries q may true is lists not = absurd (true≢false (sym (lists is) ∙ not))
 kept_may_ask queries q may false is lists not = is
 
-unasked_by : (keys : BTreeSet ℕ) (kept : Option (List Query)) (c : ℕ) (q : Query) → (keeps kept q ≡ true → may_ask keys q c ≡ true) → may_ask keys q c ≡ false → is_asked (asked_by c kept) q ≡ false
-unasked_by keys None c q lists h = own_is_asked q c (or_second (is_listed keys q c) (is_own q c) h)
-unasked_by keys (Some queries) c q lists h = kept_may_ask queries q (may_ask keys q c) (is_asked queries q) refl lists h
+unasked_by : (has : ℕ → Bool) (kept : Option (List Query)) (c : ℕ) (q : Query) → (keeps kept q ≡ true → may_ask has q c ≡ true) → may_ask has q c ≡ false → is_asked (asked_by c kept) q ≡ false
+unasked_by has None c q lists h = own_is_asked q c (or_second (is_listed has q c) (is_own q c) h)
+unasked_by has (Some queries) c q lists h = kept_may_ask queries q (may_ask has q c) (is_asked queries q) refl lists h
 
-pub unasked : (keys : BTreeSet ℕ) (kept : ℕ → Option (List Query)) → Lists keys kept → (q : Query) (c : ℕ) → c < 1114112 → may_ask keys q c ≡ false → asks (λ k. asked_by k (kept k)) q c ≡ false
-unasked keys kept lists q c inside h = unasked_by keys (kept c) c q (lists c inside q) h
+pub unasked : (has : ℕ → Bool) (kept : ℕ → Option (List Query)) → Lists has kept → (q : Query) (c : ℕ) → c < 1114112 → may_ask has q c ≡ false → asks (λ k. asked_by k (kept k)) q c ≡ false
+unasked has kept lists q c inside h = unasked_by has (kept c) c q (lists c inside q) h
 
 pub none_between : (p m : ℕ → Bool) (from start n : ℕ) → ((k : ℕ) → k < 1114112 → m k ≡ false → p k ≡ false) → n ≤ 1114112 → NoneFrom p from start → NoneFrom m start n → NoneFrom p from n
 none_between p m from start n rest bound before after k low high = elim (cases_lt k start) [

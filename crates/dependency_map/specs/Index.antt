@@ -2,18 +2,16 @@
 --
 -- query_key q         where the keys of the question begin: bits 21 to 41 are its last code point, and bits 42 to 62 the first one
 --                     of a pair, 110000 (hexadecimal) for a row and 110001 for a second member
--- is_listed keys q c  c is listed under the question
+-- is_listed has q c   c is listed under the question: its key there is one that the index has
 -- is_own q c          the question is one of those that the plain code point c asks
--- may_ask keys q c    c is listed under the question, or it is its own one
+-- may_ask has q c     c is listed under the question, or it is its own one
 -- keeps kept q        the question is among those that are kept, where some are
 -- kept_at at lists c  the questions that are kept for c; none where there are no lists. `at` reads the lists
 -- least a b           the lesser of two numbers, of those that are there
 -- NoneFrom p m n      no number from m up to n passes p (n does not count)
--- Lists keys kept     each code point is listed under the questions that are kept for it and are not its own ones; others may be
+-- Lists has kept      each code point is listed under the questions that are kept for it and are not its own ones; others may be
 --                     listed too
 use Rattle.std.specs.Prelude.{◌≡◌, ℕ, ◌+◌, ◌*◌, ◌<◌, ◌≤◌, Bool, true, false, ◌==◌, ◌||◌, nat_le, if◌then◌else◌, List, Option, Some, None}
-use Rattle.std.specs.Ordering.{nat_cmp}
-use Rattle.std.specs.BTreeSet.{BTreeSet, contains}
 use Rattle.ucd_model.specs.declared.query.Query.{Query}
 use Rattle.ucd_model.specs.declared.query.Query.TheVariants.{Row, Pair, Second}
 use Rattle.asked_queries.specs.Answers.{is_asked}
@@ -26,16 +24,16 @@ query_key (Row x) = key 1114112 x
 query_key (Pair s y) = key s y
 query_key (Second y) = key 1114113 y
 
-abbrev pub is_listed : BTreeSet ℕ → Query → ℕ → Bool
-is_listed keys q c = contains nat_cmp keys (query_key q + c)
+abbrev pub is_listed : (ℕ → Bool) → Query → ℕ → Bool
+is_listed has q c = has (query_key q + c)
 
 abbrev pub is_own : Query → ℕ → Bool
 is_own (Row x) c = x == c
 is_own (Pair s y) c = false
 is_own (Second y) c = y == c
 
-abbrev pub may_ask : BTreeSet ℕ → Query → ℕ → Bool
-may_ask keys q c = is_listed keys q c || is_own q c
+abbrev pub may_ask : (ℕ → Bool) → Query → ℕ → Bool
+may_ask has q c = is_listed has q c || is_own q c
 
 abbrev pub keeps : Option (List Query) → Query → Bool
 keeps None q = false
@@ -53,5 +51,5 @@ least (Some x) (Some y) = if nat_le x y then Some x else Some y
 abbrev pub NoneFrom : (ℕ → Bool) → ℕ → ℕ → Type 0
 NoneFrom p m n = (k : ℕ) → m ≤ k → k < n → p k ≡ false
 
-abbrev pub Lists : BTreeSet ℕ → (ℕ → Option (List Query)) → Type 0
-Lists keys kept = (c : ℕ) → c < 1114112 → (q : Query) → keeps (kept c) q ≡ true → may_ask keys q c ≡ true
+abbrev pub Lists : (ℕ → Bool) → (ℕ → Option (List Query)) → Type 0
+Lists has kept = (c : ℕ) → c < 1114112 → (q : Query) → keeps (kept c) q ≡ true → may_ask has q c ≡ true

@@ -6,13 +6,14 @@
 //! | 21 to 41 | the code point of the question; of a pair the second one |
 //! | 42 to 62 | the first code point of a pair; 110000 (hexadecimal) for a row, 110001 for a second member |
 
-ghost use Rattle.std.specs.Prelude.{◌≡◌, ℕ, ◌^◌, ◌<◌, ◌≤◌, true, MatchOption, OnOk};
+ghost use Rattle.std.specs.Prelude.{◌≡◌, ℕ, ◌+◌, ◌^◌, ◌<◌, ◌≤◌, true, MatchOption, OnOk};
 ghost use Rattle.ucd_model.specs.declared.query.Query.{Query as Question};
 ghost use Rattle.asked_queries.specs.Answers.{is_asked};
+ghost use Rattle.key_set.specs.Keys.{has, is_in};
 ghost use Rattle.dependency_map.specs.Index.{query_key, is_own, least, may_ask, NoneFrom};
 
-use crate::number_set::{insert, next_point};
-use std::collections::BTreeSet;
+use crate::number_set::next_point;
+use key_set::KeySet;
 use ucd_model::{Memory, Point, Queries, Query};
 
 /// Stands where a pair has its first code point, in the keys of rows.
@@ -24,27 +25,38 @@ const SECOND: u64 = 0x11_0001;
 /// Lists a code point under each of the questions that are not its own ones.
 ///
 /// - `Memory`: memory ran out. Nothing that was listed is lost; the code point may be listed under some of them.
-pub fn list(keys: &mut BTreeSet<u64>, c: Point, asked: &Queries) -> Result<(), Memory>
-    ensures grows { (q : Question) (k : ℕ) → may_ask keys.old q k ≡ true → may_ask keys.new q k ≡ true }
-    ensures listed { OnOk result ((q : Question) → is_asked asked.now q ≡ true → may_ask keys.new q c ≡ true) }
+pub fn list(keys: &mut KeySet, c: Point, asked: &Queries) -> Result<(), Memory>
+    ensures grows { (q : Question) (k : ℕ) → may_ask (has keys.old) q k ≡ true → may_ask (has keys.new) q k ≡ true }
+    ensures listed { OnOk result ((q : Question) → is_asked asked.now q ≡ true → may_ask (has keys.new) q c ≡ true) }
 {
     'queries: for query in asked.as_slice() {
-        list_one(keys, c, query)?;
+        if !is_own(query, c) {
+            keys.insert(asker_key(query, c))?;
+        }
     }
     Ok(())
 }
 
-/// Lists a code point under a question that is not its own one.
+/// Puts the keys of a code point under each of the questions that are not its own ones behind others.
 ///
-/// - `Memory`: memory ran out. Nothing that was listed is lost.
-fn list_one(keys: &mut BTreeSet<u64>, c: Point, query: &Query) -> Result<(), Memory>
-    ensures grows { (q : Question) (k : ℕ) → may_ask keys.old q k ≡ true → may_ask keys.new q k ≡ true }
-    ensures listed { OnOk result (may_ask keys.new query.now c ≡ true) }
+/// - `Memory`: memory ran out. The keys that were there stay, and some of those of the code point may stand behind them.
+pub fn push_keys(keys: &mut Vec<u64>, c: Point, asked: &Queries) -> Result<(), Memory>
+    ensures grows { (q : Question) (k : ℕ) → may_ask (is_in keys.old.items) q k ≡ true → may_ask (is_in keys.new.items) q k ≡ true }
+    ensures listed { OnOk result ((q : Question) → is_asked asked.now q ≡ true → may_ask (is_in keys.new.items) q c ≡ true) }
 {
-    if is_own(query, c) {
-        return Ok(());
+    'queries: for query in asked.as_slice() {
+        if !is_own(query, c) {
+            keys.push(asker_key(query, c))?;
+        }
     }
-    insert(keys, query_key(query) + u64::from(c.number()))
+    Ok(())
+}
+
+/// The key of a code point under a question.
+fn asker_key(query: &Query, c: Point) -> u64
+    ensures { result ≡ query_key query.now + c }
+{
+    query_key(query) + u64::from(c.number())
 }
 
 /// Whether a question is one of those that a code point asks if it is plain.
@@ -59,9 +71,9 @@ fn is_own(query: &Query, c: Point) -> bool
 }
 
 /// The least code point at or above `from` that is listed under the question, or whose own question it is.
-pub fn next_listed(keys: &BTreeSet<u64>, query: &Query, from: u32) -> Option<Point>
-    ensures { MatchOption result (NoneFrom (may_ask keys.now query.now) from 1114112)
-        (λ c. (from ≤ c) × NoneFrom (may_ask keys.now query.now) from c) }
+pub fn next_listed(keys: &KeySet, query: &Query, from: u32) -> Option<Point>
+    ensures { MatchOption result (NoneFrom (may_ask (has keys.now) query.now) from 1114112)
+        (λ c. (from ≤ c) × NoneFrom (may_ask (has keys.now) query.now) from c) }
 {
     let listed = next_point(keys, query_key(query), from);
     let own = own_point(query, from);

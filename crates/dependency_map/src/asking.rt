@@ -2,8 +2,7 @@
 
 ghost use Rattle.std.specs.Prelude.{◌≡◌, ℕ, ◌+◌, ◌<◌, ◌≤◌, ◌||◌, true, [], ◌∷◌, MatchOption, OnOk, IfOk};
 ghost use Rattle.std.specs.Option.{option_copied};
-ghost use Rattle.std.specs.Ordering.{nat_cmp};
-ghost use Rattle.std.specs.BTreeSet.{contains};
+ghost use Rattle.key_set.specs.Keys.{has};
 ghost use Rattle.dependency_map.specs.Askers.{asks, askers_of, askers_of_any, points_from};
 ghost use Rattle.dependency_map.specs.Index.{NoneFrom, kept_at};
 ghost use Rattle.dependency_map.specs.Maps.{asked_at};
@@ -12,10 +11,9 @@ use crate::asker_index::next_listed;
 use crate::asker_iter::Askers;
 use crate::collecting::points_of;
 use crate::dependencies::DependencyMap;
-use crate::number_set::insert;
 use kept_values::Store;
+use key_set::KeySet;
 use std::alloc::Global;
-use std::collections::BTreeSet;
 use ucd_model::{Memory, Point, Points, Queries, Query};
 
 impl<S: Store<Option<Queries>>> DependencyMap<S> {
@@ -32,7 +30,7 @@ impl<S: Store<Option<Queries>>> DependencyMap<S> {
     pub fn collect(&self, alloc: Global, queries: &Queries) -> Result<Points, Memory>
         ensures { IfOk result (λ points. points ≡ askers_of_any (asked_at S.now self.now) queries.now) }
     {
-        let mut numbers = BTreeSet::new(alloc);
+        let mut numbers = KeySet::new(alloc);
         'queries: for query in queries.as_slice() {
             self.put_askers(query, &mut numbers)?;
         }
@@ -67,13 +65,13 @@ impl<S: Store<Option<Queries>>> DependencyMap<S> {
     /// Puts the numbers of the code points that ask a question now among others.
     ///
     /// - `Memory`: memory ran out.
-    fn put_askers(&self, query: &Query, numbers: &mut BTreeSet<u64>) -> Result<(), Memory>
+    fn put_askers(&self, query: &Query, numbers: &mut KeySet) -> Result<(), Memory>
         ensures { OnOk result ((k : ℕ) → k < 1114112
-            → contains nat_cmp numbers.new k ≡ (contains nat_cmp numbers.old k || asks (asked_at S.now self.now) query.now k)) }
+            → has numbers.new k ≡ (has numbers.old k || asks (asked_at S.now self.now) query.now k)) }
     {
         let mut from = 0;
         'askers: while let Some(c) = self.next_asker(query, from) {
-            insert(numbers, u64::from(c.number()))?;
+            numbers.insert(u64::from(c.number()))?;
             from = c.number() + 1;
         }
         Ok(())

@@ -1,20 +1,19 @@
 //! Code points that were gathered in any order.
 
 ghost use Rattle.std.specs.Prelude.{◌≡◌, IfOk};
-ghost use Rattle.std.specs.Ordering.{nat_cmp};
-ghost use Rattle.std.specs.BTreeSet.{contains};
+ghost use Rattle.key_set.specs.Keys.{has};
 ghost use Rattle.dependency_map.specs.Askers.{points_from};
 
 use crate::number_set::next_in;
+use key_set::KeySet;
 use std::alloc::Global;
-use std::collections::BTreeSet;
 use ucd_model::{Memory, Points};
 
 /// The code points whose numbers these are, ascending.
 ///
 /// - `Memory`: memory ran out.
-pub fn points_of(alloc: Global, numbers: &BTreeSet<u64>) -> Result<Points, Memory>
-    ensures { IfOk result (λ points. points ≡ points_from (contains nat_cmp numbers.now) 0) }
+pub fn points_of(alloc: Global, numbers: &KeySet) -> Result<Points, Memory>
+    ensures { IfOk result (λ points. points ≡ points_from (has numbers.now) 0) }
 {
     let mut points = Points::new(alloc);
     let mut from = 0;

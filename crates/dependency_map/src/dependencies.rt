@@ -1,10 +1,11 @@
-//! The map of dependants.
+//! The map of dependants, and a listing that it can be made of.
 
+ghost use Rattle.key_set.specs.Keys.{has, is_in};
 ghost use Rattle.dependency_map.specs.Index.{Lists, kept_at};
 
 use kept_values::Store;
+use key_set::KeySet;
 use std::alloc::Global;
-use std::collections::BTreeSet;
 use ucd_model::Queries;
 
 /// The questions that each code point asks, now and next, and the code points that ask a question.
@@ -19,7 +20,19 @@ pub struct DependencyMap<S: Store<Option<Queries>>> {
     // the questions of the code points that are not plain, once there were any
     pub(crate) lists: Option<S>,
     // the code points under the questions that they ask now or next, but for their own ones; they may be under others too
-    pub(crate) askers: BTreeSet<u64>,
-    ghost now_listed: { Lists askers (kept_at S.now lists) },
-    ghost next_listed: { Lists askers (kept_at S.next lists) },
+    pub(crate) askers: KeySet,
+    ghost now_listed: { Lists (has askers) (kept_at S.now lists) },
+    ghost next_listed: { Lists (has askers) (kept_at S.next lists) },
+}
+
+/// The questions of code points that are listed one after another, before a map is made of them. A listing takes less time
+/// than a map in which the same questions are prepared: the code points that ask a question are put in order once.
+#[derive(Drop)]
+pub struct Listing<S: Store<Option<Queries>>> {
+    pub(crate) alloc: Global,
+    // the questions of the code points that are not plain, once there were any
+    pub(crate) lists: Option<S>,
+    // the keys of the code points under the questions that they ask, but for their own ones; there may be others too
+    pub(crate) keys: Vec<u64>,
+    ghost listed: { Lists (is_in keys.items) (kept_at S.next lists) },
 }

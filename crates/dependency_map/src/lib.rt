@@ -7,8 +7,9 @@ mod asking;
 mod collecting;
 mod dependencies;
 pub mod laws;
+mod listing;
 mod number_set;
 mod preparing;
 
 pub use asker_iter::Askers;
-pub use dependencies::DependencyMap;
+pub use dependencies::{DependencyMap, Listing};

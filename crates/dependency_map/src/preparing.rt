@@ -1,18 +1,16 @@
 //! What code points ask next.
 
-ghost use Rattle.std.specs.Prelude.{◌≡◌, true, OnOk, OnErr};
+ghost use Rattle.std.specs.Prelude.{◌≡◌, Some, OnOk, OnErr};
 ghost use Rattle.range_table.specs.Values.{SameValues, with_span};
-ghost use Rattle.ucd_model.specs.declared.query.Query.{Query as Question};
-ghost use Rattle.asked_queries.specs.Answers.{is_asked};
 ghost use Rattle.dependency_map.specs.Askers.{own_queries};
-ghost use Rattle.dependency_map.specs.Index.{may_ask};
+ghost use Rattle.dependency_map.specs.Index.{kept_at};
 ghost use Rattle.dependency_map.specs.Maps.{asked_at};
 
 use crate::asker_index::list;
 use crate::dependencies::DependencyMap;
 use kept_values::Store;
+use key_set::KeySet;
 use std::alloc::Global;
-use std::collections::BTreeSet;
 use ucd_model::{Memory, Point, Queries, Span};
 
 impl<S: Store<Option<Queries>>> DependencyMap<S> {
@@ -24,7 +22,7 @@ impl<S: Store<Option<Queries>>> DependencyMap<S> {
         DependencyMap {
             alloc,
             lists: None,
-            askers: BTreeSet::new(alloc),
+            askers: KeySet::new(alloc),
         }
     }
 
@@ -38,7 +36,7 @@ impl<S: Store<Option<Queries>>> DependencyMap<S> {
     {
         let copy = asked.copy(self.alloc)?;
         list(&mut self.askers, c, asked)?;
-        self.put(c, copy)
+        put_list(self.alloc, &mut self.lists, c, copy)
     }
 
     /// What is next becomes now, and stays next. It takes no memory.
@@ -60,22 +58,26 @@ impl<S: Store<Option<Queries>>> DependencyMap<S> {
             lists.discard();
         }
     }
+}
 
-    /// Gives a code point the questions next, under which it is listed.
-    ///
-    /// - `Memory`: memory ran out. What is next stays.
-    fn put(&mut self, c: Point, asked: Queries) -> Result<(), Memory>
-        requires { (q : Question) → is_asked asked q ≡ true → may_ask self.old.askers q c ≡ true }
-        ensures now { SameValues (asked_at S.now self.new) (asked_at S.now self.old) }
-        ensures ok { OnOk result (SameValues (asked_at S.next self.new) (with_span (asked_at S.next self.old) c c asked)) }
-        ensures err { OnErr result (SameValues (asked_at S.next self.new) (asked_at S.next self.old)) }
-    {
-        let mut lists = match self.lists.take() {
-            Some(lists) => lists,
-            None => S::filled(self.alloc, None)?,
-        };
-        let done = lists.prepare(Span::one(c), Some(asked));
-        self.lists = Some(lists);
-        done
-    }
+/// Gives a code point its questions next. What is kept now stays.
+///
+/// - `Memory`: memory ran out. What is kept next stays.
+pub fn put_list<S: Store<Option<Queries>>>(
+    alloc: Global,
+    lists: &mut Option<S>,
+    c: Point,
+    asked: Queries,
+) -> Result<(), Memory>
+    ensures now { SameValues (kept_at S.now lists.new) (kept_at S.now lists.old) }
+    ensures ok { OnOk result (SameValues (kept_at S.next lists.new) (with_span (kept_at S.next lists.old) c c (Some asked))) }
+    ensures err { OnErr result (SameValues (kept_at S.next lists.new) (kept_at S.next lists.old)) }
+{
+    let mut kept = match lists.take() {
+        Some(kept) => kept,
+        None => S::filled(alloc, None)?,
+    };
+    let done = kept.prepare(Span::one(c), Some(asked));
+    *lists = Some(kept);
+    done
 }

@@ -1,7 +1,7 @@
 //! Worked maps of dependants, and a map against a plain list.
 
 use crate::plain::{Plain, drawn};
-use dependency_map::DependencyMap;
+use dependency_map::{DependencyMap, Listing};
 use kept_values::Kept;
 use range_table::RunTable;
 use std::alloc::Global;
@@ -9,7 +9,9 @@ use std::process::Abort;
 use std::test::Fail;
 use ucd_model::{Memory, Point, Queries, Query, Span};
 
-type Map = DependencyMap<Kept<RunTable<u64>, Option<Queries>>>;
+type Store = Kept<RunTable<u64>, Option<Queries>>;
+
+type Map = DependencyMap<Store>;
 
 fn point(number: u32) -> Result<Point, Fail> {
     Ok(Point::new(number).ok_or("a code point")?)
@@ -79,6 +81,26 @@ fn look_at_letters(rt: &impl Abort, alloc: Global, map: &mut Map) -> Result<(), 
     map.commit();
     expect(rt, map, a, &[0x41, 0xC0, 0xC1]);
     expect(rt, map, pair, &[0xC0]);
+    Ok(())
+}
+
+#[test]
+fn askers_of_a_listing(rt: HostRuntime) -> Result<(), Fail> {
+    list_letters(&rt, rt.alloc())
+}
+
+/// A with grave is listed, and A with acute is prepared in the map that is made of the listing.
+fn list_letters(rt: &impl Abort, alloc: Global) -> Result<(), Fail> {
+    let mut listing: Listing<Store> = Listing::new(alloc);
+    let c = point(0xC0)?;
+    let asked = composed(alloc, c, point(0x41)?, point(0x300)?)?;
+    listing.put(c, &asked)?;
+    let mut map = listing.finish();
+    expect(rt, &map, row(0x41)?, &[0x41, 0xC0]);
+    put(alloc, &mut map, 0xC1, 0x41, 0x301)?;
+    map.commit();
+    expect(rt, &map, row(0x41)?, &[0x41, 0xC0, 0xC1]);
+    expect(rt, &map, grave_pair()?, &[0xC0]);
     Ok(())
 }
 

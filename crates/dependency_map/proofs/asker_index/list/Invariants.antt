@@ -1,4 +1,5 @@
 use Rattle.std.proofs.Common.{◌≡◌, ℕ, true, take}
+use Rattle.key_set.specs.Keys.{has}
 use Rattle.ucd_model.specs.declared.query.Query.{Query as Question}
 use Rattle.asked_queries.specs.Answers.{is_asked}
 use Rattle.dependency_map.specs.Index.{may_ask}
@@ -7,6 +8,6 @@ use Rattle.dependency_map.proofs.asker_index.list.Given as goal
 -- nothing is lost, and the code point is listed under the questions that were passed and are not its own ones
 abbrev pub invariant-queries : goal.invariant-queries
 invariant-queries l = record {
-  grows : (q : Question) (k : ℕ) → may_ask l.initial.keys q k ≡ true → may_ask l.keys q k ≡ true;
-  listed : (q : Question) → is_asked (take l.query-index l.query-items) q ≡ true → may_ask l.keys q l.c ≡ true;
+  grows : (q : Question) (k : ℕ) → may_ask (has l.initial.keys) q k ≡ true → may_ask (has l.keys) q k ≡ true;
+  listed : (q : Question) → is_asked (take l.query-index l.query-items) q ≡ true → may_ask (has l.keys) q l.c ≡ true;
 }

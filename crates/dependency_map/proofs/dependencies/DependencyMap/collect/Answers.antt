@@ -1,7 +1,6 @@
 use Rattle.std.proofs.Common.{◌≡◌, ◌∙◌, ℕ, List, take, ap}
 use Rattle.std.proofs.lemmas.List.{take_all}
-use Rattle.std.specs.Ordering.{nat_cmp}
-use Rattle.std.specs.BTreeSet.{contains}
+use Rattle.key_set.specs.Keys.{has}
 use Rattle.ucd_model.specs.declared.query.Query.{Query}
 use Rattle.dependency_map.specs.Askers.{asks_any}
 use Rattle.dependency_map.specs.Maps.{asked_at}
@@ -13,4 +12,4 @@ returns g c =
     let asked : ℕ → List Query = asked_at g.S.Store.now c.args.self.now in
     let items : List Query = c.as_slice-query-items.result.now in
     let all : take c.queries.query-index items ≡ c.args.queries.now = take_all c.queries.query-index items c.queries-test.false ∙ c.as_slice-query-items.ensures in
-    c.in_ok-points.ensures ∙ points_same (contains nat_cmp c.queries.numbers) (asks_any asked c.args.queries.now) (λ k inside. c.queries.invariant k inside ∙ ap (λ Q. asks_any asked Q k) all)
+    c.in_ok-points.ensures ∙ points_same (has c.queries.numbers) (asks_any asked c.args.queries.now) (λ k inside. c.queries.invariant k inside ∙ ap (λ Q. asks_any asked Q k) all)

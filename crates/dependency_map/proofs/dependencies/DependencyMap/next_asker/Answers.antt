@@ -1,4 +1,5 @@
 use Rattle.std.proofs.Common.{◌≡◌, ℕ, ◌<◌, ◌≤◌, Bool, true, false, arith}
+use Rattle.key_set.specs.Keys.{has}
 use Rattle.dependency_map.specs.Askers.{asks}
 use Rattle.dependency_map.specs.Index.{kept_at, may_ask, NoneFrom}
 use Rattle.dependency_map.specs.Maps.{asked_at}
@@ -14,7 +15,7 @@ returns-then-has_asked g c =
     let x : ℕ = c.in-Some.c in
     let inside : x < 1114112 = rw c.number-start.ensures.value at c.number-start.ensures.bound in
     let low : c.args.from ≤ x = omega (arith, c.askers.invariant.low, c.in-Some.ensures.0) in
-    let before : NoneFrom p c.args.from x = none_between p (may_ask map.askers q) c.args.from c.askers.start x (unasked map.askers (kept_at g.S.Store.now map.lists) map.now_listed q) (omega (arith, inside)) c.askers.invariant.none c.in-Some.ensures.1 in
+    let before : NoneFrom p c.args.from x = none_between p (may_ask (has map.askers) q) c.args.from c.askers.start x (unasked (has map.askers) (kept_at g.S.Store.now map.lists) map.now_listed q) (omega (arith, inside)) c.askers.invariant.none c.in-Some.ensures.1 in
     let here : p x ≡ true = rw c.has_asked.ensures at c.if-has_asked.true in
     record { next = (low, here, before); left = points_next p c.args.from x inside low here before }
 
@@ -26,7 +27,7 @@ askers-preserved g c =
     let x : ℕ = c.in-Some.c in
     let inside : x < 1114112 = rw c.number-start.ensures.value at c.number-start.ensures.bound in
     let low : c.args.from ≤ x = omega (arith, c.askers.invariant.low, c.in-Some.ensures.0) in
-    let before : NoneFrom p c.args.from x = none_between p (may_ask map.askers q) c.args.from c.askers.start x (unasked map.askers (kept_at g.S.Store.now map.lists) map.now_listed q) (omega (arith, inside)) c.askers.invariant.none c.in-Some.ensures.1 in
+    let before : NoneFrom p c.args.from x = none_between p (may_ask (has map.askers) q) c.args.from c.askers.start x (unasked (has map.askers) (kept_at g.S.Store.now map.lists) map.now_listed q) (omega (arith, inside)) c.askers.invariant.none c.in-Some.ensures.1 in
     let here : p x ≡ false = rw c.has_asked.ensures at c.if-has_asked.false in
     rw c.number-start.ensures.value (record { low = omega (arith, low); none = none_more p c.args.from x before here })
 
@@ -35,5 +36,5 @@ returns g c =
     let map = c.args.self.now in
     let q = c.args.query.now in
     let p : ℕ → Bool = asks (asked_at g.S.Store.now map) q in
-    let none : NoneFrom p c.args.from 1114112 = none_between p (may_ask map.askers q) c.args.from c.askers.start 1114112 (unasked map.askers (kept_at g.S.Store.now map.lists) map.now_listed q) (omega arith) c.askers.invariant.none c.in_default.ensures in
+    let none : NoneFrom p c.args.from 1114112 = none_between p (may_ask (has map.askers) q) c.args.from c.askers.start 1114112 (unasked (has map.askers) (kept_at g.S.Store.now map.lists) map.now_listed q) (omega arith) c.askers.invariant.none c.in_default.ensures in
     record { next = none; left = points_none p c.args.from none }

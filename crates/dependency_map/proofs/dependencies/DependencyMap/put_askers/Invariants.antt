@@ -1,6 +1,5 @@
 use Rattle.std.proofs.Common.{◌≡◌, ◌-◌, ◌<◌, ◌≤◌, ◌||◌, ℕ}
-use Rattle.std.specs.Ordering.{nat_cmp}
-use Rattle.std.specs.BTreeSet.{contains}
+use Rattle.key_set.specs.Keys.{has}
 use Rattle.dependency_map.specs.Askers.{asks}
 use Rattle.dependency_map.specs.Maps.{asked_at}
 use Rattle.dependency_map.proofs.dependencies.DependencyMap.put_askers.Given as goal
@@ -8,8 +7,8 @@ use Rattle.dependency_map.proofs.dependencies.DependencyMap.put_askers.Given as 
 -- the code points below `from` that ask the question are put, and none from there on
 abbrev pub invariant-askers : goal.invariant-askers
 invariant-askers g l = record {
-  below : (k : ℕ) → k < l.from → contains nat_cmp l.numbers k ≡ (contains nat_cmp l.initial.numbers k || asks (asked_at g.S.Store.now l.self) l.query k);
-  above : (k : ℕ) → l.from ≤ k → contains nat_cmp l.numbers k ≡ contains nat_cmp l.initial.numbers k;
+  below : (k : ℕ) → k < l.from → has l.numbers k ≡ (has l.initial.numbers k || asks (asked_at g.S.Store.now l.self) l.query k);
+  above : (k : ℕ) → l.from ≤ k → has l.numbers k ≡ has l.initial.numbers k;
 }
 
 abbrev pub decreases-askers : goal.decreases-askers

@@ -1,0 +1,13 @@
+use Rattle.std.proofs.Common.{◌≡◌, ℕ, true, take}
+use Rattle.key_set.specs.Keys.{is_in}
+use Rattle.ucd_model.specs.declared.query.Query.{Query as Question}
+use Rattle.asked_queries.specs.Answers.{is_asked}
+use Rattle.dependency_map.specs.Index.{may_ask}
+use Rattle.dependency_map.proofs.asker_index.push_keys.Given as goal
+
+-- nothing is lost, and the code point is listed under the questions that were passed and are not its own ones
+abbrev pub invariant-queries : goal.invariant-queries
+invariant-queries l = record {
+  grows : (q : Question) (k : ℕ) → may_ask (is_in l.initial.keys.items) q k ≡ true → may_ask (is_in l.keys.items) q k ≡ true;
+  listed : (q : Question) → is_asked (take l.query-index l.query-items) q ≡ true → may_ask (is_in l.keys.items) q l.c ≡ true;
+}

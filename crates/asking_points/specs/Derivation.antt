@@ -3,12 +3,11 @@
 -- DerivesAs r value        r is the record, or in its place the rule; want of memory says nothing
 -- plain_shown c G          the point c with the facts G has no mapping
 -- composite_shown F G      the pair of the mapping of a point with the facts G, where it is a primary composite
--- other_asks F c           what the derivation of c asks beside Row(c) and Second(c). What its NFKC asks is not repeated: it is
---                          among what the folding rounds ask
--- has_last                 the folding rounds of a point that has its record reach a last one
+-- other_asks F c           what is put for c beside Row(c) and Second(c). What its NFKC asks is not repeated: it is among what the
+--                          folding rounds ask
 -- plain_asked              a point that is shown to have no mapping asks Row(c) and Second(c) alone
--- asked_is                 what is asked of a point that has its record is Row(c), Second(c), and what is asked beside these
-use Rattle.std.proofs.Common.{◌≡◌, ℕ, Bool, true, false, ◌&&◌, not, ◌==◌, List, [], ◌∷◌, ◌++◌, length, Option, Some, None, is_some, Result, Ok, Err, if◌then◌else◌, refl, sym, ap, ◌∙◌, ◌+◌, ◌||◌}
+-- asked_is                 of a point that has its record, Row(c), Second(c) and what is put beside these are what is asked
+use Rattle.std.proofs.Common.{◌≡◌, ℕ, Bool, true, false, cond, ◌&&◌, not, ◌==◌, List, [], ◌∷◌, ◌++◌, length, Option, Some, None, is_some, Result, Ok, Err, if◌then◌else◌, refl, sym, ap, ◌∙◌, ◌+◌, ◌||◌}
 use Rattle.std.specs.Prelude.{⊤}
 use Rattle.std.specs.List.{flat_map, range_with_len}
 use Rattle.std.specs.Option.{option_and_then}
@@ -38,6 +37,9 @@ use Rattle.ucd_model.specs.declared.view.FactsRef.{FactsRef}
 use Rattle.asked_queries.specs.PlainProofs.{plain_ask_own}
 use Rattle.asked_queries.specs.Turns.{SameQueries}
 use Rattle.asked_queries.specs.Questions.{row_queries, asks, last_round, rounds_ask, round_asks_at, folding_asks, facts_ask, pair_queries, composite_asks, asked}
+use Rattle.asking_points.specs.Compat.{canonical_asks, has_compat, forms_alike}
+use Rattle.asking_points.specs.Rounds.{asks_from}
+use Rattle.asking_points.specs.RoundQuestions.{rounds_are}
 use Rattle.asking_points.specs.declared.derivation.Asked.{Asked}
 
 abbrev pub DerivesAs : Result Asked FormStop → Result Record Rule → Type 0
@@ -67,13 +69,13 @@ composite_shown F G = if is_canonical G.kind && ((G.class == 0) && (first_has_cl
 abbrev pub other_asks : (ℕ → Facts) → ℕ → List Query
 other_asks F c =
     row_queries (flat_map (λ m. m) (mappings c (F c)))
-    ++ (composite_asks F c ++ (asks F false (c ∷ []) ++ rounds_ask F c (last_round F c)))
+    ++ (composite_asks F c ++ (canonical_asks F c ++ asks_from F 8 (c ∷ [])))
 
 some_last : (F : ℕ → Facts) (c : ℕ) (r : Option ℕ) → is_none (option_and_then (λ i. rounds F i (c ∷ [])) r) ≡ false → is_some r ≡ true
 some_last F c (Some n) e = refl
 some_last F c None e = absurd (true≢false e)
 
-pub has_last : (F : ℕ → Facts) (c : ℕ) → HasRecord F c → is_some (last_round F c) ≡ true
+has_last : (F : ℕ → Facts) (c : ℕ) → HasRecord F c → is_some (last_round F c) ≡ true
 unfolding last_round
 has_last F c has = some_last F c (last_round F c) (broken-rules F c (broken-none F c has)).folds
 
@@ -96,15 +98,25 @@ first_round F c q (Some n) e =
 behind : (xs ys zs : List Query) (q : Query) → is_asked ys q ≡ is_asked zs q → is_asked (xs ++ ys) q ≡ is_asked (xs ++ zs) q
 behind xs ys zs q e = list_any-append (same_query q) xs ys ∙ ap (λ b. is_asked xs q || b) e ∙ sym (list_any-append (same_query q) xs zs)
 
+-- Form C of c asks nothing that Form KC does not ask, where no compatibility mapping is below c
+canonical_repeated : (F : ℕ → Facts) (c : ℕ) (q : Query) (b : Bool) (rounds : List Query) → has_compat F 8 c ≡ b → is_asked rounds q ≡ is_asked (asks F true (c ∷ []) ++ rounds) q
+    → is_asked (cond b (asks F false (c ∷ [])) [] ++ rounds) q ≡ is_asked (asks F false (c ∷ []) ++ (asks F true (c ∷ []) ++ rounds)) q
+canonical_repeated F c q true rounds e last = behind (asks F false (c ∷ [])) rounds (asks F true (c ∷ []) ++ rounds) q last
+canonical_repeated F c q false rounds e last =
+    last ∙ behind (asks F true (c ∷ [])) rounds (asks F true (c ∷ []) ++ rounds) q last
+    ∙ ap (λ (Q : List Query). is_asked (Q ++ (asks F true (c ∷ []) ++ rounds)) q) (forms_alike F c e)
+
 pub asked_is : (F : ℕ → Facts) (c : ℕ) → HasRecord F c → SameQueries (Row c ∷ Second c ∷ other_asks F c) (asked F c)
 unfolding asked
 asked_is F c has = λ q.
+    let put = asks_from F 8 (c ∷ []) in
     let rounds = rounds_ask F c (last_round F c) in
     let all = asks F true (c ∷ []) ++ rounds in
-    let last = first_round F c q (last_round F c) (has_last F c has) in
-    let canonical = behind (asks F false (c ∷ [])) rounds all q last in
-    let composite = behind (composite_asks F c) (asks F false (c ∷ []) ++ rounds) (asks F false (c ∷ []) ++ all) q canonical in
-    behind (facts_ask F c) (composite_asks F c ++ (asks F false (c ∷ []) ++ rounds)) (composite_asks F c ++ (asks F false (c ∷ []) ++ all)) q composite
+    let some = has_last F c has in
+    let last = first_round F c q (last_round F c) some in
+    let canonical = behind (canonical_asks F c) put rounds q (rounds_are F c some q) ∙ canonical_repeated F c q (has_compat F 8 c) rounds refl last in
+    let composite = behind (composite_asks F c) (canonical_asks F c ++ put) (asks F false (c ∷ []) ++ all) q canonical in
+    behind (facts_ask F c) (composite_asks F c ++ (canonical_asks F c ++ put)) (composite_asks F c ++ (asks F false (c ∷ []) ++ all)) q composite
 
 -- ---- a point without a mapping
 

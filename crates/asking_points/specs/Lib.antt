@@ -3,6 +3,7 @@ pub mod Members
 pub mod Tries
 pub mod TryProofs
 pub mod Trees
+pub mod Compat
 pub mod Forms
 pub mod Rounds
 pub mod RoundQuestions

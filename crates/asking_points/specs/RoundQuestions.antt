@@ -1,18 +1,21 @@
 -- The rounds of a code point that reaches a last one, step by step.
 --
--- rounds_are     what is asked round by round is what all rounds up to the last one ask
+-- rounds_are     what is put round by round are the questions that all rounds up to the last one ask
 -- rounds_stop, rounds_more, rounds_end   a round after which no other list comes, one after which another one comes, and no round
 --                left
-use Rattle.std.proofs.Common.{◌≡◌, ℕ, zero, suc, ◌+◌, ◌-◌, ◌<◌, ◌≤◌, true, false, cond, List, [], ◌∷◌, ◌++◌, append_assoc, append-nil, add-one, Option, Some, None, is_some, refl, sym, ap, ◌∙◌, subst, arith}
+use Rattle.std.proofs.Common.{◌≡◌, ℕ, zero, suc, ◌+◌, ◌-◌, ◌<◌, ◌≤◌, true, false, cond, ◌||◌, List, [], ◌∷◌, ◌++◌, append_assoc, append-nil, add-one, Option, Some, None, is_some, refl, sym, ap, ◌∙◌, subst, arith}
 use Rattle.std.specs.List.{flat_map, range_with_len}
 use Rattle.std.specs.Option.{option_and_then}
 use Rattle.std.proofs.lemmas.Bool.{true≢false}
+use Rattle.std.proofs.lemmas.List.Folds.{list_any-append}
 use Rattle.ucd_model.specs.CompositeProofs.{Least, find_least}
 use Rattle.ucd_model.specs.Facts.{Facts}
 use Rattle.ucd_model.specs.FoldRounds.{round, rounds, is_list, is_fixed, is_last}
 use Rattle.ucd_model.specs.declared.query.Query.{Query}
+use Rattle.asked_queries.specs.Answers.{same_query, is_asked}
+use Rattle.asked_queries.specs.Turns.{SameQueries}
 use Rattle.asked_queries.specs.Questions.{round_asks, round_asks_at, last_round, rounds_ask}
-use Rattle.asking_points.specs.Rounds.{next_at, asks_at, asks_from, asks_step, asks_none}
+use Rattle.asking_points.specs.Rounds.{next_at, asks_at, asks_from, asks_step, asks_none, round_puts, round_same}
 
 fixed_stops : (s : List ℕ) (r : Option (List ℕ)) → is_list s r ≡ true → next_at s r ≡ None
 fixed_stops s (Some t) e = ap (λ b. cond b None (Some t)) e
@@ -20,6 +23,9 @@ fixed_stops s None e = refl
 
 changed_goes : (s t : List ℕ) → is_list s (Some t) ≡ false → next_at s (Some t) ≡ Some t
 changed_goes s t e = ap (λ b. cond b None (Some t)) e
+
+joined_same : (P Q R S : List Query) → SameQueries P Q → SameQueries R S → SameQueries (P ++ R) (Q ++ S)
+joined_same P Q R S first rest q = list_any-append (same_query q) P R ∙ ap (λ b. b || is_asked R q) (first q) ∙ ap (λ b. is_asked Q q || b) (rest q) ∙ sym (list_any-append (same_query q) Q S)
 
 module _ (F : ℕ → Facts) (c n : ℕ) (last : last_round F c ≡ Some n) where
   least : Least (is_last F c) 0 8 (Some n)
@@ -47,50 +53,54 @@ module _ (F : ℕ → Facts) (c n : ℕ) (last : last_round F c ≡ Some n) wher
   abbrev at : ℕ → List Query
   at j = round_asks_at F (rounds F j (c ∷ []))
 
-  from_round : (d i fuel : ℕ) → i + d ≡ n → d < fuel → (s : List ℕ) → rounds F i (c ∷ []) ≡ Some s → asks_from F fuel s ≡ flat_map at (range_with_len i (suc d))
+  from_round : (d i fuel : ℕ) → i + d ≡ n → d < fuel → (s : List ℕ) → rounds F i (c ∷ []) ≡ Some s → SameQueries (asks_from F fuel s) (flat_map at (range_with_len i (suc d)))
   from_round d i zero sum few s e = absurd (omega (arith, few))
   from_round zero i (suc m) sum few s e =
       let same : n ≡ i = omega (arith, sum) in
       let fixed : is_list s (round F s) ≡ true = ap (is_fixed F) (sym e) ∙ ap (is_last F c) (sym same) ∙ least.2 in
-      asks_step F m s ∙ ap (λ r. round_asks F s ++ asks_at (asks_from F m) r) (fixed_stops s (round F s) fixed) ∙ ap (λ r. round_asks_at F r ++ []) (sym e)
+      let steps : asks_from F (suc m) s ≡ round_puts F s ++ [] = asks_step F m s ∙ ap (λ r. round_puts F s ++ asks_at (asks_from F m) r) (fixed_stops s (round F s) fixed) in
+      λ q. ap (λ Q. is_asked Q q) steps ∙ joined_same (round_puts F s) (round_asks F s) [] [] (round_same F s) (λ r. refl) q ∙ ap (λ r. is_asked (round_asks_at F r ++ []) q) (sym e)
   from_round (suc d) i (suc m) sum few s e =
       let next = there (suc i) (omega (arith, sum)) in
       let moved : round F s ≡ Some next.0 = sym (ap (option_and_then (round F)) e) ∙ next.1 in
       let other : is_list s (Some next.0) ≡ false = ap (is_list s) (sym moved) ∙ ap (is_fixed F) (sym e) ∙ least.3 i (omega arith) (omega (arith, sum)) in
       let later : rounds F (i + 1) (c ∷ []) ≡ Some next.0 = ap (λ j. rounds F j (c ∷ [])) (add-one i) ∙ next.1 in
+      let steps : asks_from F (suc m) s ≡ round_puts F s ++ asks_from F m next.0 =
       asks_step F m s
-      ∙ ap (λ r. round_asks F s ++ asks_at (asks_from F m) (next_at s r)) moved
-      ∙ ap (λ r. round_asks F s ++ asks_at (asks_from F m) r) (changed_goes s next.0 other)
-      ∙ ap (λ q. round_asks F s ++ q) (from_round d (i + 1) m (omega (arith, sum)) (omega (arith, few)) next.0 later)
-      ∙ ap (λ r. round_asks_at F r ++ flat_map at (range_with_len (i + 1) (suc d))) (sym e)
+      ∙ ap (λ r. round_puts F s ++ asks_at (asks_from F m) (next_at s r)) moved
+      ∙ ap (λ r. round_puts F s ++ asks_at (asks_from F m) r) (changed_goes s next.0 other) in
+      let rest : SameQueries (asks_from F m next.0) (flat_map at (range_with_len (i + 1) (suc d))) = from_round d (i + 1) m (omega (arith, sum)) (omega (arith, few)) next.0 later in
+      λ q. ap (λ Q. is_asked Q q) steps
+      ∙ joined_same (round_puts F s) (round_asks F s) (asks_from F m next.0) (flat_map at (range_with_len (i + 1) (suc d))) (round_same F s) rest q
+      ∙ ap (λ r. is_asked (round_asks_at F r ++ flat_map at (range_with_len (i + 1) (suc d))) q) (sym e)
 
-  from_first : asks_from F 8 (c ∷ []) ≡ rounds_ask F c (Some n)
+  from_first : SameQueries (asks_from F 8 (c ∷ [])) (rounds_ask F c (Some n))
   from_first = from_round n 0 8 (omega arith) least.1 (c ∷ []) refl
 
 known : (r : Option ℕ) → is_some r ≡ true → (n : ℕ) × (r ≡ Some n)
 known (Some n) e = (n, refl)
 known None e = absurd (true≢false (sym e))
 
-pub rounds_are : (F : ℕ → Facts) (c : ℕ) → is_some (last_round F c) ≡ true → asks_from F 8 (c ∷ []) ≡ rounds_ask F c (last_round F c)
+pub rounds_are : (F : ℕ → Facts) (c : ℕ) → is_some (last_round F c) ≡ true → SameQueries (asks_from F 8 (c ∷ [])) (rounds_ask F c (last_round F c))
 rounds_are F c e =
     let last = known (last_round F c) e in
-    from_first F c last.0 last.1 ∙ ap (rounds_ask F c) (sym last.1)
+    λ q. from_first F c last.0 last.1 q ∙ ap (λ r. is_asked (rounds_ask F c r) q) (sym last.1)
 
 module _ (F : ℕ → Facts) (i : ℕ) (s : List ℕ) (all now : List Query) (so_far : now ++ asks_from F (8 - i) s ≡ all) where
-  one_round : i < 8 → (put : List Query) → put ≡ now ++ round_asks F s → (r : Option (List ℕ)) → r ≡ next_at s (round F s) → put ++ asks_at (asks_from F (8 - (i + 1))) r ≡ all
+  one_round : i < 8 → (put : List Query) → put ≡ now ++ round_puts F s → (r : Option (List ℕ)) → r ≡ next_at s (round F s) → put ++ asks_at (asks_from F (8 - (i + 1))) r ≡ all
   one_round lt put e r next =
       let left : 8 - i ≡ suc (8 - (i + 1)) = omega arith in
       ap (λ q. q ++ asks_at (asks_from F (8 - (i + 1))) r) e
-      ∙ append_assoc now (round_asks F s) (asks_at (asks_from F (8 - (i + 1))) r)
-      ∙ ap (λ t. now ++ (round_asks F s ++ asks_at (asks_from F (8 - (i + 1))) t)) next
+      ∙ append_assoc now (round_puts F s) (asks_at (asks_from F (8 - (i + 1))) r)
+      ∙ ap (λ t. now ++ (round_puts F s ++ asks_at (asks_from F (8 - (i + 1))) t)) next
       ∙ ap (λ q. now ++ q) (sym (asks_step F (8 - (i + 1)) s))
       ∙ ap (λ k. now ++ asks_from F k s) (sym left)
       ∙ so_far
 
-  pub rounds_stop : i < 8 → (put : List Query) → put ≡ now ++ round_asks F s → None ≡ next_at s (round F s) → put ≡ all
+  pub rounds_stop : i < 8 → (put : List Query) → put ≡ now ++ round_puts F s → None ≡ next_at s (round F s) → put ≡ all
   rounds_stop lt put e next = sym (append-nil put) ∙ one_round lt put e None next
 
-  pub rounds_more : i < 8 → (put : List Query) → put ≡ now ++ round_asks F s → (t : List ℕ) → Some t ≡ next_at s (round F s) → put ++ asks_from F (8 - (i + 1)) t ≡ all
+  pub rounds_more : i < 8 → (put : List Query) → put ≡ now ++ round_puts F s → (t : List ℕ) → Some t ≡ next_at s (round F s) → put ++ asks_from F (8 - (i + 1)) t ≡ all
   rounds_more lt put e t next = one_round lt put e (Some t) next
 
   pub rounds_end : 8 ≤ i → now ≡ all

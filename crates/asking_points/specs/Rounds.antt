@@ -4,22 +4,31 @@
 -- short_round form kept next   the list `next` after a round, where it and the two lists before it have at most 255 points
 -- folded_round F form     the list after a round, from the NFKC of the round's list
 -- next_from F r           the same of the form r; None where there is none
--- folding_at F r          what a round asks from the NFKC r of its list on; of None nothing
+-- again_puts F s kept     what the NFKC of the list `kept` asks, where it is another list than s
+-- folding_puts F s r      what is put for the folding of the NFKC r of the list s: what it asks, without what the NFKC of s asks too;
+--                         of None nothing
+-- round_puts F s          what is put for a round from s
 -- asks_at f r             f of the list r; nothing where there is none
--- asks_from F n s         what at most n rounds from s ask, until one gives no other list
--- folded_is, next_is, folding_is   the steps of a round are what the definition of rounds says
+-- asks_from F n s         what is put for at most n rounds from s, until one gives no other list
+-- folded_is, next_is      the steps of a round are what the definition of rounds says
+-- form_again              an equal list has the same form
+-- round_same              what is put for a round are the questions that it asks
 -- asks_step, asks_none    asks_from with a round left, and without one
 use Rattle.std.specs.Prelude.{ℕ, zero, suc, List, [], ◌++◌, length, nat_le, Option, Some, None, Result, Ok, Err, if◌then◌else◌}
-use Rattle.std.proofs.Common.{◌≡◌, Bool, true, false, cond, refl, ap, ◌∙◌}
+use Rattle.std.proofs.Common.{◌≡◌, Bool, true, false, cond, ◌||◌, refl, sym, ap, ◌∙◌}
 use Rattle.std.specs.Option.{option_and_then}
 use Rattle.std.specs.Str.{bytes_eq}
+use Rattle.std.proofs.lemmas.List.Folds.{list_any-append}
+use Rattle.std.proofs.lemmas.Slice.Eq.{bytes_eq-Decides}
 use Rattle.ucd_model.specs.Casing.{fold}
 use Rattle.ucd_model.specs.Facts.{Facts}
 use Rattle.ucd_model.specs.FoldRounds.{drop_ignorable, short, short_form, short_nfkc, short_fold, round}
 use Rattle.ucd_model.specs.Forms.{nfkc}
 use Rattle.ucd_model.specs.declared.form.Bad.{Bad as Rule}
 use Rattle.ucd_model.specs.declared.query.Query.{Query}
-use Rattle.asked_queries.specs.Questions.{folding_asks, round_asks}
+use Rattle.asked_queries.specs.Answers.{same_query, is_asked}
+use Rattle.asked_queries.specs.Questions.{asks, folding_asks, round_asks, row_queries}
+use Rattle.asked_queries.specs.Turns.{SameQueries}
 use Rattle.asking_points.specs.Forms.{list_in}
 
 abbrev pub next_at : List ℕ → Option (List ℕ) → Option (List ℕ)
@@ -36,9 +45,15 @@ abbrev pub next_from : (ℕ → Facts) → Option (List ℕ) → Option (List �
 next_from F (Some form) = folded_round F form
 next_from F None = None
 
-abbrev pub folding_at : (ℕ → Facts) → Option (List ℕ) → List Query
-folding_at F (Some form) = folding_asks F (Ok form)
-folding_at F None = []
+abbrev pub again_puts : (ℕ → Facts) → List ℕ → List ℕ → List Query
+again_puts F s kept = if bytes_eq kept s then [] else asks F true kept
+
+abbrev pub folding_puts : (ℕ → Facts) → List ℕ → Option (List ℕ) → List Query
+folding_puts F s (Some form) = row_queries (fold F form) ++ again_puts F s (drop_ignorable F (fold F form))
+folding_puts F s None = []
+
+abbrev pub round_puts : (ℕ → Facts) → List ℕ → List Query
+round_puts F s = asks F true s ++ folding_puts F s (list_in (nfkc F s))
 
 abbrev pub asks_at : (List ℕ → List Query) → Option (List ℕ) → List Query
 asks_at f (Some t) = f t
@@ -46,9 +61,9 @@ asks_at f None = []
 
 unfoldable pub asks_from : (ℕ → Facts) → ℕ → List ℕ → List Query
 asks_from F zero s = []
-asks_from F (suc n) s = round_asks F s ++ asks_at (asks_from F n) (next_at s (round F s))
+asks_from F (suc n) s = round_puts F s ++ asks_at (asks_from F n) (next_at s (round F s))
 
-pub asks_step : (F : ℕ → Facts) (n : ℕ) (s : List ℕ) → asks_from F (suc n) s ≡ round_asks F s ++ asks_at (asks_from F n) (next_at s (round F s))
+pub asks_step : (F : ℕ → Facts) (n : ℕ) (s : List ℕ) → asks_from F (suc n) s ≡ round_puts F s ++ asks_at (asks_from F n) (next_at s (round F s))
 unfolding asks_from
 asks_step F n s = refl
 
@@ -83,6 +98,30 @@ folded_is F (Err rule) = refl
 pub next_is : (F : ℕ → Facts) (s : List ℕ) → next_from F (list_in (nfkc F s)) ≡ round F s
 next_is F s = folded_is F (nfkc F s)
 
-pub folding_is : (F : ℕ → Facts) (r : Result (List ℕ) Rule) → folding_at F (list_in r) ≡ folding_asks F r
-folding_is F (Ok form) = refl
-folding_is F (Err rule) = refl
+-- ---- what is put
+
+once : (a b : Bool) → (a || (b || false)) ≡ (a || (b || a))
+once true b = refl
+once false b = refl
+
+again_same : (F : ℕ → Facts) (s rows kept : List ℕ) (e : Bool) → bytes_eq kept s ≡ e → (q : Query)
+    → is_asked (asks F true s ++ (row_queries rows ++ cond e [] (asks F true kept))) q ≡ is_asked (asks F true s ++ (row_queries rows ++ asks F true kept)) q
+again_same F s rows kept true e q =
+    let A : List Query = asks F true s in
+    let R : List Query = row_queries rows in
+    let same : A ≡ asks F true kept = ap (asks F true) (sym ((bytes_eq-Decides kept s).0 e)) in
+    let split : (B : List Query) → is_asked (A ++ (R ++ B)) q ≡ (is_asked A q || (is_asked R q || is_asked B q)) = λ B. list_any-append (same_query q) A (R ++ B) ∙ ap (λ b. is_asked A q || b) (list_any-append (same_query q) R B) in
+    split [] ∙ once (is_asked A q) (is_asked R q) ∙ sym (split A) ∙ ap (λ (B : List Query). is_asked (A ++ (R ++ B)) q) same
+again_same F s rows kept false e q = refl
+
+form_same : (F : ℕ → Facts) (s : List ℕ) (r : Result (List ℕ) Rule) → SameQueries (asks F true s ++ folding_puts F s (list_in r)) (asks F true s ++ folding_asks F r)
+form_same F s (Ok form) =
+    let kept : List ℕ = drop_ignorable F (fold F form) in
+    again_same F s (fold F form) kept (bytes_eq kept s) refl
+form_same F s (Err rule) = λ q. refl
+
+pub round_same : (F : ℕ → Facts) (s : List ℕ) → SameQueries (round_puts F s) (round_asks F s)
+round_same F s = form_same F s (nfkc F s)
+
+pub form_again : (F : ℕ → Facts) (s kept form : List ℕ) → bytes_eq kept s ≡ true → Some form ≡ list_in (nfkc F s) → Some form ≡ list_in (nfkc F kept)
+form_again F s kept form e is = is ∙ ap (λ xs. list_in (nfkc F xs)) (sym ((bytes_eq-Decides kept s).0 e))

@@ -8,12 +8,14 @@ ghost use Rattle.ucd_model.specs.ValidityLaws.{HasRecord};
 ghost use Rattle.ucd_model.specs.View.{ShowsFacts};
 ghost use Rattle.asked_queries.specs.Questions.{asked};
 ghost use Rattle.asked_queries.specs.Turns.{SameQueries};
+ghost use Rattle.asking_points.specs.Compat.{canonical_asks};
 ghost use Rattle.asking_points.specs.Derivation.{DerivesAs, plain_shown, composite_shown, other_asks};
 
 use crate::forms::put_asks;
 use crate::query_list::query_set;
 use crate::rounds::put_rounds;
 use crate::rows::put_members;
+use crate::trees::has_compat;
 use identifier_closure::{Derived, derive_point};
 use std::alloc::Global;
 use std::sync::ledger::Ledger;
@@ -92,7 +94,6 @@ pub fn questions_of<W: FactView>(alloc: Global, view: &W, c: Point) -> Result<Qu
 
 /// Puts the questions that the derivation of a code point asks beside its own at the end. Those of its Normalisation
 /// Form KC are the first ones of the folding rounds.
-#[tactic(auto, using(crate::specs::Derivation::has_last))]
 fn put_more<W: FactView>(
     alloc: Global,
     view: &W,
@@ -100,14 +101,29 @@ fn put_more<W: FactView>(
     facts: &FactsRef<'_>,
     asked: &mut Vec<Query>,
 ) -> Result<(), Memory>
-    requires facts { ShowsFacts facts.now (W.facts_of view.now c) }
-    requires record { HasRecord (W.facts_of view.now) c }
+    requires { ShowsFacts facts.now (W.facts_of view.now c) }
     ensures { OnOk result (asked.new.items ≡ asked.old.items ++ other_asks (W.facts_of view.now) c) }
 {
     put_members(c, facts, asked)?;
     put_composite(view, facts, asked)?;
-    put_asks(alloc, view, false, &[c], asked)?;
+    put_canonical(alloc, view, c, asked)?;
     put_rounds(alloc, view, c, asked)?;
+    Ok(())
+}
+
+/// Puts what Normalisation Form C of a code point asks at the end, if a compatibility mapping is below it; if none is,
+/// Form KC asks the same. UAX #15, section 1.2.
+fn put_canonical<W: FactView>(
+    alloc: Global,
+    view: &W,
+    c: Point,
+    asked: &mut Vec<Query>,
+) -> Result<(), Memory>
+    ensures { OnOk result (asked.new.items ≡ asked.old.items ++ canonical_asks (W.facts_of view.now) c) }
+{
+    if has_compat(view, c) {
+        put_asks(alloc, view, false, &[c], asked)?;
+    }
     Ok(())
 }
 

@@ -1,10 +1,11 @@
 //! Questions of the folding rounds.
 
-ghost use Rattle.std.specs.Prelude.{◌≡◌, ◌++◌, IfOk, OnOk, Ok, is_some, true};
+ghost use Rattle.std.specs.Prelude.{◌≡◌, [], ◌∷◌, ◌++◌, IfOk, OnOk, Some};
 ghost use Rattle.std.specs.Str.{bytes_eq};
 ghost use Rattle.ucd_model.specs.FoldRounds.{drop_ignorable, round};
-ghost use Rattle.asked_queries.specs.Questions.{folding_asks, round_asks, last_round, rounds_ask};
-ghost use Rattle.asking_points.specs.Rounds.{next_at, folded_round, next_from, folding_at, short_round};
+ghost use Rattle.ucd_model.specs.Forms.{nfkc};
+ghost use Rattle.asking_points.specs.Forms.{list_in};
+ghost use Rattle.asking_points.specs.Rounds.{again_puts, asks_from, folded_round, folding_puts, next_at, next_from, round_puts, short_round};
 
 use crate::forms::put_asks;
 use crate::rows::put_rows;
@@ -19,8 +20,8 @@ const MOST: usize = 255;
 /// How many lists are looked at for one that a round leaves as it is: after 0 to 7 rounds (real releases need 0 or 1).
 const LISTS: u8 = 8;
 
-/// Puts what the folding rounds of a code point that reaches a last one ask at the end. The Unicode Standard, section
-/// 3.13, toNFKC_Casefold.
+/// Puts what the folding rounds of a code point ask at the end, until a round gives no other list. The Unicode Standard,
+/// section 3.13, toNFKC_Casefold.
 ///
 /// - `Memory`: memory ran out.
 pub fn put_rounds<W: FactView>(
@@ -29,9 +30,7 @@ pub fn put_rounds<W: FactView>(
     c: Point,
     asked: &mut Vec<Query>,
 ) -> Result<(), Memory>
-    requires { is_some (last_round (W.facts_of view.now) c) ≡ true }
-    ensures { OnOk result (asked.new.items
-        ≡ asked.old.items ++ rounds_ask (W.facts_of view.now) c (last_round (W.facts_of view.now) c)) }
+    ensures { OnOk result (asked.new.items ≡ asked.old.items ++ asks_from (W.facts_of view.now) 8 (c ∷ [])) }
 {
     let mut list = Points::new(alloc);
     list.push(c)?;
@@ -52,27 +51,30 @@ fn put_round<W: FactView>(
     s: &[Point],
     asked: &mut Vec<Query>,
 ) -> Result<Option<Points>, Memory>
-    ensures asked { OnOk result (asked.new.items ≡ asked.old.items ++ round_asks (W.facts_of view.now) s.now) }
+    ensures asked { OnOk result (asked.new.items ≡ asked.old.items ++ round_puts (W.facts_of view.now) s.now) }
     ensures next { IfOk result (λ next. next ≡ next_at s.now (round (W.facts_of view.now) s.now)) }
 {
     let form = put_asks(alloc, view, true, s, asked)?;
-    let next = put_folded(alloc, view, form, asked)?;
+    let next = put_folded(alloc, view, s, form, asked)?;
     Ok(changed(next, s))
 }
 
-/// Puts what a round asks at the end, from the Normalisation Form KC of its list on; and the list after the round.
+/// Puts what a round from a list asks at the end, from the Normalisation Form KC of the list on; and the list after the
+/// round.
 fn put_folded<W: FactView>(
     alloc: Global,
     view: &W,
+    s: &[Point],
     form: Option<Points>,
     asked: &mut Vec<Query>,
 ) -> Result<Option<Points>, Memory>
-    ensures asked { OnOk result (asked.new.items ≡ asked.old.items ++ folding_at (W.facts_of view.now) form) }
+    requires { form ≡ list_in (nfkc (W.facts_of view.now) s.now) }
+    ensures asked { OnOk result (asked.new.items ≡ asked.old.items ++ folding_puts (W.facts_of view.now) s.now form) }
     ensures next { IfOk result (λ next. next ≡ next_from (W.facts_of view.now) form) }
 {
     match form {
         Some(form) => {
-            let next = put_folding(alloc, view, &form, asked)?;
+            let next = put_folding(alloc, view, s, &form, asked)?;
             Ok(next)
         }
         None => Ok(None),
@@ -83,17 +85,42 @@ fn put_folded<W: FactView>(
 fn put_folding<W: FactView>(
     alloc: Global,
     view: &W,
+    s: &[Point],
     form: &Points,
     asked: &mut Vec<Query>,
 ) -> Result<Option<Points>, Memory>
-    ensures asked { OnOk result (asked.new.items ≡ asked.old.items ++ folding_asks (W.facts_of view.now) (Ok form.now)) }
+    requires { Some form.now ≡ list_in (nfkc (W.facts_of view.now) s.now) }
+    ensures asked { OnOk result (asked.new.items ≡ asked.old.items ++ folding_puts (W.facts_of view.now) s.now (Some form.now)) }
     ensures next { IfOk result (λ next. next ≡ folded_round (W.facts_of view.now) form.now) }
 {
     let folded = fold(alloc, view, form.as_slice())?;
     put_rows(folded.as_slice(), asked)?;
     let kept = without_ignorable(alloc, view, folded.as_slice())?;
-    let next = put_asks(alloc, view, true, kept.as_slice(), asked)?;
+    let next = put_again(alloc, view, s, form, kept.as_slice(), asked)?;
     Ok(short_round(form, &kept, next))
+}
+
+/// Puts what Normalisation Form KC of a list asks at the end, and answers that form. If the list is the one that the
+/// round began with, all of that stands there, and the form is known.
+#[tactic(auto, using(crate::specs::Rounds::form_again))]
+fn put_again<W: FactView>(
+    alloc: Global,
+    view: &W,
+    s: &[Point],
+    form: &Points,
+    kept: &[Point],
+    asked: &mut Vec<Query>,
+) -> Result<Option<Points>, Memory>
+    requires { Some form.now ≡ list_in (nfkc (W.facts_of view.now) s.now) }
+    ensures asked { OnOk result (asked.new.items ≡ asked.old.items ++ again_puts (W.facts_of view.now) s.now kept.now) }
+    ensures form { IfOk result (λ found. found ≡ list_in (nfkc (W.facts_of view.now) kept.now)) }
+{
+    if is_same(kept, s) {
+        let again = form.copy(alloc)?;
+        return Ok(Some(again));
+    }
+    let found = put_asks(alloc, view, true, kept, asked)?;
+    Ok(found)
 }
 
 /// The list after a round, where the lists of the round are not too long.

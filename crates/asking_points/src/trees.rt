@@ -3,9 +3,11 @@
 ghost use Rattle.std.specs.Prelude.{◌≡◌, ◌++◌, OnOk};
 ghost use Rattle.std.specs.List.{flat_map};
 ghost use Rattle.asked_queries.specs.Questions.{tree, whole_tree, row_queries};
+ghost use Rattle.identifier_closure.specs.PointForms.{is_compat};
+ghost use Rattle.asking_points.specs.Compat.{has_compat};
 
 use decomposition::counted;
-use ucd_model::{FactView, Memory, Point, Query};
+use ucd_model::{FactView, Kind, Memory, Point, Query};
 
 /// The levels of an expansion: one more than the longest chain of mappings (real releases need 3).
 const LEVELS: u8 = 8;
@@ -64,4 +66,37 @@ fn put_tree<W: FactView>(
         put_tree(view, compat, levels - 1, *member, asked)?;
     }
     Ok(())
+}
+
+/// Whether a code point that the expansions of this one look at has a compatibility mapping. UAX #15, section 1.3.
+pub fn has_compat<W: FactView>(view: &W, c: Point) -> bool
+    ensures { result ≡ has_compat (W.facts_of view.now) 8 c }
+{
+    has_compat_within(view, LEVELS, c)
+}
+
+/// The same with some levels left.
+fn has_compat_within<W: FactView>(view: &W, levels: u8, c: Point) -> bool
+    ensures { result ≡ has_compat (W.facts_of view.now) levels c }
+{
+    if levels == 0 {
+        return false;
+    }
+    if is_compat(view.kind(c)) {
+        return true;
+    }
+    let mapping = counted(view, true, c);
+    'members: for member in mapping {
+        if has_compat_within(view, levels - 1, *member) {
+            return true;
+        }
+    }
+    false
+}
+
+/// Whether a mapping of this kind is a compatibility mapping.
+fn is_compat(kind: Kind) -> bool
+    ensures { result ≡ is_compat kind }
+{
+    matches!(kind, Kind::Compat(_))
 }

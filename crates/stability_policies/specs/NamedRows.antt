@@ -16,8 +16,10 @@
 -- Takes x y step b c d e   of a row x of the old release and a row y of the new one the step takes what it says: for Same both,
 --                       which are one row; for Old the old one, whose name is put behind b, so that c has it; for New the new
 --                       one, whose name is put behind d, so that e has it
+-- begins_first x y      the row x does not begin behind the row y; true where one of the two is no row of UnicodeData.txt
+-- KeepsStep x y step    the row that a step takes alone does not begin behind the other one
 -- olds step, news step   how many rows of each release a step takes
-use Rattle.std.specs.Prelude.{◌≡◌, ◌≤◌, ◌+◌, ℕ, nat_le, if◌then◌else◌, List, [], ◌∷◌, ◌++◌, Option, Some, None}
+use Rattle.std.specs.Prelude.{◌≡◌, ◌≤◌, ◌+◌, ℕ, Bool, true, false, nat_le, if◌then◌else◌, List, [], ◌∷◌, ◌++◌, Option, Some, None}
 use Rattle.std.specs.List.{flat_map}
 use Rattle.ucd_model.specs.Facts.{within}
 use Rattle.ucd_model.specs.declared.row.Row.{Row}
@@ -77,6 +79,15 @@ abbrev pub Takes : Row → Row → Step → List NamedRow → List NamedRow → 
 Takes x y Same b c d e = (x ≡ y) × (c ≡ b) × (e ≡ d)
 Takes x y Old b c d e = (c ≡ b ++ named_in x) × (e ≡ d)
 Takes x y New b c d e = (c ≡ b) × (e ≡ d ++ named_in y)
+
+abbrev pub begins_first : Row → Row → Bool
+begins_first (DataLine x) (DataLine y) = nat_le x.span.lo y.span.lo
+begins_first _ _ = true
+
+abbrev pub KeepsStep : Row → Row → Step → Type 0
+KeepsStep x y Same = Unit {0}
+KeepsStep x y Old = begins_first x y ≡ true
+KeepsStep x y New = begins_first x y ≡ false
 
 abbrev pub olds : Step → ℕ
 olds Same = 1

@@ -1,7 +1,7 @@
 //! The rows of UnicodeData.txt of two releases that do not stand in both.
 
 ghost use Rattle.std.specs.Prelude.{◌≡◌, ◌++◌, IfOk, OnOk};
-ghost use Rattle.stability_policies.specs.NamedRows.{AreAbove, AreLeft, Takes, named, news, olds};
+ghost use Rattle.stability_policies.specs.NamedRows.{AreAbove, AreLeft, KeepsStep, Takes, begins_first, named, news, olds};
 
 use crate::named_row::{NamedRow, push_named, put_names};
 use release_rows::RowText;
@@ -79,7 +79,8 @@ fn take_one(
     before: &mut Vec<NamedRow>,
     after: &mut Vec<NamedRow>,
 ) -> Result<Step, Memory>
-    ensures { IfOk result (λ step. Takes old.now new.now step before.old.items before.new.items after.old.items after.new.items) }
+    ensures taken { IfOk result (λ step. Takes old.now new.now step before.old.items before.new.items after.old.items after.new.items) }
+    ensures in_step { IfOk result (KeepsStep old.now new.now) }
 {
     if old.is_same_text(new) {
         return Ok(Step::Same);
@@ -92,11 +93,13 @@ fn take_one(
     Ok(Step::New)
 }
 
-/// Whether the first of two rows begins before the second, or where it does. It only keeps the two files in step, so that
-/// rows that stand in both meet: what differs is the same for either answer.
+/// Whether the first of two rows begins before the second, or where it does. It keeps the two files in step, so that rows
+/// that stand in both meet.
 ///
 /// - `Memory`: memory ran out.
-fn begins_first(alloc: Global, row: &RowText<'_>, other: &RowText<'_>) -> Result<bool, Memory> {
+fn begins_first(alloc: Global, row: &RowText<'_>, other: &RowText<'_>) -> Result<bool, Memory>
+    ensures { IfOk result (λ first. first ≡ begins_first row.now other.now) }
+{
     let Some(first) = row.data(alloc)? else {
         return Ok(true);
     };

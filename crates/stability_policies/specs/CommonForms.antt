@@ -3,7 +3,6 @@
 -- ListsNone P breaks    no break of the policy P is listed
 -- AllAssigned F s       each member of the list s is assigned
 -- AreForms F s forms    the four forms of s
--- IsReport breaks old new   the report of the two releases
 -- KeepsForms breaks     nothing of P01, P03, P04 and P05 is listed
 use Rattle.std.specs.Prelude.{◌≡◌, ℕ, true, false, List, Ok}
 use Rattle.std.specs.List.{list_all, list_any}

@@ -46,7 +46,6 @@ pub fn common_forms<O: Records + FactView, N: Records + FactView>(
     requires old { Belongs (O.facts_of old.now) (O.record_of old.now) old_rows.now }
     requires new { Belongs (N.facts_of new.now) (N.record_of new.now) new_rows.now }
     requires valid_old { IsValid old_rows.now }
-    requires valid_new { IsValid new_rows.now }
     requires report { breaks.now ≡ report old_rows.now new_rows.now }
     requires kept { KeepsForms breaks.now }
     requires assigned { AllAssigned (O.facts_of old.now) s.now }
@@ -73,7 +72,6 @@ pub fn common_caseless<O: Records + FactView, N: Records + FactView>(
     requires old { Belongs (O.facts_of old.now) (O.record_of old.now) old_rows.now }
     requires new { Belongs (N.facts_of new.now) (N.record_of new.now) new_rows.now }
     requires valid_old { IsValid old_rows.now }
-    requires valid_new { IsValid new_rows.now }
     requires report { breaks.now ≡ report old_rows.now new_rows.now }
     requires kept { KeepsForms breaks.now }
     requires folding { ListsNone P10 breaks.now }

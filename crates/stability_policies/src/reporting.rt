@@ -33,7 +33,6 @@ pub fn report<O: Records + UniformFacts, N: Records + UniformFacts>(
     requires old { Belongs (O.facts_of old.now) (O.record_of old.now) old_rows.now }
     requires new { Belongs (N.facts_of new.now) (N.record_of new.now) new_rows.now }
     requires valid_old { IsValid old_rows.now }
-    requires valid_new { IsValid new_rows.now }
     ensures { IfOk result (λ breaks. breaks ≡ report old_rows.now new_rows.now) }
 {
     let stretches = broken_stretches(alloc, old, new)?;

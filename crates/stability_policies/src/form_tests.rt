@@ -34,7 +34,7 @@ pub fn keeps_forms<O: FactView, N: FactView>(
 }
 
 /// Whether the full folding of a code point stays, if it was assigned.
-fn keeps_folding(c: Point, a: &FactsRef<'_>, b: &FactsRef<'_>) -> bool
+pub fn keeps_folding(c: Point, a: &FactsRef<'_>, b: &FactsRef<'_>) -> bool
     ensures { result ≡ (not (shown_facts a.now).assigned || bytes_eq (folding_of c (shown_facts a.now)) (folding_of c (shown_facts b.now))) }
 {
     !a.assigned || has_same_folding(c, a, b)

@@ -14,7 +14,7 @@ use crate::testing::is_broken;
 use std::alloc::Global;
 use ucd_model::{FactView, Memory, Point, Records, Span};
 
-/// Puts the breaks of a policy of code points, by code point. Outside of these stretches nothing is broken.
+/// Puts the breaks of a policy of code points, by code point. Outside of these stretches none breaks it.
 ///
 /// - `Memory`: memory ran out.
 pub fn put_points<O: Records + FactView, N: Records + FactView>(
@@ -27,7 +27,7 @@ pub fn put_points<O: Records + FactView, N: Records + FactView>(
 ) -> Result<(), Memory>
     requires old { O.record_of old.now ≡ record_at (O.facts_of old.now) }
     requires new { N.record_of new.now ≡ record_at (N.facts_of new.now) }
-    requires stretches { IsSieve (O.facts_of old.now) (N.facts_of new.now) 0 point_count stretches.now }
+    requires stretches { IsSieve (breaks policy (O.facts_of old.now) (N.facts_of new.now)) 0 point_count stretches.now }
     ensures { OnOk result (into.new ≡ into.old
         ++ map (At policy) (filter (breaks policy (O.facts_of old.now) (N.facts_of new.now)) (range_with_len 0 point_count))) }
 {

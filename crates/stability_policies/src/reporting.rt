@@ -1,10 +1,9 @@
 //! The report of the breaks of all policies.
 
 ghost use Rattle.std.specs.Prelude.{◌≡◌, ◌++◌, IfOk, OnOk};
-ghost use Rattle.ucd_model.specs.Limits.{point_count};
 ghost use Rattle.ucd_model.specs.declared.files.SourceFile.TheVariants.{PropertyAliases, PropertyValueAliases};
 ghost use Rattle.stability_policies.specs.Reports.{breaks_of, lost_in, report};
-ghost use Rattle.stability_policies.specs.Sieves.{IsSieve};
+ghost use Rattle.stability_policies.specs.Sieves.{AreStretches};
 ghost use Rattle.stability_policies.specs.Views.{Belongs, IsValid};
 
 use crate::alias_rows::put_lost;
@@ -12,10 +11,10 @@ use crate::breaks::Breaks;
 use crate::names::put_renamed;
 use crate::point_breaks::put_points;
 use crate::policy::Policy;
-use crate::sieving::broken_stretches;
+use crate::sieving::{Stretches, broken_stretches};
 use release_rows::Release;
 use std::alloc::Global;
-use ucd_model::{FactView, Memory, Records, SourceFile, Span};
+use ucd_model::{FactView, Memory, Records, SourceFile};
 use uniform_facts::UniformFacts;
 
 /// All breaks of the stability policies by a new release against an old one: by policy, then by code point; of P17 by
@@ -45,14 +44,14 @@ pub fn report<O: Records + UniformFacts, N: Records + UniformFacts>(
             old_rows,
             new,
             new_rows,
-            stretches.as_slice(),
+            &stretches,
             &mut breaks,
         )?;
     }
     Ok(breaks)
 }
 
-/// Puts the breaks of a policy. Outside of these stretches no policy of code points is broken.
+/// Puts the breaks of a policy. Outside of its stretches no code point breaks it.
 ///
 /// - `Memory`: memory ran out.
 fn put_breaks<O: Records + FactView, N: Records + FactView>(
@@ -62,18 +61,19 @@ fn put_breaks<O: Records + FactView, N: Records + FactView>(
     old_rows: &Release,
     new: &N,
     new_rows: &Release,
-    stretches: &[Span],
+    stretches: &Stretches,
     into: &mut Breaks,
 ) -> Result<(), Memory>
     requires old { Belongs (O.facts_of old.now) (O.record_of old.now) old_rows.now }
     requires new { Belongs (N.facts_of new.now) (N.record_of new.now) new_rows.now }
-    requires stretches { IsSieve (O.facts_of old.now) (N.facts_of new.now) 0 point_count stretches.now }
+    requires stretches { AreStretches (O.facts_of old.now) (N.facts_of new.now) stretches.now }
     ensures { OnOk result (into.new ≡ into.old ++ breaks_of policy old_rows.now new_rows.now) }
 {
     match policy {
         Policy::P02 => put_renamed(alloc, old_rows, new_rows, into),
         Policy::P17 => put_lost_names(alloc, old_rows, new_rows, into),
-        _ => put_points(alloc, policy, old, new, stretches, into),
+        Policy::P10 => put_points(alloc, policy, old, new, stretches.foldings.as_slice(), into),
+        _ => put_points(alloc, policy, old, new, stretches.others.as_slice(), into),
     }
 }
 

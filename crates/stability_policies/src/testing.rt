@@ -1,13 +1,13 @@
 //! Whether a code point breaks a policy.
 
-ghost use Rattle.std.specs.Prelude.{◌≡◌, ◌&&◌, not, false, IfOk};
+ghost use Rattle.std.specs.Prelude.{◌≡◌, ◌≢◌, ◌&&◌, not, false, IfOk};
 ghost use Rattle.ucd_model.specs.Records.{core_at, record_at};
 ghost use Rattle.ucd_model.specs.Sets.{has_core};
 ghost use Rattle.ucd_model.specs.Shown.{shown_facts};
 ghost use Rattle.ucd_model.specs.View.{ShowsFacts};
 ghost use Rattle.ucd_model.specs.declared.property.Core.{Core as CoreValue};
 ghost use Rattle.stability_policies.specs.Policies.{breaks, breaks_by};
-ghost use Rattle.stability_policies.specs.Sieves.{IsKept};
+ghost use Rattle.stability_policies.specs.declared.policy.Policy.{Policy as PolicyValue};
 ghost use Rattle.stability_policies.specs.declared.policy.Policy.TheVariants.{P10};
 
 use crate::case_tests::{gains_case_pair, loses_case_pair};
@@ -51,31 +51,7 @@ pub fn is_broken<O: Records + FactView, N: Records + FactView>(
     )
 }
 
-/// Whether a code point with these facts may break a policy: where it does not, it breaks none.
-///
-/// - `Memory`: memory ran out.
-pub fn is_any_broken<O: Records + FactView, N: Records + FactView>(
-    alloc: Global,
-    old: &O,
-    new: &N,
-    c: Point,
-    a: &FactsRef<'_>,
-    b: &FactsRef<'_>,
-) -> Result<bool, Memory>
-    requires old { O.record_of old.now ≡ record_at (O.facts_of old.now) }
-    requires new { N.record_of new.now ≡ record_at (N.facts_of new.now) }
-    requires old_facts { ShowsFacts a.now (O.facts_of old.now c) }
-    requires new_facts { ShowsFacts b.now (N.facts_of new.now c) }
-    ensures { IfOk result (λ any. any ≡ false → IsKept (O.facts_of old.now) (N.facts_of new.now) c) }
-{
-    if is_other_broken(alloc, old, new, c, a, b)? {
-        return Ok(true);
-    }
-    changes_caseless(alloc, old, new, c, a, b)
-}
-
-/// Whether a code point with these facts may break a policy other than P10: where it does not, it breaks none if it keeps
-/// P10. No form is made.
+/// Whether a code point with these facts breaks a policy other than P10. No form is made.
 ///
 /// - `Memory`: memory ran out.
 pub fn is_other_broken<O: Records + FactView, N: Records + FactView>(
@@ -91,7 +67,7 @@ pub fn is_other_broken<O: Records + FactView, N: Records + FactView>(
     requires old_facts { ShowsFacts a.now (O.facts_of old.now c) }
     requires new_facts { ShowsFacts b.now (N.facts_of new.now c) }
     ensures { IfOk result (λ any. any ≡ false
-        → breaks P10 (O.facts_of old.now) (N.facts_of new.now) c ≡ false → IsKept (O.facts_of old.now) (N.facts_of new.now) c) }
+        → (policy : PolicyValue) → policy ≢ P10 → breaks policy (O.facts_of old.now) (N.facts_of new.now) c ≡ false) }
 {
     let x = old.record(c).core;
     let y = new.record(c).core;
@@ -103,7 +79,7 @@ pub fn is_other_broken<O: Records + FactView, N: Records + FactView>(
     Ok(false)
 }
 
-/// Whether a code point with these facts and core properties may break a policy other than P10.
+/// Whether a policy is another than P10, and a code point with these facts and core properties breaks it.
 ///
 /// - `Memory`: memory ran out.
 #[tactic(auto, using(crate::proofs::TestLemmas::told_breaks))]
@@ -122,8 +98,7 @@ fn is_other_broken_by<O: FactView, N: FactView>(
     requires new_facts { ShowsFacts b.now (N.facts_of new.now c) }
     requires old_core { (core : CoreValue) → has_core x core ≡ core_at (O.facts_of old.now) c core }
     requires new_core { (core : CoreValue) → has_core y core ≡ core_at (N.facts_of new.now) c core }
-    ensures { IfOk result (λ broken. broken ≡ false
-        → breaks P10 (O.facts_of old.now) (N.facts_of new.now) c ≡ false → breaks policy (O.facts_of old.now) (N.facts_of new.now) c ≡ false) }
+    ensures { IfOk result (λ broken. broken ≡ false → policy ≢ P10 → breaks policy (O.facts_of old.now) (N.facts_of new.now) c ≡ false) }
 {
     match policy {
         Policy::P10 => Ok(false),

@@ -10,5 +10,5 @@ use Rattle.stability_policies.proofs.point_breaks.put_points.Given as goal
 abbrev pub invariant-stretches : goal.invariant-stretches
 invariant-stretches g l = record {
   so_far : l.into ≡ l.initial.into ++ map (At l.policy) (filter (breaks l.policy (g.O.FactView.facts_of l.old) (g.N.FactView.facts_of l.new)) (range_with_len 0 l.number));
-  left : IsSieve (g.O.FactView.facts_of l.old) (g.N.FactView.facts_of l.new) l.number point_count (drop l.stretch-index l.stretches);
+  left : IsSieve (breaks l.policy (g.O.FactView.facts_of l.old) (g.N.FactView.facts_of l.new)) l.number point_count (drop l.stretch-index l.stretches);
 }

@@ -56,15 +56,12 @@ no_mapping (Compat tag) e = cc
 
 -- where neither release gives a mapping, the foldings alone are compared
 pub plain_caseless : (O N : ℕ → Facts) (c : ℕ) (F G : Facts) (same : Bool) → F ≡ O c → G ≡ N c → not (is_plain F.kind) ≡ false → not (is_plain G.kind) ≡ false
-    → same ≡ bytes_eq (folding_of c F) (folding_of c G) → F.assigned ≡ true → not same ≡ (F.assigned && not (same_list (caseless O (c ∷ [])) (caseless N (c ∷ []))))
+    → same ≡ bytes_eq (folding_of c F) (folding_of c G) → F.assigned ≡ true → not same ≡ ((O c).assigned && not (same_list (caseless O (c ∷ [])) (caseless N (c ∷ []))))
 plain_caseless O N c F G same old new plain_old plain_new is assigned =
     let before : caseless O (c ∷ []) ≡ Ok (folding_of c F) = caseless_plain_kind O c (ap (λ (H : Facts). H.kind) (sym old) ∙ no_mapping F.kind plain_old) ∙ ap (λ H. Ok (folding_of c H)) (sym old) in
     let after : caseless N (c ∷ []) ≡ Ok (folding_of c G) = caseless_plain_kind N c (ap (λ (H : Facts). H.kind) (sym new) ∙ no_mapping G.kind plain_new) ∙ ap (λ H. Ok (folding_of c H)) (sym new) in
-    rw (before, after, assigned, is) refl
-
-pub mapped_caseless : (O N : ℕ → Facts) (c : ℕ) (F : Facts) (same : Bool) → same ≡ same_list (caseless O (c ∷ [])) (caseless N (c ∷ [])) → F.assigned ≡ true
-    → not same ≡ (F.assigned && not (same_list (caseless O (c ∷ [])) (caseless N (c ∷ []))))
-mapped_caseless O N c F same is assigned = rw (assigned, is) refl
+    let was : (O c).assigned ≡ true = ap (λ (H : Facts). H.assigned) (sym old) ∙ assigned in
+    rw (before, after, was, is) refl
 
 -- ---- composites
 

@@ -12,7 +12,7 @@ use Rattle.ucd_model.specs.declared.form.Bad.{Bad as Rule}
 use Rattle.ucd_model.specs.declared.view.FactsRef.{FactsRef}
 use Rattle.stability_policies.specs.CaselessLists.{folding_of}
 use Rattle.stability_policies.specs.Policies.{breaks, caseless, same_list}
-use Rattle.stability_policies.specs.StableForms.{IsRooted, Old, StaysNormal, all_kept, keeps_forms, keeps_forms_by}
+use Rattle.stability_policies.specs.StableForms.{IsRooted, Old, StaysNormal, all_kept, keeps_forms}
 use Rattle.stability_policies.specs.Views.{IsValid, rows_of}
 use Rattle.stability_policies.specs.declared.policy.Policy.{Policy}
 use Rattle.stability_policies.specs.declared.policy.Policy.TheVariants.{P01, P03, P04, P05, P10}
@@ -36,9 +36,6 @@ quiet_by true r s same = ap not (same_self r s (same refl))
 quiet_by false r s same = refl
 
 -- ---- what each code point keeps
-
-pub told_forms : (O N : ℕ → Facts) (c : ℕ) (a b : FactsRef) → ShowsFacts a (O c) → ShowsFacts b (N c) → keeps_forms_by O N c (shown_facts a) (shown_facts b) ≡ keeps_forms O N c
-told_forms O N c a b old new = ap (λ F. keeps_forms_by O N c F (shown_facts b)) (shown_is a (O c) old) ∙ ap (keeps_forms_by O N c (O c)) (shown_is b (N c) new)
 
 none_broken : (a b c d e : Bool) → a ≡ false → b ≡ false → c ≡ false → d ≡ false → e ≡ all_kept a b c d e
 none_broken a b c d e no_loss no_class no_mapping no_composite = rw (no_loss, no_class, no_mapping, no_composite) refl

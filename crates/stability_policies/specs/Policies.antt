@@ -1,7 +1,7 @@
 -- The stability policies of the Unicode Standard, as tests of one code point in two releases, an old one and a new one.
 -- Unicode Character Encoding Stability Policies; UAX #15, section 3; UAX #31, section 3.4.
 --
--- O and N are the facts of each code point in the old release and in the new one; F and G those of the code point c.
+-- O and N are the facts of each code point in the old release and in the new one.
 -- policies, place_of_policy P   the policies in order, and the place of each, counted from 0
 -- in_one a b               exactly one of the two holds
 -- sort_of kind             0 for Plain, 1 for Canonical, 2 for a compatibility mapping, whatever its tag
@@ -14,8 +14,7 @@
 -- is_of_category k F       the category is k
 -- second_maps F m          the mapping m has two members, and the second has a canonical mapping
 -- is_mark F                a category of marks: Mn, Mc or Me
--- breaks_by P O N c F G    c, which has the facts F in old and G in new, breaks the policy P; never for P02 and P17, which are of rows
--- breaks P O N c           the same, with the facts that O and N give c
+-- breaks P O N c           c breaks the policy P; never for P02 and P17, which are of rows
 --
 -- name_of row              the name of a row of UnicodeData.txt, or the label of a range; None where there is no row
 -- differ a b               both are there, and they differ
@@ -116,31 +115,28 @@ is_mark F = is_one_of (Mn ∷ Mc ∷ Me ∷ []) F.category
 
 -- ---- the formulas
 
-abbrev pub breaks_by : Policy → (ℕ → Facts) → (ℕ → Facts) → ℕ → Facts → Facts → Bool
-breaks_by P01 O N c F G = F.assigned && not G.assigned
-breaks_by P02 O N c F G = false
-breaks_by P03 O N c F G = F.assigned && (G.assigned && not (F.class == G.class))
-breaks_by P04 O N c F G = F.assigned && (G.assigned && not (same_mapping F G))
-breaks_by P05 O N c F G = (primary O c && not (primary N c)) || (primary N c && (not (primary O c) && all_assigned O G.mapping))
-breaks_by P06 O N c F G = core_at O c IdStart && not (core_at N c IdStart)
-breaks_by P07 O N c F G = core_at O c IdContinue && not (core_at N c IdContinue)
-breaks_by P08 O N c F G = core_at O c XidStart && not (core_at N c XidStart)
-breaks_by P09 O N c F G = core_at O c XidContinue && not (core_at N c XidContinue)
-breaks_by P10 O N c F G = F.assigned && not (same_list (caseless O (c ∷ [])) (caseless N (c ∷ [])))
-breaks_by P11 O N c F G = is_case_pair O c F.simple_lower && not (is_case_pair N c F.simple_lower)
-breaks_by P12 O N c F G =
-    is_case_pair N c G.simple_lower && (F.assigned && ((O G.simple_lower).assigned && not (is_case_pair O c G.simple_lower)))
-breaks_by P13 O N c F G = in_one (is_of_category Cc F) (is_of_category Cc G)
-breaks_by P14 O N c F G = in_one (is_of_category Cs F) (is_of_category Cs G) || in_one (is_of_category Co F) (is_of_category Co G)
-breaks_by P15 O N c F G = in_one (F.flag NoncharacterCodePoint) (G.flag NoncharacterCodePoint)
-breaks_by P16 O N c F G = in_one (F.flag PatternSyntax) (G.flag PatternSyntax) || in_one (F.flag PatternWhiteSpace) (G.flag PatternWhiteSpace)
-breaks_by P17 O N c F G = false
-breaks_by P18 O N c F G = is_canonical G.kind && second_maps N G.mapping
-breaks_by P19 O N c F G = is_canonical G.kind && not (bytes_eq (order (class_of N) G.mapping) G.mapping)
-breaks_by P20 O N c F G = not (G.class == 0) && not (is_mark G)
-
 abbrev pub breaks : Policy → (ℕ → Facts) → (ℕ → Facts) → ℕ → Bool
-breaks policy O N c = breaks_by policy O N c (O c) (N c)
+breaks P01 O N c = (O c).assigned && not (N c).assigned
+breaks P02 O N c = false
+breaks P03 O N c = (O c).assigned && ((N c).assigned && not ((O c).class == (N c).class))
+breaks P04 O N c = (O c).assigned && ((N c).assigned && not (same_mapping (O c) (N c)))
+breaks P05 O N c = (primary O c && not (primary N c)) || (primary N c && (not (primary O c) && all_assigned O (N c).mapping))
+breaks P06 O N c = core_at O c IdStart && not (core_at N c IdStart)
+breaks P07 O N c = core_at O c IdContinue && not (core_at N c IdContinue)
+breaks P08 O N c = core_at O c XidStart && not (core_at N c XidStart)
+breaks P09 O N c = core_at O c XidContinue && not (core_at N c XidContinue)
+breaks P10 O N c = (O c).assigned && not (same_list (caseless O (c ∷ [])) (caseless N (c ∷ [])))
+breaks P11 O N c = is_case_pair O c (O c).simple_lower && not (is_case_pair N c (O c).simple_lower)
+breaks P12 O N c =
+    is_case_pair N c (N c).simple_lower && ((O c).assigned && ((O (N c).simple_lower).assigned && not (is_case_pair O c (N c).simple_lower)))
+breaks P13 O N c = in_one (is_of_category Cc (O c)) (is_of_category Cc (N c))
+breaks P14 O N c = in_one (is_of_category Cs (O c)) (is_of_category Cs (N c)) || in_one (is_of_category Co (O c)) (is_of_category Co (N c))
+breaks P15 O N c = in_one ((O c).flag NoncharacterCodePoint) ((N c).flag NoncharacterCodePoint)
+breaks P16 O N c = in_one ((O c).flag PatternSyntax) ((N c).flag PatternSyntax) || in_one ((O c).flag PatternWhiteSpace) ((N c).flag PatternWhiteSpace)
+breaks P17 O N c = false
+breaks P18 O N c = is_canonical (N c).kind && second_maps N (N c).mapping
+breaks P19 O N c = is_canonical (N c).kind && not (bytes_eq (order (class_of N) (N c).mapping) (N c).mapping)
+breaks P20 O N c = not ((N c).class == 0) && not (is_mark (N c))
 
 -- ---- names of rows
 

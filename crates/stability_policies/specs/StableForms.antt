@@ -11,9 +11,7 @@
 -- IsRooted O N        what was assigned lies up to 10FFFF, with assigned members of its mapping; each primary composite was
 --                     assigned, and each new one lies up to 10FFFF
 -- all_kept a b c d e  none of the four policies is broken, and e holds
--- keeps_forms_by O N c F G   c, which has the facts F in old and G in new, breaks none of P01, P03, P04 and P05, and where it was
---                     assigned, its own full folding stays
--- keeps_forms O N c   the same, with the facts that O and N give c
+-- keeps_forms O N c   c breaks none of P01, P03, P04 and P05, and where it was assigned, its own full folding stays
 use Rattle.std.specs.Prelude.{◌≡◌, ◌<◌, ℕ, Bool, true, false, ◌&&◌, ◌||◌, not, [], ◌∷◌, List}
 use Rattle.std.specs.List.{AllByRecursion as Each}
 use Rattle.std.specs.Str.{bytes_eq}
@@ -23,7 +21,7 @@ use Rattle.ucd_model.specs.Forms.{nfd, nfc, nfkd, nfkc}
 use Rattle.ucd_model.specs.Limits.{point_count}
 use Rattle.normalisation.specs.FormLaws.{HaveExpansions}
 use Rattle.stability_policies.specs.CaselessLists.{folding_of}
-use Rattle.stability_policies.specs.Policies.{all_assigned, breaks_by, caseless, same_list, sort_of}
+use Rattle.stability_policies.specs.Policies.{all_assigned, breaks, caseless, same_list, sort_of}
 use Rattle.stability_policies.specs.declared.policy.Policy.TheVariants.{P01, P03, P04, P05}
 
 abbrev pub Old : (ℕ → Facts) → ℕ → Type 0
@@ -61,10 +59,6 @@ pub record IsRooted (O N : ℕ → Facts) : Type 0 where
 abbrev pub all_kept : Bool → Bool → Bool → Bool → Bool → Bool
 all_kept a b c d e = not a && (not b && (not c && (not d && e)))
 
-abbrev pub keeps_forms_by : (ℕ → Facts) → (ℕ → Facts) → ℕ → Facts → Facts → Bool
-keeps_forms_by O N c F G =
-    all_kept (breaks_by P01 O N c F G) (breaks_by P03 O N c F G) (breaks_by P04 O N c F G) (breaks_by P05 O N c F G)
-    (not F.assigned || bytes_eq (folding_of c F) (folding_of c G))
-
 abbrev pub keeps_forms : (ℕ → Facts) → (ℕ → Facts) → ℕ → Bool
-keeps_forms O N c = keeps_forms_by O N c (O c) (N c)
+keeps_forms O N c =
+    all_kept (breaks P01 O N c) (breaks P03 O N c) (breaks P04 O N c) (breaks P05 O N c) (not (O c).assigned || bytes_eq (folding_of c (O c)) (folding_of c (N c)))

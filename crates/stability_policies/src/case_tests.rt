@@ -1,15 +1,14 @@
-//! Policies on case: case pairs, and the folding under NFKC. The Unicode Standard, section 3.13.
+//! Policies on case pairs. The Unicode Standard, section 3.13.
 
-ghost use Rattle.std.specs.Prelude.{◌≡◌, ◌&&◌, not, [], ◌∷◌, IfOk};
-ghost use Rattle.ucd_model.specs.Shown.{shown_facts};
+ghost use Rattle.std.specs.Prelude.{◌≡◌};
 ghost use Rattle.ucd_model.specs.View.{ShowsFacts};
-ghost use Rattle.stability_policies.specs.Policies.{breaks_by, caseless, is_case_pair};
-ghost use Rattle.stability_policies.specs.declared.policy.Policy.TheVariants.{P10, P11, P12};
+ghost use Rattle.stability_policies.specs.Policies.{breaks, is_case_pair};
+ghost use Rattle.stability_policies.specs.declared.policy.Policy.TheVariants.{P11, P12};
 
-use std::alloc::Global;
-use ucd_model::{FactView, FactsRef, FormStop, Kind, Memory, Point, Points};
+use ucd_model::{FactView, FactsRef, Point};
 
 /// P11: a case pair with its simple lower case mapping in old, and none with that code point in new.
+#[tactic(auto, using(ucd_model::specs::Shown::shown_is))]
 pub fn loses_case_pair<O: FactView, N: FactView>(
     old: &O,
     new: &N,
@@ -19,13 +18,14 @@ pub fn loses_case_pair<O: FactView, N: FactView>(
 ) -> bool
     requires old { ShowsFacts a.now (O.facts_of old.now c) }
     requires new { ShowsFacts b.now (N.facts_of new.now c) }
-    ensures { result ≡ breaks_by P11 (O.facts_of old.now) (N.facts_of new.now) c (shown_facts a.now) (shown_facts b.now) }
+    ensures { result ≡ breaks P11 (O.facts_of old.now) (N.facts_of new.now) c }
 {
     let lower = a.simple_lower;
     is_case_pair(old, c, a, lower) && !is_case_pair(new, c, b, lower)
 }
 
 /// P12: a case pair with its simple lower case mapping in new, both assigned in old, and none with that code point in old.
+#[tactic(auto, using(ucd_model::specs::Shown::shown_is))]
 pub fn gains_case_pair<O: FactView, N: FactView>(
     old: &O,
     new: &N,
@@ -35,7 +35,7 @@ pub fn gains_case_pair<O: FactView, N: FactView>(
 ) -> bool
     requires old { ShowsFacts a.now (O.facts_of old.now c) }
     requires new { ShowsFacts b.now (N.facts_of new.now c) }
-    ensures { result ≡ breaks_by P12 (O.facts_of old.now) (N.facts_of new.now) c (shown_facts a.now) (shown_facts b.now) }
+    ensures { result ≡ breaks P12 (O.facts_of old.now) (N.facts_of new.now) c }
 {
     let lower = b.simple_lower;
     is_case_pair(new, c, b, lower)

@@ -5,7 +5,7 @@ ghost use Rattle.std.specs.Str.{bytes_eq};
 ghost use Rattle.ucd_model.specs.Shown.{shown_facts};
 ghost use Rattle.ucd_model.specs.View.{ShowsFacts};
 ghost use Rattle.stability_policies.specs.CaselessLists.{folding_of};
-ghost use Rattle.stability_policies.specs.StableForms.{keeps_forms_by};
+ghost use Rattle.stability_policies.specs.StableForms.{keeps_forms};
 
 use crate::caseless::has_same_folding;
 use crate::mapping_tests::changes_composite;
@@ -14,6 +14,7 @@ use ucd_model::{FactView, FactsRef, Point};
 
 /// Whether a code point breaks none of P01, P03, P04 and P05, and its own full folding stays, if it was assigned. If all
 /// code points are so, each form of what was assigned stays, and so does its folding.
+#[tactic(auto, using(ucd_model::specs::Shown::shown_is))]
 pub fn keeps_forms<O: FactView, N: FactView>(
     old: &O,
     new: &N,
@@ -23,7 +24,7 @@ pub fn keeps_forms<O: FactView, N: FactView>(
 ) -> bool
     requires old { ShowsFacts a.now (O.facts_of old.now c) }
     requires new { ShowsFacts b.now (N.facts_of new.now c) }
-    ensures { result ≡ keeps_forms_by (O.facts_of old.now) (N.facts_of new.now) c (shown_facts a.now) (shown_facts b.now) }
+    ensures { result ≡ keeps_forms (O.facts_of old.now) (N.facts_of new.now) c }
 {
     let lost = loses_its_row(a, b);
     let other_class = changes_class(a, b);

@@ -6,14 +6,15 @@ ghost use Rattle.ucd_model.specs.CanonicalOrder.{class_of, order};
 ghost use Rattle.ucd_model.specs.Composites.{first_has_class_zero, is_canonical, primary};
 ghost use Rattle.ucd_model.specs.Shown.{shown_facts};
 ghost use Rattle.ucd_model.specs.View.{ShowsFacts};
-ghost use Rattle.stability_policies.specs.Policies.{all_assigned, breaks_by, second_maps};
-ghost use Rattle.stability_policies.specs.declared.policy.Policy.TheVariants.{P05, P18, P19};
+ghost use Rattle.stability_policies.specs.Policies.{all_assigned, breaks, second_maps};
+ghost use Rattle.stability_policies.specs.declared.policy.Policy.TheVariants.{P05};
 
 use normalisation::order;
 use std::alloc::Global;
 use ucd_model::{FactView, FactsRef, Kind, Memory, Point, Points};
 
 /// P05: a primary composite in old alone, or in new alone over code points that are assigned in old.
+#[tactic(auto, using(ucd_model::specs::Shown::shown_is))]
 pub fn changes_composite<O: FactView, N: FactView>(
     old: &O,
     new: &N,
@@ -23,7 +24,7 @@ pub fn changes_composite<O: FactView, N: FactView>(
 ) -> bool
     requires old { ShowsFacts a.now (O.facts_of old.now c) }
     requires new { ShowsFacts b.now (N.facts_of new.now c) }
-    ensures { result ≡ breaks_by P05 (O.facts_of old.now) (N.facts_of new.now) c (shown_facts a.now) (shown_facts b.now) }
+    ensures { result ≡ breaks P05 (O.facts_of old.now) (N.facts_of new.now) c }
 {
     let before = is_primary(old, c, a);
     let after = is_primary(new, c, b);

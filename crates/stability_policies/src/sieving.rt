@@ -35,8 +35,8 @@ pub struct OtherStretches {
     pub keep_forms: bool,
 }
 
-/// The stretches of code points that may break a policy of code points. Each policy looks at each stretch once. P10 looks
-/// at none, and no form is made, if each code point keeps what forms rest on: then none breaks P10.
+/// The stretches of code points that may break a policy of code points. A policy looks once at a stretch that breaks none.
+/// P10 looks at no stretch, and no form is made, if each code point keeps what forms rest on: then none breaks P10.
 ///
 /// - `Memory`: memory ran out.
 pub fn broken_stretches<O: Records + UniformFacts, N: Records + UniformFacts>(
@@ -86,8 +86,8 @@ fn other_stretches<O: Records + UniformFacts, N: Records + UniformFacts>(
     Ok(OtherStretches { spans, keep_forms })
 }
 
-/// Puts the stretch from a code point to `last`, if the code point breaks a policy other than P10. The answer is whether
-/// it keeps what forms rest on: where none is broken, its own folding alone is left to look at.
+/// Puts the stretch from a code point to `last`, if the code point may break a policy other than P10. The answer is whether
+/// it keeps what forms rest on: if it breaks none, its own folding alone is left to look at.
 ///
 /// - `Memory`: memory ran out.
 fn put_if_other_broken<O: Records + UniformFacts, N: Records + UniformFacts>(
@@ -114,7 +114,7 @@ fn put_if_other_broken<O: Records + UniformFacts, N: Records + UniformFacts>(
     Ok(keeps_folding(c, &a, &b))
 }
 
-/// The stretches that break P10.
+/// The stretches that may break P10.
 ///
 /// - `Memory`: memory ran out.
 fn folding_stretches<O: UniformFacts, N: UniformFacts>(
@@ -135,10 +135,9 @@ fn folding_stretches<O: UniformFacts, N: UniformFacts>(
     Ok(spans)
 }
 
-/// Puts the stretch from a code point to `last`, if the code point breaks P10.
+/// Puts the stretch from a code point to `last`, if the code point may break P10.
 ///
 /// - `Memory`: memory ran out.
-#[tactic(auto, using(crate::proofs::TestLemmas::told_breaks))]
 fn put_if_folding_broken<O: UniformFacts, N: UniformFacts>(
     alloc: Global,
     old: &O,

@@ -3,10 +3,9 @@
 ghost use Rattle.std.specs.Prelude.{◌≡◌, ◌≢◌, ◌&&◌, not, false, IfOk};
 ghost use Rattle.ucd_model.specs.Records.{core_at, record_at};
 ghost use Rattle.ucd_model.specs.Sets.{has_core};
-ghost use Rattle.ucd_model.specs.Shown.{shown_facts};
 ghost use Rattle.ucd_model.specs.View.{ShowsFacts};
 ghost use Rattle.ucd_model.specs.declared.property.Core.{Core as CoreValue};
-ghost use Rattle.stability_policies.specs.Policies.{breaks, breaks_by};
+ghost use Rattle.stability_policies.specs.Policies.{breaks};
 ghost use Rattle.stability_policies.specs.declared.policy.Policy.{Policy as PolicyValue};
 ghost use Rattle.stability_policies.specs.declared.policy.Policy.TheVariants.{P10};
 
@@ -24,7 +23,6 @@ use ucd_model::{Core, CoreSet, FactView, FactsRef, Memory, Point, Records};
 /// Whether a code point breaks a policy; never P02 and P17, which are of rows.
 ///
 /// - `Memory`: memory ran out.
-#[tactic(auto, using(crate::proofs::TestLemmas::told_breaks))]
 pub fn is_broken<O: Records + FactView, N: Records + FactView>(
     alloc: Global,
     policy: Policy,
@@ -51,7 +49,8 @@ pub fn is_broken<O: Records + FactView, N: Records + FactView>(
     )
 }
 
-/// Whether a code point with these facts breaks a policy other than P10. No form is made.
+/// Whether a code point with these facts may break a policy other than P10: if it may not, it breaks none of them. No form
+/// is made.
 ///
 /// - `Memory`: memory ran out.
 pub fn is_other_broken<O: Records + FactView, N: Records + FactView>(
@@ -79,10 +78,9 @@ pub fn is_other_broken<O: Records + FactView, N: Records + FactView>(
     Ok(false)
 }
 
-/// Whether a policy is another than P10, and a code point with these facts and core properties breaks it.
+/// Whether a code point with these facts and core properties breaks a policy, if that is another one than P10.
 ///
 /// - `Memory`: memory ran out.
-#[tactic(auto, using(crate::proofs::TestLemmas::told_breaks))]
 fn is_other_broken_by<O: FactView, N: FactView>(
     alloc: Global,
     policy: Policy,
@@ -109,6 +107,7 @@ fn is_other_broken_by<O: FactView, N: FactView>(
 /// Whether a code point with these facts and core properties breaks a policy.
 ///
 /// - `Memory`: memory ran out.
+#[tactic(auto, using(ucd_model::specs::Shown::shown_is))]
 fn is_broken_by<O: FactView, N: FactView>(
     alloc: Global,
     policy: Policy,
@@ -124,7 +123,7 @@ fn is_broken_by<O: FactView, N: FactView>(
     requires new_facts { ShowsFacts b.now (N.facts_of new.now c) }
     requires old_core { (core : CoreValue) → has_core x core ≡ core_at (O.facts_of old.now) c core }
     requires new_core { (core : CoreValue) → has_core y core ≡ core_at (N.facts_of new.now) c core }
-    ensures { IfOk result (λ broken. broken ≡ breaks_by policy (O.facts_of old.now) (N.facts_of new.now) c (shown_facts a.now) (shown_facts b.now)) }
+    ensures { IfOk result (λ broken. broken ≡ breaks policy (O.facts_of old.now) (N.facts_of new.now) c) }
 {
     let broken = match policy {
         Policy::P01 => loses_its_row(a, b),

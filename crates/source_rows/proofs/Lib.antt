@@ -5,6 +5,7 @@ pub mod Words
 pub mod Spaced
 pub mod FieldTakes
 pub mod DataSteps
+pub mod PointSteps
 pub mod Seams
 pub mod Mappings
 pub mod Found

@@ -1,5 +1,7 @@
 pub mod Lines
 pub mod Fields
+pub mod Openings
+pub mod PointValues
 pub mod Steps
 pub mod DataFaults
 pub mod OtherFaults

@@ -37,11 +37,15 @@ fn is_name_byte(byte: u8) -> bool
     (b' '..=b'~').contains(&byte) && byte != b';'
 }
 
-/// Whether each byte may stand in a name.
+/// Whether each byte may stand in a name. No byte ends the loop, so that several can be tested at once.
 fn are_name_bytes(text: &[u8]) -> bool
     ensures { result ≡ list_all is_name_byte text.now }
 {
-    text.iter().all(|b| is_name_byte(*b))
+    let mut all = true;
+    'bytes: for byte in text {
+        all &= is_name_byte(*byte);
+    }
+    all
 }
 
 /// Whether the text is a name: one or more bytes from 20 to 7E, without `;`.

@@ -5,11 +5,13 @@ ghost use Rattle.std.specs.List.{list_all};
 ghost use Rattle.ucd_model.specs.Fields.{class_of, case_of, decimal_number, is_digit};
 ghost use Rattle.source_rows.specs.DataFaults.{values_or_fault, ValuesReadAs};
 ghost use Rattle.source_rows.specs.Fields.{fields_in};
+ghost use Rattle.source_rows.specs.PointValues.{used_fields_in};
 
 use crate::category_name::category_of;
 use crate::decomposition::{Decomposition, read_decomposition};
 use crate::fault::{RowFault, RowStop};
 use crate::fifteen::DataFields;
+use crate::used_fields::UsedFields;
 use std::alloc::Global;
 use ucd_lines::hex;
 use ucd_model::{Category, Point};
@@ -79,6 +81,24 @@ fn case_of(field: &[u8]) -> Option<Option<Point>>
     }
 }
 
+/// The values of a line's fields, as [`read_used`] reads them.
+#[tactic(auto, unfolding(crate::specs::DataFaults::values_or_fault))]
+pub fn read_values(alloc: Global, line: &DataFields<'_>) -> Result<Values, RowStop>
+    ensures { ValuesReadAs result (values_or_fault (fields_in line.now)) }
+{
+    let used = UsedFields {
+        f0: line.f0,
+        f1: line.f1,
+        f2: line.f2,
+        f3: line.f3,
+        f5: line.f5,
+        f12: line.f12,
+        f13: line.f13,
+        f14: line.f14,
+    };
+    read_used(alloc, &used)
+}
+
 /// The values of a line's fields. They are tested in this order:
 ///
 /// - `Fault(G05)`: field 2 is no category that the file names.
@@ -87,8 +107,8 @@ fn case_of(field: &[u8]) -> Option<Option<Point>>
 /// - `Fault(G07)`: one of the fields 12 to 14 is neither a code point nor empty.
 /// - `Memory`: memory ran out.
 #[tactic(auto, unfolding(crate::specs::DataFaults::values_or_fault))]
-pub fn read_values(alloc: Global, line: DataFields<'_>) -> Result<Values, RowStop>
-    ensures { ValuesReadAs result (values_or_fault (fields_in line.entry)) }
+pub fn read_used(alloc: Global, line: &UsedFields<'_>) -> Result<Values, RowStop>
+    ensures { ValuesReadAs result (values_or_fault (used_fields_in line.now)) }
 {
     let Some(category) = category_of(line.f2) else {
         return Err(RowStop::Fault(RowFault::G05));

@@ -65,7 +65,7 @@ fn near_semicolon(text: &[u8]) -> usize
 }
 
 /// What stands before the first `;`, and what stands behind it. Where there is none, the whole text and nothing.
-fn near_cut(text: &[u8]) -> (&[u8], &[u8])
+pub fn near_cut(text: &[u8]) -> (&[u8], &[u8])
     ensures before { result.0.now ≡ before_first is_semicolon text.now }
     ensures after { result.1.now ≡ after_first is_semicolon text.now }
 {
@@ -78,11 +78,30 @@ fn near_cut(text: &[u8]) -> (&[u8], &[u8])
 
 /// What [`first_field`] gives, for a field that is short or empty.
 pub fn first_short_field(text: &[u8]) -> (&[u8], &[u8])
+    ensures first { result.0.now ≡ field (fields_of text.now) 0 }
+    ensures others { (n : ℕ) → field (fields_of text.now) (n + 1) ≡ field (fields_of result.1.now) n }
     ensures one { length (fields_of text.now) ≡ 1 → fields_of text.now ≡ result.0.now ∷ [] }
     ensures more { 1 < length (fields_of text.now) → fields_of text.now ≡ result.0.now ∷ fields_of result.1.now }
 {
     let (first, others) = near_cut(text);
     (trim(first), others)
+}
+
+/// The text of the fields behind the first ones, as many as `count`; it is empty where there are none.
+pub fn behind_fields(text: &[u8], count: usize) -> &[u8]
+    requires { 0 < count }
+    ensures { (n : ℕ) → field (fields_of text.now) (n + count) ≡ field (fields_of result.now) n }
+{
+    let mut left = count;
+    for (i, b) in text.iter().enumerate() {
+        if *b == b';' {
+            left -= 1;
+            if left == 0 {
+                return &text[i + 1..];
+            }
+        }
+    }
+    &[]
 }
 
 /// The first two fields. A field that is not there is empty.

@@ -19,6 +19,7 @@ mod keys;
 mod laws;
 mod lines;
 mod mapping;
+mod point_values;
 mod prop_list;
 mod property_aliases;
 mod property_value_aliases;
@@ -31,6 +32,7 @@ mod scripts;
 mod special_casing;
 mod text;
 mod unicode_data;
+mod used_fields;
 mod values;
 mod word_break_property;
 
@@ -48,6 +50,7 @@ pub use laws::{
     keys_are_read, rows_are_no_trivia, rows_are_ok, rows_are_read, rows_have_lines,
     spans_are_spelled, spellings_are_one, texts_read_back,
 };
+pub use point_values::{PointValues, read_point_values};
 pub use read::read_row;
 pub use row_keys::row_key;
 pub use text::row_text;

@@ -3,11 +3,13 @@
 ghost use Rattle.std.specs.Prelude.{◌≡◌};
 ghost use Rattle.ucd_model.specs.Lines.{without_return, holds_line_feed};
 
-/// Whether a LF is among the bytes.
+use ucd_lines::first_at;
+
+/// Whether a LF is among the bytes. It is looked for in several bytes at once.
 pub fn holds_line_feed(bytes: &[u8]) -> bool
     ensures { result ≡ holds_line_feed bytes.now }
 {
-    bytes.iter().any(|b| *b == b'\n')
+    first_at(bytes, b'\n') < bytes.len()
 }
 
 /// The text without one CR at its end.

@@ -6,6 +6,7 @@ ghost use Rattle.ucd_model.specs.Fields.{fields, field};
 ghost use Rattle.ucd_model.specs.Lines.{without_return};
 ghost use Rattle.source_rows.specs.Fields.{fields_of, fields_in};
 ghost use Rattle.source_rows.specs.Lines.{is_first_line};
+ghost use Rattle.source_rows.specs.Openings.{may_open_name};
 ghost use Rattle.source_rows.specs.DataFaults.{DataTextAs, unit_or_fault, single_or_fault, single_end, are_last_fields, pair_end};
 ghost use Rattle.source_rows.specs.Faults.{ReadsAs, lines_or_fault, row_or_fault};
 
@@ -13,23 +14,23 @@ use crate::code_point::{has_first_name, has_last_name, is_name, is_range_name, l
 use crate::data_text::{DataText, data_row};
 use crate::data_values::read_values;
 use crate::fault::{RowFault, RowStop};
-use crate::fields::{field_count, two_fields};
+use crate::fields::{field_count, near_cut, two_fields};
 use crate::fifteen::{DataFields, FIELDS, fifteen_fields};
 use crate::lines::{holds_line_feed, without_return};
 use std::alloc::Global;
-use ucd_lines::{cut, hex};
+use ucd_lines::{cut, hex, is_blank};
 use ucd_model::{Point, Row, SourceFile, Span};
 
 /// The row of a line's fields 2 to 14, of a name, and of what was found of its span; or the first fault.
 #[tactic(auto, unfolding(crate::specs::DataFaults::unit_or_fault))]
 fn read_unit<'a>(
     alloc: Global,
-    line: DataFields<'a>,
+    line: &DataFields<'a>,
     range: bool,
     name: &'a [u8],
     end: Result<Span, RowFault>,
 ) -> Result<DataText<'a>, RowStop>
-    ensures { DataTextAs result (unit_or_fault (fields_in line.entry) range name.now end) }
+    ensures { DataTextAs result (unit_or_fault (fields_in line.now) range name.now end) }
 {
     let values = read_values(alloc, line)?;
     let span = match end {
@@ -41,12 +42,12 @@ fn read_unit<'a>(
         range,
         name,
         values,
-        line,
+        line: *line,
     })
 }
 
 /// The span of a line by itself.
-fn single_end(point: Point, name: &[u8]) -> Result<Span, RowFault>
+pub fn single_end(point: Point, name: &[u8]) -> Result<Span, RowFault>
     ensures { result ≡ single_end point name.now }
 {
     if is_range_name(name) {
@@ -70,15 +71,29 @@ fn read_single(alloc: Global, content: &[u8]) -> Result<DataText<'_>, RowStop>
     if !is_name(line.f1) {
         return Err(RowStop::Fault(RowFault::G11));
     }
-    read_unit(alloc, line, false, line.f1, single_end(point, line.f1))
+    read_unit(alloc, &line, false, line.f1, single_end(point, line.f1))
 }
 
-/// Whether a line of UnicodeData.txt begins a range: it has 15 fields and the name `<Label, First>`.
-/// UAX #44, section 4.2.3.
+/// Whether a text begins with white space or `<`, as that of a name does that begins with `<`.
+fn may_open_name(text: &[u8]) -> bool
+    ensures { result ≡ may_open_name text.now }
+{
+    match text {
+        [first, ..] => *first == b'<' || is_blank(*first),
+        [] => false,
+    }
+}
+
+/// Whether a line of UnicodeData.txt begins a range: it has 15 fields and the name `<Label, First>`. Most lines are ruled
+/// out by the first byte behind their first `;`. UAX #44, section 4.2.3.
 #[tactic(auto, unfolding(ucd_model::specs::Fields::fields))]
 pub fn begins_range(content: &[u8]) -> bool
     ensures { result ≡ is_first_line content.now }
 {
+    let (_, others) = near_cut(content);
+    if !may_open_name(others) {
+        return false;
+    }
     has_first_name(two_fields(content).1) && field_count(content) == FIELDS
 }
 
@@ -113,7 +128,7 @@ fn pair_end(label: &[u8], lo: Point, last: &[u8]) -> Result<Span, RowFault>
 
 /// The row of two lines, or its first fault.
 #[tactic(auto, unfolding(ucd_model::specs::Fields::fields, crate::specs::DataFaults::pair_or_fault))]
-fn read_pair<'a>(alloc: Global, front: &'a [u8], last: &[u8]) -> Result<DataText<'a>, RowStop>
+pub fn read_pair<'a>(alloc: Global, front: &'a [u8], last: &[u8]) -> Result<DataText<'a>, RowStop>
     ensures { DataTextAs result (lines_or_fault SourceFile.UnicodeData front.now last.now) }
 {
     let first = without_return(front);
@@ -125,7 +140,7 @@ fn read_pair<'a>(alloc: Global, front: &'a [u8], last: &[u8]) -> Result<DataText
         return Err(RowStop::Fault(RowFault::G04));
     };
     let label = label_of(b", First>", line.f1);
-    read_unit(alloc, line, true, label, pair_end(label, lo, last))
+    read_unit(alloc, &line, true, label, pair_end(label, lo, last))
 }
 
 /// The row that [`read_row`](crate::read_row) reads from a line of UnicodeData.txt, or from the two lines of a range, as it

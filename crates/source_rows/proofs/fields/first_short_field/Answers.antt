@@ -1,5 +1,12 @@
-use Rattle.source_rows.proofs.FieldCuts.{one_is, more_is}
+use Rattle.std.proofs.Common.{refl}
+use Rattle.source_rows.proofs.FieldCuts.{first_is, others_are, one_is, more_is}
 use Rattle.source_rows.proofs.fields.first_short_field.Goals as goal
+
+pub returns-clause-first : goal.returns-clause-first
+returns-clause-first c = let e = first_is c.args.text.now in rw (e, ← c.near_cut.ensures.before) c.trim.ensures
+
+pub returns-clause-others : goal.returns-clause-others
+returns-clause-others c = λ n. rw (others_are c.args.text.now n, c.near_cut.ensures.after) refl
 
 pub returns-clause-one : goal.returns-clause-one
 returns-clause-one c = λ one. rw (c.trim.ensures, c.near_cut.ensures.before) (one_is c.args.text.now one)

@@ -1,0 +1,34 @@
+-- What a row of UnicodeData.txt gives to its code points.
+--
+-- used_fields_in line   the fields that are read of a line, at their places, and in the place of the others no bytes
+-- Gives given row       the row has the code points and the values that are given
+-- PointValuesAs result expected   what is given is what the row gives that was expected, or the result is its fault; want of memory
+--                       says nothing
+use Rattle.std.specs.Prelude.{◌≡◌, ℕ, List, [], ◌∷◌, Result, Ok, Err}
+use Rattle.ucd_model.specs.declared.row.DataRow.{DataRow}
+use Rattle.ucd_model.specs.declared.row.Row.{Row}
+use Rattle.ucd_model.specs.declared.row.Row.TheVariants.{Unit as DataLine}
+use Rattle.source_rows.specs.declared.fault.RowFault.{RowFault}
+use Rattle.source_rows.specs.declared.fault.RowStop.{RowStop}
+use Rattle.source_rows.specs.declared.fault.RowStop.TheVariants.{Fault, Memory}
+use Rattle.source_rows.specs.declared.point_values.PointValues.{PointValues}
+use Rattle.source_rows.specs.declared.used_fields.UsedFields.{UsedFields}
+
+abbrev pub used_fields_in : UsedFields → List (List ℕ)
+used_fields_in line = line.f0.now ∷ line.f1.now ∷ line.f2.now ∷ line.f3.now ∷ [] ∷ line.f5.now ∷ [] ∷ [] ∷ [] ∷ [] ∷ [] ∷ [] ∷ line.f12.now ∷ line.f13.now ∷ line.f14.now ∷ []
+
+pub record Gives (given : PointValues) (row : DataRow) : Type 0 where
+  pub span : row.span ≡ given.span
+  pub category : row.category ≡ given.values.category
+  pub class : row.class ≡ given.values.class
+  pub kind : row.kind ≡ given.values.decomposition.kind
+  pub mapping : row.mapping ≡ given.values.decomposition.mapping
+  pub upper : row.upper ≡ given.values.upper
+  pub lower : row.lower ≡ given.values.lower
+  pub title : row.title ≡ given.values.title
+
+abbrev pub PointValuesAs : Result PointValues RowStop → Result Row RowFault → Type 0
+PointValuesAs (Ok given) (Ok (DataLine row)) = Gives given row
+PointValuesAs (Ok given) _ = ⊥
+PointValuesAs (Err (Fault fault)) expected = expected ≡ Err fault
+PointValuesAs (Err Memory) expected = Unit {0}

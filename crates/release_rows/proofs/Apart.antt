@@ -35,6 +35,9 @@ meeting place key last y h =
 pub key_there : (es : List (Place × ℕ)) (place : Place) (last : ℕ) → is_some (lookup (is_at (place_cmp place)) es) ≡ true → conflict_with (map extent_of es) (extent_at place last) ≡ Some K1
 key_there es place last h = rw (starts_any place last es, h) refl
 
+pub overlap_alone : (es : List (Place × ℕ)) (place : Place) (last : ℕ) → is_some (lookup (is_at (place_cmp place)) es) ≡ false → list_any (meets (extent_at place last)) (map extent_of es) ≡ true → conflict_with (map extent_of es) (extent_at place last) ≡ Some K4
+overlap_alone es place last h overlap = rw (starts_any place last es, h, overlap) refl
+
 module _ (m : BTreeMap Place ℕ) (ordered : IsOrdered place_cmp m) (apart : AreApart m) (place : Place) (last : ℕ) where
   no_start : is_some (get place_cmp m place) ≡ false → list_any (same_start (extent_at place last)) (map extent_of m.entries) ≡ false
   no_start h = starts_any place last m.entries ∙ h
@@ -44,19 +47,27 @@ module _ (m : BTreeMap Place ℕ) (ordered : IsOrdered place_cmp m) (apart : Are
       let no_meeting : list_any (meets (extent_at place last)) (map extent_of m.entries) ≡ false = false_from_ne_true _ (λ some. let f = any_found (meets (extent_at place last)) m ordered some in none f.key f.last f.found (meeting place f.key last f.last f.passes)) in
       rw (no_start absent, no_meeting) refl
 
-  pub nothing_before : is_some (get place_cmp m place) ≡ false → ((q : Place) → is_gt (place_cmp q (end_of place last)) ≡ false → get place_cmp m q ≡ None) → conflict_with (map extent_of m.entries) (extent_at place last) ≡ None
-  nothing_before absent none = none_if absent (λ key y found meet. let nowhere = none key (is_before key (end_of place last) meet.names meet.begins) in absurd (let e : Some y ≡ None = sym found ∙ nowhere in cc))
+  pub nothing_before : place.code ≤ last → ((q : Place) → is_gt (place_cmp q (end_of place last)) ≡ false → get place_cmp m q ≡ None) → conflict_with (map extent_of m.entries) (extent_at place last) ≡ None
+  nothing_before le none = none_if (ap is_some (none place (is_before place (end_of place last) refl le))) (λ key y found meet. let nowhere = none key (is_before key (end_of place last) meet.names meet.begins) in absurd (let e : Some y ≡ None = sym found ∙ nowhere in cc))
 
   module _ (e : Place) (reached : ℕ) (found : get place_cmp m e ≡ Some reached) (before : is_gt (place_cmp e (end_of place last)) ≡ false) where
-    pub it_reaches : is_some (get place_cmp m place) ≡ false → same_texts (names_in e) (names_in place) ≡ true → place.code ≤ reached → conflict_with (map extent_of m.entries) (extent_at place last) ≡ Some K4
-    it_reaches absent names reaches =
+    pub it_reaches : same_texts (names_in e) (names_in place) ≡ true → place.code ≤ reached → list_any (meets (extent_at place last)) (map extent_of m.entries) ≡ true
+    it_reaches names reaches =
         let same : names_in e ≡ names_in place = texts_same _ _ names in
         let begins : e.code ≤ last = before_same e (end_of place last) same before in
         let shared : meets (extent_at place last) (extent_at e reached) ≡ true = and_from _ _ (ap (λ (ns : List (List ℕ)). same_texts (names_in place) ns) same ∙ itself place) (and_from _ _ (le-leb _ _ reaches) (le-leb _ _ begins)) in
-        rw (no_start absent, found_any (meets (extent_at place last)) e reached m.entries found shared) refl
+        found_any (meets (extent_at place last)) e reached m.entries found shared
 
-    pub it_ends : is_some (get place_cmp m place) ≡ false → ((q : Place) → is_gt (place_cmp q (end_of place last)) ≡ false → is_some (get place_cmp m q) ≡ true → is_lt (place_cmp e q) ≡ false) → (names_in e ≡ names_in place → reached < place.code) → conflict_with (map extent_of m.entries) (extent_at place last) ≡ None
-    it_ends absent greatest ends = none_if absent (λ key y at meet.
+    -- the key would stand between the place and the extent that ends before it
+    absent_behind : place.code ≤ last → ((q : Place) → is_gt (place_cmp q (end_of place last)) ≡ false → is_some (get place_cmp m q) ≡ true → is_lt (place_cmp e q) ≡ false) → (names_in e ≡ names_in place → reached < place.code) → is_some (get place_cmp m place) ≡ false
+    absent_behind le greatest ends = false_from_ne_true _ (λ some.
+        let lies = between place e (end_of place last) refl (greatest place (is_before place (end_of place last) refl le) some) before in
+        let short : reached < place.code = ends lies.names in
+        let long : e.code ≤ reached = apart.ordered e reached found in
+        absurd (omega (arith, lies.from)))
+
+    pub it_ends : place.code ≤ last → ((q : Place) → is_gt (place_cmp q (end_of place last)) ≡ false → is_some (get place_cmp m q) ≡ true → is_lt (place_cmp e q) ≡ false) → (names_in e ≡ names_in place → reached < place.code) → conflict_with (map extent_of m.entries) (extent_at place last) ≡ None
+    it_ends le greatest ends = none_if (absent_behind le greatest ends) (λ key y at meet.
         let lies = between key e (end_of place last) meet.names (greatest key (is_before key (end_of place last) meet.names meet.begins) (ap is_some at)) before in
         let short : reached < place.code = ends lies.names in
         let long : e.code ≤ reached = apart.ordered e reached found in

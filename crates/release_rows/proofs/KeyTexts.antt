@@ -8,16 +8,17 @@ use Rattle.std.proofs.lemmas.List.Elements.{All-nil, All-cons, All-head, All-tai
 use Rattle.std.proofs.lemmas.List.Splits.{slice_split_none, slice_split_at}
 use Rattle.ucd_model.specs.Fields.{field, is_semicolon, is_name, is_name_byte}
 use Rattle.ucd_model.specs.OtherLines.{is_name_or_empty}
-use Rattle.ucd_model.specs.RowValues.{IsAliasName, AliasOk, RowOk}
+use Rattle.ucd_model.specs.RowValues.{IsAliasName, AliasOk, ValueOk, RowOk}
 use Rattle.ucd_model.specs.declared.files.SourceFile.{SourceFile}
 use Rattle.ucd_model.specs.declared.files.SourceFile.TheVariants.{UnicodeData, PropList, Scripts, WordBreakProperty, CompositionExclusions, CaseFolding, SpecialCasing, PropertyAliases, PropertyValueAliases}
 use Rattle.ucd_model.specs.declared.row.AliasRow.{AliasRow}
 use Rattle.ucd_model.specs.declared.row.CasingRow.{CasingRow}
-use Rattle.ucd_model.specs.declared.row.Row.TheVariants.{Casing as CasingLine, Alias as AliasLine}
-use Rattle.source_rows.specs.Faults.{row_or_fault, HasNames}
+use Rattle.ucd_model.specs.declared.row.ValueRow.{ValueRow}
+use Rattle.ucd_model.specs.declared.row.Row.TheVariants.{Value as ValueLine, Casing as CasingLine, Alias as AliasLine}
+use Rattle.source_rows.specs.Faults.{row_or_fault, HasNames, HasValues}
 use Rattle.source_rows.specs.Laws.{RowsAreRead, RowsAreOk}
 use Rattle.release_rows.specs.Entries.{EntersAs}
-use Rattle.source_rows.specs.Keys.{condition_names, alias_count, key_names}
+use Rattle.source_rows.specs.Keys.{condition_names, alias_count, key_names, value_names}
 use Rattle.release_rows.specs.Keys.{has_spans, row_end}
 use Rattle.release_rows.specs.Names.{has_names, first_names}
 use Rattle.release_rows.specs.Places.{names_of}
@@ -155,6 +156,34 @@ alias_entry file bytes names text has read ok h count is same =
       last = alias_end file row;
       ordered = omega arith;
     })
+
+-- ---- rows of a span and a value
+
+pub value_ok : (file : SourceFile) (row : ValueRow) → RowOk file (ValueLine row) → ValueOk row
+value_ok PropList row ok = ok
+value_ok Scripts row ok = ok
+value_ok WordBreakProperty row ok = ok
+value_ok UnicodeData row ok = absurd ok
+value_ok CompositionExclusions row ok = absurd ok
+value_ok CaseFolding row ok = absurd ok
+value_ok SpecialCasing row ok = absurd ok
+value_ok PropertyAliases row ok = absurd ok
+value_ok PropertyValueAliases row ok = absurd ok
+
+value_end : (file : SourceFile) (row : ValueRow) → HasValues file → row.span.hi ≡ row_end file (ValueLine row)
+value_end PropList row has = refl
+value_end Scripts row has = refl
+value_end WordBreakProperty row has = refl
+value_end UnicodeData row has = absurd has
+value_end CompositionExclusions row has = absurd has
+value_end CaseFolding row has = absurd has
+value_end SpecialCasing row has = absurd has
+value_end PropertyAliases row has = absurd has
+value_end PropertyValueAliases row has = absurd has
+
+-- what is kept of a row of a span and a value
+pub value_entry : (file : SourceFile) (bytes : List ℕ) (row : ValueRow) (text : Vec ℕ Global) → HasValues file → row_or_fault file bytes ≡ Ok (ValueLine row) → names_of text.items ≡ value_names file row.value → ValueOk row → EntersAs file (Ok (record { place = record { names = text; code = row.span.lo }; last = row.span.hi })) (row_or_fault file bytes)
+value_entry file bytes row text has h names ok = rw h (record { names = names; code = refl; last = value_end file row has; ordered = ok.span.0 })
 
 pub are_names : (file : SourceFile) → has_names file ≡ true → HasNames file
 are_names PropertyAliases has = tt

@@ -9,6 +9,7 @@ pub mod FileItems
 pub mod Cuts
 pub mod Loading
 pub mod StoredItems
+pub mod Given
 pub mod Progress
 pub mod Walking
 pub mod Releases

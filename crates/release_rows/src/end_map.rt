@@ -1,8 +1,8 @@
 //! The keys and the spans of rows, in the order of the keys.
 
-ghost use Rattle.std.specs.Prelude.{◌≡◌, ◌≤◌, ◌||◌, Bool, None, OnOk, OnErr};
+ghost use Rattle.std.specs.Prelude.{◌≡◌, ◌≤◌, ◌||◌, ℕ, Bool, true, Some, None, OnOk, OnErr};
 ghost use Rattle.std.specs.List.{list_any};
-ghost use Rattle.release_rows.specs.Extents.{Extent, conflict_with};
+ghost use Rattle.release_rows.specs.Extents.{Extent, conflict_with, meets};
 ghost use Rattle.release_rows.specs.Places.{extent_at};
 ghost use Rattle.release_rows.specs.Entries.{IsFree};
 
@@ -48,11 +48,8 @@ impl EndMap {
         requires { place.code ≤ last }
         ensures { IsFree result place (conflict_with self.now (extent_at place last)) }
     {
-        if self.ends.contains_key(&place) {
-            return Err(Conflict::K1);
-        }
         // extents of the same names lie apart: of those that begin no later than this one ends, only the last one can
-        // reach it
+        // reach it, and it does if one has the key
         let Place { names, code } = place;
         let end = Place { names, code: last };
         let Some((before, reached)) = self.ends.range(..=&end).next_back() else {
@@ -62,12 +59,24 @@ impl EndMap {
             });
         };
         if before.names == end.names && code <= *reached {
-            return Err(Conflict::K4);
+            let names = end.names;
+            return Err(self.rule_at(&Place { names, code }));
         }
         Ok(Place {
             names: end.names,
             code,
         })
+    }
+
+    /// The rule that a row breaks that shares a code point with one of these extents.
+    fn rule_at(&self, place: &Place) -> Conflict
+        ensures { (last : ℕ) → list_any (meets (extent_at place.now last)) self.now ≡ true → conflict_with self.now (extent_at place.now last) ≡ Some result }
+    {
+        if self.ends.contains_key(place) {
+            Conflict::K1
+        } else {
+            Conflict::K4
+        }
     }
 
     /// Takes up the extent of a row that breaks no rule.

@@ -2,27 +2,19 @@
 
 ghost use Rattle.std.specs.Prelude.{◌≡◌, ◌≤◌, IfOk, IsTrue, Ok};
 ghost use Rattle.ucd_model.specs.RowValues.{RowOk};
-ghost use Rattle.source_rows.specs.Faults.{row_or_fault};
+ghost use Rattle.source_rows.specs.Faults.{HasValues, row_or_fault};
 ghost use Rattle.release_rows.specs.Entries.{EntersAs};
 ghost use Rattle.release_rows.specs.Names.{has_names, first_names};
 
 use crate::entry::Entry;
 use crate::place::Place;
-use crate::row_key::{alias_count, key_text, row_end, row_start};
-use source_rows::{RowStop, read_data_text, read_names, read_row, rows_are_ok, rows_are_read};
+use crate::row_key::{alias_count, key_text, row_end, row_start, value_text};
+use source_rows::{
+    RowStop, read_names, read_point_values, read_row, read_value_text, rows_are_ok, rows_are_read,
+};
 use std::alloc::{AllocError, Global};
 use ucd_lines::Fields;
 use ucd_model::{Row, SourceFile};
-
-/// Whether the rows of a file are rows of names.
-fn has_names(file: SourceFile) -> bool
-    ensures { result ≡ has_names file }
-{
-    matches!(
-        file,
-        SourceFile::PropertyAliases | SourceFile::PropertyValueAliases
-    )
-}
 
 /// The first names of a list with `;` between them, as many as there are up to the count.
 fn first_names(alloc: Global, mut names: Fields<'_>, count: usize) -> Result<Vec<u8>, AllocError>
@@ -75,18 +67,49 @@ fn entry_of(alloc: Global, file: SourceFile, row: &Row) -> Result<Entry, RowStop
     })
 }
 
+/// What is kept of a row that is read whole.
+fn row_entry(alloc: Global, file: SourceFile, content: &[u8]) -> Result<Entry, RowStop>
+    requires { IsTrue (has_names file) → ⊥ }
+    ensures { EntersAs file result (row_or_fault file content.now) }
+{
+    let row = read_row(alloc, file, content)?;
+    entry_of(alloc, file, &row)
+}
+
 /// What is kept of a row of UnicodeData.txt. Its texts are not copied.
 fn data_entry(alloc: Global, content: &[u8]) -> Result<Entry, RowStop>
     ensures { EntersAs SourceFile.UnicodeData result (row_or_fault SourceFile.UnicodeData content.now) }
 {
-    let text = read_data_text(alloc, content)?;
+    let given = read_point_values(alloc, content)?;
     Ok(Entry {
         place: Place {
             names: Vec::new(alloc),
-            code: text.span.first(),
+            code: given.span.first(),
         },
-        last: text.span.last(),
+        last: given.span.last(),
     })
+}
+
+/// What is kept of a row of a span and a value. The value is copied only where it is in the key.
+fn value_entry(alloc: Global, file: SourceFile, content: &[u8]) -> Result<Entry, RowStop>
+    requires { HasValues file }
+    ensures { EntersAs file result (row_or_fault file content.now) }
+{
+    rows_are_read();
+    rows_are_ok();
+    match read_value_text(file, content) {
+        Ok(text) => {
+            let names = value_text(alloc, file, text.value)?;
+            Ok(Entry {
+                place: Place {
+                    names,
+                    code: text.span.first(),
+                },
+                last: text.span.last(),
+            })
+        }
+        Err(fault) => Err(RowStop::Fault(fault)),
+    }
 }
 
 /// What is kept of the row of a content.
@@ -96,12 +119,15 @@ fn data_entry(alloc: Global, content: &[u8]) -> Result<Entry, RowStop>
 pub fn read_entry(alloc: Global, file: SourceFile, content: &[u8]) -> Result<Entry, RowStop>
     ensures { EntersAs file result (row_or_fault file content.now) }
 {
-    if has_names(file) {
-        return names_entry(alloc, file, content);
+    match file {
+        SourceFile::UnicodeData => data_entry(alloc, content),
+        SourceFile::PropList | SourceFile::Scripts | SourceFile::WordBreakProperty => {
+            value_entry(alloc, file, content)
+        }
+        SourceFile::PropertyAliases | SourceFile::PropertyValueAliases => {
+            names_entry(alloc, file, content)
+        }
+        SourceFile::CompositionExclusions | SourceFile::CaseFolding | SourceFile::SpecialCasing =>
+            row_entry(alloc, file, content),
     }
-    if file == SourceFile::UnicodeData {
-        return data_entry(alloc, content);
-    }
-    let row = read_row(alloc, file, content)?;
-    entry_of(alloc, file, &row)
 }

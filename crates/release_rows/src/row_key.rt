@@ -94,7 +94,9 @@ pub fn key_text(alloc: Global, file: SourceFile, row: &Row) -> Result<Vec<u8>, A
 }
 
 /// The value of a row of PropList.txt, and no name in the other files.
-fn value_text(alloc: Global, file: SourceFile, value: &[u8]) -> Result<Vec<u8>, AllocError>
+///
+/// - `AllocError`: memory ran out.
+pub fn value_text(alloc: Global, file: SourceFile, value: &[u8]) -> Result<Vec<u8>, AllocError>
     requires { is_name value.now ≡ true }
     ensures { IfOk result (λ text. names_of text.items ≡ value_names file value.now) }
 {

@@ -2,11 +2,12 @@
 
 ghost use Rattle.std.specs.Prelude.{◌≡◌, Ok, IfOk, IsTrue};
 ghost use Rattle.source_rows.specs.Faults.{row_or_fault};
+ghost use Rattle.release_rows.specs.Given.{ShowsGiven};
 ghost use Rattle.release_rows.specs.StoredItems.{ShowsData, ShowsValue, read_as};
 
 use source_rows::{
-    DataText, RowStop, ValueText, read_data_text, read_row, read_value_text, rows_are_ok,
-    rows_are_read,
+    DataText, PointValues, RowStop, ValueText, read_data_text, read_point_values, read_row,
+    read_value_text, rows_are_ok, rows_are_read,
 };
 use std::alloc::Global;
 use std::marker::Model;
@@ -75,6 +76,25 @@ impl<'a> RowText<'a> {
         match self.file {
             SourceFile::UnicodeData => match read_data_text(alloc, self.content) {
                 Ok(text) => Ok(Some(text)),
+                Err(RowStop::Fault(_)) => unreachable!(),
+                Err(RowStop::Memory) => Err(Memory),
+            },
+            _ => Ok(None),
+        }
+    }
+
+    /// What a row of UnicodeData.txt gives to its code points, without a copy of its texts; `None` of the rows of the
+    /// other files.
+    ///
+    /// - `Memory`: memory ran out.
+    pub fn point_values(&self, alloc: Global) -> Result<Option<PointValues>, Memory>
+        ensures { IfOk result (λ given. ShowsGiven given self.now) }
+    {
+        rows_are_read();
+        rows_are_ok();
+        match self.file {
+            SourceFile::UnicodeData => match read_point_values(alloc, self.content) {
+                Ok(given) => Ok(Some(given)),
                 Err(RowStop::Fault(_)) => unreachable!(),
                 Err(RowStop::Memory) => Err(Memory),
             },

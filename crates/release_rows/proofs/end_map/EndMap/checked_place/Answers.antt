@@ -3,24 +3,21 @@ use Rattle.source_rows.specs.Keys.{same_texts}
 use Rattle.release_rows.specs.Places.{names_in}
 use Rattle.release_rows.proofs.Texts.{texts_tell_names}
 use Rattle.release_rows.proofs.PlaceOrder.{itself}
-use Rattle.release_rows.proofs.Apart.{key_there, nothing_before, it_reaches, it_ends}
+use Rattle.release_rows.proofs.Apart.{nothing_before, it_reaches, it_ends}
 use Rattle.release_rows.proofs.end_map.EndMap.checked_place.Goals as goal
 use Rattle.release_rows.proofs.end_map.EndMap.checked_place.Goals.{else-eq-via-then-eq+else-code-reached, else-eq-via-else-eq}
-
-pub returns-then-contains_key : goal.returns-then-contains_key
-returns-then-contains_key c = rw (← c.self.view_is) (key_there c.self.inside.ends.entries c.args.place c.args.last (sym c.contains_key.ensures ∙ c.if-contains_key.true))
 
 pub returns-in_default : goal.returns-in_default
 returns-in_default c =
     let none = (c.range.ensures.in_range tt).5 c.in_default.ensures.steps.0 in
-    (refl, rw (← c.self.view_is) (nothing_before c.self.inside.ends c.range.ensures.ordered c.self.invariant c.args.place c.args.last (sym c.contains_key.ensures ∙ c.if-contains_key.false) (λ q le. none q (tt, le))))
+    (refl, rw (← c.self.view_is) (nothing_before c.self.inside.ends c.range.ensures.ordered c.self.invariant c.args.place c.args.last c.requires (λ q le. none q (tt, le))))
 
 pub returns-then-code-reached : goal.returns-then-code-reached
 returns-then-code-reached c =
     let e = c.in-Some.before.now in
     let lies = (c.range.ensures.in_range tt).3 _ _ c.in-Some.ensures.steps in
     let names : same_texts (names_in e) (names_in c.args.place) ≡ true = sym (texts_tell_names e.names.items c.args.place.names.items) ∙ sym c.eq.ensures ∙ c.if-eq.true in
-    rw (← c.self.view_is) (it_reaches c.self.inside.ends c.range.ensures.ordered c.self.invariant c.args.place c.args.last e c.in-Some.reached.now lies.1 lies.0.1 (sym c.contains_key.ensures ∙ c.if-contains_key.false) names c.if-code-reached.true)
+    c.rule_at.ensures c.args.last (rw (← c.self.view_is) (it_reaches c.self.inside.ends c.range.ensures.ordered c.self.invariant c.args.place c.args.last e c.in-Some.reached.now lies.1 lies.0.1 names c.if-code-reached.true))
 
 pub returns : goal.returns
 returns c =
@@ -33,4 +30,4 @@ returns c =
       | else-eq-via-then-eq+else-code-reached w ↦ w.if-code-reached.false
       | else-eq-via-else-eq w ↦ absurd (let k : false ≡ true = sym w.if-eq.false ∙ c.eq.ensures ∙ names ∙ ap (λ ns. same_texts ns (names_in c.args.place)) same ∙ itself c.args.place in cc)
     ] in
-    (refl, rw (← c.self.view_is) (it_ends c.self.inside.ends c.range.ensures.ordered c.self.invariant c.args.place c.args.last e reached lies.1 lies.0.1 (sym c.contains_key.ensures ∙ c.if-contains_key.false) (λ q le some. greatest q (tt, le) some) ends))
+    (refl, rw (← c.self.view_is) (it_ends c.self.inside.ends c.range.ensures.ordered c.self.invariant c.args.place c.args.last e reached lies.1 lies.0.1 c.requires (λ q le some. greatest q (tt, le) some) ends))

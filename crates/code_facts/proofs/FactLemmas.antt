@@ -14,7 +14,7 @@ use Rattle.ucd_model.specs.declared.files.SourceFile.TheVariants.{UnicodeData, C
 use Rattle.range_table.specs.Values.{SameValues}
 use Rattle.code_facts.specs.Word.{packed, assigned_of_word, excluded_of_word, mid_word_of_word, category_of_word, class_of_word, kind_of_word, flags_of_word, ReadsBack}
 use Rattle.code_facts.specs.Rows.{PointData, row_data, upper_list, lower_list, title_list}
-use Rattle.code_facts.specs.Marks.{marks_before}
+use Rattle.code_facts.specs.Marks.{marks_at}
 use Rattle.code_facts.specs.PointLists.{lists_now}
 use Rattle.code_facts.specs.CaseMaps.{KeepsImages}
 use Rattle.code_facts.specs.Rest.{RestOf}
@@ -114,7 +114,7 @@ title_image c s (Some r) = refl
 
 -- what is kept of UnicodeData.txt and of the marks
 pub record KeepsRows (w : ℕ) (rest : RestOf) (rows : Sources) (c : ℕ) : Type 0 where
-  pub word : w ≡ (row_data c (data_row (rows UnicodeData) c)).word + marks_before 16 rows c
+  pub word : w ≡ (row_data c (data_row (rows UnicodeData) c)).word + marks_at rows c
   pub mapping : rest.mapping ≡ (row_data c (data_row (rows UnicodeData) c)).mapping
   pub upper : rest.upper ≡ upper_list (data_row (rows UnicodeData) c)
   pub lower : rest.lower ≡ lower_list (data_row (rows UnicodeData) c)
@@ -207,7 +207,7 @@ title_alone None = refl
 title_alone (Some row) = one_alone row.title
 
 pub row_shown : (t : RowTables) (rows : Sources) (c : ℕ) (d : PointData) (marked : ℕ)
-    → d ≡ row_data c (data_row (rows UnicodeData) c) → word_in t c ≡ d.word + marked → marked ≡ marks_before 16 rows c
+    → d ≡ row_data c (data_row (rows UnicodeData) c) → word_in t c ≡ d.word + marked → marked ≡ marks_at rows c
     → lists_now t.lists.value.mappings c ≡ d.mapping → lists_now t.lists.value.uppers c ≡ d.upper → lists_now t.lists.value.lowers c ≡ d.lower → lists_now t.lists.value.titles c ≡ d.title
     → class_in (data_row (rows UnicodeData) c) < 256 → KeepsImages t.cases.value rows → ShowsRows t rows c
 row_shown t rows c d marked is sum marks mapping upper lower title small images =

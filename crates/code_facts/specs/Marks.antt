@@ -1,7 +1,6 @@
 -- The marks that the rows of other files than UnicodeData.txt put on code points.
 --
 -- covers c span           whether the span, where there is one, covers c
--- is_mid_word_value v     the value of Word_Break is one in the middle of a word
 -- gives_mid_word c row    the row gives c such a value
 -- puts mark c row         the row puts the mark on c
 -- file_of mark            the file whose rows put the mark
@@ -9,14 +8,15 @@
 -- all_marks               the marks, the flags among them in the order of their places
 -- mark_bit rows mark c    what the mark adds to the word of c: its bit where some row of its file puts it on c, else 0
 -- marks_before n rows c   what the first n marks add to it together
-use Rattle.std.specs.Prelude.{ℕ, ◌+◌, ◌*◌, ◌^◌, Bool, false, ◌&&◌, ◌||◌, List, [], ◌∷◌, Option, Some, None, take, sum_by, codes}
+-- marks_at rows c         what all marks add to it together
+use Rattle.std.specs.Prelude.{ℕ, ◌+◌, ◌*◌, ◌^◌, Bool, false, ◌&&◌, List, ◌∷◌, map, length, Option, Some, None, take, sum_by}
 use Rattle.std.specs.List.{list_any}
-use Rattle.std.specs.Str.{bytes_eq}
 use Rattle.ucd_model.specs.Bounds.{Bounds}
+use Rattle.ucd_model.specs.Enumerations.{flags}
 use Rattle.ucd_model.specs.Names.{flag_name}
 use Rattle.ucd_model.specs.Sets.{flag_place}
 use Rattle.ucd_model.specs.Facts.{Sources, within, gives_value, excludes}
-use Rattle.ucd_model.specs.declared.property.Flag.TheVariants.{WhiteSpace, OtherMath, OtherLowercase, OtherUppercase, OtherAlphabetic, OtherIdStart, OtherIdContinue, PatternSyntax, PatternWhiteSpace, OtherDefaultIgnorableCodePoint, VariationSelector, PrependedConcatenationMark, OtherGraphemeExtend, NoncharacterCodePoint}
+use Rattle.ucd_model.specs.Values.{is_mid_word}
 use Rattle.ucd_model.specs.declared.files.SourceFile.{SourceFile}
 use Rattle.ucd_model.specs.declared.files.SourceFile.TheVariants.{PropList, WordBreakProperty, CompositionExclusions}
 use Rattle.ucd_model.specs.declared.row.Row.{Row}
@@ -29,11 +29,8 @@ abbrev pub covers : ℕ → Option Bounds → Bool
 covers c (Some span) = within c span
 covers c None = false
 
-abbrev pub is_mid_word_value : List ℕ → Bool
-is_mid_word_value value = bytes_eq value (codes "MidLetter") || (bytes_eq value (codes "MidNumLet") || bytes_eq value (codes "Single_Quote"))
-
 abbrev pub gives_mid_word : ℕ → Row → Bool
-gives_mid_word c (ValueLine row) = is_mid_word_value row.value && within c row.span
+gives_mid_word c (ValueLine row) = is_mid_word row.value && within c row.span
 gives_mid_word c _ = false
 
 abbrev pub puts : Mark → ℕ → Row → Bool
@@ -52,10 +49,13 @@ word_of MidWord = 4
 word_of (Flagged flag) = 2 ^ (24 + flag_place flag)
 
 abbrev pub all_marks : List Mark
-all_marks = Excluded ∷ MidWord ∷ Flagged WhiteSpace ∷ Flagged OtherMath ∷ Flagged OtherLowercase ∷ Flagged OtherUppercase ∷ Flagged OtherAlphabetic ∷ Flagged OtherIdStart ∷ Flagged OtherIdContinue ∷ Flagged PatternSyntax ∷ Flagged PatternWhiteSpace ∷ Flagged OtherDefaultIgnorableCodePoint ∷ Flagged VariationSelector ∷ Flagged PrependedConcatenationMark ∷ Flagged OtherGraphemeExtend ∷ Flagged NoncharacterCodePoint ∷ []
+all_marks = Excluded ∷ MidWord ∷ map Flagged flags
 
 abbrev pub mark_bit : Sources → Mark → ℕ → ℕ
 mark_bit rows mark c = word_of mark * one_if (list_any (puts mark c) (rows (file_of mark)))
 
 abbrev pub marks_before : ℕ → Sources → ℕ → ℕ
 marks_before n rows c = sum_by (λ mark. mark_bit rows mark c) (take n all_marks)
+
+abbrev pub marks_at : Sources → ℕ → ℕ
+marks_at rows c = marks_before (length all_marks) rows c

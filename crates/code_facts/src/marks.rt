@@ -6,10 +6,10 @@ ghost use Rattle.range_table.specs.Values.{SameValues};
 ghost use Rattle.range_table.specs.RunTable.{values_now};
 ghost use Rattle.ucd_model.specs.Facts.{Sources, within};
 ghost use Rattle.code_facts.specs.RowLists.{sources_of};
-ghost use Rattle.code_facts.specs.Marks.{mark_bit, marks_before};
+ghost use Rattle.code_facts.specs.Marks.{mark_bit, marks_at};
 ghost use Rattle.code_facts.specs.MarkRows.{IsMarked, KeepsMarkRows, is_flagged};
 
-use crate::mark::Mark;
+use crate::mark::{MARKS, Mark};
 use crate::mark_rows::{Flagged, MarkRows};
 use crate::painting::{painted, summed};
 use crate::row_lists::RowLists;
@@ -17,36 +17,16 @@ use range_table::{RunTable, Table};
 use std::alloc::Global;
 use ucd_model::{Flag, Memory, Span};
 
-/// The marks, the flags among them in the order of their places.
-const MARKS: [Mark; 16] = [
-    Mark::Excluded,
-    Mark::MidWord,
-    Mark::Flagged(Flag::WhiteSpace),
-    Mark::Flagged(Flag::OtherMath),
-    Mark::Flagged(Flag::OtherLowercase),
-    Mark::Flagged(Flag::OtherUppercase),
-    Mark::Flagged(Flag::OtherAlphabetic),
-    Mark::Flagged(Flag::OtherIdStart),
-    Mark::Flagged(Flag::OtherIdContinue),
-    Mark::Flagged(Flag::PatternSyntax),
-    Mark::Flagged(Flag::PatternWhiteSpace),
-    Mark::Flagged(Flag::OtherDefaultIgnorableCodePoint),
-    Mark::Flagged(Flag::VariationSelector),
-    Mark::Flagged(Flag::PrependedConcatenationMark),
-    Mark::Flagged(Flag::OtherGraphemeExtend),
-    Mark::Flagged(Flag::NoncharacterCodePoint),
-];
-
 /// The sum of the marks that these rows put on each code point. UAX #44, section 5.3; UAX #29, section 4.1.
 ///
 /// - `Memory`: memory ran out.
 pub fn marks(alloc: Global, rows: &RowLists<'_>) -> Result<RunTable<u64>, Memory>
-    ensures { IfOk result (λ table. SameValues (values_now table) (marks_before 16 (sources_of rows.now))) }
+    ensures { IfOk result (λ table. SameValues (values_now table) (marks_at (sources_of rows.now))) }
 {
     let spans = MarkRows::of(alloc, rows)?;
     let mut table = RunTable::filled(alloc, 0)?;
-    'marks: for mark in MARKS {
-        table = with_mark(alloc, table, &spans, mark)?;
+    'marks: for place in 0..MARKS {
+        table = with_mark(alloc, table, &spans, Mark::at(place))?;
     }
     Ok(table)
 }

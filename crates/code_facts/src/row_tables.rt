@@ -6,7 +6,7 @@ ghost use Rattle.range_table.specs.RunTable.{values_now};
 ghost use Rattle.ucd_model.specs.Facts.{data_row, class_in};
 ghost use Rattle.ucd_model.specs.declared.files.SourceFile.TheVariants.{UnicodeData};
 ghost use Rattle.code_facts.specs.DataTables.{data_now};
-ghost use Rattle.code_facts.specs.Marks.{marks_before};
+ghost use Rattle.code_facts.specs.Marks.{marks_at};
 ghost use Rattle.code_facts.specs.Plain.{HoldsTo};
 ghost use Rattle.code_facts.specs.Rest.{no_rest};
 ghost use Rattle.code_facts.specs.RowLists.{sources_of};
@@ -63,7 +63,7 @@ impl RowTables {
     ) -> Result<RowTables, Memory>
         requires gives { (c : ℕ) → c < 1114112 → data_now (record { words = data_words.now; lists = lists }) c ≡ row_data c (data_row (sources_of rows.now UnicodeData) c) }
         requires class { (c : ℕ) → class_in (data_row (sources_of rows.now UnicodeData) c) < 256 }
-        requires marks { (c : ℕ) → c < 1114112 → values_now marked.now c ≡ marks_before 16 (sources_of rows.now) c }
+        requires marks { (c : ℕ) → c < 1114112 → values_now marked.now c ≡ marks_at (sources_of rows.now) c }
         ensures { IfOk result (λ made. (c : ℕ) → c < 1114112 → ShowsRows made (sources_of rows.now) c) }
     {
         let cases = Box::new(alloc, CaseMaps::of(alloc, rows)?)?;

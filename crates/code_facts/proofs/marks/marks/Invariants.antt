@@ -6,4 +6,4 @@ use Rattle.code_facts.proofs.marks.marks.Given as goal
 
 -- the marks before this one are summed
 abbrev pub invariant-marks : goal.invariant-marks
-invariant-marks l = (c : ℕ) → c < 1114112 → values_now l.table c ≡ marks_before l.mark-index (sources_of l.rows) c
+invariant-marks l = (c : ℕ) → c < 1114112 → values_now l.table c ≡ marks_before l.place (sources_of l.rows) c

@@ -1,10 +1,11 @@
-use Rattle.std.proofs.Common.{subst, sym, refl, ap, arith}
+use Rattle.std.proofs.Common.{subst, sym, refl, ap, arith, length}
 use Rattle.ucd_model.specs.Facts.{data_row}
 use Rattle.ucd_model.specs.declared.files.SourceFile.TheVariants.{UnicodeData}
 use Rattle.code_facts.specs.RowLists.{sources_of}
 use Rattle.code_facts.specs.DataTables.{data_now}
 use Rattle.code_facts.specs.CaseMaps.{KeepsImages}
 use Rattle.code_facts.specs.declared.case_maps.CaseMaps.{CaseMaps}
+use Rattle.code_facts.specs.Marks.{all_marks}
 use Rattle.code_facts.proofs.MarkLemmas.{marks_small}
 use Rattle.code_facts.proofs.FactLemmas.{row_shown, word_small}
 use Rattle.code_facts.proofs.row_tables.RowTables.over.Goals as goal
@@ -15,7 +16,7 @@ summed-requires c k lt =
     let given = ap (λ d. d.word) (c.requires.gives k lt) in
     let small = word_small k (data_row (sources UnicodeData) k) (c.requires.class k) in
     let marked = c.requires.marks k lt in
-    omega (arith, marks_small 16 sources k)
+    omega (arith, marks_small (length all_marks) sources k)
 
 pub returns : goal.returns
 returns c k lt =

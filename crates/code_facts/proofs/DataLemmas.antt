@@ -5,8 +5,12 @@ use Rattle.ucd_model.specs.Facts.{is_data_of, within, data_in, data_row, class_i
 use Rattle.ucd_model.specs.declared.row.Row.{Row}
 use Rattle.ucd_model.specs.declared.row.DataRow.{DataRow}
 use Rattle.ucd_model.specs.declared.row.Row.TheVariants.{Unit as DataLine, Value as ValueLine, Exclusion as ExclusionLine, Fold as FoldLine, Casing as CasingLine, Alias as AliasLine}
+use Rattle.ucd_model.specs.Bounds.{Bounds}
+use Rattle.source_rows.specs.PointValues.{Gives}
+use Rattle.source_rows.specs.declared.point_values.PointValues.{PointValues}
+use Rattle.release_rows.specs.Given.{ShowsGiven}
 use Rattle.code_facts.specs.Rows.{Apart, PointData, row_data}
-use Rattle.code_facts.specs.DataTables.{Adds, IsFresh}
+use Rattle.code_facts.specs.DataTables.{Adds, IsFresh, given_row}
 use Rattle.code_facts.proofs.RowLemmas.{data_step}
 
 -- the first n rows give what the table shows
@@ -77,3 +81,28 @@ pub rows_all : (rows : List Row) (n : ℕ) (shows : ℕ → PointData) → lengt
 rows_all rows n shows h old =
     let all : take n rows ≡ rows = take_all n rows h in
     (λ c lt. rw all at (old.gives c lt), λ c. rw all at (old.class c))
+
+-- ---- what is given of a row
+
+data_same : (given : PointValues) (row : DataRow) (c : ℕ) → Gives given row → row_data c (Some row) ≡ row_data c (Some (given_row given))
+data_same given row c g = rw (g.category, g.class, g.kind, g.mapping, g.upper, g.lower, g.title) refl
+
+pub fresh_given : (given : PointValues) (row : Row) (old : ℕ → PointData) → ShowsGiven (Some given) row → IsFresh row old → IsFresh (DataLine (given_row given)) old
+fresh_given given (DataLine row) old g fresh = λ c lt covers. fresh c lt (ap (within c) g.span ∙ covers)
+fresh_given given (ValueLine row) old g fresh = absurd g
+fresh_given given (ExclusionLine row) old g fresh = absurd g
+fresh_given given (FoldLine row) old g fresh = absurd g
+fresh_given given (CasingLine row) old g fresh = absurd g
+fresh_given given (AliasLine row) old g fresh = absurd g
+
+pub adds_given : (given : PointValues) (row : Row) (old new : ℕ → PointData) → ShowsGiven (Some given) row → given.values.class < 256
+    → ((c : ℕ) → c < 1114112 → new c ≡ cond (within c given.span) (row_data c (Some (given_row given))) (old c)) → Adds row old new
+adds_given given (DataLine row) old new g small gives = (
+  subst (λ (n : ℕ). n < 256) (sym g.class) small,
+  λ c lt. gives c lt ∙ ap (λ (d : PointData). cond (within c given.span) d (old c)) (sym (data_same given row c g)) ∙ ap (λ (s : Bounds). cond (within c s) (row_data c (Some row)) (old c)) (sym g.span),
+)
+adds_given given (ValueLine row) old new g small gives = absurd g
+adds_given given (ExclusionLine row) old new g small gives = absurd g
+adds_given given (FoldLine row) old new g small gives = absurd g
+adds_given given (CasingLine row) old new g small gives = absurd g
+adds_given given (AliasLine row) old new g small gives = absurd g

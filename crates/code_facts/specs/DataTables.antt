@@ -3,14 +3,18 @@
 -- data_now t c, data_next t c   now and next
 -- HasNoneNext l c               each list of c is empty next
 -- AreEmpty lists span           the lists of the points of the span are empty
+-- given_row given          a row with the code points and the values that are given, and nothing else
 -- IsFresh row old               the points of a row of UnicodeData.txt were given nothing; so it is of a row of another file
 -- Adds row old new              what is new is what the row gives where it covers a code point, and else what was; a row of another
 --                               file gives nothing
-use Rattle.std.specs.Prelude.{◌≡◌, ℕ, ◌<◌, true, List, [], Some, None, if◌then◌else◌}
+use Rattle.std.specs.Prelude.{◌≡◌, ℕ, ◌<◌, true, false, List, [], Some, None, if◌then◌else◌}
 use Rattle.ucd_model.specs.Bounds.{Bounds}
+use Rattle.ucd_model.specs.DataLines.{kept_of}
 use Rattle.ucd_model.specs.Facts.{within}
+use Rattle.ucd_model.specs.declared.row.DataRow.{DataRow}
 use Rattle.ucd_model.specs.declared.row.Row.{Row}
 use Rattle.ucd_model.specs.declared.row.Row.TheVariants.{Unit as DataLine}
+use Rattle.source_rows.specs.declared.point_values.PointValues.{PointValues}
 use Rattle.range_table.specs.RunTable.{values_now, values_next}
 use Rattle.code_facts.specs.Rows.{PointData, row_data}
 use Rattle.code_facts.specs.PointLists.{lists_now, lists_next}
@@ -43,6 +47,21 @@ pub record HasNoneNext (l : DataLists) (c : ℕ) : Type 0 where
 
 abbrev pub AreEmpty : (ℕ → List ℕ) → Bounds → Type 0
 AreEmpty lists span = (c : ℕ) → c < 1114112 → within c span ≡ true → lists c ≡ []
+
+abbrev pub given_row : PointValues → DataRow
+given_row given = record {
+  span = given.span;
+  range = false;
+  name = [];
+  category = given.values.category;
+  class = given.values.class;
+  kind = given.values.decomposition.kind;
+  mapping = given.values.decomposition.mapping;
+  upper = given.values.upper;
+  lower = given.values.lower;
+  title = given.values.title;
+  kept = kept_of [];
+}
 
 abbrev pub IsFresh : Row → (ℕ → PointData) → Type 0
 IsFresh (DataLine row) old = (c : ℕ) → c < 1114112 → within c row.span ≡ true → old c ≡ row_data c None

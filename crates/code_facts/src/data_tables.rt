@@ -7,10 +7,9 @@ ghost use Rattle.range_table.specs.RunTable.{values_next};
 ghost use Rattle.ucd_model.specs.Facts.{within, mapping_in, data_row, class_in, is_hangul_syllable, hangul_mapping};
 ghost use Rattle.ucd_model.specs.declared.files.SourceFile.TheVariants.{UnicodeData};
 ghost use Rattle.ucd_model.specs.declared.row.Row.TheVariants.{Unit as DataLine};
-ghost use Rattle.source_rows.specs.DataFaults.{text_row};
 ghost use Rattle.code_facts.specs.RowLists.{sources_of};
 ghost use Rattle.code_facts.specs.Rows.{row_data, Apart};
-ghost use Rattle.code_facts.specs.DataTables.{Adds, AreEmpty, IsFresh, data_now, data_next};
+ghost use Rattle.code_facts.specs.DataTables.{Adds, AreEmpty, IsFresh, data_now, data_next, given_row};
 ghost use Rattle.code_facts.specs.PointLists.{lists_now, lists_next};
 
 use crate::data_lists::DataLists;
@@ -21,7 +20,7 @@ use crate::row_lists::RowLists;
 use crate::word::{NO_ROW, data_word};
 use range_table::{RunTable, Table};
 use release_rows::RowText;
-use source_rows::DataText;
+use source_rows::PointValues;
 use std::alloc::Global;
 use ucd_model::{Kind, Memory, Point, Span};
 
@@ -92,17 +91,17 @@ impl DataTables {
         requires { IsFresh row.now (data_next self.old) }
         ensures { OnOk result (Adds row.now (data_next self.old) (data_next self.new)) }
     {
-        match row.data(alloc)? {
-            Some(text) => self.add(&text),
+        match row.point_values(alloc)? {
+            Some(given) => self.add(&given),
             None => Ok(()),
         }
     }
 
     /// Gives the points of a row what the row gives. No row has given them anything.
-    fn add(&mut self, row: &DataText<'_>) -> Result<(), Memory>
-        requires fresh { IsFresh (DataLine (text_row row.now)) (data_next self.old) }
+    fn add(&mut self, row: &PointValues) -> Result<(), Memory>
+        requires fresh { IsFresh (DataLine (given_row row.now)) (data_next self.old) }
         ensures gives { OnOk result ((c : ℕ) → c < 1114112
-            → data_next self.new c ≡ (if within c row.now.span then row_data c (Some (text_row row.now)) else data_next self.old c)) }
+            → data_next self.new c ≡ (if within c row.now.span then row_data c (Some (given_row row.now)) else data_next self.old c)) }
         ensures class { row.now.values.class < 256 }
     {
         add_word(&mut self.words, row)?;
@@ -125,9 +124,9 @@ impl DataTables {
 }
 
 /// Gives the points of a row its part of the word.
-fn add_word(words: &mut RunTable<u64>, row: &DataText<'_>) -> Result<(), Memory>
+fn add_word(words: &mut RunTable<u64>, row: &PointValues) -> Result<(), Memory>
     ensures word { OnOk result ((c : ℕ) → c < 1114112 → values_next words.new c
-        ≡ (if within c row.now.span then (row_data c (Some (text_row row.now))).word else values_next words.old c)) }
+        ≡ (if within c row.now.span then (row_data c (Some (given_row row.now))).word else values_next words.old c)) }
     ensures class { row.now.values.class < 256 }
 {
     let kind = row.values.decomposition.kind;
@@ -141,10 +140,10 @@ fn add_word(words: &mut RunTable<u64>, row: &DataText<'_>) -> Result<(), Memory>
 }
 
 /// Gives the points of a row its mapping, or that of a Hangul syllable, where they have none.
-fn add_mapping(mappings: &mut PointLists, row: &DataText<'_>) -> Result<(), Memory>
+fn add_mapping(mappings: &mut PointLists, row: &PointValues) -> Result<(), Memory>
     requires { AreEmpty (lists_next mappings.old) row.now.span }
     ensures { OnOk result ((c : ℕ) → c < 1114112 → lists_next mappings.new c
-        ≡ (if within c row.now.span then mapping_in c (Some (text_row row.now)) else lists_next mappings.old c)) }
+        ≡ (if within c row.now.span then mapping_in c (Some (given_row row.now)) else lists_next mappings.old c)) }
 {
     put_list(
         mappings,

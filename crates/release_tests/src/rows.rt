@@ -31,6 +31,14 @@ fn fault_of(alloc: Global, file: SourceFile, bytes: &[u8]) -> Option<RowFault> {
     }
 }
 
+/// The fault of a line of UnicodeData.txt of which only the fields are read that give something.
+fn point_fault_of(alloc: Global, bytes: &[u8]) -> Option<RowFault> {
+    match read_point_values(alloc, bytes) {
+        Err(RowStop::Fault(fault)) => Some(fault),
+        _ => None,
+    }
+}
+
 #[test]
 fn real_lines_are_written_again(rt: HostRuntime) {
     let lines: [(SourceFile, &[u8], &[u8]); 16] = [
@@ -114,7 +122,7 @@ fn real_lines_are_written_again(rt: HostRuntime) {
 
 #[test]
 fn first_faults_of_unicode_data(rt: HostRuntime) {
-    let lines: [(&[u8], Option<RowFault>); 25] = [
+    let lines: [(&[u8], Option<RowFault>); 29] = [
         (b"41;14 fields;Xx;0;L;;;;;N;;;;", Some(RowFault::G03)),
         (
             b"0041;no comment;Lu;0;L;;;;;N;;;;; # ;",
@@ -144,6 +152,22 @@ fn first_faults_of_unicode_data(rt: HostRuntime) {
         (b"0041;class;Lu;255;L;x;;;;N;;;;;", Some(RowFault::G06)),
         (b"0041;class;Lu;0230;L;;;;;N;;;;;", Some(RowFault::G06)),
         (b"0041;class;Lu;254;L;;;;;N;;;;;", None),
+        (
+            b"0041;kept fields;Lu;0;\x7f;;x;<;0041 43;\xff;\r;#;;;",
+            None,
+        ),
+        (
+            b"0041;kept fields;Lu;0;\x7f;;x;<;0041 43;\xff;\r;#;x;;",
+            Some(RowFault::G07),
+        ),
+        (
+            b"0041;kept fields;Lu;0;\x7f;;x;<;0041 43;\xff;\r;#;;x;",
+            Some(RowFault::G07),
+        ),
+        (
+            b"0041;kept fields;Lu;0;\x7f;;x;<;0041 43;\xff;\r;#;;;x",
+            Some(RowFault::G07),
+        ),
         (
             b"0041;tag;Lu;0;L;<none> 0041;;;;N;;;;;",
             Some(RowFault::G07),
@@ -183,6 +207,7 @@ fn first_faults_of_unicode_data(rt: HostRuntime) {
             fault,
             "{line:?}"
         );
+        assert_eq!(rt; point_fault_of(rt.alloc(), line), fault, "{line:?}");
     }
 }
 
@@ -291,8 +316,26 @@ fn has_script(bytes: &[u8], first: u32, last: u32, expected: &[u8]) -> bool {
     }
 }
 
+/// Whether a line of UnicodeData.txt gives its code points this class, and a mapping of so many members.
+fn gives(alloc: Global, bytes: &[u8], class: u8, members: usize) -> bool {
+    match read_point_values(alloc, bytes) {
+        Ok(PointValues { values, .. }) => {
+            values.class == class && values.decomposition.mapping.len() == members
+        }
+        Err(_) => false,
+    }
+}
+
 #[test]
 fn real_lines_without_a_copy(rt: HostRuntime) {
+    assert!(rt;
+        gives(
+            rt.alloc(),
+            b"0344;COMBINING GREEK DIALYTIKA TONOS;Mn;230;NSM;0308 0301;;;;N;;;;;",
+            230,
+            2,
+        )
+    );
     assert!(rt; has_names(b"gc ; General_Category", &[b"gc", b"General_Category"]));
     assert!(rt;
         has_script(

@@ -4,7 +4,7 @@ ghost use Rattle.std.specs.Prelude.{◌≡◌, ℕ, ◌+◌, ◌<◌, ◌≤◌,
 ghost use Rattle.asked_queries.specs.Turns.{KeepsAsked};
 ghost use Rattle.code_facts.specs.FactTables.{tables_facts};
 ghost use Rattle.dependency_map.specs.Askers.{own_queries};
-ghost use Rattle.dependency_map.specs.Maps.{asked_at};
+ghost use Rattle.dependency_map.specs.Maps.{asked_at, put_at};
 ghost use Rattle.kept_values.specs.Kept.{values};
 ghost use Rattle.paged_table.specs.Paged.{values_now, values_next};
 ghost use Rattle.range_table.specs.Values.{SameValues};
@@ -14,14 +14,16 @@ ghost use Rattle.edit_session.specs.Questions.{AreStill, AsksBelow, KeepsNext, K
 
 use asking_points::questions_of;
 use code_facts::FactTables;
-use dependency_map::DependencyMap;
+use dependency_map::{DependencyMap, Listing};
 use kept_values::Kept;
 use paged_table::PagedTable;
 use std::alloc::Global;
 use ucd_model::{Memory, Point, Queries, point_count};
 
 /// The questions of each code point, in a store over a paged table.
-pub type QuestionMap = DependencyMap<Kept<PagedTable, Option<Queries>>>;
+pub type QuestionMap = DependencyMap<QuestionLists>;
+
+type QuestionLists = Kept<PagedTable, Option<Queries>>;
 
 /// What each code point asks, now and next, once it was listed. Before, it takes no room.
 #[derive(Drop)]
@@ -58,8 +60,7 @@ impl Questions {
         if self.listed {
             return Ok(());
         }
-        list_all(alloc, tables, &mut self.map)?;
-        self.map.commit();
+        self.map = list_all(alloc, tables)?;
         self.listed = true;
         Ok(())
     }
@@ -81,29 +82,25 @@ impl Questions {
     }
 }
 
-/// Prepares what each code point asks of the facts of a valid release.
+/// What each code point asks of the facts of a valid release, now and next.
 ///
 /// - `Memory`: memory ran out.
-fn list_all(
-    alloc: Global,
-    tables: &FactTables<PagedTable>,
-    map: &mut QuestionMap,
-) -> Result<(), Memory>
-    requires valid { IsValid (tables_facts values_now tables.now) }
-    requires plain { SameValues (asked_at (values values_next) map.old) own_queries }
-    ensures now { SameValues (asked_at (values values_now) map.new) (asked_at (values values_now) map.old) }
-    ensures asked { OnOk result (KeepsAsked (asked_at (values values_next) map.new) (tables_facts values_now tables.now)) }
+fn list_all(alloc: Global, tables: &FactTables<PagedTable>) -> Result<QuestionMap, Memory>
+    requires { IsValid (tables_facts values_now tables.now) }
+    ensures asked { IfOk result (λ map. KeepsAsked (asked_at (values values_now) map) (tables_facts values_now tables.now)) }
+    ensures still { IfOk result (λ map. SameValues (asked_at (values values_next) map) (asked_at (values values_now) map)) }
 {
     let count = point_count();
+    let mut listing = Listing::new(alloc);
     let mut number = 0;
     'runs: while number < count {
-        let end = list_run(alloc, tables, Point::at(number), map)?;
+        let end = list_run(alloc, tables, Point::at(number), &mut listing)?;
         number = end;
     }
-    Ok(())
+    Ok(listing.finish())
 }
 
-/// Prepares what a code point asks, if it has a mapping, and answers one past it; else, one past the last code point up to
+/// Puts what a code point asks, if it has a mapping, and answers one past it; else, one past the last code point up to
 /// which all from it on have no mapping, as far as few look-ups tell.
 ///
 /// - `Memory`: memory ran out.
@@ -111,40 +108,38 @@ fn list_run(
     alloc: Global,
     tables: &FactTables<PagedTable>,
     c: Point,
-    map: &mut QuestionMap,
+    listing: &mut Listing<QuestionLists>,
 ) -> Result<u32, Memory>
     requires record { HasRecord (tables_facts values_now tables.now) c }
-    requires asked { AsksBelow (asked_at (values values_next) map.old) c (tables_facts values_now tables.now) }
+    requires asked { AsksBelow (put_at (values values_next) listing.old) c (tables_facts values_now tables.now) }
     ensures from { IfOk result (λ end. c < end) }
     ensures inside { IfOk result (λ end. end ≤ 1114112) }
-    ensures now { SameValues (asked_at (values values_now) map.new) (asked_at (values values_now) map.old) }
-    ensures asked { IfOk result (λ end. AsksBelow (asked_at (values values_next) map.new) end (tables_facts values_now tables.now)) }
+    ensures asked { IfOk result (λ end. AsksBelow (put_at (values values_next) listing.new) end (tables_facts values_now tables.now)) }
 {
     match tables.last_uniform(c) {
         Some(last) => Ok(last.number() + 1),
         None => {
-            put_asked(alloc, tables, c, map)?;
+            put_asked(alloc, tables, c, listing)?;
             Ok(c.number() + 1)
         }
     }
 }
 
-/// Prepares what a code point asks.
+/// Puts what a code point asks.
 ///
 /// - `Memory`: memory ran out.
 fn put_asked(
     alloc: Global,
     tables: &FactTables<PagedTable>,
     c: Point,
-    map: &mut QuestionMap,
+    listing: &mut Listing<QuestionLists>,
 ) -> Result<(), Memory>
     requires record { HasRecord (tables_facts values_now tables.now) c }
-    requires asked { AsksBelow (asked_at (values values_next) map.old) c (tables_facts values_now tables.now) }
-    ensures now { SameValues (asked_at (values values_now) map.new) (asked_at (values values_now) map.old) }
-    ensures asked { OnOk result (AsksBelow (asked_at (values values_next) map.new) (c + 1) (tables_facts values_now tables.now)) }
+    requires asked { AsksBelow (put_at (values values_next) listing.old) c (tables_facts values_now tables.now) }
+    ensures { OnOk result (AsksBelow (put_at (values values_next) listing.new) (c + 1) (tables_facts values_now tables.now)) }
 {
     let _number = c.number();
     let questions = questions_of(alloc, tables, c)?;
-    map.prepare(c, &questions)?;
+    listing.put(c, &questions)?;
     Ok(())
 }

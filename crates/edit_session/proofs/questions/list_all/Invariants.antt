@@ -1,17 +1,15 @@
 use Rattle.std.proofs.Common.{◌-◌, ◌≤◌}
 use Rattle.code_facts.specs.FactTables.{tables_facts}
-use Rattle.dependency_map.specs.Maps.{asked_at}
+use Rattle.dependency_map.specs.Maps.{put_at}
 use Rattle.kept_values.specs.Kept.{values}
 use Rattle.paged_table.specs.Paged.{values_now, values_next}
-use Rattle.range_table.specs.Values.{SameValues}
 use Rattle.edit_session.specs.Questions.{AsksBelow}
 use Rattle.edit_session.proofs.questions.list_all.Given as goal
 
--- what the points so far ask is prepared
+-- what the points so far ask is put
 abbrev pub invariant-runs : goal.invariant-runs
 invariant-runs l = record {
-  asked : AsksBelow (asked_at (values values_next) l.map) l.number (tables_facts values_now l.tables);
-  now : SameValues (asked_at (values values_now) l.map) (asked_at (values values_now) l.initial.map);
+  asked : AsksBelow (put_at (values values_next) l.listing) l.number (tables_facts values_now l.tables);
   within : l.number ≤ l.count;
 }
 

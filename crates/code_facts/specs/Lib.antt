@@ -10,7 +10,9 @@ pub mod Marks
 pub mod MarkRows
 pub mod Found
 pub mod CaseMaps
+pub mod GivenPoints
 pub mod Rest
+pub mod RestForm
 pub mod KeptFacts
 pub mod RowTables
 pub mod Index

@@ -13,6 +13,7 @@ ghost use Rattle.code_facts.specs.RowTables.{cases_in, with_foldings};
 use crate::case::Case;
 use crate::case_map::case_map;
 use crate::cases::Cases;
+use crate::given_points::GivenPoints;
 use crate::points::{lesser, point};
 use crate::row_lists::RowLists;
 use release_rows::RowText;
@@ -161,16 +162,12 @@ impl CaseMaps {
 }
 
 /// A copy of the image of a code point in a map.
-fn image_in(
-    alloc: Global,
-    map: &BTreeMap<Point, Points>,
-    c: Point,
-) -> Result<Option<Points>, Memory>
+fn image_in(alloc: Global, map: &BTreeMap<Point, Points>, c: Point) -> Result<GivenPoints, Memory>
     ensures { IfOk result (λ image. image ≡ found map.now c) }
 {
     match map.get(&c) {
-        Some(points) => Ok(Some(points.copy(alloc)?)),
-        None => Ok(None),
+        Some(points) => GivenPoints::of(alloc, points.as_slice()),
+        None => Ok(GivenPoints::none()),
     }
 }
 

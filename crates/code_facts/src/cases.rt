@@ -1,26 +1,25 @@
 //! The images of one code point.
 
 ghost use Rattle.std.specs.Prelude.{◌≡◌};
-ghost use Rattle.std.specs.Option.{option_copied};
 ghost use Rattle.code_facts.specs.Rest.{no_cases};
 
-use ucd_model::{Point, Points};
+use crate::given_points::GivenPoints;
 
 /// The images that CaseFolding.txt and SpecialCasing.txt give to a code point, each where there is one.
 #[derive(Drop)]
 pub struct Cases {
     /// The folding of status C.
-    pub common: Option<Points>,
+    pub common: GivenPoints,
     /// The folding of status F.
-    pub full: Option<Points>,
+    pub full: GivenPoints,
     /// The folding of status S.
-    pub simple: Option<Points>,
+    pub simple: GivenPoints,
     /// The full mapping to lower case without conditions.
-    pub lower: Option<Points>,
+    pub lower: GivenPoints,
     /// The full mapping to title case without conditions.
-    pub title: Option<Points>,
+    pub title: GivenPoints,
     /// The full mapping to upper case without conditions.
-    pub upper: Option<Points>,
+    pub upper: GivenPoints,
 }
 
 impl Cases {
@@ -29,22 +28,12 @@ impl Cases {
         ensures { result ≡ no_cases }
     {
         Cases {
-            common: None,
-            full: None,
-            simple: None,
-            lower: None,
-            title: None,
-            upper: None,
+            common: GivenPoints::none(),
+            full: GivenPoints::none(),
+            simple: GivenPoints::none(),
+            lower: GivenPoints::none(),
+            title: GivenPoints::none(),
+            upper: GivenPoints::none(),
         }
-    }
-}
-
-/// The points of an image, where there is one.
-pub fn points_of(image: &Option<Points>) -> Option<&[Point]>
-    ensures { option_copied result ≡ image.now }
-{
-    match image {
-        Some(points) => Some(points.as_slice()),
-        None => None,
     }
 }

@@ -83,7 +83,7 @@ pub fn put_rests<S: Store<Rest>>(
     ensures now { SameValues (S.now into.new) (S.now into.old) }
     ensures ok { OnOk result (SameValues (S.next into.new) (with_values (S.next into.old) span.lo span.hi (rest_in from.now))) }
 {
-    let none = into.hold(Rest::none(alloc))?;
+    let none = into.hold(Rest::none())?;
     put_rests_with(alloc, into, from, span, none)
 }
 

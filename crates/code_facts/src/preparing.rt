@@ -60,7 +60,7 @@ impl<T: Table<u64>> FactTables<T> {
     {
         Ok(FactTables {
             words: T::filled(alloc, NO_ROW)?,
-            rests: Kept::filled(alloc, Rest::none(alloc))?,
+            rests: Kept::filled(alloc, Rest::none())?,
             index: PairIndex::new(alloc),
             touched: Spans::new(alloc),
         })

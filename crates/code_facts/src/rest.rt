@@ -1,115 +1,129 @@
 //! What is kept of the facts of a code point beside its word.
 
-ghost use Rattle.std.specs.Prelude.{◌≡◌, IsTrue};
-ghost use Rattle.std.specs.Option.{option_copied, option_map, option_to_list};
-ghost use Rattle.std.specs.Box.{box_value};
-ghost use Rattle.code_facts.specs.Rest.{no_rest, cases_of};
+ghost use Rattle.std.specs.Prelude.{◌≡◌, IfOk, IsTrue};
+ghost use Rattle.std.specs.Option.{option_copied};
+ghost use Rattle.code_facts.specs.Rest.{no_rest, bare_rest, cases_of, rest_of_all};
 
-use crate::cases::{Cases, points_of};
+use crate::cases::Cases;
+use crate::mappings::Mappings;
+use crate::points::copied;
 use std::alloc::Global;
 use std::marker::Model;
-use ucd_model::{Point, Points};
+use ucd_model::{Memory, Point};
 
-/// The mappings of a code point: as few words as may be for one that has none.
+/// The mappings of a code point. Of most that have any it is a decomposition mapping of one or two members alone, which
+/// takes no memory of its own.
 #[derive(Drop)]
 pub struct Rest {
-    // the decomposition mapping
-    mapping: Points,
-    // the simple mappings of the row of UnicodeData.txt
-    upper: Option<Point>,
-    lower: Option<Point>,
-    title: Option<Point>,
-    // the images of CaseFolding.txt and SpecialCasing.txt
-    cases: Option<Box<Cases>>,
+    form: RestForm,
+}
+
+/// How the mappings are kept.
+#[derive(Drop)]
+enum RestForm {
+    // there is none
+    Empty,
+    // a decomposition mapping of one member, and nothing else
+    One([Point; 1]),
+    // the same of two members
+    Two([Point; 2]),
+    // mappings of any kind
+    All(Box<Mappings>),
 }
 
 impl Model for Rest {
-    ghost use Rattle.std.specs.Option.{option_map, option_to_list};
-    ghost use Rattle.std.specs.Box.{box_value};
-    ghost use Rattle.code_facts.specs.Rest.{RestOf, cases_of};
+    ghost use Rattle.code_facts.specs.Rest.{RestOf};
+    ghost use Rattle.code_facts.specs.RestForm.{rest_of};
 
     ghost Value = { RestOf };
 
-    ghost view = { λ r. record {
-      mapping = r.mapping;
-      upper = option_to_list r.upper;
-      lower = option_to_list r.lower;
-      title = option_to_list r.title;
-      cases = cases_of (option_map box_value r.cases);
-    } };
+    ghost view = { λ r. rest_of r.form };
 }
 
 impl Rest {
-    /// What is kept of a code point without mappings. It takes no memory.
-    pub fn none(alloc: Global) -> Rest
+    /// What is kept of a code point without mappings.
+    pub fn none() -> Rest
         ensures { result ≡ no_rest }
     {
         Rest {
-            mapping: Points::new(alloc),
-            upper: None,
-            lower: None,
-            title: None,
-            cases: None,
+            form: RestForm::Empty,
         }
     }
 
-    /// What is kept of these mappings. It takes no memory.
-    pub fn new(
-        mapping: Points,
-        upper: Option<Point>,
-        lower: Option<Point>,
-        title: Option<Point>,
-        cases: Option<Box<Cases>>,
-    ) -> Rest
-        ensures mapping { result.mapping ≡ mapping }
-        ensures upper { result.upper ≡ option_to_list upper }
-        ensures lower { result.lower ≡ option_to_list lower }
-        ensures title { result.title ≡ option_to_list title }
-        ensures cases { result.cases ≡ cases_of (option_map box_value cases) }
+    /// What is kept of a code point that has no more than this decomposition mapping.
+    ///
+    /// - `Memory`: memory ran out.
+    pub fn bare(alloc: Global, mapping: &[Point]) -> Result<Rest, Memory>
+        ensures { IfOk result (λ rest. rest ≡ bare_rest mapping.now) }
     {
-        Rest {
-            mapping,
-            upper,
-            lower,
-            title,
-            cases,
-        }
+        let form = match mapping {
+            [] => RestForm::Empty,
+            [only] => RestForm::One([*only]),
+            [first, second] => RestForm::Two([*first, *second]),
+            _ => RestForm::All(Box::new(alloc, Mappings::bare(copied(alloc, mapping)?))?),
+        };
+        Ok(Rest { form })
+    }
+
+    /// What is kept of these mappings.
+    ///
+    /// - `Memory`: memory ran out.
+    pub fn of(alloc: Global, mappings: Mappings) -> Result<Rest, Memory>
+        ensures { IfOk result (λ rest. rest ≡ rest_of_all mappings) }
+    {
+        Ok(Rest {
+            form: RestForm::All(Box::new(alloc, mappings)?),
+        })
     }
 
     /// The decomposition mapping.
     pub fn mapping(&self) -> &[Point]
         ensures { result.now ≡ self.now.mapping }
     {
-        self.mapping.as_slice()
+        match &self.form {
+            RestForm::Empty => &[],
+            RestForm::One(points) => points,
+            RestForm::Two(points) => points,
+            RestForm::All(all) => all.mapping.as_slice(),
+        }
     }
 
     /// The simple mapping to upper case.
     pub fn upper(&self) -> &[Point]
         ensures { result.now ≡ self.now.upper }
     {
-        self.upper.as_slice()
+        match &self.form {
+            RestForm::All(all) => all.upper.as_slice(),
+            _ => &[],
+        }
     }
 
     /// The simple mapping to lower case.
     pub fn lower(&self) -> &[Point]
         ensures { result.now ≡ self.now.lower }
     {
-        self.lower.as_slice()
+        match &self.form {
+            RestForm::All(all) => all.lower.as_slice(),
+            _ => &[],
+        }
     }
 
     /// The simple mapping to title case.
     pub fn title(&self) -> &[Point]
         ensures { result.now ≡ self.now.title }
     {
-        self.title.as_slice()
+        match &self.form {
+            RestForm::All(all) => all.title.as_slice(),
+            _ => &[],
+        }
     }
 
     /// The folding of status C.
     pub fn common_folding(&self) -> Option<&[Point]>
         ensures { option_copied result ≡ self.now.cases.common }
     {
-        match &self.cases {
-            Some(cases) => points_of(&cases.common),
+        match self.cases() {
+            Some(cases) => cases.common.points(),
             None => None,
         }
     }
@@ -118,8 +132,8 @@ impl Rest {
     pub fn full_folding(&self) -> Option<&[Point]>
         ensures { option_copied result ≡ self.now.cases.full }
     {
-        match &self.cases {
-            Some(cases) => points_of(&cases.full),
+        match self.cases() {
+            Some(cases) => cases.full.points(),
             None => None,
         }
     }
@@ -128,8 +142,8 @@ impl Rest {
     pub fn simple_folding(&self) -> Option<&[Point]>
         ensures { option_copied result ≡ self.now.cases.simple }
     {
-        match &self.cases {
-            Some(cases) => points_of(&cases.simple),
+        match self.cases() {
+            Some(cases) => cases.simple.points(),
             None => None,
         }
     }
@@ -138,8 +152,8 @@ impl Rest {
     pub fn full_lower(&self) -> Option<&[Point]>
         ensures { option_copied result ≡ self.now.cases.lower }
     {
-        match &self.cases {
-            Some(cases) => points_of(&cases.lower),
+        match self.cases() {
+            Some(cases) => cases.lower.points(),
             None => None,
         }
     }
@@ -148,8 +162,8 @@ impl Rest {
     pub fn full_title(&self) -> Option<&[Point]>
         ensures { option_copied result ≡ self.now.cases.title }
     {
-        match &self.cases {
-            Some(cases) => points_of(&cases.title),
+        match self.cases() {
+            Some(cases) => cases.title.points(),
             None => None,
         }
     }
@@ -158,9 +172,19 @@ impl Rest {
     pub fn full_upper(&self) -> Option<&[Point]>
         ensures { option_copied result ≡ self.now.cases.upper }
     {
-        match &self.cases {
-            Some(cases) => points_of(&cases.upper),
+        match self.cases() {
+            Some(cases) => cases.upper.points(),
             None => None,
+        }
+    }
+
+    /// The images of CaseFolding.txt and SpecialCasing.txt, where there are any.
+    fn cases(&self) -> Option<&Cases>
+        ensures { cases_of (option_copied result) ≡ self.now.cases }
+    {
+        match &self.form {
+            RestForm::All(all) => all.cases.as_deref(),
+            _ => None,
         }
     }
 
@@ -168,10 +192,6 @@ impl Rest {
     pub fn is_none(&self) -> bool
         ensures { IsTrue result → self.now ≡ no_rest }
     {
-        self.mapping.as_slice().is_empty()
-            && self.upper.is_none()
-            && self.lower.is_none()
-            && self.title.is_none()
-            && self.cases.is_none()
+        matches!(&self.form, RestForm::Empty)
     }
 }

@@ -18,15 +18,16 @@ ghost use Rattle.ucd_model.specs.Composites.{is_canonical};
 use crate::case_maps::CaseMaps;
 use crate::data_lists::DataLists;
 use crate::data_tables::DataTables;
+use crate::mappings::Mappings;
 use crate::marks::marks;
 use crate::painting::summed;
-use crate::points::{lesser, point};
+use crate::points::{copied, lesser, point};
 use crate::rest::Rest;
 use crate::row_lists::RowLists;
 use crate::word::kind_of;
 use range_table::{RunTable, Table};
 use std::alloc::Global;
-use ucd_model::{Kind, Memory, Point, Points};
+use ucd_model::{Kind, Memory, Point};
 
 /// The facts of all code points that rows give, in run tables and maps.
 #[derive(Drop)]
@@ -86,20 +87,14 @@ impl RowTables {
         if c.number() < bare {
             return self.bare_rest(alloc, c);
         }
-        let mapping = copied(alloc, self.lists.mappings.get(c))?;
-        let cases = self.cases.at(alloc, c)?;
-        let rest = Rest::new(
-            mapping,
-            first_of(self.lists.uppers.get(c)),
-            first_of(self.lists.lowers.get(c)),
-            first_of(self.lists.titles.get(c)),
-            cases,
-        );
-        if rest.is_none() {
-            Ok(None)
-        } else {
-            Ok(Some(rest))
-        }
+        let mappings = Mappings {
+            mapping: copied(alloc, self.lists.mappings.get(c))?,
+            upper: first_of(self.lists.uppers.get(c)),
+            lower: first_of(self.lists.lowers.get(c)),
+            title: first_of(self.lists.titles.get(c)),
+            cases: self.cases.at(alloc, c)?,
+        };
+        Ok(Some(Rest::of(alloc, mappings)?))
     }
 
     /// The same of a code point that has no more than a decomposition mapping.
@@ -111,8 +106,7 @@ impl RowTables {
         if mapping.is_empty() {
             return Ok(None);
         }
-        let mapping = copied(alloc, mapping)?;
-        Ok(Some(Rest::new(mapping, None, None, None, None)))
+        Ok(Some(Rest::bare(alloc, mapping)?))
     }
 
     /// The members of the mapping of a code point, if it is canonical and has two.
@@ -184,13 +178,4 @@ fn first_of(points: &[Point]) -> Option<Point>
         [first, ..] => Some(*first),
         [] => None,
     }
-}
-
-/// A list of copies of the points.
-///
-/// - `Memory`: memory ran out.
-pub fn copied(alloc: Global, points: &[Point]) -> Result<Points, Memory>
-    ensures { IfOk result (λ copy. copy ≡ points.now) }
-{
-    Ok(Points::from_vec(Vec::from_slice(alloc, points)?))
 }

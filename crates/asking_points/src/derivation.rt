@@ -21,6 +21,9 @@ use std::alloc::Global;
 use std::sync::ledger::Ledger;
 use ucd_model::{FactView, FactsRef, FormStop, Kind, Memory, Point, Queries, Query, Record, Steps};
 
+/// How many questions a list has room for at first: most lists have fewer, repeats among them.
+const ROOM: usize = 32;
+
 /// What the derivation of a code point gives, with the questions that it asks.
 #[derive(Debug, Drop)]
 pub struct Asked {
@@ -82,7 +85,7 @@ pub fn questions_of<W: FactView>(alloc: Global, view: &W, c: Point) -> Result<Qu
     ensures rising { IfOk result (λ questions. IsStrictlySortedBy (⟦<Query as Ord>⟧.cmp) questions) }
 {
     let facts = view.facts(c);
-    let mut asked = Vec::new(alloc);
+    let mut asked = Vec::with_capacity(alloc, ROOM)?;
     asked.push(Query::Row(c))?;
     asked.push(Query::Second(c))?;
     if is_plain(c, &facts) {

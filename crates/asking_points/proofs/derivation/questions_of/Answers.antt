@@ -9,13 +9,13 @@ use Rattle.asking_points.proofs.derivation.questions_of.Goals as goal
 pub returns-then-is_plain-clause-asked : goal.returns-then-is_plain-clause-asked
 returns-then-is_plain-clause-asked g c =
     let F : ℕ → Facts = g.W.FactView.facts_of c.args.view.now in
-    let own : c.push-2.new.self.items ≡ Row c.args.c ∷ Second c.args.c ∷ [] = c.in_ok-push-2.ensures.items ∙ ap (λ (qs : List Query). qs ++ Second c.args.c ∷ []) (c.in_ok-push.ensures.items ∙ ap (λ (qs : List Query). qs ++ Row c.args.c ∷ []) c.new-asked.ensures.items) in
+    let own : c.push-2.new.self.items ≡ Row c.args.c ∷ Second c.args.c ∷ [] = c.in_ok-push-2.ensures.items ∙ ap (λ (qs : List Query). qs ++ Second c.args.c ∷ []) (c.in_ok-push.ensures.items ∙ ap (λ (qs : List Query). qs ++ Row c.args.c ∷ []) c.in_ok-asked.ensures.items) in
     let plain = sym c.is_plain.ensures ∙ c.if-is_plain.true in
     λ q. c.query_set.ensures.same q ∙ ap (λ qs. is_asked qs q) own ∙ plain_asked F c.args.c c.facts-facts.result c.facts-facts.ensures plain q
 
 pub returns-clause-asked : goal.returns-clause-asked
 returns-clause-asked g c =
     let F : ℕ → Facts = g.W.FactView.facts_of c.args.view.now in
-    let own : c.push-2.new.self.items ≡ Row c.args.c ∷ Second c.args.c ∷ [] = c.in_ok-push-2.ensures.items ∙ ap (λ (qs : List Query). qs ++ Second c.args.c ∷ []) (c.in_ok-push.ensures.items ∙ ap (λ (qs : List Query). qs ++ Row c.args.c ∷ []) c.new-asked.ensures.items) in
+    let own : c.push-2.new.self.items ≡ Row c.args.c ∷ Second c.args.c ∷ [] = c.in_ok-push-2.ensures.items ∙ ap (λ (qs : List Query). qs ++ Second c.args.c ∷ []) (c.in_ok-push.ensures.items ∙ ap (λ (qs : List Query). qs ++ Row c.args.c ∷ []) c.in_ok-asked.ensures.items) in
     let all : c.put_more.new.asked.items ≡ Row c.args.c ∷ Second c.args.c ∷ other_asks F c.args.c = c.in_ok-put_more.ensures ∙ ap (λ (qs : List Query). qs ++ other_asks F c.args.c) own in
     λ q. c.query_set-2.ensures.same q ∙ ap (λ qs. is_asked qs q) all ∙ asked_is F c.args.c c.requires q

@@ -38,8 +38,7 @@ use Rattle.asked_queries.specs.PlainProofs.{plain_ask_own}
 use Rattle.asked_queries.specs.Turns.{SameQueries}
 use Rattle.asked_queries.specs.Questions.{row_queries, asks, last_round, rounds_ask, round_asks_at, folding_asks, facts_ask, pair_queries, composite_asks, asked}
 use Rattle.asking_points.specs.Compat.{canonical_asks, has_compat, forms_alike}
-use Rattle.asking_points.specs.Rounds.{asks_from}
-use Rattle.asking_points.specs.RoundQuestions.{rounds_are}
+use Rattle.asking_points.specs.KnownForms.{puts_from, puts_are}
 use Rattle.asking_points.specs.declared.derivation.Asked.{Asked}
 
 abbrev pub DerivesAs : Result Asked FormStop → Result Record Rule → Type 0
@@ -69,7 +68,7 @@ composite_shown F G = if is_canonical G.kind && ((G.class == 0) && (first_has_cl
 abbrev pub other_asks : (ℕ → Facts) → ℕ → List Query
 other_asks F c =
     row_queries (flat_map (λ m. m) (mappings c (F c)))
-    ++ (composite_asks F c ++ (canonical_asks F c ++ asks_from F 8 (c ∷ [])))
+    ++ (composite_asks F c ++ (canonical_asks F c ++ puts_from F 8 false (c ∷ [])))
 
 some_last : (F : ℕ → Facts) (c : ℕ) (r : Option ℕ) → is_none (option_and_then (λ i. rounds F i (c ∷ [])) r) ≡ false → is_some r ≡ true
 some_last F c (Some n) e = refl
@@ -109,12 +108,12 @@ canonical_repeated F c q false rounds e last =
 pub asked_is : (F : ℕ → Facts) (c : ℕ) → HasRecord F c → SameQueries (Row c ∷ Second c ∷ other_asks F c) (asked F c)
 unfolding asked
 asked_is F c has = λ q.
-    let put = asks_from F 8 (c ∷ []) in
+    let put = puts_from F 8 false (c ∷ []) in
     let rounds = rounds_ask F c (last_round F c) in
     let all = asks F true (c ∷ []) ++ rounds in
     let some = has_last F c has in
     let last = first_round F c q (last_round F c) some in
-    let canonical = behind (canonical_asks F c) put rounds q (rounds_are F c some q) ∙ canonical_repeated F c q (has_compat F 8 c) rounds refl last in
+    let canonical = behind (canonical_asks F c) put rounds q (puts_are F c some q) ∙ canonical_repeated F c q (has_compat F 8 c) rounds refl last in
     let composite = behind (composite_asks F c) (canonical_asks F c ++ put) (asks F false (c ∷ []) ++ all) q canonical in
     behind (facts_ask F c) (composite_asks F c ++ (canonical_asks F c ++ put)) (composite_asks F c ++ (asks F false (c ∷ []) ++ all)) q composite
 

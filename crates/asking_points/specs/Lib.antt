@@ -7,4 +7,5 @@ pub mod Compat
 pub mod Forms
 pub mod Rounds
 pub mod RoundQuestions
+pub mod KnownForms
 pub mod Derivation

@@ -1,9 +1,7 @@
 -- The rounds of a code point that reaches a last one, step by step.
 --
 -- rounds_are     what is put round by round are the questions that all rounds up to the last one ask
--- rounds_stop, rounds_more, rounds_end   a round after which no other list comes, one after which another one comes, and no round
---                left
-use Rattle.std.proofs.Common.{◌≡◌, ℕ, zero, suc, ◌+◌, ◌-◌, ◌<◌, ◌≤◌, true, false, cond, ◌||◌, List, [], ◌∷◌, ◌++◌, append_assoc, append-nil, add-one, Option, Some, None, is_some, refl, sym, ap, ◌∙◌, subst, arith}
+use Rattle.std.proofs.Common.{◌≡◌, ℕ, zero, suc, ◌+◌, ◌-◌, ◌<◌, ◌≤◌, true, false, cond, ◌||◌, List, [], ◌∷◌, ◌++◌, add-one, Option, Some, None, is_some, refl, sym, ap, ◌∙◌, subst, arith}
 use Rattle.std.specs.List.{flat_map, range_with_len}
 use Rattle.std.specs.Option.{option_and_then}
 use Rattle.std.proofs.lemmas.Bool.{true≢false}
@@ -15,7 +13,7 @@ use Rattle.ucd_model.specs.declared.query.Query.{Query}
 use Rattle.asked_queries.specs.Answers.{same_query, is_asked}
 use Rattle.asked_queries.specs.Turns.{SameQueries}
 use Rattle.asked_queries.specs.Questions.{round_asks, round_asks_at, last_round, rounds_ask}
-use Rattle.asking_points.specs.Rounds.{next_at, asks_at, asks_from, asks_step, asks_none, round_puts, round_same}
+use Rattle.asking_points.specs.Rounds.{next_at, asks_at, asks_from, asks_step, round_puts, round_same}
 
 fixed_stops : (s : List ℕ) (r : Option (List ℕ)) → is_list s r ≡ true → next_at s r ≡ None
 fixed_stops s (Some t) e = ap (λ b. cond b None (Some t)) e
@@ -85,25 +83,3 @@ pub rounds_are : (F : ℕ → Facts) (c : ℕ) → is_some (last_round F c) ≡ 
 rounds_are F c e =
     let last = known (last_round F c) e in
     λ q. from_first F c last.0 last.1 q ∙ ap (λ r. is_asked (rounds_ask F c r) q) (sym last.1)
-
-module _ (F : ℕ → Facts) (i : ℕ) (s : List ℕ) (all now : List Query) (so_far : now ++ asks_from F (8 - i) s ≡ all) where
-  one_round : i < 8 → (put : List Query) → put ≡ now ++ round_puts F s → (r : Option (List ℕ)) → r ≡ next_at s (round F s) → put ++ asks_at (asks_from F (8 - (i + 1))) r ≡ all
-  one_round lt put e r next =
-      let left : 8 - i ≡ suc (8 - (i + 1)) = omega arith in
-      ap (λ q. q ++ asks_at (asks_from F (8 - (i + 1))) r) e
-      ∙ append_assoc now (round_puts F s) (asks_at (asks_from F (8 - (i + 1))) r)
-      ∙ ap (λ t. now ++ (round_puts F s ++ asks_at (asks_from F (8 - (i + 1))) t)) next
-      ∙ ap (λ q. now ++ q) (sym (asks_step F (8 - (i + 1)) s))
-      ∙ ap (λ k. now ++ asks_from F k s) (sym left)
-      ∙ so_far
-
-  pub rounds_stop : i < 8 → (put : List Query) → put ≡ now ++ round_puts F s → None ≡ next_at s (round F s) → put ≡ all
-  rounds_stop lt put e next = sym (append-nil put) ∙ one_round lt put e None next
-
-  pub rounds_more : i < 8 → (put : List Query) → put ≡ now ++ round_puts F s → (t : List ℕ) → Some t ≡ next_at s (round F s) → put ++ asks_from F (8 - (i + 1)) t ≡ all
-  rounds_more lt put e t next = one_round lt put e (Some t) next
-
-  pub rounds_end : 8 ≤ i → now ≡ all
-  rounds_end past =
-      let none : 8 - i ≡ 0 = omega arith in
-      sym (append-nil now) ∙ ap (λ q. now ++ q) (sym (asks_none F s)) ∙ ap (λ k. now ++ asks_from F k s) (sym none) ∙ so_far

@@ -1,11 +1,12 @@
 //! Questions of the folding rounds.
 
-ghost use Rattle.std.specs.Prelude.{◌≡◌, [], ◌∷◌, ◌++◌, IfOk, OnOk, Some};
+ghost use Rattle.std.specs.Prelude.{◌≡◌, [], ◌∷◌, ◌++◌, true, false, IfOk, OnOk, Some};
 ghost use Rattle.std.specs.Str.{bytes_eq};
-ghost use Rattle.ucd_model.specs.FoldRounds.{drop_ignorable, round};
+ghost use Rattle.ucd_model.specs.FoldRounds.{drop_ignorable};
 ghost use Rattle.ucd_model.specs.Forms.{nfkc};
 ghost use Rattle.asking_points.specs.Forms.{list_in};
-ghost use Rattle.asking_points.specs.Rounds.{again_puts, asks_from, folded_round, folding_puts, next_at, next_from, round_puts, short_round};
+ghost use Rattle.asking_points.specs.Rounds.{again_puts, folding_puts, short_round};
+ghost use Rattle.asking_points.specs.KnownForms.{after_at, after_form, after_round, known_puts, puts_from};
 
 use crate::forms::put_asks;
 use crate::rows::put_rows;
@@ -20,6 +21,15 @@ const MOST: usize = 255;
 /// How many lists are looked at for one that a round leaves as it is: after 0 to 7 rounds (real releases need 0 or 1).
 const LISTS: u8 = 8;
 
+/// The list after a round, another one than the list before.
+#[derive(Drop)]
+pub struct After {
+    /// The list.
+    pub list: Points,
+    /// Whether it is known to be its own Normalisation Form KC, and what that form asks is put.
+    pub known: bool,
+}
+
 /// Puts what the folding rounds of a code point ask at the end, until a round gives no other list. The Unicode Standard,
 /// section 3.13, toNFKC_Casefold.
 ///
@@ -30,74 +40,64 @@ pub fn put_rounds<W: FactView>(
     c: Point,
     asked: &mut Vec<Query>,
 ) -> Result<(), Memory>
-    ensures { OnOk result (asked.new.items ≡ asked.old.items ++ asks_from (W.facts_of view.now) 8 (c ∷ [])) }
+    ensures { OnOk result (asked.new.items ≡ asked.old.items ++ puts_from (W.facts_of view.now) 8 false (c ∷ [])) }
 {
     let mut list = Points::new(alloc);
     list.push(c)?;
+    let mut known = false;
     'rounds: for done in 0..LISTS {
-        match put_round(alloc, view, list.as_slice(), asked)? {
-            Some(next) => list = next,
+        match put_round(alloc, view, list.as_slice(), known, asked)? {
+            Some(after) => {
+                known = after.known;
+                list = after.list;
+            }
             None => return Ok(()),
         }
     }
     Ok(())
 }
 
-/// Puts what a round from a list asks at the end; and the list after it, or `None` where there is none, or where it is
-/// the same.
+/// Puts what a round from a list asks at the end, without what its Normalisation Form KC asks where the list is `known` to
+/// be that form; and the list after it, or `None` where there is none, or where it is the same.
 fn put_round<W: FactView>(
     alloc: Global,
     view: &W,
     s: &[Point],
+    known: bool,
     asked: &mut Vec<Query>,
-) -> Result<Option<Points>, Memory>
-    ensures asked { OnOk result (asked.new.items ≡ asked.old.items ++ round_puts (W.facts_of view.now) s.now) }
-    ensures next { IfOk result (λ next. next ≡ next_at s.now (round (W.facts_of view.now) s.now)) }
+) -> Result<Option<After>, Memory>
+    requires { known ≡ true → Some s.now ≡ list_in (nfkc (W.facts_of view.now) s.now) }
+    ensures asked { OnOk result (asked.new.items ≡ asked.old.items ++ known_puts (W.facts_of view.now) known s.now) }
+    ensures next { IfOk result (λ next. next ≡ after_round (W.facts_of view.now) s.now) }
 {
-    let form = put_asks(alloc, view, true, s, asked)?;
-    let next = put_folded(alloc, view, s, form, asked)?;
-    Ok(changed(next, s))
-}
-
-/// Puts what a round from a list asks at the end, from the Normalisation Form KC of the list on; and the list after the
-/// round.
-fn put_folded<W: FactView>(
-    alloc: Global,
-    view: &W,
-    s: &[Point],
-    form: Option<Points>,
-    asked: &mut Vec<Query>,
-) -> Result<Option<Points>, Memory>
-    requires { form ≡ list_in (nfkc (W.facts_of view.now) s.now) }
-    ensures asked { OnOk result (asked.new.items ≡ asked.old.items ++ folding_puts (W.facts_of view.now) s.now form) }
-    ensures next { IfOk result (λ next. next ≡ next_from (W.facts_of view.now) form) }
-{
-    match form {
-        Some(form) => {
-            let next = put_folding(alloc, view, s, &form, asked)?;
-            Ok(next)
-        }
+    if known {
+        return put_folding(alloc, view, s, s, asked);
+    }
+    match put_asks(alloc, view, true, s, asked)? {
+        Some(form) => put_folding(alloc, view, s, form.as_slice(), asked),
         None => Ok(None),
     }
 }
 
-/// The same of a form that is there.
+/// Puts what a round from a list asks at the end, from the Normalisation Form KC of the list on; and the list after the
+/// round, or `None` where there is none, or where it is the same.
 fn put_folding<W: FactView>(
     alloc: Global,
     view: &W,
     s: &[Point],
-    form: &Points,
+    form: &[Point],
     asked: &mut Vec<Query>,
-) -> Result<Option<Points>, Memory>
+) -> Result<Option<After>, Memory>
     requires { Some form.now ≡ list_in (nfkc (W.facts_of view.now) s.now) }
     ensures asked { OnOk result (asked.new.items ≡ asked.old.items ++ folding_puts (W.facts_of view.now) s.now (Some form.now)) }
-    ensures next { IfOk result (λ next. next ≡ folded_round (W.facts_of view.now) form.now) }
+    ensures next { IfOk result (λ next. next ≡ after_form (W.facts_of view.now) s.now (Some form.now)) }
 {
-    let folded = fold(alloc, view, form.as_slice())?;
+    let folded = fold(alloc, view, form)?;
     put_rows(folded.as_slice(), asked)?;
     let kept = without_ignorable(alloc, view, folded.as_slice())?;
     let next = put_again(alloc, view, s, form, kept.as_slice(), asked)?;
-    Ok(short_round(form, &kept, next))
+    let next = short_round(form, kept.as_slice(), next);
+    Ok(changed(next, s, kept.as_slice()))
 }
 
 /// Puts what Normalisation Form KC of a list asks at the end, and answers that form. If the list is the one that the
@@ -107,7 +107,7 @@ fn put_again<W: FactView>(
     alloc: Global,
     view: &W,
     s: &[Point],
-    form: &Points,
+    form: &[Point],
     kept: &[Point],
     asked: &mut Vec<Query>,
 ) -> Result<Option<Points>, Memory>
@@ -116,7 +116,8 @@ fn put_again<W: FactView>(
     ensures form { IfOk result (λ found. found ≡ list_in (nfkc (W.facts_of view.now) kept.now)) }
 {
     if is_same(kept, s) {
-        let again = form.copy(alloc)?;
+        let mut again = Points::new(alloc);
+        again.append(form)?;
         return Ok(Some(again));
     }
     let found = put_asks(alloc, view, true, kept, asked)?;
@@ -124,7 +125,7 @@ fn put_again<W: FactView>(
 }
 
 /// The list after a round, where the lists of the round are not too long.
-fn short_round(form: &Points, kept: &Points, next: Option<Points>) -> Option<Points>
+fn short_round(form: &[Point], kept: &[Point], next: Option<Points>) -> Option<Points>
     ensures { result ≡ short_round form.now kept.now next }
 {
     if form.len() > MOST {
@@ -139,16 +140,18 @@ fn short_round(form: &Points, kept: &Points, next: Option<Points>) -> Option<Poi
     }
 }
 
-/// The list after a round, where it is another one than the list before.
-fn changed(next: Option<Points>, s: &[Point]) -> Option<Points>
-    ensures { result ≡ next_at s.now next }
+/// The list after a round, where it is another one than the list before. It is known if it is the list `kept`, whose
+/// Normalisation Form KC it is.
+fn changed(next: Option<Points>, s: &[Point], kept: &[Point]) -> Option<After>
+    ensures { result ≡ after_at s.now kept.now next }
 {
     match next {
-        Some(next) => {
-            if is_same(next.as_slice(), s) {
+        Some(list) => {
+            if is_same(list.as_slice(), s) {
                 None
             } else {
-                Some(next)
+                let known = is_same(kept, list.as_slice());
+                Some(After { list, known })
             }
         }
         None => None,

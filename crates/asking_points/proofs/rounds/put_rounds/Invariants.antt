@@ -1,7 +1,11 @@
-use Rattle.std.proofs.Common.{◌≡◌, ◌-◌, ◌++◌, [], ◌∷◌}
-use Rattle.asking_points.specs.Rounds.{asks_from}
+use Rattle.std.proofs.Common.{◌≡◌, ◌-◌, ◌++◌, [], ◌∷◌, true, false, Some}
+use Rattle.ucd_model.specs.Forms.{nfkc}
+use Rattle.asking_points.specs.Forms.{list_in}
+use Rattle.asking_points.specs.KnownForms.{puts_from}
 use Rattle.asking_points.proofs.rounds.put_rounds.Given as goal
 
--- what the rounds that are left ask, behind what is asked so far, is what all gives
+-- what the rounds that are left ask, behind what is asked so far, is what all gives; and a list that is known is its own NFKC
 abbrev pub invariant-rounds : goal.invariant-rounds
-invariant-rounds g l = l.asked.items ++ asks_from (g.W.FactView.facts_of l.view) (8 - l.done) l.list ≡ l.initial.asked.items ++ asks_from (g.W.FactView.facts_of l.view) 8 (l.fn.c ∷ [])
+invariant-rounds g l =
+    (l.asked.items ++ puts_from (g.W.FactView.facts_of l.view) (8 - l.done) l.known l.list ≡ l.initial.asked.items ++ puts_from (g.W.FactView.facts_of l.view) 8 false (l.fn.c ∷ []))
+    × (l.known ≡ true → Some l.list ≡ list_in (nfkc (g.W.FactView.facts_of l.view) l.list))

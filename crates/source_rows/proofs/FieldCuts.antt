@@ -1,6 +1,6 @@
 -- The first field and the fields behind it.
-use Rattle.std.proofs.Common.{◌≡◌, ℕ, ◌+◌, List, [], ◌∷◌, length, ◌<◌, refl, ap, arith, inl, inr}
-use Rattle.std.specs.List.{slice_split, position_or_len, before_first, after_first}
+use Rattle.std.proofs.Common.{◌≡◌, ℕ, ◌+◌, ◌-◌, List, [], ◌∷◌, length, ◌<◌, refl, ap, arith, inl, inr}
+use Rattle.std.specs.List.{slice_split, position_or_len, before_first, after_first, count_by}
 use Rattle.std.proofs.lemmas.Bool.{cases_lt}
 use Rattle.std.proofs.lemmas.Bool.Decides.{nat_tests}
 use Rattle.std.proofs.lemmas.List.{take_all, drop_all, length-map}
@@ -31,13 +31,13 @@ others_are text n =
           rw (split_whole is_semicolon text le, none, field_empty n) (field_next (trim text) [] n)
     ]
 
-length-fields : (text : List ℕ) → length (fields_of text) ≡ length (slice_split is_semicolon text)
-length-fields text = length-map (slice_split is_semicolon text) trim
+pub count_is : (text : List ℕ) → length (fields_of text) ≡ count_by is_semicolon text + 1
+count_is text = omega (arith, length-map (slice_split is_semicolon text) trim, length-slice_split is_semicolon text)
 
 pub one_is : (text : List ℕ) → length (fields_of text) ≡ 1 → fields_of text ≡ trim (before_first is_semicolon text) ∷ []
 one_is text h =
     elim (cases_lt (position_or_len is_semicolon text) (length text)) [
-      | inl lt ↦ absurd (omega (arith, h, length-fields text, ap length (slice_split_first is_semicolon text 0 lt), length-slice_split is_semicolon text, length-slice_split is_semicolon (after_first is_semicolon text)))
+      | inl lt ↦ absurd (omega (arith, h, count_is text, ap length (slice_split_first is_semicolon text 0 lt), length-slice_split is_semicolon text, length-slice_split is_semicolon (after_first is_semicolon text)))
       | inr le ↦ rw (split_whole is_semicolon text le, take_all (position_or_len is_semicolon text) text le) refl
     ]
 
@@ -45,5 +45,15 @@ pub more_is : (text : List ℕ) → 1 < length (fields_of text) → fields_of te
 more_is text h =
     elim (cases_lt (position_or_len is_semicolon text) (length text)) [
       | inl lt ↦ rw (slice_split_first is_semicolon text 0 lt) refl
-      | inr le ↦ absurd (omega (arith, h, length-fields text, ap length (split_whole is_semicolon text le)))
+      | inr le ↦ absurd (omega (arith, h, count_is text, ap length (split_whole is_semicolon text le), length-slice_split is_semicolon text))
+    ]
+
+-- a cut takes one separator, where there is any
+pub fewer_are : (text : List ℕ) → count_by is_semicolon (after_first is_semicolon text) ≡ count_by is_semicolon text - 1
+fewer_are text =
+    elim (cases_lt (position_or_len is_semicolon text) (length text)) [
+      | inl lt ↦ omega (arith, ap length (slice_split_first is_semicolon text 0 lt), length-slice_split is_semicolon text, length-slice_split is_semicolon (after_first is_semicolon text))
+      | inr le ↦
+          let none : after_first is_semicolon text ≡ [] = drop_all (position_or_len is_semicolon text + 1) text (omega arith) in
+          rw none (omega (arith, ap length (split_whole is_semicolon text le), length-slice_split is_semicolon text))
     ]

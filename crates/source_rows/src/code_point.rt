@@ -83,12 +83,16 @@ pub fn has_last_name(name: &[u8]) -> bool
     is_label_closed_by(b", Last>", name)
 }
 
-/// Whether the name is that of the first or the last line of a range: `<Label, First>` or `<Label, Last>`.
-/// UAX #44, section 4.2.3.
+/// Whether the name is that of the first or the last line of a range: `<Label, First>` or `<Label, Last>`. Most names are
+/// ruled out by their first byte. UAX #44, section 4.2.3.
+#[tactic(auto, unfolding(ucd_model::specs::Fields::is_label_closed_by))]
 pub fn is_range_name(name: &[u8]) -> bool
     ensures { result ≡ is_range_name name.now }
 {
-    has_first_name(name) || has_last_name(name)
+    match name {
+        [b'<', ..] => has_first_name(name) || has_last_name(name),
+        _ => false,
+    }
 }
 
 /// The label between the `<` and the closing.

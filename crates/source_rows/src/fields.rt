@@ -1,7 +1,7 @@
 //! Cuts a line into its fields, each a part of the line. UAX #44, section 4.2.
 
-ghost use Rattle.std.specs.Prelude.{◌≡◌, ℕ, ◌+◌, ◌<◌, ◌≤◌, ◌∷◌, [], length, count_by, IfOk};
-ghost use Rattle.ucd_model.specs.Fields.{field, is_hash, is_semicolon};
+ghost use Rattle.std.specs.Prelude.{◌≡◌, ℕ, ◌+◌, ◌-◌, ◌<◌, ◌≤◌, ◌∷◌, [], length, count_by, IfOk};
+ghost use Rattle.ucd_model.specs.Fields.{field, trim, is_hash, is_semicolon};
 ghost use Rattle.std.specs.List.{after_first, before_first, position_or_len};
 ghost use Rattle.source_rows.specs.Fields.{fields_of};
 
@@ -45,6 +45,7 @@ pub fn first_field(text: &[u8]) -> (&[u8], &[u8])
     ensures others { (n : ℕ) → field (fields_of text.now) (n + 1) ≡ field (fields_of result.1.now) n }
     ensures one { length (fields_of text.now) ≡ 1 → fields_of text.now ≡ result.0.now ∷ [] }
     ensures more { 1 < length (fields_of text.now) → fields_of text.now ≡ result.0.now ∷ fields_of result.1.now }
+    ensures fewer { count_by is_semicolon result.1.now ≡ count_by is_semicolon text.now - 1 }
 {
     let (first, others) = cut(text, b';');
     (trim(first), others)
@@ -76,15 +77,26 @@ pub fn near_cut(text: &[u8]) -> (&[u8], &[u8])
     (&text[..at], &text[at + 1..])
 }
 
+/// The text without white space at both ends. Most short fields are empty, and nothing is looked for in these.
+fn trim_short(text: &[u8]) -> &[u8]
+    ensures { result.now ≡ trim text.now }
+{
+    match text {
+        [] => text,
+        _ => trim(text),
+    }
+}
+
 /// What [`first_field`] gives, for a field that is short or empty.
 pub fn first_short_field(text: &[u8]) -> (&[u8], &[u8])
     ensures first { result.0.now ≡ field (fields_of text.now) 0 }
     ensures others { (n : ℕ) → field (fields_of text.now) (n + 1) ≡ field (fields_of result.1.now) n }
     ensures one { length (fields_of text.now) ≡ 1 → fields_of text.now ≡ result.0.now ∷ [] }
     ensures more { 1 < length (fields_of text.now) → fields_of text.now ≡ result.0.now ∷ fields_of result.1.now }
+    ensures fewer { count_by is_semicolon result.1.now ≡ count_by is_semicolon text.now - 1 }
 {
     let (first, others) = near_cut(text);
-    (trim(first), others)
+    (trim_short(first), others)
 }
 
 /// The text of the fields behind the first ones, as many as `count`; it is empty where there are none.

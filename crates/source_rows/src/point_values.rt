@@ -10,8 +10,6 @@ use crate::code_point::is_name;
 use crate::data_text::DataText;
 use crate::data_values::{Values, read_used};
 use crate::fault::{RowFault, RowStop};
-use crate::fields::field_count;
-use crate::fifteen::FIELDS;
 use crate::lines::holds_line_feed;
 use crate::unicode_data::{read_pair, single_end};
 use crate::used_fields::{UsedFields, used_fields};
@@ -50,10 +48,9 @@ fn unit_values(
 fn single_values(alloc: Global, content: &[u8]) -> Result<PointValues, RowStop>
     ensures { PointValuesAs result (single_or_fault (fields SourceFile.UnicodeData content.now)) }
 {
-    if field_count(content) != FIELDS {
+    let Some(line) = used_fields(content) else {
         return Err(RowStop::Fault(RowFault::G03));
-    }
-    let line = used_fields(content);
+    };
     let Some(point) = hex(line.f0) else {
         return Err(RowStop::Fault(RowFault::G04));
     };

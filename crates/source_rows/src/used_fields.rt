@@ -1,11 +1,11 @@
 //! Cuts a line of UnicodeData.txt into the fields that its code points and their values stand in. UAX #44, section 5.3,
 //! table 9.
 
-ghost use Rattle.std.specs.Prelude.{◌≡◌, ℕ, ◌+◌, ◌<◌};
-ghost use Rattle.ucd_model.specs.Fields.{field};
+ghost use Rattle.std.specs.Prelude.{◌≢◌, length, MatchOption};
 ghost use Rattle.source_rows.specs.Fields.{fields_of};
+ghost use Rattle.source_rows.specs.PointValues.{HasCaseFields, HasUsedFields};
 
-use crate::fields::{behind_fields, first_field, first_short_field};
+use crate::fields::{behind_fields, field_count, first_field, first_short_field, near_cut};
 
 /// The fields of a line that are read, each a part of it. Fields 4 and 6 to 11 are passed over.
 #[derive(Clone, Copy)]
@@ -28,28 +28,48 @@ pub struct UsedFields<'a> {
     pub f14: &'a [u8],
 }
 
-/// The fields of a text that are read. A field that is not there is empty.
-pub fn used_fields(text: &[u8]) -> UsedFields<'_>
-    ensures f0 { result.f0.now ≡ field (fields_of text.now) 0 }
-    ensures f1 { result.f1.now ≡ field (fields_of text.now) 1 }
-    ensures f2 { result.f2.now ≡ field (fields_of text.now) 2 }
-    ensures f3 { result.f3.now ≡ field (fields_of text.now) 3 }
-    ensures f5 { result.f5.now ≡ field (fields_of text.now) 5 }
-    ensures f12 { result.f12.now ≡ field (fields_of text.now) 12 }
-    ensures f13 { result.f13.now ≡ field (fields_of text.now) 13 }
-    ensures f14 { result.f14.now ≡ field (fields_of text.now) 14 }
+/// The fields of a line with its simple case mappings, the last three.
+#[derive(Clone, Copy)]
+struct CaseFields<'a> {
+    f12: &'a [u8],
+    f13: &'a [u8],
+    f14: &'a [u8],
+}
+
+/// The case fields of the text behind field 5. `None` exactly if it does not hold fields 6 to 14. Most lines end alike: they
+/// have no numeric value, are not mirrored, and have no simple case mapping.
+fn case_fields(text: &[u8]) -> Option<CaseFields<'_>>
+    ensures { MatchOption result (length (fields_of text.now) ≢ 9) (λ line. HasCaseFields line (fields_of text.now)) }
+{
+    if text == b";;;N;;;;;".as_slice() {
+        return Some(CaseFields {
+            f12: &[],
+            f13: &[],
+            f14: &[],
+        });
+    }
+    if field_count(text) != 9 {
+        return None;
+    }
+    let rest = behind_fields(text, 6);
+    let (f12, rest) = first_short_field(rest);
+    let (f13, rest) = first_short_field(rest);
+    let (f14, _) = first_short_field(rest);
+    Some(CaseFields { f12, f13, f14 })
+}
+
+/// The fields of a text that are read. `None` exactly if the text does not have 15 fields.
+pub fn used_fields(text: &[u8]) -> Option<UsedFields<'_>>
+    ensures { MatchOption result (length (fields_of text.now) ≢ 15) (λ line. HasUsedFields line (fields_of text.now)) }
 {
     let (f0, rest) = first_short_field(text);
     let (f1, rest) = first_field(rest);
     let (f2, rest) = first_short_field(rest);
     let (f3, rest) = first_short_field(rest);
-    let rest = behind_fields(rest, 1);
+    let (_, rest) = near_cut(rest);
     let (f5, rest) = first_short_field(rest);
-    let rest = behind_fields(rest, 6);
-    let (f12, rest) = first_short_field(rest);
-    let (f13, rest) = first_short_field(rest);
-    let (f14, _) = first_short_field(rest);
-    UsedFields {
+    let CaseFields { f12, f13, f14 } = case_fields(rest)?;
+    Some(UsedFields {
         f0,
         f1,
         f2,
@@ -58,5 +78,5 @@ pub fn used_fields(text: &[u8]) -> UsedFields<'_>
         f12,
         f13,
         f14,
-    }
+    })
 }

@@ -1,5 +1,5 @@
 use Rattle.std.proofs.Common.{refl}
-use Rattle.source_rows.proofs.FieldCuts.{first_is, others_are, one_is, more_is}
+use Rattle.source_rows.proofs.FieldCuts.{first_is, others_are, one_is, more_is, fewer_are}
 use Rattle.source_rows.proofs.fields.first_field.Goals as goal
 
 pub returns-clause-first : goal.returns-clause-first
@@ -13,3 +13,6 @@ returns-clause-one c = λ one. rw (c.trim.ensures, c.cut.ensures.before) (one_is
 
 pub returns-clause-more : goal.returns-clause-more
 returns-clause-more c = λ more. rw (c.trim.ensures, c.cut.ensures.before, c.cut.ensures.after) (more_is c.args.text.now more)
+
+pub returns-clause-fewer : goal.returns-clause-fewer
+returns-clause-fewer c = rw c.cut.ensures.after (fewer_are c.args.text.now)

@@ -51,30 +51,18 @@ pub fn first_field(text: &[u8]) -> (&[u8], &[u8])
     (trim(first), others)
 }
 
-/// The place of the first `;`, and the length of the text where there is none. Byte by byte, so it is quick where the
-/// place is near.
-fn near_semicolon(text: &[u8]) -> usize
-    ensures place { result ≡ position_or_len is_semicolon text.now }
-    ensures within { result ≤ length text.now }
-{
-    for (i, b) in text.iter().enumerate() {
-        if *b == b';' {
-            return i;
-        }
-    }
-    text.len()
-}
-
-/// What stands before the first `;`, and what stands behind it. Where there is none, the whole text and nothing.
+/// What stands before the first `;`, and what stands behind it. Where there is none, the whole text and nothing. Byte by
+/// byte, so it is quick where the `;` is near.
 pub fn near_cut(text: &[u8]) -> (&[u8], &[u8])
     ensures before { result.0.now ≡ before_first is_semicolon text.now }
     ensures after { result.1.now ≡ after_first is_semicolon text.now }
 {
-    let at = near_semicolon(text);
-    if at == text.len() {
-        return (text, &[]);
+    for (i, b) in text.iter().enumerate() {
+        if *b == b';' {
+            return (&text[..i], &text[i + 1..]);
+        }
     }
-    (&text[..at], &text[at + 1..])
+    (text, &[])
 }
 
 /// The text without white space at both ends. Most short fields are empty, and nothing is looked for in these.

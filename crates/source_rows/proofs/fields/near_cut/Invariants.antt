@@ -1,7 +1,7 @@
 use Rattle.std.proofs.Common.{◌≡◌, ◌+◌, drop}
 use Rattle.std.specs.List.{position_or_len}
 use Rattle.ucd_model.specs.Fields.{is_semicolon}
-use Rattle.source_rows.proofs.fields.near_semicolon.Given as goal
+use Rattle.source_rows.proofs.fields.near_cut.Given as goal
 
 -- what is left gives what the whole gives
 abbrev pub invariant-loop-i : goal.invariant-loop-i

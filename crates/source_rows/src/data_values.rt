@@ -106,6 +106,7 @@ pub fn read_values(alloc: Global, line: &DataFields<'_>) -> Result<Values, RowSt
 /// - `Fault(G07)`, `Fault(G10)`: field 5 is bad, as [`read_decomposition`] tells it.
 /// - `Fault(G07)`: one of the fields 12 to 14 is neither a code point nor empty.
 /// - `Memory`: memory ran out.
+#[inline(always)]
 #[tactic(auto, unfolding(crate::specs::DataFaults::values_or_fault))]
 pub fn read_used(alloc: Global, line: &UsedFields<'_>) -> Result<Values, RowStop>
     ensures { ValuesReadAs result (values_or_fault (used_fields_in line.now)) }

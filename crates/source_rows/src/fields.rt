@@ -90,7 +90,8 @@ pub fn first_short_field(text: &[u8]) -> (&[u8], &[u8])
 /// The text of the fields behind the first ones, as many as `count`; it is empty where there are none.
 pub fn behind_fields(text: &[u8], count: usize) -> &[u8]
     requires { 0 < count }
-    ensures { (n : ℕ) → field (fields_of text.now) (n + count) ≡ field (fields_of result.now) n }
+    ensures others { (n : ℕ) → field (fields_of text.now) (n + count) ≡ field (fields_of result.now) n }
+    ensures fewer { count_by is_semicolon result.now ≡ count_by is_semicolon text.now - count }
 {
     let mut left = count;
     for (i, b) in text.iter().enumerate() {

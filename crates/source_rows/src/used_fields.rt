@@ -48,10 +48,10 @@ fn case_fields(text: &[u8]) -> Option<CaseFields<'_>>
             f14: &[],
         });
     }
-    if field_count(text) != 9 {
+    let rest = behind_fields(text, 6);
+    if field_count(rest) != 3 {
         return None;
     }
-    let rest = behind_fields(text, 6);
     let (f12, rest) = first_short_field(rest);
     let (f13, rest) = first_short_field(rest);
     let (f14, _) = first_short_field(rest);

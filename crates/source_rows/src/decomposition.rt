@@ -152,6 +152,7 @@ fn read_canonical(alloc: Global, field: &[u8]) -> Result<Decomposition, RowStop>
 /// - `Fault(G07)`: the tag is unknown, one of the words is no code point, or there are none or more than 64 of them.
 /// - `Fault(G10)`: there is no tag, and there are 3 to 64 code points.
 /// - `Memory`: memory ran out.
+#[inline(always)]
 #[tactic(auto, unfolding(crate::specs::DataFaults::decomposition_or_fault))]
 pub fn read_decomposition(alloc: Global, field: &[u8]) -> Result<Decomposition, RowStop>
     ensures { DecompositionReadsAs result (decomposition_or_fault field.now) }

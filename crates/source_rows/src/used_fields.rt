@@ -1,7 +1,7 @@
 //! Cuts a line of UnicodeData.txt into the fields that its code points and their values stand in. UAX #44, section 5.3,
 //! table 9.
 
-ghost use Rattle.std.specs.Prelude.{◌≢◌, length, MatchOption};
+ghost use Rattle.std.specs.Prelude.{◌≡◌, ◌≢◌, ◌↔◌, length, codes, IsTrue, MatchOption};
 ghost use Rattle.source_rows.specs.Fields.{fields_of};
 ghost use Rattle.source_rows.specs.PointValues.{HasCaseFields, HasUsedFields};
 
@@ -36,12 +36,22 @@ struct CaseFields<'a> {
     f14: &'a [u8],
 }
 
-/// The case fields of the text behind field 5. `None` exactly if it does not hold fields 6 to 14. Most lines end alike: they
-/// have no numeric value, are not mirrored, and have no simple case mapping.
+/// Whether a line ends behind field 5 as most do: with no numeric value, not mirrored, and with no simple case mapping. The
+/// last eight bytes are compared at once.
+fn is_usual_end(text: &[u8]) -> bool
+    ensures { IsTrue result ↔ (text.now ≡ codes ";;;N;;;;;") }
+{
+    match text {
+        [b';', others @ ..] => others == b";;N;;;;;".as_slice(),
+        _ => false,
+    }
+}
+
+/// The case fields of the text behind field 5. `None` exactly if it does not hold fields 6 to 14.
 fn case_fields(text: &[u8]) -> Option<CaseFields<'_>>
     ensures { MatchOption result (length (fields_of text.now) ≢ 9) (λ line. HasCaseFields line (fields_of text.now)) }
 {
-    if text == b";;;N;;;;;".as_slice() {
+    if is_usual_end(text) {
         return Some(CaseFields {
             f12: &[],
             f13: &[],

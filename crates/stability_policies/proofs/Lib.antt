@@ -1,7 +1,8 @@
 pub mod PlainLemmas
 pub mod UniformBreaks
 pub mod TestLemmas
-pub mod SieveLemmas
+pub mod PolicySets
+pub mod StretchLemmas
 pub mod PointLemmas
 pub mod ReportLemmas
 pub mod NameLemmas

@@ -46,11 +46,7 @@ filter_span p n e false le h =
     ap (λ m. filter p (range_with_len 0 m)) (sym end) ∙ filter_none p n (e - n) (λ c from lt. h c from (omega arith)) ∙ sym (append-nil (filter p (range_with_len 0 n)))
 
 module _ {B : Type 0} (p : ℕ → Bool) (f : ℕ → B) (before : List B) where
-  -- what was broken before n, and nothing up to e
-  pub quiet_breaks : (xs : List B) (n e : ℕ) → n ≤ e → ((c : ℕ) → n ≤ c → c < e → p c ≡ false) → xs ≡ before ++ map f (filter p (range_with_len 0 n)) → xs ≡ before ++ map f (filter p (range_with_len 0 e))
-  quiet_breaks xs n e le h is = is ∙ ap (λ (ys : List ℕ). before ++ map f ys) (sym (filter_span p n e false le h ∙ append-nil (filter p (range_with_len 0 n))))
-
-  -- and all code points up to e, or none of them
+  -- what was broken before n, and all code points up to e, or none of them
   pub more_breaks : (xs ys : List B) (n e : ℕ) (b : Bool) → n ≤ e → ((c : ℕ) → n ≤ c → c < e → p c ≡ b) → xs ≡ before ++ map f (filter p (range_with_len 0 n)) → ys ≡ xs ++ map f (cond b (range_with_len n (e - n)) [])
       → ys ≡ before ++ map f (filter p (range_with_len 0 e))
   more_breaks xs ys n e b le h is more =

@@ -1,20 +1,15 @@
 -- Where forms stay, and the folding of each code point, foldings under NFKC stay too.
-use Rattle.std.proofs.Common.{◌≡◌, ◌≢◌, ℕ, ◌<◌, Bool, true, false, ◌&&◌, ◌||◌, not, [], ◌∷◌, List, Result, Ok, Err, refl, ap, subst, sym, ◌∙◌}
+use Rattle.std.proofs.Common.{◌≡◌, ℕ, ◌<◌, Bool, true, false, ◌&&◌, ◌||◌, not, [], ◌∷◌, List, Result, Ok, Err, refl, ap, subst, sym}
 use Rattle.std.specs.Str.{bytes_eq}
 use Rattle.std.proofs.lemmas.Slice.Eq.{bytes_eq-Decides}
 use Rattle.release_rows.specs.Releases.{ReleaseItems}
 use Rattle.ucd_model.specs.Casing.{fold_of}
 use Rattle.ucd_model.specs.Facts.{Facts, facts}
 use Rattle.ucd_model.specs.Limits.{point_count}
-use Rattle.ucd_model.specs.Shown.{shown_facts, shown_is}
-use Rattle.ucd_model.specs.View.{ShowsFacts}
 use Rattle.ucd_model.specs.declared.form.Bad.{Bad as Rule}
-use Rattle.ucd_model.specs.declared.view.FactsRef.{FactsRef}
-use Rattle.stability_policies.specs.CaselessLists.{folding_of}
 use Rattle.stability_policies.specs.Policies.{breaks, caseless, same_list}
 use Rattle.stability_policies.specs.StableForms.{IsRooted, Old, StaysNormal, all_kept, keeps_forms}
 use Rattle.stability_policies.specs.Views.{IsValid, rows_of}
-use Rattle.stability_policies.specs.declared.policy.Policy.{Policy}
 use Rattle.stability_policies.specs.declared.policy.Policy.TheVariants.{P01, P03, P04, P05, P10}
 use Rattle.stability_policies.proofs.ListedProofs.{has_rows, stays_by}
 use Rattle.stability_policies.proofs.StableProofs.{caseless_where_folds_stay}
@@ -36,18 +31,6 @@ quiet_by true r s same = ap not (same_self r s (same refl))
 quiet_by false r s same = refl
 
 -- ---- what each code point keeps
-
-none_broken : (a b c d e : Bool) → a ≡ false → b ≡ false → c ≡ false → d ≡ false → e ≡ all_kept a b c d e
-none_broken a b c d e no_loss no_class no_mapping no_composite = rw (no_loss, no_class, no_mapping, no_composite) refl
-
--- what is shown of a code point that breaks no other policy than P10
-pub unbroken_forms : (O N : ℕ → Facts) (c : ℕ) (a b : FactsRef) → ShowsFacts a (O c) → ShowsFacts b (N c) → ((policy : Policy) → policy ≢ P10 → breaks policy O N c ≡ false)
-    → (not (shown_facts a).assigned || bytes_eq (folding_of c (shown_facts a)) (folding_of c (shown_facts b))) ≡ keeps_forms O N c
-unbroken_forms O N c a b old new kept =
-    ap (λ F. not F.assigned || bytes_eq (folding_of c F) (folding_of c (shown_facts b))) (shown_is a (O c) old)
-    ∙ ap (λ G. not (O c).assigned || bytes_eq (folding_of c (O c)) (folding_of c G)) (shown_is b (N c) new)
-    ∙ none_broken (breaks P01 O N c) (breaks P03 O N c) (breaks P04 O N c) (breaks P05 O N c) (not (O c).assigned || bytes_eq (folding_of c (O c)) (folding_of c (N c)))
-    (kept P01 (λ is. absurd cc)) (kept P03 (λ is. absurd cc)) (kept P04 (λ is. absurd cc)) (kept P05 (λ is. absurd cc))
 
 kept_parts : (a b c d e : Bool) → all_kept a b c d e ≡ true → (a ≡ false) × (b ≡ false) × (c ≡ false) × (d ≡ false) × (e ≡ true)
 kept_parts true b c d e h = absurd cc

@@ -1,6 +1,6 @@
 -- A report, policy after policy and row after row.
-use Rattle.std.proofs.Common.{◌≡◌, ◌≢◌, ℕ, suc, ◌+◌, ◌<◌, ◌≤◌, Bool, true, false, cond, not, ◌||◌, List, [], ◌∷◌, ◌++◌, length, get_or, take, map, filter, is_some, nat_lt, Some, None, refl, sym, ap, ◌∙◌, arith}
-use Rattle.std.specs.List.{flat_map, list_any, position, position_or_len, range_with_len}
+use Rattle.std.proofs.Common.{◌≡◌, ◌≢◌, ℕ, suc, ◌+◌, ◌<◌, ◌≤◌, Bool, true, false, cond, not, ◌||◌, List, [], ◌∷◌, ◌++◌, length, get_or, take, map, filter, is_some, nat_lt, Some, None, refl, sym, ap, subst, ◌∙◌, arith}
+use Rattle.std.specs.List.{flat_map, list_any, position, position_or_len}
 use Rattle.std.proofs.lemmas.List.{append-nil, append_assoc, take_all, take_more}
 use Rattle.std.proofs.lemmas.Grind.{flat_map-append}
 use Rattle.std.proofs.lemmas.Bool.Decides.{nat_tests}
@@ -9,12 +9,14 @@ use Rattle.ucd_model.specs.Facts.{Facts, facts}
 use Rattle.ucd_model.specs.Limits.{point_count}
 use Rattle.ucd_model.specs.declared.files.SourceFile.{SourceFile}
 use Rattle.ucd_model.specs.declared.row.Row.{Row}
-use Rattle.stability_policies.specs.Policies.{breaks, policies}
+use Rattle.stability_policies.specs.BrokenStretches.{AreStretches, breaking}
+use Rattle.stability_policies.specs.Policies.{policies}
 use Rattle.stability_policies.specs.Reports.{breaks_of, is_lost, keeps_names, lost_rows, names_in, report}
 use Rattle.stability_policies.specs.Views.{rows_of}
 use Rattle.stability_policies.specs.declared.breaks.Break.{Break}
 use Rattle.stability_policies.specs.declared.breaks.Break.TheVariants.{At, Alias}
 use Rattle.stability_policies.specs.declared.policy.Policy.{Policy}
+use Rattle.stability_policies.specs.declared.sieving.Stretches.{Stretches}
 use Rattle.stability_policies.specs.declared.policy.Policy.TheVariants.{P01, P02, P03, P04, P05, P06, P07, P08, P09, P10, P11, P12, P13, P14, P15, P16, P17, P18, P19, P20}
 
 -- ---- lists that are put one after the other
@@ -79,10 +81,7 @@ module _ (file : SourceFile) (new : List (ℕ × Row)) where
 
 -- ---- policies
 
-abbrev by_facts : Policy → (ℕ → Facts) → (ℕ → Facts) → List Break
-by_facts policy O N = map (At policy) (filter (breaks policy O N) (range_with_len 0 point_count))
-
-of_points : (policy : Policy) (old new : ReleaseItems) → policy ≢ P02 → policy ≢ P17 → by_facts policy (facts (rows_of old)) (facts (rows_of new)) ≡ breaks_of policy old new
+of_points : (policy : Policy) (old new : ReleaseItems) → policy ≢ P02 → policy ≢ P17 → map (At policy) (breaking policy (facts (rows_of old)) (facts (rows_of new)) point_count) ≡ breaks_of policy old new
 of_points P01 old new names rows = refl
 of_points P02 old new names rows = absurd (names refl)
 of_points P03 old new names rows = refl
@@ -104,10 +103,13 @@ of_points P18 old new names rows = refl
 of_points P19 old new names rows = refl
 of_points P20 old new names rows = refl
 
-pub of_facts : (policy : Policy) (O N : ℕ → Facts) (old new : ReleaseItems) → O ≡ facts (rows_of old) → N ≡ facts (rows_of new) → policy ≢ P02 → policy ≢ P17
-    → by_facts policy O N ≡ breaks_of policy old new
-of_facts policy O N old new before after names rows =
-    ap (λ F. by_facts policy F N) before ∙ ap (λ F. by_facts policy (facts (rows_of old)) F) after ∙ of_points policy old new names rows
+pub of_broken : (policy : Policy) (old new : ReleaseItems) (points : List ℕ) → policy ≢ P02 → policy ≢ P17 → points ≡ breaking policy (facts (rows_of old)) (facts (rows_of new)) point_count
+    → map (At policy) points ≡ breaks_of policy old new
+of_broken policy old new points names rows are = ap (map (At policy)) are ∙ of_points policy old new names rows
+
+pub of_rows : (O N : ℕ → Facts) (old new : ReleaseItems) (found : Stretches) → O ≡ facts (rows_of old) → N ≡ facts (rows_of new) → AreStretches O N found → AreStretches (facts (rows_of old)) (facts (rows_of new)) found
+of_rows O N old new found before after are =
+    subst (λ (F : ℕ → Facts). AreStretches F (facts (rows_of new)) found) before (subst (λ (G : ℕ → Facts). AreStretches O G found) after are)
 
 pub whole_report : (old new : ReleaseItems) (now : List Break) → now ≡ flat_map (λ policy. breaks_of policy old new) policies → now ≡ report old new
 unfolding report

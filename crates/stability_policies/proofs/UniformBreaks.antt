@@ -9,7 +9,7 @@ use Rattle.ucd_model.specs.Identifiers.{continues, starts, xid_continue, xid_sta
 use Rattle.ucd_model.specs.Predicates.{id_continue, id_start}
 use Rattle.ucd_model.specs.Uniform.{Alike, IsPlain, Uniform}
 use Rattle.stability_policies.specs.Policies.{all_assigned, breaks, is_case_pair, same_list, same_mapping, sort_of, caseless}
-use Rattle.stability_policies.specs.Sieves.{IsAlikeTo}
+use Rattle.stability_policies.specs.BrokenStretches.{IsAlikeTo}
 use Rattle.stability_policies.specs.StableForms.{all_kept, keeps_forms}
 use Rattle.stability_policies.specs.declared.policy.Policy.{Policy}
 use Rattle.stability_policies.specs.declared.policy.Policy.TheVariants.{P01, P02, P03, P04, P05, P06, P07, P08, P09, P10, P11, P12, P13, P14, P15, P16, P17, P18, P19, P20}

@@ -5,7 +5,7 @@ pub mod Views
 pub mod Reports
 pub mod ReportTexts
 pub mod CommonForms
-pub mod Sieves
+pub mod BrokenStretches
 pub mod PolicyLists
 pub mod NamedRows
 pub mod StableForms

@@ -4,6 +4,7 @@
 
 mod alias_rows;
 mod breaks;
+mod broken_stretch;
 mod case_tests;
 mod caseless;
 mod common;
@@ -15,6 +16,7 @@ mod named_row;
 mod names;
 mod point_breaks;
 mod policy;
+mod policy_set;
 mod reporting;
 mod row_tests;
 mod sieving;

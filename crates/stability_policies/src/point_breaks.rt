@@ -1,62 +1,43 @@
 //! The breaks of a policy of code points.
 
-ghost use Rattle.std.specs.Prelude.{◌≡◌, ◌-◌, ◌+◌, ◌≤◌, ◌++◌, [], cond, map, filter, OnOk};
+ghost use Rattle.std.specs.Prelude.{◌≡◌, ◌-◌, ◌≤◌, ◌++◌, map, OnOk};
 ghost use Rattle.std.specs.List.{range_with_len};
-ghost use Rattle.ucd_model.specs.Limits.{point_count};
-ghost use Rattle.ucd_model.specs.Records.{record_at};
-ghost use Rattle.stability_policies.specs.Policies.{breaks};
-ghost use Rattle.stability_policies.specs.Sieves.{IsSieve};
+ghost use Rattle.stability_policies.specs.BrokenStretches.{points_in, points_of};
 ghost use Rattle.stability_policies.specs.declared.breaks.Break.TheVariants.{At};
 
 use crate::breaks::{Break, Breaks};
+use crate::broken_stretch::BrokenStretch;
 use crate::policy::Policy;
-use crate::testing::is_broken;
-use std::alloc::Global;
-use ucd_model::{FactView, Memory, Point, Records, Span};
+use ucd_model::{Memory, Point};
 
-/// Puts the breaks of a policy of code points, by code point. Outside of these stretches none breaks it.
+/// Puts the breaks of a policy by the code points of the stretches that break it. No code point is looked at again.
 ///
 /// - `Memory`: memory ran out.
-pub fn put_points<O: Records + FactView, N: Records + FactView>(
-    alloc: Global,
+pub fn put_points(
     policy: Policy,
-    old: &O,
-    new: &N,
-    stretches: &[Span],
+    stretches: &[BrokenStretch],
     into: &mut Breaks,
 ) -> Result<(), Memory>
-    requires old { O.record_of old.now ≡ record_at (O.facts_of old.now) }
-    requires new { N.record_of new.now ≡ record_at (N.facts_of new.now) }
-    requires stretches { IsSieve (breaks policy (O.facts_of old.now) (N.facts_of new.now)) 0 point_count stretches.now }
-    ensures { OnOk result (into.new ≡ into.old
-        ++ map (At policy) (filter (breaks policy (O.facts_of old.now) (N.facts_of new.now)) (range_with_len 0 point_count))) }
+    ensures { OnOk result (into.new ≡ into.old ++ map (At policy) (points_of policy stretches.now)) }
 {
-    let mut number = 0;
     'stretches: for stretch in stretches {
-        put_stretch(alloc, policy, old, new, *stretch, into)?;
-        number = stretch.last() + 1;
+        put_stretch_points(policy, *stretch, into)?;
     }
     Ok(())
 }
 
-/// Puts the breaks of a policy by a stretch of code points, if its first one breaks the policy.
+/// Puts the breaks of a policy by the code points of a stretch, if they break it.
 ///
 /// - `Memory`: memory ran out.
-fn put_stretch<O: Records + FactView, N: Records + FactView>(
-    alloc: Global,
+fn put_stretch_points(
     policy: Policy,
-    old: &O,
-    new: &N,
-    stretch: Span,
+    stretch: BrokenStretch,
     into: &mut Breaks,
 ) -> Result<(), Memory>
-    requires old { O.record_of old.now ≡ record_at (O.facts_of old.now) }
-    requires new { N.record_of new.now ≡ record_at (N.facts_of new.now) }
-    ensures { OnOk result (into.new ≡ into.old ++ map (At policy)
-        (cond (breaks policy (O.facts_of old.now) (N.facts_of new.now) stretch.lo) (range_with_len stretch.lo (stretch.hi + 1 - stretch.lo)) [])) }
+    ensures { OnOk result (into.new ≡ into.old ++ map (At policy) (points_in policy stretch)) }
 {
-    if is_broken(alloc, policy, old, new, stretch.lo)? {
-        put_all(policy, stretch.first(), stretch.last() + 1, into)?;
+    if stretch.policies.has(policy) {
+        put_all(policy, stretch.span.first(), stretch.span.last() + 1, into)?;
     }
     Ok(())
 }

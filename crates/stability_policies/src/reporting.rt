@@ -1,10 +1,11 @@
 //! The report of the breaks of all policies.
 
 ghost use Rattle.std.specs.Prelude.{◌≡◌, ◌++◌, IfOk, OnOk};
+ghost use Rattle.ucd_model.specs.Facts.{facts};
 ghost use Rattle.ucd_model.specs.declared.files.SourceFile.TheVariants.{PropertyAliases, PropertyValueAliases};
 ghost use Rattle.stability_policies.specs.Reports.{breaks_of, lost_in, report};
-ghost use Rattle.stability_policies.specs.Sieves.{AreStretches};
-ghost use Rattle.stability_policies.specs.Views.{Belongs, IsValid};
+ghost use Rattle.stability_policies.specs.BrokenStretches.{AreStretches};
+ghost use Rattle.stability_policies.specs.Views.{Belongs, IsValid, rows_of};
 
 use crate::alias_rows::put_lost;
 use crate::breaks::Breaks;
@@ -14,7 +15,7 @@ use crate::policy::Policy;
 use crate::sieving::{Stretches, broken_stretches};
 use release_rows::Release;
 use std::alloc::Global;
-use ucd_model::{FactView, Memory, Records, SourceFile};
+use ucd_model::{Memory, Records, SourceFile};
 use uniform_facts::UniformFacts;
 
 /// All breaks of the stability policies by a new release against an old one: by policy, then by code point; of P17 by
@@ -37,43 +38,30 @@ pub fn report<O: Records + UniformFacts, N: Records + UniformFacts>(
     let stretches = broken_stretches(alloc, old, new)?;
     let mut breaks = Breaks::new(alloc);
     'policies: for policy in Policy::all() {
-        put_breaks(
-            alloc,
-            *policy,
-            old,
-            old_rows,
-            new,
-            new_rows,
-            &stretches,
-            &mut breaks,
-        )?;
+        put_breaks(alloc, *policy, old_rows, new_rows, &stretches, &mut breaks)?;
     }
     Ok(breaks)
 }
 
-/// Puts the breaks of a policy. Outside of its stretches no code point breaks it.
+/// Puts the breaks of a policy.
 ///
 /// - `Memory`: memory ran out.
-fn put_breaks<O: Records + FactView, N: Records + FactView>(
+fn put_breaks(
     alloc: Global,
     policy: Policy,
-    old: &O,
-    old_rows: &Release,
-    new: &N,
-    new_rows: &Release,
+    old: &Release,
+    new: &Release,
     stretches: &Stretches,
     into: &mut Breaks,
 ) -> Result<(), Memory>
-    requires old { Belongs (O.facts_of old.now) (O.record_of old.now) old_rows.now }
-    requires new { Belongs (N.facts_of new.now) (N.record_of new.now) new_rows.now }
-    requires stretches { AreStretches (O.facts_of old.now) (N.facts_of new.now) stretches.now }
-    ensures { OnOk result (into.new ≡ into.old ++ breaks_of policy old_rows.now new_rows.now) }
+    requires { AreStretches (facts (rows_of old.now)) (facts (rows_of new.now)) stretches.now }
+    ensures { OnOk result (into.new ≡ into.old ++ breaks_of policy old.now new.now) }
 {
     match policy {
-        Policy::P02 => put_renamed(alloc, old_rows, new_rows, into),
-        Policy::P17 => put_lost_names(alloc, old_rows, new_rows, into),
-        Policy::P10 => put_points(alloc, policy, old, new, stretches.foldings.as_slice(), into),
-        _ => put_points(alloc, policy, old, new, stretches.others.as_slice(), into),
+        Policy::P02 => put_renamed(alloc, old, new, into),
+        Policy::P17 => put_lost_names(alloc, old, new, into),
+        Policy::P10 => put_points(policy, stretches.foldings.as_slice(), into),
+        _ => put_points(policy, stretches.others.as_slice(), into),
     }
 }
 

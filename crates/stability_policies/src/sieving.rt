@@ -1,42 +1,44 @@
-//! The stretches of code points that may break a policy.
+//! The stretches of code points that break a policy.
 
-ghost use Rattle.std.specs.Prelude.{◌≡◌, ◌≢◌, ◌≤◌, false, IfOk, OnOk};
+ghost use Rattle.std.specs.Prelude.{◌≡◌, ◌≢◌, ◌≤◌, ◌++◌, IfOk, OnOk};
 ghost use Rattle.std.specs.Bool.{Decides};
 ghost use Rattle.ucd_model.specs.Limits.{point_count};
 ghost use Rattle.ucd_model.specs.Records.{record_at};
-ghost use Rattle.stability_policies.specs.Policies.{breaks};
-ghost use Rattle.stability_policies.specs.Sieves.{AreOthers, AreStretches, IsAlikeTo, IsPut, IsSieve, KeepAllForms};
+ghost use Rattle.stability_policies.specs.BrokenStretches.{AreOthers, AreStretches, IsAlikeTo, KeepAllForms, breaking, broken_to, points_of};
 ghost use Rattle.stability_policies.specs.StableForms.{IsRooted, keeps_forms};
 ghost use Rattle.stability_policies.specs.declared.policy.Policy.{Policy as PolicyValue};
 ghost use Rattle.stability_policies.specs.declared.policy.Policy.TheVariants.{P10};
 
+use crate::broken_stretch::{BrokenStretch, BrokenStretches, put_stretch};
 use crate::caseless::changes_caseless;
-use crate::form_tests::{keeps_folding, keeps_forms};
-use crate::testing::is_other_broken;
+use crate::form_tests::keeps_forms;
+use crate::policy::Policy;
+use crate::policy_set::PolicySet;
+use crate::testing::other_policies;
 use std::alloc::Global;
-use ucd_model::{Kind, Memory, Point, Records, Span, Spans};
+use ucd_model::{Kind, Memory, Point, Records, Span};
 use uniform_facts::UniformFacts;
 
-/// The stretches of code points that may break a policy of code points.
+/// The stretches of code points that break a policy of code points.
 #[derive(Drop)]
 pub struct Stretches {
-    /// Those that may break P10.
-    pub foldings: Spans,
-    /// Those that may break another policy.
-    pub others: Spans,
+    /// Those that break P10.
+    pub foldings: BrokenStretches,
+    /// Those that break other policies.
+    pub others: BrokenStretches,
 }
 
-/// The stretches that may break a policy other than P10.
+/// The stretches of code points that break a policy other than P10.
 #[derive(Drop)]
 pub struct OtherStretches {
     /// The stretches.
-    pub spans: Spans,
+    pub stretches: BrokenStretches,
     /// Whether each code point keeps what forms rest on.
     pub keep_forms: bool,
 }
 
-/// The stretches of code points that may break a policy of code points. A policy looks once at a stretch that breaks none.
-/// P10 looks at no stretch, and no form is made, if each code point keeps what forms rest on: then none breaks P10.
+/// The stretches of code points that break a policy of code points. Each policy looks once at each stretch. P10 looks at no
+/// stretch, and no form is made, if each code point keeps what forms rest on: then none breaks P10.
 ///
 /// - `Memory`: memory ran out.
 pub fn broken_stretches<O: Records + UniformFacts, N: Records + UniformFacts>(
@@ -51,17 +53,17 @@ pub fn broken_stretches<O: Records + UniformFacts, N: Records + UniformFacts>(
 {
     let found = other_stretches(alloc, old, new)?;
     let foldings = if found.keep_forms {
-        Spans::new(alloc)
+        BrokenStretches::new(alloc)
     } else {
         folding_stretches(alloc, old, new)?
     };
     Ok(Stretches {
         foldings,
-        others: found.spans,
+        others: found.stretches,
     })
 }
 
-/// The stretches that may break a policy other than P10. No form is made.
+/// The stretches that break a policy other than P10. No form is made.
 ///
 /// - `Memory`: memory ran out.
 fn other_stretches<O: Records + UniformFacts, N: Records + UniformFacts>(
@@ -71,88 +73,90 @@ fn other_stretches<O: Records + UniformFacts, N: Records + UniformFacts>(
 ) -> Result<OtherStretches, Memory>
     requires old { O.record_of old.now ≡ record_at (O.facts_of old.now) }
     requires new { N.record_of new.now ≡ record_at (N.facts_of new.now) }
-    ensures others { IfOk result (λ found. AreOthers (O.facts_of old.now) (N.facts_of new.now) found.spans) }
+    ensures others { IfOk result (λ found. AreOthers (O.facts_of old.now) (N.facts_of new.now) point_count found.stretches) }
     ensures forms { IfOk result (λ found. Decides found.keep_forms (KeepAllForms (O.facts_of old.now) (N.facts_of new.now) point_count)) }
 {
-    let mut spans = Spans::new(alloc);
+    let mut stretches = BrokenStretches::new(alloc);
     let mut keep_forms = true;
     let mut number = 0;
-    'stretches: while number < Point::COUNT {
+    'points: while number < Point::COUNT {
         let c = Point::at(number);
         let last = last_alike(old, new, c);
-        keep_forms &= put_if_other_broken(alloc, old, new, c, last, &mut spans)?;
+        keep_forms &= put_others(alloc, old, new, c, last, &mut stretches)?;
         number = last.number() + 1;
     }
-    Ok(OtherStretches { spans, keep_forms })
+    Ok(OtherStretches {
+        stretches,
+        keep_forms,
+    })
 }
 
-/// Puts the stretch from a code point to `last`, if the code point may break a policy other than P10. The answer is whether
-/// it keeps what forms rest on: if it breaks none, its own folding alone is left to look at.
+/// Puts the stretch from a code point to `last` with the policies other than P10 that it breaks, if it breaks one. The answer
+/// is whether the code point keeps what forms rest on.
 ///
 /// - `Memory`: memory ran out.
-fn put_if_other_broken<O: Records + UniformFacts, N: Records + UniformFacts>(
+fn put_others<O: Records + UniformFacts, N: Records + UniformFacts>(
     alloc: Global,
     old: &O,
     new: &N,
     c: Point,
     last: Point,
-    spans: &mut Spans,
+    into: &mut BrokenStretches,
 ) -> Result<bool, Memory>
     requires old { O.record_of old.now ≡ record_at (O.facts_of old.now) }
     requires new { N.record_of new.now ≡ record_at (N.facts_of new.now) }
     requires ordered { c ≤ last }
     ensures put { OnOk result ((policy : PolicyValue) → policy ≢ P10
-        → IsPut (breaks policy (O.facts_of old.now) (N.facts_of new.now) c ≡ false) spans.old (record { lo = c; hi = last }) spans.new) }
+        → points_of policy into.new ≡ points_of policy into.old ++ broken_to policy (O.facts_of old.now) (N.facts_of new.now) c last) }
     ensures keeps { IfOk result (λ keeps. keeps ≡ keeps_forms (O.facts_of old.now) (N.facts_of new.now) c) }
 {
     let a = old.facts(c);
     let b = new.facts(c);
-    if is_other_broken(alloc, old, new, c, &a, &b)? {
-        spans.push(Span { lo: c, hi: last })?;
-        return Ok(keeps_forms(old, new, c, &a, &b));
-    }
-    Ok(keeps_folding(c, &a, &b))
+    let policies = other_policies(alloc, old, new, c, &a, &b)?;
+    let span = Span { lo: c, hi: last };
+    put_stretch(BrokenStretch { span, policies }, into)?;
+    Ok(keeps_forms(policies, c, &a, &b))
 }
 
-/// The stretches that may break P10.
+/// The stretches that break P10.
 ///
 /// - `Memory`: memory ran out.
 fn folding_stretches<O: UniformFacts, N: UniformFacts>(
     alloc: Global,
     old: &O,
     new: &N,
-) -> Result<Spans, Memory>
-    ensures { IfOk result (λ spans. IsSieve (breaks P10 (O.facts_of old.now) (N.facts_of new.now)) 0 point_count spans) }
+) -> Result<BrokenStretches, Memory>
+    ensures { IfOk result (λ stretches. points_of P10 stretches ≡ breaking P10 (O.facts_of old.now) (N.facts_of new.now) point_count) }
 {
-    let mut spans = Spans::new(alloc);
+    let mut stretches = BrokenStretches::new(alloc);
     let mut number = 0;
-    'stretches: while number < Point::COUNT {
+    'points: while number < Point::COUNT {
         let c = Point::at(number);
         let last = last_alike(old, new, c);
-        put_if_folding_broken(alloc, old, new, c, last, &mut spans)?;
+        put_folding(alloc, old, new, c, last, &mut stretches)?;
         number = last.number() + 1;
     }
-    Ok(spans)
+    Ok(stretches)
 }
 
-/// Puts the stretch from a code point to `last`, if the code point may break P10.
+/// Puts the stretch from a code point to `last`, if it breaks P10.
 ///
 /// - `Memory`: memory ran out.
-fn put_if_folding_broken<O: UniformFacts, N: UniformFacts>(
+fn put_folding<O: UniformFacts, N: UniformFacts>(
     alloc: Global,
     old: &O,
     new: &N,
     c: Point,
     last: Point,
-    spans: &mut Spans,
+    into: &mut BrokenStretches,
 ) -> Result<(), Memory>
     requires ordered { c ≤ last }
-    ensures { OnOk result (IsPut (breaks P10 (O.facts_of old.now) (N.facts_of new.now) c ≡ false) spans.old (record { lo = c; hi = last }) spans.new) }
+    ensures { OnOk result (points_of P10 into.new ≡ points_of P10 into.old ++ broken_to P10 (O.facts_of old.now) (N.facts_of new.now) c last) }
 {
-    if changes_caseless(alloc, old, new, c, &old.facts(c), &new.facts(c))? {
-        spans.push(Span { lo: c, hi: last })?;
-    }
-    Ok(())
+    let broken = changes_caseless(alloc, old, new, c, &old.facts(c), &new.facts(c))?;
+    let span = Span { lo: c, hi: last };
+    let policies = PolicySet::none().with(Policy::P10, broken);
+    put_stretch(BrokenStretch { span, policies }, into)
 }
 
 /// A code point up to which all from `c` on break the policies that `c` breaks, and keep what `c` keeps; `c` itself where

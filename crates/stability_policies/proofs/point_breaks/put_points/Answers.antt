@@ -1,17 +1,15 @@
-use Rattle.std.proofs.Common.{arith}
-use Rattle.ucd_model.specs.Limits.{point_count}
-use Rattle.stability_policies.specs.Policies.{breaks}
+use Rattle.std.proofs.Common.{◌++◌, map, ap, ◌∙◌, arith}
+use Rattle.std.proofs.lemmas.List.{take_all}
+use Rattle.stability_policies.specs.BrokenStretches.{points_of}
 use Rattle.stability_policies.specs.declared.breaks.Break.TheVariants.{At}
-use Rattle.stability_policies.proofs.SieveLemmas.{stretch_more, stretches_end}
+use Rattle.stability_policies.proofs.StretchLemmas.{points_more}
 use Rattle.stability_policies.proofs.point_breaks.put_points.Goals as goal
 
 pub stretches-preserved : goal.stretches-preserved
-stretches-preserved g c =
-    let more = stretch_more (breaks c.args.policy (g.O.FactView.facts_of c.args.old.now) (g.N.FactView.facts_of c.args.new.now)) (At c.args.policy) c.args.into.now c.stretches.into c.put_stretch.new.into
-    c.stretches.number point_count c.stretches.stretch-index c.last-number.result c.args.stretches.now c.stretch-item.result (omega (arith, c.stretches-test.true)) c.stretch-item.is
-    c.stretches.invariant.left c.stretches.invariant.so_far c.in_ok-put_stretch.ensures c.last-number.ensures.value in
-    record { so_far = more.0; left = more.1 }
+stretches-preserved c =
+    points_more c.args.policy (At c.args.policy) c.args.into.now c.stretches.into c.put_stretch_points.new.into c.args.stretches.now c.stretches.stretch-index c.stretch-item.result (omega (arith, c.stretches-test.true)) c.stretch-item.is
+    c.stretches.invariant c.in_ok-put_stretch_points.ensures
 
 pub returns : goal.returns
-returns g c = stretches_end (breaks c.args.policy (g.O.FactView.facts_of c.args.old.now) (g.N.FactView.facts_of c.args.new.now)) (At c.args.policy) c.args.into.now c.stretches.into
-    c.stretches.number point_count c.stretches.stretch-index c.args.stretches.now (omega (arith, c.stretches-test.false)) c.stretches.invariant.left c.stretches.invariant.so_far
+returns c =
+    c.stretches.invariant ∙ ap (λ list. c.args.into.now ++ map (At c.args.policy) (points_of c.args.policy list)) (take_all c.stretches.stretch-index c.args.stretches.now (omega (arith, c.stretches-test.false)))

@@ -1,9 +1,0 @@
-use Rattle.std.proofs.Common.{◌≡◌, ◌≢◌, ◌<◌, false}
-use Rattle.stability_policies.specs.Policies.{breaks, place_of_policy}
-use Rattle.stability_policies.specs.declared.policy.Policy.{Policy}
-use Rattle.stability_policies.specs.declared.policy.Policy.TheVariants.{P10}
-use Rattle.stability_policies.proofs.testing.is_other_broken.Given as goal
-
--- none of the policies so far is broken, but for P10
-abbrev pub invariant-policies : goal.invariant-policies
-invariant-policies g l = (policy : Policy) → place_of_policy policy < l.policy-index → policy ≢ P10 → breaks policy (g.O.FactView.facts_of l.old) (g.N.FactView.facts_of l.new) l.c ≡ false

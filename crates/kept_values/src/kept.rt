@@ -94,6 +94,11 @@ impl<T: Table<u64>, V: Drop> Store<V> for Kept<T, V> {
     fn discard(&mut self) {
         self.places.discard();
     }
+
+    fn shrink_to_fit(&mut self) {
+        self.places.shrink_to_fit();
+        self.more.shrink_to_fit();
+    }
 }
 
 impl<T: Stretches<u64>, V: Drop> Kept<T, V> {

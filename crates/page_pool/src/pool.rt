@@ -69,6 +69,15 @@ impl PagePool {
         Ok(())
     }
 
+    /// Gives back room that no page takes up, as far as a smaller block of memory can be had.
+    pub fn shrink_to_fit(&mut self)
+        ensures { self.new ≡ self.old }
+    {
+        self.words.shrink_to_fit();
+        self.live.shrink_to_fit();
+        self.free.shrink_to(self.live.len());
+    }
+
     /// Takes a page that is not live. It is live then, and all its words are 0. It takes no memory.
     pub fn take(&mut self) -> u32
         requires { 0 < spare self.old }

@@ -136,6 +136,11 @@ impl Table<u64> for PagedTable {
         );
         self.touched.clear();
     }
+
+    fn shrink_to_fit(&mut self) {
+        self.pool.shrink_to_fit();
+        self.touched.shrink_to_fit();
+    }
 }
 
 impl Stretches<u64> for PagedTable {

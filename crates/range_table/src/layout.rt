@@ -93,6 +93,13 @@ impl<V: Copy + Eq> Layout<V> {
         Ok(())
     }
 
+    /// Gives back room that no change takes up, as far as a smaller block of memory can be had.
+    pub fn shrink_to_fit(&mut self)
+        ensures { self.new ≡ self.old }
+    {
+        self.changes.shrink_to_fit();
+    }
+
     /// What is to be done to give the points of a span the value.
     fn edit(&self, span: Span, value: V) -> Edit<V>
         ensures ordered { result.from ≤ result.behind }

@@ -86,6 +86,13 @@ impl<V: Copy + Eq> Table<V> for RunTable<V> {
     fn discard(&mut self) {
         self.prepared = None;
     }
+
+    fn shrink_to_fit(&mut self) {
+        self.committed.shrink_to_fit();
+        if let Some(next) = &mut self.prepared {
+            next.shrink_to_fit();
+        }
+    }
 }
 
 impl<V: Copy + Eq> Stretches<V> for RunTable<V> {

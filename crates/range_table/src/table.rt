@@ -48,4 +48,9 @@ pub trait Table<V: Copy + Eq>: Sized + Drop {
     fn discard(&mut self)
         ensures now { SameValues (now self.new) (now self.old) }
         ensures discarded { SameValues (next self.new) (now self.old) };
+
+    /// Gives back room that no value takes up, as far as a smaller block of memory can be had. No value changes.
+    fn shrink_to_fit(&mut self)
+        ensures now { SameValues (now self.new) (now self.old) }
+        ensures next { SameValues (next self.new) (next self.old) };
 }

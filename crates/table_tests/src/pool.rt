@@ -33,12 +33,13 @@ fn pages_have_words_of_their_own(rt: HostRuntime) {
     assert!(rt; words == Some(([8, 0], [7, u64::MAX])));
 }
 
-/// A word of a page before and after the page is given and taken again.
+/// A word of a page after the pool has more room and after room is given back, and after the page is given and taken again.
 fn words_of_one(pool: &mut PagePool) -> Option<(u64, u64)> {
     pool.reserve(1).ok()?;
     let page = pool.take();
     pool.set(page, 3, 9);
     pool.reserve(5).ok()?;
+    pool.shrink_to_fit();
     let before = pool.get(page, 3);
     pool.give(page);
     let again = pool.take();

@@ -169,7 +169,7 @@ fn agree<S: Store<Name>>(rt: &impl Abort, store: &S, plain: &Plain) {
     }
 }
 
-/// One step, drawn by lot: a span is prepared, or what is next is committed or discarded.
+/// One step, drawn by lot: a span is prepared, what is next is committed or discarded, or room is given back.
 /// Where memory is refused, next stays.
 fn step<S: Store<Name>>(store: &mut S, plain: &mut Plain, state: u64) -> u64 {
     let (kind, state) = drawn(state, 8);
@@ -182,6 +182,10 @@ fn step<S: Store<Name>>(store: &mut S, plain: &mut Plain, state: u64) -> u64 {
         1 => {
             store.discard();
             plain.discard();
+            state
+        }
+        2 => {
+            store.shrink_to_fit();
             state
         }
         _ => prepare(store, plain, state),

@@ -26,7 +26,7 @@ fn agree<T: Table<u64>>(rt: &impl Abort, table: &T, plain: &Plain) {
     }
 }
 
-/// One step, drawn by lot: a span is prepared, or what is next is committed or discarded.
+/// One step, drawn by lot: a span is prepared, what is next is committed or discarded, or room is given back.
 fn step<T: Table<u64>>(table: &mut T, plain: &mut Plain, state: u64) -> u64 {
     let (kind, state) = drawn(state, 8);
     match kind {
@@ -38,6 +38,10 @@ fn step<T: Table<u64>>(table: &mut T, plain: &mut Plain, state: u64) -> u64 {
         1 => {
             table.discard();
             plain.discard();
+            state
+        }
+        2 => {
+            table.shrink_to_fit();
             state
         }
         _ => prepare(table, plain, state),

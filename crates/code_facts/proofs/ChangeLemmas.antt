@@ -4,8 +4,7 @@ use mathlib.Core.Path.{fun_ext}
 use Rattle.std.specs.Bool.{Decides, beq}
 use Rattle.std.specs.Cmp.{booleans_Decides}
 use Rattle.std.specs.List.{list_any, range_with_len}
-use Rattle.std.specs.Ordering.{nat_cmp}
-use Rattle.std.specs.BTreeSet.{contains}
+use Rattle.key_set.specs.Keys.{has}
 use Rattle.std.proofs.lemmas.Bool.{true≢false, both_ways, cases_lt, or_left, or_right, or_cases, and_from, and_parts, eq-eqb, eqb-true}
 use Rattle.std.proofs.lemmas.Bool.Decides.{nat_tests}
 use Rattle.std.proofs.lemmas.List.Folds.{list_any-append, list_any_more}
@@ -307,12 +306,12 @@ small_of y is = grind (arith, nat_tests)
 
 -- the points of all keys of a first member are those that are listed under it
 pub listed_own : (index : PairIndex) (words words' : ℕ → ℕ) (rests rests' : ℕ → RestOf) (pairs : List (ℕ × ℕ)) (s : ℕ)
-    → ((k : ℕ) → first_key s ≤ k → k < first_key s + 4398046511104 → contains nat_cmp index.pairs k ≡ true → ReachesOwn (all_kept words rests) (all_kept words' rests') pairs (k % 2097152))
+    → ((k : ℕ) → first_key s ≤ k → k < first_key s + 4398046511104 → has index.pairs k ≡ true → ReachesOwn (all_kept words rests) (all_kept words' rests') pairs (k % 2097152))
     → (y q : ℕ) → is_listed index s y q ≡ true → ReachesOwn (all_kept words rests) (all_kept words' rests') pairs q
 listed_own index words words' rests rests' pairs s keys y q is =
     let parts = and_parts (nat_lt y 2097152) _ is in
     let small : y < 2097152 = small_of y parts.0 in
-    let there : contains nat_cmp index.pairs (pair_key s y + q) ≡ true = (and_parts (contains nat_cmp index.pairs (pair_key s y + q)) _ parts.1).0 in
+    let there : has index.pairs (pair_key s y + q) ≡ true = (and_parts (has index.pairs (pair_key s y + q)) _ parts.1).0 in
     elim (cases_lt q 1114112) [
       | inl inside ↦ subst (ReachesOwn (all_kept words rests) (all_kept words' rests') pairs) (key_point s y q (omega (arith, inside)))
           (keys (pair_key s y + q) (keys_from s y q) (keys_below s y q small (omega (arith, inside))) there)

@@ -1,20 +1,21 @@
 -- Composites that are found among those that are listed.
-use Rattle.std.proofs.Common.{◌≡◌, ℕ, ◌+◌, ◌<◌, ◌≤◌, Bool, true, false, cond, not, ◌==◌, ◌&&◌, ◌||◌, List, [], ◌∷◌, length, take, get_or, nat_lt, Option, Some, None, refl, sym, ap, ap₂, subst, ◌∙◌, arith, inl, inr}
-use Rattle.std.specs.Ordering.{nat_cmp}
-use Rattle.std.specs.BTreeSet.{contains}
-use Rattle.std.proofs.lemmas.Bool.{cases_lt, true≢false}
+use Rattle.std.proofs.Common.{◌≡◌, ℕ, ◌+◌, ◌<◌, ◌≤◌, Bool, true, false, cond, not, ◌==◌, ◌&&◌, ◌||◌, List, [], ◌∷◌, length, take, get_or, nat_lt, Option, Some, None, MatchOption, refl, sym, ap, ap₂, subst, ◌∙◌, arith, inl, inr}
+use Rattle.key_set.specs.Keys.{has, is_in, IsNext}
+use Rattle.key_set.specs.declared.key_set.KeySet.{KeySet}
+use Rattle.std.proofs.lemmas.Bool.{cases_lt, eqb-true, true≢false}
 use Rattle.std.proofs.lemmas.Bool.Decides.{nat_tests}
 use Rattle.ucd_model.specs.Limits.{point_count}
 use Rattle.ucd_model.specs.Facts.{Facts}
 use Rattle.ucd_model.specs.Composites.{is_canonical, first_has_class_zero, primary, is_pair, is_second, composes, ends_with, pair_of, second_of}
 use Rattle.ucd_model.specs.CompositeProofs.{pair_of_first, pair_of_none, second_of_some, second_of_none}
-use Rattle.code_facts.specs.Index.{Lists, is_listed, pair_key, second_key, NoneBelow, is_that, ends_that, two_of, may_compose, picked}
+use Rattle.code_facts.specs.Index.{Lists, is_gathered, is_listed, pair_key, second_key, NoneBelow, is_that, ends_that, two_of, may_compose, picked}
 use Rattle.std.specs.List.{list_any}
 use Rattle.std.proofs.lemmas.List.Folds.{list_any_more}
 use Rattle.ucd_model.specs.Bounds.{Bounds}
 use Rattle.ucd_model.specs.Facts.{within}
 use Rattle.code_facts.specs.Copying.{IsListed}
 use Rattle.code_facts.specs.declared.pair_index.PairIndex.{PairIndex}
+use Rattle.code_facts.specs.declared.pair_keys.PairKeys.{PairKeys}
 use Rattle.code_facts.specs.declared.row_tables.RowTables.{RowTables}
 
 -- ---- a primary composite is listed
@@ -46,19 +47,38 @@ low_of q span is = grind (arith, nat_tests)
 pub high_of : (q : ℕ) (span : Bounds) → within q span ≡ true → q ≤ span.hi
 high_of q span is = grind (arith, nat_tests)
 
--- one more span is listed
-listed_by : (t : RowTables) (old new : PairIndex) (q : ℕ) (was one : Bool) → (was || one) ≡ true
-    → ((s y r : ℕ) → is_listed old s y r ≡ true → is_listed new s y r ≡ true) → (was ≡ true → IsListed old t q) → (one ≡ true → IsListed new t q) → IsListed new t q
-listed_by t old new q true one either grows before here = λ s y kind is. grows s y q (before refl s y kind is)
-listed_by t old new q false one either grows before here = here either
+-- one more span is gathered
+gathered_by : (t : RowTables) (old new : PairKeys) (q : ℕ) (was one : Bool) → (was || one) ≡ true
+    → ((s y r : ℕ) → is_gathered old s y r ≡ true → is_gathered new s y r ≡ true) → (was ≡ true → IsListed (is_gathered old) t q) → (one ≡ true → IsListed (is_gathered new) t q)
+    → IsListed (is_gathered new) t q
+gathered_by t old new q true one either grows before here = λ s y kind is. grows s y q (before refl s y kind is)
+gathered_by t old new q false one either grows before here = here either
 
-pub listed_more : (spans : List Bounds) (i : ℕ) (d : Bounds) (q : ℕ) (t : RowTables) (old new : PairIndex) → i < length spans → list_any (within q) (take (i + 1) spans) ≡ true
-    → ((s y r : ℕ) → is_listed old s y r ≡ true → is_listed new s y r ≡ true)
-    → (list_any (within q) (take i spans) ≡ true → IsListed old t q)
-    → ((get_or spans i d).lo ≤ q → q ≤ (get_or spans i d).hi → IsListed new t q) → IsListed new t q
-listed_more spans i d q t old new lt is grows before here =
-    listed_by t old new q (list_any (within q) (take i spans)) (within q (get_or spans i d)) (sym (list_any_more (within q) spans i d lt) ∙ is) grows before
+pub gathered_more : (spans : List Bounds) (i : ℕ) (d : Bounds) (q : ℕ) (t : RowTables) (old new : PairKeys) → i < length spans → list_any (within q) (take (i + 1) spans) ≡ true
+    → ((s y r : ℕ) → is_gathered old s y r ≡ true → is_gathered new s y r ≡ true)
+    → (list_any (within q) (take i spans) ≡ true → IsListed (is_gathered old) t q)
+    → ((get_or spans i d).lo ≤ q → q ≤ (get_or spans i d).hi → IsListed (is_gathered new) t q) → IsListed (is_gathered new) t q
+gathered_more spans i d q t old new lt is grows before here =
+    gathered_by t old new q (list_any (within q) (take i spans)) (within q (get_or spans i d)) (sym (list_any_more (within q) spans i d lt) ∙ is) grows before
     (λ inside. here (low_of q (get_or spans i d) inside) (high_of q (get_or spans i d) inside))
+
+-- ---- keys of a list
+
+either_of : (was one have : Bool) → (was || one) ≡ true → (was ≡ true → have ≡ true) → (one ≡ true → have ≡ true) → have ≡ true
+either_of true one have e before here = before refl
+either_of false one have e before here = here e
+
+-- one more key is put in
+pub key_more : (keys : List ℕ) (i d : ℕ) (old new : KeySet) (k : ℕ) → i < length keys → is_in (take (i + 1) keys) k ≡ true → (has old k ≡ true → has new k ≡ true)
+    → (is_in (take i keys) k ≡ true → has old k ≡ true) → has new (get_or keys i d) ≡ true → has new k ≡ true
+key_more keys i d old new k lt is grows before here =
+    either_of (is_in (take i keys) k) (k == get_or keys i d) (has new k) (sym (list_any_more (λ y. k == y) keys i d lt) ∙ is) (λ was. grows (before was))
+    (λ one. subst (λ (n : ℕ). has new n ≡ true) (sym (eqb-true k (get_or keys i d) one)) here)
+
+-- the next key, and none before it
+pub next_of : (p : ℕ → Bool) (start : ℕ) (found : Option ℕ) → IsNext p start found → MatchOption found ((k : ℕ) → start ≤ k → p k ≡ false) (λ key. (start ≤ key) × ((k : ℕ) → start ≤ k → k < key → p k ≡ false))
+next_of p start None next = next
+next_of p start (Some key) next = (next.0, next.2)
 
 -- ---- a composite is listed where its mapping is
 
@@ -71,28 +91,28 @@ pair_kind F s y q is = primary_kind F q (and_first (primary F q) (is_pair s y (F
 pub second_kind : (F : ℕ → Facts) (y q : ℕ) → ends_with F y q ≡ true → is_canonical (F q).kind ≡ true
 second_kind F y q is = primary_kind F q (and_first (primary F q) (is_second y (F q).mapping) is)
 
-pub pair_listed : (F : ℕ → Facts) (index : PairIndex) (s y q : ℕ) → Lists index F → composes F s y q ≡ true → contains nat_cmp index.pairs (pair_key s y + q) ≡ true
+pub pair_listed : (F : ℕ → Facts) (index : PairIndex) (s y q : ℕ) → Lists index F → composes F s y q ≡ true → has index.pairs (pair_key s y + q) ≡ true
 pair_listed F index s y q lists is =
     let members = pair_members s y (F q).mapping (and_second (primary F q) (is_pair s y (F q).mapping) is) in
-    and_first (contains nat_cmp index.pairs (pair_key s y + q)) _ (and_second (nat_lt y 2097152) _ (lists s y q (primary_kind F q (and_first (primary F q) (is_pair s y (F q).mapping) is)) members))
+    and_first (has index.pairs (pair_key s y + q)) _ (and_second (nat_lt y 2097152) _ (lists s y q (primary_kind F q (and_first (primary F q) (is_pair s y (F q).mapping) is)) members))
 
-second_members : (F : ℕ → Facts) (index : PairIndex) (y q : ℕ) (m : List ℕ) → m ≡ (F q).mapping → is_second y m ≡ true → is_canonical (F q).kind ≡ true → Lists index F → contains nat_cmp index.seconds (second_key y + q) ≡ true
+second_members : (F : ℕ → Facts) (index : PairIndex) (y q : ℕ) (m : List ℕ) → m ≡ (F q).mapping → is_second y m ≡ true → is_canonical (F q).kind ≡ true → Lists index F → has index.seconds (second_key y + q) ≡ true
 second_members F index y q [] e is kind lists = absurd cc
 second_members F index y q (a ∷ []) e is kind lists = absurd cc
 second_members F index y q (a ∷ b ∷ []) e is kind lists =
     let same : b ≡ y = grind (arith, nat_tests) in
-    subst (λ (n : ℕ). contains nat_cmp index.seconds (second_key n + q) ≡ true) same (and_second (contains nat_cmp index.pairs (pair_key a b + q)) _ (and_second (nat_lt b 2097152) _ (lists a b q kind (sym e))))
+    subst (λ (n : ℕ). has index.seconds (second_key n + q) ≡ true) same (and_second (has index.pairs (pair_key a b + q)) _ (and_second (nat_lt b 2097152) _ (lists a b q kind (sym e))))
 second_members F index y q (a ∷ b ∷ d ∷ m) e is kind lists = absurd cc
 
-pub second_listed : (F : ℕ → Facts) (index : PairIndex) (y q : ℕ) → Lists index F → ends_with F y q ≡ true → contains nat_cmp index.seconds (second_key y + q) ≡ true
+pub second_listed : (F : ℕ → Facts) (index : PairIndex) (y q : ℕ) → Lists index F → ends_with F y q ≡ true → has index.seconds (second_key y + q) ≡ true
 second_listed F index y q lists is =
     second_members F index y q (F q).mapping refl (and_second (primary F q) (is_second y (F q).mapping) is) (primary_kind F q (and_first (primary F q) (is_second y (F q).mapping) is)) lists
 
 -- what is not listed is no composite
-pub pair_unlisted : (F : ℕ → Facts) (index : PairIndex) (s y q : ℕ) → Lists index F → contains nat_cmp index.pairs (pair_key s y + q) ≡ false → composes F s y q ≡ false
+pub pair_unlisted : (F : ℕ → Facts) (index : PairIndex) (s y q : ℕ) → Lists index F → has index.pairs (pair_key s y + q) ≡ false → composes F s y q ≡ false
 pair_unlisted F index s y q lists absent = false_by (composes F s y q) (λ is. true≢false (sym (pair_listed F index s y q lists is) ∙ absent))
 
-pub second_unlisted : (F : ℕ → Facts) (index : PairIndex) (y q : ℕ) → Lists index F → contains nat_cmp index.seconds (second_key y + q) ≡ false → ends_with F y q ≡ false
+pub second_unlisted : (F : ℕ → Facts) (index : PairIndex) (y q : ℕ) → Lists index F → has index.seconds (second_key y + q) ≡ false → ends_with F y q ≡ false
 second_unlisted F index y q lists absent = false_by (ends_with F y q) (λ is. true≢false (sym (second_listed F index y q lists is) ∙ absent))
 
 -- ---- the least one
@@ -126,7 +146,7 @@ second_found F y q lt is = sym (second_of_some F y q (below_count q lt) is)
 pub second_none : (F : ℕ → Facts) (y : ℕ) → NoneBelow (ends_with F y) 1114112 → false ≡ second_of F y
 second_none F y none = sym (second_of_none F y (none_count (ends_with F y) none))
 
-pub second_absent : (F : ℕ → Facts) (index : PairIndex) (y : ℕ) → Lists index F → ((k : ℕ) → k < 1114112 → contains nat_cmp index.seconds (second_key y + k) ≡ false) → second_of F y ≡ false
+pub second_absent : (F : ℕ → Facts) (index : PairIndex) (y : ℕ) → Lists index F → ((k : ℕ) → k < 1114112 → has index.seconds (second_key y + k) ≡ false) → second_of F y ≡ false
 second_absent F index y lists absent = sym (second_none F y (λ k lt. second_unlisted F index y k lists (absent k lt)))
 
 -- ---- the members of a composite

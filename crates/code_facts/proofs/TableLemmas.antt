@@ -17,7 +17,7 @@ use Rattle.code_facts.specs.declared.version.Version.TheVariants.{Now, Next}
 use Rattle.code_facts.proofs.IndexLemmas.{pair_kind, second_kind}
 use Rattle.code_facts.specs.Changes.{StaysOutside}
 use Rattle.code_facts.specs.Copying.{with_spans, IsListed}
-use Rattle.code_facts.specs.Index.{Lists, is_listed}
+use Rattle.code_facts.specs.Index.{Lists, is_gathered, is_listed}
 use Rattle.code_facts.specs.KeptFacts.{kept_at, all_kept, Packs}
 use Rattle.code_facts.specs.Rest.{RestOf, no_rest}
 use Rattle.code_facts.specs.Locality.{rows_within}
@@ -25,6 +25,7 @@ use Rattle.code_facts.specs.LocalityProofs.{facts_are_local}
 use Rattle.code_facts.specs.RowTables.{word_in, rest_in, made_facts, ShowsRows}
 use Rattle.code_facts.specs.Word.{packed}
 use Rattle.code_facts.specs.declared.pair_index.PairIndex.{PairIndex}
+use Rattle.code_facts.specs.declared.pair_keys.PairKeys.{PairKeys}
 use Rattle.code_facts.specs.declared.row_tables.RowTables.{RowTables}
 use Rattle.code_facts.proofs.FactLemmas.{kept_point, kept_outside, same_kept, below_point, point_below, facts_from_points}
 
@@ -88,7 +89,7 @@ none_outside F c e kind = true≢false (sym kind ∙ ap (λ (G : Facts). is_cano
 pub sound_put : (index more : PairIndex) (t : RowTables) (spans : List Bounds) (words words' : ℕ → ℕ) (rests rests' : ℕ → RestOf)
     → SameValues words' (with_spans words spans (word_in t)) → SameValues rests' (with_spans rests spans (rest_in t))
     → ((s y q : ℕ) → is_listed index s y q ≡ true → is_listed more s y q ≡ true)
-    → ((q : ℕ) → list_any (within q) spans ≡ true → IsListed more t q) → Packs (word_in t) (made_facts t) → Sound index words rests → Sound more words' rests'
+    → ((q : ℕ) → list_any (within q) spans ≡ true → IsListed (is_listed more) t q) → Packs (word_in t) (made_facts t) → Sound index words rests → Sound more words' rests'
 sound_put index more t spans words words' rests rests' word rest grows made packs sound =
     let F' : ℕ → Facts = all_kept words' rests' in
     let F : ℕ → Facts = all_kept words rests in
@@ -118,16 +119,41 @@ put_facts t rows spans words rests old point shows meet outside =
     (λ inside. (shows c lt).facts ∙ sym (facts_inside (rows_within (meets spans) rows) c (point_below c lt)) ∙ sym (facts_are_local (meets spans) rows c (λ row speaks. meet spans c row inside speaks)))
     (outside c lt))
 
--- without rows
-pub sound_none : (index : PairIndex) (words : ℕ → ℕ) (rests : ℕ → RestOf) → ((c : ℕ) → c < 1114112 → words c ≡ 232) → ((c : ℕ) → c < 1114112 → rests c ≡ no_rest) → Sound index words rests
-sound_none index words rests word rest =
-    let point : (c : ℕ) → c < 1114112 → all_kept words rests c ≡ kept_at c 232 no_rest = λ c lt. kept_point words rests c lt ∙ ap₂ (kept_at c) (word c lt) (rest c lt) in
+-- spans that cover all code points
+with_all : {V : Type 0} (spans all : List Bounds) (f g : ℕ → V) (c : ℕ) → spans ≡ all → list_any (within c) all ≡ true → with_spans f spans g c ≡ g c
+with_all spans all f g c e is = rw (ap (λ (ss : List Bounds). list_any (within c) ss) e ∙ is) refl
+
+-- tables that keep what tables of rows do
+made_point : (t : RowTables) (words : ℕ → ℕ) (rests : ℕ → RestOf) → SameValues words (word_in t) → SameValues rests (rest_in t) → (c : ℕ) → c < 1114112 → all_kept words rests c ≡ made_facts t c
+made_point t words rests word rest c lt = kept_point words rests c lt ∙ ap₂ (kept_at c) (word c lt) (rest c lt)
+
+sound_made : (index : PairIndex) (t : RowTables) (words : ℕ → ℕ) (rests : ℕ → RestOf) → SameValues words (word_in t) → SameValues rests (rest_in t)
+    → ((q : ℕ) → q < 1114112 → IsListed (is_listed index) t q) → Packs (word_in t) (made_facts t) → Sound index words rests
+sound_made index t words rests word rest made packs = record {
+  listed = λ s y q kind is. elim (cases_lt q point_count) [
+    | inl lt ↦ let e = made_point t words rests word rest q (below_point q lt) in
+        made q (below_point q lt) s y (ap (λ (H : Facts). is_canonical H.kind) (sym e) ∙ kind) (ap (λ (H : Facts). H.mapping) (sym e) ∙ is)
+    | inr le ↦ absurd (none_outside (all_kept words rests q) q (kept_outside words rests q le) kind)
+  ];
+  packs = λ c lt. word c lt ∙ packs c lt ∙ sym (ap packed (made_point t words rests word rest c lt));
+}
+
+-- such tables, made of what was copied on spans that cover all code points
+pub record Filled (index : PairIndex) (t : RowTables) (words : ℕ → ℕ) (rests : ℕ → RestOf) : Type 0 where
+  pub sound : Sound index words rests
+  pub point : (c : ℕ) → c < 1114112 → all_kept words rests c ≡ made_facts t c
+
+pub filled : (index : PairIndex) (keys : PairKeys) (t : RowTables) (copied spans : List Bounds) (words words' old : ℕ → ℕ) (rests rests' before : ℕ → RestOf) → copied ≡ spans
+    → ((c : ℕ) → c < 1114112 → list_any (within c) spans ≡ true) → SameValues words words' → SameValues words' (with_spans old copied (word_in t))
+    → SameValues rests rests' → SameValues rests' (with_spans before copied (rest_in t)) → ((s y q : ℕ) → is_listed index s y q ≡ is_gathered keys s y q)
+    → ((q : ℕ) → list_any (within q) copied ≡ true → IsListed (is_gathered keys) t q) → Packs (word_in t) (made_facts t) → Filled index t words rests
+filled index keys t copied spans words words' old rests rests' before same all committed word kept rest lists gathered packs =
+    let word_is : SameValues words (word_in t) = λ c lt. committed c lt ∙ word c lt ∙ with_all copied spans old (word_in t) c same (all c lt) in
+    let rest_is : SameValues rests (rest_in t) = λ c lt. kept c lt ∙ rest c lt ∙ with_all copied spans before (rest_in t) c same (all c lt) in
     record {
-      listed = λ s y q kind is. elim (cases_lt q point_count) [
-        | inl lt ↦ absurd (true≢false (sym kind ∙ ap (λ (G : Facts). is_canonical G.kind) (point q (below_point q lt))))
-        | inr le ↦ absurd (none_outside (all_kept words rests q) q (kept_outside words rests q le) kind)
-      ];
-      packs = λ c lt. word c lt ∙ sym (ap packed (point c lt));
+      sound = sound_made index t words rests word_is rest_is
+          (λ q lt s y kind is. lists s y q ∙ gathered q (ap (λ (ss : List Bounds). list_any (within q) ss) same ∙ all q lt) s y kind is) packs;
+      point = made_point t words rests word_is rest_is;
     }
 
 -- a composite is a code point
@@ -151,10 +177,6 @@ listed_at Next t = t.next_listed
 pub sound_at : {T : Type 0} {d : Ghosts T ℕ} (version : Version) (t : FactTables T d) → Sound t.index (words_at version t) (rests_at version t)
 sound_at Now t = record { listed = t.now_listed; packs = t.now_packs }
 sound_at Next t = record { listed = t.next_listed; packs = t.next_packs }
-
--- spans that cover all code points
-pub with_all : {V : Type 0} (spans all : List Bounds) (f g : ℕ → V) (c : ℕ) → spans ≡ all → list_any (within c) all ≡ true → with_spans f spans g c ≡ g c
-with_all spans all f g c e is = rw (ap (λ (ss : List Bounds). list_any (within c) ss) e ∙ is) refl
 
 pub on_ok_map : {A E : Type 0} (r : Result A E) (X Y : Type 0) → (X → Y) → OnOk r X → OnOk r Y
 on_ok_map (Ok a) X Y f h = f h

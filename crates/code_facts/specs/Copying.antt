@@ -2,17 +2,15 @@
 --
 -- with_values f lo hi g c   g from lo to hi, both of them in it, and f elsewhere
 -- with_spans f spans g c    g where some span covers c, and f elsewhere
--- IsListed index t q        where the tables t keep a canonical mapping of two members for q, the index lists it
+-- IsListed listed t q       where the tables t keep a canonical mapping of two members for q, it is listed under them
 -- SamePairs t a q           the tables t keep the same word and the same mapping for q as for a
-use Rattle.std.specs.Prelude.{◌≡◌, ℕ, true, ◌&&◌, List, [], ◌∷◌, nat_le, if◌then◌else◌}
+use Rattle.std.specs.Prelude.{◌≡◌, ℕ, Bool, true, ◌&&◌, List, [], ◌∷◌, nat_le, if◌then◌else◌}
 use Rattle.std.specs.List.{list_any}
 use Rattle.ucd_model.specs.Bounds.{Bounds}
 use Rattle.ucd_model.specs.Composites.{is_canonical}
 use Rattle.ucd_model.specs.Facts.{within}
-use Rattle.code_facts.specs.Index.{is_listed}
 use Rattle.code_facts.specs.RowTables.{word_in, rest_in}
 use Rattle.code_facts.specs.Word.{kind_of_word}
-use Rattle.code_facts.specs.declared.pair_index.PairIndex.{PairIndex}
 use Rattle.code_facts.specs.declared.row_tables.RowTables.{RowTables}
 
 abbrev pub with_values : {V : Type 0} → (ℕ → V) → ℕ → ℕ → (ℕ → V) → ℕ → V
@@ -21,8 +19,8 @@ with_values f lo hi g c = if nat_le lo c && nat_le c hi then g c else f c
 abbrev pub with_spans : {V : Type 0} → (ℕ → V) → List Bounds → (ℕ → V) → ℕ → V
 with_spans f spans g c = if list_any (within c) spans then g c else f c
 
-abbrev pub IsListed : PairIndex → RowTables → ℕ → Type 0
-IsListed index t q = (s y : ℕ) → is_canonical (kind_of_word (word_in t q)) ≡ true → (rest_in t q).mapping ≡ s ∷ y ∷ [] → is_listed index s y q ≡ true
+abbrev pub IsListed : (ℕ → ℕ → ℕ → Bool) → RowTables → ℕ → Type 0
+IsListed listed t q = (s y : ℕ) → is_canonical (kind_of_word (word_in t q)) ≡ true → (rest_in t q).mapping ≡ s ∷ y ∷ [] → listed s y q ≡ true
 
 pub record SamePairs (t : RowTables) (a q : ℕ) : Type 0 where
   pub word : word_in t q ≡ word_in t a

@@ -3,6 +3,7 @@
 -- pair_key s y           where the keys of the pair s, y begin: bits 42 to 62 are s, bits 21 to 41 are y
 -- second_key y           where the keys of the second member y begin: bits 21 to 41 are y
 -- first_key s            where the keys of all pairs begin that have s as the first member
+-- is_gathered keys s y q   q is among the keys of the pair s, y, and of the second member y, and y has no more than 21 bits
 -- is_listed index s y q  q is listed under the pair s, y, and under the second member y, and y has no more than 21 bits
 -- Lists index F          each code point whose mapping is canonical and has two members is listed; others may be too
 -- is_that s y pair       the pair, where there is one, is s and y; ends_that y pair: its second member is y
@@ -14,12 +15,12 @@
 -- picked F q two         the two, where there are two and q may compose them
 -- NoneFrom p m n         no number from m up to n passes p (n does not count); NoneBelow p n: none below n does
 use Rattle.std.specs.Prelude.{◌≡◌, ℕ, ◌+◌, ◌*◌, ◌<◌, ◌≤◌, Bool, true, false, ◌&&◌, not, List, [], ◌∷◌, Option, Some, None, ◌==◌, nat_lt, if◌then◌else◌}
-use Rattle.std.specs.Ordering.{nat_cmp}
-use Rattle.std.specs.BTreeSet.{contains}
+use Rattle.key_set.specs.Keys.{has, is_in}
 use Rattle.ucd_model.specs.Facts.{Facts}
 use Rattle.ucd_model.specs.Composites.{is_canonical}
 use Rattle.code_facts.specs.Word.{class_of_word, excluded_of_word, kind_of_word}
 use Rattle.code_facts.specs.declared.pair_index.PairIndex.{PairIndex}
+use Rattle.code_facts.specs.declared.pair_keys.PairKeys.{PairKeys}
 
 abbrev pub pair_key : ℕ → ℕ → ℕ
 pair_key s y = (s * 2097152 + y) * 2097152
@@ -30,8 +31,11 @@ second_key y = y * 2097152
 abbrev pub first_key : ℕ → ℕ
 first_key s = s * 4398046511104
 
+abbrev pub is_gathered : PairKeys → ℕ → ℕ → ℕ → Bool
+is_gathered keys s y q = nat_lt y 2097152 && (is_in keys.pairs.items (pair_key s y + q) && is_in keys.seconds.items (second_key y + q))
+
 abbrev pub is_listed : PairIndex → ℕ → ℕ → ℕ → Bool
-is_listed index s y q = nat_lt y 2097152 && (contains nat_cmp index.pairs (pair_key s y + q) && contains nat_cmp index.seconds (second_key y + q))
+is_listed index s y q = nat_lt y 2097152 && (has index.pairs (pair_key s y + q) && has index.seconds (second_key y + q))
 
 abbrev pub Lists : PairIndex → (ℕ → Facts) → Type 0
 Lists index F = (s y q : ℕ) → is_canonical (F q).kind ≡ true → (F q).mapping ≡ s ∷ y ∷ [] → is_listed index s y q ≡ true

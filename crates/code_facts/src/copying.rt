@@ -6,11 +6,12 @@ ghost use Rattle.range_table.specs.RunTable.{values_now};
 ghost use Rattle.ucd_model.specs.Facts.{within};
 ghost use Rattle.range_table.specs.Values.{SameValues};
 ghost use Rattle.code_facts.specs.Copying.{with_spans, with_values, IsListed, SamePairs};
-ghost use Rattle.code_facts.specs.Index.{is_listed};
+ghost use Rattle.code_facts.specs.Index.{is_gathered, is_listed};
 ghost use Rattle.code_facts.specs.Rest.{no_rest};
 ghost use Rattle.code_facts.specs.RowTables.{AreBare, word_in, rest_in};
 
 use crate::pair_index::PairIndex;
+use crate::pair_keys::PairKeys;
 use crate::points::{lesser, point};
 use crate::rest::Rest;
 use crate::row_tables::RowTables;
@@ -19,7 +20,7 @@ use range_table::{RunTable, Table};
 use std::alloc::Global;
 use ucd_model::{Memory, Span};
 
-/// Makes what is next in spans that of the tables of rows.
+/// Makes what is next in spans that of the tables of rows, and lists their code points.
 ///
 /// - `Memory`: memory ran out. Nothing is told of what is next then; what was listed stays.
 pub fn put_spans<T: Table<u64>, S: Store<Rest>>(
@@ -35,10 +36,33 @@ pub fn put_spans<T: Table<u64>, S: Store<Rest>>(
     ensures grows { (s y q : ℕ) → is_listed index.old s y q ≡ true → is_listed index.new s y q ≡ true }
     ensures words { OnOk result (SameValues (T.next words.new) (with_spans (T.next words.old) spans.now (word_in from.now))) }
     ensures rests { OnOk result (SameValues (S.next rests.new) (with_spans (S.next rests.old) spans.now (rest_in from.now))) }
-    ensures listed { OnOk result ((q : ℕ) → list_any (within q) spans.now ≡ true → IsListed index.new from.now q) }
+    ensures listed { OnOk result ((q : ℕ) → list_any (within q) spans.now ≡ true → IsListed (is_listed index.new) from.now q) }
+{
+    let mut keys = PairKeys::new(alloc);
+    copy_spans(alloc, words, rests, &mut keys, from, spans)?;
+    index.add(&keys)
+}
+
+/// Makes what is next in spans that of the tables of rows, and gathers the keys of their canonical mappings of two members.
+///
+/// - `Memory`: memory ran out. Nothing is told of what is next then.
+pub fn copy_spans<T: Table<u64>, S: Store<Rest>>(
+    alloc: Global,
+    words: &mut T,
+    rests: &mut S,
+    keys: &mut PairKeys,
+    from: &RowTables,
+    spans: &[Span],
+) -> Result<(), Memory>
+    ensures words_now { SameValues (T.now words.new) (T.now words.old) }
+    ensures rests_now { SameValues (S.now rests.new) (S.now rests.old) }
+    ensures grows { (s y q : ℕ) → is_gathered keys.old s y q ≡ true → is_gathered keys.new s y q ≡ true }
+    ensures words { OnOk result (SameValues (T.next words.new) (with_spans (T.next words.old) spans.now (word_in from.now))) }
+    ensures rests { OnOk result (SameValues (S.next rests.new) (with_spans (S.next rests.old) spans.now (rest_in from.now))) }
+    ensures listed { OnOk result ((q : ℕ) → list_any (within q) spans.now ≡ true → IsListed (is_gathered keys.new) from.now q) }
 {
     'spans: for span in spans {
-        list_pairs(index, from, *span)?;
+        gather_pairs(keys, from, *span)?;
         put_words(words, &from.words, *span)?;
         put_rests(alloc, rests, from, *span)?;
     }
@@ -140,12 +164,12 @@ fn put_rest<S: Store<Rest>>(
     }
 }
 
-/// Lists the code points of a span that have a canonical mapping of two members.
+/// Gathers the keys of the code points of a span that have a canonical mapping of two members.
 ///
-/// - `Memory`: memory ran out. What was listed stays.
-pub fn list_pairs(index: &mut PairIndex, from: &RowTables, span: Span) -> Result<(), Memory>
-    ensures grows { (s y q : ℕ) → is_listed index.old s y q ≡ true → is_listed index.new s y q ≡ true }
-    ensures listed { OnOk result ((q : ℕ) → span.lo ≤ q → q ≤ span.hi → IsListed index.new from.now q) }
+/// - `Memory`: memory ran out.
+pub fn gather_pairs(keys: &mut PairKeys, from: &RowTables, span: Span) -> Result<(), Memory>
+    ensures grows { (s y q : ℕ) → is_gathered keys.old s y q ≡ true → is_gathered keys.new s y q ≡ true }
+    ensures listed { OnOk result ((q : ℕ) → span.lo ≤ q → q ≤ span.hi → IsListed (is_gathered keys.new) from.now q) }
 {
     let end = span.last();
     let mut at = span.first();
@@ -157,20 +181,20 @@ pub fn list_pairs(index: &mut PairIndex, from: &RowTables, span: Span) -> Result
             lo: first,
             hi: last,
         };
-        list_part(index, from, part)?;
+        gather_part(keys, from, part)?;
         at = last.number() + 1;
     }
     Ok(())
 }
 
-/// Lists the points of a span, where they have the same canonical mapping of two members.
-fn list_part(index: &mut PairIndex, from: &RowTables, part: Span) -> Result<(), Memory>
+/// Gathers the keys of the points of a span, where they have the same canonical mapping of two members.
+fn gather_part(keys: &mut PairKeys, from: &RowTables, part: Span) -> Result<(), Memory>
     requires { (q : ℕ) → part.lo ≤ q → q ≤ part.hi → SamePairs from.now part.lo q }
-    ensures grows { (s y q : ℕ) → is_listed index.old s y q ≡ true → is_listed index.new s y q ≡ true }
-    ensures listed { OnOk result ((q : ℕ) → part.lo ≤ q → q ≤ part.hi → IsListed index.new from.now q) }
+    ensures grows { (s y q : ℕ) → is_gathered keys.old s y q ≡ true → is_gathered keys.new s y q ≡ true }
+    ensures listed { OnOk result ((q : ℕ) → part.lo ≤ q → q ≤ part.hi → IsListed (is_gathered keys.new) from.now q) }
 {
     match from.members(part.lo) {
-        Some((s, y)) => index.list_span(s, y, part),
+        Some((s, y)) => keys.put_span(s, y, part),
         None => Ok(()),
     }
 }

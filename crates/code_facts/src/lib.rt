@@ -23,6 +23,7 @@ mod marks;
 mod next_view;
 mod painting;
 mod pair_index;
+mod pair_keys;
 mod place;
 mod plain;
 mod point_lists;

@@ -1,72 +1,68 @@
 //! The index of the code points whose mapping has two members.
-//!
-//! | bits of a key | what they say |
-//! |---|---|
-//! | 0 to 20 | the code point that has the mapping |
-//! | 21 to 41 | the second member |
-//! | 42 to 62 | the first member, in the keys of pairs |
 
 ghost use Rattle.std.specs.Prelude.{◌≡◌, ℕ, ◌+◌, ◌%◌, ◌<◌, ◌≤◌, true, false, OnOk, MatchOption};
-ghost use Rattle.std.specs.Ordering.{nat_cmp};
-ghost use Rattle.std.specs.BTreeSet.{contains};
-ghost use Rattle.code_facts.specs.Index.{pair_key, first_key, second_key, is_listed, NoneFrom};
+ghost use Rattle.key_set.specs.Keys.{has, is_in};
+ghost use Rattle.code_facts.specs.Index.{pair_key, first_key, second_key, is_listed, is_gathered, NoneFrom};
 
+use crate::pair_keys::{PairKeys, pair_key, second_key};
 use crate::points::point;
+use key_set::KeySet;
 use std::alloc::Global;
-use std::collections::BTreeSet;
-use ucd_model::{Memory, Point, Span};
+use ucd_model::{Memory, Point};
 
 /// Code points under the two members of their mappings, and under the second ones. Whether one of them is a primary
 /// composite is not told: that may change without the index.
 #[derive(Drop)]
 pub struct PairIndex {
     /// The keys of the pairs.
-    pub pairs: BTreeSet<u64>,
+    pub pairs: KeySet,
     /// The keys of the second members.
-    pub seconds: BTreeSet<u64>,
+    pub seconds: KeySet,
 }
 
 impl PairIndex {
-    /// The index of no code points. It takes no memory.
-    pub fn new(alloc: Global) -> PairIndex {
+    /// The index of the code points of these keys. It takes no memory.
+    pub fn of(alloc: Global, keys: PairKeys) -> PairIndex
+        ensures { (a b r : ℕ) → is_listed result a b r ≡ is_gathered keys a b r }
+    {
+        let PairKeys { pairs, seconds } = keys;
         PairIndex {
-            pairs: BTreeSet::new(alloc),
-            seconds: BTreeSet::new(alloc),
+            pairs: KeySet::of(alloc, pairs),
+            seconds: KeySet::of(alloc, seconds),
         }
     }
 
-    /// Lists a code point under the members of its mapping.
+    /// Lists the code points of these keys too.
     ///
-    /// - `Memory`: memory ran out.
-    pub fn list(&mut self, s: Point, y: Point, q: Point) -> Result<(), Memory>
+    /// - `Memory`: memory ran out. Some of them may be listed.
+    pub fn add(&mut self, keys: &PairKeys) -> Result<(), Memory>
         ensures grows { (a b r : ℕ) → is_listed self.old a b r ≡ true → is_listed self.new a b r ≡ true }
-        ensures listed { OnOk result (is_listed self.new s y q ≡ true) }
+        ensures listed { OnOk result ((a b r : ℕ) → is_gathered keys.now a b r ≡ true → is_listed self.new a b r ≡ true) }
     {
-        let own = u64::from(q.number());
-        insert(&mut self.pairs, pair_key(s, y) + own)?;
-        insert(&mut self.seconds, second_key(y) + own)
+        insert_all(&mut self.pairs, &keys.pairs)?;
+        insert_all(&mut self.seconds, &keys.seconds)
     }
 
     /// The least code point at or above `from` that is listed under a pair; `None` where there is none.
     pub fn next_of_pair(&self, s: Point, y: Point, from: u32) -> Option<Point>
-        ensures { MatchOption result (NoneFrom (λ k. contains nat_cmp self.now.pairs (pair_key s y + k)) from 1114112)
-            (λ q. (from ≤ q) × NoneFrom (λ k. contains nat_cmp self.now.pairs (pair_key s y + k)) from q) }
+        ensures { MatchOption result (NoneFrom (λ k. has self.now.pairs (pair_key s y + k)) from 1114112)
+            (λ q. (from ≤ q) × NoneFrom (λ k. has self.now.pairs (pair_key s y + k)) from q) }
     {
         next_listed(&self.pairs, pair_key(s, y), from)
     }
 
     /// The same of a second member.
     pub fn next_of_second(&self, y: Point, from: u32) -> Option<Point>
-        ensures { MatchOption result (NoneFrom (λ k. contains nat_cmp self.now.seconds (second_key y + k)) from 1114112)
-            (λ q. (from ≤ q) × NoneFrom (λ k. contains nat_cmp self.now.seconds (second_key y + k)) from q) }
+        ensures { MatchOption result (NoneFrom (λ k. has self.now.seconds (second_key y + k)) from 1114112)
+            (λ q. (from ≤ q) × NoneFrom (λ k. has self.now.seconds (second_key y + k)) from q) }
     {
         next_listed(&self.seconds, second_key(y), from)
     }
 
     /// The least key at or above `from` of a pair that has `s` as its first member; `None` where there is none.
     pub fn next_of_first(&self, s: Point, from: u64) -> Option<u64>
-        ensures { MatchOption result (NoneFrom (λ k. contains nat_cmp self.now.pairs k) from (first_key s + 4398046511104))
-            (λ key. (from ≤ key) × (key < first_key s + 4398046511104) × NoneFrom (λ k. contains nat_cmp self.now.pairs k) from key) }
+        ensures { MatchOption result (NoneFrom (λ k. has self.now.pairs k) from (first_key s + 4398046511104))
+            (λ key. (from ≤ key) × (key < first_key s + 4398046511104) × NoneFrom (λ k. has self.now.pairs k) from key) }
     {
         let key = next_key(&self.pairs, from)?;
         if key < first_key(s) + 4_398_046_511_104 {
@@ -75,36 +71,26 @@ impl PairIndex {
             None
         }
     }
-
-    /// Lists the code points of a span under the members of the mapping that they have in common.
-    ///
-    /// - `Memory`: memory ran out.
-    pub fn list_span(&mut self, s: Point, y: Point, span: Span) -> Result<(), Memory>
-        ensures grows { (a b r : ℕ) → is_listed self.old a b r ≡ true → is_listed self.new a b r ≡ true }
-        ensures listed { OnOk result ((q : ℕ) → span.lo ≤ q → q ≤ span.hi → is_listed self.new s y q ≡ true) }
-    {
-        'points: for number in span.first()..span.last() + 1 {
-            self.list(s, y, point(number))?;
-        }
-        Ok(())
-    }
 }
 
-/// Puts a key in. On failure the keys stay.
-fn insert(keys: &mut BTreeSet<u64>, key: u64) -> Result<(), Memory>
-    ensures grows { (k : ℕ) → contains nat_cmp keys.old k ≡ true → contains nat_cmp keys.new k ≡ true }
-    ensures added { OnOk result (contains nat_cmp keys.new key ≡ true) }
+/// Puts keys in. On failure some of them may be in.
+fn insert_all(into: &mut KeySet, keys: &[u64]) -> Result<(), Memory>
+    ensures grows { (k : ℕ) → has into.old k ≡ true → has into.new k ≡ true }
+    ensures all { OnOk result ((k : ℕ) → is_in keys.now k ≡ true → has into.new k ≡ true) }
 {
-    keys.insert(key)?;
+    'keys: for key in keys {
+        insert(into, *key)?;
+    }
     Ok(())
 }
 
-/// Where the keys of a pair begin.
-fn pair_key(s: Point, y: Point) -> u64
-    ensures value { result ≡ pair_key s y }
-    ensures below { result < 9223372036850000000 }
+/// Puts a key in. On failure the keys stay.
+fn insert(keys: &mut KeySet, key: u64) -> Result<(), Memory>
+    ensures grows { (k : ℕ) → has keys.old k ≡ true → has keys.new k ≡ true }
+    ensures added { OnOk result (has keys.new key ≡ true) }
 {
-    (u64::from(s.number()) * 2_097_152 + u64::from(y.number())) * 2_097_152
+    keys.insert(key)?;
+    Ok(())
 }
 
 /// Where the keys of all pairs begin that have a code point as their first member.
@@ -122,19 +108,11 @@ pub fn listed_point(key: u64) -> Option<Point>
     Point::new((key % 2_097_152) as u32)
 }
 
-/// Where the keys of a second member begin.
-fn second_key(y: Point) -> u64
-    ensures value { result ≡ second_key y }
-    ensures below { result < 9223372036850000000 }
-{
-    u64::from(y.number()) * 2_097_152
-}
-
 /// The least code point at or above `from` that is listed under the keys from `base` on.
-fn next_listed(keys: &BTreeSet<u64>, base: u64, from: u32) -> Option<Point>
+fn next_listed(keys: &KeySet, base: u64, from: u32) -> Option<Point>
     requires { base < 9223372036850000000 }
-    ensures { MatchOption result (NoneFrom (λ k. contains nat_cmp keys.now (base + k)) from 1114112)
-        (λ q. (from ≤ q) × NoneFrom (λ k. contains nat_cmp keys.now (base + k)) from q) }
+    ensures { MatchOption result (NoneFrom (λ k. has keys.now (base + k)) from 1114112)
+        (λ q. (from ≤ q) × NoneFrom (λ k. has keys.now (base + k)) from q) }
 {
     let start = base + u64::from(from);
     let key = next_key(keys, start)?;
@@ -147,17 +125,17 @@ fn next_listed(keys: &BTreeSet<u64>, base: u64, from: u32) -> Option<Point>
 }
 
 /// The least key at or above `start`.
-fn next_key(keys: &BTreeSet<u64>, start: u64) -> Option<u64>
-    ensures { MatchOption result ((k : ℕ) → start ≤ k → contains nat_cmp keys.now k ≡ false)
-        (λ key. (start ≤ key) × ((k : ℕ) → start ≤ k → k < key → contains nat_cmp keys.now k ≡ false)) }
+fn next_key(keys: &KeySet, start: u64) -> Option<u64>
+    ensures { MatchOption result ((k : ℕ) → start ≤ k → has keys.now k ≡ false)
+        (λ key. (start ≤ key) × ((k : ℕ) → start ≤ k → k < key → has keys.now k ≡ false)) }
 {
-    keys.range(start..).next().copied()
+    keys.next(start)
 }
 
 /// The least second member at or above a code point; `None` where there is none.
-pub fn next_second(keys: &BTreeSet<u64>, c: Point) -> Option<u64>
-    ensures { MatchOption result ((y k : ℕ) → c ≤ y → k < 1114112 → contains nat_cmp keys.now (second_key y + k) ≡ false)
-        (λ next. (c ≤ next) × ((y k : ℕ) → c ≤ y → y < next → k < 1114112 → contains nat_cmp keys.now (second_key y + k) ≡ false)) }
+pub fn next_second(keys: &KeySet, c: Point) -> Option<u64>
+    ensures { MatchOption result ((y k : ℕ) → c ≤ y → k < 1114112 → has keys.now (second_key y + k) ≡ false)
+        (λ next. (c ≤ next) × ((y k : ℕ) → c ≤ y → y < next → k < 1114112 → has keys.now (second_key y + k) ≡ false)) }
 {
     let key = next_key(keys, second_key(c))?;
     Some(key / 2_097_152)

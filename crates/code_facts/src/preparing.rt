@@ -12,9 +12,10 @@ ghost use Rattle.code_facts.specs.RowTables.{ShowsRows, word_in, made_facts};
 ghost use Rattle.code_facts.specs.Rows.{release_sources, next_sources};
 ghost use Rattle.code_facts.specs.Word.{packed};
 
-use crate::copying::put_spans;
+use crate::copying::{copy_spans, put_spans};
 use crate::fact_tables::FactTables;
 use crate::pair_index::PairIndex;
+use crate::pair_keys::PairKeys;
 use crate::points::point;
 use crate::rest::Rest;
 use crate::row_lists::RowLists;
@@ -48,32 +49,26 @@ impl<T: Table<u64>> FactTables<T> {
         ensures now { IfOk result (λ tables. (c : ℕ) → c < 1114112 → tables_facts T.now tables c ≡ made_facts made.now c) }
         ensures next { IfOk result (λ tables. (c : ℕ) → c < 1114112 → tables_next T.now tables c ≡ made_facts made.now c) }
     {
-        let mut tables = FactTables::empty(alloc)?;
-        tables.fill(alloc, made)?;
-        tables.commit();
-        Ok(tables)
-    }
-
-    /// The facts of no rows.
-    fn empty(alloc: Global) -> Result<FactTables<T>, Memory>
-        ensures { IfOk result (λ tables. tables_next T.now tables ≡ tables_facts T.now tables) }
-    {
+        let spans = everywhere(alloc)?;
+        let mut words = T::filled(alloc, NO_ROW)?;
+        let mut rests = Kept::filled(alloc, Rest::none())?;
+        let mut keys = PairKeys::new(alloc);
+        copy_spans(
+            alloc,
+            &mut words,
+            &mut rests,
+            &mut keys,
+            made,
+            spans.as_slice(),
+        )?;
+        words.commit();
+        rests.commit();
         Ok(FactTables {
-            words: T::filled(alloc, NO_ROW)?,
-            rests: Kept::filled(alloc, Rest::none())?,
-            index: PairIndex::new(alloc),
+            words,
+            rests,
+            index: PairIndex::of(alloc, keys),
             touched: Spans::new(alloc),
         })
-    }
-
-    /// Makes the facts next those of all code points in tables of rows.
-    fn fill(&mut self, alloc: Global, made: &RowTables) -> Result<(), Memory>
-        requires ready { tables_next T.now self.old ≡ tables_facts T.now self.old }
-        requires words { Packs (word_in made.now) (made_facts made.now) }
-        ensures { OnOk result ((c : ℕ) → c < 1114112 → tables_next T.now self.new c ≡ made_facts made.now c) }
-    {
-        let spans = everywhere(alloc)?;
-        self.put(alloc, made, spans.as_slice())
     }
 
     /// Makes what is next the facts of the rows of a release next. Outside of the touched spans those are the facts now.

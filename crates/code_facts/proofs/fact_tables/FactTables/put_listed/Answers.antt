@@ -1,6 +1,5 @@
 use Rattle.std.proofs.Common.{◌≡◌, ℕ, ◌%◌, subst, arith, inl, inr}
-use Rattle.std.specs.Ordering.{nat_cmp}
-use Rattle.std.specs.BTreeSet.{contains}
+use Rattle.key_set.specs.Keys.{has}
 use Rattle.std.proofs.lemmas.Bool.{cases_lt, both_ways}
 use Rattle.code_facts.specs.Changes.{ReachesOwn}
 use Rattle.code_facts.specs.FactTables.{facts_at, words_at, rests_at}
@@ -28,7 +27,7 @@ listed-preserved g c =
       own = λ k low high is. elim (cases_lt k c.listed.from) [
         | inl before ↦ reaches_grows (facts_at Now t) (facts_at Next t) c.listed.pairs.items c.put_key.new.pairs.items (k % 2097152) step.grows (c.listed.invariant.own k low before is)
         | inr from ↦ elim (cases_lt k key) [
-          | inl below ↦ absurd (both_ways (contains nat_cmp t.index.pairs k) (c.in-Some.ensures.2 k from below) is)
+          | inl below ↦ absurd (both_ways (has t.index.pairs k) (c.in-Some.ensures.2 k from below) is)
           | inr past ↦ let same : key ≡ k = omega arith in subst (λ (n : ℕ). ReachesOwn (facts_at Now t) (facts_at Next t) c.put_key.new.pairs.items (n % 2097152)) same step.own
         ]
       ];
@@ -40,5 +39,5 @@ returns-clause-listed g c =
     listed_own t.index (words_at Now t) (words_at Next t) (rests_at Now t) (rests_at Next t) c.listed.pairs.items c.args.s
     (λ k low high is. elim (cases_lt k c.listed.from) [
       | inl before ↦ c.listed.invariant.own k low before is
-      | inr from ↦ absurd (both_ways (contains nat_cmp t.index.pairs k) (c.in_default.ensures k from high) is)
+      | inr from ↦ absurd (both_ways (has t.index.pairs k) (c.in_default.ensures k from high) is)
     ])

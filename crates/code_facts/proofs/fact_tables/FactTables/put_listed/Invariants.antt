@@ -1,6 +1,5 @@
 use Rattle.std.proofs.Common.{◌≡◌, ℕ, ◌+◌, ◌-◌, ◌%◌, ◌≤◌, ◌<◌, true}
-use Rattle.std.specs.Ordering.{nat_cmp}
-use Rattle.std.specs.BTreeSet.{contains}
+use Rattle.key_set.specs.Keys.{has}
 use Rattle.code_facts.specs.Changes.{Grows, ReachesOwn}
 use Rattle.code_facts.specs.FactTables.{facts_at}
 use Rattle.code_facts.specs.Index.{first_key}
@@ -13,7 +12,7 @@ invariant-listed g l = record {
   from : first_key l.s ≤ l.from;
   within : l.from ≤ first_key l.s + 4398046511104;
   grows : Grows l.initial.pairs.items l.pairs.items;
-  own : (k : ℕ) → first_key l.s ≤ k → k < l.from → contains nat_cmp l.self.index.pairs k ≡ true → ReachesOwn (facts_at Now l.self) (facts_at Next l.self) l.pairs.items (k % 2097152);
+  own : (k : ℕ) → first_key l.s ≤ k → k < l.from → has l.self.index.pairs k ≡ true → ReachesOwn (facts_at Now l.self) (facts_at Next l.self) l.pairs.items (k % 2097152);
 }
 
 abbrev pub decreases-listed : goal.decreases-listed

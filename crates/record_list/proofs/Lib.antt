@@ -1,6 +1,1 @@
-mod RunSteps
-mod PoolSteps
-mod MergeSteps
-mod FoundRun
-mod CopySteps
-mod TableSteps
+mod RecordSteps

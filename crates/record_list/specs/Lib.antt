@@ -1,3 +1,1 @@
-pub mod Runs
-pub mod Pool
-pub mod Merge
+pub mod Records

@@ -1,89 +1,127 @@
 //! The records of all code points, now and next.
 
-ghost use Rattle.std.specs.Prelude.{◌≡◌, ◌≢◌, ◌+◌, ◌<◌, ◌≤◌, ℕ, length, OnErr, OnOk};
-ghost use Rattle.std.specs.List.Sorted.{IsStrictlyIncreasing};
-ghost use Rattle.ucd_model.specs.Limits.{point_count};
-ghost use Rattle.record_list.specs.Runs.{AllBelow, count_of, record_now, record_of, written};
+ghost use Rattle.std.specs.Prelude.{◌≡◌, ◌≢◌, ℕ, ◌+◌, ◌<◌, ◌≤◌, Some, length, IfOk, IfSome, OnErr, OnOk};
+ghost use Rattle.kept_values.specs.Kept.{held};
+ghost use Rattle.range_table.specs.Values.{SameValues, with_span};
+ghost use Rattle.ucd_model.specs.Records.{kept_record};
+ghost use Rattle.record_list.specs.Records.{record_next, record_now, written};
 
-use crate::list::RecordList;
+use kept_values::{Kept, Store};
+use paged_table::PagedTable;
 use std::alloc::Global;
-use std::marker::Model;
-use ucd_model::{Memory, Point, Record, Records};
+use ucd_model::{Memory, Point, Record, Records, Span};
 
-/// The records of all code points, twice: those now, and those next. `prepare` changes what is next, `commit` makes it
-/// what is now, and `discard` drops it. Contracts see the stretches of equal records.
+/// The records of all code points, twice: those now, and those next. `prepare` and `prepare_span` change what is next,
+/// `commit` makes it what is now, and `discard` drops it.
+///
+/// A record is held once for neighbours that have it, if they got it one after another. Records are not let go before the
+/// table is.
 #[derive(Drop)]
 pub struct RecordTable {
-    list: RecordList,
+    records: HeldRecords,
 }
 
-impl Model for RecordTable {
-    ghost use Rattle.record_list.specs.Runs.{IsWhole, Layers};
-
-    ghost Value = { Layers };
-
-    ghost view = { λ t. t.list };
-
-    ghost invariant = { λ t. IsWhole t.list };
-}
+type HeldRecords = Kept<PagedTable, Record>;
 
 impl RecordTable {
-    /// The records of a list that has those of all code points, and where nothing is prepared.
-    pub fn of_list(list: RecordList) -> RecordTable
-        requires all { count_of list.current ≡ point_count }
-        requires still { list.prepared ≡ list.current }
-        ensures { result ≡ list }
+    /// The table in which all code points have a record, now and next.
+    ///
+    /// - `Memory`: memory ran out.
+    pub fn filled(alloc: Global, value: Record) -> Result<RecordTable, Memory>
+        ensures now { IfOk result (λ table. SameValues (record_now table) (λ _. kept_record value)) }
+        ensures next { IfOk result (λ table. SameValues (record_next table) (λ _. kept_record value)) }
     {
-        RecordTable { list }
+        Ok(RecordTable {
+            records: HeldRecords::filled(alloc, value)?,
+        })
     }
 
-    /// The last code point of the stretch of equal records that a code point lies in now. It takes time by the logarithm
-    /// of the number of stretches.
+    /// The last code point of the stretch of equal records that a code point lies in now. It takes time by the stretches
+    /// of the table of places that it passes: each ends where a record is held at another place, or at the end of a block
+    /// of 256 code points.
     pub fn last_alike(&self, c: Point) -> Point
         ensures from { c ≤ result }
-        ensures inside { result < point_count }
-        ensures same { (d : ℕ) → c ≤ d → d ≤ result → record_of self.now.current d ≡ record_of self.now.current c }
-        ensures ends { result + 1 < point_count → record_of self.now.current (result + 1) ≢ record_of self.now.current c }
+        ensures inside { result < 1114112 }
+        ensures same { (d : ℕ) → c ≤ d → d ≤ result → record_now self.now d ≡ record_now self.now c }
+        ensures ends { result + 1 < 1114112 → record_now self.now (result + 1) ≢ record_now self.now c }
     {
-        let end = self.list.run_at(c.number()).end;
-        Point::at(end - 1)
+        let first = self.records.get(c);
+        let mut last = self.records.last_of_stretch(c);
+        'stretches: while last.number() + 1 < Point::COUNT {
+            let next = Point::at(last.number() + 1);
+            if !self.records.get(next).is_same(first) {
+                break;
+            }
+            last = self.records.last_of_stretch(next);
+        }
+        last
     }
 
-    /// Gives ascending code points these records next, in order, and all others those that they have now. What was
-    /// prepared before is dropped. It copies the stretches, and takes steps by the number of code points, each by the
-    /// logarithm of the number of stretches.
+    /// Gives the code points of a span a record next. What is now stays.
     ///
-    /// - `Memory`: memory ran out. What is next stays.
-    pub fn prepare(
-        &mut self,
-        alloc: Global,
-        points: &[Point],
-        records: Vec<Record>,
-    ) -> Result<(), Memory>
-        requires rising { IsStrictlyIncreasing points.now }
-        requires below { AllBelow point_count points.now }
-        requires even { length records.items ≡ length points.now }
-        ensures now { self.new.current ≡ self.old.current }
-        ensures ok { OnOk result ((c : ℕ) → c < point_count → record_of self.new.prepared c ≡ written points.now records.items (record_of self.old.current) c) }
-        ensures err { OnErr result (self.new.prepared ≡ self.old.prepared) }
+    /// - `Memory`: memory ran out. What is next stays too.
+    pub fn prepare_span(&mut self, span: Span, value: Record) -> Result<(), Memory>
+        ensures now { SameValues (record_now self.new) (record_now self.old) }
+        ensures ok { OnOk result (SameValues (record_next self.new) (with_span (record_next self.old) span.lo span.hi (kept_record value))) }
+        ensures err { OnErr result (SameValues (record_next self.new) (record_next self.old)) }
     {
-        self.list.prepare(alloc, points, records)
+        match place_before(&self.records, span, &value) {
+            Some(place) => self.records.prepare_held(span, place)?,
+            None => self.records.prepare(span, value)?,
+        }
+        Ok(())
+    }
+
+    /// Gives code points these records next, in order, and all others those that they have now. What was prepared before
+    /// is dropped. It takes steps by the number of code points.
+    ///
+    /// - `Memory`: memory ran out. What is now becomes next.
+    pub fn prepare(&mut self, points: &[Point], records: Vec<Record>) -> Result<(), Memory>
+        requires { length records.items ≡ length points.now }
+        ensures now { SameValues (record_now self.new) (record_now self.old) }
+        ensures ok { OnOk result (SameValues (record_next self.new) (written points.now records.items (record_now self.old))) }
+        ensures err { OnErr result (SameValues (record_next self.new) (record_now self.old)) }
+    {
+        match self.prepare_all(points, records) {
+            Ok(()) => Ok(()),
+            Err(stop) => {
+                self.discard();
+                Err(stop)
+            }
+        }
+    }
+
+    /// The same.
+    ///
+    /// - `Memory`: memory ran out. Some of the records may be prepared.
+    fn prepare_all(&mut self, points: &[Point], records: Vec<Record>) -> Result<(), Memory>
+        requires { length records.items ≡ length points.now }
+        ensures now { SameValues (record_now self.new) (record_now self.old) }
+        ensures ok { OnOk result (SameValues (record_next self.new) (written points.now records.items (record_now self.old))) }
+    {
+        self.discard();
+        let mut at = 0;
+        'records: for record in records {
+            self.prepare_span(Span::one(points[at]), record)?;
+            at += 1;
+        }
+        Ok(())
     }
 
     /// What is next becomes now, and stays next. It takes no memory.
     pub fn commit(&mut self)
-        ensures committed { self.new.current ≡ self.old.prepared }
-        ensures next { self.new.prepared ≡ self.old.prepared }
+        ensures committed { SameValues (record_now self.new) (record_next self.old) }
+        ensures next { SameValues (record_next self.new) (record_next self.old) }
     {
-        self.list.commit();
+        self.records.commit();
     }
 
     /// What is now becomes next. It takes no memory.
     pub fn discard(&mut self)
-        ensures now { self.new.current ≡ self.old.current }
-        ensures discarded { self.new.prepared ≡ self.old.current }
+        ensures now { SameValues (record_now self.new) (record_now self.old) }
+        ensures discarded { SameValues (record_next self.new) (record_now self.old) }
     {
-        self.list.discard();
+        self.records.discard();
     }
 }
 
@@ -91,6 +129,21 @@ impl Records for RecordTable {
     ghost record_of = { record_now };
 
     fn record(&self, c: Point) -> &Record {
-        self.list.run_at(c.number()).value
+        self.records.get(c)
+    }
+}
+
+/// The place of a record, if the code point in front of a span has it next.
+fn place_before(records: &HeldRecords, span: Span, value: &Record) -> Option<u64>
+    ensures { IfSome result (λ place. held records.now place ≡ Some value.now) }
+{
+    if span.first() == 0 {
+        return None;
+    }
+    let before = Point::at(span.first() - 1);
+    if records.get_next(before).is_same(value) {
+        Some(records.place_next(before))
+    } else {
+        None
     }
 }

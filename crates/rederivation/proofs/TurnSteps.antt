@@ -7,7 +7,7 @@ use Rattle.std.proofs.lemmas.Bool.Decides.{nat_tests}
 use Rattle.std.proofs.lemmas.List.{get_or-append-add, length-append}
 use Rattle.std.proofs.lemmas.List.Folds.{Any-from_list_any, list_any-append}
 use Rattle.std.proofs.lemmas.List.Kept.{AllPairs-from_increasing, IsStrictlyIncreasing-filter}
-use Rattle.range_table.specs.Values.{point_count-is}
+use Rattle.range_table.specs.Values.{point_count-is, with_span}
 use Rattle.ucd_model.specs.Facts.{Facts}
 use Rattle.ucd_model.specs.Limits.{point_count}
 use Rattle.ucd_model.specs.Records.{Record, derived, kept_record, record_at, record_or_rule}
@@ -18,7 +18,7 @@ use Rattle.ucd_model.specs.ValidityLaws.{HasRecord, IsValid}
 use Rattle.ucd_model.specs.declared.form.Bad.{Bad as Rule}
 use Rattle.ucd_model.specs.declared.query.Query.{Query}
 use Rattle.ucd_model.specs.declared.records.Record.{Record as KeptRecord}
-use Rattle.record_list.specs.Runs.{AllBelow, RecordsOf, record_of, written}
+use Rattle.record_list.specs.Records.{written}
 use Rattle.asked_queries.specs.Answers.{is_asked}
 use Rattle.asked_queries.specs.AnswerProofs.{same_bool}
 use Rattle.asked_queries.specs.Questions.{asked}
@@ -66,27 +66,6 @@ outside c n x y le = by (nat_lt c n) refl
 
 -- ---- lists
 
-AllBelow-range : (high a n : ℕ) → a + n ≤ high → AllBelow high (range_with_len a n)
-AllBelow-range high a zero le = tt
-AllBelow-range high a (suc n) le = (omega (arith, le), AllBelow-range high (a + 1) n (omega (arith, le)))
-
-AllBelow-filter : (p : ℕ → Bool) (high : ℕ) (xs : List ℕ) → AllBelow high xs → AllBelow high (filter p xs)
-AllBelow-filter p high [] all = tt
-AllBelow-filter p high (x ∷ xs) all = by (p x) (AllBelow-filter p high xs all.1)
-  where
-    by : (b : Bool) → AllBelow high (filter p xs) → AllBelow high (cond b (x ∷ filter p xs) (filter p xs))
-    by true rest = (all.0, rest)
-    by false rest = rest
-
-range-rises : (a n : ℕ) → IsStrictlyIncreasing (range_with_len a n)
-range-rises a zero k lt = absurd (omega (arith, lt))
-range-rises a (suc zero) k lt = absurd (omega (arith, lt))
-range-rises a (suc (suc n)) zero lt = omega arith
-range-rises a (suc (suc n)) (suc k) lt =
-    let rest = range-rises (a + 1) (suc n) k (omega (arith, lt)) in
-    let next : suc k + 1 ≡ suc (k + 1) = omega arith in
-    subst (λ j. get_or (range_with_len a (suc (suc n))) (suc k) 0 < get_or (range_with_len a (suc (suc n))) j 0) (sym next) rest
-
 head : (p d e : ℕ → Bool) (a : ℕ) (xs : List ℕ) (b : Bool) → p a ≡ b → (b ≡ true → d a ≡ e a) → (b ≡ false → e a ≡ false) → filter d (filter p xs) ≡ filter e xs → filter d (filter p (a ∷ xs)) ≡ filter e (a ∷ xs)
 head p d e a xs true is same none rest =
     ap (λ t. filter d (cond t (a ∷ filter p xs) (filter p xs))) is ∙ ap (λ (ys : List ℕ). cond (d a) (a ∷ ys) ys) rest
@@ -124,37 +103,31 @@ in_filter p c (x ∷ xs) passes h =
 
 -- ---- what is written
 
-written_here : (p : ℕ) (points : List ℕ) (r : KeptRecord) (records : List KeptRecord) (R : ℕ → Record) (c : ℕ) → c ≡ p → written (p ∷ points) (r ∷ records) R c ≡ kept_record r
-written_here p points r records R c same = grind (arith, nat_tests)
-
-written_there : (p : ℕ) (points : List ℕ) (r : KeptRecord) (records : List KeptRecord) (R : ℕ → Record) (c : ℕ) → c ≢ p → written (p ∷ points) (r ∷ records) R c ≡ written points records R c
-written_there p points r records R c other = grind (arith, nat_tests)
-
 in_here : (p : ℕ) (points : List ℕ) (c : ℕ) → c ≡ p → is_in (p ∷ points) c ≡ true
 in_here p points c same = grind (arith, nat_tests)
 
 in_there : (p : ℕ) (points : List ℕ) (c : ℕ) → c ≢ p → is_in (p ∷ points) c ≡ is_in points c
 in_there p points c other = grind (arith, nat_tests)
 
-written_one : (points : List ℕ) (records : List KeptRecord) (f R : ℕ → Record) (c : ℕ) → map kept_record records ≡ map f points → is_in points c ≡ true → written points records R c ≡ f c
-written_one [] records f R c is h = absurd (true≢false (sym h))
-written_one (p ∷ points) [] f R c is h = cc
-written_one (p ∷ points) (r ∷ records) f R c is h =
+with_here : (R : ℕ → Record) (p : ℕ) (r : Record) (c : ℕ) → c ≡ p → with_span R p p r c ≡ r
+with_here R p r c same = grind (arith, nat_tests)
+
+with_there : (R : ℕ → Record) (p : ℕ) (r : Record) (c : ℕ) → c ≢ p → with_span R p p r c ≡ R c
+with_there R p r c other = grind (arith, nat_tests)
+
+-- where the points get the records of f, and R agrees with f elsewhere, f is what is written
+written_as : (points : List ℕ) (records : List KeptRecord) (f R : ℕ → Record) (c : ℕ) → map kept_record records ≡ map f points → (is_in points c ≡ false → R c ≡ f c) → written points records R c ≡ f c
+written_as [] [] f R c is others = others refl
+written_as [] (r ∷ records) f R c is others = others refl
+written_as (p ∷ points) [] f R c is others = cc
+written_as (p ∷ points) (r ∷ records) f R c is others =
     let first : kept_record r ≡ f p = cc in
     let rest : map kept_record records ≡ map f points = cc in
-    elim (cases_eq c p) [
-      | inl same ↦ written_here p points r records R c same ∙ first ∙ ap f (sym same)
-      | inr other ↦ written_there p points r records R c other ∙ written_one points records f R c rest (sym (in_there p points c other) ∙ h)
-    ]
-
-written_none : (points : List ℕ) (records : List KeptRecord) (R : ℕ → Record) (c : ℕ) → is_in points c ≡ false → written points records R c ≡ R c
-written_none [] records R c h = refl
-written_none (p ∷ points) [] R c h = refl
-written_none (p ∷ points) (r ∷ records) R c h =
-    elim (cases_eq c p) [
-      | inl same ↦ absurd (true≢false (sym (in_here p points c same) ∙ h))
-      | inr other ↦ written_there p points r records R c other ∙ written_none points records R c (sym (in_there p points c other) ∙ h)
-    ]
+    written_as points records f (with_span R p p (kept_record r)) c rest
+    (λ none. elim (cases_eq c p) [
+      | inl same ↦ with_here R p (kept_record r) c same ∙ first ∙ ap f (sym same)
+      | inr other ↦ with_there R p (kept_record r) c other ∙ others (in_there p points c other ∙ none)
+    ])
 
 -- ---- the points up to one
 
@@ -259,11 +232,7 @@ module _ (F G : ℕ → Facts) (R : ℕ → Record) (A N : ℕ → List Query) (
       ]
 
   records_next : (made : Again) → IsAgain R G points made → (c : ℕ) → c < point_count → written made.changed made.records.items R c ≡ record_at G c
-  records_next made again c lt =
-      elim (cases_Bool (is_in made.changed c)) [
-        | inl inside ↦ written_one made.changed made.records.items (record_at G) R c again.records inside
-        | inr other ↦ written_none made.changed made.records.items R c other ∙ unchanged made again c lt other
-      ]
+  records_next made again c lt = written_as made.changed made.records.items (record_at G) R c again.records (unchanged made again c lt)
 
   -- the questions
   kept_next : (B : ℕ → List Query) → AsksAnew G points N B → KeepsAsked B G
@@ -293,15 +262,6 @@ module _ (F G : ℕ → Facts) (R : ℕ → Record) (A N : ℕ → List Query) (
   }
 
 -- ---- what needs no turn
-
-pub changed_rises : (R : ℕ → Record) (G : ℕ → Facts) (A : ℕ → List Query) (Q : List Query) (points : List ℕ) (made : Again) → points ≡ askers_of_any A Q → IsAgain R G points made → IsStrictlyIncreasing made.changed
-changed_rises R G A Q points made askers again =
-    subst IsStrictlyIncreasing (sym again.changed) (IsStrictlyIncreasing-filter (differs R G) points (subst IsStrictlyIncreasing (sym askers) (askers_are_those.1 A Q).rising))
-
-pub changed_below : (R : ℕ → Record) (G : ℕ → Facts) (A : ℕ → List Query) (Q : List Query) (points : List ℕ) (made : Again) → points ≡ askers_of_any A Q → IsAgain R G points made → AllBelow point_count made.changed
-changed_below R G A Q points made askers again =
-    subst (AllBelow point_count) (sym (again.changed ∙ ap (filter (differs R G)) askers))
-    (AllBelow-filter (differs R G) point_count (askers_of_any A Q) (AllBelow-filter (asks_any A Q) point_count (range_with_len 0 (point_count - 0)) (AllBelow-range point_count 0 (point_count - 0) (omega arith))))
 
 pub counts_none : (F G : ℕ → Facts) (n : ℕ) → CountsWithin F G n n
 counts_none F G n = (0, ([], record { rising = λ k lt. absurd (omega (arith, lt)); inside = λ c h. absurd (true≢false (sym h)); each = λ c h. absurd (true≢false (sym h)) }, omega arith), omega arith)

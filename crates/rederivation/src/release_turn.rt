@@ -3,7 +3,7 @@
 ghost use Rattle.std.specs.Prelude.{◌≡◌, ℕ, IfErr, IfOk};
 ghost use Rattle.range_table.specs.Values.{SameValues};
 ghost use Rattle.ucd_model.specs.Facts.{Facts};
-ghost use Rattle.record_list.specs.Runs.{record_now, record_of};
+ghost use Rattle.record_list.specs.Records.{record_next, record_now};
 ghost use Rattle.dependency_map.specs.Maps.{asked_at};
 ghost use Rattle.rederivation.specs.Turned.{CountsWithin, IsReady, IsTurned, StopsTurn};
 
@@ -35,11 +35,11 @@ pub fn turn<W: FactView, S: Store<Option<Queries>>, L: Ledger>(
     map: &mut DependencyMap<S>,
     steps: &mut Steps<L>,
 ) -> Result<Points, AgainStop>
-    ensures now { records.new.current ≡ records.old.current }
+    ensures now { SameValues (record_now records.new) (record_now records.old) }
     ensures asked { SameValues (asked_at S.now map.new) (asked_at S.now map.old) }
     ensures turned { IfOk result (λ changed. (F : ℕ → Facts)
         → IsReady F (W.facts_of view.now) (record_now records.old) (asked_at S.now map.old) (asked_at S.next map.old) queries.now
-        → IsTurned F (W.facts_of view.now) (record_of records.new.prepared) (asked_at S.next map.new) changed) }
+        → IsTurned F (W.facts_of view.now) (record_next records.new) (asked_at S.next map.new) changed) }
     ensures stop { IfErr result (λ stop. (F : ℕ → Facts)
         → IsReady F (W.facts_of view.now) (record_now records.old) (asked_at S.now map.old) (asked_at S.next map.old) queries.now
         → StopsTurn (W.facts_of view.now) stop) }
@@ -52,7 +52,7 @@ pub fn turn<W: FactView, S: Store<Option<Queries>>, L: Ledger>(
         Ok(again) => {
             let values = again.records;
             let changed = again.changed;
-            records.prepare(alloc, changed.as_slice(), values)?;
+            records.prepare(changed.as_slice(), values)?;
             Ok(changed)
         }
         Err(stop) => Err(stop),

@@ -1,20 +1,9 @@
-use Rattle.std.proofs.Common.{◌∙◌, List, ℕ, ap, sym, subst}
-use Rattle.std.specs.List.Sorted.{IsStrictlyIncreasing}
-use Rattle.ucd_model.specs.Limits.{point_count}
-use Rattle.record_list.specs.Runs.{AllBelow, record_now, record_of, written}
+use Rattle.std.proofs.Common.{◌∙◌, ◌<◌, List, ℕ, ap, sym, subst}
+use Rattle.range_table.specs.Values.{point_count-is}
+use Rattle.record_list.specs.Records.{record_next, record_now, written}
 use Rattle.dependency_map.specs.Maps.{asked_at}
-use Rattle.rederivation.proofs.TurnSteps.{changed_below, changed_rises, counts, stops_turn, turned}
+use Rattle.rederivation.proofs.TurnSteps.{counts, stops_turn, turned}
 use Rattle.rederivation.proofs.release_turn.turn.Goals as goal
-
-pub prepare-requires-clause-rising : goal.prepare-requires-clause-rising
-prepare-requires-clause-rising g c =
-    subst IsStrictlyIncreasing (sym c.as_slice-in-Ok.ensures)
-    (changed_rises (record_now c.args.records.now) (g.W.FactView.facts_of c.args.view.now) (asked_at g.S.Store.now c.args.map.now) c.args.queries.now c.as_slice.result.now c.in-Ok.again (c.as_slice.ensures ∙ c.in_ok-points.ensures) c.in-Ok.ensures.again)
-
-pub prepare-requires-clause-below : goal.prepare-requires-clause-below
-prepare-requires-clause-below g c =
-    subst (AllBelow point_count) (sym c.as_slice-in-Ok.ensures)
-    (changed_below (record_now c.args.records.now) (g.W.FactView.facts_of c.args.view.now) (asked_at g.S.Store.now c.args.map.now) c.args.queries.now c.as_slice.result.now c.in-Ok.again (c.as_slice.ensures ∙ c.in_ok-points.ensures) c.in-Ok.ensures.again)
 
 pub returns-in_err-prepare-in-Ok-clause-steps : goal.returns-in_err-prepare-in-Ok-clause-steps
 returns-in_err-prepare-in-Ok-clause-steps g c = λ F ready.
@@ -24,8 +13,8 @@ returns-in_err-prepare-in-Ok-clause-steps g c = λ F ready.
 pub returns-in-Ok-clause-turned : goal.returns-in-Ok-clause-turned
 returns-in-Ok-clause-turned g c = λ F ready.
     turned F (g.W.FactView.facts_of c.args.view.now) (record_now c.args.records.now) (asked_at g.S.Store.now c.args.map.now) (asked_at g.S.Store.next c.args.map.now) c.args.queries.now c.as_slice.result.now ready (c.as_slice.ensures ∙ c.in_ok-points.ensures)
-    c.in-Ok.again (record_of c.prepare.new.self.prepared) (asked_at g.S.Store.next c.derive_again.new.map) c.in-Ok.ensures.again c.in-Ok.ensures.asks
-    (λ k lt. c.in_ok-prepare-in-Ok.ensures.ok k lt ∙ ap (λ (xs : List ℕ). written xs c.in-Ok.again.records.items (record_now c.args.records.now) k) c.as_slice-in-Ok.ensures)
+    c.in-Ok.again (record_next c.prepare.new.self) (asked_at g.S.Store.next c.derive_again.new.map) c.in-Ok.ensures.again c.in-Ok.ensures.asks
+    (λ k lt. c.in_ok-prepare-in-Ok.ensures.ok k (subst (λ n. k < n) point_count-is lt) ∙ ap (λ (xs : List ℕ). written xs c.in-Ok.again.records.items (record_now c.args.records.now) k) c.as_slice-in-Ok.ensures)
 
 pub returns-in-Ok-clause-steps : goal.returns-in-Ok-clause-steps
 returns-in-Ok-clause-steps g c = λ F ready.

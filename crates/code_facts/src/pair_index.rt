@@ -21,14 +21,14 @@ pub struct PairIndex {
 }
 
 impl PairIndex {
-    /// The index of the code points of these keys. It takes no memory.
+    /// The index of the code points of these keys. Room that no key takes up is given back.
     pub fn of(alloc: Global, keys: PairKeys) -> PairIndex
         ensures { (a b r : ℕ) → is_listed result a b r ≡ is_gathered keys a b r }
     {
         let PairKeys { pairs, seconds } = keys;
         PairIndex {
-            pairs: KeySet::of(alloc, pairs),
-            seconds: KeySet::of(alloc, seconds),
+            pairs: set_of(alloc, pairs),
+            seconds: set_of(alloc, seconds),
         }
     }
 
@@ -71,6 +71,14 @@ impl PairIndex {
             None
         }
     }
+}
+
+/// The set of the keys of a list, whose spare room is given back.
+fn set_of(alloc: Global, mut keys: Vec<u64>) -> KeySet
+    ensures { (k : ℕ) → has result k ≡ is_in keys.items k }
+{
+    keys.shrink_to_fit();
+    KeySet::of(alloc, keys)
 }
 
 /// Puts keys in. On failure some of them may be in.

@@ -3,6 +3,7 @@
 ghost use Rattle.std.specs.Prelude.{◌≡◌, ℕ, ◌<◌, true, false, IfOk, OnOk, OnErr};
 ghost use Rattle.std.specs.List.{list_any};
 ghost use Rattle.ucd_model.specs.Facts.{facts, within};
+ghost use Rattle.range_table.specs.Values.{SameValues};
 ghost use Rattle.release_rows.specs.Touching.{meets};
 ghost use Rattle.code_facts.specs.Copying.{with_spans};
 ghost use Rattle.code_facts.specs.FactTables.{tables_facts, tables_next};
@@ -32,6 +33,7 @@ impl<T: Table<u64>> FactTables<T> {
     ///
     /// It takes time by the number of rows, and by its logarithm: no work is done for each code point of a span, but
     /// for Hangul syllables, each of which has a mapping of its own, and for canonical mappings of two members.
+    /// Room that no value takes up is given back at the end.
     ///
     /// - `Memory`: memory ran out.
     pub fn of(alloc: Global, release: &Release) -> Result<FactTables<T>, Memory>
@@ -61,8 +63,7 @@ impl<T: Table<u64>> FactTables<T> {
             made,
             spans.as_slice(),
         )?;
-        words.commit();
-        rests.commit();
+        commit_and_shrink(&mut words, &mut rests);
         Ok(FactTables {
             words,
             rests,
@@ -180,6 +181,19 @@ fn copied(alloc: Global, spans: &[Span]) -> Result<Spans, Memory>
     ensures { IfOk result (λ copy. copy ≡ spans.now) }
 {
     Ok(Spans::from_vec(Vec::from_slice(alloc, spans)?))
+}
+
+/// What is next becomes now, and stays next. Room that no value takes up is given back.
+fn commit_and_shrink<T: Table<u64>, S: Store<Rest>>(words: &mut T, rests: &mut S)
+    ensures words_now { SameValues (T.now words.new) (T.next words.old) }
+    ensures words_next { SameValues (T.next words.new) (T.next words.old) }
+    ensures rests_now { SameValues (S.now rests.new) (S.next rests.old) }
+    ensures rests_next { SameValues (S.next rests.new) (S.next rests.old) }
+{
+    words.commit();
+    words.shrink_to_fit();
+    rests.commit();
+    rests.shrink_to_fit();
 }
 
 /// The span of all code points.

@@ -19,7 +19,7 @@ use Rattle.code_facts.specs.Changes.{StaysOutside}
 use Rattle.code_facts.specs.Copying.{with_spans, IsListed}
 use Rattle.code_facts.specs.Index.{Lists, is_gathered, is_listed}
 use Rattle.code_facts.specs.KeptFacts.{kept_at, all_kept, Packs}
-use Rattle.code_facts.specs.Rest.{RestOf, no_rest}
+use Rattle.code_facts.specs.Rest.{RestOf}
 use Rattle.code_facts.specs.Locality.{rows_within}
 use Rattle.code_facts.specs.LocalityProofs.{facts_are_local}
 use Rattle.code_facts.specs.RowTables.{word_in, rest_in, made_facts, ShowsRows}

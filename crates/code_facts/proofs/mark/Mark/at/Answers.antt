@@ -1,4 +1,4 @@
-use Rattle.std.proofs.Common.{◌≡◌, ℕ, arith}
+use Rattle.std.proofs.Common.{arith}
 use Rattle.code_facts.proofs.MarkLemmas.{flag_behind}
 use Rattle.code_facts.proofs.mark.Mark.at.Goals as goal
 

@@ -3,7 +3,7 @@ use Rattle.std.proofs.Common.{◌≡◌, ℕ, Bool, true, false, List, Option, S
 use Rattle.range_table.specs.Values.{SameValues}
 use Rattle.ucd_model.specs.Facts.{Facts}
 use Rattle.ucd_model.specs.Limits.{point_count}
-use Rattle.ucd_model.specs.Records.{Record, record_at}
+use Rattle.ucd_model.specs.Records.{Record}
 use Rattle.ucd_model.specs.Validity.{first_broken}
 use Rattle.ucd_model.specs.ValidityLaws.{IsValid}
 use Rattle.ucd_model.specs.ValidityProofs.{valid_is_unbroken}
@@ -11,7 +11,7 @@ use Rattle.ucd_model.specs.declared.form.Broken.{Broken}
 use Rattle.ucd_model.specs.declared.query.Query.{Query}
 use Rattle.asked_queries.specs.Answers.{TellsChanges, is_asked}
 use Rattle.asked_queries.specs.Turns.{KeepsAsked}
-use Rattle.record_list.specs.Runs.{RecordsOf, record_of}
+use Rattle.record_list.specs.Records.{record_now}
 use Rattle.rederivation.specs.Turned.{CountsWithin, IsReady, IsTurned, StopsTurn}
 use Rattle.rederivation.specs.declared.again_stop.AgainStop.{AgainStop}
 use Rattle.rederivation.specs.declared.again_stop.AgainStop.TheVariants.{Broken as Breaks, Memory as Lacking}
@@ -24,7 +24,6 @@ use Rattle.edit_session.specs.Benches.{NamesBroken}
 use Rattle.edit_session.specs.Derivations.{AreOf, IsNow}
 use Rattle.edit_session.specs.declared.derivation.Derivation.{Derivation}
 use Rattle.edit_session.specs.declared.questions.Questions.{Questions}
-use Rattle.edit_session.specs.FirstRecords.{SameRecords}
 use Rattle.edit_session.specs.Questions.{Keeps, KeepsNow}
 use Rattle.edit_session.specs.Groups.{AnswersAs, changed, checked_files, files_facts, refused_by, valid_files}
 use Rattle.edit_session.specs.declared.apply_stop.ApplyStop.{ApplyStop}
@@ -59,11 +58,12 @@ keeps_listed true A F is kept = kept
 keeps_listed false A F is kept = absurd cc
 
 -- the same facts and records, kept elsewhere, and questions that are kept as well
-pub moved : (F before after : ℕ → Facts) (old new : RecordsOf) (then now : Bool) (A B : ℕ → List Query) → after ≡ before → new ≡ old → (Keeps then A F → Keeps now B F) → AreOf F before (record_of old) then A → AreOf F after (record_of new) now B
-moved F before after old new then now A B same list questions is = record {
+pub moved : (F before after : ℕ → Facts) (old new : ℕ → Record) (then now : Bool) (A B : ℕ → List Query) → after ≡ before → SameValues new old → (Keeps then A F → Keeps now B F) → AreOf F before old then A → AreOf F after new now B
+unfolding point_count
+moved F before after old new then now A B same records questions is = record {
   same = same ∙ is.same;
   valid = is.valid;
-  records = subst (λ (rs : RecordsOf). SameRecords (record_of rs) (record_at F)) (sym list) is.records;
+  records = λ c lt. records c lt ∙ is.records c lt;
   kept = questions is.kept;
 }
 
@@ -76,7 +76,7 @@ keeps_over F G listed A same kept = subst (λ (H : ℕ → Facts). Keeps listed 
 
 -- questions that were listed for these facts
 pub listed_now : (d : Derivation) (questions : Questions) (F : ℕ → Facts) → KeepsNow (tables_facts values_now d.tables) questions → IsNow F d
-    → AreOf F (tables_facts values_now d.tables) (record_of d.records.current) questions.listed (asked_at (values values_now) questions.map)
+    → AreOf F (tables_facts values_now d.tables) (record_now d.records) questions.listed (asked_at (values values_now) questions.map)
 listed_now d questions F kept is = record {
   same = is.same;
   valid = is.valid;

@@ -1,6 +1,7 @@
 -- The records of the first code points, and of more of them.
-use Rattle.std.proofs.Common.{◌≡◌, ℕ, ◌+◌, ◌<◌, ◌≤◌, [], Option, Some, None, Ok, Err, sym, ap, subst, ◌∙◌, arith, inl, inr}
+use Rattle.std.proofs.Common.{◌≡◌, ℕ, ◌+◌, ◌-◌, ◌<◌, ◌≤◌, Option, Some, None, Ok, Err, sym, ap, subst, ◌∙◌, arith, inl, inr}
 use Rattle.std.proofs.lemmas.Bool.{cases_lt}
+use Rattle.std.proofs.lemmas.Bool.Decides.{nat_tests}
 use Rattle.ucd_model.specs.Facts.{Facts}
 use Rattle.ucd_model.specs.Limits.{point_count}
 use Rattle.ucd_model.specs.Predicates.{is_visible_format}
@@ -12,7 +13,7 @@ use Rattle.ucd_model.specs.ValidityProofs.{broken_is_least}
 use Rattle.ucd_model.specs.declared.form.Bad.{Bad as Rule}
 use Rattle.code_facts.specs.Plain.{HoldsTo}
 use Rattle.identifier_closure.specs.UniformProofs.{uniform_derived}
-use Rattle.record_list.specs.Runs.{RecordsOf, count_of, record_of}
+use Rattle.range_table.specs.Values.{SameValues, with_span}
 use Rattle.edit_session.specs.Benches.{NamesBroken}
 use Rattle.edit_session.specs.FirstRecords.{DerivedBelow, IsFound, SameRecords}
 use Rattle.edit_session.specs.declared.open_stop.OpenStop.{OpenStop}
@@ -24,40 +25,47 @@ is_point c number same lt = omega (arith, same, lt)
 
 -- ---- records
 
-pub none_below : (list : RecordsOf) (F : ℕ → Facts) → list ≡ [] → DerivedBelow list 0 F
-none_below list F e = record { count = ap count_of e; same = λ c lt. absurd (omega (arith, lt)) }
+pub first_below : (R : ℕ → Record) (F : ℕ → Facts) (here : Record) → derived F 0 ≡ Ok here → SameValues R (λ _. here) → DerivedBelow R 1 F
+first_below R F here is same = λ c lt.
+    let zero : c ≡ 0 = omega (arith, lt) in
+    ap (derived F) zero ∙ is ∙ ap (λ (S : Record). Ok S) (sym (same c (omega (arith, lt))))
 
-pub run_below : (old new : RecordsOf) (n end : ℕ) (F : ℕ → Facts) (here : Record) → DerivedBelow old n F → count_of new ≡ end
-    → ((c : ℕ) → count_of old ≤ c → c < end → record_of new c ≡ here) → ((c : ℕ) → c < count_of old → record_of new c ≡ record_of old c)
+pub run_below : (old new : ℕ → Record) (n end : ℕ) (F : ℕ → Facts) (here : Record) → n < end → end ≤ 1114112 → DerivedBelow old n F → SameValues new (with_span old n (end - 1) here)
     → ((c : ℕ) → n ≤ c → c < end → derived F c ≡ Ok here) → DerivedBelow new end F
-run_below old new n end F here holds longer added others same =
-    let count = holds.count in
-    record {
-      count = longer;
-      same = λ c lt. elim (cases_lt c n) [
-        | inl less ↦ holds.same c less ∙ ap (λ (R : Record). Ok R) (sym (others c (subst (λ k. c < k) (sym count) less)))
-        | inr past ↦ same c past lt ∙ ap (λ (R : Record). Ok R) (sym (added c (subst (λ k. k ≤ c) (sym count) past) lt))
-      ];
-    }
+run_below old new n end F here some inside holds put same = λ c lt.
+    elim (cases_lt c n) [
+      | inl less ↦ holds c less ∙ ap (λ (R : Record). Ok R) (sym (put c (omega (arith, lt, inside)) ∙ outside c less))
+      | inr past ↦ same c past lt ∙ ap (λ (R : Record). Ok R) (sym (put c (omega (arith, lt, inside)) ∙ within c past lt))
+    ]
+  where
+    outside : (c : ℕ) → c < n → with_span old n (end - 1) here c ≡ old c
+    outside c less = grind (arith, nat_tests)
+
+    within : (c : ℕ) → n ≤ c → c < end → with_span old n (end - 1) here c ≡ here
+    within c past lt = grind (arith, nat_tests)
 
 ok_is : (R S : Record) (b : Option Rule) → record_or_rule R b ≡ Ok S → R ≡ S
 ok_is R S None e = cc
 ok_is R S (Some rule) e = cc
 
-pub all_valid : (list : RecordsOf) (n : ℕ) (F : ℕ → Facts) → n ≡ point_count → DerivedBelow list n F → IsValid F
-all_valid list n F all holds = λ c lt. (record_of list c, holds.same c (subst (λ k. c < k) (sym all) lt))
+pub all_valid : (R : ℕ → Record) (n : ℕ) (F : ℕ → Facts) → n ≡ point_count → DerivedBelow R n F → IsValid F
+all_valid R n F all holds = λ c lt. (R c, holds c (subst (λ k. c < k) (sym all) lt))
 
-pub all_records : (list : RecordsOf) (n : ℕ) (F : ℕ → Facts) → n ≡ point_count → DerivedBelow list n F → SameRecords (record_of list) (record_at F)
-all_records list n F all holds = λ c lt. sym (ok_is (record_at F c) (record_of list c) (broken F c) (holds.same c (subst (λ k. c < k) (sym all) lt)))
+pub all_records : (R S : ℕ → Record) (n : ℕ) (F : ℕ → Facts) → n ≡ point_count → DerivedBelow R n F → SameValues S R → SameRecords S (record_at F)
+unfolding point_count
+all_records R S n F all holds same = λ c lt. same c lt ∙ sym (ok_is (record_at F c) (R c) (broken F c) (holds c (subst (λ k. c < k) (sym all) lt)))
 
 -- ---- a point without a record
 
-pub stops : (list : RecordsOf) (n : ℕ) (F : ℕ → Facts) (stop : OpenStop) → n < 1114112 → DerivedBelow list n F → IsFound F n (Err stop) → NamesBroken stop F
+pub stops : (R : ℕ → Record) (n : ℕ) (F : ℕ → Facts) (stop : OpenStop) → n < 1114112 → DerivedBelow R n F → IsFound F n (Err stop) → NamesBroken stop F
 unfolding point_count
-stops list n F (Invalid rule point) lt holds found =
+stops R n F (Invalid rule point) lt holds found =
     (broken_is_least F (record { point = point; rule = rule })).1
-    (record { point = subst (λ k. k < point_count) (sym found.0) lt; rule = ap (derived F) found.0 ∙ found.1; least = λ c below. (record_of list c, holds.same c (subst (λ k. c < k) found.0 below)) })
-stops list n F Memory lt holds found = tt
+    (record { point = subst (λ k. k < point_count) (sym found.0) lt; rule = ap (derived F) found.0 ∙ found.1; least = λ c below. (R c, holds c (subst (λ k. c < k) found.0 below)) })
+stops R n F Memory lt holds found = tt
+
+pub stops_first : (F : ℕ → Facts) (stop : OpenStop) → IsFound F 0 (Err stop) → NamesBroken stop F
+stops_first F stop found = stops (record_at F) 0 F stop (omega arith) (λ c lt. absurd (omega (arith, lt))) found
 
 -- ---- points that stand together
 

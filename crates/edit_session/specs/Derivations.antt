@@ -14,7 +14,7 @@ use Rattle.code_facts.specs.FactTables.{tables_facts, tables_next}
 use Rattle.dependency_map.specs.Maps.{asked_at}
 use Rattle.kept_values.specs.Kept.{values}
 use Rattle.paged_table.specs.Paged.{values_next, values_now}
-use Rattle.record_list.specs.Runs.{record_of}
+use Rattle.record_list.specs.Records.{record_next, record_now}
 use Rattle.edit_session.specs.FirstRecords.{SameRecords}
 use Rattle.edit_session.specs.Questions.{AreStill, Keeps}
 use Rattle.edit_session.specs.declared.derivation.Derivation.{Derivation}
@@ -26,10 +26,10 @@ pub record AreOf (F facts : ℕ → Facts) (R : ℕ → Record) (listed : Bool) 
   pub kept : Keeps listed A F
 
 abbrev pub IsNow : (ℕ → Facts) → Derivation → Type 0
-IsNow F d = AreOf F (tables_facts values_now d.tables) (record_of d.records.current) d.questions.listed (asked_at (values values_now) d.questions.map)
+IsNow F d = AreOf F (tables_facts values_now d.tables) (record_now d.records) d.questions.listed (asked_at (values values_now) d.questions.map)
 
 abbrev pub IsNext : (ℕ → Facts) → Derivation → Type 0
-IsNext F d = AreOf F (tables_next values_now d.tables) (record_of d.records.prepared) d.questions.listed (asked_at (values values_next) d.questions.map)
+IsNext F d = AreOf F (tables_next values_now d.tables) (record_next d.records) d.questions.listed (asked_at (values values_next) d.questions.map)
 
 pub record IsStill (d : Derivation) : Type 0 where
   pub tables : tables_next values_now d.tables ≡ tables_facts values_now d.tables

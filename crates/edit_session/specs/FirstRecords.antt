@@ -2,7 +2,7 @@
 --
 -- F is the facts of each code point.
 -- SameRecords R S              the records of the code points are the same
--- DerivedBelow list n F        the points below n, and no others, have a record, and it is the one that is derived
+-- DerivedBelow R n F           R gives each point below n the record that is derived of it
 -- IsFound F c result           the result is the record of c, or in its place c with the first rule that it breaks; want of memory
 --                              says nothing
 use Rattle.std.specs.Prelude.{◌≡◌, ℕ, ◌<◌, Result, Ok, Err, ⊤}
@@ -10,16 +10,14 @@ use Rattle.ucd_model.specs.Facts.{Facts}
 use Rattle.ucd_model.specs.Limits.{point_count}
 use Rattle.ucd_model.specs.Records.{Record, derived, kept_record}
 use Rattle.identifier_closure.specs.declared.derivation.Derived.{Derived}
-use Rattle.record_list.specs.Runs.{RecordsOf, count_of, record_of}
 use Rattle.edit_session.specs.declared.open_stop.OpenStop.{OpenStop}
 use Rattle.edit_session.specs.declared.open_stop.OpenStop.TheVariants.{Invalid, Memory}
 
 abbrev pub SameRecords : (ℕ → Record) → (ℕ → Record) → Type 0
 SameRecords R S = (c : ℕ) → c < point_count → R c ≡ S c
 
-pub record DerivedBelow (list : RecordsOf) (n : ℕ) (F : ℕ → Facts) : Type 0 where
-  pub count : count_of list ≡ n
-  pub same : (c : ℕ) → c < n → derived F c ≡ Ok (record_of list c)
+abbrev pub DerivedBelow : (ℕ → Record) → ℕ → (ℕ → Facts) → Type 0
+DerivedBelow R n F = (c : ℕ) → c < n → derived F c ≡ Ok (R c)
 
 abbrev pub IsFound : (ℕ → Facts) → ℕ → Result Derived OpenStop → Type 0
 IsFound F c (Ok found) = derived F c ≡ Ok (kept_record found.value)

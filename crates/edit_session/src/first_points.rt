@@ -1,9 +1,9 @@
 //! The derivation of all code points, from the first one on.
 
-ghost use Rattle.std.specs.Prelude.{◌≡◌, ℕ, ◌+◌, ◌<◌, ◌≤◌, IfOk, IfErr, OnOk};
+ghost use Rattle.std.specs.Prelude.{◌≡◌, ℕ, ◌+◌, ◌-◌, ◌<◌, ◌≤◌, Ok, IfOk, IfErr, OnOk};
 ghost use Rattle.code_facts.specs.FactTables.{tables_facts};
 ghost use Rattle.paged_table.specs.Paged.{values_now};
-ghost use Rattle.record_list.specs.Runs.{record_of};
+ghost use Rattle.record_list.specs.Records.{record_next, record_now};
 ghost use Rattle.ucd_model.specs.Limits.{point_count};
 ghost use Rattle.ucd_model.specs.Predicates.{is_visible_format};
 ghost use Rattle.ucd_model.specs.Records.{derived, record_at};
@@ -15,10 +15,10 @@ use crate::open_stop::OpenStop;
 use code_facts::FactTables;
 use identifier_closure::{Derived, derive_point};
 use paged_table::PagedTable;
-use record_list::{RecordList, RecordTable};
+use record_list::RecordTable;
 use std::alloc::Global;
 use std::sync::ledger::Ledger;
-use ucd_model::{FactView, FormStop, Point, Steps, point_count};
+use ucd_model::{FactView, FormStop, Point, Span, Steps, point_count};
 
 /// The records that are derived of the facts of all code points. Code points that stand together and are uniform are
 /// derived in one step. UAX #44, section 5.3.
@@ -31,35 +31,54 @@ pub fn derive_all<L: Ledger>(
     steps: &mut Steps<L>,
 ) -> Result<RecordTable, OpenStop>
     ensures valid { OnOk result (IsValid (tables_facts values_now tables.now)) }
-    ensures records { IfOk result (λ table. SameRecords (record_of table.current) (record_at (tables_facts values_now tables.now))) }
+    ensures records { IfOk result (λ table. SameRecords (record_now table) (record_at (tables_facts values_now tables.now))) }
     ensures invalid { IfErr result (λ stop. NamesBroken stop (tables_facts values_now tables.now)) }
     ensures steps { steps.new ≤ steps.old + point_count }
 {
     let count = point_count();
-    let mut list = RecordList::new(alloc);
-    let mut number = 0;
+    let mut table = derive_first(alloc, tables, steps)?;
+    let mut number = 1;
     'runs: while number < count {
         let c = Point::at(number);
-        let end = derive_run(alloc, tables, c, &mut list, steps)?;
+        let end = derive_run(alloc, tables, c, &mut table, steps)?;
         number = end;
     }
-    Ok(RecordTable::of_list(list))
+    table.commit();
+    Ok(table)
+}
+
+/// The table in which all code points have the record of the first one, which is derived in one step.
+fn derive_first<L: Ledger>(
+    alloc: Global,
+    tables: &FactTables<PagedTable>,
+    steps: &mut Steps<L>,
+) -> Result<RecordTable, OpenStop>
+    ensures records { IfOk result (λ table. DerivedBelow (record_next table) 1 (tables_facts values_now tables.now)) }
+    ensures invalid { IfErr result (λ stop. NamesBroken stop (tables_facts values_now tables.now)) }
+    ensures step { steps.new ≡ steps.old + 1 }
+{
+    match derive_one(alloc, tables, Point::at(0), steps) {
+        Ok(found) => {
+            let table = RecordTable::filled(alloc, found.value)?;
+            Ok(table)
+        }
+        Err(stop) => Err(stop),
+    }
 }
 
 /// Derives a code point in one step, and gives it and those behind it that have the same record as far as few look-ups
-/// tell that record. The answer is one past the last of them.
+/// tell that record next. The answer is one past the last of them.
 fn derive_run<L: Ledger>(
     alloc: Global,
     tables: &FactTables<PagedTable>,
     c: Point,
-    list: &mut RecordList,
+    table: &mut RecordTable,
     steps: &mut Steps<L>,
 ) -> Result<u32, OpenStop>
-    requires { DerivedBelow list.old.current c (tables_facts values_now tables.now) }
+    requires { DerivedBelow (record_next table.old) c (tables_facts values_now tables.now) }
     ensures from { IfOk result (λ end. c < end) }
     ensures inside { IfOk result (λ end. end ≤ 1114112) }
-    ensures records { IfOk result (λ end. DerivedBelow list.new.current end (tables_facts values_now tables.now)) }
-    ensures still { OnOk result (list.new.prepared ≡ list.new.current) }
+    ensures records { IfOk result (λ end. DerivedBelow (record_next table.new) end (tables_facts values_now tables.now)) }
     ensures invalid { IfErr result (λ stop. NamesBroken stop (tables_facts values_now tables.now)) }
     ensures step { steps.new ≡ steps.old + 1 }
 {
@@ -67,10 +86,22 @@ fn derive_run<L: Ledger>(
     match derive_one(alloc, tables, c, steps) {
         Ok(found) => {
             let end = end_of_alike(tables, c);
-            list.push_run(found.value, end)?;
+            table.prepare_span(span_up_to(c, end), found.value)?;
             Ok(end)
         }
         Err(stop) => Err(stop),
+    }
+}
+
+/// The span from a code point up to a number, which is none of it.
+fn span_up_to(c: Point, end: u32) -> Span
+    requires from { c < end }
+    requires inside { end ≤ 1114112 }
+    ensures { result ≡ record { lo = c; hi = end - 1 } }
+{
+    match Span::new(c, Point::at(end - 1)) {
+        Some(span) => span,
+        None => unreachable!(),
     }
 }
 

@@ -2,11 +2,12 @@ use Rattle.code_facts.specs.FactTables.{tables_facts}
 use Rattle.dependency_map.specs.Maps.{asked_at}
 use Rattle.kept_values.specs.Kept.{values}
 use Rattle.paged_table.specs.Paged.{values_now}
+use Rattle.record_list.specs.Records.{record_now}
 use Rattle.edit_session.proofs.DerivationLemmas.{moved}
 use Rattle.edit_session.proofs.derivation.Derivation.discard.Goals as goal
 
 pub returns-clause-now : goal.returns-clause-now
 returns-clause-now c = λ F is.
-    moved F (tables_facts values_now c.args.self.now.tables) (tables_facts values_now c.discard.new.self) c.args.self.now.records.current c.discard-2.new.self.current
+    moved F (tables_facts values_now c.args.self.now.tables) (tables_facts values_now c.discard.new.self) (record_now c.args.self.now.records) (record_now c.discard-2.new.self)
     c.args.self.now.questions.listed c.discard-3.new.self.listed (asked_at (values values_now) c.args.self.now.questions.map) (asked_at (values values_now) c.discard-3.new.self.map)
     c.discard.ensures.now c.discard-2.ensures.now (c.discard-3.ensures.now F) is

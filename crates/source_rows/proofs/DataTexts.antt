@@ -1,6 +1,7 @@
 -- The text of a row of UnicodeData.txt is read as that row.
 use Rattle.std.proofs.Common.{◌≡◌, ℕ, ◌+◌, ◌-◌, ◌<◌, Bool, true, false, cond, eqb, List, [], ◌∷◌, ◌++◌, length, map, get_or, Option, Some, refl, sym, ap, subst, ◌∙◌, append_assoc, arith, inl, inr, length-append}
 use Rattle.std.specs.Prelude.{codes, nat_eq, slice_get}
+use Rattle.std.specs.Fmt.{decimal}
 use Rattle.std.specs.Option.{option_eq}
 use Rattle.std.specs.List.{All, join_with_byte}
 use Rattle.std.proofs.lemmas.Option.{slice_get-get_or}
@@ -13,7 +14,7 @@ use Rattle.ucd_model.specs.Fields.{fields, trim, is_semicolon, is_name}
 use Rattle.ucd_model.specs.DataLines.{ReadsValues, ReadsSingle, ReadsPair}
 use Rattle.ucd_model.specs.Grammar.{Reads}
 use Rattle.ucd_model.specs.DerivedText.{hex_digit, hex_text}
-use Rattle.ucd_model.specs.RowTexts.{class_text, decomposition_text, case_text, value_fields, data_line, first_name, last_name, range_text, data_text}
+use Rattle.ucd_model.specs.RowTexts.{decomposition_text, case_text, value_fields, data_line, first_name, last_name, range_text, data_text}
 use Rattle.ucd_model.specs.RowValues.{IsTrimmed, IsKept, SingleOk, NameOk, DataOk}
 use Rattle.ucd_model.specs.declared.files.SourceFile.TheVariants.{UnicodeData}
 use Rattle.ucd_model.specs.declared.row.DataRow.{DataRow}
@@ -39,7 +40,7 @@ case_kept o = kept_both (case_text o) (λ p s. case_lacks p s.digit o) (case_tri
 value_kept : (row : DataRow) → DataOk row → All IsKept (value_fields row)
 value_kept row ok =
     let category = kept_both (category_code row.category) (λ p s. category_lacks p (λ b low high. s.high b (omega arith) high) row.category) (trim_firm _ (category_firm row.category)) in
-    let class = kept_both (class_text row.class) (λ p s. class_lacks p s.decimal row.class) (trim_firm _ (class_firm row.class)) in
+    let class = kept_both (decimal row.class) (λ p s. class_lacks p s.decimal row.class ok.class) (trim_firm _ (class_firm row.class ok.class)) in
     let decomposition = kept_both (decomposition_text row.kind row.mapping) (λ p s. decomposition_lacks p s.high s.digit s.space row.kind row.mapping) (decomposition_trimmed row.kind row.mapping ok.decomposition) in
     All-from_recursion IsKept (value_fields row) (category, (class, (ok.f4, (decomposition, (ok.f6, (ok.f7, (ok.f8, (ok.f9, (ok.f10, (ok.f11, (case_kept row.upper, (case_kept row.lower, (case_kept row.title, tt)))))))))))))
 
@@ -140,7 +141,7 @@ digit_no_return d h = grind (arith, nat_tests)
 
 -- fields 0 to 13
 abbrev front_fields : DataRow → List ℕ → List (List ℕ)
-front_fields row name = name ∷ category_code row.category ∷ class_text row.class ∷ row.kept.f4 ∷ decomposition_text row.kind row.mapping ∷ row.kept.f6 ∷ row.kept.f7 ∷ row.kept.f8 ∷ row.kept.f9 ∷ row.kept.f10 ∷ row.kept.f11 ∷ case_text row.upper ∷ case_text row.lower ∷ []
+front_fields row name = name ∷ category_code row.category ∷ decimal row.class ∷ row.kept.f4 ∷ decomposition_text row.kind row.mapping ∷ row.kept.f6 ∷ row.kept.f7 ∷ row.kept.f8 ∷ row.kept.f9 ∷ row.kept.f10 ∷ row.kept.f11 ∷ case_text row.upper ∷ case_text row.lower ∷ []
 
 no_return : (row : DataRow) (c : ℕ) (name : List ℕ) → without_return (data_line row c name) ≡ data_line row c name
 unfolding data_line

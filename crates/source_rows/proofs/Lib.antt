@@ -19,6 +19,7 @@ pub mod TextParts
 pub mod HexTexts
 pub mod Lacks
 pub mod Trims
+pub mod ClassDigits
 pub mod TextValues
 pub mod Separators
 pub mod DataTexts

@@ -1,10 +1,11 @@
 -- Texts that are written part by part.
 use Rattle.std.proofs.Common.{◌≡◌, ℕ, List, [], ◌∷◌, ◌++◌, length, take, drop, get_or, ◌-◌, ◌<◌, ◌≤◌, Result, Ok, Err, refl, sym, ap, ◌∙◌, arith, append_assoc}
 use Rattle.std.specs.Prelude.{codes, OnOk}
+use Rattle.std.specs.Fmt.{decimal}
 use Rattle.std.proofs.lemmas.List.{append-nil, take_all}
 use Rattle.ucd_model.specs.Names.{category_code}
 use Rattle.ucd_model.specs.DerivedText.{hex_text}
-use Rattle.ucd_model.specs.RowTexts.{mapping_text, spaced, class_text, decomposition_text, case_text, data_line, names_text}
+use Rattle.ucd_model.specs.RowTexts.{mapping_text, spaced, decomposition_text, case_text, data_line, names_text}
 use Rattle.ucd_model.specs.RowTextLemmas.{mapping_text-is}
 use Rattle.ucd_model.specs.declared.row.DataRow.{DataRow}
 use Rattle.source_rows.specs.Texts.{ended, named}
@@ -44,6 +45,6 @@ names_from [] n some first = absurd (omega arith)
 names_from (m ∷ ms) n some first = rw (behind_is m ms, first) (names_are m ms)
 
 -- a line of UnicodeData.txt in four parts
-pub line_parts : (row : DataRow) (c : ℕ) (name : List ℕ) → data_line row c name ≡ ended (hex_text c ∷ name ∷ category_code row.category ∷ class_text row.class ∷ []) ++ ended (row.kept.f4 ∷ decomposition_text row.kind row.mapping ∷ row.kept.f6 ∷ row.kept.f7 ∷ []) ++ ended (row.kept.f8 ∷ row.kept.f9 ∷ row.kept.f10 ∷ row.kept.f11 ∷ []) ++ ended (case_text row.upper ∷ case_text row.lower ∷ []) ++ case_text row.title
+pub line_parts : (row : DataRow) (c : ℕ) (name : List ℕ) → data_line row c name ≡ ended (hex_text c ∷ name ∷ category_code row.category ∷ decimal row.class ∷ []) ++ ended (row.kept.f4 ∷ decomposition_text row.kind row.mapping ∷ row.kept.f6 ∷ row.kept.f7 ∷ []) ++ ended (row.kept.f8 ∷ row.kept.f9 ∷ row.kept.f10 ∷ row.kept.f11 ∷ []) ++ ended (case_text row.upper ∷ case_text row.lower ∷ []) ++ case_text row.title
 unfolding data_line
 line_parts row c name = simp append_assoc refl

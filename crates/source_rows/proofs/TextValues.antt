@@ -1,6 +1,7 @@
 -- What is written of a value is read as that value.
 use Rattle.std.proofs.Common.{◌≡◌, ◌≢◌, ℕ, ◌+◌, ◌/◌, ◌%◌, ◌<◌, ◌≤◌, Bool, true, false, eqb, List, [], ◌∷◌, ◌++◌, length, map, Option, Some, None, nat_lt, refl, sym, ap, ◌∙◌, append_assoc, arith, inl, inr}
 use Rattle.std.specs.Prelude.{filter, codes}
+use Rattle.std.specs.Fmt.{decimal}
 use Rattle.std.specs.List.{All, list_all, join_with_byte}
 use Rattle.std.proofs.lemmas.Bool.{eqb-true, cond_both, ltb-true, le-leb, and_from, and_parts}
 use Rattle.std.proofs.lemmas.Bool.Decides.{nat_tests}
@@ -12,7 +13,8 @@ use Rattle.ucd_model.specs.Fields.{point_of, SpellsSpan, class_of, is_class, is_
 use Rattle.ucd_model.specs.Mappings.{is_some_bytes, words, SpellsMapping}
 use Rattle.ucd_model.specs.DataLines.{SpellsDecomposition}
 use Rattle.ucd_model.specs.DerivedText.{hex_digit, hex_text, span_text}
-use Rattle.ucd_model.specs.RowTexts.{mapping_text, decimal_digit, class_text, decomposition_text, case_text}
+use Rattle.ucd_model.specs.RowTexts.{mapping_text, decomposition_text, case_text}
+use Rattle.source_rows.proofs.ClassDigits.{decimal_digit, class_digits, class_is}
 use Rattle.ucd_model.specs.RowValues.{IsPoint, IsSpan, IsMapping, DecompositionOk, CaseOk}
 use Rattle.ucd_model.specs.declared.category.Category.{Category}
 use Rattle.ucd_model.specs.declared.category.Category.TheVariants.{Lu, Ll, Lt, Lm, Lo, Mn, Mc, Me, Nd, Nl, No, Pc, Pd, Ps, Pe, Pi, Pf, Po, Sm, Sc, Sk, So, Zs, Zl, Zp, Cc, Cf, Cs, Co, Cn}
@@ -201,26 +203,29 @@ two_digits n lt small = classed (decimal_digit (n / 10) ∷ decimal_digit n ∷ 
 three_digits : (n : ℕ) → n ≤ 254 → class_of (decimal_digit (n / 100) ∷ decimal_digit (n / 10) ∷ decimal_digit n ∷ []) ≡ Some n
 three_digits n small = classed (decimal_digit (n / 100) ∷ decimal_digit (n / 10) ∷ decimal_digit n ∷ []) n (omega arith) (omega arith) (and_from _ _ (digit_is (n / 100)) (and_from _ _ (digit_is (n / 10)) (and_from _ _ (digit_is n) refl))) (omega arith) small
 
-pub class_reads : (n : ℕ) → n ≤ 254 → class_of (class_text n) ≡ Some n
-unfolding class_text
-class_reads n small = cond_both (nat_lt n 10) _ _ (λ (bs : List ℕ). class_of bs ≡ Some n) (λ e. one_digit n (ltb-true n 10 e) small) (λ _. cond_both (nat_lt n 100) _ _ (λ (bs : List ℕ). class_of bs ≡ Some n) (λ e. two_digits n (ltb-true n 100 e) small) (λ _. three_digits n small))
+digits_read : (n : ℕ) → n ≤ 254 → class_of (class_digits n) ≡ Some n
+digits_read n small = cond_both (nat_lt n 10) _ _ (λ (bs : List ℕ). class_of bs ≡ Some n) (λ e. one_digit n (ltb-true n 10 e) small) (λ _. cond_both (nat_lt n 100) _ _ (λ (bs : List ℕ). class_of bs ≡ Some n) (λ e. two_digits n (ltb-true n 100 e) small) (λ _. three_digits n small))
+
+pub class_reads : (n : ℕ) → n ≤ 254 → class_of (decimal n) ≡ Some n
+class_reads n small = rw (class_is n (omega arith)) (digits_read n small)
 
 one_lacks : (p : ℕ → Bool) → ((b : ℕ) → 48 ≤ b → b ≤ 57 → p b ≡ false) → (d : ℕ) → p (decimal_digit d) ≡ false
 one_lacks p h d = h (decimal_digit d) (omega arith) (omega arith)
 
-pub class_lacks : (p : ℕ → Bool) → ((b : ℕ) → 48 ≤ b → b ≤ 57 → p b ≡ false) → (n : ℕ) → Lacks p (class_text n)
-unfolding class_text
-class_lacks p h n = cond_both (nat_lt n 10) _ _ (λ (bs : List ℕ). Lacks p bs) (λ _. lacks_cons p (decimal_digit n) [] (one_lacks p h n) refl) (λ _. cond_both (nat_lt n 100) _ _ (λ (bs : List ℕ). Lacks p bs) (λ _. lacks_cons p (decimal_digit (n / 10)) (decimal_digit n ∷ []) (one_lacks p h (n / 10)) (lacks_cons p (decimal_digit n) [] (one_lacks p h n) refl)) (λ _. lacks_cons p (decimal_digit (n / 100)) (decimal_digit (n / 10) ∷ decimal_digit n ∷ []) (one_lacks p h (n / 100)) (lacks_cons p (decimal_digit (n / 10)) (decimal_digit n ∷ []) (one_lacks p h (n / 10)) (lacks_cons p (decimal_digit n) [] (one_lacks p h n) refl))))
+digits_lack : (p : ℕ → Bool) → ((b : ℕ) → 48 ≤ b → b ≤ 57 → p b ≡ false) → (n : ℕ) → Lacks p (class_digits n)
+digits_lack p h n = cond_both (nat_lt n 10) _ _ (λ (bs : List ℕ). Lacks p bs) (λ _. lacks_cons p (decimal_digit n) [] (one_lacks p h n) refl) (λ _. cond_both (nat_lt n 100) _ _ (λ (bs : List ℕ). Lacks p bs) (λ _. lacks_cons p (decimal_digit (n / 10)) (decimal_digit n ∷ []) (one_lacks p h (n / 10)) (lacks_cons p (decimal_digit n) [] (one_lacks p h n) refl)) (λ _. lacks_cons p (decimal_digit (n / 100)) (decimal_digit (n / 10) ∷ decimal_digit n ∷ []) (one_lacks p h (n / 100)) (lacks_cons p (decimal_digit (n / 10)) (decimal_digit n ∷ []) (one_lacks p h (n / 10)) (lacks_cons p (decimal_digit n) [] (one_lacks p h n) refl))))
 
-class_some : (n : ℕ) → 0 < length (class_text n)
-unfolding class_text
-class_some n = cond_both (nat_lt n 10) _ _ (λ (bs : List ℕ). 0 < length bs) (λ _. omega arith) (λ _. cond_both (nat_lt n 100) _ _ (λ (bs : List ℕ). 0 < length bs) (λ _. omega arith) (λ _. omega arith))
+digits_some : (n : ℕ) → 0 < length (class_digits n)
+digits_some n = cond_both (nat_lt n 10) _ _ (λ (bs : List ℕ). 0 < length bs) (λ _. omega arith) (λ _. cond_both (nat_lt n 100) _ _ (λ (bs : List ℕ). 0 < length bs) (λ _. omega arith) (λ _. omega arith))
 
 blank_byte : (b : ℕ) → 48 ≤ b → is_blank b ≡ false
 blank_byte b h = grind (arith, nat_tests)
 
-pub class_firm : (n : ℕ) → Firm (class_text n)
-class_firm n = solid (class_text n) (class_some n) (class_lacks is_blank (λ b low high. blank_byte b low) n)
+pub class_lacks : (p : ℕ → Bool) → ((b : ℕ) → 48 ≤ b → b ≤ 57 → p b ≡ false) → (n : ℕ) → n ≤ 254 → Lacks p (decimal n)
+class_lacks p h n small = rw (class_is n (omega arith)) (digits_lack p h n)
+
+pub class_firm : (n : ℕ) → n ≤ 254 → Firm (decimal n)
+class_firm n small = rw (class_is n (omega arith)) (solid (class_digits n) (digits_some n) (digits_lack is_blank (λ b low high. blank_byte b low) n))
 
 two_letters : (k : Category) → 0 < length (category_code k)
 two_letters Lu = omega arith

@@ -1,9 +1,10 @@
 //! Writes rows of UnicodeData.txt. UAX #44, section 5.3, table 9.
 
-ghost use Rattle.std.specs.Prelude.{◌≡◌, ◌<◌, ◌++◌, ◌∷◌, [], OnOk, IfOk, codes};
+ghost use Rattle.std.specs.Prelude.{◌≡◌, ◌+◌, ◌%◌, ◌<◌, ◌++◌, ◌∷◌, [], OnOk, IfOk, codes};
+ghost use Rattle.std.specs.Fmt.{decimal};
 ghost use Rattle.ucd_model.specs.DerivedText.{hex_text};
 ghost use Rattle.ucd_model.specs.Names.{category_code};
-ghost use Rattle.ucd_model.specs.RowTexts.{class_text, decomposition_text, case_text, data_line, data_text, decimal_digit, value_fields, range_text};
+ghost use Rattle.ucd_model.specs.RowTexts.{decomposition_text, case_text, data_line, data_text, value_fields, range_text};
 ghost use Rattle.source_rows.specs.Texts.{ended};
 
 use crate::put_points::put_mapping;
@@ -13,15 +14,14 @@ use ucd_model::{DataRow, Kind, Memory, Point, Text};
 
 /// The last digit of a number.
 fn decimal_digit(number: u8) -> u8
-    ensures { result ≡ decimal_digit number }
+    ensures { result ≡ 48 + number % 10 }
 {
     b'0' + number % 10
 }
 
 /// Appends a class in decimal.
-#[tactic(auto, unfolding(ucd_model::specs::RowTexts::class_text))]
 fn put_class(class: u8, into: &mut Text) -> Result<(), Memory>
-    ensures { OnOk result (into.new ≡ into.old ++ class_text class) }
+    ensures { OnOk result (into.new ≡ into.old ++ decimal class) }
 {
     if class < 10 {
         return into.push(decimal_digit(class));
@@ -71,7 +71,7 @@ fn put_field(field: &[u8], into: &mut Text) -> Result<(), Memory>
 
 /// Appends fields 0 to 3.
 fn put_front(row: &DataRow, point: Point, name: &[u8], into: &mut Text) -> Result<(), Memory>
-    ensures { OnOk result (into.new ≡ into.old ++ ended (hex_text point ∷ name.now ∷ category_code row.now.category ∷ class_text row.now.class ∷ [])) }
+    ensures { OnOk result (into.new ≡ into.old ++ ended (hex_text point ∷ name.now ∷ category_code row.now.category ∷ decimal row.now.class ∷ [])) }
 {
     put_hex(point, into)?;
     into.push(b';')?;

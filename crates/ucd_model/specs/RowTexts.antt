@@ -2,8 +2,6 @@
 --
 -- mapping_text cs              code points with one space between them
 -- spaced cs                    code points, each with a space before it
--- decimal_digit d              the byte of the last decimal digit of a number
--- class_text n                 a number below 1000 in decimal, without leading zeros; of a greater one the last three digits
 -- decomposition_text kind cs   field 5 of UnicodeData.txt: nothing, the mapping, or a tag, a space and the mapping
 -- case_text c                  nothing, or the code point
 -- value_fields row             fields 2 to 14 of UnicodeData.txt
@@ -24,7 +22,8 @@
 -- names_text ns                the names with ` ; ` between them; nothing for no names
 -- alias_text row               a row of PropertyAliases.txt or PropertyValueAliases.txt: its names
 -- row_text file row            the text of a row, by its kind alone: the file plays no part
-use Rattle.std.specs.Prelude.{ℕ, ◌+◌, ◌/◌, ◌%◌, List, [], ◌∷◌, ◌++◌, map, Option, Some, None, nat_lt, if◌then◌else◌, codes}
+use Rattle.std.specs.Prelude.{ℕ, List, [], ◌∷◌, ◌++◌, map, Option, Some, None, codes, if◌then◌else◌}
+use Rattle.std.specs.Fmt.{decimal}
 use Rattle.std.specs.List.{flat_map, join_with_byte}
 use Rattle.ucd_model.specs.Names.{category_code, status_code, tag_text}
 use Rattle.ucd_model.specs.DerivedText.{hex_text, span_text}
@@ -48,12 +47,6 @@ spaced cs = flat_map (λ c. 32 ∷ hex_text c) cs
 
 -- ---- UnicodeData.txt
 
-abbrev pub decimal_digit : ℕ → ℕ
-decimal_digit d = 48 + d % 10
-
-unfoldable pub class_text : ℕ → List ℕ
-class_text n = if nat_lt n 10 then decimal_digit n ∷ [] else (if nat_lt n 100 then decimal_digit (n / 10) ∷ decimal_digit n ∷ [] else decimal_digit (n / 100) ∷ decimal_digit (n / 10) ∷ decimal_digit n ∷ [])
-
 abbrev pub decomposition_text : Kind → List ℕ → List ℕ
 decomposition_text Plain cs = []
 decomposition_text Canonical cs = mapping_text cs
@@ -64,7 +57,7 @@ case_text None = []
 case_text (Some c) = hex_text c
 
 abbrev pub value_fields : DataRow → List (List ℕ)
-value_fields row = category_code row.category ∷ class_text row.class ∷ row.kept.f4 ∷ decomposition_text row.kind row.mapping ∷ row.kept.f6 ∷ row.kept.f7 ∷ row.kept.f8 ∷ row.kept.f9 ∷ row.kept.f10 ∷ row.kept.f11 ∷ case_text row.upper ∷ case_text row.lower ∷ case_text row.title ∷ []
+value_fields row = category_code row.category ∷ decimal row.class ∷ row.kept.f4 ∷ decomposition_text row.kind row.mapping ∷ row.kept.f6 ∷ row.kept.f7 ∷ row.kept.f8 ∷ row.kept.f9 ∷ row.kept.f10 ∷ row.kept.f11 ∷ case_text row.upper ∷ case_text row.lower ∷ case_text row.title ∷ []
 
 unfoldable pub data_line : DataRow → ℕ → List ℕ → List ℕ
 data_line row c name = join_with_byte 59 (hex_text c ∷ name ∷ value_fields row)

@@ -76,6 +76,13 @@ fn is_outside(pool: &PagePool, page: u32, lo: u8, hi: u8, value: u64) -> bool
     ensures even { IsTrue result → IsOutside (word_of pool.now page) lo hi value }
     ensures uneven { IsOutside (word_of pool.now page) lo hi value → IsTrue result }
 {
+    // mostly a word beside them tells
+    if lo > 0 && pool.get(page, lo - 1) != value {
+        return false;
+    }
+    if hi < 255 && pool.get(page, hi + 1) != value {
+        return false;
+    }
     for at in 0..=255 {
         if (at < lo || hi < at) && pool.get(page, at) != value {
             return false;

@@ -11,6 +11,7 @@ pub mod Loading
 pub mod StoredItems
 pub mod Given
 pub mod Progress
+pub mod Loaders
 pub mod Walking
 pub mod Releases
 pub mod Operations

@@ -11,8 +11,9 @@
 -- item_or_fault file line p     the item of a piece whose first line has this number, by itself, or its fault
 -- ReadsPiece file line p result   the result is what is kept of the piece's row, or its fault; want of memory says nothing
 -- StopsAs stop fault            the stop is that fault; want of memory says nothing
--- TakesPiece result above p     the piece has no fault below the items so far, and its item is behind them; or the result is its
---                               fault; want of memory says nothing
+-- with_item above item          the same file and text, with one more item behind the others
+-- TakesPiece result above next p   the piece has no fault below the items so far, and next has its item behind them; or the result
+--                               is its fault; want of memory says nothing
 -- LoadsItems result expected    the result has the items that were expected, now and next, or is the fault; want of memory says
 --                               nothing
 -- entry_extents entry           the extent of a row, by what is kept of it; none where there is no row
@@ -84,10 +85,13 @@ abbrev pub StopsAs : LoadStop → LoadFault → Type 0
 StopsAs (Fault line rule) fault = fault ≡ record { line = line; rule = rule }
 StopsAs Memory fault = Unit {0}
 
-abbrev pub TakesPiece : Result Progress LoadStop → Progress → Lines → Type 0
-TakesPiece (Ok next) above p = (piece_fault above.file above.items p ≡ None) × (next ≡ record { file = above.file; text = above.text; items = above.items ++ file_item above.file p ∷ [] })
-TakesPiece (Err (Fault line rule)) above p = piece_fault above.file above.items p ≡ Some (record { line = line; rule = rule })
-TakesPiece (Err Memory) above p = Unit {0}
+abbrev pub with_item : Progress → FileItem → Progress
+with_item above item = record { file = above.file; text = above.text; items = above.items ++ item ∷ [] }
+
+abbrev pub TakesPiece : Result (Unit {0}) LoadStop → Progress → Progress → Lines → Type 0
+TakesPiece (Ok _) above next p = (piece_fault above.file above.items p ≡ None) × (next ≡ with_item above (file_item above.file p))
+TakesPiece (Err (Fault line rule)) above next p = piece_fault above.file above.items p ≡ Some (record { line = line; rule = rule })
+TakesPiece (Err Memory) above next p = Unit {0}
 
 abbrev pub LoadsItems : Result FileLists LoadStop → Result (List FileItem) LoadFault → Type 0
 LoadsItems (Ok lists) expected = (expected ≡ Ok lists.now) × (lists.next ≡ lists.now)

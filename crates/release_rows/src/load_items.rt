@@ -32,7 +32,7 @@ pub fn load_items(alloc: Global, file: SourceFile, bytes: &[u8]) -> Result<FileT
     let mut lines = items(bytes);
     let mut loading = Loading::new(alloc, file, bytes);
     'pieces: while let Some(piece) = next_piece(file, &mut lines) {
-        loading = loading.take(alloc, piece)?;
+        loading.take(alloc, piece)?;
     }
     let items = loading.into_items();
     let text = text_of(alloc, bytes)?;

@@ -1,6 +1,6 @@
 //! A file that is loaded piece by piece.
 
-ghost use Rattle.std.specs.Prelude.{◌≡◌, ◌+◌, ◌<◌, ◌≤◌, ◌^◌, ◌∷◌, ◌++◌, ◌||◌, [], Bool, IfOk, Option, length, map};
+ghost use Rattle.std.specs.Prelude.{◌≡◌, ◌+◌, ◌<◌, ◌≤◌, ◌^◌, ◌∷◌, ◌++◌, ◌||◌, [], Bool, OnOk, Option, length, map};
 ghost use Rattle.std.specs.List.{list_any, All};
 ghost use Rattle.ucd_model.specs.declared.files.SourceFile.{SourceFile as FileValue};
 ghost use Rattle.ucd_model.specs.declared.row.Row.{Row as RowValue};
@@ -10,7 +10,8 @@ ghost use Rattle.release_rows.specs.Keys.{is_back};
 ghost use Rattle.release_rows.specs.Pieces.{piece_lines};
 ghost use Rattle.release_rows.specs.FileItems.{bytes_of, file_item_bytes, rows_in, lines_of};
 ghost use Rattle.release_rows.specs.Loading.{row_rule};
-ghost use Rattle.release_rows.specs.Progress.{Progress, TakesPiece, Stands, BreaksNoRule, IsFreeEntry, IsFreeOf, IsOrdered, FreesSome, entry_extents, start_of_entry};
+ghost use Rattle.release_rows.specs.Progress.{TakesPiece, with_item, Stands, BreaksNoRule, IsFreeEntry, IsFreeOf, IsOrdered, FreesSome, entry_extents, start_of_entry};
+ghost use Rattle.release_rows.specs.Loaders.{IsSound, progress_of, items_above};
 ghost use Rattle.part_list.specs.Parts.{now_in, next_in};
 ghost use Rattle.release_rows.specs.StoredItems.{piece_of, item_at, stored_at, IsItem, IsStored, HasSpan};
 
@@ -23,10 +24,9 @@ use crate::read_piece::read_piece;
 use crate::stretch::{Stretch, content_in};
 use part_list::{PartList, Spanned};
 use std::alloc::Global;
-use std::marker::Model;
 use ucd_model::{Memory, SourceFile};
 
-/// The items of a file so far, and what is kept of their rows. Contracts see the file, its text and the items.
+/// The items of a file so far, and what is kept of their rows.
 #[derive(Drop)]
 pub struct Loading<'a> {
     file: SourceFile,
@@ -42,28 +42,15 @@ pub struct Loading<'a> {
     lines: u32,
 }
 
-impl<'a> Model for Loading<'a> {
-    ghost use Rattle.std.specs.Prelude.{map};
-    ghost use Rattle.release_rows.specs.Progress.{Progress, IsLoading};
-    ghost use Rattle.part_list.specs.Parts.{now_in};
-    ghost use Rattle.release_rows.specs.StoredItems.{stored_at};
-
-    ghost Value = { Progress };
-
-    ghost view = { λ l. record { file = l.file; text = l.text.now; items = map (stored_at l.file l.text.now) (now_in l.items) } };
-
-    ghost invariant = { λ l. IsLoading l.file l.text.now l.items l.keys l.before l.lines l.end };
-}
-
-/// The extents of the rows above and of one more row, where there is one.
-fn keys_with(mut keys: KeySet, entry: Option<Entry>) -> Result<KeySet, Memory>
-    requires { IsFreeEntry keys entry }
-    ensures { IfOk result (λ new. (p : Extent → Bool) → list_any p new ≡ (list_any p (entry_extents entry) || list_any p keys)) }
+/// Takes up the extent of one more row, where there is one.
+fn put_extent(keys: &mut KeySet, entry: Option<Entry>) -> Result<(), Memory>
+    requires { IsFreeEntry keys.old entry }
+    ensures { OnOk result ((p : Extent → Bool) → list_any p keys.new ≡ (list_any p (entry_extents entry) || list_any p keys.old)) }
 {
-    if let Some(Entry { place, last }) = entry {
-        keys.insert(place, last)?;
+    match entry {
+        Some(Entry { place, last }) => keys.insert(place, last),
+        None => Ok(()),
     }
-    Ok(keys)
 }
 
 /// The first code point of the last row, with one more row, where there is one.
@@ -106,7 +93,8 @@ impl<'a> Loading<'a> {
     /// No items yet. It takes no memory.
     pub fn new(alloc: Global, file: SourceFile, text: &'a [u8]) -> Loading<'a>
         requires { length text.now < 2 ^ 32 }
-        ensures { result ≡ record { file = file; text = text.now; items = [] } }
+        ensures progress { progress_of result ≡ record { file = file; text = text.now; items = [] } }
+        ensures sound { IsSound result }
     {
         Loading {
             file,
@@ -121,9 +109,10 @@ impl<'a> Loading<'a> {
 
     /// Where the items stand in the text, each with the code points of its row.
     pub fn into_items(self) -> PartList<Stretch>
-        ensures items { map (stored_at self.entry.file self.entry.text) (now_in result) ≡ self.entry.items }
+        requires { IsSound self }
+        ensures items { map (stored_at self.entry.file self.entry.text.now) (now_in result) ≡ items_above self.entry }
         ensures same { next_in result ≡ now_in result }
-        ensures each { All (IsStored self.entry.file self.entry.text) (now_in result) }
+        ensures each { All (IsStored self.entry.file self.entry.text.now) (now_in result) }
         ensures few { length (now_in result) < 2 ^ 32 }
     {
         self.items
@@ -132,8 +121,9 @@ impl<'a> Loading<'a> {
     /// Hands what is kept of a row back where the row breaks no rule against the rows above it, and else answers the
     /// rule. It takes no memory.
     fn checked_entry(&self, entry: Entry) -> Result<Entry, LoadRule>
-        requires { entry.place.code ≤ entry.last }
-        ensures { (row : RowValue) → IsEntry self.now.file row entry → IsFreeOf result entry (row_rule self.now.file (rows_in self.now.items) row) }
+        requires sound { IsSound self.now }
+        requires ordered { entry.place.code ≤ entry.last }
+        ensures { (row : RowValue) → IsEntry self.now.file row entry → IsFreeOf result entry (row_rule self.now.file (rows_in (items_above self.now)) row) }
     {
         let Entry { place, last } = entry;
         let place = match self.keys.checked_place(place, last) {
@@ -149,8 +139,9 @@ impl<'a> Loading<'a> {
 
     /// The same of a row that may not be there.
     fn checked_optional(&self, entry: Option<Entry>) -> Result<Option<Entry>, LoadRule>
-        requires { IsOrdered entry }
-        ensures { (row : Option RowValue) → EntersSome self.now.file entry row → FreesSome self.now.file self.now.items row result entry }
+        requires sound { IsSound self.now }
+        requires ordered { IsOrdered entry }
+        ensures { (row : Option RowValue) → EntersSome self.now.file entry row → FreesSome self.now.file (items_above self.now) row result entry }
     {
         match entry {
             None => Ok(None),
@@ -161,57 +152,45 @@ impl<'a> Loading<'a> {
         }
     }
 
-    /// With one more item, whose row breaks no rule.
-    fn with_item(self, stretch: Stretch, entry: Option<Entry>) -> Result<Loading<'a>, Memory>
-        requires item { IsItem self.file self.text stretch }
-        requires ends { length (bytes_of self.items) + length (file_item_bytes (item_at self.file self.text stretch)) < 2 ^ 32 }
-        requires fits { lines_of self.items + stretch.lines < 2 ^ 32 }
-        requires enters { EntersSome self.file entry (item_at self.file self.text stretch).row }
-        requires rule { BreaksNoRule self.file self.items (item_at self.file self.text stretch).row }
-        ensures { IfOk result (λ next. next ≡ record { file = self.entry.file; text = self.entry.text; items = self.entry.items ++ item_at self.entry.file self.entry.text stretch ∷ [] }) }
+    /// Puts one more item behind the others, whose row breaks no rule. After an error nothing is known of the items.
+    fn put(&mut self, stretch: Stretch, entry: Option<Entry>) -> Result<(), Memory>
+        requires sound { IsSound self.old }
+        requires item { IsItem self.old.file self.old.text.now stretch }
+        requires ends { length (bytes_of (items_above self.old)) + length (file_item_bytes (item_at self.old.file self.old.text.now stretch)) < 2 ^ 32 }
+        requires fits { lines_of (items_above self.old) + stretch.lines < 2 ^ 32 }
+        requires enters { EntersSome self.old.file entry (item_at self.old.file self.old.text.now stretch).row }
+        requires rule { BreaksNoRule self.old.file (items_above self.old) (item_at self.old.file self.old.text.now stretch).row }
+        ensures sound { OnOk result (IsSound self.new) }
+        ensures progress { OnOk result (progress_of self.new ≡ with_item (progress_of self.old) (item_at self.old.file self.old.text.now stretch)) }
     {
-        let Loading {
-            file,
-            text,
-            mut items,
-            end,
-            keys,
-            before,
-            lines,
-        } = self;
-        let item = spanned(stretch, &entry, before);
-        let before = start_with(before, &entry);
-        let keys = keys_with(keys, entry)?;
-        let end = end + (stretch.len + ending_len(stretch.ending));
-        let lines = lines + u32::from(stretch.lines);
-        items.push(item)?;
-        Ok(Loading {
-            file,
-            text,
-            items,
-            end,
-            keys,
-            before,
-            lines,
-        })
+        let item = spanned(stretch, &entry, self.before);
+        self.before = start_with(self.before, &entry);
+        self.end += stretch.len + ending_len(stretch.ending);
+        self.lines += u32::from(stretch.lines);
+        put_extent(&mut self.keys, entry)?;
+        self.items.push(item)?;
+        Ok(())
     }
 
-    /// With one more piece, which stands in the text behind the items so far.
+    /// Takes one more piece, which stands in the text behind the items so far. After an error nothing is known of the
+    /// items.
     ///
     /// - `Fault { line, rule }`: the piece breaks a rule: the row's own come first, then K1, K4 and K5. The line is
     ///   counted from 1.
     /// - `Memory`: memory ran out.
-    pub fn take(self, alloc: Global, piece: Piece<'_>) -> Result<Loading<'a>, LoadStop>
-        requires fits { lines_of self.items + piece_lines (piece_of piece) + 1 < 2 ^ 32 }
-        requires stands { Stands self.text self.items (piece_of piece) }
-        ensures { TakesPiece result self.entry (piece_of piece.entry) }
+    pub fn take(&mut self, alloc: Global, piece: Piece<'_>) -> Result<(), LoadStop>
+        requires sound { IsSound self.old }
+        requires fits { lines_of (items_above self.old) + piece_lines (piece_of piece) + 1 < 2 ^ 32 }
+        requires stands { Stands self.old.text.now (items_above self.old) (piece_of piece) }
+        ensures sound { OnOk result (IsSound self.new) }
+        ensures piece { TakesPiece result (progress_of self.old) (progress_of self.new) (piece_of piece.entry) }
     {
         let line = self.lines + 1;
         let stretch = stretch_of(self.end, piece);
         let content = content_in(self.text, stretch);
         let entry = read_piece(alloc, self.file, line, piece, content)?;
         match self.checked_optional(entry) {
-            Ok(entry) => Ok(self.with_item(stretch, entry)?),
+            Ok(entry) => Ok(self.put(stretch, entry)?),
             Err(rule) => Err(LoadStop::Fault { line, rule }),
         }
     }

@@ -19,9 +19,9 @@ use crate::conflict::Conflict;
 use crate::entry::Entry;
 use crate::key_set::KeySet;
 use crate::load_stop::{LoadRule, LoadStop};
-use crate::piece::{Piece, ending_len, stretch_of};
+use crate::piece::{Piece, content_of, ending_len, stretch_of};
 use crate::read_piece::read_piece;
-use crate::stretch::{Stretch, content_in};
+use crate::stretch::Stretch;
 use part_list::{PartList, Spanned};
 use std::alloc::Global;
 use ucd_model::{Memory, SourceFile};
@@ -187,7 +187,7 @@ impl<'a> Loading<'a> {
     {
         let line = self.lines + 1;
         let stretch = stretch_of(self.end, piece);
-        let content = content_in(self.text, stretch);
+        let content = content_of(self.text, stretch, piece);
         let entry = read_piece(alloc, self.file, line, piece, content)?;
         match self.checked_optional(entry) {
             Ok(entry) => Ok(self.put(stretch, entry)?),

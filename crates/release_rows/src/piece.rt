@@ -5,9 +5,9 @@ ghost use Rattle.std.specs.Option.{MatchOption};
 ghost use Rattle.ucd_model.specs.Lines.{ending_bytes, joined};
 ghost use Rattle.ucd_lines.specs.Items.{ending_of};
 ghost use Rattle.release_rows.specs.Pieces.{pieces, opens_range, piece_bytes, piece_content, piece_ending, piece_lines};
-ghost use Rattle.release_rows.specs.StoredItems.{piece_of};
+ghost use Rattle.release_rows.specs.StoredItems.{content_at, piece_of};
 
-use crate::stretch::Stretch;
+use crate::stretch::{Stretch, content_in};
 use source_rows::begins_range;
 use ucd_lines::{Ending, Item, Items, is_trivia};
 use ucd_model::SourceFile;
@@ -21,12 +21,12 @@ pub struct Piece<'a> {
     pub last: Option<Item<'a>>,
 }
 
-/// Whether a line opens a range.
+/// Whether a line opens a range. Most lines begin none, and are not asked for more.
 fn opens_range(file: SourceFile, content: &[u8]) -> bool
     ensures { result ≡ opens_range file content.now }
 {
     match file {
-        SourceFile::UnicodeData => !is_trivia(content) && begins_range(content),
+        SourceFile::UnicodeData => begins_range(content) && !is_trivia(content),
         _ => false,
     }
 }
@@ -67,6 +67,17 @@ fn content_len(piece: Piece<'_>) -> usize
             let first = piece.first.content.len() + ending_len(piece.first.ending) as usize;
             first + last.content.len()
         }
+    }
+}
+
+/// The content, which stands at a stretch of the text. That of one line is at hand.
+pub fn content_of<'a>(text: &'a [u8], stretch: Stretch, piece: Piece<'a>) -> &'a [u8]
+    requires { content_at text.now stretch ≡ piece_content (piece_of piece) }
+    ensures { result.now ≡ piece_content (piece_of piece.entry) }
+{
+    match piece.last {
+        None => piece.first.content,
+        Some(_) => content_in(text, stretch),
     }
 }
 

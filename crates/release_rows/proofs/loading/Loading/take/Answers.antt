@@ -7,6 +7,12 @@ use Rattle.release_rows.specs.StoredItems.{piece_of}
 use Rattle.release_rows.proofs.Standing.{content_is, item_is, no_fault}
 use Rattle.release_rows.proofs.loading.Loading.take.Goals as goal
 
+pub content_of-content-requires : goal.content_of-content-requires
+content_of-content-requires c =
+    let l = c.args.self.now in
+    let s = c.stretch_of-stretch.result in
+    content_is l.text.now (items_above l) (piece_of c.args.piece) s c.requires.stands (c.stretch_of-stretch.ensures.start ∙ c.requires.sound.ends) c.stretch_of-stretch.ensures.len
+
 pub returns-in_ok-put-in-Ok-clause-piece : goal.returns-in_ok-put-in-Ok-clause-piece
 returns-in_ok-put-in-Ok-clause-piece c =
     let p = piece_of c.args.piece in

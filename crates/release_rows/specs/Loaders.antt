@@ -1,8 +1,8 @@
 -- The loader of the code, as the definitions name it.
 --
--- items_above l      the items so far
+-- items_above l   the items so far
 -- progress_of l   the file, its text and the items so far
--- IsSound l       what is kept beside the items is IsLoading
+-- IsSound l       its fields are IsLoading: so they are but after an error
 use Rattle.std.specs.Prelude.{List, map}
 use Rattle.part_list.specs.Parts.{now_in}
 use Rattle.release_rows.specs.FileItems.{FileItem}

@@ -26,7 +26,8 @@ use part_list::{PartList, Spanned};
 use std::alloc::Global;
 use ucd_model::{Memory, SourceFile};
 
-/// The items of a file so far, and what is kept of their rows.
+/// The items of a file so far, and what is kept of their rows. After an error it is of no more use, and nothing is known
+/// of it.
 #[derive(Drop)]
 pub struct Loading<'a> {
     file: SourceFile,
@@ -152,7 +153,7 @@ impl<'a> Loading<'a> {
         }
     }
 
-    /// Puts one more item behind the others, whose row breaks no rule. After an error nothing is known of the items.
+    /// Puts one more item behind the others, whose row breaks no rule.
     fn put(&mut self, stretch: Stretch, entry: Option<Entry>) -> Result<(), Memory>
         requires sound { IsSound self.old }
         requires item { IsItem self.old.file self.old.text.now stretch }
@@ -172,8 +173,7 @@ impl<'a> Loading<'a> {
         Ok(())
     }
 
-    /// Takes one more piece, which stands in the text behind the items so far. After an error nothing is known of the
-    /// items.
+    /// Takes one more piece, which stands in the text behind the items so far.
     ///
     /// - `Fault { line, rule }`: the piece breaks a rule: the row's own come first, then K1, K4 and K5. The line is
     ///   counted from 1.

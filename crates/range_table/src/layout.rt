@@ -1,6 +1,6 @@
 //! The values of all code points, kept as the places where they change.
 
-ghost use Rattle.std.specs.Prelude.{◌≡◌, ◌+◌, ◌<◌, ◌≤◌, ℕ, true, false, [], ◌++◌, take, drop, length, vec_len, IfOk, OnOk, OnErr};
+ghost use Rattle.std.specs.Prelude.{◌≡◌, ◌+◌, ◌<◌, ◌≤◌, ℕ, true, false, [], ◌++◌, take, drop, length, vec_len, IfOk, IsTrue, OnOk, OnErr};
 ghost use Rattle.range_table.specs.Values.{SameValues, with_span, run_count};
 ghost use Rattle.ucd_model.specs.Limits.{point_count};
 ghost use Rattle.range_table.specs.Layout.{Layout as Runs, values, count_before, value_of_run, IsEnd};
@@ -8,6 +8,7 @@ ghost use Rattle.range_table.specs.Edit.{SetsSpan, edited};
 
 use crate::change::Change;
 use crate::edit::{Edit, change_to, splice};
+use crate::run::Run;
 use std::alloc::Global;
 use std::marker::Model;
 use ucd_model::{Memory, Point, Span};
@@ -76,6 +77,23 @@ impl<V: Copy + Eq> Layout<V> {
         ensures maximal { result + 1 < 1114112 → V.eq (values self.now c) (values self.now (result + 1)) ≡ false }
     {
         Point::new(self.end_of_run(c) - 1).unwrap()
+    }
+
+    /// The run of equal values that a code point lies in. It is looked for behind the index `near` and there first, and may
+    /// lie anywhere.
+    pub fn run(&self, c: Point, near: usize) -> Run<V>
+        ensures value { result.value ≡ values self.now c }
+        ensures from { c ≤ result.last }
+        ensures same { (k : ℕ) → c ≤ k → k ≤ result.last → values self.now k ≡ values self.now c }
+        ensures maximal { result.last + 1 < 1114112 → V.eq (values self.now c) (values self.now (result.last + 1)) ≡ false }
+    {
+        let index = self.count_near(c.number() + 1, near);
+        let end = self.end_at(c, index);
+        Run {
+            value: self.value_of_run(index),
+            last: Point::new(end - 1).unwrap(),
+            index,
+        }
     }
 
     /// Gives the points of a span the value.
@@ -150,12 +168,47 @@ impl<V: Copy + Eq> Layout<V> {
     fn end_of_run(&self, c: Point) -> u32
         ensures { IsEnd V.eq (values self.now) c result }
     {
-        let run = self.count_before(c.number() + 1);
+        self.end_at(c, self.count_before(c.number() + 1))
+    }
+
+    /// The same, where it is known how many changes come up to the code point.
+    fn end_at(&self, c: Point, run: usize) -> u32
+        requires { run ≡ count_before (c + 1) self.now.changes }
+        ensures { IsEnd V.eq (values self.now) c result }
+    {
         if run == self.changes.len() {
             Point::COUNT
         } else {
             self.changes[run].start
         }
+    }
+
+    /// How many changes come before `start`. One more than `near` is tried first, and `near` itself.
+    fn count_near(&self, start: u32, near: usize) -> usize
+        ensures { result ≡ count_before start self.now.changes }
+    {
+        if near < self.changes.len() && self.is_count(start, near + 1) {
+            return near + 1;
+        }
+        if self.is_count(start, near) {
+            return near;
+        }
+        self.count_before(start)
+    }
+
+    /// Whether so many changes come before `start`.
+    fn is_count(&self, start: u32, count: usize) -> bool
+        ensures { IsTrue result → count ≡ count_before start self.now.changes }
+    {
+        let changes = self.changes.as_slice();
+        let len = changes.len();
+        if len < count {
+            return false;
+        }
+        if count == 0 || changes[count - 1].start < start {
+            return count == len || start <= changes[count].start;
+        }
+        false
     }
 
     /// The value of a run: of the first one, or of the one that a change begins.

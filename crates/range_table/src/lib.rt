@@ -4,10 +4,12 @@
 mod change;
 mod edit;
 mod layout;
+mod run;
 mod run_table;
 mod stretches;
 mod table;
 
+pub use run::Run;
 pub use run_table::RunTable;
 pub use stretches::Stretches;
 pub use table::Table;

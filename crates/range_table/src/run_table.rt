@@ -5,6 +5,7 @@ ghost use Rattle.range_table.specs.Values.{run_count};
 ghost use Rattle.ucd_model.specs.Limits.{point_count};
 
 use crate::layout::Layout;
+use crate::run::Run;
 use crate::stretches::Stretches;
 use crate::table::Table;
 use std::alloc::Global;
@@ -39,6 +40,19 @@ impl<V: Copy + Eq> RunTable<V> {
             → V.eq (⟦<RunTable<V> as Table<V>>⟧.now self.now c) (⟦<RunTable<V> as Table<V>>⟧.now self.now (result + 1)) ≡ false }
     {
         self.committed.last_of_run(c)
+    }
+
+    /// The maximal run of equal values now that a code point lies in. It is looked for behind the index `near` and there
+    /// first, and may lie anywhere: whoever goes from run to run with the index of each finds every next one at once.
+    pub fn run(&self, c: Point, near: usize) -> Run<V>
+        ensures value { result.value ≡ ⟦<RunTable<V> as Table<V>>⟧.now self.now c }
+        ensures from { c ≤ result.last }
+        ensures same { (k : ℕ) → c ≤ k → k ≤ result.last
+            → ⟦<RunTable<V> as Table<V>>⟧.now self.now k ≡ ⟦<RunTable<V> as Table<V>>⟧.now self.now c }
+        ensures maximal { result.last + 1 < 1114112
+            → V.eq (⟦<RunTable<V> as Table<V>>⟧.now self.now c) (⟦<RunTable<V> as Table<V>>⟧.now self.now (result.last + 1)) ≡ false }
+    {
+        self.committed.run(c, near)
     }
 }
 

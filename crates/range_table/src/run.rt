@@ -1,0 +1,14 @@
+//! Runs of equal values.
+
+use ucd_model::Point;
+
+/// What a table tells of the maximal run of equal values that a code point lies in.
+#[derive(Clone, Copy)]
+pub struct Run<V> {
+    /// The value.
+    pub value: V,
+    /// The last code point of the run.
+    pub last: Point,
+    /// The index of the run, counted from 0.
+    pub index: usize,
+}

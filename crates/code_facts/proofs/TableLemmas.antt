@@ -17,7 +17,7 @@ use Rattle.code_facts.specs.declared.version.Version.TheVariants.{Now, Next}
 use Rattle.code_facts.proofs.IndexLemmas.{pair_kind, second_kind}
 use Rattle.code_facts.specs.Changes.{StaysOutside}
 use Rattle.code_facts.specs.Copying.{with_spans, IsListed}
-use Rattle.code_facts.specs.Index.{Lists, is_gathered, is_listed}
+use Rattle.code_facts.specs.Index.{Lists, is_listed}
 use Rattle.code_facts.specs.KeptFacts.{kept_at, all_kept, Packs}
 use Rattle.code_facts.specs.Rest.{RestOf}
 use Rattle.code_facts.specs.Locality.{rows_within}
@@ -25,7 +25,6 @@ use Rattle.code_facts.specs.LocalityProofs.{facts_are_local}
 use Rattle.code_facts.specs.RowTables.{word_in, rest_in, made_facts, ShowsRows}
 use Rattle.code_facts.specs.Word.{packed}
 use Rattle.code_facts.specs.declared.pair_index.PairIndex.{PairIndex}
-use Rattle.code_facts.specs.declared.pair_keys.PairKeys.{PairKeys}
 use Rattle.code_facts.specs.declared.row_tables.RowTables.{RowTables}
 use Rattle.code_facts.proofs.FactLemmas.{kept_point, kept_outside, same_kept, below_point, point_below, facts_from_points}
 
@@ -120,14 +119,14 @@ put_facts t rows spans words rests old point shows meet outside =
     (outside c lt))
 
 -- spans that cover all code points
-with_all : {V : Type 0} (spans all : List Bounds) (f g : ℕ → V) (c : ℕ) → spans ≡ all → list_any (within c) all ≡ true → with_spans f spans g c ≡ g c
-with_all spans all f g c e is = rw (ap (λ (ss : List Bounds). list_any (within c) ss) e ∙ is) refl
+pub with_all : {V : Type 0} (spans : List Bounds) (f g : ℕ → V) (c : ℕ) → list_any (within c) spans ≡ true → with_spans f spans g c ≡ g c
+with_all spans f g c is = rw is refl
 
 -- tables that keep what tables of rows do
-made_point : (t : RowTables) (words : ℕ → ℕ) (rests : ℕ → RestOf) → SameValues words (word_in t) → SameValues rests (rest_in t) → (c : ℕ) → c < 1114112 → all_kept words rests c ≡ made_facts t c
+pub made_point : (t : RowTables) (words : ℕ → ℕ) (rests : ℕ → RestOf) → SameValues words (word_in t) → SameValues rests (rest_in t) → (c : ℕ) → c < 1114112 → all_kept words rests c ≡ made_facts t c
 made_point t words rests word rest c lt = kept_point words rests c lt ∙ ap₂ (kept_at c) (word c lt) (rest c lt)
 
-sound_made : (index : PairIndex) (t : RowTables) (words : ℕ → ℕ) (rests : ℕ → RestOf) → SameValues words (word_in t) → SameValues rests (rest_in t)
+pub sound_made : (index : PairIndex) (t : RowTables) (words : ℕ → ℕ) (rests : ℕ → RestOf) → SameValues words (word_in t) → SameValues rests (rest_in t)
     → ((q : ℕ) → q < 1114112 → IsListed (is_listed index) t q) → Packs (word_in t) (made_facts t) → Sound index words rests
 sound_made index t words rests word rest made packs = record {
   listed = λ s y q kind is. elim (cases_lt q point_count) [
@@ -137,24 +136,6 @@ sound_made index t words rests word rest made packs = record {
   ];
   packs = λ c lt. word c lt ∙ packs c lt ∙ sym (ap packed (made_point t words rests word rest c lt));
 }
-
--- such tables, made of what was copied on spans that cover all code points
-pub record Filled (index : PairIndex) (t : RowTables) (words : ℕ → ℕ) (rests : ℕ → RestOf) : Type 0 where
-  pub sound : Sound index words rests
-  pub point : (c : ℕ) → c < 1114112 → all_kept words rests c ≡ made_facts t c
-
-pub filled : (index : PairIndex) (keys : PairKeys) (t : RowTables) (copied spans : List Bounds) (words words' old : ℕ → ℕ) (rests rests' before : ℕ → RestOf) → copied ≡ spans
-    → ((c : ℕ) → c < 1114112 → list_any (within c) spans ≡ true) → SameValues words words' → SameValues words' (with_spans old copied (word_in t))
-    → SameValues rests rests' → SameValues rests' (with_spans before copied (rest_in t)) → ((s y q : ℕ) → is_listed index s y q ≡ is_gathered keys s y q)
-    → ((q : ℕ) → list_any (within q) copied ≡ true → IsListed (is_gathered keys) t q) → Packs (word_in t) (made_facts t) → Filled index t words rests
-filled index keys t copied spans words words' old rests rests' before same all committed word kept rest lists gathered packs =
-    let word_is : SameValues words (word_in t) = λ c lt. committed c lt ∙ word c lt ∙ with_all copied spans old (word_in t) c same (all c lt) in
-    let rest_is : SameValues rests (rest_in t) = λ c lt. kept c lt ∙ rest c lt ∙ with_all copied spans before (rest_in t) c same (all c lt) in
-    record {
-      sound = sound_made index t words rests word_is rest_is
-          (λ q lt s y kind is. lists s y q ∙ gathered q (ap (λ (ss : List Bounds). list_any (within q) ss) same ∙ all q lt) s y kind is) packs;
-      point = made_point t words rests word_is rest_is;
-    }
 
 -- a composite is a code point
 pub pair_inside : (words : ℕ → ℕ) (rests : ℕ → RestOf) (s y q : ℕ) → composes (all_kept words rests) s y q ≡ true → q < 1114112

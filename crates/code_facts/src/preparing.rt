@@ -5,11 +5,12 @@ ghost use Rattle.std.specs.List.{list_any};
 ghost use Rattle.ucd_model.specs.Facts.{facts, within};
 ghost use Rattle.range_table.specs.Values.{SameValues};
 ghost use Rattle.release_rows.specs.Touching.{meets};
-ghost use Rattle.code_facts.specs.Copying.{with_spans};
+ghost use Rattle.code_facts.specs.Copying.{with_spans, IsListed};
 ghost use Rattle.code_facts.specs.FactTables.{tables_facts, tables_next};
+ghost use Rattle.code_facts.specs.Index.{is_listed};
 ghost use Rattle.code_facts.specs.KeptFacts.{Packs};
 ghost use Rattle.code_facts.specs.Locality.{rows_within};
-ghost use Rattle.code_facts.specs.RowTables.{ShowsRows, word_in, made_facts};
+ghost use Rattle.code_facts.specs.RowTables.{ShowsRows, word_in, rest_in, made_facts};
 ghost use Rattle.code_facts.specs.Rows.{release_sources, next_sources};
 ghost use Rattle.code_facts.specs.Word.{packed};
 
@@ -51,23 +52,13 @@ impl<T: Table<u64>> FactTables<T> {
         ensures now { IfOk result (λ tables. (c : ℕ) → c < 1114112 → tables_facts T.now tables c ≡ made_facts made.now c) }
         ensures next { IfOk result (λ tables. (c : ℕ) → c < 1114112 → tables_next T.now tables c ≡ made_facts made.now c) }
     {
-        let spans = everywhere(alloc)?;
         let mut words = T::filled(alloc, NO_ROW)?;
         let mut rests = Kept::filled(alloc, Rest::none())?;
-        let mut keys = PairKeys::new(alloc);
-        copy_spans(
-            alloc,
-            &mut words,
-            &mut rests,
-            &mut keys,
-            made,
-            spans.as_slice(),
-        )?;
-        commit_and_shrink(&mut words, &mut rests);
+        let index = fill(alloc, &mut words, &mut rests, made)?;
         Ok(FactTables {
             words,
             rests,
-            index: PairIndex::of(alloc, keys),
+            index,
             touched: Spans::new(alloc),
         })
     }
@@ -183,6 +174,28 @@ fn copied(alloc: Global, spans: &[Span]) -> Result<Spans, Memory>
     Ok(Spans::from_vec(Vec::from_slice(alloc, spans)?))
 }
 
+/// Makes what is now and next that of tables of rows throughout, and lists their code points. Room that no value takes up
+/// is given back.
+///
+/// - `Memory`: memory ran out.
+fn fill<T: Table<u64>, S: Store<Rest>>(
+    alloc: Global,
+    words: &mut T,
+    rests: &mut S,
+    from: &RowTables,
+) -> Result<PairIndex, Memory>
+    ensures words_now { OnOk result (SameValues (T.now words.new) (word_in from.now)) }
+    ensures words_next { OnOk result (SameValues (T.next words.new) (word_in from.now)) }
+    ensures rests_now { OnOk result (SameValues (S.now rests.new) (rest_in from.now)) }
+    ensures rests_next { OnOk result (SameValues (S.next rests.new) (rest_in from.now)) }
+    ensures listed { IfOk result (λ index. (q : ℕ) → q < 1114112 → IsListed (is_listed index) from.now q) }
+{
+    let mut keys = PairKeys::new(alloc);
+    copy_spans(alloc, words, rests, &mut keys, from, &everywhere())?;
+    commit_and_shrink(words, rests);
+    Ok(PairIndex::of(alloc, keys))
+}
+
 /// What is next becomes now, and stays next. Room that no value takes up is given back.
 fn commit_and_shrink<T: Table<u64>, S: Store<Rest>>(words: &mut T, rests: &mut S)
     ensures words_now { SameValues (T.now words.new) (T.next words.old) }
@@ -197,13 +210,11 @@ fn commit_and_shrink<T: Table<u64>, S: Store<Rest>>(words: &mut T, rests: &mut S
 }
 
 /// The span of all code points.
-fn everywhere(alloc: Global) -> Result<Spans, Memory>
-    ensures { IfOk result (λ spans. (c : ℕ) → c < 1114112 → list_any (within c) spans ≡ true) }
+fn everywhere() -> [Span; 1]
+    ensures { (c : ℕ) → c < 1114112 → list_any (within c) result ≡ true }
 {
-    let mut spans = Spans::new(alloc);
-    spans.push(Span {
+    [Span {
         lo: point(0),
         hi: point(Point::COUNT - 1),
-    })?;
-    Ok(spans)
+    }]
 }

@@ -2,8 +2,8 @@
 --
 -- with_values f lo hi g c   g from lo to hi, both of them in it, and f elsewhere
 -- with_spans f spans g c    g where some span covers c, and f elsewhere
+-- HasKeys listed m q        where the mapping m has two members, q is listed under them
 -- IsListed listed t q       where the tables t keep a canonical mapping of two members for q, it is listed under them
--- SamePairs t a q           the tables t keep the same word and the same mapping for q as for a
 use Rattle.std.specs.Prelude.{◌≡◌, ℕ, Bool, true, ◌&&◌, List, [], ◌∷◌, nat_le, if◌then◌else◌}
 use Rattle.std.specs.List.{list_any}
 use Rattle.ucd_model.specs.Bounds.{Bounds}
@@ -19,9 +19,8 @@ with_values f lo hi g c = if nat_le lo c && nat_le c hi then g c else f c
 abbrev pub with_spans : {V : Type 0} → (ℕ → V) → List Bounds → (ℕ → V) → ℕ → V
 with_spans f spans g c = if list_any (within c) spans then g c else f c
 
+abbrev pub HasKeys : (ℕ → ℕ → ℕ → Bool) → List ℕ → ℕ → Type 0
+HasKeys listed mapping q = (s y : ℕ) → mapping ≡ s ∷ y ∷ [] → listed s y q ≡ true
+
 abbrev pub IsListed : (ℕ → ℕ → ℕ → Bool) → RowTables → ℕ → Type 0
 IsListed listed t q = (s y : ℕ) → is_canonical (kind_of_word (word_in t q)) ≡ true → (rest_in t q).mapping ≡ s ∷ y ∷ [] → listed s y q ≡ true
-
-pub record SamePairs (t : RowTables) (a q : ℕ) : Type 0 where
-  pub word : word_in t q ≡ word_in t a
-  pub mapping : (rest_in t q).mapping ≡ (rest_in t a).mapping

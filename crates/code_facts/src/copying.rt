@@ -5,20 +5,25 @@ ghost use Rattle.std.specs.List.{list_any};
 ghost use Rattle.range_table.specs.RunTable.{values_now};
 ghost use Rattle.ucd_model.specs.Facts.{within};
 ghost use Rattle.range_table.specs.Values.{SameValues};
-ghost use Rattle.code_facts.specs.Copying.{with_spans, with_values, IsListed, SamePairs};
+ghost use Rattle.code_facts.specs.Copying.{with_spans, with_values, HasKeys, IsListed};
 ghost use Rattle.code_facts.specs.Index.{is_gathered, is_listed};
+ghost use Rattle.code_facts.specs.PointLists.{lists_now};
 ghost use Rattle.code_facts.specs.Rest.{no_rest};
 ghost use Rattle.code_facts.specs.RowTables.{AreBare, word_in, rest_in};
+ghost use Rattle.code_facts.specs.Word.{kind_of_word};
+ghost use Rattle.ucd_model.specs.Composites.{is_canonical};
 
 use crate::pair_index::PairIndex;
 use crate::pair_keys::PairKeys;
+use crate::point_lists::PointLists;
 use crate::points::{lesser, point};
 use crate::rest::Rest;
 use crate::row_tables::RowTables;
+use crate::word::kind_of;
 use kept_values::Store;
 use range_table::{RunTable, Table};
 use std::alloc::Global;
-use ucd_model::{Memory, Span};
+use ucd_model::{Kind, Memory, Point, Span};
 
 /// Makes what is next in spans that of the tables of rows, and lists their code points.
 ///
@@ -82,14 +87,17 @@ pub fn put_words<T: Table<u64>>(
 {
     let end = span.last();
     let mut at = span.first();
+    let mut near = 0;
     'stretches: while at <= end {
         let first = point(at);
-        let last = lesser(from.last_of_run(first), point(end));
+        let run = from.run(first, near);
+        let last = lesser(run.last, point(end));
         let part = Span {
             lo: first,
             hi: last,
         };
-        into.prepare(part, from.get(first))?;
+        into.prepare(part, run.value)?;
+        near = run.index;
         at = last.number() + 1;
     }
     Ok(())
@@ -127,38 +135,43 @@ fn put_rests_with<S: Store<Rest>>(
     let mut at = span.first();
     // code points from `at` to before `bare` have no more than a decomposition mapping
     let mut bare = at;
+    let mut near = 0;
     'stretches: while at <= end {
         let first = point(at);
         if bare <= at {
             bare = from.bare_until(first);
         }
-        let last = lesser(from.last_rest(first, bare), point(end));
+        let mapping = from.lists.mappings.run(first, near);
+        let last = lesser(from.last_rest(first, bare, mapping.last), point(end));
         let part = Span {
             lo: first,
             hi: last,
         };
-        put_rest(alloc, into, from, part, bare, none)?;
+        put_rest(alloc, into, from, part, bare, mapping.points, none)?;
+        near = mapping.index;
         at = last.number() + 1;
     }
     Ok(())
 }
 
-/// Gives the points of a span what is kept of the first of them.
+/// Gives the points of a span what is kept of the first of them, which has this decomposition mapping.
 fn put_rest<S: Store<Rest>>(
     alloc: Global,
     into: &mut S,
     from: &RowTables,
     part: Span,
     bare: u32,
+    mapping: &[Point],
     none: u64,
 ) -> Result<(), Memory>
     requires bare { AreBare from.now part.lo bare }
+    requires mapping { mapping.now ≡ (rest_in from.now part.lo).mapping }
     requires held { S.held into.old none ≡ Some no_rest }
     ensures now { SameValues (S.now into.new) (S.now into.old) }
     ensures held { S.held into.new none ≡ Some no_rest }
     ensures ok { OnOk result (SameValues (S.next into.new) (with_values (S.next into.old) part.lo part.hi (λ _. rest_in from.now part.lo))) }
 {
-    match from.rest(alloc, part.lo, bare)? {
+    match from.rest(alloc, part.lo, bare, mapping)? {
         Some(rest) => into.prepare(part, rest),
         None => into.prepare_held(part, none),
     }
@@ -173,28 +186,69 @@ pub fn gather_pairs(keys: &mut PairKeys, from: &RowTables, span: Span) -> Result
 {
     let end = span.last();
     let mut at = span.first();
+    let mut near = 0;
     'stretches: while at <= end {
         let first = point(at);
-        let mapping = from.lists.mappings.last_of_run(first);
-        let last = lesser(lesser(from.words.last_of_run(first), mapping), point(end));
+        let run = from.words.run(first, near);
+        let last = lesser(run.last, point(end));
         let part = Span {
             lo: first,
             hi: last,
         };
-        gather_part(keys, from, part)?;
+        gather_part(keys, &from.lists.mappings, part, run.value)?;
+        near = run.index;
         at = last.number() + 1;
     }
     Ok(())
 }
 
-/// Gathers the keys of the points of a span, where they have the same canonical mapping of two members.
-fn gather_part(keys: &mut PairKeys, from: &RowTables, part: Span) -> Result<(), Memory>
-    requires { (q : ℕ) → part.lo ≤ q → q ≤ part.hi → SamePairs from.now part.lo q }
+/// Gathers the keys of the code points of a span that have a mapping of two members, if the kind in their word is canonical.
+fn gather_part(
+    keys: &mut PairKeys,
+    mappings: &PointLists,
+    part: Span,
+    word: u64,
+) -> Result<(), Memory>
     ensures grows { (s y q : ℕ) → is_gathered keys.old s y q ≡ true → is_gathered keys.new s y q ≡ true }
-    ensures listed { OnOk result ((q : ℕ) → part.lo ≤ q → q ≤ part.hi → IsListed (is_gathered keys.new) from.now q) }
+    ensures listed { OnOk result ((q : ℕ) → part.lo ≤ q → q ≤ part.hi → is_canonical (kind_of_word word) ≡ true
+        → HasKeys (is_gathered keys.new) (lists_now mappings.now q) q) }
 {
-    match from.members(part.lo) {
-        Some((s, y)) => keys.put_span(s, y, part),
-        None => Ok(()),
+    match kind_of(word) {
+        Kind::Canonical => gather_twos(keys, mappings, part),
+        _ => Ok(()),
+    }
+}
+
+/// Gathers the keys of the code points of a span that have a mapping of two members.
+fn gather_twos(keys: &mut PairKeys, mappings: &PointLists, span: Span) -> Result<(), Memory>
+    ensures grows { (s y q : ℕ) → is_gathered keys.old s y q ≡ true → is_gathered keys.new s y q ≡ true }
+    ensures listed { OnOk result ((q : ℕ) → span.lo ≤ q → q ≤ span.hi → HasKeys (is_gathered keys.new) (lists_now mappings.now q) q) }
+{
+    let end = span.last();
+    let mut at = span.first();
+    let mut near = 0;
+    'stretches: while at <= end {
+        let first = point(at);
+        let run = mappings.run(first, near);
+        let last = lesser(run.last, point(end));
+        let part = Span {
+            lo: first,
+            hi: last,
+        };
+        gather_two(keys, run.points, part)?;
+        near = run.index;
+        at = last.number() + 1;
+    }
+    Ok(())
+}
+
+/// Gathers the keys of the points of a span that have this mapping, where it has two members.
+fn gather_two(keys: &mut PairKeys, mapping: &[Point], part: Span) -> Result<(), Memory>
+    ensures grows { (s y q : ℕ) → is_gathered keys.old s y q ≡ true → is_gathered keys.new s y q ≡ true }
+    ensures listed { OnOk result ((q : ℕ) → part.lo ≤ q → q ≤ part.hi → HasKeys (is_gathered keys.new) mapping.now q) }
+{
+    match mapping {
+        [s, y] => keys.put_span(*s, *y, part),
+        _ => Ok(()),
     }
 }

@@ -16,6 +16,7 @@ mod hangul;
 mod images;
 pub mod laws;
 mod list_calls;
+mod list_run;
 mod mappings;
 mod mark;
 mod mark_rows;

@@ -3,8 +3,10 @@
 ghost use Rattle.std.specs.Prelude.{◌≡◌, ◌<◌, ◌≤◌, ℕ, [], vec_len, OnOk, IfOk};
 ghost use Rattle.range_table.specs.Values.{SameValues, with_span};
 ghost use Rattle.code_facts.specs.Lists.{LiesIn, slice_at};
+ghost use Rattle.code_facts.specs.Plain.{HoldsTo};
 ghost use Rattle.code_facts.specs.PointLists.{lists_now, lists_next};
 
+use crate::list_run::ListRun;
 use crate::place::Place;
 use crate::point_lists::PointLists;
 use range_table::{RunTable, Table};
@@ -30,6 +32,21 @@ impl PointLists {
     {
         let place = self.places.get(c);
         &self.pool[place.start..place.end]
+    }
+
+    /// The list of a code point now, and the end of a stretch from there on in which all code points have it. Equal lists
+    /// that were given apart may stand in two stretches. It is looked for behind the index `near` and there first.
+    pub fn run(&self, c: Point, near: usize) -> ListRun<'_>
+        ensures points { result.points.now ≡ lists_now self.now c }
+        ensures same { HoldsTo (λ k. lists_now self.now k ≡ lists_now self.now c) c result.last }
+    {
+        let run = self.places.run(c, near);
+        let place = run.value;
+        ListRun {
+            points: &self.pool[place.start..place.end],
+            last: run.last,
+            index: run.index,
+        }
     }
 
     /// The end of a stretch from a code point on in which all code points have now its list. Equal lists that were given

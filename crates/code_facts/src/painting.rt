@@ -42,13 +42,19 @@ pub fn summed<T: Table<u64>>(
 {
     let mut table = T::filled(alloc, 0)?;
     let mut at = 0;
+    let mut near_a = 0;
+    let mut near_b = 0;
     'stretches: while let Some(first) = Point::new(at) {
-        let last = lesser(a.last_of_run(first), b.last_of_run(first));
+        let one = a.run(first, near_a);
+        let other = b.run(first, near_b);
+        let last = lesser(one.last, other.last);
         let span = Span {
             lo: first,
             hi: last,
         };
-        table.prepare(span, a.get(first) + b.get(first))?;
+        table.prepare(span, one.value + other.value)?;
+        near_a = one.index;
+        near_b = other.index;
         at = last.number() + 1;
     }
     table.commit();

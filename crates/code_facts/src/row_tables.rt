@@ -1,6 +1,6 @@
 //! The tables that are made of rows, before they are copied.
 
-ghost use Rattle.std.specs.Prelude.{◌≡◌, ℕ, ◌+◌, ◌<◌, ◌≤◌, true, IsTrue, [], ◌∷◌, IfOk, MatchOption};
+ghost use Rattle.std.specs.Prelude.{◌≡◌, ℕ, ◌+◌, ◌<◌, ◌≤◌, true, IsTrue, IfOk, MatchOption};
 ghost use Rattle.std.specs.Option.{option_to_list};
 ghost use Rattle.range_table.specs.RunTable.{values_now};
 ghost use Rattle.ucd_model.specs.Facts.{data_row, class_in};
@@ -8,12 +8,10 @@ ghost use Rattle.ucd_model.specs.declared.files.SourceFile.TheVariants.{UnicodeD
 ghost use Rattle.code_facts.specs.DataTables.{data_now};
 ghost use Rattle.code_facts.specs.Marks.{marks_at};
 ghost use Rattle.code_facts.specs.Plain.{HoldsTo};
-ghost use Rattle.code_facts.specs.Rest.{no_rest};
+ghost use Rattle.code_facts.specs.Rest.{no_rest, bare_rest as bare_with};
 ghost use Rattle.code_facts.specs.RowLists.{sources_of};
 ghost use Rattle.code_facts.specs.Rows.{Apart, row_data};
-ghost use Rattle.code_facts.specs.RowTables.{ShowsRows, AreBare, IsBare, first_alone, others_in, word_in, rest_in};
-ghost use Rattle.code_facts.specs.Word.{kind_of_word};
-ghost use Rattle.ucd_model.specs.Composites.{is_canonical};
+ghost use Rattle.code_facts.specs.RowTables.{ShowsRows, AreBare, IsBare, first_alone, others_in, rest_in};
 
 use crate::case_maps::CaseMaps;
 use crate::data_lists::DataLists;
@@ -24,10 +22,9 @@ use crate::painting::summed;
 use crate::points::{copied, lesser, point};
 use crate::rest::Rest;
 use crate::row_lists::RowLists;
-use crate::word::kind_of;
 use range_table::{RunTable, Table};
 use std::alloc::Global;
-use ucd_model::{Kind, Memory, Point};
+use ucd_model::{Memory, Point};
 
 /// The facts of all code points that rows give, in run tables and maps.
 #[derive(Drop)]
@@ -76,19 +73,26 @@ impl RowTables {
         })
     }
 
-    /// What is kept of a code point beside its word; `None` only where that is nothing. Below `bare` code points have no
-    /// more than a decomposition mapping, and it alone is looked up.
+    /// What is kept of a code point beside its word, where this is its decomposition mapping; `None` only where that is
+    /// nothing. Below `bare` code points have no more than a decomposition mapping, and nothing is looked up.
     ///
     /// - `Memory`: memory ran out.
-    pub fn rest(&self, alloc: Global, c: Point, bare: u32) -> Result<Option<Rest>, Memory>
-        requires { AreBare self.now c bare }
+    pub fn rest(
+        &self,
+        alloc: Global,
+        c: Point,
+        bare: u32,
+        mapping: &[Point],
+    ) -> Result<Option<Rest>, Memory>
+        requires bare { AreBare self.now c bare }
+        requires mapping { mapping.now ≡ (rest_in self.now c).mapping }
         ensures { IfOk result (λ rest. MatchOption rest (rest_in self.now c ≡ no_rest) (λ kept. kept ≡ rest_in self.now c)) }
     {
         if c.number() < bare {
-            return self.bare_rest(alloc, c);
+            return bare_rest(alloc, mapping);
         }
         let mappings = Mappings {
-            mapping: copied(alloc, self.lists.mappings.get(c))?,
+            mapping: copied(alloc, mapping)?,
             upper: first_of(self.lists.uppers.get(c)),
             lower: first_of(self.lists.lowers.get(c)),
             title: first_of(self.lists.titles.get(c)),
@@ -97,39 +101,14 @@ impl RowTables {
         Ok(Some(Rest::of(alloc, mappings)?))
     }
 
-    /// The same of a code point that has no more than a decomposition mapping.
-    fn bare_rest(&self, alloc: Global, c: Point) -> Result<Option<Rest>, Memory>
-        requires { IsBare self.now c }
-        ensures { IfOk result (λ rest. MatchOption rest (rest_in self.now c ≡ no_rest) (λ kept. kept ≡ rest_in self.now c)) }
-    {
-        let mapping = self.lists.mappings.get(c);
-        if mapping.is_empty() {
-            return Ok(None);
-        }
-        Ok(Some(Rest::bare(alloc, mapping)?))
-    }
-
-    /// The members of the mapping of a code point, if it is canonical and has two.
-    pub fn members(&self, c: Point) -> Option<(Point, Point)>
-        ensures { MatchOption result
-            ((s y : ℕ) → is_canonical (kind_of_word (word_in self.now c)) ≡ true → (rest_in self.now c).mapping ≡ s ∷ y ∷ [] → ⊥)
-            (λ pair. (rest_in self.now c).mapping ≡ pair.0 ∷ pair.1 ∷ []) }
-    {
-        let kind = kind_of(self.words.get(c));
-        match self.lists.mappings.get(c) {
-            [s, y] if matches!(kind, Kind::Canonical) => Some((*s, *y)),
-            _ => None,
-        }
-    }
-
-    /// A code point up to which the same is kept beside the words from `c` on. Below `bare` code points have no more than
-    /// a decomposition mapping, and it alone is looked up.
-    pub fn last_rest(&self, c: Point, bare: u32) -> Point
+    /// A code point up to which the same is kept beside the words from `c` on, where decomposition mappings are the same up
+    /// to `mapping`. Below `bare` code points have no more than that, and nothing is looked up.
+    pub fn last_rest(&self, c: Point, bare: u32, mapping: Point) -> Point
         requires bare { AreBare self.now c bare }
         requires bound { bare ≤ 1114112 }
+        requires mapping { HoldsTo (λ d. (rest_in self.now d).mapping ≡ (rest_in self.now c).mapping) c mapping }
         ensures { HoldsTo (λ d. rest_in self.now d ≡ rest_in self.now c) c result }
     {
-        let mapping = self.lists.mappings.last_of_run(c);
         if c.number() < bare {
             return lesser(mapping, point(bare - 1));
         }
@@ -168,6 +147,18 @@ impl RowTables {
             && self.lists.lowers.get(c).is_empty()
             && self.lists.titles.get(c).is_empty()
     }
+}
+
+/// What is kept of a code point that has no more than this decomposition mapping; `None` where it is empty.
+///
+/// - `Memory`: memory ran out.
+fn bare_rest(alloc: Global, mapping: &[Point]) -> Result<Option<Rest>, Memory>
+    ensures { IfOk result (λ rest. MatchOption rest (bare_with mapping.now ≡ no_rest) (λ kept. kept ≡ bare_with mapping.now)) }
+{
+    if mapping.is_empty() {
+        return Ok(None);
+    }
+    Ok(Some(Rest::bare(alloc, mapping)?))
 }
 
 /// The first of the points, where there is one.

@@ -1,8 +1,19 @@
-use Rattle.std.proofs.Common.{◌≡◌, ◌+◌, refl, ◌∙◌, arith}
+use Rattle.std.proofs.Common.{◌≡◌, ◌+◌, refl, ap, subst, ◌∙◌, arith}
+use Rattle.code_facts.specs.Plain.{HoldsTo}
+use Rattle.code_facts.specs.PointLists.{lists_now}
 use Rattle.code_facts.specs.RowTables.{rest_in}
+use Rattle.code_facts.specs.declared.data_lists.DataLists.{DataLists}
 use Rattle.code_facts.proofs.PaintLemmas.{stretch_more, all_painted}
 use Rattle.code_facts.proofs.copying.put_rests_with.Goals as goal
 use Rattle.code_facts.proofs.copying.put_rests_with.Goals.{then-bare-at, else-bare-at}
+
+pub last_rest-requires-clause-mapping : goal.last_rest-requires-clause-mapping
+last_rest-requires-clause-mapping g c =
+    subst (λ (lists : DataLists). HoldsTo (λ d. lists_now lists.mappings d ≡ lists_now lists.mappings c.point-first.result) c.point-first.result c.run-mapping.result.last) c.deref.ensures c.run-mapping.ensures.same
+
+pub put_rest-requires-clause-mapping : goal.put_rest-requires-clause-mapping
+put_rest-requires-clause-mapping g c =
+    c.run-mapping.ensures.points ∙ ap (λ (lists : DataLists). lists_now lists.mappings c.point-first.result) c.deref.ensures
 
 pub stretches-preserved : goal.stretches-preserved
 stretches-preserved g c = record {

@@ -9,9 +9,9 @@ stretches-preserved g c = record {
   within = omega arith;
   now = λ k lt. c.in_ok-prepare.ensures.now k lt ∙ c.stretches.invariant.now k lt;
   next = λ k lt.
-      stretch_more (values_now c.args.from.now) c.args.span.lo c.stretches.at c.point-first.result c.number-at.result c.lesser-last.result k c.get.result _ _ _
-      (omega arith) (omega arith) c.get.ensures (omega arith)
-      (λ low high. c.last_of_run.ensures.same k low (omega arith))
+      stretch_more (values_now c.args.from.now) c.args.span.lo c.stretches.at c.point-first.result c.number-at.result c.lesser-last.result k c.run-run.result.value _ _ _
+      (omega arith) (omega arith) c.run-run.ensures.value (omega arith)
+      (λ low high. c.run-run.ensures.same k low (omega arith))
       (c.in_ok-prepare.ensures.ok k lt) (c.stretches.invariant.next k lt) (omega arith);
 }
 

@@ -1,0 +1,14 @@
+//! Stretches of code points that have the same list.
+
+use ucd_model::Point;
+
+/// What lists tell of a stretch of code points.
+#[derive(Clone, Copy)]
+pub struct ListRun<'a> {
+    /// The list that each of them has.
+    pub points: &'a [Point],
+    /// The last code point of the stretch.
+    pub last: Point,
+    /// The index of the run that it is in, counted from 0.
+    pub index: usize,
+}

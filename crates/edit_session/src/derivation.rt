@@ -144,14 +144,14 @@ impl Derivation {
     }
 }
 
-/// What is derived, in a box: it is let go of as one.
+/// A value of any type in a box: it is let go of as one.
 ///
 /// - `Memory`: memory ran out.
-fn boxed(alloc: Global, made: Derivation) -> Result<Box<Derivation>, OpenStop>
-    ensures ok { IfOk result (λ boxed. boxed.value ≡ made) }
+fn boxed<T: Drop>(alloc: Global, value: T) -> Result<Box<T>, OpenStop>
+    ensures ok { IfOk result (λ boxed. boxed.value ≡ value) }
     ensures err { IfErr result (λ stop. stop ≡ Lacking) }
 {
-    match Box::new(alloc, made) {
+    match Box::new(alloc, value) {
         Ok(boxed) => Ok(boxed),
         Err(_) => Err(OpenStop::Memory),
     }

@@ -8,6 +8,7 @@ ghost use Rattle.ucd_model.specs.declared.files.SourceFile.TheVariants.{UnicodeD
 ghost use Rattle.code_facts.specs.DataTables.{data_now};
 ghost use Rattle.code_facts.specs.Marks.{marks_at};
 ghost use Rattle.code_facts.specs.Plain.{HoldsTo};
+ghost use Rattle.code_facts.specs.PointLists.{lists_now};
 ghost use Rattle.code_facts.specs.Rest.{no_rest, bare_rest as bare_with};
 ghost use Rattle.code_facts.specs.RowLists.{sources_of};
 ghost use Rattle.code_facts.specs.Rows.{Apart, row_data};
@@ -119,11 +120,23 @@ impl RowTables {
     fn last_other(&self, c: Point) -> Point
         ensures { HoldsTo (λ d. others_in self.now d ≡ others_in self.now c) c result }
     {
+        let simple = self.last_simple(c);
+        if simple.number() == c.number() {
+            return c;
+        }
+        lesser(simple, self.cases.last_alike(c))
+    }
+
+    /// A code point up to which simple mappings are the same from `c` on.
+    fn last_simple(&self, c: Point) -> Point
+        ensures upper { HoldsTo (λ d. lists_now self.now.lists.value.uppers d ≡ lists_now self.now.lists.value.uppers c) c result }
+        ensures lower { HoldsTo (λ d. lists_now self.now.lists.value.lowers d ≡ lists_now self.now.lists.value.lowers c) c result }
+        ensures title { HoldsTo (λ d. lists_now self.now.lists.value.titles d ≡ lists_now self.now.lists.value.titles c) c result }
+    {
         let upper = self.lists.uppers.last_of_run(c);
         let lower = self.lists.lowers.last_of_run(c);
         let title = self.lists.titles.last_of_run(c);
-        let cases = self.cases.last_alike(c);
-        lesser(lesser(upper, lower), lesser(title, cases))
+        lesser(lesser(upper, lower), title)
     }
 
     /// A number up to which code points from `c` on have no more than a decomposition mapping; `c` itself if it has more.
@@ -142,10 +155,10 @@ impl RowTables {
     fn is_bare(&self, c: Point) -> bool
         ensures { IsTrue result → IsBare self.now c }
     {
-        self.cases.has_none(c)
-            && self.lists.uppers.get(c).is_empty()
+        self.lists.uppers.get(c).is_empty()
             && self.lists.lowers.get(c).is_empty()
             && self.lists.titles.get(c).is_empty()
+            && self.cases.has_none(c)
     }
 }
 

@@ -7,21 +7,30 @@ use crate::case::Case;
 use release_rows::RowText;
 use std::alloc::Global;
 use std::collections::BTreeMap;
-use ucd_model::{Memory, Point, Points};
+use ucd_model::{Memory, Point, Points, Row};
+
+/// The rows that texts of rows stand for.
+///
+/// - `Memory`: memory ran out.
+pub fn read_rows(alloc: Global, texts: &[RowText<'_>]) -> Result<Vec<Row>, Memory>
+    ensures { IfOk result (λ rows. rows.items ≡ texts.now) }
+{
+    let mut rows = Vec::with_capacity(alloc, texts.len())?;
+    'texts: for text in texts {
+        rows.push(text.read(alloc)?)?;
+    }
+    Ok(rows)
+}
 
 /// The images of a case. Of several rows that give a code point one, the first counts.
 ///
 /// - `Memory`: memory ran out.
-pub fn case_map(
-    alloc: Global,
-    rows: &[RowText<'_>],
-    case: Case,
-) -> Result<BTreeMap<Point, Points>, Memory>
+pub fn case_map(alloc: Global, rows: &[Row], case: Case) -> Result<BTreeMap<Point, Points>, Memory>
     ensures { IfOk result (λ map. (c : ℕ) → found map c ≡ image_by case rows.now c) }
 {
     let mut map = BTreeMap::new(alloc);
     'rows: for row in rows {
-        let image = case.image(row.read(alloc)?);
+        let image = case.image(alloc, row)?;
         put_first(&mut map, image)?;
     }
     Ok(map)

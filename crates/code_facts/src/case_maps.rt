@@ -11,15 +11,14 @@ ghost use Rattle.code_facts.specs.RowLists.{sources_of};
 ghost use Rattle.code_facts.specs.RowTables.{cases_in, with_foldings};
 
 use crate::case::Case;
-use crate::case_map::case_map;
+use crate::case_map::{case_map, read_rows};
 use crate::cases::Cases;
 use crate::given_points::GivenPoints;
 use crate::points::{lesser, point};
 use crate::row_lists::RowLists;
-use release_rows::RowText;
 use std::alloc::Global;
 use std::collections::BTreeMap;
-use ucd_model::{FoldStatus, Memory, Point, Points};
+use ucd_model::{FoldStatus, Memory, Point, Points, Row};
 
 /// The foldings of the statuses C, F and S, and the casings without conditions, each under its code point.
 #[derive(Drop)]
@@ -66,12 +65,14 @@ impl CaseMaps {
     fn put(&mut self, alloc: Global, rows: &RowLists<'_>) -> Result<(), Memory>
         ensures { OnOk result (KeepsImages self.new (sources_of rows.now)) }
     {
-        self.put_foldings(alloc, &rows.case_folding)?;
-        self.put_casings(alloc, &rows.special_casing)
+        let folding_rows = read_rows(alloc, &rows.case_folding)?;
+        self.put_foldings(alloc, &folding_rows)?;
+        let casing_rows = read_rows(alloc, &rows.special_casing)?;
+        self.put_casings(alloc, &casing_rows)
     }
 
     /// Puts the images that these rows of CaseFolding.txt give in the place of what is there.
-    fn put_foldings(&mut self, alloc: Global, rows: &[RowText<'_>]) -> Result<(), Memory>
+    fn put_foldings(&mut self, alloc: Global, rows: &[Row]) -> Result<(), Memory>
         ensures { OnOk result (KeepsFoldings self.new rows.now) }
     {
         self.common = case_map(alloc, rows, Case::Fold(FoldStatus::C))?;
@@ -81,7 +82,7 @@ impl CaseMaps {
     }
 
     /// Puts the images that these rows of SpecialCasing.txt give in the place of what is there. Foldings stay.
-    fn put_casings(&mut self, alloc: Global, rows: &[RowText<'_>]) -> Result<(), Memory>
+    fn put_casings(&mut self, alloc: Global, rows: &[Row]) -> Result<(), Memory>
         ensures casings { OnOk result (KeepsCasings self.new rows.now) }
         ensures foldings { OnOk result (SameFoldings self.old self.new) }
     {

@@ -10,8 +10,8 @@ rows-preserved c k =
     let i = c.rows.row-index in
     let inside : i < length rows = omega arith in
     c.in_ok-put_first.ensures k
-    ∙ ap (λ o. first_some o (given_to k c.image-image.result)) (c.rows.invariant k)
-    ∙ ap (first_some (image_by c.args.case (take i rows) k)) (c.image-image.ensures k ∙ ap (image_of_row c.args.case k) (c.in_ok-read.ensures ∙ c.row-item.is))
+    ∙ ap (λ o. first_some o (given_to k c.in_ok-image.image)) (c.rows.invariant k)
+    ∙ ap (first_some (image_by c.args.case (take i rows) k)) (c.in_ok-image.ensures k ∙ ap (image_of_row c.args.case k) c.row-item.is)
     ∙ sym (image_more c.args.case k rows i c.row-item.result inside)
 
 pub returns : goal.returns

@@ -43,12 +43,29 @@ pub fn splice<V: Copy>(changes: &mut Vec<Change<V>>, edit: &Edit<V>) -> Result<(
     ensures ok { OnOk result (changes.new.items ≡ edited edit.now changes.old.items) }
     ensures err { OnErr result (changes.new.items ≡ changes.old.items) }
 {
+    if edit.behind == changes.len() {
+        return replace_last(changes, edit);
+    }
     let rest = Vec::from_slice(*changes.allocator(), &changes[edit.behind..])?;
     changes.reserve(2)?;
     changes.truncate(edit.from);
     push_some(changes, edit.begins);
     push_some(changes, edit.ends);
     changes.extend_from_slice(rest.as_slice())?;
+    Ok(())
+}
+
+/// The same, where no change stays behind those that go.
+fn replace_last<V: Copy>(changes: &mut Vec<Change<V>>, edit: &Edit<V>) -> Result<(), Memory>
+    requires ordered { edit.now.from ≤ edit.now.behind }
+    requires within { edit.now.behind ≡ vec_len changes.old }
+    ensures ok { OnOk result (changes.new.items ≡ edited edit.now changes.old.items) }
+    ensures err { OnErr result (changes.new.items ≡ changes.old.items) }
+{
+    changes.reserve(2)?;
+    changes.truncate(edit.from);
+    push_some(changes, edit.begins);
+    push_some(changes, edit.ends);
     Ok(())
 }
 

@@ -53,26 +53,30 @@ fn has_lines(alloc: Global, bytes: &[u8], wanted: &[(&[u8], Ending)]) -> Result<
     Ok(lines.next().is_none() && copied(alloc, bytes)?.as_slice() == bytes)
 }
 
+/// Texts and their lines, each with its ending.
+const LINES: [(&[u8], &[(&[u8], Ending)]); 10] = [
+    (b"", &[]),
+    (b"\n", &[(b"", Ending::Lf)]),
+    (b"\r\n", &[(b"", Ending::CrLf)]),
+    (b"\n\n", &[(b"", Ending::Lf), (b"", Ending::Lf)]),
+    (b"\r", &[(b"\r", Ending::None)]),
+    (b"0041;A", &[(b"0041;A", Ending::None)]),
+    (b"a\r\nb\n", &[(b"a", Ending::CrLf), (b"b", Ending::Lf)]),
+    (
+        b"a\rb\nc\r",
+        &[(b"a\rb", Ending::Lf), (b"c\r", Ending::None)],
+    ),
+    (b"a\r\r\n", &[(b"a\r", Ending::CrLf)]),
+    (b"a\n\rb", &[(b"a", Ending::Lf), (b"\rb", Ending::None)]),
+];
+
 #[test]
 fn lines_and_their_endings(rt: HostRuntime) {
-    let texts: [(&[u8], &[(&[u8], Ending)]); 10] = [
-        (b"", &[]),
-        (b"\n", &[(b"", Ending::Lf)]),
-        (b"\r\n", &[(b"", Ending::CrLf)]),
-        (b"\n\n", &[(b"", Ending::Lf), (b"", Ending::Lf)]),
-        (b"\r", &[(b"\r", Ending::None)]),
-        (b"0041;A", &[(b"0041;A", Ending::None)]),
-        (b"a\r\nb\n", &[(b"a", Ending::CrLf), (b"b", Ending::Lf)]),
-        (
-            b"a\rb\nc\r",
-            &[(b"a\rb", Ending::Lf), (b"c\r", Ending::None)],
-        ),
-        (b"a\r\r\n", &[(b"a\r", Ending::CrLf)]),
-        (b"a\n\rb", &[(b"a", Ending::Lf), (b"\rb", Ending::None)]),
-    ];
-    for (bytes, wanted) in texts {
-        let found = has_lines(rt.alloc(), bytes, wanted).expect(&rt, "memory");
-        assert!(rt; found, "{bytes:?}");
+    for (bytes, wanted) in &LINES {
+        assert!(rt;
+            has_lines(rt.alloc(), bytes, wanted) == Ok(true),
+            "{bytes:?}"
+        );
     }
 }
 
@@ -86,21 +90,23 @@ fn contents_of_lines(rt: HostRuntime) {
     }
 }
 
+/// Lines, and whether each is passed over.
+const TRIVIA: [(&[u8], bool); 9] = [
+    (b"", true),
+    (b" \t", true),
+    (b"#", true),
+    (b"# @missing: 0000..10FFFF; Unknown", true),
+    (b" \t# EOF", true),
+    (b"\r", false),
+    (b"\x0c# form feed", false),
+    (b"0041;A # comment", false),
+    (b";#", false),
+];
+
 #[test]
 fn blank_lines_and_comments(rt: HostRuntime) {
-    let lines: [(&[u8], bool); 9] = [
-        (b"", true),
-        (b" \t", true),
-        (b"#", true),
-        (b"# @missing: 0000..10FFFF; Unknown", true),
-        (b" \t# EOF", true),
-        (b"\r", false),
-        (b"\x0c# form feed", false),
-        (b"0041;A # comment", false),
-        (b";#", false),
-    ];
-    for (content, trivia) in lines {
-        assert_eq!(rt; is_trivia(content), trivia, "{content:?}");
+    for (content, trivia) in &TRIVIA {
+        assert!(rt; is_trivia(content) == *trivia, "{content:?}");
     }
 }
 
@@ -118,82 +124,86 @@ fn has_fields(file: SourceFile, content: &[u8], wanted: &[&[u8]]) -> bool {
     left.next().is_none() && field_count(file, content) == wanted.len()
 }
 
+/// Lines and their fields.
+const FIELDS: [(SourceFile, &[u8], &[&[u8]]); 9] = [
+    (SourceFile::PropList, b"", &[b""]),
+    (SourceFile::PropList, b";", &[b"", b""]),
+    (
+        SourceFile::PropList,
+        b"005E          ; Other_Math # Sk       CIRCUMFLEX ACCENT",
+        &[b"005E", b"Other_Math"],
+    ),
+    (
+        SourceFile::SpecialCasing,
+        b"00DF; 00DF; 0053 0073; 0053 0053; # LATIN SMALL LETTER SHARP S",
+        &[b"00DF", b"00DF", b"0053 0073", b"0053 0053", b""],
+    ),
+    (
+        SourceFile::CaseFolding,
+        b"\t 0041 \t;\tC\t; 0061;#a;b",
+        &[b"0041", b"C", b"0061", b""],
+    ),
+    (SourceFile::PropertyAliases, b"# only a comment", &[b""]),
+    (
+        SourceFile::Scripts,
+        b"0041 ; Latin\r",
+        &[b"0041", b"Latin\r"],
+    ),
+    (
+        SourceFile::UnicodeData,
+        b"0023;NUMBER SIGN; Po ;0;ET;;;;;N;#;;;;",
+        &[
+            b"0023",
+            b"NUMBER SIGN",
+            b"Po",
+            b"0",
+            b"ET",
+            b"",
+            b"",
+            b"",
+            b"",
+            b"N",
+            b"#",
+            b"",
+            b"",
+            b"",
+            b"",
+        ],
+    ),
+    (SourceFile::UnicodeData, b"a # b ; c", &[b"a # b", b"c"]),
+];
+
 #[test]
 fn fields_and_comments(rt: HostRuntime) {
-    let lines: [(SourceFile, &[u8], &[&[u8]]); 9] = [
-        (SourceFile::PropList, b"", &[b""]),
-        (SourceFile::PropList, b";", &[b"", b""]),
-        (
-            SourceFile::PropList,
-            b"005E          ; Other_Math # Sk       CIRCUMFLEX ACCENT",
-            &[b"005E", b"Other_Math"],
-        ),
-        (
-            SourceFile::SpecialCasing,
-            b"00DF; 00DF; 0053 0073; 0053 0053; # LATIN SMALL LETTER SHARP S",
-            &[b"00DF", b"00DF", b"0053 0073", b"0053 0053", b""],
-        ),
-        (
-            SourceFile::CaseFolding,
-            b"\t 0041 \t;\tC\t; 0061;#a;b",
-            &[b"0041", b"C", b"0061", b""],
-        ),
-        (SourceFile::PropertyAliases, b"# only a comment", &[b""]),
-        (
-            SourceFile::Scripts,
-            b"0041 ; Latin\r",
-            &[b"0041", b"Latin\r"],
-        ),
-        (
-            SourceFile::UnicodeData,
-            b"0023;NUMBER SIGN; Po ;0;ET;;;;;N;#;;;;",
-            &[
-                b"0023",
-                b"NUMBER SIGN",
-                b"Po",
-                b"0",
-                b"ET",
-                b"",
-                b"",
-                b"",
-                b"",
-                b"N",
-                b"#",
-                b"",
-                b"",
-                b"",
-                b"",
-            ],
-        ),
-        (SourceFile::UnicodeData, b"a # b ; c", &[b"a # b", b"c"]),
-    ];
-    for (file, content, wanted) in lines {
-        assert!(rt; has_fields(file, content, wanted), "{content:?}");
+    for (file, content, wanted) in &FIELDS {
+        assert!(rt; has_fields(*file, content, wanted), "{content:?}");
     }
 }
 
+/// Fields, and the code point that each spells.
+const CODE_POINTS: [(&[u8], Option<u32>); 16] = [
+    (b"0000", Some(0)),
+    (b"0041", Some(0x41)),
+    (b"FFFF", Some(0xffff)),
+    (b"00abcD", Some(0xabcd)),
+    (b"1F600", Some(0x1_f600)),
+    (b"10FFFF", Some(0x10_ffff)),
+    (b"10ffff", Some(0x10_ffff)),
+    (b"000041", Some(0x41)),
+    (b"110000", None),
+    (b"FFFFFF", None),
+    (b"", None),
+    (b"041", None),
+    (b"0000041", None),
+    (b"004G", None),
+    (b" 0041", None),
+    (b"+041", None),
+];
+
 #[test]
 fn code_points_that_are_read(rt: HostRuntime) {
-    let texts: [(&[u8], Option<u32>); 16] = [
-        (b"0000", Some(0)),
-        (b"0041", Some(0x41)),
-        (b"FFFF", Some(0xffff)),
-        (b"00abcD", Some(0xabcd)),
-        (b"1F600", Some(0x1_f600)),
-        (b"10FFFF", Some(0x10_ffff)),
-        (b"10ffff", Some(0x10_ffff)),
-        (b"000041", Some(0x41)),
-        (b"110000", None),
-        (b"FFFFFF", None),
-        (b"", None),
-        (b"041", None),
-        (b"0000041", None),
-        (b"004G", None),
-        (b" 0041", None),
-        (b"+041", None),
-    ];
-    for (field, number) in texts {
-        assert_eq!(rt; hex(field).map(|c| c.number()), number, "{field:?}");
+    for (field, number) in &CODE_POINTS {
+        assert!(rt; hex(field).map(|c| c.number()) == *number, "{field:?}");
     }
 }
 
@@ -208,35 +218,41 @@ fn is_written(alloc: Global, number: u32, digits: &[u8]) -> Result<bool, Memory>
     Ok(text.as_slice().strip_prefix(b"U+") == Some(digits))
 }
 
+/// Digits, and the number that they spell.
+const NUMBERS: [(&[u8], Option<u32>); 5] = [
+    (b"", Some(0)),
+    (b"4a", Some(0x4a)),
+    (b"0010FFFF", Some(0x10_ffff)),
+    (b"ffffFFFF", Some(u32::MAX)),
+    (b"4g", None),
+];
+
 #[test]
 fn numbers_that_are_read(rt: HostRuntime) {
-    let texts: [(&[u8], Option<u32>); 5] = [
-        (b"", Some(0)),
-        (b"4a", Some(0x4a)),
-        (b"0010FFFF", Some(0x10_ffff)),
-        (b"ffffFFFF", Some(u32::MAX)),
-        (b"4g", None),
-    ];
-    for (digits, number) in texts {
-        assert_eq!(rt; hex_number(digits), number, "{digits:?}");
+    for (digits, number) in &NUMBERS {
+        assert!(rt; hex_number(digits) == *number, "{digits:?}");
     }
 }
 
+/// Code points, and the digits that they are written in.
+const DIGITS: [(u32, &[u8]); 8] = [
+    (0, b"0000"),
+    (0x41, b"0041"),
+    (0xabcd, b"ABCD"),
+    (0xffff, b"FFFF"),
+    (0x1_0000, b"10000"),
+    (0xf_ffff, b"FFFFF"),
+    (0x10_0000, b"100000"),
+    (0x10_ffff, b"10FFFF"),
+];
+
 #[test]
 fn code_points_that_are_written(rt: HostRuntime) {
-    let texts: [(u32, &[u8]); 8] = [
-        (0, b"0000"),
-        (0x41, b"0041"),
-        (0xabcd, b"ABCD"),
-        (0xffff, b"FFFF"),
-        (0x1_0000, b"10000"),
-        (0xf_ffff, b"FFFFF"),
-        (0x10_0000, b"100000"),
-        (0x10_ffff, b"10FFFF"),
-    ];
-    for (number, digits) in texts {
-        let written = is_written(rt.alloc(), number, digits).expect(&rt, "memory");
-        assert!(rt; written, "{digits:?}");
+    for (number, digits) in &DIGITS {
+        assert!(rt;
+            is_written(rt.alloc(), *number, digits) == Ok(true),
+            "{digits:?}"
+        );
     }
 }
 

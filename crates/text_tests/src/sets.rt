@@ -71,26 +71,46 @@ fn join_text(join: Join) -> &'static [u8] {
 
 /// Whether a text has this tree.
 fn has_tree(alloc: Global, text: &[u8], wanted: &[u8]) -> Result<bool, Memory> {
-    let Ok(expr) = parse(alloc, text) else {
-        return Ok(false);
-    };
+    match parse(alloc, text) {
+        Ok(expr) => is_shown(alloc, &expr, wanted),
+        Err(_) => Ok(false),
+    }
+}
+
+fn is_shown(alloc: Global, expr: &Expr, wanted: &[u8]) -> Result<bool, Memory> {
     let mut shown = Text::new(alloc);
-    put_tree(&expr, &mut shown)?;
+    put_tree(expr, &mut shown)?;
     Ok(shown.as_slice() == wanted)
 }
 
-/// So many times a byte, behind a text.
-fn repeated(alloc: Global, mut text: Text, byte: u8, count: usize) -> Result<Text, Memory> {
+/// Puts so many times a byte at the end.
+fn put_times(text: &mut Text, byte: u8, count: usize) -> Result<(), Memory> {
     for _ in 0..count {
         text.push(byte)?;
     }
-    Ok(text)
+    Ok(())
+}
+
+fn put_nested(text: &mut Text, open: usize, closed: usize) -> Result<(), Memory> {
+    put_times(text, b'[', open)?;
+    put_times(text, b']', closed)
 }
 
 /// So many `[`, and so many `]`.
 fn nested(alloc: Global, open: usize, closed: usize) -> Result<Text, Memory> {
-    let text = repeated(alloc, Text::new(alloc), b'[', open)?;
-    repeated(alloc, text, b']', closed)
+    let mut text = Text::new(alloc);
+    put_nested(&mut text, open, closed)?;
+    Ok(text)
+}
+
+/// The fault of a text of so many `[`, and so many `]`, where it has one.
+fn nested_fault(
+    alloc: Global,
+    open: usize,
+    closed: usize,
+) -> Result<Option<(SetRule, usize)>, Memory> {
+    let text = nested(alloc, open, closed)?;
+    fault_of(alloc, text.as_slice())
 }
 
 /// Whether a text has this fault.
@@ -98,158 +118,172 @@ fn has_fault(alloc: Global, text: &[u8], rule: SetRule, at: usize) -> Result<boo
     Ok(fault_of(alloc, text)? == Some((rule, at)))
 }
 
+/// Texts that end too early, and the fault of each.
+const EARLY_ENDS: [(&[u8], SetRule, usize); 19] = [
+    (b"[\xff]", SetRule::S1, 1),
+    (b"\xe2\x89", SetRule::S1, 0),
+    (b"[z-a]\xc0", SetRule::S1, 5),
+    (b"", SetRule::S2, 0),
+    (b" \t\xc2\x85\xe2\x80\x8e", SetRule::S2, 7),
+    (b"[a", SetRule::S2, 2),
+    (b"[a-", SetRule::S2, 3),
+    (b"[-", SetRule::S2, 2),
+    (b"[[a]-", SetRule::S2, 5),
+    (b"\\", SetRule::S2, 1),
+    (b"[\\", SetRule::S2, 2),
+    (b"[a-\\", SetRule::S2, 4),
+    (b"\\p", SetRule::S2, 2),
+    (b"\\p{", SetRule::S2, 3),
+    (b"\\p{/:]=\xe2\x89\xa0", SetRule::S2, 10),
+    (b"[:a}", SetRule::S2, 4),
+    (b"[:]", SetRule::S2, 3),
+    (b"[[a]-\\P", SetRule::S2, 7),
+    (b"[:^", SetRule::S2, 3),
+];
+
 #[test]
 fn texts_that_end_too_early(rt: HostRuntime) {
-    let texts: [(&[u8], SetRule, usize); 19] = [
-        (b"[\xff]", SetRule::S1, 1),
-        (b"\xe2\x89", SetRule::S1, 0),
-        (b"[z-a]\xc0", SetRule::S1, 5),
-        (b"", SetRule::S2, 0),
-        (b" \t\xc2\x85\xe2\x80\x8e", SetRule::S2, 7),
-        (b"[a", SetRule::S2, 2),
-        (b"[a-", SetRule::S2, 3),
-        (b"[-", SetRule::S2, 2),
-        (b"[[a]-", SetRule::S2, 5),
-        (b"\\", SetRule::S2, 1),
-        (b"[\\", SetRule::S2, 2),
-        (b"[a-\\", SetRule::S2, 4),
-        (b"\\p", SetRule::S2, 2),
-        (b"\\p{", SetRule::S2, 3),
-        (b"\\p{/:]=\xe2\x89\xa0", SetRule::S2, 10),
-        (b"[:a}", SetRule::S2, 4),
-        (b"[:]", SetRule::S2, 3),
-        (b"[[a]-\\P", SetRule::S2, 7),
-        (b"[:^", SetRule::S2, 3),
-    ];
-    for (text, rule, at) in texts {
-        let found = has_fault(rt.alloc(), text, rule, at).expect(&rt, "memory");
-        assert!(rt; found, "{text:?}");
+    for (text, rule, at) in &EARLY_ENDS {
+        assert!(rt;
+            has_fault(rt.alloc(), text, *rule, *at) == Ok(true),
+            "{text:?}"
+        );
     }
 }
+
+/// Texts with a character that is not allowed, and its place.
+const OTHERS: [(&[u8], usize); 24] = [
+    (b"a", 0),
+    (b"]", 0),
+    (b"{", 0),
+    (b"\\n", 0),
+    (b"[a]b", 3),
+    (b"[a][b]", 3),
+    (b"[a]\\", 3),
+    (b"[a]\\p", 3),
+    (b"[a]$", 3),
+    (b"[ ^a]", 2),
+    (b"[a&b]", 2),
+    (b"[a}", 2),
+    (b"[a-b-c]", 4),
+    (b"[a-[b]]", 3),
+    (b"[a-{]", 3),
+    (b"[a-\\p", 3),
+    (b"[a-\\p{\xe2\x89\xa0}]", 3),
+    (b"[a-[:b", 3),
+    (b"[[a]-b]", 5),
+    (b"[[a]&]", 5),
+    (b"[[a]&\\n]", 5),
+    (b"[[a]&$]", 5),
+    (b"[+--x]", 3),
+    (b"[[a]-{]", 5),
+];
 
 #[test]
 fn characters_that_are_not_allowed(rt: HostRuntime) {
-    let texts: [(&[u8], usize); 24] = [
-        (b"a", 0),
-        (b"]", 0),
-        (b"{", 0),
-        (b"\\n", 0),
-        (b"[a]b", 3),
-        (b"[a][b]", 3),
-        (b"[a]\\", 3),
-        (b"[a]\\p", 3),
-        (b"[a]$", 3),
-        (b"[ ^a]", 2),
-        (b"[a&b]", 2),
-        (b"[a}", 2),
-        (b"[a-b-c]", 4),
-        (b"[a-[b]]", 3),
-        (b"[a-{]", 3),
-        (b"[a-\\p", 3),
-        (b"[a-\\p{\xe2\x89\xa0}]", 3),
-        (b"[a-[:b", 3),
-        (b"[[a]-b]", 5),
-        (b"[[a]&]", 5),
-        (b"[[a]&\\n]", 5),
-        (b"[[a]&$]", 5),
-        (b"[+--x]", 3),
-        (b"[[a]-{]", 5),
-    ];
-    for (text, at) in texts {
-        let found = has_fault(rt.alloc(), text, SetRule::S3, at).expect(&rt, "memory");
-        assert!(rt; found, "{text:?}");
+    for (text, at) in &OTHERS {
+        assert!(rt;
+            has_fault(rt.alloc(), text, SetRule::S3, *at) == Ok(true),
+            "{text:?}"
+        );
     }
 }
+
+/// Texts with a range, an escape or a form that is refused, and the fault of each.
+const REFUSED: [(&[u8], SetRule, usize); 23] = [
+    (b"[z-a]", SetRule::S4, 3),
+    (b"[a--]", SetRule::S4, 3),
+    (b"[a - \\u0041]", SetRule::S4, 5),
+    (b"[\\q]", SetRule::S5, 1),
+    (b"\\q", SetRule::S5, 0),
+    (b"[[a]-\\0]", SetRule::S5, 5),
+    (b"[a-\\pL]", SetRule::S5, 3),
+    (b"\\pL", SetRule::S5, 0),
+    (b"[\\u12", SetRule::S5, 1),
+    (b"[\\x", SetRule::S5, 1),
+    (b"[\\u{}]", SetRule::S5, 1),
+    (b"[\\u{1234567}]", SetRule::S5, 1),
+    (b"[\\u{110000}]", SetRule::S5, 1),
+    (b"[\\U00110000]", SetRule::S5, 1),
+    (b"[{ab}]", SetRule::S7, 1),
+    (b"[a]\\N", SetRule::S7, 3),
+    (b"[\\p{gc=/L}]", SetRule::S7, 1),
+    (b"[\\u{", SetRule::S5, 1),
+    (b"[a]\\q", SetRule::S5, 3),
+    (b"[$]", SetRule::S7, 1),
+    (b"[\\N{x}]", SetRule::S7, 1),
+    (b"[a-\\N]", SetRule::S7, 3),
+    (b"[a]\\p{\xe2\x89\xa0}", SetRule::S7, 3),
+];
 
 #[test]
 fn ranges_escapes_and_forms_that_are_refused(rt: HostRuntime) {
-    let texts: [(&[u8], SetRule, usize); 23] = [
-        (b"[z-a]", SetRule::S4, 3),
-        (b"[a--]", SetRule::S4, 3),
-        (b"[a - \\u0041]", SetRule::S4, 5),
-        (b"[\\q]", SetRule::S5, 1),
-        (b"\\q", SetRule::S5, 0),
-        (b"[[a]-\\0]", SetRule::S5, 5),
-        (b"[a-\\pL]", SetRule::S5, 3),
-        (b"\\pL", SetRule::S5, 0),
-        (b"[\\u12", SetRule::S5, 1),
-        (b"[\\x", SetRule::S5, 1),
-        (b"[\\u{}]", SetRule::S5, 1),
-        (b"[\\u{1234567}]", SetRule::S5, 1),
-        (b"[\\u{110000}]", SetRule::S5, 1),
-        (b"[\\U00110000]", SetRule::S5, 1),
-        (b"[{ab}]", SetRule::S7, 1),
-        (b"[a]\\N", SetRule::S7, 3),
-        (b"[\\p{gc=/L}]", SetRule::S7, 1),
-        (b"[\\u{", SetRule::S5, 1),
-        (b"[a]\\q", SetRule::S5, 3),
-        (b"[$]", SetRule::S7, 1),
-        (b"[\\N{x}]", SetRule::S7, 1),
-        (b"[a-\\N]", SetRule::S7, 3),
-        (b"[a]\\p{\xe2\x89\xa0}", SetRule::S7, 3),
-    ];
-    for (text, rule, at) in texts {
-        let found = has_fault(rt.alloc(), text, rule, at).expect(&rt, "memory");
-        assert!(rt; found, "{text:?}");
+    for (text, rule, at) in &REFUSED {
+        assert!(rt;
+            has_fault(rt.alloc(), text, *rule, *at) == Ok(true),
+            "{text:?}"
+        );
     }
 }
+
+/// Texts, and the tree of each.
+const TREES: [(&[u8], &[u8]); 24] = [
+    (b"[]", b"()"),
+    (b"[^]", b"!()"),
+    (b" [ ] ", b"()"),
+    (b"[-a]", b"(|002D..002D|0061..0061)"),
+    (b"[a-]", b"(|0061..0061|002D..002D)"),
+    (b"[---]", b"(|002D..002D)"),
+    (b"[+--]", b"(|002B..002D)"),
+    (b"[--a]", b"(|002D..0061)"),
+    (b"[^a - c]", b"!(|0061..0063)"),
+    (b"[[a]-]", b"(|(|0061..0061)|002D..002D)"),
+    (b"[[a]- ]", b"(|(|0061..0061)|002D..002D)"),
+    (b"[a[b]c]", b"(|0061..0061|(|0062..0062)|0063..0063)"),
+    (
+        b"[[ace][bdf] - [abc][def]]",
+        b"(|(|0061..0061|0063..0063|0065..0065)|(|0062..0062|0064..0064|0066..0066)-(|0061..0061|0062..0062|0063..0063)|(|0064..0064|0065..0065|0066..0066))",
+    ),
+    (b"[[a]&[b]-\\p{L}]", b"(|(|0061..0061)&(|0062..0062)-L@9)"),
+    (b"\\p{Lu}", b"Lu@0"),
+    (b"\\P{gc=Lu}", b"!gc=Lu@0"),
+    (b"[:Lu:]", b"Lu@0"),
+    (b"[:^a}=:=b:]", b"!a}=:=b@0"),
+    (b"\\p{^:]}", b"^:]@0"),
+    (b"\\p{}", b"@0"),
+    (
+        b"[\\u0041\\x41\\U0010FFFF\\u{1}\\x{10ffff}]",
+        b"(|0041..0041|0041..0041|10FFFF..10FFFF|0001..0001|10FFFF..10FFFF)",
+    ),
+    (
+        b"[\\a\\b\\t\\n\\v\\f\\r\\-\\]\\\xc3\xa9\\ ]",
+        b"(|0007..0007|0008..0008|0009..0009|000A..000A|000B..000B|000C..000C|000D..000D|002D..002D|005D..005D|00E9..00E9|0020..0020)",
+    ),
+    (b"[\xc3\xa9-\xf0\x9f\x98\x80]", b"(|00E9..1F600)"),
+    (b"[:\xe2\x80\xa8]:]", b"\xe2\x80\xa8]@0"),
+];
 
 #[test]
 fn texts_with_a_tree(rt: HostRuntime) {
-    let texts: [(&[u8], &[u8]); 24] = [
-        (b"[]", b"()"),
-        (b"[^]", b"!()"),
-        (b" [ ] ", b"()"),
-        (b"[-a]", b"(|002D..002D|0061..0061)"),
-        (b"[a-]", b"(|0061..0061|002D..002D)"),
-        (b"[---]", b"(|002D..002D)"),
-        (b"[+--]", b"(|002B..002D)"),
-        (b"[--a]", b"(|002D..0061)"),
-        (b"[^a - c]", b"!(|0061..0063)"),
-        (b"[[a]-]", b"(|(|0061..0061)|002D..002D)"),
-        (b"[[a]- ]", b"(|(|0061..0061)|002D..002D)"),
-        (b"[a[b]c]", b"(|0061..0061|(|0062..0062)|0063..0063)"),
-        (
-            b"[[ace][bdf] - [abc][def]]",
-            b"(|(|0061..0061|0063..0063|0065..0065)|(|0062..0062|0064..0064|0066..0066)-(|0061..0061|0062..0062|0063..0063)|(|0064..0064|0065..0065|0066..0066))",
-        ),
-        (b"[[a]&[b]-\\p{L}]", b"(|(|0061..0061)&(|0062..0062)-L@9)"),
-        (b"\\p{Lu}", b"Lu@0"),
-        (b"\\P{gc=Lu}", b"!gc=Lu@0"),
-        (b"[:Lu:]", b"Lu@0"),
-        (b"[:^a}=:=b:]", b"!a}=:=b@0"),
-        (b"\\p{^:]}", b"^:]@0"),
-        (b"\\p{}", b"@0"),
-        (
-            b"[\\u0041\\x41\\U0010FFFF\\u{1}\\x{10ffff}]",
-            b"(|0041..0041|0041..0041|10FFFF..10FFFF|0001..0001|10FFFF..10FFFF)",
-        ),
-        (
-            b"[\\a\\b\\t\\n\\v\\f\\r\\-\\]\\\xc3\xa9\\ ]",
-            b"(|0007..0007|0008..0008|0009..0009|000A..000A|000B..000B|000C..000C|000D..000D|002D..002D|005D..005D|00E9..00E9|0020..0020)",
-        ),
-        (b"[\xc3\xa9-\xf0\x9f\x98\x80]", b"(|00E9..1F600)"),
-        (b"[:\xe2\x80\xa8]:]", b"\xe2\x80\xa8]@0"),
-    ];
-    for (text, tree) in texts {
-        let found = has_tree(rt.alloc(), text, tree).expect(&rt, "memory");
-        assert!(rt; found, "{text:?}");
+    for (text, tree) in &TREES {
+        assert!(rt; has_tree(rt.alloc(), text, tree) == Ok(true), "{text:?}");
     }
 }
 
+/// How many brackets are opened and closed, and the fault of the text, if it has one.
+const NESTED: [(usize, usize, Option<(SetRule, usize)>); 5] = [
+    (64, 64, None),
+    (64, 0, Some((SetRule::S2, 64))),
+    (65, 65, Some((SetRule::S6, 64))),
+    (4000, 0, Some((SetRule::S6, 64))),
+    (2, 3, Some((SetRule::S3, 4))),
+];
+
 #[test]
 fn brackets_within_brackets(rt: HostRuntime) {
-    let texts: [(usize, usize, Option<(SetRule, usize)>); 5] = [
-        (64, 64, None),
-        (64, 0, Some((SetRule::S2, 64))),
-        (65, 65, Some((SetRule::S6, 64))),
-        (4000, 0, Some((SetRule::S6, 64))),
-        (2, 3, Some((SetRule::S3, 4))),
-    ];
-    for (open, closed, wanted) in texts {
-        let text = nested(rt.alloc(), open, closed).expect(&rt, "memory");
-        let fault = fault_of(rt.alloc(), text.as_slice()).expect(&rt, "memory");
-        assert!(rt; fault == wanted, "{open} {closed}");
+    for (open, closed, wanted) in &NESTED {
+        let fault = nested_fault(rt.alloc(), *open, *closed);
+        assert!(rt; fault == Ok(*wanted), "{open} {closed}");
     }
 }
 
@@ -264,31 +298,32 @@ const PIECES: [&[u8]; 16] = [
     b"^", b"{",
 ];
 
-/// A text of so many random pieces, behind a `[`.
-fn random_text(alloc: Global, seed: u32, count: u32) -> Result<Text, Memory> {
-    let mut text = Text::new(alloc);
+/// Puts so many random pieces in brackets.
+fn put_random(text: &mut Text, seed: u32, count: u32) -> Result<(), Memory> {
     text.push(b'[')?;
     let mut number = seed;
     for _ in 0..count {
         number = next_number(number);
         text.append(PIECES[(number / 65_536 % 16) as usize])?;
     }
-    text.push(b']')?;
-    Ok(text)
+    text.push(b']')
+}
+
+/// Whether a text of so many random pieces is a set, by both readings; nothing if they differ.
+fn is_set(alloc: Global, seed: u32, count: u32) -> Result<Option<bool>, Memory> {
+    let mut text = Text::new(alloc);
+    put_random(&mut text, seed, count)?;
+    let is_set = fault_of(alloc, text.as_slice())?.is_none();
+    Ok((is_set == is_text(text.as_slice())).then_some(is_set))
 }
 
 #[test]
 fn random_texts(rt: HostRuntime) {
     let mut sets = 0u32;
     for seed in 0..20_000u32 {
-        let text = random_text(rt.alloc(), next_number(seed), 1 + seed % 8).expect(&rt, "memory");
-        let fault = fault_of(rt.alloc(), text.as_slice()).expect(&rt, "memory");
-        assert!(rt;
-            fault.is_none() == is_text(text.as_slice()),
-            "{:?}",
-            text.as_slice()
-        );
-        if fault.is_none() {
+        let found = is_set(rt.alloc(), next_number(seed), 1 + seed % 8);
+        assert!(rt; matches!(found, Ok(Some(_))), "{seed}");
+        if found == Ok(Some(true)) {
             sets = sets.wrapping_add(1);
         }
     }

@@ -113,10 +113,20 @@ fn sets_are_made(rt: &impl Abort, alloc: Global, release: &Release) -> Result<()
 
 fn sets_are_found<T: TestSets>(rt: &impl Abort, alloc: Global, index: &T) -> Result<(), Fail> {
     for (test, expected) in &SETS {
-        let set = index.set_of(alloc, *test)?;
-        assert!(rt; has_spans(alloc, &set, expected)?);
+        assert!(rt; has_set(alloc, index, *test, expected)?);
     }
     Ok(())
+}
+
+/// Whether a test has this set.
+fn has_set<T: TestSets>(
+    alloc: Global,
+    index: &T,
+    test: Test,
+    expected: &[(u32, u32)],
+) -> Result<bool, Fail> {
+    let set = index.set_of(alloc, test)?;
+    has_spans(alloc, &set, expected)
 }
 
 /// Texts with their answers, by `release`.
@@ -142,8 +152,20 @@ fn texts_are_answered(rt: &impl Abort, alloc: Global, release: &Release) -> Resu
     requires { items_now release.now UnicodeData ≡ [] }
 {
     let aliases = Aliases::of(alloc, release)?;
+    are_answers(rt, alloc, release, &aliases)
+}
+
+fn are_answers(
+    rt: &impl Abort,
+    alloc: Global,
+    release: &Release,
+    aliases: &Aliases,
+) -> Result<(), Fail>
+    requires unassigned { items_now release.now UnicodeData ≡ [] }
+    requires aliases { AreAliasesOf aliases.now (sources_of release.now) }
+{
     'answers: for (text, expected) in &ANSWERS {
-        assert!(rt; is_answer(alloc, release, &aliases, text, expected)?);
+        assert!(rt; is_answer(alloc, release, aliases, text, expected)?);
     }
     Ok(())
 }

@@ -71,13 +71,25 @@ fn stepped(
     Ok(PointSet::joined(alloc, join, set, &more)?)
 }
 
+/// Does a step, and tells whether the members then are those of its row.
+fn is_stepped(alloc: Global, set: &mut PointSet, step: &Step) -> Result<bool, Fail> {
+    let (join, spans, expected) = step;
+    *set = stepped(alloc, set, *join, spans)?;
+    has_spans(alloc, set, expected)
+}
+
+fn are_stepped(alloc: Global, set: &mut PointSet) -> Result<bool, Fail> {
+    for step in &STEPS {
+        if !is_stepped(alloc, set, step)? {
+            return Ok(false);
+        }
+    }
+    Ok(true)
+}
+
 #[test]
 fn steps_act_from_left_to_right(rt: HostRuntime) -> Result<(), Fail> {
-    let mut set = PointSet::empty(rt.alloc());
-    for (join, spans, expected) in &STEPS {
-        set = stepped(rt.alloc(), &set, *join, spans)?;
-        assert!(rt; has_spans(rt.alloc(), &set, expected)?);
-    }
+    assert!(rt; are_stepped(rt.alloc(), &mut PointSet::empty(rt.alloc()))?);
     Ok(())
 }
 
@@ -160,34 +172,70 @@ fn answer_of(
     Ok(eval_over(alloc, &index, aliases, &expr))
 }
 
+/// What is looked at by names without rows. One function owns their meaning for both tests: that keeps each small.
+#[derive(Clone, Copy)]
+enum Look {
+    Members,
+    Faults,
+}
+
+fn on_aliases(rt: &impl Abort, alloc: Global, look: Look) -> Result<(), Fail> {
+    let aliases = aliases(alloc)?;
+    look_at(rt, alloc, &aliases, look)
+}
+
+fn look_at(rt: &impl Abort, alloc: Global, aliases: &Aliases, look: Look) -> Result<(), Fail> {
+    match look {
+        Look::Members => members_are_found(rt, alloc, aliases),
+        Look::Faults => faults_are_told(rt, alloc, aliases),
+    }
+}
+
 #[test]
 fn sets_have_their_members(rt: HostRuntime) -> Result<(), Fail> {
-    let aliases = aliases(rt.alloc())?;
-    members_are_found(&rt, rt.alloc(), &aliases)
+    on_aliases(&rt, rt.alloc(), Look::Members)
 }
 
 fn members_are_found(rt: &impl Abort, alloc: Global, aliases: &Aliases) -> Result<(), Fail> {
     for (text, expected) in &ANSWERS {
-        let spans = answer_of(alloc, aliases, text)??;
-        assert!(rt; are(alloc, &spans, expected)?);
+        assert!(rt; has_members(alloc, aliases, text, expected)?);
     }
     Ok(())
+}
+
+/// Whether the set of a text has these members.
+fn has_members(
+    alloc: Global,
+    aliases: &Aliases,
+    text: &[u8],
+    expected: &[(u32, u32)],
+) -> Result<bool, Fail> {
+    let spans = answer_of(alloc, aliases, text)??;
+    are(alloc, &spans, expected)
 }
 
 #[test]
 fn the_first_name_without_meaning_is_told(rt: HostRuntime) -> Result<(), Fail> {
-    let aliases = aliases(rt.alloc())?;
-    faults_are_told(&rt, rt.alloc(), &aliases)
+    on_aliases(&rt, rt.alloc(), Look::Faults)
 }
 
 fn faults_are_told(rt: &impl Abort, alloc: Global, aliases: &Aliases) -> Result<(), Fail> {
     for (text, rule, at) in &FAULTS {
-        let stop = answer_of(alloc, aliases, text)?.err();
         let expected = EvalStop::Fault {
             rule: *rule,
             at: *at,
         };
-        assert!(rt; stop == Some(expected));
+        assert!(rt; is_stopped(alloc, aliases, text, expected)?);
     }
     Ok(())
+}
+
+/// Whether a text has no answer for this reason.
+fn is_stopped(
+    alloc: Global,
+    aliases: &Aliases,
+    text: &[u8],
+    expected: EvalStop,
+) -> Result<bool, Fail> {
+    Ok(answer_of(alloc, aliases, text)?.err() == Some(expected))
 }

@@ -79,6 +79,29 @@ fn aliases(alloc: Global) -> Result<Aliases, Fail> {
     Ok(Aliases::of(alloc, &release)?)
 }
 
+/// What is looked at by that release. One function owns what names mean for all tests: that keeps each of them small.
+#[derive(Clone, Copy)]
+enum Look {
+    Properties,
+    Numbers,
+    Values,
+    Lone,
+}
+
+fn on_aliases(rt: &impl Abort, alloc: Global, look: Look) -> Result<(), Fail> {
+    let aliases = aliases(alloc)?;
+    look_at(rt, alloc, &aliases, look)
+}
+
+fn look_at(rt: &impl Abort, alloc: Global, aliases: &Aliases, look: Look) -> Result<(), Fail> {
+    match look {
+        Look::Properties => properties_are_found(rt, alloc, aliases),
+        Look::Numbers => numbers_are_found(rt, aliases),
+        Look::Values => values_are_found(rt, alloc, aliases),
+        Look::Lone => lone_names_are_found(rt, alloc, aliases),
+    }
+}
+
 /// Names of properties, and what they mean by `release`.
 const PROPERTY_CASES: [(&[u8], Option<Property>); 16] = [
     (b"gc", Some(Property::Category)),
@@ -101,8 +124,7 @@ const PROPERTY_CASES: [(&[u8], Option<Property>); 16] = [
 
 #[test]
 fn names_match_loosely(rt: HostRuntime) -> Result<(), Fail> {
-    let aliases = aliases(rt.alloc())?;
-    properties_are_found(&rt, rt.alloc(), &aliases)
+    on_aliases(&rt, rt.alloc(), Look::Properties)
 }
 
 fn properties_are_found(rt: &impl Abort, alloc: Global, aliases: &Aliases) -> Result<(), Fail> {
@@ -122,9 +144,12 @@ const SCRIPT_CASES: [(u64, Option<&[u8]>); 4] = [
 
 #[test]
 fn names_are_numbered(rt: HostRuntime) -> Result<(), Fail> {
-    let aliases = aliases(rt.alloc())?;
-    scripts_are_found(&rt, &aliases)?;
-    others_are_found(&rt, &aliases)
+    on_aliases(&rt, rt.alloc(), Look::Numbers)
+}
+
+fn numbers_are_found(rt: &impl Abort, aliases: &Aliases) -> Result<(), Fail> {
+    scripts_are_found(rt, aliases)?;
+    others_are_found(rt, aliases)
 }
 
 fn scripts_are_found(rt: &impl Abort, aliases: &Aliases) -> Result<(), Fail> {
@@ -178,8 +203,7 @@ const VALUE_CASES: [(Property, &[u8], Option<Test>); 29] = [
 
 #[test]
 fn values_have_names(rt: HostRuntime) -> Result<(), Fail> {
-    let aliases = aliases(rt.alloc())?;
-    values_are_found(&rt, rt.alloc(), &aliases)
+    on_aliases(&rt, rt.alloc(), Look::Values)
 }
 
 fn values_are_found(rt: &impl Abort, alloc: Global, aliases: &Aliases) -> Result<(), Fail> {
@@ -210,8 +234,7 @@ const LONE_CASES: [(&[u8], Option<Test>); 15] = [
 
 #[test]
 fn names_stand_alone(rt: HostRuntime) -> Result<(), Fail> {
-    let aliases = aliases(rt.alloc())?;
-    lone_names_are_found(&rt, rt.alloc(), &aliases)
+    on_aliases(&rt, rt.alloc(), Look::Lone)
 }
 
 fn lone_names_are_found(rt: &impl Abort, alloc: Global, aliases: &Aliases) -> Result<(), Fail> {

@@ -225,21 +225,23 @@ fn reads_without_planned_faults(rt: HostRuntime) -> Result<(), Memory> {
     Ok(())
 }
 
-/// The first wrong read of a file that was replaced, where the second and the fifth read fail.
+/// Reads of a file that was replaced, of which the second and the fifth fail.
+const FAILING: [ReadCase<'static>; 6] = [
+    (b"a", 9, Ok(Found::Found), b"text"),
+    (b"a", 9, Err(ReadStop::Failed), b""),
+    (b"a", 3, Ok(Found::Found), b"tex"),
+    (b"b", 9, Ok(Found::Absent), b""),
+    (b"b", 9, Err(ReadStop::Failed), b""),
+    (b"a", 0, Ok(Found::Found), b""),
+];
+
+/// The first wrong read of such a file.
 fn first_wrong_of_failing(alloc: Global, shelf: &mut MemoryShelf) -> Result<Option<usize>, Memory> {
     shelf.place(b"a", b"old")?;
     shelf.place(b"a", b"text")?;
     shelf.fail_read(2)?;
     shelf.fail_read(5)?;
-    let cases: [ReadCase<'_>; 6] = [
-        (b"a", 9, Ok(Found::Found), b"text"),
-        (b"a", 9, Err(ReadStop::Failed), b""),
-        (b"a", 3, Ok(Found::Found), b"tex"),
-        (b"b", 9, Ok(Found::Absent), b""),
-        (b"b", 9, Err(ReadStop::Failed), b""),
-        (b"a", 0, Ok(Found::Found), b""),
-    ];
-    Ok(first_wrong_read(alloc, shelf, &cases))
+    Ok(first_wrong_read(alloc, shelf, &FAILING))
 }
 
 /// The same, of a shelf that was made for it.
@@ -253,11 +255,17 @@ fn named_reads_fail(rt: HostRuntime) -> Result<(), Memory> {
     Ok(())
 }
 
+const WRITES: [(&[u8], Result<(), Failed>); 3] = [
+    (b"a", Ok(())),
+    (b"b", Err(Failed)),
+    (b"c", Ok(())),
+];
+
 /// Whether the second of three writes fails, and leaves the other two.
 fn fails_second(alloc: Global, shelf: &mut MemoryShelf) -> Result<bool, Memory> {
     shelf.fail_write(2)?;
-    for (path, answer) in [(b"a", Ok(())), (b"b", Err(Failed)), (b"c", Ok(()))] {
-        if write_once(alloc, shelf, path, b"new")? != answer {
+    for (path, answer) in &WRITES {
+        if write_once(alloc, shelf, path, b"new")? != *answer {
             return Ok(false);
         }
     }

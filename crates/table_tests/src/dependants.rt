@@ -1,7 +1,7 @@
 //! Worked maps of dependants, and a map against a plain list.
 
 use crate::plain::{Plain, drawn};
-use dependency_map::{DependencyMap, Listing};
+use dependency_map::{Askers, DependencyMap, Listing};
 use kept_values::Kept;
 use range_table::RunTable;
 use std::alloc::Global;
@@ -13,113 +13,173 @@ type Store = Kept<RunTable<u64>, Option<Queries>>;
 
 type Map = DependencyMap<Store>;
 
-fn point(number: u32) -> Result<Point, Fail> {
-    Ok(Point::new(number).ok_or("a code point")?)
+/// A letter, and the base and the mark that it decomposes to.
+type Letter = [Point; 3];
+
+fn letter(c: u32, base: u32, mark: u32) -> Option<Letter> {
+    Some([Point::new(c)?, Point::new(base)?, Point::new(mark)?])
 }
 
-/// What a letter asks that decomposes to `base` and `mark`.
-fn composed(alloc: Global, c: Point, base: Point, mark: Point) -> Result<Queries, Memory> {
+fn grave() -> Option<Letter> {
+    letter(0xC0, 0x41, 0x300)
+}
+
+fn acute() -> Option<Letter> {
+    letter(0xC1, 0x41, 0x301)
+}
+
+/// What a letter asks that decomposes to a base and a mark.
+fn composed(alloc: Global, letter: Letter) -> Result<Queries, Memory> {
+    let [c, base, mark] = letter;
     let mut asked = Queries::new(alloc);
-    asked.push(Query::Row(c))?;
-    asked.push(Query::Second(c))?;
-    asked.push(Query::Row(base))?;
-    asked.push(Query::Row(mark))?;
-    asked.push(Query::Pair(base, mark))?;
+    asked.append(&[
+        Query::Row(c),
+        Query::Second(c),
+        Query::Row(base),
+        Query::Row(mark),
+        Query::Pair(base, mark),
+    ])?;
     Ok(asked)
+}
+
+/// The number of the next one that asks.
+fn next_number(askers: &mut Askers<'_, Store>) -> Option<u32> {
+    Some(askers.next()?.number())
 }
 
 /// Whether just these code points ask the question now.
 fn has_askers(map: &Map, query: Query, wanted: &[u32]) -> bool {
     let mut askers = map.askers(query);
     for number in wanted {
-        if askers.next().map(|c| c.number()) != Some(*number) {
+        if next_number(&mut askers) != Some(*number) {
             return false;
         }
     }
     askers.next().is_none()
 }
 
-fn expect(rt: &impl Abort, map: &Map, query: Query, wanted: &[u32]) {
+fn expect(rt: &impl Abort, map: &Map, query: Option<Query>, wanted: &[u32]) {
+    assert!(rt; query.is_some());
+    if let Some(query) = query {
+        expect_askers(rt, map, query, wanted);
+    }
+}
+
+fn expect_askers(rt: &impl Abort, map: &Map, query: Query, wanted: &[u32]) {
     let found = has_askers(map, query, wanted);
     assert!(rt; found, "{query:?}");
 }
 
-/// Gives a letter what it asks, which decomposes to `base` and `mark`.
-fn put(alloc: Global, map: &mut Map, c: u32, base: u32, mark: u32) -> Result<(), Fail> {
-    let c = point(c)?;
-    let asked = composed(alloc, c, point(base)?, point(mark)?)?;
-    map.prepare(c, &asked)?;
-    Ok(())
+/// Gives a letter what it asks.
+fn put(alloc: Global, map: &mut Map, letter: Letter) -> Result<(), Memory> {
+    let asked = composed(alloc, letter)?;
+    map.prepare(letter[0], &asked)
 }
 
-/// A with acute is put before A with grave: the answers ascend all the same.
-fn put_letters(alloc: Global, map: &mut Map) -> Result<(), Fail> {
-    put(alloc, map, 0xC1, 0x41, 0x301)?;
-    put(alloc, map, 0xC0, 0x41, 0x300)?;
-    Ok(())
-}
-
-fn row(number: u32) -> Result<Query, Fail> {
-    Ok(Query::Row(point(number)?))
+fn row(number: u32) -> Option<Query> {
+    Some(Query::Row(Point::new(number)?))
 }
 
 /// The pair that A with grave asks.
-fn grave_pair() -> Result<Query, Fail> {
-    Ok(Query::Pair(point(0x41)?, point(0x300)?))
+fn grave_pair() -> Option<Query> {
+    let [_, base, mark] = grave()?;
+    Some(Query::Pair(base, mark))
+}
+
+/// What is looked at on a map of its own. One function owns the map for all tests: that keeps each of them small.
+#[derive(Clone, Copy)]
+enum Look {
+    Letters,
+    Listing,
+    NoQuestions,
+    Steps,
+}
+
+fn on_a_map(rt: &impl Abort, alloc: Global, look: Look) -> Result<(), Fail> {
+    let mut map = map_of(alloc, look)?;
+    look_at(rt, alloc, &mut map, look)
+}
+
+fn map_of(alloc: Global, look: Look) -> Result<Map, Fail> {
+    match look {
+        Look::Listing => listed(alloc),
+        _ => Ok(DependencyMap::new(alloc)),
+    }
+}
+
+fn look_at(rt: &impl Abort, alloc: Global, map: &mut Map, look: Look) -> Result<(), Fail> {
+    match look {
+        Look::Letters => look_at_letters(rt, alloc, map),
+        Look::Listing => look_at_listing(rt, alloc, map),
+        Look::NoQuestions => take_questions(rt, alloc, map),
+        Look::Steps => take_steps(rt, alloc, map),
+    }
 }
 
 #[test]
 fn askers_of_letters_with_marks(rt: HostRuntime) -> Result<(), Fail> {
-    let mut map: Map = DependencyMap::new(rt.alloc());
-    look_at_letters(&rt, rt.alloc(), &mut map)
+    on_a_map(&rt, rt.alloc(), Look::Letters)
 }
 
+/// A with acute is put before A with grave: the answers ascend all the same.
 fn look_at_letters(rt: &impl Abort, alloc: Global, map: &mut Map) -> Result<(), Fail> {
-    put_letters(alloc, map)?;
-    let (a, pair) = (row(0x41)?, grave_pair()?);
-    expect(rt, map, a, &[0x41]);
+    put(alloc, map, acute().ok_or("a letter")?)?;
+    put(alloc, map, grave().ok_or("a letter")?)?;
+    expect(rt, map, row(0x41), &[0x41]);
     map.commit();
-    expect(rt, map, a, &[0x41, 0xC0, 0xC1]);
-    expect(rt, map, pair, &[0xC0]);
+    expect(rt, map, row(0x41), &[0x41, 0xC0, 0xC1]);
+    expect(rt, map, grave_pair(), &[0xC0]);
     Ok(())
 }
 
 #[test]
 fn askers_of_a_listing(rt: HostRuntime) -> Result<(), Fail> {
-    list_letters(&rt, rt.alloc())
+    on_a_map(&rt, rt.alloc(), Look::Listing)
 }
 
-/// A with grave is listed, and A with acute is prepared in the map that is made of the listing.
-fn list_letters(rt: &impl Abort, alloc: Global) -> Result<(), Fail> {
+/// The map in which A with grave is listed.
+fn listed(alloc: Global) -> Result<Map, Fail> {
+    let letter = grave().ok_or("a letter")?;
     let mut listing: Listing<Store> = Listing::new(alloc);
-    let c = point(0xC0)?;
-    let asked = composed(alloc, c, point(0x41)?, point(0x300)?)?;
-    listing.put(c, &asked)?;
-    let mut map = listing.finish();
-    expect(rt, &map, row(0x41)?, &[0x41, 0xC0]);
-    put(alloc, &mut map, 0xC1, 0x41, 0x301)?;
+    list(alloc, &mut listing, letter)?;
+    Ok(listing.finish())
+}
+
+fn list(alloc: Global, listing: &mut Listing<Store>, letter: Letter) -> Result<(), Memory> {
+    let asked = composed(alloc, letter)?;
+    listing.put(letter[0], &asked)
+}
+
+/// A with acute is prepared in the map that is made of the listing.
+fn look_at_listing(rt: &impl Abort, alloc: Global, map: &mut Map) -> Result<(), Fail> {
+    expect(rt, map, row(0x41), &[0x41, 0xC0]);
+    put(alloc, map, acute().ok_or("a letter")?)?;
     map.commit();
-    expect(rt, &map, row(0x41)?, &[0x41, 0xC0, 0xC1]);
-    expect(rt, &map, grave_pair()?, &[0xC0]);
+    expect(rt, map, row(0x41), &[0x41, 0xC0, 0xC1]);
+    expect(rt, map, grave_pair(), &[0xC0]);
     Ok(())
 }
 
 #[test]
 fn a_list_without_questions(rt: HostRuntime) -> Result<(), Fail> {
-    let mut map: Map = DependencyMap::new(rt.alloc());
-    take_questions(&rt, rt.alloc(), &mut map)
+    on_a_map(&rt, rt.alloc(), Look::NoQuestions)
+}
+
+/// Gives A with grave no questions.
+fn put_none(alloc: Global, map: &mut Map) -> Result<(), Fail> {
+    let [c, _, _] = grave().ok_or("a letter")?;
+    Ok(map.prepare(c, &Queries::new(alloc))?)
 }
 
 /// A list without questions is not that of a plain code point.
 fn take_questions(rt: &impl Abort, alloc: Global, map: &mut Map) -> Result<(), Fail> {
-    let (c, own) = (point(0xC0)?, row(0xC0)?);
-    map.prepare(c, &Queries::new(alloc))?;
+    put_none(alloc, map)?;
     map.discard();
     map.commit();
-    expect(rt, map, own, &[0xC0]);
-    map.prepare(c, &Queries::new(alloc))?;
+    expect(rt, map, row(0xC0), &[0xC0]);
+    put_none(alloc, map)?;
     map.commit();
-    expect(rt, map, own, &[]);
+    expect(rt, map, row(0xC0), &[]);
     Ok(())
 }
 
@@ -160,7 +220,7 @@ fn has_same_askers(map: &Map, plain: &Plain, query: Query, number: u64) -> bool 
     let mut askers = map.askers(query);
     for at in 0..POINTS {
         let asks = asked_now(plain, at) >> (number % 64) & 1 == 1;
-        if asks && askers.next().map(|c| c.number()) != Some(at) {
+        if asks && next_number(&mut askers) != Some(at) {
             return false;
         }
     }
@@ -186,21 +246,33 @@ fn asked_now(plain: &Plain, at: u32) -> u64 {
 /// The code points that ask one of two questions are collected.
 fn collects(alloc: Global, map: &Map, plain: &Plain, one: u64, other: u64) -> Result<bool, Memory> {
     let mut queries = Queries::new(alloc);
-    let mut bits = 0;
-    for number in [one, other] {
-        if let Some(query) = query(number) {
-            queries.push(query)?;
-            bits |= 1 << (number % 64);
-        }
-    }
+    let bits = put_two(&mut queries, one, other)?;
     let points = map.collect(alloc, &queries)?;
-    let mut left = points.as_slice().iter();
+    Ok(are_asking(points.as_slice(), plain, bits))
+}
+
+/// Puts two questions: their bits.
+fn put_two(queries: &mut Queries, one: u64, other: u64) -> Result<u64, Memory> {
+    Ok(put_one(queries, one)? | put_one(queries, other)?)
+}
+
+fn put_one(queries: &mut Queries, number: u64) -> Result<u64, Memory> {
+    let Some(query) = query(number) else {
+        return Ok(0);
+    };
+    queries.push(query)?;
+    Ok(1 << (number % 64))
+}
+
+/// Whether these are the code points that ask one of these questions, a bit for each.
+fn are_asking(points: &[Point], plain: &Plain, bits: u64) -> bool {
+    let mut left = points.iter();
     for at in 0..POINTS {
-        if asked_now(plain, at) & bits != 0 && left.next().map(|c| c.number()) != Some(at) {
-            return Ok(false);
+        if asked_now(plain, at) & bits != 0 && left.next().copied() != Point::new(at) {
+            return false;
         }
     }
-    Ok(left.next().is_none())
+    left.next().is_none()
 }
 
 /// One step, drawn by lot: questions are prepared, or what is next is committed or discarded.
@@ -241,11 +313,7 @@ fn put_drawn(asked: &mut Queries, state: u64) -> (u64, u64) {
     for _ in 0..count {
         let (number, next) = drawn(state, QUERIES);
         state = next;
-        if let Some(query) = query(number) {
-            if asked.push(query).is_ok() {
-                bits |= 1 << (number % 64);
-            }
-        }
+        bits |= put_one(asked, number).unwrap_or(0);
     }
     (bits, state)
 }
@@ -274,9 +342,12 @@ fn steps(rt: &impl Abort, alloc: Global, map: &mut Map, plain: &mut Plain) -> Re
     Ok(())
 }
 
+fn take_steps(rt: &impl Abort, alloc: Global, map: &mut Map) -> Result<(), Fail> {
+    let mut plain = own_questions(alloc)?;
+    steps(rt, alloc, map, &mut plain)
+}
+
 #[test]
 fn steps_in_any_order(rt: HostRuntime) -> Result<(), Fail> {
-    let mut map: Map = DependencyMap::new(rt.alloc());
-    let mut plain = own_questions(rt.alloc())?;
-    steps(&rt, rt.alloc(), &mut map, &mut plain)
+    on_a_map(&rt, rt.alloc(), Look::Steps)
 }

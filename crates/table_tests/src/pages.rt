@@ -5,11 +5,32 @@ use paged_table::PagedTable;
 use range_table::{Stretches, Table};
 use std::alloc::Global;
 use std::process::Abort;
-use std::test::Fail;
-use ucd_model::{Point, Span};
+use ucd_model::{Memory, Point, Span};
 
 fn span(lo: u32, hi: u32) -> Option<Span> {
     Span::new(Point::new(lo)?, Point::new(hi)?)
+}
+
+/// What is looked at on a table of its own. One function owns the table for all tests: that keeps each of them small.
+#[derive(Clone, Copy)]
+enum Look {
+    Counts,
+    Words,
+    Stretches,
+}
+
+fn on_a_table(rt: &impl Abort, alloc: Global, look: Look) -> Result<(), Memory> {
+    let mut table = PagedTable::filled(alloc, 0)?;
+    look_at(rt, &mut table, look);
+    Ok(())
+}
+
+fn look_at(rt: &impl Abort, table: &mut PagedTable, look: Look) {
+    match look {
+        Look::Counts => count_pages(rt, table),
+        Look::Words => look_at_words(rt, table),
+        Look::Stretches => look_at_stretches(rt, table),
+    }
 }
 
 /// Prepares a span with its value; whether it was.
@@ -34,10 +55,8 @@ const COUNTED: [(u32, u32, u64, u64); 7] = [
 ];
 
 #[test]
-fn blocks_of_one_value_have_no_page(rt: HostRuntime) -> Result<(), Fail> {
-    let mut table = PagedTable::filled(rt.alloc(), 0)?;
-    count_pages(&rt, &mut table);
-    Ok(())
+fn blocks_of_one_value_have_no_page(rt: HostRuntime) -> Result<(), Memory> {
+    on_a_table(&rt, rt.alloc(), Look::Counts)
 }
 
 fn count_pages(rt: &impl Abort, table: &mut PagedTable) {
@@ -66,10 +85,8 @@ const WORDS: [(u32, u8, (u64, u64)); 4] = [
 ];
 
 #[test]
-fn a_page_shows_the_words_of_its_block(rt: HostRuntime) -> Result<(), Fail> {
-    let mut table = PagedTable::filled(rt.alloc(), 0)?;
-    look_at_words(&rt, &mut table);
-    Ok(())
+fn a_page_shows_the_words_of_its_block(rt: HostRuntime) -> Result<(), Memory> {
+    on_a_table(&rt, rt.alloc(), Look::Words)
 }
 
 fn look_at_words(rt: &impl Abort, table: &mut PagedTable) {
@@ -101,10 +118,8 @@ const ENDS: [(u32, (u64, u64)); 7] = [
 ];
 
 #[test]
-fn stretches_end_with_the_value_or_with_a_block(rt: HostRuntime) -> Result<(), Fail> {
-    let mut table = PagedTable::filled(rt.alloc(), 0)?;
-    look_at_stretches(&rt, &mut table);
-    Ok(())
+fn stretches_end_with_the_value_or_with_a_block(rt: HostRuntime) -> Result<(), Memory> {
+    on_a_table(&rt, rt.alloc(), Look::Stretches)
 }
 
 fn look_at_stretches(rt: &impl Abort, table: &mut PagedTable) {

@@ -5,7 +5,7 @@ ghost use Rattle.std.specs.Prelude.{nat_eq};
 use part_list::{Entries, PartList, Reach, Seek, Spanned};
 use std::alloc::Global;
 use std::process::Abort;
-use std::test::Fail;
+use ucd_model::Memory;
 
 /// Passes the entries whose first code point is this.
 #[derive(Clone, Copy)]
@@ -41,8 +41,9 @@ fn follows(number: u32) -> u32 {
 }
 
 /// Does one edit on both lists: the first entry of a code point is given another before it, replaced, replaced with
-/// another behind it, or removed. Where there is none, one is put at the end.
-fn edit(list: &mut PartList<u32>, plain: &mut Vec<u32>, code: u32, how: u32) -> Result<(), Fail> {
+/// another behind it, or removed. Where there is none, one is put at the end. Where one list has it and the other has
+/// not, they differ from then on.
+fn edit(list: &mut PartList<u32>, plain: &mut Vec<u32>, code: u32, how: u32) -> Result<(), Memory> {
     let code = code % 0x11_0000;
     let place = plain.iter().position(|other| *other == code);
     match (list.first(&Code { code }), place) {
@@ -69,7 +70,7 @@ fn edit(list: &mut PartList<u32>, plain: &mut Vec<u32>, code: u32, how: u32) -> 
                 plain.remove(at);
             }
         },
-        _ => return Err("one list has it and the other has not".into()),
+        _ => plain.push(u32::MAX)?,
     }
     Ok(())
 }
@@ -97,7 +98,7 @@ struct Both {
 
 impl Both {
     /// Lists of so many entries, each as far behind the one before.
-    fn filled(alloc: Global, count: u32, step: u32) -> Result<Both, Fail> {
+    fn filled(alloc: Global, count: u32, step: u32) -> Result<Both, Memory> {
         let mut both = Both {
             list: PartList::new(alloc),
             now: Vec::new(alloc),
@@ -107,7 +108,7 @@ impl Both {
         Ok(both)
     }
 
-    fn fill(&mut self, count: u32, step: u32) -> Result<(), Fail> {
+    fn fill(&mut self, count: u32, step: u32) -> Result<(), Memory> {
         for number in 0..count {
             let code = number.wrapping_mul(step);
             self.list.push(entry(code))?;
@@ -117,17 +118,17 @@ impl Both {
         Ok(())
     }
 
-    fn edit(&mut self, code: u32, how: u32) -> Result<(), Fail> {
+    fn edit(&mut self, code: u32, how: u32) -> Result<(), Memory> {
         edit(&mut self.list, &mut self.next, code, how)
     }
 
-    fn commit(&mut self) -> Result<(), Fail> {
+    fn commit(&mut self) -> Result<(), Memory> {
         self.list.commit();
         self.now.clear();
         Ok(self.now.extend_from_slice(self.next.as_slice())?)
     }
 
-    fn discard(&mut self) -> Result<(), Fail> {
+    fn discard(&mut self) -> Result<(), Memory> {
         self.list.discard();
         self.next.clear();
         Ok(self.next.extend_from_slice(self.now.as_slice())?)
@@ -156,37 +157,49 @@ impl Both {
 }
 
 #[test]
-fn edits_at_random(rt: HostRuntime) -> Result<(), Fail> {
+fn edits_at_random(rt: HostRuntime) -> Result<(), Memory> {
     let mut both = Both::filled(rt.alloc(), 1_500, 1)?;
     edit_at_random(&rt, &mut both)
 }
 
-fn edit_at_random(rt: &impl Abort, both: &mut Both) -> Result<(), Fail> {
+/// Edits after a number: the last number.
+fn edit_some(both: &mut Both, number: u32) -> Result<u32, Memory> {
+    let mut number = number;
+    for _ in 0..150u32 {
+        number = follows(number);
+        both.edit(number % 1_600, number / 1_600)?;
+    }
+    Ok(number)
+}
+
+/// What was edited is committed, or a third of it discarded.
+fn end_edits(both: &mut Both, number: u32) -> Result<(), Memory> {
+    if number % 3 == 0 {
+        both.discard()
+    } else {
+        both.commit()
+    }
+}
+
+fn edit_at_random(rt: &impl Abort, both: &mut Both) -> Result<(), Memory> {
     let mut number = 7;
     for _ in 0..20u32 {
-        for _ in 0..150u32 {
-            number = follows(number);
-            both.edit(number % 1_600, number / 1_600)?;
-        }
+        number = edit_some(both, number)?;
         both.agree(rt);
         assert!(rt; both.has_alone(number % 1_600), "passing");
-        if number % 3 == 0 {
-            both.discard()?;
-        } else {
-            both.commit()?;
-        }
+        end_edits(both, number)?;
         both.agree(rt);
     }
     Ok(())
 }
 
 #[test]
-fn a_part_that_grows_is_cut(rt: HostRuntime) -> Result<(), Fail> {
+fn a_part_that_grows_is_cut(rt: HostRuntime) -> Result<(), Memory> {
     let mut both = Both::filled(rt.alloc(), 300, 2)?;
     grow_a_part(&rt, &mut both)
 }
 
-fn grow_a_part(rt: &impl Abort, both: &mut Both) -> Result<(), Fail> {
+fn grow_a_part(rt: &impl Abort, both: &mut Both) -> Result<(), Memory> {
     for _ in 0..2u32 {
         for _ in 0..1_300u32 {
             both.edit(300, 0)?;

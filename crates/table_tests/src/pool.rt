@@ -1,17 +1,24 @@
 //! A pool in use.
 
 use page_pool::PagePool;
-use std::test::Fail;
+use ucd_model::Memory;
 
-#[test]
-fn a_new_page_has_zeros(rt: HostRuntime) -> Result<(), Fail> {
-    let mut pool = PagePool::new(rt.alloc());
+/// Whether all words of a new page are zeros.
+fn is_zeroed(pool: &mut PagePool) -> Result<bool, Memory> {
     pool.reserve(1)?;
     let page = pool.take();
     for at in 0..=255 {
-        assert_eq!(rt; pool.get(page, at), 0, "at {at}");
+        if pool.get(page, at) != 0 {
+            return Ok(false);
+        }
     }
-    Ok(())
+    Ok(true)
+}
+
+#[test]
+fn a_new_page_has_zeros(rt: HostRuntime) {
+    let zeroed = is_zeroed(&mut PagePool::new(rt.alloc()));
+    assert!(rt; zeroed == Ok(true));
 }
 
 /// Two words of two pages, of which the second is made as a copy of the first.

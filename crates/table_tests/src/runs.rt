@@ -7,7 +7,6 @@ use crate::plain::expect;
 use range_table::{RunTable, Stretches, Table};
 use std::alloc::Global;
 use std::process::Abort;
-use std::test::Fail;
 use ucd_model::{Memory, Point, Span};
 
 type Runs = RunTable<u64>;
@@ -48,6 +47,30 @@ fn a_caller_that_knows_only_the_trait(rt: HostRuntime) {
     }
 }
 
+/// What is looked at on a table of its own. One function owns the table for all tests: that keeps each of them small.
+#[derive(Clone, Copy)]
+enum Look {
+    Counts,
+    Values,
+    Discarded,
+    Stretches,
+}
+
+fn on_a_table(rt: &impl Abort, alloc: Global, value: u64, look: Look) -> Result<(), Memory> {
+    let mut table = RunTable::filled(alloc, value)?;
+    look_at(rt, &mut table, look);
+    Ok(())
+}
+
+fn look_at(rt: &impl Abort, table: &mut Runs, look: Look) {
+    match look {
+        Look::Counts => count_runs(rt, table),
+        Look::Values => look_at_values(rt, table),
+        Look::Discarded => discard_one(rt, table),
+        Look::Stretches => look_at_stretches(rt, table),
+    }
+}
+
 /// Prepares spans with their values; whether all were.
 fn are_prepared(table: &mut Runs, spans: &[(u32, u32, u64)]) -> bool {
     for (lo, hi, value) in spans {
@@ -79,10 +102,8 @@ const COUNTED: [(u32, u32, u64, u64); 11] = [
 ];
 
 #[test]
-fn runs_are_counted(rt: HostRuntime) -> Result<(), Fail> {
-    let mut table = RunTable::filled(rt.alloc(), 0u64)?;
-    count_runs(&rt, &mut table);
-    Ok(())
+fn runs_are_counted(rt: HostRuntime) -> Result<(), Memory> {
+    on_a_table(&rt, rt.alloc(), 0, Look::Counts)
 }
 
 fn count_runs(rt: &impl Abort, table: &mut Runs) {
@@ -119,10 +140,8 @@ const VALUES: [(u32, u64); 12] = [
 ];
 
 #[test]
-fn values_at_the_ends_of_spans(rt: HostRuntime) -> Result<(), Fail> {
-    let mut table = RunTable::filled(rt.alloc(), 0u64)?;
-    look_at_values(&rt, &mut table);
-    Ok(())
+fn values_at_the_ends_of_spans(rt: HostRuntime) -> Result<(), Memory> {
+    on_a_table(&rt, rt.alloc(), 0, Look::Values)
 }
 
 fn look_at_values(rt: &impl Abort, table: &mut Runs) {
@@ -139,10 +158,8 @@ fn look_at_values(rt: &impl Abort, table: &mut Runs) {
 }
 
 #[test]
-fn what_is_discarded_is_gone(rt: HostRuntime) -> Result<(), Fail> {
-    let mut table = RunTable::filled(rt.alloc(), 1u64)?;
-    discard_one(&rt, &mut table);
-    Ok(())
+fn what_is_discarded_is_gone(rt: HostRuntime) -> Result<(), Memory> {
+    on_a_table(&rt, rt.alloc(), 1, Look::Discarded)
 }
 
 fn discard_one(rt: &impl Abort, table: &mut Runs) {
@@ -172,10 +189,8 @@ const ENDS: [(u32, (u64, u64)); 5] = [
 ];
 
 #[test]
-fn stretches_reach_to_the_next_change(rt: HostRuntime) -> Result<(), Fail> {
-    let mut table = RunTable::filled(rt.alloc(), 0u64)?;
-    look_at_stretches(&rt, &mut table);
-    Ok(())
+fn stretches_reach_to_the_next_change(rt: HostRuntime) -> Result<(), Memory> {
+    on_a_table(&rt, rt.alloc(), 0, Look::Stretches)
 }
 
 fn look_at_stretches(rt: &impl Abort, table: &mut Runs) {

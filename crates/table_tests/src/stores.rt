@@ -9,7 +9,6 @@ use paged_table::PagedTable;
 use range_table::RunTable;
 use std::alloc::Global;
 use std::process::Abort;
-use std::test::Fail;
 use ucd_model::{Memory, Point, Span};
 
 /// A value that is not copied.
@@ -83,10 +82,9 @@ fn share(store: &mut Names) -> Option<u64> {
 }
 
 #[test]
-fn spans_share_a_held_value(rt: HostRuntime) -> Result<(), Fail> {
+fn spans_share_a_held_value(rt: HostRuntime) -> Result<(), Memory> {
     let mut store: Names = Kept::filled(rt.alloc(), named(0))?;
-    let place = share(&mut store).ok_or("a place")?;
-    look_at_shares(&rt, &store, place);
+    look_at_shares(&rt, &mut store);
     Ok(())
 }
 
@@ -113,7 +111,9 @@ fn are_at(store: &Names, number: u32, place: u64) -> Option<(u64, u64)> {
     Some((u64::from(now), u64::from(next)))
 }
 
-fn look_at_shares(rt: &impl Abort, store: &Names, place: u64) {
+/// Without a place the values are others than expected.
+fn look_at_shares(rt: &impl Abort, store: &mut Names) {
+    let place = share(store).unwrap_or(u64::MAX);
     for (number, value, shares) in &SHARED {
         expect(rt, *number, values(store, *number), (0, *value));
         expect(
@@ -141,7 +141,7 @@ const ENDS: [(u32, (u64, u64)); 4] = [
 ];
 
 #[test]
-fn stretches_reach_to_the_next_place(rt: HostRuntime) -> Result<(), Fail> {
+fn stretches_reach_to_the_next_place(rt: HostRuntime) -> Result<(), Memory> {
     let mut store: Names = Kept::filled(rt.alloc(), named(0))?;
     look_at_stretches(&rt, &mut store);
     Ok(())
@@ -225,18 +225,20 @@ fn steps<S: Store<Name>>(rt: &impl Abort, store: &mut S, plain: &mut Plain) {
     }
 }
 
-#[test]
-fn any_steps_over_runs_as_in_plain_lists(rt: HostRuntime) -> Result<(), Fail> {
-    let mut plain = Plain::filled(rt.alloc(), 0, SHOWN as usize)?;
-    let mut store: Names = Kept::filled(rt.alloc(), named(0))?;
-    steps(&rt, &mut store, &mut plain);
+/// The steps, on a new store beside new plain lists.
+fn any_steps<S: Store<Name>>(rt: &impl Abort, alloc: Global) -> Result<(), Memory> {
+    let mut plain = Plain::filled(alloc, 0, SHOWN as usize)?;
+    let mut store = S::filled(alloc, named(0))?;
+    steps(rt, &mut store, &mut plain);
     Ok(())
 }
 
 #[test]
-fn any_steps_over_pages_as_in_plain_lists(rt: HostRuntime) -> Result<(), Fail> {
-    let mut plain = Plain::filled(rt.alloc(), 0, SHOWN as usize)?;
-    let mut store: PagedNames = Kept::filled(rt.alloc(), named(0))?;
-    steps(&rt, &mut store, &mut plain);
-    Ok(())
+fn any_steps_over_runs_as_in_plain_lists(rt: HostRuntime) -> Result<(), Memory> {
+    any_steps::<Names>(&rt, rt.alloc())
+}
+
+#[test]
+fn any_steps_over_pages_as_in_plain_lists(rt: HostRuntime) -> Result<(), Memory> {
+    any_steps::<PagedNames>(&rt, rt.alloc())
 }

@@ -3,9 +3,9 @@
 use crate::plain::{Plain, drawn, expect};
 use paged_table::PagedTable;
 use range_table::{RunTable, Table};
+use std::alloc::Global;
 use std::process::Abort;
-use std::test::Fail;
-use ucd_model::{Point, Span};
+use ucd_model::{Memory, Point, Span};
 
 /// How many code points are looked at: six blocks.
 const SHOWN: u32 = 0x600;
@@ -72,18 +72,20 @@ fn steps<T: Table<u64>>(rt: &impl Abort, table: &mut T, plain: &mut Plain) {
     }
 }
 
-#[test]
-fn any_steps_of_pages_as_in_plain_lists(rt: HostRuntime) -> Result<(), Fail> {
-    let mut plain = Plain::filled(rt.alloc(), 0, SHOWN as usize)?;
-    let mut table = PagedTable::filled(rt.alloc(), 0)?;
-    steps(&rt, &mut table, &mut plain);
+/// The steps, on a new table beside new plain lists.
+fn any_steps<T: Table<u64>>(rt: &impl Abort, alloc: Global) -> Result<(), Memory> {
+    let mut plain = Plain::filled(alloc, 0, SHOWN as usize)?;
+    let mut table = T::filled(alloc, 0)?;
+    steps(rt, &mut table, &mut plain);
     Ok(())
 }
 
 #[test]
-fn any_steps_of_runs_as_in_plain_lists(rt: HostRuntime) -> Result<(), Fail> {
-    let mut plain = Plain::filled(rt.alloc(), 0, SHOWN as usize)?;
-    let mut table = RunTable::filled(rt.alloc(), 0u64)?;
-    steps(&rt, &mut table, &mut plain);
-    Ok(())
+fn any_steps_of_pages_as_in_plain_lists(rt: HostRuntime) -> Result<(), Memory> {
+    any_steps::<PagedTable>(&rt, rt.alloc())
+}
+
+#[test]
+fn any_steps_of_runs_as_in_plain_lists(rt: HostRuntime) -> Result<(), Memory> {
+    any_steps::<RunTable<u64>>(&rt, rt.alloc())
 }

@@ -4,12 +4,7 @@ use release_rows::{LoadRule, LoadStop, Release, Rows};
 use source_rows::RowFault;
 use std::alloc::Global;
 use std::test::Fail;
-use ucd_model::{Memory, Row, SourceFile, file_limit};
-
-/// A fault of a file.
-fn fault(line: u32, rule: LoadRule) -> Result<(), LoadStop> {
-    Err(LoadStop::Fault { line, rule })
-}
+use ucd_model::{Memory, Row, SourceFile, Text, file_limit};
 
 /// Whether a file is answered so, and keeps its bytes where it loads and none where it does not.
 fn is_answered(
@@ -24,165 +19,229 @@ fn is_answered(
     Ok(answered && release.text(alloc, file)?.as_slice() == kept)
 }
 
+/// A file with its bytes, and the line and the rule of its first fault.
+type Fault = (SourceFile, &'static [u8], u32, LoadRule);
+
+/// Whether each file has this first fault.
+fn are_refused(alloc: Global, faults: &[Fault]) -> Result<bool, Memory> {
+    for (file, bytes, line, rule) in faults {
+        let expected = Err(LoadStop::Fault {
+            line: *line,
+            rule: *rule,
+        });
+        if !is_answered(alloc, *file, bytes, expected)? {
+            return Ok(false);
+        }
+    }
+    Ok(true)
+}
+
+/// Whether each file loads.
+fn are_loaded(alloc: Global, files: &[(SourceFile, &[u8])]) -> Result<bool, Memory> {
+    for (file, bytes) in files {
+        if !is_answered(alloc, *file, bytes, Ok(()))? {
+            return Ok(false);
+        }
+    }
+    Ok(true)
+}
+
+const SPAN_FAULTS: [Fault; 7] = [
+    (
+        SourceFile::PropList,
+        b"0020 ; White_Space\n0020 ; White_Space\n",
+        2,
+        LoadRule::K1,
+    ),
+    (
+        SourceFile::PropList,
+        b"0020..0022 ; White_Space\n0021 ; White_Space\n",
+        2,
+        LoadRule::K4,
+    ),
+    (
+        SourceFile::Scripts,
+        b"0009..0020 ; Common\n0009..0020 ; Latin\n",
+        2,
+        LoadRule::K1,
+    ),
+    (
+        SourceFile::Scripts,
+        b"0041..005A ; Latin\n\n0030..0041 ; Common\n",
+        3,
+        LoadRule::K4,
+    ),
+    (
+        SourceFile::Scripts,
+        b"0041 ; Latin\n0042..0043 ; Latin\n0030..0050 ; Common\n",
+        3,
+        LoadRule::K4,
+    ),
+    (
+        SourceFile::WordBreakProperty,
+        b"0041..005A ; ALetter\n0050 ; ALetter\n",
+        2,
+        LoadRule::K4,
+    ),
+    (
+        SourceFile::CompositionExclusions,
+        b"0958..095F\n# Tibetan\n0F43\n095F\n",
+        4,
+        LoadRule::K4,
+    ),
+];
+
+/// One property's spans may touch, and two properties' may be the same.
+const SPANS: [(SourceFile, &[u8]); 1] = [(
+    SourceFile::PropList,
+    b"0021 ; Dash\n0009..0020 ; Dash\n0022..0030 ; Dash\n0009..0020 ; Hyphen\n",
+)];
+
 #[test]
 fn rows_with_spans_are_compared_with_the_rows_above(rt: HostRuntime) -> Result<(), Fail> {
-    let cases: [(SourceFile, &[u8], Result<(), LoadStop>); 8] = [
-        (
-            SourceFile::PropList,
-            b"0020 ; White_Space\n0020 ; White_Space\n",
-            fault(2, LoadRule::K1),
-        ),
-        (
-            SourceFile::PropList,
-            b"0020..0022 ; White_Space\n0021 ; White_Space\n",
-            fault(2, LoadRule::K4),
-        ),
-        // one property's spans may touch, and two properties' may be the same
-        (
-            SourceFile::PropList,
-            b"0021 ; Dash\n0009..0020 ; Dash\n0022..0030 ; Dash\n0009..0020 ; Hyphen\n",
-            Ok(()),
-        ),
-        (
-            SourceFile::Scripts,
-            b"0009..0020 ; Common\n0009..0020 ; Latin\n",
-            fault(2, LoadRule::K1),
-        ),
-        (
-            SourceFile::Scripts,
-            b"0041..005A ; Latin\n\n0030..0041 ; Common\n",
-            fault(3, LoadRule::K4),
-        ),
-        (
-            SourceFile::Scripts,
-            b"0041 ; Latin\n0042..0043 ; Latin\n0030..0050 ; Common\n",
-            fault(3, LoadRule::K4),
-        ),
-        (
-            SourceFile::WordBreakProperty,
-            b"0041..005A ; ALetter\n0050 ; ALetter\n",
-            fault(2, LoadRule::K4),
-        ),
-        (
-            SourceFile::CompositionExclusions,
-            b"0958..095F\n# Tibetan\n0F43\n095F\n",
-            fault(4, LoadRule::K4),
-        ),
-    ];
-    for (file, bytes, expected) in cases {
-        assert!(rt; is_answered(rt.alloc(), file, bytes, expected)?);
-    }
+    assert!(rt; are_refused(rt.alloc(), &SPAN_FAULTS)?);
+    assert!(rt; are_loaded(rt.alloc(), &SPANS)?);
     Ok(())
 }
 
+const OTHER_FAULTS: [Fault; 5] = [
+    (
+        SourceFile::CaseFolding,
+        b"0130; F; 0069 0307;\n0130; T; 0069;\n0130; T; 0069;\n",
+        3,
+        LoadRule::K1,
+    ),
+    (
+        SourceFile::SpecialCasing,
+        b"0049; 0131; 0049; 0049; tr;\n0049; 0131; 0049; 0049; az;\n0049; 0131; 0049; 0049; az;\n",
+        3,
+        LoadRule::K1,
+    ),
+    (
+        SourceFile::PropertyAliases,
+        b"sc ; Script\nsc ; Script ; Other\n",
+        2,
+        LoadRule::K1,
+    ),
+    (
+        SourceFile::PropertyValueAliases,
+        b"gc ; Lu ; Uppercase_Letter\ngc ; Lu ; Upper\ngc ; Lu ; Upper ; U\n",
+        3,
+        LoadRule::K1,
+    ),
+    // the row's own fault comes before the key
+    (
+        SourceFile::Scripts,
+        b"0041 ; Latin\n0041 ; \n",
+        2,
+        LoadRule::Row(RowFault::G11),
+    ),
+];
+
+/// One code may case by two conditions, and fold by two statuses.
+const OTHERS: [(SourceFile, &[u8]); 3] = [
+    (
+        SourceFile::SpecialCasing,
+        b"00DF; 00DF; 0053 0073; 0053 0053;\n00DF; 00DF; 0053 0073; 0053 0053; tr;\n",
+    ),
+    (SourceFile::PropertyAliases, b"sc ; Script\nscx ; Script\n"),
+    (SourceFile::Scripts, b"0041 ; Latin\n\r\n# end"),
+];
+
 #[test]
 fn rows_without_spans_are_compared_with_the_rows_above(rt: HostRuntime) -> Result<(), Fail> {
-    let cases: [(SourceFile, &[u8], Result<(), LoadStop>); 8] = [
-        // one code may fold by two statuses, and case by two conditions
-        (
-            SourceFile::CaseFolding,
-            b"0130; F; 0069 0307;\n0130; T; 0069;\n0130; T; 0069;\n",
-            fault(3, LoadRule::K1),
-        ),
-        (
-            SourceFile::SpecialCasing,
-            b"0049; 0131; 0049; 0049; tr;\n0049; 0131; 0049; 0049; az;\n0049; 0131; 0049; 0049; az;\n",
-            fault(3, LoadRule::K1),
-        ),
-        (
-            SourceFile::SpecialCasing,
-            b"00DF; 00DF; 0053 0073; 0053 0053;\n00DF; 00DF; 0053 0073; 0053 0053; tr;\n",
-            Ok(()),
-        ),
-        (
-            SourceFile::PropertyAliases,
-            b"sc ; Script\nsc ; Script ; Other\n",
-            fault(2, LoadRule::K1),
-        ),
-        (
-            SourceFile::PropertyAliases,
-            b"sc ; Script\nscx ; Script\n",
-            Ok(()),
-        ),
-        (
-            SourceFile::PropertyValueAliases,
-            b"gc ; Lu ; Uppercase_Letter\ngc ; Lu ; Upper\ngc ; Lu ; Upper ; U\n",
-            fault(3, LoadRule::K1),
-        ),
-        // the row's own fault comes before the key
-        (
-            SourceFile::Scripts,
-            b"0041 ; Latin\n0041 ; \n",
-            fault(2, LoadRule::Row(RowFault::G11)),
-        ),
-        (SourceFile::Scripts, b"0041 ; Latin\n\r\n# end", Ok(())),
-    ];
-    for (file, bytes, expected) in cases {
-        assert!(rt; is_answered(rt.alloc(), file, bytes, expected)?);
-    }
+    assert!(rt; are_refused(rt.alloc(), &OTHER_FAULTS)?);
+    assert!(rt; are_loaded(rt.alloc(), &OTHERS)?);
     Ok(())
 }
 
 /// Whether UnicodeData.txt of these lines is answered so.
 fn data_is_answered(
     alloc: Global,
-    lines: [&[u8]; 4],
+    lines: &[&[u8]; 4],
     expected: Result<(), LoadStop>,
 ) -> Result<bool, Memory> {
-    let mut bytes = Vec::new(alloc);
-    for line in lines {
-        bytes.extend_from_slice(line)?;
-    }
-    is_answered(alloc, SourceFile::UnicodeData, &bytes, expected)
+    let mut bytes = Text::new(alloc);
+    put_lines(&mut bytes, lines)?;
+    is_answered(alloc, SourceFile::UnicodeData, bytes.as_slice(), expected)
 }
 
-#[test]
-fn unicode_data_ascends(rt: HostRuntime) -> Result<(), Fail> {
-    let a: &[u8] = b"0041;LATIN CAPITAL LETTER A;Lu;0;L;;;;;N;;;;0061;\n";
-    let b: &[u8] = b"0061;LATIN SMALL LETTER A;Ll;0;L;;;;;N;;;0041;;0041\n";
-    let first: &[u8] = b"4E00;<CJK Ideograph, First>;Lo;0;L;;;;;N;;;;;\r\n";
-    let last: &[u8] = b"9FFF;<CJK Ideograph, Last>;Lo;0;L;;;;;N;;;;;\n";
-    let inside: &[u8] = b"5000;CJK;Lo;0;L;;;;;N;;;;;\n";
-    let cases: [([&[u8]; 4], Result<(), LoadStop>); 7] = [
-        ([a, b, b"", b""], Ok(())),
-        ([b, a, b"", b""], fault(2, LoadRule::K5)),
-        // K1 before K4 before K5
-        ([a, b, a, b""], fault(3, LoadRule::K1)),
-        ([a, first, last, inside], fault(4, LoadRule::K4)),
-        ([inside, first, last, b""], fault(2, LoadRule::K4)),
-        ([first, last, a, b""], fault(3, LoadRule::K5)),
-        ([a, first, last, b"# end"], Ok(())),
-    ];
-    for (lines, expected) in cases {
-        assert!(rt; data_is_answered(rt.alloc(), lines, expected)?);
+fn put_lines(bytes: &mut Text, lines: &[&[u8]; 4]) -> Result<(), Memory> {
+    for line in lines {
+        bytes.append(line)?;
     }
     Ok(())
 }
 
+/// Lines of UnicodeData.txt, and the line and the rule of their first fault.
+type DataFault = ([&'static [u8]; 4], u32, LoadRule);
+
+/// Whether each UnicodeData.txt has this first fault.
+fn data_is_refused(alloc: Global, faults: &[DataFault]) -> Result<bool, Memory> {
+    for (lines, line, rule) in faults {
+        let expected = Err(LoadStop::Fault {
+            line: *line,
+            rule: *rule,
+        });
+        if !data_is_answered(alloc, lines, expected)? {
+            return Ok(false);
+        }
+    }
+    Ok(true)
+}
+
+const A: &[u8] = b"0041;LATIN CAPITAL LETTER A;Lu;0;L;;;;;N;;;;0061;\n";
+
+const B: &[u8] = b"0061;LATIN SMALL LETTER A;Ll;0;L;;;;;N;;;0041;;0041\n";
+
+const FIRST: &[u8] = b"4E00;<CJK Ideograph, First>;Lo;0;L;;;;;N;;;;;\r\n";
+
+const LAST: &[u8] = b"9FFF;<CJK Ideograph, Last>;Lo;0;L;;;;;N;;;;;\n";
+
+const INSIDE: &[u8] = b"5000;CJK;Lo;0;L;;;;;N;;;;;\n";
+
+const NO_CODE: &[u8] = b"9FFG;<CJK Ideograph, Last>;Lo;0;L;;;;;N;;;;;\n";
+
+const BAD_CLASS: &[u8] = b"4E00;<CJK Ideograph, First>;Lo;X;L;;;;;N;;;;;\n";
+
+const BAD_CODE: &[u8] = b"4E0;<CJK Ideograph, First>;Lo;0;L;;;;;N;;;;;\n";
+
+/// K1 before K4 before K5.
+const ORDER_FAULTS: [DataFault; 5] = [
+    ([B, A, b"", b""], 2, LoadRule::K5),
+    ([A, B, A, b""], 3, LoadRule::K1),
+    ([A, FIRST, LAST, INSIDE], 4, LoadRule::K4),
+    ([INSIDE, FIRST, LAST, b""], 2, LoadRule::K4),
+    ([FIRST, LAST, A, b""], 3, LoadRule::K5),
+];
+
+const IN_ORDER: [[&[u8]; 4]; 2] = [[A, B, b"", b""], [A, FIRST, LAST, b"# end"]];
+
+#[test]
+fn unicode_data_ascends(rt: HostRuntime) -> Result<(), Fail> {
+    assert!(rt; data_is_refused(rt.alloc(), &ORDER_FAULTS)?);
+    for lines in &IN_ORDER {
+        assert!(rt; data_is_answered(rt.alloc(), lines, Ok(()))?);
+    }
+    Ok(())
+}
+
+const RANGE_FAULTS: [DataFault; 5] = [
+    ([FIRST, b"", b"", b""], 1, LoadRule::Row(RowFault::G09)),
+    ([A, FIRST, b"\n", LAST], 2, LoadRule::Row(RowFault::G09)),
+    ([A, FIRST, NO_CODE, b""], 3, LoadRule::Row(RowFault::G04)),
+    ([A, BAD_CODE, NO_CODE, b""], 2, LoadRule::Row(RowFault::G04)),
+    ([A, BAD_CLASS, LAST, b""], 2, LoadRule::Row(RowFault::G06)),
+];
+
 #[test]
 fn a_fault_of_a_range_has_its_line(rt: HostRuntime) -> Result<(), Fail> {
-    let a: &[u8] = b"0041;LATIN CAPITAL LETTER A;Lu;0;L;;;;;N;;;;0061;\n";
-    let first: &[u8] = b"4E00;<CJK Ideograph, First>;Lo;0;L;;;;;N;;;;;\r\n";
-    let last: &[u8] = b"9FFF;<CJK Ideograph, Last>;Lo;0;L;;;;;N;;;;;\n";
-    let no_code: &[u8] = b"9FFG;<CJK Ideograph, Last>;Lo;0;L;;;;;N;;;;;\n";
-    let bad_class: &[u8] = b"4E00;<CJK Ideograph, First>;Lo;X;L;;;;;N;;;;;\n";
-    let bad_code: &[u8] = b"4E0;<CJK Ideograph, First>;Lo;0;L;;;;;N;;;;;\n";
-    let cases: [([&[u8]; 4], u32, RowFault); 5] = [
-        ([first, b"", b"", b""], 1, RowFault::G09),
-        ([a, first, b"\n", last], 2, RowFault::G09),
-        ([a, first, no_code, b""], 3, RowFault::G04),
-        ([a, bad_code, no_code, b""], 2, RowFault::G04),
-        ([a, bad_class, last, b""], 2, RowFault::G06),
-    ];
-    for (lines, line, rule) in cases {
-        let expected = fault(line, LoadRule::Row(rule));
-        assert!(rt; data_is_answered(rt.alloc(), lines, expected)?);
-    }
+    assert!(rt; data_is_refused(rt.alloc(), &RANGE_FAULTS)?);
     Ok(())
 }
 
 /// The release with one file.
-fn release_of(alloc: Global, file: SourceFile, bytes: &[u8]) -> Result<Release, LoadStop> {
+pub fn release_of(alloc: Global, file: SourceFile, bytes: &[u8]) -> Result<Release, LoadStop> {
     let mut release = Release::empty(alloc);
     release.load_file(file, bytes)?;
     Ok(release)
@@ -221,28 +280,43 @@ fn gives_no_value(mut rows: Rows<'_>) -> bool {
     }
 }
 
+const SPACES: &[u8] = b"# head\r\n0020 ; White_Space # SP\r\n\r\n0009..000D    ; White_Space";
+
+/// Whether a release with those lines gives them with their numbers.
+fn gives_spaces(alloc: Global, release: &Release) -> Result<bool, Memory> {
+    let file = SourceFile::PropList;
+    Ok(
+        are_on(release.rows(file), 2, 4)
+            && are_on(release.next_rows(file), 2, 4)
+            && release.rows(SourceFile::Scripts).next().is_none()
+            && gives(alloc, release.rows(file), 0x20, b"White_Space")?,
+    )
+}
+
 #[test]
 fn rows_have_their_lines(rt: HostRuntime) -> Result<(), Fail> {
     let file = SourceFile::PropList;
-    let bytes: &[u8] = b"# head\r\n0020 ; White_Space # SP\r\n\r\n0009..000D    ; White_Space";
-    let release = release_of(rt.alloc(), file, bytes)?;
-    assert!(rt; are_on(release.rows(file), 2, 4));
-    assert!(rt; are_on(release.next_rows(file), 2, 4));
-    assert!(rt; gives(rt.alloc(), release.rows(file), 0x20, b"White_Space")?);
-    assert!(rt; release.rows(SourceFile::Scripts).next().is_none());
-    assert!(rt; is_answered(rt.alloc(), file, bytes, Ok(()))?);
+    assert!(rt; is_answered(rt.alloc(), file, SPACES, Ok(()))?);
+    let release = release_of(rt.alloc(), file, SPACES)?;
+    assert!(rt; gives_spaces(rt.alloc(), &release)?);
     Ok(())
+}
+
+const RANGES: &[u8] =
+    b"AC00;<Hangul Syllable, First>;Lo;0;L;;;;;N;;;;;\nD7A3;<Hangul Syllable, Last>;Lo;0;L;;;;;N;;;;;\r\n\nE000;<Private Use, First>;Co;0;L;;;;;N;;;;;\nF8FF;<Private Use, Last>;Co;0;L;;;;;N;;;;;";
+
+/// Whether a release with those lines gives them with the numbers of their first lines.
+fn gives_ranges(release: &Release) -> bool {
+    let file = SourceFile::UnicodeData;
+    are_on(release.rows(file), 1, 4) && gives_no_value(release.rows(file))
 }
 
 #[test]
 fn a_range_has_two_lines(rt: HostRuntime) -> Result<(), Fail> {
     let file = SourceFile::UnicodeData;
-    let bytes: &[u8] =
-        b"AC00;<Hangul Syllable, First>;Lo;0;L;;;;;N;;;;;\nD7A3;<Hangul Syllable, Last>;Lo;0;L;;;;;N;;;;;\r\n\nE000;<Private Use, First>;Co;0;L;;;;;N;;;;;\nF8FF;<Private Use, Last>;Co;0;L;;;;;N;;;;;";
-    let release = release_of(rt.alloc(), file, bytes)?;
-    assert!(rt; are_on(release.rows(file), 1, 4));
-    assert!(rt; gives_no_value(release.rows(file)));
-    assert!(rt; is_answered(rt.alloc(), file, bytes, Ok(()))?);
+    assert!(rt; is_answered(rt.alloc(), file, RANGES, Ok(()))?);
+    let release = release_of(rt.alloc(), file, RANGES)?;
+    assert!(rt; gives_ranges(&release));
     Ok(())
 }
 
@@ -261,7 +335,10 @@ fn a_file_above_the_limit_is_refused(rt: HostRuntime) -> Result<(), Fail> {
             rt.alloc(),
             SourceFile::Scripts,
             &bytes,
-            fault(0, LoadRule::G02)
+            Err(LoadStop::Fault {
+                line: 0,
+                rule: LoadRule::G02,
+            })
         )?
     );
     Ok(())

@@ -60,23 +60,25 @@ fn adds(alloc: Global, script: &[u8], expected: &[u8]) -> bool {
     }
 }
 
+/// Scripts, and the line of each group with how many operations it has.
+const GROUPS: [(&[u8], &[(u32, usize)]); 6] = [
+    (b"", &[]),
+    (b"# nothing\r\n \t\n  # more", &[]),
+    (b"add CompositionExclusions.txt 00C0", &[(1, 1)]),
+    (b"begin\nend\n", &[(1, 0)]),
+    (
+        b"\nbegin\r\nwithdraw UnicodeData.txt 0300\r\n\r\nwithdraw UnicodeData.txt 00C0\r\nend\r\nwithdraw Scripts.txt 0041\r\n",
+        &[(2, 2), (7, 1)],
+    ),
+    (
+        b"add UnicodeData.txt 3400;<CJK, First>;Lo;0;L;;;;;N;;;;;\nlast 4DBF;<CJK, Last>;Lo;0;L;;;;;N;;;;;\nchange auxiliary/WordBreakProperty.txt 0022 ; Double_Quote",
+        &[(1, 1), (3, 1)],
+    ),
+];
+
 #[test]
 fn groups_and_their_lines(rt: HostRuntime) {
-    let scripts: [(&[u8], &[(u32, usize)]); 6] = [
-        (b"", &[]),
-        (b"# nothing\r\n \t\n  # more", &[]),
-        (b"add CompositionExclusions.txt 00C0", &[(1, 1)]),
-        (b"begin\nend\n", &[(1, 0)]),
-        (
-            b"\nbegin\r\nwithdraw UnicodeData.txt 0300\r\n\r\nwithdraw UnicodeData.txt 00C0\r\nend\r\nwithdraw Scripts.txt 0041\r\n",
-            &[(2, 2), (7, 1)],
-        ),
-        (
-            b"add UnicodeData.txt 3400;<CJK, First>;Lo;0;L;;;;;N;;;;;\nlast 4DBF;<CJK, Last>;Lo;0;L;;;;;N;;;;;\nchange auxiliary/WordBreakProperty.txt 0022 ; Double_Quote",
-            &[(1, 1), (3, 1)],
-        ),
-    ];
-    for (script, expected) in scripts {
+    for (script, expected) in &GROUPS {
         assert!(rt; groups_are(rt.alloc(), script, expected), "{script:?}");
     }
 }
@@ -122,65 +124,66 @@ fn the_lines_of_a_range_are_joined_by_lf(rt: HostRuntime) {
     );
 }
 
+/// Scripts, and the first line of each that breaks a rule, with the rule.
+const FAULTS: [(&[u8], u32, ScriptRule); 19] = [
+    (b"add Nope.txt 0041", 1, ScriptRule::E1),
+    (b" begin", 1, ScriptRule::E1),
+    (b"begin ", 1, ScriptRule::E1),
+    (b"add Scripts.txt", 1, ScriptRule::E1),
+    (b"add  Scripts.txt 0041 ; Latin", 1, ScriptRule::E1),
+    (b"end", 1, ScriptRule::E1),
+    (b"set", 1, ScriptRule::E1),
+    (b"begin\nset\nend", 2, ScriptRule::E1),
+    (b"begin\nset []\nend", 2, ScriptRule::E4),
+    (
+        b"withdraw UnicodeData.txt 0041\nlast 0042;;;;;;;;;;;;;;",
+        2,
+        ScriptRule::E1,
+    ),
+    (b"begin", 1, ScriptRule::E2),
+    (
+        b"\nbegin\nwithdraw UnicodeData.txt 0041\n",
+        2,
+        ScriptRule::E2,
+    ),
+    (b"begin\nbegin", 2, ScriptRule::E3),
+    (
+        b"add UnicodeData.txt 0041;A",
+        1,
+        ScriptRule::E6(RowFault::G03),
+    ),
+    (
+        b"withdraw UnicodeData.txt 41",
+        1,
+        ScriptRule::E6(RowFault::G04),
+    ),
+    (
+        b"add UnicodeData.txt 3400;<A, First>;Lo;0;L;;;;;N;;;;;\n\nlast 4DBF;<A, Last>;Lo;0;L;;;;;N;;;;;",
+        1,
+        ScriptRule::E6(RowFault::G09),
+    ),
+    (
+        b"add UnicodeData.txt 3400;<A, First>;Xx;0;L;;;;;N;;;;;\nlast 4DBF;<A, Last>;Lo;0;L;;;;;N;;;;;",
+        1,
+        ScriptRule::E6(RowFault::G05),
+    ),
+    (
+        b"add UnicodeData.txt 3400;<A, First>;Lo;0;L;;;;;N;;;;;\nlast 33FF;<A, Last>;Lo;0;L;;;;;N;;;;;",
+        2,
+        ScriptRule::E6(RowFault::G04),
+    ),
+    (
+        b"begin\nadd UnicodeData.txt \nbegin",
+        2,
+        ScriptRule::E6(RowFault::G03),
+    ),
+];
+
 #[test]
 fn first_faults(rt: HostRuntime) {
-    let faults: [(&[u8], u32, ScriptRule); 19] = [
-        (b"add Nope.txt 0041", 1, ScriptRule::E1),
-        (b" begin", 1, ScriptRule::E1),
-        (b"begin ", 1, ScriptRule::E1),
-        (b"add Scripts.txt", 1, ScriptRule::E1),
-        (b"add  Scripts.txt 0041 ; Latin", 1, ScriptRule::E1),
-        (b"end", 1, ScriptRule::E1),
-        (b"set", 1, ScriptRule::E1),
-        (b"begin\nset\nend", 2, ScriptRule::E1),
-        (b"begin\nset []\nend", 2, ScriptRule::E4),
-        (
-            b"withdraw UnicodeData.txt 0041\nlast 0042;;;;;;;;;;;;;;",
-            2,
-            ScriptRule::E1,
-        ),
-        (b"begin", 1, ScriptRule::E2),
-        (
-            b"\nbegin\nwithdraw UnicodeData.txt 0041\n",
-            2,
-            ScriptRule::E2,
-        ),
-        (b"begin\nbegin", 2, ScriptRule::E3),
-        (
-            b"add UnicodeData.txt 0041;A",
-            1,
-            ScriptRule::E6(RowFault::G03),
-        ),
-        (
-            b"withdraw UnicodeData.txt 41",
-            1,
-            ScriptRule::E6(RowFault::G04),
-        ),
-        (
-            b"add UnicodeData.txt 3400;<A, First>;Lo;0;L;;;;;N;;;;;\n\nlast 4DBF;<A, Last>;Lo;0;L;;;;;N;;;;;",
-            1,
-            ScriptRule::E6(RowFault::G09),
-        ),
-        (
-            b"add UnicodeData.txt 3400;<A, First>;Xx;0;L;;;;;N;;;;;\nlast 4DBF;<A, Last>;Lo;0;L;;;;;N;;;;;",
-            1,
-            ScriptRule::E6(RowFault::G05),
-        ),
-        (
-            b"add UnicodeData.txt 3400;<A, First>;Lo;0;L;;;;;N;;;;;\nlast 33FF;<A, Last>;Lo;0;L;;;;;N;;;;;",
-            2,
-            ScriptRule::E6(RowFault::G04),
-        ),
-        (
-            b"begin\nadd UnicodeData.txt \nbegin",
-            2,
-            ScriptRule::E6(RowFault::G03),
-        ),
-    ];
-    for (script, line, rule) in faults {
-        assert_eq!(rt;
-            fault_of(rt.alloc(), script),
-            Some((line, rule)),
+    for (script, line, rule) in &FAULTS {
+        assert!(rt;
+            fault_of(rt.alloc(), script) == Some((*line, *rule)),
             "{script:?}"
         );
     }

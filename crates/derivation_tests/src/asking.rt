@@ -73,27 +73,35 @@ fn with_composite() -> Result<[Query; 6], Fail> {
     Ok([letter, composite, mark, ligature, pair, second])
 }
 
+/// Whether the derivation of a code point of these rows asks just these questions.
+fn asks_over(
+    alloc: Global,
+    rows: &[FoldedRow<'_>],
+    c: Point,
+    wanted: &[Query],
+) -> Result<bool, Fail> {
+    let list = listed_folded(alloc, rows)?;
+    Ok(asks(alloc, &list, c, wanted)?)
+}
+
 #[test]
 fn a_letter_asks_its_own(rt: HostRuntime) -> Result<(), Fail> {
-    let list = listed_folded(rt.alloc(), &BEFORE)?;
     let letter = point(0x0061)?;
     let own = [Query::Row(letter), Query::Second(letter)];
-    assert!(rt; asks(rt.alloc(), &list, letter, &own)?);
+    assert!(rt; asks_over(rt.alloc(), &BEFORE, letter, &own)?);
     Ok(())
 }
 
 #[test]
 fn an_absent_composite_is_asked_for(rt: HostRuntime) -> Result<(), Fail> {
-    let list = listed_folded(rt.alloc(), &BEFORE)?;
     let wanted = without_composite()?;
-    assert!(rt; asks(rt.alloc(), &list, point(0xFB00)?, &wanted)?);
+    assert!(rt; asks_over(rt.alloc(), &BEFORE, point(0xFB00)?, &wanted)?);
     Ok(())
 }
 
 #[test]
 fn a_composite_is_asked_too(rt: HostRuntime) -> Result<(), Fail> {
-    let list = listed_folded(rt.alloc(), &AFTER)?;
     let wanted = with_composite()?;
-    assert!(rt; asks(rt.alloc(), &list, point(0xFB00)?, &wanted)?);
+    assert!(rt; asks_over(rt.alloc(), &AFTER, point(0xFB00)?, &wanted)?);
     Ok(())
 }

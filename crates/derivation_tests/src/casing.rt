@@ -1,6 +1,6 @@
 //! Worked mappings, over a view that lists a few rows of the Unicode Character Database.
 
-use crate::facts::{PLAIN, facts_of, point, points, put_flagged};
+use crate::facts::{PLAIN, are, facts_of, point, points, put_flagged};
 use case_derivation::{
     Changes, case_ignorable, cased, changes_when, fold, is_case_ignorable, is_cased, is_lowercase,
     is_uppercase, lower, title, upper,
@@ -110,31 +110,36 @@ const CUT_CASES: [ChangeCase; 3] = [
     (&[0x1001], [true; 5]),
 ];
 
-fn image(alloc: Global, c: u32, numbers: &[u32]) -> Result<Image, Fail> {
-    Ok(Image::of(point(c)?, points(alloc, numbers)?))
+fn image(alloc: Global, c: Point, numbers: &[u32]) -> Result<Image, Fail> {
+    Ok(Image::of(c, points(alloc, numbers)?))
 }
 
-fn put_cased(alloc: Global, list: &mut FactList, row: CaseRow) -> Result<(), Fail> {
-    let (c, category, lower, upper, title, fold) = row;
-    let lower = image(alloc, c, lower)?;
-    let upper = image(alloc, c, upper)?;
-    let title = image(alloc, c, title)?;
-    let fold = image(alloc, c, fold)?;
-    let c = point(c)?;
+fn put_images(alloc: Global, facts: &mut Facts, c: Point, row: &CaseRow) -> Result<(), Fail> {
+    facts.lower = image(alloc, c, row.2)?;
+    facts.upper = image(alloc, c, row.3)?;
+    facts.title = image(alloc, c, row.4)?;
+    facts.fold = image(alloc, c, row.5)?;
+    Ok(())
+}
+
+fn cased_facts(alloc: Global, c: Point, row: &CaseRow) -> Result<Facts, Fail> {
     let mut facts = Facts::unassigned(alloc, c);
     facts.assigned = true;
-    facts.category = category;
-    facts.lower = lower;
-    facts.upper = upper;
-    facts.title = title;
-    facts.fold = fold;
+    facts.category = row.1;
+    put_images(alloc, &mut facts, c, row)?;
+    Ok(facts)
+}
+
+fn put_cased(alloc: Global, list: &mut FactList, row: &CaseRow) -> Result<(), Fail> {
+    let c = point(row.0)?;
+    let facts = cased_facts(alloc, c, row)?;
     Ok(list.push((c, facts))?)
 }
 
 fn listed_cased(alloc: Global, rows: &[CaseRow]) -> Result<FactList, Fail> {
     let mut list = FactList::new(alloc);
     for row in rows {
-        put_cased(alloc, &mut list, *row)?;
+        put_cased(alloc, &mut list, row)?;
     }
     Ok(list)
 }
@@ -156,8 +161,18 @@ fn maps_to(
     s: &[u32],
     wanted: &[u32],
 ) -> Result<bool, Fail> {
-    let found = mapped(alloc, list, mapping, points(alloc, s)?.as_slice())?;
-    Ok(found.as_slice() == points(alloc, wanted)?.as_slice())
+    let s = points(alloc, s)?;
+    let found = mapped(alloc, list, mapping, s.as_slice())?;
+    Ok(are(found.as_slice(), wanted))
+}
+
+fn are_mapped(alloc: Global, list: &FactList) -> Result<bool, Fail> {
+    for (mapping, s, wanted) in &MAPPING_CASES {
+        if !maps_to(alloc, list, *mapping, s, wanted)? {
+            return Ok(false);
+        }
+    }
+    Ok(true)
 }
 
 /// What changes of a list: lower, upper, title, folding, and one of the first three.
@@ -174,11 +189,8 @@ fn changes(alloc: Global, list: &FactList, s: &[u32]) -> Result<[bool; 5], Fail>
 
 #[test]
 fn letters_are_mapped(rt: HostRuntime) -> Result<(), Fail> {
-    let alloc = rt.alloc();
-    let list = listed_cased(alloc, &LETTERS)?;
-    for (mapping, s, wanted) in MAPPING_CASES {
-        assert!(rt; maps_to(alloc, &list, mapping, s, wanted)?);
-    }
+    let list = listed_cased(rt.alloc(), &LETTERS)?;
+    assert!(rt; are_mapped(rt.alloc(), &list)?);
     Ok(())
 }
 
@@ -192,11 +204,16 @@ fn are_changed(alloc: Global, list: &FactList, cases: &[ChangeCase]) -> Result<b
     Ok(true)
 }
 
+/// The same over a list of rows.
+fn rows_are_changed(alloc: Global, rows: &[CaseRow], cases: &[ChangeCase]) -> Result<bool, Fail> {
+    let list = listed_cased(alloc, rows)?;
+    are_changed(alloc, &list, cases)
+}
+
 #[test]
 fn lists_change_by_their_joined_images(rt: HostRuntime) -> Result<(), Fail> {
-    let alloc = rt.alloc();
-    assert!(rt; are_changed(alloc, &listed_cased(alloc, &LETTERS)?, &CHANGE_CASES)?);
-    assert!(rt; are_changed(alloc, &listed_cased(alloc, &CUT_OTHERWISE)?, &CUT_CASES)?);
+    assert!(rt; rows_are_changed(rt.alloc(), &LETTERS, &CHANGE_CASES)?);
+    assert!(rt; rows_are_changed(rt.alloc(), &CUT_OTHERWISE, &CUT_CASES)?);
     Ok(())
 }
 
@@ -220,25 +237,34 @@ const CASED_CASES: [CasedCase; 6] = [
     (0x0031, false, false),
 ];
 
-/// Whether a view tells this of the code point.
-fn is_told(list: &FactList, case: CasedCase) -> Result<bool, Fail> {
-    let (c, is_one, is_passed) = case;
-    let c = point(c)?;
-    Ok(cased(list, c) == is_one && case_ignorable(list, c) == is_passed)
+/// Whether a view tells this of each code point.
+fn are_told(list: &FactList) -> Result<bool, Fail> {
+    for (c, is_one, is_passed) in &CASED_CASES {
+        let c = point(*c)?;
+        if cased(list, c) != *is_one || case_ignorable(list, c) != *is_passed {
+            return Ok(false);
+        }
+    }
+    Ok(true)
+}
+
+/// Puts FEMININE ORDINAL INDICATOR, SOFT HYPHEN and APOSTROPHE.
+fn put_others(alloc: Global, list: &mut FactList) -> Result<(), Fail> {
+    let lowercase = Flags::none().with(Flag::OtherLowercase, true);
+    put_flagged(alloc, list, 0x00AA, Category::Lo, lowercase)?;
+    put_flagged(alloc, list, 0x00AD, Category::Cf, Flags::none())?;
+    put_apostrophe(alloc, list)
+}
+
+fn others_are_told(alloc: Global, list: &mut FactList) -> Result<bool, Fail> {
+    put_others(alloc, list)?;
+    are_told(list)
 }
 
 #[test]
 fn which_points_are_cased_and_ignored_around_them(rt: HostRuntime) -> Result<(), Fail> {
-    let alloc = rt.alloc();
-    let mut list = listed_cased(alloc, &LETTERS)?;
-    // FEMININE ORDINAL INDICATOR and SOFT HYPHEN
-    let lowercase = Flags::none().with(Flag::OtherLowercase, true);
-    put_flagged(alloc, &mut list, 0x00AA, Category::Lo, lowercase)?;
-    put_flagged(alloc, &mut list, 0x00AD, Category::Cf, Flags::none())?;
-    put_apostrophe(alloc, &mut list)?;
-    for case in CASED_CASES {
-        assert!(rt; is_told(&list, case)?);
-    }
+    let mut list = listed_cased(rt.alloc(), &LETTERS)?;
+    assert!(rt; others_are_told(rt.alloc(), &mut list)?);
     Ok(())
 }
 
@@ -253,15 +279,24 @@ fn shown_case<W: FactView>(view: &W, c: Point) -> [bool; 4] {
     ]
 }
 
+const SHOWN_CASES: [(u32, [bool; 4]); 3] = [
+    (0x0053, [false, true, true, false]),
+    (0x00DF, [true, false, true, false]),
+    (0x01C5, [false, false, true, false]),
+];
+
+fn are_shown(list: &FactList) -> Result<bool, Fail> {
+    for (c, wanted) in &SHOWN_CASES {
+        if shown_case(list, point(*c)?) != *wanted {
+            return Ok(false);
+        }
+    }
+    Ok(true)
+}
+
 #[test]
 fn which_facts_are_lowercase_and_uppercase(rt: HostRuntime) -> Result<(), Fail> {
     let list = listed_cased(rt.alloc(), &LETTERS)?;
-    for (c, wanted) in [
-        (0x0053, [false, true, true, false]),
-        (0x00DF, [true, false, true, false]),
-        (0x01C5, [false, false, true, false]),
-    ] {
-        assert!(rt; shown_case(&list, point(c)?) == wanted);
-    }
+    assert!(rt; are_shown(&list)?);
     Ok(())
 }

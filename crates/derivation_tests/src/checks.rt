@@ -4,7 +4,7 @@ use crate::facts::{CANONICAL, COMPAT, HANGUL, PLAIN, Row, facts_of, listed, poin
 use quick_checks::{full_exclusion, quick, quick_composed, quick_decomposed};
 use std::alloc::Global;
 use std::test::Fail;
-use ucd_model::{Bad, Category, FactList, Form, Quick};
+use ucd_model::{Bad, Category, FactList, Form, Point, Quick};
 
 /// A letter with a mark, the marks, and a ligature.
 const LETTERS: [Row<'static>; 5] = [
@@ -53,11 +53,16 @@ fn are_checked(alloc: Global, list: &FactList, cases: &[Case]) -> Result<bool, F
     Ok(true)
 }
 
+/// The same over a list of rows.
+fn rows_are_checked(alloc: Global, rows: &[Row<'_>], cases: &[Case]) -> Result<bool, Fail> {
+    let list = listed(alloc, rows)?;
+    are_checked(alloc, &list, cases)
+}
+
 #[test]
 fn letters_and_syllables_are_checked(rt: HostRuntime) -> Result<(), Fail> {
-    let alloc = rt.alloc();
-    assert!(rt; are_checked(alloc, &listed(alloc, &LETTERS)?, &LETTER_CASES)?);
-    assert!(rt; are_checked(alloc, &listed(alloc, &HANGUL)?, &HANGUL_CASES)?);
+    assert!(rt; rows_are_checked(rt.alloc(), &LETTERS, &LETTER_CASES)?);
+    assert!(rt; rows_are_checked(rt.alloc(), &HANGUL, &HANGUL_CASES)?);
     Ok(())
 }
 
@@ -72,35 +77,55 @@ fn put_excluded(alloc: Global, list: &mut FactList) -> Result<(), Fail> {
     Ok(list.push((c, facts))?)
 }
 
+/// Code points, and whether they are excluded.
+const EXCLUSIONS: [(u32, bool); 6] = [
+    (0x00C0, false),
+    (0x0300, false),
+    (0x0340, true),
+    (0x0344, true),
+    (0x0958, true),
+    (0xFB01, false),
+];
+
+fn are_excluded(list: &FactList) -> Result<bool, Fail> {
+    for (c, wanted) in &EXCLUSIONS {
+        if full_exclusion(list, point(*c)?) != *wanted {
+            return Ok(false);
+        }
+    }
+    Ok(true)
+}
+
+fn is_listed_excluded(alloc: Global, list: &mut FactList) -> Result<bool, Fail> {
+    put_excluded(alloc, list)?;
+    Ok(
+        are_excluded(list)?
+            && quick(alloc, list, Form::Nfc, point(0x0958)?)? == Quick::No
+            && quick(alloc, list, Form::Nfc, point(0x093C)?)? == Quick::Yes,
+    )
+}
+
 #[test]
 fn singletons_marks_and_listed_letters_are_excluded(rt: HostRuntime) -> Result<(), Fail> {
-    let alloc = rt.alloc();
-    let mut list = listed(alloc, &LETTERS)?;
-    put_excluded(alloc, &mut list)?;
-    for (c, wanted) in [
-        (0x00C0, false),
-        (0x0300, false),
-        (0x0340, true),
-        (0x0344, true),
-        (0x0958, true),
-        (0xFB01, false),
-    ] {
-        assert_eq!(rt; full_exclusion(&list, point(c)?), wanted);
-    }
-    assert!(rt; quick(alloc, &list, Form::Nfc, point(0x0958)?)? == Quick::No);
-    assert!(rt; quick(alloc, &list, Form::Nfc, point(0x093C)?)? == Quick::Yes);
+    let mut list = listed(rt.alloc(), &LETTERS)?;
+    assert!(rt; is_listed_excluded(rt.alloc(), &mut list)?);
     Ok(())
+}
+
+/// Whether forms that are known are checked.
+fn known_are_checked(list: &FactList, mark: Point) -> bool {
+    quick_composed(list, mark, &[mark]) == Quick::Maybe
+        && quick_composed(list, mark, &[mark, mark]) == Quick::No
+        && quick_decomposed(COMPAT, false) == Quick::Yes
+        && quick_decomposed(COMPAT, true) == Quick::No
+        && quick_decomposed(CANONICAL, false) == Quick::No
 }
 
 #[test]
 fn forms_that_are_known_are_checked(rt: HostRuntime) -> Result<(), Fail> {
-    let list = listed(rt.alloc(), &LETTERS)?;
     let mark = point(0x0300)?;
-    assert!(rt; quick_composed(&list, mark, &[mark]) == Quick::Maybe);
-    assert!(rt; quick_composed(&list, mark, &[mark, mark]) == Quick::No);
-    assert!(rt; quick_decomposed(COMPAT, false) == Quick::Yes);
-    assert!(rt; quick_decomposed(COMPAT, true) == Quick::No);
-    assert!(rt; quick_decomposed(CANONICAL, false) == Quick::No);
+    let list = listed(rt.alloc(), &LETTERS)?;
+    assert!(rt; known_are_checked(&list, mark));
     Ok(())
 }
 
@@ -109,20 +134,33 @@ fn rule(alloc: Global, list: &FactList, form: Form, c: u32) -> Result<Option<Bad
     rule_of(quick(alloc, list, form, point(c)?))
 }
 
+const ENDLESS: [Row<'static>; 2] = [
+    (0x1000, 0, CANONICAL, &[0x1000]),
+    (0x2000, 0, COMPAT, &[0x2000]),
+];
+
+/// Forms and code points, with the rules that stand in the place of the quick checks.
+const RULES: [(Form, u32, Option<Bad>); 6] = [
+    (Form::Nfd, 0x1000, Some(Bad::V2)),
+    (Form::Nfc, 0x1000, Some(Bad::V2)),
+    (Form::Nfkd, 0x1000, Some(Bad::V2)),
+    (Form::Nfkc, 0x1000, Some(Bad::V2)),
+    (Form::Nfc, 0x2000, None),
+    (Form::Nfkd, 0x2000, Some(Bad::V2)),
+];
+
+fn rules_are_told(alloc: Global, list: &FactList) -> Result<bool, Fail> {
+    for (form, c, wanted) in &RULES {
+        if rule(alloc, list, *form, *c)? != *wanted {
+            return Ok(false);
+        }
+    }
+    Ok(true)
+}
+
 #[test]
 fn an_endless_mapping_has_no_quick_check(rt: HostRuntime) -> Result<(), Fail> {
-    let alloc = rt.alloc();
-    let list = listed(
-        alloc,
-        &[
-            (0x1000, 0, CANONICAL, &[0x1000]),
-            (0x2000, 0, COMPAT, &[0x2000]),
-        ],
-    )?;
-    for form in [Form::Nfd, Form::Nfc, Form::Nfkd, Form::Nfkc] {
-        assert_eq!(rt; rule(alloc, &list, form, 0x1000)?, Some(Bad::V2));
-    }
-    assert_eq!(rt; rule(alloc, &list, Form::Nfc, 0x2000)?, None);
-    assert_eq!(rt; rule(alloc, &list, Form::Nfkd, 0x2000)?, Some(Bad::V2));
+    let list = listed(rt.alloc(), &ENDLESS)?;
+    assert!(rt; rules_are_told(rt.alloc(), &list)?);
     Ok(())
 }

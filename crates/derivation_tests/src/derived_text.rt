@@ -6,7 +6,6 @@ use crate::sample::{
 };
 use derived_writer::{file_text, text_over};
 use std::alloc::Global;
-use std::process::Abort;
 use std::test::Fail;
 use ucd_model::{Category, Core, DerivedFile, Kind, Quick, Record, Tag, equal_pieces};
 
@@ -30,8 +29,37 @@ fn put_marks(bench: &mut Sample, spans: &[Marks]) -> Result<(), Fail> {
     Ok(())
 }
 
-/// Whether a file over the records has this text.
-fn has_text(alloc: Global, bench: &Sample, file: DerivedFile, wanted: &[u8]) -> Result<bool, Fail> {
+/// What a sample is made of.
+#[derive(Clone, Copy)]
+enum Spans<'a> {
+    Mapped(&'a [Mapped]),
+    Marks(&'a [Marks]),
+    Letters(&'a [Letters]),
+    Normal(&'a [Normal]),
+}
+
+fn put(alloc: Global, bench: &mut Sample, spans: Spans<'_>) -> Result<(), Fail> {
+    match spans {
+        Spans::Mapped(spans) => put_mapped(bench, spans),
+        Spans::Marks(spans) => put_marks(bench, spans),
+        Spans::Letters(spans) => put_letters(bench, spans),
+        Spans::Normal(spans) => put_normal(alloc, bench, spans),
+    }
+}
+
+/// Whether a file over a sample has this text. One function owns the sample for all tests: that keeps each of them small.
+fn has_text(
+    alloc: Global,
+    spans: Spans<'_>,
+    file: DerivedFile,
+    wanted: &[u8],
+) -> Result<bool, Fail> {
+    let mut bench = Sample::new(alloc);
+    put(alloc, &mut bench, spans)?;
+    is_text(alloc, &bench, file, wanted)
+}
+
+fn is_text(alloc: Global, bench: &Sample, file: DerivedFile, wanted: &[u8]) -> Result<bool, Fail> {
     let text = file_text(alloc, bench, file)?;
     Ok(text.as_slice() == wanted)
 }
@@ -52,16 +80,8 @@ const CATEGORY_TEXT: &[u8] =
 
 #[test]
 fn categories_up_to_the_last_code_point(rt: HostRuntime) -> Result<(), Fail> {
-    let mut bench = Sample::new(rt.alloc());
-    put_mapped(&mut bench, &CATEGORIES)?;
-    assert!(rt;
-        has_text(
-            rt.alloc(),
-            &bench,
-            DerivedFile::GeneralCategory,
-            CATEGORY_TEXT
-        )?
-    );
+    let (spans, file) = (Spans::Mapped(&CATEGORIES), DerivedFile::GeneralCategory);
+    assert!(rt; has_text(rt.alloc(), spans, file, CATEGORY_TEXT)?);
     Ok(())
 }
 
@@ -78,9 +98,8 @@ const CLASS_TEXT: &[u8] =
 
 #[test]
 fn combining_classes_in_decimal(rt: HostRuntime) -> Result<(), Fail> {
-    let mut bench = Sample::new(rt.alloc());
-    put_marks(&mut bench, &CLASSES)?;
-    assert!(rt; has_text(rt.alloc(), &bench, DerivedFile::CombiningClass, CLASS_TEXT)?);
+    let (spans, file) = (Spans::Marks(&CLASSES), DerivedFile::CombiningClass);
+    assert!(rt; has_text(rt.alloc(), spans, file, CLASS_TEXT)?);
     Ok(())
 }
 
@@ -97,16 +116,8 @@ const MAPPING_TEXT: &[u8] =
 
 #[test]
 fn decomposition_types_without_brackets(rt: HostRuntime) -> Result<(), Fail> {
-    let mut bench = Sample::new(rt.alloc());
-    put_mapped(&mut bench, &MAPPINGS)?;
-    assert!(rt;
-        has_text(
-            rt.alloc(),
-            &bench,
-            DerivedFile::DecompositionType,
-            MAPPING_TEXT
-        )?
-    );
+    let (spans, file) = (Spans::Mapped(&MAPPINGS), DerivedFile::DecompositionType);
+    assert!(rt; has_text(rt.alloc(), spans, file, MAPPING_TEXT)?);
     Ok(())
 }
 
@@ -204,9 +215,8 @@ fn put_letters(bench: &mut Sample, spans: &[Letters]) -> Result<(), Fail> {
 
 #[test]
 fn all_core_properties(rt: HostRuntime) -> Result<(), Fail> {
-    let mut bench = Sample::new(rt.alloc());
-    put_letters(&mut bench, &LETTERS)?;
-    assert!(rt; has_text(rt.alloc(), &bench, DerivedFile::CoreProperties, CORE_TEXT)?);
+    let (spans, file) = (Spans::Letters(&LETTERS), DerivedFile::CoreProperties);
+    assert!(rt; has_text(rt.alloc(), spans, file, CORE_TEXT)?);
     Ok(())
 }
 
@@ -306,10 +316,8 @@ fn put_normal(alloc: Global, bench: &mut Sample, spans: &[Normal]) -> Result<(),
 
 #[test]
 fn all_normalization_properties(rt: HostRuntime) -> Result<(), Fail> {
-    let mut bench = Sample::new(rt.alloc());
-    put_normal(rt.alloc(), &mut bench, &NORMAL)?;
-    let file = DerivedFile::NormalizationProps;
-    assert!(rt; has_text(rt.alloc(), &bench, file, NORMALIZATION_TEXT)?);
+    let (spans, file) = (Spans::Normal(&NORMAL), DerivedFile::NormalizationProps);
+    assert!(rt; has_text(rt.alloc(), spans, file, NORMALIZATION_TEXT)?);
     Ok(())
 }
 
@@ -325,19 +333,30 @@ const OVER_PIECES: [(DerivedFile, &[u8]); 2] = [
     ),
 ];
 
+const CAPITALS: [Mapped; 1] = [(0x0041, 0x005A, Category::Lu, Kind::Plain)];
+
+const ABOVE: [Marks; 1] = [(0x0300, 0x0314, 230)];
+
 #[test]
 fn files_over_the_same_pieces(rt: HostRuntime) -> Result<(), Fail> {
     let mut bench = Sample::new(rt.alloc());
-    put_mapped(&mut bench, &[(0x0041, 0x005A, Category::Lu, Kind::Plain)])?;
-    put_marks(&mut bench, &[(0x0300, 0x0314, 230)])?;
-    texts_are_over_pieces(&rt, rt.alloc(), &bench)
+    assert!(rt; are_over_pieces(rt.alloc(), &mut bench)?);
+    Ok(())
 }
 
-fn texts_are_over_pieces(rt: &impl Abort, alloc: Global, bench: &Sample) -> Result<(), Fail> {
+fn are_over_pieces(alloc: Global, bench: &mut Sample) -> Result<bool, Fail> {
+    put_mapped(bench, &CAPITALS)?;
+    put_marks(bench, &ABOVE)?;
+    are_texts(alloc, bench)
+}
+
+fn are_texts(alloc: Global, bench: &Sample) -> Result<bool, Fail> {
     let pieces = equal_pieces(alloc, bench)?;
     for (file, wanted) in &OVER_PIECES {
         let text = text_over(alloc, bench, pieces.as_slice(), *file)?;
-        assert!(rt; text.as_slice() == *wanted);
+        if text.as_slice() != *wanted {
+            return Ok(false);
+        }
     }
-    Ok(())
+    Ok(true)
 }

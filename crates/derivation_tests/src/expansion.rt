@@ -1,6 +1,6 @@
 //! Worked expansions, over a view that lists a few rows of the Unicode Character Database.
 
-use crate::facts::{CANONICAL, COMPAT, HANGUL, Row, listed, point, points, put, repeated, rule_of};
+use crate::facts::{CANONICAL, COMPAT, HANGUL, Row, are, listed, point, put, repeated, rule_of};
 use decomposition::expand;
 use std::alloc::Global;
 use std::test::Fail;
@@ -61,7 +61,7 @@ fn expands_to(
     wanted: &[u32],
 ) -> Result<bool, Fail> {
     let found = expand(alloc, list, compat, point(c)?)?;
-    Ok(found.as_slice() == points(alloc, wanted)?.as_slice())
+    Ok(are(found.as_slice(), wanted))
 }
 
 /// The rule that the code point breaks.
@@ -83,73 +83,92 @@ fn are_answered(alloc: Global, list: &FactList, cases: &[Case]) -> Result<bool, 
     Ok(true)
 }
 
+/// The same over a list of rows.
+fn rows_are_answered(alloc: Global, rows: &[Row<'_>], cases: &[Case]) -> Result<bool, Fail> {
+    let list = listed(alloc, rows)?;
+    are_answered(alloc, &list, cases)
+}
+
 #[test]
 fn members_are_expanded_in_turn(rt: HostRuntime) -> Result<(), Fail> {
-    let alloc = rt.alloc();
-    assert!(rt; are_answered(alloc, &listed(alloc, &LETTERS)?, &LETTER_CASES)?);
-    assert!(rt; are_answered(alloc, &listed(alloc, &HANGUL)?, &HANGUL_CASES)?);
+    assert!(rt; rows_are_answered(rt.alloc(), &LETTERS, &LETTER_CASES)?);
+    assert!(rt; rows_are_answered(rt.alloc(), &HANGUL, &HANGUL_CASES)?);
     Ok(())
 }
 
-/// A list in which 1000 begins a chain of canonical mappings, each to the next code point, and the last of these has a
+/// Puts 1000, which begins a chain of canonical mappings, each to the next code point; the last of these has a
 /// compatibility mapping to 0061.
-fn chain(alloc: Global, links: u8) -> Result<FactList, Fail> {
-    let mut list = FactList::new(alloc);
+fn put_chain(alloc: Global, list: &mut FactList, links: u8) -> Result<(), Fail> {
     for at in 0..links {
         let c = 0x1000 + at as u32;
-        put(alloc, &mut list, (c, 0, CANONICAL, &[c + 1]))?;
+        put(alloc, list, (c, 0, CANONICAL, &[c + 1]))?;
     }
-    put(
-        alloc,
-        &mut list,
-        (0x1000 + links as u32, 0, COMPAT, &[0x0061]),
-    )?;
-    Ok(list)
+    put(alloc, list, (0x1000 + links as u32, 0, COMPAT, &[0x0061]))
+}
+
+fn chain_is_answered(alloc: Global, links: u8, cases: &[Case]) -> Result<bool, Fail> {
+    let mut list = FactList::new(alloc);
+    put_chain(alloc, &mut list, links)?;
+    are_answered(alloc, &list, cases)
 }
 
 #[test]
 fn a_chain_has_at_most_seven_mappings(rt: HostRuntime) -> Result<(), Fail> {
-    let alloc = rt.alloc();
-    assert!(rt; are_answered(alloc, &chain(alloc, 7)?, &SEVEN_CASES)?);
-    assert!(rt; are_answered(alloc, &chain(alloc, 8)?, &EIGHT_CASES)?);
+    assert!(rt; chain_is_answered(rt.alloc(), 7, &SEVEN_CASES)?);
+    assert!(rt; chain_is_answered(rt.alloc(), 8, &EIGHT_CASES)?);
     Ok(())
 }
 
 #[test]
 fn a_cycle_has_no_expansion(rt: HostRuntime) -> Result<(), Fail> {
-    let alloc = rt.alloc();
-    assert!(rt; are_answered(alloc, &listed(alloc, &CYCLE)?, &CYCLE_CASES)?);
+    assert!(rt; rows_are_answered(rt.alloc(), &CYCLE, &CYCLE_CASES)?);
     Ok(())
+}
+
+const TWO: [Row<'static>; 1] = [(0x1000, 0, COMPAT, &[0x0061, 0x0062])];
+
+/// Puts 2000, which maps to as many times 1000.
+fn put_times(alloc: Global, list: &mut FactList, times: u32) -> Result<(), Fail> {
+    let mapping = repeated(alloc, 0x1000, times)?;
+    put(alloc, list, (0x2000, 0, COMPAT, mapping.as_slice()))
 }
 
 /// A list in which 2000 maps to as many times 1000, which maps to two code points.
 fn doubled(alloc: Global, times: u32) -> Result<FactList, Fail> {
-    let mut list = listed(alloc, &[(0x1000, 0, COMPAT, &[0x0061, 0x0062])])?;
-    let mapping = repeated(alloc, 0x1000, times)?;
-    put(alloc, &mut list, (0x2000, 0, COMPAT, mapping.as_slice()))?;
+    let mut list = listed(alloc, &TWO)?;
+    put_times(alloc, &mut list, times)?;
     Ok(list)
 }
 
-/// How many code points the expansion of 2000 has.
-fn expanded_length(alloc: Global, list: &FactList) -> Result<usize, Fail> {
-    Ok(expand(alloc, list, true, point(0x2000)?)?.len())
+/// How many code points the expansion of 2000 has, if that maps to as many times 1000.
+fn expanded_length(alloc: Global, times: u32) -> Result<usize, Fail> {
+    let list = doubled(alloc, times)?;
+    Ok(expand(alloc, &list, true, point(0x2000)?)?.len())
+}
+
+fn doubled_are_answered(alloc: Global, times: u32, cases: &[Case]) -> Result<bool, Fail> {
+    let list = doubled(alloc, times)?;
+    are_answered(alloc, &list, cases)
 }
 
 #[test]
 fn an_expansion_has_at_most_64_points(rt: HostRuntime) -> Result<(), Fail> {
-    let alloc = rt.alloc();
-    assert!(rt; expanded_length(alloc, &doubled(alloc, 32)?)? == 64);
-    assert!(rt; are_answered(alloc, &doubled(alloc, 33)?, &LONG_CASES)?);
+    assert!(rt; expanded_length(rt.alloc(), 32)? == 64);
+    assert!(rt; doubled_are_answered(rt.alloc(), 33, &LONG_CASES)?);
     Ok(())
+}
+
+/// Whether the rule of 3000 is that of a long expansion first, and that of an endless mapping once it has one too.
+fn long_chain_comes_first(alloc: Global, list: &mut FactList) -> Result<bool, Fail> {
+    put(alloc, list, (0x3000, 0, COMPAT, &[0x2000, 0x3001]))?;
+    let before = rule(alloc, list, true, 0x3000)?;
+    put(alloc, list, (0x3001, 0, COMPAT, &[0x3001]))?;
+    Ok(before == Some(Bad::V3) && rule(alloc, list, true, 0x3000)? == Some(Bad::V2))
 }
 
 #[test]
 fn a_long_chain_is_named_before_a_long_expansion(rt: HostRuntime) -> Result<(), Fail> {
-    let alloc = rt.alloc();
-    let mut list = doubled(alloc, 64)?;
-    put(alloc, &mut list, (0x3000, 0, COMPAT, &[0x2000, 0x3001]))?;
-    assert!(rt; are_answered(alloc, &list, &[(true, 0x3000, Err(Bad::V3))])?);
-    put(alloc, &mut list, (0x3001, 0, COMPAT, &[0x3001]))?;
-    assert!(rt; are_answered(alloc, &list, &[(true, 0x3000, Err(Bad::V2))])?);
+    let mut list = doubled(rt.alloc(), 64)?;
+    assert!(rt; long_chain_comes_first(rt.alloc(), &mut list)?);
     Ok(())
 }

@@ -49,24 +49,38 @@ pub fn repeated(alloc: Global, number: u32, times: u32) -> Result<ListOf<u32>, F
     Ok(numbers)
 }
 
+/// Whether these are the code points of these numbers.
+pub fn are(points: &[Point], numbers: &[u32]) -> bool {
+    points.len() == numbers.len()
+        && points
+            .iter()
+            .zip(numbers)
+            .all(|(point, number)| point.number() == *number)
+}
+
 /// The facts of a row.
 pub fn facts_of(alloc: Global, row: FoldedRow<'_>) -> Result<Facts, Fail> {
     let (c, category, class, kind, mapping, folding) = row;
-    let c = point(c)?;
-    let mapping = points(alloc, mapping)?;
-    let fold = if folding.is_empty() {
-        Image::Same
-    } else {
-        Image::To(points(alloc, folding)?)
-    };
-    let mut facts = Facts::unassigned(alloc, c);
+    let mut facts = Facts::unassigned(alloc, point(c)?);
     facts.assigned = true;
     facts.category = category;
     facts.class = class;
     facts.kind = kind;
-    facts.mapping = mapping;
-    facts.fold = fold;
+    put_lists(alloc, &mut facts, mapping, folding)?;
     Ok(facts)
+}
+
+fn put_lists(
+    alloc: Global,
+    facts: &mut Facts,
+    mapping: &[u32],
+    folding: &[u32],
+) -> Result<(), Fail> {
+    facts.mapping = points(alloc, mapping)?;
+    if !folding.is_empty() {
+        facts.fold = Image::To(points(alloc, folding)?);
+    }
+    Ok(())
 }
 
 /// Puts the facts of a row at the end of a list.

@@ -11,7 +11,8 @@ use normalisation::nfkc;
 use std::alloc::Global;
 use std::test::Fail;
 use ucd_model::{
-    Bad, Category, FactList, FactView, Flag, Flags, FormStop, Image, Kind, Point, Points, Tag,
+    Bad, Category, FactList, FactView, Flag, Flags, FormStop, Image, Kind, ListOf, Point, Points,
+    Tag,
 };
 
 const LETTER: Category = Category::Lo;
@@ -38,15 +39,40 @@ fn rule(alloc: Global, list: &FactList, c: u32) -> Result<Option<Bad>, Fail> {
     rule_of(nfkc_casefold(alloc, list, point(c)?))
 }
 
+/// A code point, and its NFKC_Casefold or the rule that stands in its place.
+type Case = (u32, Result<&'static [u32], Bad>);
+
+/// Whether each answer is the wanted one.
+fn are_answered(alloc: Global, list: &FactList, cases: &[Case]) -> Result<bool, Fail> {
+    for (c, wanted) in cases {
+        let same = match wanted {
+            Ok(wanted) => folds_to(alloc, list, *c, wanted)?,
+            Err(bad) => rule(alloc, list, *c)? == Some(*bad),
+        };
+        if !same {
+            return Ok(false);
+        }
+    }
+    Ok(true)
+}
+
+/// The same over a list of rows.
+fn rows_are_answered(alloc: Global, rows: &[FoldedRow<'_>], cases: &[Case]) -> Result<bool, Fail> {
+    let list = listed_folded(alloc, rows)?;
+    are_answered(alloc, &list, cases)
+}
+
+const LETTER_CASES: [Case; 5] = [
+    (0x0053, Ok(&[0x0073])),
+    (0x0073, Ok(&[0x0073])),
+    (0x00C0, Ok(&[0x00C0])),
+    (0x00DF, Ok(&[0x0073, 0x0073])),
+    (0xFF33, Ok(&[0x0073])),
+];
+
 #[test]
 fn letters_are_folded(rt: HostRuntime) -> Result<(), Fail> {
-    let alloc = rt.alloc();
-    let list = listed_folded(alloc, &LETTERS)?;
-    assert!(rt; folds_to(alloc, &list, 0x0053, &[0x0073])?);
-    assert!(rt; folds_to(alloc, &list, 0x0073, &[0x0073])?);
-    assert!(rt; folds_to(alloc, &list, 0x00C0, &[0x00C0])?);
-    assert!(rt; folds_to(alloc, &list, 0x00DF, &[0x0073, 0x0073])?);
-    assert!(rt; folds_to(alloc, &list, 0xFF33, &[0x0073])?);
+    assert!(rt; rows_are_answered(rt.alloc(), &LETTERS, &LETTER_CASES)?);
     Ok(())
 }
 
@@ -62,105 +88,129 @@ fn is_dropped(alloc: Global, list: &FactList, c: Point) -> Result<bool, Fail> {
     Ok(found.is_same(&Image::To(Points::new(alloc))))
 }
 
+const IGNORED: [FoldedRow<'static>; 2] = [
+    (0x1000, LETTER, 0, PLAIN, &[], &[0x00AD, 0x1001, 0x00AD]),
+    (0x00AD, Category::Cf, 0, PLAIN, &[], &[]),
+];
+
+const IGNORED_CASES: [Case; 2] = [(0x00AD, Ok(&[])), (0x1000, Ok(&[0x1001]))];
+
+fn ignored_are_dropped(alloc: Global, list: &FactList) -> Result<bool, Fail> {
+    Ok(are_answered(alloc, list, &IGNORED_CASES)? && is_dropped(alloc, list, point(0x00AD)?)?)
+}
+
 #[test]
 fn ignored_points_are_dropped(rt: HostRuntime) -> Result<(), Fail> {
-    let alloc = rt.alloc();
-    let list = listed_folded(
-        alloc,
-        &[
-            (0x1000, LETTER, 0, PLAIN, &[], &[0x00AD, 0x1001, 0x00AD]),
-            (0x00AD, Category::Cf, 0, PLAIN, &[], &[]),
-        ],
-    )?;
-    assert!(rt; folds_to(alloc, &list, 0x00AD, &[])?);
-    assert!(rt; folds_to(alloc, &list, 0x1000, &[0x1001])?);
-    assert!(rt; is_dropped(alloc, &list, point(0x00AD)?)?);
+    let list = listed_folded(rt.alloc(), &IGNORED)?;
+    assert!(rt; ignored_are_dropped(rt.alloc(), &list)?);
     Ok(())
 }
+
+const ROUND: [FoldedRow<'static>; 2] = [
+    (0xFF41, LETTER, 0, WIDE, &[0x0061], &[]),
+    (0x0061, LETTER, 0, PLAIN, &[], &[0xFF41]),
+];
+
+const ROUND_CASES: [Case; 2] = [(0xFF41, Ok(&[0x0061])), (0x0061, Ok(&[0x0061]))];
 
 #[test]
 fn each_round_ends_by_the_form(rt: HostRuntime) -> Result<(), Fail> {
-    let alloc = rt.alloc();
-    let list = listed_folded(
-        alloc,
-        &[
-            (0xFF41, LETTER, 0, WIDE, &[0x0061], &[]),
-            (0x0061, LETTER, 0, PLAIN, &[], &[0xFF41]),
-        ],
-    )?;
-    assert!(rt; folds_to(alloc, &list, 0xFF41, &[0x0061])?);
-    assert!(rt; folds_to(alloc, &list, 0x0061, &[0x0061])?);
+    assert!(rt; rows_are_answered(rt.alloc(), &ROUND, &ROUND_CASES)?);
     Ok(())
 }
+
+const ENDLESS: [FoldedRow<'static>; 5] = [
+    (0x0061, LETTER, 0, PLAIN, &[], &[0x0062]),
+    (0x0062, LETTER, 0, PLAIN, &[], &[0x0061]),
+    (0x0300, LETTER, 230, PLAIN, &[], &[0x0300, 0x0300]),
+    (0x0064, LETTER, 0, CANONICAL, &[0x0064], &[]),
+    (0x0065, LETTER, 0, PLAIN, &[], &[0x0064]),
+];
+
+const ENDLESS_CASES: [Case; 5] = [
+    (0x0061, Err(Bad::V5)),
+    (0x0062, Err(Bad::V5)),
+    (0x0300, Err(Bad::V5)),
+    (0x0064, Err(Bad::V5)),
+    (0x0065, Err(Bad::V5)),
+];
 
 #[test]
 fn rounds_without_end_break_the_rule(rt: HostRuntime) -> Result<(), Fail> {
-    let alloc = rt.alloc();
-    let list = listed_folded(
-        alloc,
-        &[
-            (0x0061, LETTER, 0, PLAIN, &[], &[0x0062]),
-            (0x0062, LETTER, 0, PLAIN, &[], &[0x0061]),
-            (0x0300, LETTER, 230, PLAIN, &[], &[0x0300, 0x0300]),
-            (0x0064, LETTER, 0, CANONICAL, &[0x0064], &[]),
-            (0x0065, LETTER, 0, PLAIN, &[], &[0x0064]),
-        ],
-    )?;
-    for c in [0x0061, 0x0062, 0x0300, 0x0064, 0x0065] {
-        assert_eq!(rt; rule(alloc, &list, c)?, Some(Bad::V5));
+    assert!(rt; rows_are_answered(rt.alloc(), &ENDLESS, &ENDLESS_CASES)?);
+    Ok(())
+}
+
+/// Puts so many code points from 1000 on, each of which folds to the next one.
+fn put_chain(alloc: Global, list: &mut FactList, links: u8) -> Result<(), Fail> {
+    for at in 0..links {
+        let c = 0x1000 + at as u32;
+        put_folded(alloc, list, (c, LETTER, 0, PLAIN, &[], &[c + 1]))?;
     }
     Ok(())
 }
 
-/// A list in which each of so many code points from 1000 on folds to the next one.
-fn chain(alloc: Global, links: u8) -> Result<FactList, Fail> {
+fn chain_is_answered(alloc: Global, links: u8, cases: &[Case]) -> Result<bool, Fail> {
     let mut list = FactList::new(alloc);
-    for at in 0..links {
-        let c = 0x1000 + at as u32;
-        put_folded(alloc, &mut list, (c, LETTER, 0, PLAIN, &[], &[c + 1]))?;
-    }
-    Ok(list)
+    put_chain(alloc, &mut list, links)?;
+    are_answered(alloc, &list, cases)
 }
+
+const SEVEN_CASES: [Case; 1] = [(0x1000, Ok(&[0x1007]))];
+
+const EIGHT_CASES: [Case; 2] = [(0x1000, Err(Bad::V5)), (0x1001, Ok(&[0x1008]))];
 
 #[test]
 fn there_are_at_most_seven_rounds(rt: HostRuntime) -> Result<(), Fail> {
-    let alloc = rt.alloc();
-    let seven = chain(alloc, 7)?;
-    assert!(rt; folds_to(alloc, &seven, 0x1000, &[0x1007])?);
-    let eight = chain(alloc, 8)?;
-    assert_eq!(rt; rule(alloc, &eight, 0x1000)?, Some(Bad::V5));
-    assert!(rt; folds_to(alloc, &eight, 0x1001, &[0x1008])?);
+    assert!(rt; chain_is_answered(rt.alloc(), 7, &SEVEN_CASES)?);
+    assert!(rt; chain_is_answered(rt.alloc(), 8, &EIGHT_CASES)?);
     Ok(())
 }
 
-/// A list in which 2000 folds to so many marks and then to these, with a mark that is two marks.
-fn marked(alloc: Global, times: u32, then: &[u32]) -> Result<FactList, Fail> {
-    let mut fold = repeated(alloc, 0x0301, times)?;
-    fold.append(then)?;
-    listed_folded(
+/// Marks, of which one is two marks, and an ignored point.
+const MARKS: [FoldedRow<'static>; 4] = [
+    (0x0301, LETTER, 230, PLAIN, &[], &[]),
+    (0x0308, LETTER, 230, PLAIN, &[], &[]),
+    (0x0344, LETTER, 230, CANONICAL, &[0x0308, 0x0301], &[]),
+    (0x00AD, Category::Cf, 0, PLAIN, &[], &[]),
+];
+
+/// So many marks, and then these.
+fn marks(alloc: Global, times: u32, then: &[u32]) -> Result<ListOf<u32>, Fail> {
+    let mut marks = repeated(alloc, 0x0301, times)?;
+    marks.append(then)?;
+    Ok(marks)
+}
+
+/// Puts 2000, which folds to so many marks and then to these.
+fn put_marked(alloc: Global, list: &mut FactList, times: u32, then: &[u32]) -> Result<(), Fail> {
+    let fold = marks(alloc, times, then)?;
+    put_folded(
         alloc,
-        &[
-            (0x0301, LETTER, 230, PLAIN, &[], &[]),
-            (0x0308, LETTER, 230, PLAIN, &[], &[]),
-            (0x0344, LETTER, 230, CANONICAL, &[0x0308, 0x0301], &[]),
-            (0x00AD, Category::Cf, 0, PLAIN, &[], &[]),
-            (0x2000, LETTER, 0, PLAIN, &[], fold.as_slice()),
-        ],
+        list,
+        (0x2000, LETTER, 0, PLAIN, &[], fold.as_slice()),
     )
 }
 
+/// The rule that 2000 breaks, if it folds to so many marks and then to these.
+fn rule_of_marked(alloc: Global, times: u32, then: &[u32]) -> Result<Option<Bad>, Fail> {
+    let mut list = listed_folded(alloc, &MARKS)?;
+    put_marked(alloc, &mut list, times, then)?;
+    rule(alloc, &list, 0x2000)
+}
+
+const LENGTHS: [(u32, &'static [u32], Option<Bad>); 5] = [
+    (255, &[], None),
+    (256, &[], Some(Bad::V5)),
+    (255, &[0x00AD], None),
+    (253, &[0x0344], None),
+    (254, &[0x0344], Some(Bad::V5)),
+];
+
 #[test]
 fn a_list_has_at_most_255_points(rt: HostRuntime) -> Result<(), Fail> {
-    let alloc = rt.alloc();
-    for (times, then, wanted) in [
-        (255, [].as_slice(), None),
-        (256, [].as_slice(), Some(Bad::V5)),
-        (255, [0x00AD].as_slice(), None),
-        (253, [0x0344].as_slice(), None),
-        (254, [0x0344].as_slice(), Some(Bad::V5)),
-    ] {
-        let list = marked(alloc, times, then)?;
-        assert_eq!(rt; rule(alloc, &list, 0x2000)?, wanted);
+    for (times, then, wanted) in &LENGTHS {
+        assert!(rt; rule_of_marked(rt.alloc(), *times, then)? == *wanted);
     }
     Ok(())
 }
@@ -196,13 +246,24 @@ fn put_formats(alloc: Global, list: &mut FactList) -> Result<(), Fail> {
     put_flagged(alloc, list, 0x034F, Category::Mn, other)
 }
 
+fn are_ignored(list: &FactList) -> Result<bool, Fail> {
+    for (c, wanted) in &FORMAT_CASES {
+        if ignored(list, point(*c)?) != [*wanted, *wanted] {
+            return Ok(false);
+        }
+    }
+    Ok(true)
+}
+
+fn formats_are_ignored(alloc: Global) -> Result<bool, Fail> {
+    let mut list = FactList::new(alloc);
+    put_formats(alloc, &mut list)?;
+    are_ignored(&list)
+}
+
 #[test]
 fn some_format_characters_are_shown(rt: HostRuntime) -> Result<(), Fail> {
-    let mut list = FactList::new(rt.alloc());
-    put_formats(rt.alloc(), &mut list)?;
-    for (c, wanted) in FORMAT_CASES {
-        assert!(rt; ignored(&list, point(c)?) == [wanted, wanted]);
-    }
+    assert!(rt; formats_are_ignored(rt.alloc())?);
     Ok(())
 }
 

@@ -1,6 +1,8 @@
 //! Worked normalisation forms, over a view that lists a few rows of the Unicode Character Database.
 
-use crate::facts::{CANONICAL, COMPAT, HANGUL, PLAIN, Row, listed, points, put, repeated, rule_of};
+use crate::facts::{
+    CANONICAL, COMPAT, HANGUL, PLAIN, Row, are, listed, points, put, repeated, rule_of,
+};
 use normalisation::{compose, nfc, nfd, nfkc, nfkd, order};
 use std::alloc::Global;
 use std::test::Fail;
@@ -76,11 +78,23 @@ fn formed(alloc: Global, list: &FactList, form: Form, s: &[Point]) -> Result<Poi
     }
 }
 
-/// Whether each form is exactly the wanted code points.
+/// Whether the form is exactly the wanted code points.
+fn is_form(alloc: Global, list: &FactList, case: &Case) -> Result<bool, Fail> {
+    let (form, s, wanted) = case;
+    let s = points(alloc, s)?;
+    let found = formed(alloc, list, *form, s.as_slice())?;
+    Ok(are(found.as_slice(), wanted))
+}
+
+/// Whether each form of a list of rows is the wanted one.
+fn rows_have_forms(alloc: Global, rows: &[Row<'_>], cases: &[Case]) -> Result<bool, Fail> {
+    let list = listed(alloc, rows)?;
+    are_forms(alloc, &list, cases)
+}
+
 fn are_forms(alloc: Global, list: &FactList, cases: &[Case]) -> Result<bool, Fail> {
-    for (form, s, wanted) in cases {
-        let found = formed(alloc, list, *form, points(alloc, s)?.as_slice())?;
-        if found.as_slice() != points(alloc, wanted)?.as_slice() {
+    for case in cases {
+        if !is_form(alloc, list, case)? {
             return Ok(false);
         }
     }
@@ -89,51 +103,80 @@ fn are_forms(alloc: Global, list: &FactList, cases: &[Case]) -> Result<bool, Fai
 
 #[test]
 fn lists_have_their_forms(rt: HostRuntime) -> Result<(), Fail> {
-    let alloc = rt.alloc();
-    assert!(rt; are_forms(alloc, &listed(alloc, &MARKS)?, &MARK_CASES)?);
-    assert!(rt; are_forms(alloc, &listed(alloc, &HANGUL)?, &HANGUL_CASES)?);
-    assert!(rt; are_forms(alloc, &listed(alloc, &LETTERS)?, &LETTER_CASES)?);
+    assert!(rt; rows_have_forms(rt.alloc(), &MARKS, &MARK_CASES)?);
+    assert!(rt; rows_have_forms(rt.alloc(), &HANGUL, &HANGUL_CASES)?);
+    assert!(rt; rows_have_forms(rt.alloc(), &LETTERS, &LETTER_CASES)?);
     Ok(())
+}
+
+fn is_ordered(alloc: Global, list: &FactList, s: &[u32], wanted: &[u32]) -> Result<bool, Fail> {
+    let mut s = points(alloc, s)?;
+    order(list, &mut s);
+    Ok(are(s.as_slice(), wanted))
+}
+
+fn is_composed(alloc: Global, list: &FactList, s: &[u32], wanted: &[u32]) -> Result<bool, Fail> {
+    let mut s = points(alloc, s)?;
+    compose(list, &mut s);
+    Ok(are(s.as_slice(), wanted))
 }
 
 #[test]
 fn lists_are_put_in_order_and_composed_in_place(rt: HostRuntime) -> Result<(), Fail> {
-    let alloc = rt.alloc();
-    let list = listed(alloc, &MARKS)?;
-    let mut equal = points(alloc, &[0x0301, 0x0300, 0x0327])?;
-    order(&list, &mut equal);
-    assert!(rt; equal.as_slice() == points(alloc, &[0x0327, 0x0301, 0x0300])?.as_slice());
-    let mut greater = points(alloc, &[0x0063, 0x0300, 0x0327])?;
-    compose(&list, &mut greater);
-    assert!(rt; greater.as_slice() == points(alloc, &[0x0063, 0x0300, 0x0327])?.as_slice());
+    let list = listed(rt.alloc(), &MARKS)?;
+    assert!(rt; are_put_in_place(rt.alloc(), &list)?);
     Ok(())
+}
+
+fn are_put_in_place(alloc: Global, list: &FactList) -> Result<bool, Fail> {
+    let equal = [0x0301, 0x0300, 0x0327];
+    let greater = [0x0063, 0x0300, 0x0327];
+    Ok(
+        is_ordered(alloc, list, &equal, &[0x0327, 0x0301, 0x0300])?
+            && is_composed(alloc, list, &greater, &greater)?,
+    )
 }
 
 /// The rule that stands in the place of a form.
 fn rule(alloc: Global, list: &FactList, form: Form, s: &[u32]) -> Result<Option<Bad>, Fail> {
-    rule_of(formed(alloc, list, form, points(alloc, s)?.as_slice()))
+    let s = points(alloc, s)?;
+    rule_of(formed(alloc, list, form, s.as_slice()))
+}
+
+const ENDLESS: [Row<'static>; 1] = [(0x1000, 0, CANONICAL, &[0x1000])];
+
+/// Puts a code point that is mapped to 65 times 0061.
+fn put_long(alloc: Global, list: &mut FactList) -> Result<(), Fail> {
+    let mapping = repeated(alloc, 0x0061, 65)?;
+    put(alloc, list, (0x2000, 0, COMPAT, mapping.as_slice()))
 }
 
 /// A list in which 1000 is mapped to itself, and 2000 to 65 times 0061.
 fn broken(alloc: Global) -> Result<FactList, Fail> {
-    let mut list = listed(alloc, &[(0x1000, 0, CANONICAL, &[0x1000])])?;
-    let mapping = repeated(alloc, 0x0061, 65)?;
-    put(alloc, &mut list, (0x2000, 0, COMPAT, mapping.as_slice()))?;
+    let mut list = listed(alloc, &ENDLESS)?;
+    put_long(alloc, &mut list)?;
     Ok(list)
+}
+
+/// Forms and lists, with the rules that stand in the place of the forms.
+const RULES: [(Form, &'static [u32], Option<Bad>); 3] = [
+    (Form::Nfkd, &[0x0061, 0x2000, 0x1000], Some(Bad::V3)),
+    (Form::Nfkc, &[0x1000, 0x2000], Some(Bad::V2)),
+    (Form::Nfc, &[0x0061, 0x2000], None),
+];
+
+fn rules_are_told(alloc: Global, list: &FactList) -> Result<bool, Fail> {
+    for (form, s, wanted) in &RULES {
+        if rule(alloc, list, *form, s)? != *wanted {
+            return Ok(false);
+        }
+    }
+    Ok(true)
 }
 
 #[test]
 fn the_rule_of_the_first_member_is_named(rt: HostRuntime) -> Result<(), Fail> {
-    let alloc = rt.alloc();
-    let list = broken(alloc)?;
-    assert_eq!(rt;
-        rule(alloc, &list, Form::Nfkd, &[0x0061, 0x2000, 0x1000])?,
-        Some(Bad::V3)
-    );
-    assert_eq!(rt;
-        rule(alloc, &list, Form::Nfkc, &[0x1000, 0x2000])?,
-        Some(Bad::V2)
-    );
-    assert_eq!(rt; rule(alloc, &list, Form::Nfc, &[0x0061, 0x2000])?, None);
+    let list = broken(rt.alloc())?;
+    assert!(rt; rules_are_told(rt.alloc(), &list)?);
     Ok(())
 }

@@ -4,10 +4,11 @@ ghost use Rattle.std.specs.Prelude.{◌≡◌};
 ghost use Rattle.ucd_model.specs.Facts.{within};
 ghost use Rattle.derivation_tests.specs.Samples.{sample_record};
 
+use crate::facts::points;
 use std::alloc::Global;
 use std::test::Fail;
 use ucd_model::{
-    Category, Core, CoreSet, Image, Kind, ListOf, Point, Points, Quick, Record, Records, Span,
+    Category, Core, CoreSet, Image, Kind, ListOf, Point, Quick, Record, Records, Span,
 };
 
 /// Records of a few spans; of two that cover a code point the first one counts, and all others have the default.
@@ -83,11 +84,8 @@ pub fn with_more(mut record: Record, properties: &[Core]) -> Record {
 /// The record of a point that is folded into these.
 ///
 /// - `Fail`: a number is no code point, or memory ran out.
-pub fn with_folding(alloc: Global, category: Category, points: &[u32]) -> Result<Record, Fail> {
-    let mut to = Points::new(alloc);
-    for point in points {
-        to.push(Point::new(*point).ok_or("a code point")?)?;
-    }
+pub fn with_folding(alloc: Global, category: Category, numbers: &[u32]) -> Result<Record, Fail> {
+    let to = points(alloc, numbers)?;
     let mut record = plain(category);
     record.casefold = Image::To(to);
     record.changes_casefold = true;

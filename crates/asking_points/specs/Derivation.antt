@@ -31,8 +31,7 @@ use Rattle.std.proofs.lemmas.List.{nil_from_length}
 use Rattle.std.proofs.lemmas.List.Folds.{list_any-append}
 use Rattle.ucd_model.specs.Forms.{nfkc}
 use Rattle.asked_queries.specs.Answers.{same_query, is_asked}
-use Rattle.ucd_model.specs.Shown.{shown_facts, shown_is}
-use Rattle.ucd_model.specs.View.{ShowsFacts}
+use Rattle.ucd_model.specs.Shown.{shown_facts}
 use Rattle.ucd_model.specs.declared.view.FactsRef.{FactsRef}
 use Rattle.asked_queries.specs.PlainProofs.{plain_ask_own}
 use Rattle.asked_queries.specs.Turns.{SameQueries}
@@ -149,5 +148,5 @@ plain_is c G e =
       fold = same_is G.fold p8.1;
     }
 
-pub plain_asked : (F : ℕ → Facts) (c : ℕ) (shown : FactsRef) → ShowsFacts shown (F c) → plain_shown c (shown_facts shown) ≡ true → SameQueries (Row c ∷ Second c ∷ []) (asked F c)
-plain_asked F c shown shows e = λ q. sym (plain_ask_own F c (plain_is c (F c) (ap (plain_shown c) (sym (shown_is shown (F c) shows)) ∙ e)) q)
+pub plain_asked : (F : ℕ → Facts) (c : ℕ) (shown : FactsRef) → shown_facts shown ≡ F c → plain_shown c (shown_facts shown) ≡ true → SameQueries (Row c ∷ Second c ∷ []) (asked F c)
+plain_asked F c shown shows e = λ q. sym (plain_ask_own F c (plain_is c (F c) (ap (plain_shown c) (sym shows) ∙ e)) q)

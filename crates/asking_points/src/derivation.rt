@@ -5,7 +5,6 @@ ghost use Rattle.std.specs.List.Sorted.{IsStrictlySortedBy};
 ghost use Rattle.ucd_model.specs.Records.{derived, kept_record};
 ghost use Rattle.ucd_model.specs.Shown.{shown_facts};
 ghost use Rattle.ucd_model.specs.ValidityLaws.{HasRecord};
-ghost use Rattle.ucd_model.specs.View.{ShowsFacts};
 ghost use Rattle.asked_queries.specs.Questions.{asked};
 ghost use Rattle.asked_queries.specs.Turns.{SameQueries};
 ghost use Rattle.asking_points.specs.Compat.{canonical_asks};
@@ -104,7 +103,7 @@ fn put_more<W: FactView>(
     facts: &FactsRef<'_>,
     asked: &mut Vec<Query>,
 ) -> Result<(), Memory>
-    requires { ShowsFacts facts.now (W.facts_of view.now c) }
+    requires { shown_facts facts.now ≡ W.facts_of view.now c }
     ensures { OnOk result (asked.new.items ≡ asked.old.items ++ other_asks (W.facts_of view.now) c) }
 {
     put_members(c, facts, asked)?;

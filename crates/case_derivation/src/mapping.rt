@@ -3,8 +3,7 @@
 ghost use Rattle.std.specs.Prelude.{◌≡◌, ◌++◌, IfOk, OnOk, OnErr};
 ghost use Rattle.ucd_model.specs.Casing.{lower, upper, fold};
 ghost use Rattle.ucd_model.specs.Facts.{image_points};
-ghost use Rattle.ucd_model.specs.Shown.{shown_facts};
-ghost use Rattle.ucd_model.specs.View.{image_shown};
+ghost use Rattle.ucd_model.specs.Shown.{image_shown, shown_facts};
 ghost use Rattle.case_derivation.specs.Steps.{image_of, mapped_by};
 
 use std::alloc::Global;

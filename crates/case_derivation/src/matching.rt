@@ -4,8 +4,7 @@ ghost use Rattle.std.specs.Prelude.{◌≡◌, ℕ, List, [], ◌++◌, ◌||◌
 ghost use Rattle.std.specs.Str.{bytes_eq};
 ghost use Rattle.ucd_model.specs.Facts.{image_points};
 ghost use Rattle.ucd_model.specs.Predicates.{cased};
-ghost use Rattle.ucd_model.specs.Shown.{shown_facts};
-ghost use Rattle.ucd_model.specs.View.{image_shown};
+ghost use Rattle.ucd_model.specs.Shown.{image_shown, shown_facts};
 ghost use Rattle.case_derivation.specs.Matching.{matches};
 ghost use Rattle.case_derivation.specs.Steps.{title_image};
 

@@ -3,7 +3,7 @@
 ghost use Rattle.std.specs.Prelude.{◌≡◌, ℕ, [], ◌∷◌, unwrap_or};
 ghost use Rattle.std.specs.Option.{option_copied};
 ghost use Rattle.ucd_model.specs.Facts.{image, only_or};
-ghost use Rattle.ucd_model.specs.View.{image_shown};
+ghost use Rattle.ucd_model.specs.Shown.{image_shown};
 ghost use Rattle.code_facts.specs.KeptFacts.{full_image};
 
 use ucd_model::Point;

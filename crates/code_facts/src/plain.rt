@@ -1,8 +1,7 @@
 //! How far code points have no mapping.
 
 ghost use Rattle.std.specs.Prelude.{◌≡◌, ◌↔◌, IfSome, IsSome, IsTrue};
-ghost use Rattle.ucd_model.specs.Facts.{Facts};
-ghost use Rattle.ucd_model.specs.View.{ShowsFacts};
+ghost use Rattle.ucd_model.specs.Shown.{shown_facts};
 ghost use Rattle.ucd_model.specs.Uniform.{IsPlain};
 ghost use Rattle.code_facts.specs.FactTables.{tables_facts};
 ghost use Rattle.code_facts.specs.Plain.{IsOwnImage, ShowsNoImage, HoldsTo};
@@ -43,7 +42,7 @@ impl<T: Stretches<u64>> FactTables<T> {
 
 /// Whether the facts of a code point give it no mapping.
 fn is_plain(c: Point, facts: &FactsRef<'_>) -> bool
-    ensures { (F : Facts) → ShowsFacts facts.now F → IsTrue result ↔ IsPlain c F }
+    ensures { IsTrue result ↔ IsPlain c (shown_facts facts.now) }
 {
     facts.mapping.is_empty() && is_own_image(c, facts) && has_no_image(facts)
 }

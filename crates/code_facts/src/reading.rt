@@ -1,7 +1,7 @@
 //! Reading the facts of tables, now or next.
 
 ghost use Rattle.std.specs.Prelude.{◌≡◌};
-ghost use Rattle.ucd_model.specs.View.{ShowsFacts};
+ghost use Rattle.ucd_model.specs.Shown.{shown_facts};
 ghost use Rattle.code_facts.specs.FactTables.{words_at, rests_at, facts_at};
 
 use crate::fact_tables::FactTables;
@@ -36,7 +36,7 @@ impl<T: Table<u64>> FactTables<T> {
 
     /// The facts of a code point.
     pub(crate) fn shown(&self, version: Version, c: Point) -> FactsRef<'_>
-        ensures { ShowsFacts result (facts_at version self.now c) }
+        ensures { shown_facts result ≡ facts_at version self.now c }
     {
         let _number = c.number();
         shown(c, self.word(version, c), self.rest(version, c))

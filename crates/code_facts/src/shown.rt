@@ -1,7 +1,7 @@
 //! Reading the facts that a word and a rest keep.
 
 ghost use Rattle.std.specs.Prelude.{◌≡◌};
-ghost use Rattle.ucd_model.specs.View.{ShowsFacts};
+ghost use Rattle.ucd_model.specs.Shown.{shown_facts};
 ghost use Rattle.code_facts.specs.KeptFacts.{kept_at};
 
 use crate::images::{first_list, first_or, folding, full_image, simple_folding};
@@ -13,7 +13,7 @@ use ucd_model::{FactsRef, Point};
 
 /// The facts of a code point by its word and its rest.
 pub fn shown(c: Point, word: u64, rest: &Rest) -> FactsRef<'_>
-    ensures { ShowsFacts result (kept_at c word rest.now) }
+    ensures { shown_facts result ≡ kept_at c word rest.now }
 {
     let upper = rest.upper();
     let lower = rest.lower();

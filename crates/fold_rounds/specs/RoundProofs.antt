@@ -27,8 +27,7 @@ use Rattle.ucd_model.specs.Facts.{Facts, image_points}
 use Rattle.ucd_model.specs.FoldRounds.{drop_ignorable, short, short_form, short_nfkc, short_fold, round, rounds, is_list, is_fixed, is_last, casefold, image_or_rule, casefold_image}
 use Rattle.ucd_model.specs.Forms.{nfkc}
 use Rattle.ucd_model.specs.Predicates.{default_ignorable}
-use Rattle.ucd_model.specs.Shown.{shown_facts, shown_is}
-use Rattle.ucd_model.specs.View.{ShowsFacts, image_shown}
+use Rattle.ucd_model.specs.Shown.{image_shown, shown_facts}
 use Rattle.ucd_model.specs.declared.form.Bad.{Bad as Rule}
 use Rattle.ucd_model.specs.declared.image.Image.{Image}
 use Rattle.ucd_model.specs.declared.image.Image.TheVariants.{Same, To}
@@ -246,11 +245,11 @@ none_shown : (shown : Option (Bor (List ℕ))) → is_some shown ≡ false → i
 none_shown None e = refl
 none_shown (Some points) e = cc
 
-pub unfolded : (F : ℕ → Facts) (c : ℕ) (shown : FactsRef) → ShowsFacts shown (F c) → is_some shown.fold ≡ false → fold_of F c ≡ c ∷ []
-unfolded F c shown shows e = ap (image_points c) (sym shows.fold ∙ none_shown shown.fold e)
+pub unfolded : (F : ℕ → Facts) (c : ℕ) (shown : FactsRef) → shown_facts shown ≡ F c → is_some shown.fold ≡ false → fold_of F c ≡ c ∷ []
+unfolded F c shown shows e = ap (λ (G : Facts). image_points c G.fold) (sym shows) ∙ ap (image_points c) (none_shown shown.fold e)
 
-pub ignored : (F : ℕ → Facts) (c : ℕ) (shown : FactsRef) (t : Bool) → ShowsFacts shown (F c) → t ≡ default_ignorable c (shown_facts shown) → default_ignorable c (F c) ≡ t
-ignored F c shown t shows e = ap (default_ignorable c) (sym (shown_is shown (F c) shows)) ∙ sym e
+pub ignored : (F : ℕ → Facts) (c : ℕ) (shown : FactsRef) (t : Bool) → shown_facts shown ≡ F c → t ≡ default_ignorable c (shown_facts shown) → default_ignorable c (F c) ≡ t
+ignored F c shown t shows e = ap (default_ignorable c) (sym shows) ∙ sym e
 
 pub alone_form : (F : ℕ → Facts) (c : ℕ) (form : List ℕ) → nfkc F (c ∷ []) ≡ Ok form → bytes_eq form (c ∷ []) ≡ true → nfkc F (c ∷ []) ≡ Ok (c ∷ [])
 alone_form F c form e test = e ∙ ap (λ zs. Ok zs) (bytes_same form (c ∷ []) test)

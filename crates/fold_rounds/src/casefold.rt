@@ -4,7 +4,7 @@ ghost use Rattle.std.specs.Prelude.{◌≡◌, Ok, [], ◌∷◌};
 ghost use Rattle.ucd_model.specs.Expansion.{FormAnswers};
 ghost use Rattle.ucd_model.specs.FoldRounds.{casefold_image};
 ghost use Rattle.ucd_model.specs.Forms.{nfkc};
-ghost use Rattle.ucd_model.specs.View.{ShowsFacts};
+ghost use Rattle.ucd_model.specs.Shown.{shown_facts};
 
 use crate::ignorable::is_default_ignorable;
 use crate::rounds::{fixed, is_same};
@@ -41,7 +41,7 @@ pub fn casefold_of<W: FactView>(
     facts: &FactsRef<'_>,
     form: &[Point],
 ) -> Result<Image, FormStop>
-    requires facts { ShowsFacts facts.now (W.facts_of view.now c) }
+    requires facts { shown_facts facts.now ≡ W.facts_of view.now c }
     requires form { nfkc (W.facts_of view.now) (c ∷ []) ≡ Ok form.now }
     ensures { FormAnswers result (casefold_image (W.facts_of view.now) c) }
 {

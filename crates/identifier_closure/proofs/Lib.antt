@@ -1,5 +1,5 @@
 pub mod FormLemmas
 pub mod CompatLemmas
-pub mod ShownLemmas
+pub mod IdentifierLemmas
 pub mod CoreSteps
 pub mod RecordLemmas

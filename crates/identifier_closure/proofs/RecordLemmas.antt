@@ -1,6 +1,5 @@
 -- The record of a point from what is found of it.
 use Rattle.std.proofs.Common.{◌≡◌, ℕ, Bool, true, false, not, List, [], ◌∷◌, Option, Some, None, Result, Ok, Err, if◌then◌else◌, refl, sym, ap, ◌∙◌}
-use Rattle.std.specs.List.{list_any}
 use Rattle.std.specs.Str.{bytes_eq}
 use Rattle.std.proofs.lemmas.Slice.Eq.{bytes_eq-Decides}
 use Rattle.ucd_model.specs.Casing.{lowers, uppers, titles, folds, casemaps, where_form, changes_when}
@@ -13,9 +12,8 @@ use Rattle.ucd_model.specs.Identifiers.{xid_start, xid_continue}
 use Rattle.ucd_model.specs.QuickChecks.{full_exclusion, quick_composed, quick_where, quick, quick_or_yes}
 use Rattle.ucd_model.specs.Records.{Record, core_at, changes_image, kept_record, record_at, derived}
 use Rattle.ucd_model.specs.Sets.{has_core}
-use Rattle.ucd_model.specs.Shown.{shown_facts, shown_is}
-use Rattle.ucd_model.specs.Validity.{lacks_row, lacks_a_row, mappings, is_hidden, is_unfolded, is_none}
-use Rattle.ucd_model.specs.View.{ShowsFacts}
+use Rattle.ucd_model.specs.Shown.{shown_facts}
+use Rattle.ucd_model.specs.Validity.{lacks_a_row, is_unfolded, is_none}
 use Rattle.ucd_model.specs.declared.decomposition.Kind.{Kind}
 use Rattle.ucd_model.specs.declared.decomposition.Kind.TheVariants.{Plain, Canonical, Compat}
 use Rattle.ucd_model.specs.declared.form.Bad.{Bad as Rule}
@@ -39,12 +37,6 @@ use Rattle.identifier_closure.specs.PlainProofs.{folded_if}
 use Rattle.identifier_closure.specs.PointForms.{expansion_rule, HaveForms, FormsAnswer}
 use Rattle.identifier_closure.specs.RuleProofs.{by_expansion, by_composite, by_folding, by_none}
 use Rattle.identifier_closure.specs.declared.predicates.ToldByForms.{ToldByForms}
-
-pub lacks_shown : (F : ℕ → Facts) (c : ℕ) (r : FactsRef) → ShowsFacts r (F c) → list_any (lacks_row F c) (mappings c (shown_facts r)) ≡ lacks_a_row F c
-lacks_shown F c r shows = ap (λ (G : Facts). list_any (lacks_row F c) (mappings c G)) (shown_is r (F c) shows)
-
-pub hidden_shown : (F : ℕ → Facts) (c : ℕ) (r : FactsRef) → ShowsFacts r (F c) → hidden_of F c (shown_facts r) ≡ is_hidden F c
-hidden_shown F c r shows = ap (hidden_of F c) (shown_is r (F c) shows)
 
 -- ---- the checks
 
@@ -162,13 +154,13 @@ pub record IsTold (F : ℕ → Facts) (c : ℕ) (d n k : List ℕ) (kept : KeptR
   pub nfkc : kept.nfkc ≡ quick_composed F c k
   pub changes : kept.changes_casefold ≡ is_other kept.casefold
 
-pub record_is : (F : ℕ → Facts) (c : ℕ) (r : FactsRef) (d n k : List ℕ) (kept : KeptRecord) (told : ToldByForms) → ShowsFacts r (F c) → HaveForms F c d n k
+pub record_is : (F : ℕ → Facts) (c : ℕ) (r : FactsRef) (d n k : List ℕ) (kept : KeptRecord) (told : ToldByForms) → shown_facts r ≡ F c → HaveForms F c d n k
     → casefold_image F c ≡ Ok kept.casefold → kept.category ≡ r.category → kept.class ≡ r.class → kept.kind ≡ r.kind
     → ((core : Core) → has_core kept.core core ≡ core_given c (shown_facts r) told core) → IsTold F c d n k kept told → kept_record kept ≡ record_at F c
 record_is F c r d n k kept told shows forms fold category class kind cores found =
-    let same_kind : kept.kind ≡ (F c).kind = kind ∙ shows.kind in
+    let same_kind : kept.kind ≡ (F c).kind = kind ∙ ap (λ (G : Facts). G.kind) shows in
     let set : (core : Core) → has_core kept.core core ≡ core_at F c core = λ core.
-    cores core ∙ ap (λ (G : Facts). core_given c G told core) (shown_is r (F c) shows)
+    cores core ∙ ap (λ (G : Facts). core_given c G told core) shows
     ∙ cores_are F c told core (found.lowered ∙ changes_are F c d n k forms (lowers F)) (found.uppered ∙ changes_are F c d n k forms (uppers F)) (found.titled ∙ changes_are F c d n k forms (titles F))
     (found.folded ∙ changes_are F c d n k forms (folds F)) (found.mapped ∙ changes_are F c d n k forms (casemaps F)) found.xid_start found.xid_continue in
     let image : kept.casefold ≡ image_or_same (casefold_image F c) = ap image_or_same (sym fold) in
@@ -177,8 +169,8 @@ record_is F c r d n k kept told shows forms fold category class kind cores found
     let nfkd : kept.nfkd ≡ quick_or_yes (quick F Nfkd c) = found.nfkd ∙ ap (λ x. quick_decomposed x true) same_kind ∙ nfkd_check F c d n k forms in
     let nfkc : kept.nfkc ≡ quick_or_yes (quick F Nfkc c) = found.nfkc ∙ nfkc_check F c d n k forms in
     let changes : kept.changes_casefold ≡ changes_image c (image_or_same (casefold_image F c)) = found.changes ∙ other_of c (casefold F c) kept.casefold fold ∙ ap (changes_image c) image in
-    let category_is : kept.category ≡ (F c).category = category ∙ shows.category in
-    let class_is : kept.class ≡ (F c).class = class ∙ shows.class in
+    let category_is : kept.category ≡ (F c).category = category ∙ ap (λ (G : Facts). G.category) shows in
+    let class_is : kept.class ≡ (F c).class = class ∙ ap (λ (G : Facts). G.class) shows in
     λ i. record {
       category = category_is i;
       class = class_is i;
@@ -195,20 +187,20 @@ record_is F c r d n k kept told shows forms fold category class kind cores found
 
 -- ---- the answer
 
-pub hidden_stop : (F : ℕ → Facts) (c : ℕ) (r : FactsRef) → ShowsFacts r (F c) → lacks_a_row F c ≡ false → expansion_rule F c ≡ None → hidden_of F c (shown_facts r) ≡ true → derived F c ≡ Err V4
-hidden_stop F c r shows lacks rule hidden = by_composite F c lacks rule (sym (hidden_shown F c r shows) ∙ hidden)
+pub hidden_stop : (F : ℕ → Facts) (c : ℕ) (r : FactsRef) → shown_facts r ≡ F c → lacks_a_row F c ≡ false → expansion_rule F c ≡ None → hidden_of F c (shown_facts r) ≡ true → derived F c ≡ Err V4
+hidden_stop F c r shows lacks rule hidden = by_composite F c lacks rule (sym (ap (hidden_of F c) shows) ∙ hidden)
 
 only_V5 : (c : ℕ) (r : Option (List ℕ)) (rule : Rule) → image_or_rule c r ≡ Err rule → V5 ≡ rule
 only_V5 c (Some s) rule e = cc
 only_V5 c None rule e = cc
 
-pub folding_stop : (F : ℕ → Facts) (c : ℕ) (r : FactsRef) (stop : FormStop) → ShowsFacts r (F c) → lacks_a_row F c ≡ false → expansion_rule F c ≡ None → hidden_of F c (shown_facts r) ≡ false
+pub folding_stop : (F : ℕ → Facts) (c : ℕ) (r : FactsRef) (stop : FormStop) → shown_facts r ≡ F c → lacks_a_row F c ≡ false → expansion_rule F c ≡ None → hidden_of F c (shown_facts r) ≡ false
     → FormAnswers {A = Image} (Err stop) (casefold_image F c) → RecordAnswers (Err stop) (derived F c)
 folding_stop F c r (Bad rule) shows lacks none hidden e =
-    by_folding F c lacks none (sym (hidden_shown F c r shows) ∙ hidden) (not_folded F c rule e) ∙ ap (λ (k : Rule). Err k) (only_V5 c (casefold F c) rule e)
+    by_folding F c lacks none (sym (ap (hidden_of F c) shows) ∙ hidden) (not_folded F c rule e) ∙ ap (λ (k : Rule). Err k) (only_V5 c (casefold F c) rule e)
 folding_stop F c r Memory shows lacks none hidden e = tt
 
-pub valid : (F : ℕ → Facts) (c : ℕ) (r : FactsRef) (i : Image) (kept : KeptRecord) → ShowsFacts r (F c) → lacks_a_row F c ≡ false → expansion_rule F c ≡ None → hidden_of F c (shown_facts r) ≡ false
+pub valid : (F : ℕ → Facts) (c : ℕ) (r : FactsRef) (i : Image) (kept : KeptRecord) → shown_facts r ≡ F c → lacks_a_row F c ≡ false → expansion_rule F c ≡ None → hidden_of F c (shown_facts r) ≡ false
     → casefold_image F c ≡ Ok i → kept_record kept ≡ record_at F c → derived F c ≡ Ok (kept_record kept)
 valid F c r i kept shows lacks none hidden fold same =
-    by_none F c lacks none (sym (hidden_shown F c r shows) ∙ hidden) (folded F c i fold) ∙ ap (λ (R : Record). Ok R) (sym same)
+    by_none F c lacks none (sym (ap (hidden_of F c) shows) ∙ hidden) (folded F c i fold) ∙ ap (λ (R : Record). Ok R) (sym same)

@@ -4,7 +4,7 @@ ghost use Rattle.std.specs.Prelude.{◌≡◌, ◌+◌, [], ◌∷◌, Ok, None,
 ghost use Rattle.ucd_model.specs.FoldRounds.{casefold_image};
 ghost use Rattle.ucd_model.specs.Records.{kept_record, record_at, derived};
 ghost use Rattle.ucd_model.specs.Validity.{lacks_a_row};
-ghost use Rattle.ucd_model.specs.View.{ShowsFacts};
+ghost use Rattle.ucd_model.specs.Shown.{shown_facts};
 ghost use Rattle.identifier_closure.specs.Derived.{DerivesAs, RecordAnswers};
 ghost use Rattle.identifier_closure.specs.PointForms.{expansion_rule, HaveForms};
 
@@ -55,7 +55,7 @@ pub fn derive_point<W: FactView, L: Ledger>(
 
 /// The record of a code point, or the first rule that it breaks. Where it has no mapping, its forms are itself, and no
 /// memory is taken for them.
-#[tactic(auto, using(crate::proofs::RecordLemmas::lacks_shown, crate::specs::RuleProofs::by_missing_row, crate::proofs::RecordLemmas::stopped))]
+#[tactic(auto, using(crate::specs::RuleProofs::by_missing_row, crate::proofs::RecordLemmas::stopped))]
 fn record_or_rule<W: FactView>(alloc: Global, view: &W, c: Point) -> Result<Record, FormStop>
     ensures { RecordAnswers result (derived (W.facts_of view.now) c) }
 {
@@ -84,7 +84,7 @@ fn recorded<W: FactView>(
     facts: &FactsRef<'_>,
     forms: FormsRef<'_>,
 ) -> Result<Record, FormStop>
-    requires facts { ShowsFacts facts.now (W.facts_of view.now c) }
+    requires facts { shown_facts facts.now ≡ W.facts_of view.now c }
     requires forms { HaveForms (W.facts_of view.now) c forms.nfd.now forms.nfc.now forms.nfkc.now }
     requires rows { lacks_a_row (W.facts_of view.now) c ≡ false }
     requires expansions { expansion_rule (W.facts_of view.now) c ≡ None }
@@ -107,7 +107,7 @@ fn record_of<W: FactView>(
     forms: FormsRef<'_>,
     casefold: Image,
 ) -> Record
-    requires facts { ShowsFacts facts.now (W.facts_of view.now c) }
+    requires facts { shown_facts facts.now ≡ W.facts_of view.now c }
     requires forms { HaveForms (W.facts_of view.now) c forms.nfd.now forms.nfc.now forms.nfkc.now }
     requires casefold { casefold_image (W.facts_of view.now) c ≡ Ok casefold }
     ensures { kept_record result ≡ record_at (W.facts_of view.now) c }

@@ -4,13 +4,12 @@ ghost use Rattle.std.specs.Prelude.{◌≡◌, [], ◌∷◌, Ok};
 ghost use Rattle.ucd_model.specs.Forms.{nfkc as form_kc};
 ghost use Rattle.ucd_model.specs.Identifiers.{continues, starts, xid_start, xid_continue};
 ghost use Rattle.ucd_model.specs.Predicates.{id_start, id_continue};
-ghost use Rattle.ucd_model.specs.View.{ShowsFacts};
+ghost use Rattle.ucd_model.specs.Shown.{shown_facts};
 
 use crate::predicates::{is_id_continue, is_id_start};
 use ucd_model::{FactView, FactsRef, Point};
 
 /// Whether a code point has ID_Start. UAX #31, section 2, table 2.
-#[tactic(auto, using(crate::proofs::ShownLemmas::start_shown))]
 pub fn id_start<W: FactView>(view: &W, c: Point) -> bool
     ensures { result ≡ id_start (W.facts_of view.now c) }
 {
@@ -18,7 +17,6 @@ pub fn id_start<W: FactView>(view: &W, c: Point) -> bool
 }
 
 /// Whether a code point has ID_Continue. UAX #31, section 2, table 2.
-#[tactic(auto, using(crate::proofs::ShownLemmas::continue_shown))]
 pub fn id_continue<W: FactView>(view: &W, c: Point) -> bool
     ensures { result ≡ id_continue (W.facts_of view.now c) }
 {
@@ -27,7 +25,7 @@ pub fn id_continue<W: FactView>(view: &W, c: Point) -> bool
 
 /// Whether a code point has XID_Start: it has ID_Start, and its Normalisation Form KC, which is handed in, begins with
 /// a code point that has ID_Start and goes on with such as have ID_Continue. UAX #31, section 5.1.
-#[tactic(auto, using(crate::proofs::ShownLemmas::form_is))]
+#[tactic(auto, using(crate::proofs::IdentifierLemmas::form_is))]
 pub fn xid_start<W: FactView>(view: &W, c: Point, nfkc: &[Point]) -> bool
     requires { form_kc (W.facts_of view.now) (c ∷ []) ≡ Ok nfkc.now }
     ensures { result ≡ xid_start (W.facts_of view.now) c }
@@ -37,7 +35,7 @@ pub fn xid_start<W: FactView>(view: &W, c: Point, nfkc: &[Point]) -> bool
 
 /// Whether a code point has XID_Continue: it has ID_Continue, and so has each member of its Normalisation Form KC,
 /// which is handed in. UAX #31, section 5.1.
-#[tactic(auto, using(crate::proofs::ShownLemmas::form_is))]
+#[tactic(auto, using(crate::proofs::IdentifierLemmas::form_is))]
 pub fn xid_continue<W: FactView>(view: &W, c: Point, nfkc: &[Point]) -> bool
     requires { form_kc (W.facts_of view.now) (c ∷ []) ≡ Ok nfkc.now }
     ensures { result ≡ xid_continue (W.facts_of view.now) c }
@@ -56,9 +54,9 @@ pub struct Closed {
 
 /// Whether a code point with these facts and this Normalisation Form KC has XID_Start and XID_Continue. Where the form
 /// is the code point alone, its facts tell. UAX #31, section 5.1.
-#[tactic(auto, using(crate::proofs::ShownLemmas::start_shown, crate::proofs::ShownLemmas::continue_shown, crate::proofs::ShownLemmas::form_is, crate::proofs::ShownLemmas::start_alone, crate::proofs::ShownLemmas::continue_alone))]
+#[tactic(auto, using(crate::proofs::IdentifierLemmas::form_is, crate::proofs::IdentifierLemmas::start_alone, crate::proofs::IdentifierLemmas::continue_alone))]
 pub fn closure_of<W: FactView>(view: &W, c: Point, facts: &FactsRef<'_>, form: &[Point]) -> Closed
-    requires facts { ShowsFacts facts.now (W.facts_of view.now c) }
+    requires facts { shown_facts facts.now ≡ W.facts_of view.now c }
     requires form { form_kc (W.facts_of view.now) (c ∷ []) ≡ Ok form.now }
     ensures start { result.start ≡ xid_start (W.facts_of view.now) c }
     ensures continues { result.continues ≡ xid_continue (W.facts_of view.now) c }

@@ -2,7 +2,7 @@
 
 ghost use Rattle.std.specs.Prelude.{◌≡◌};
 ghost use Rattle.ucd_model.specs.QuickChecks.{excludes_mapping, full_exclusion};
-ghost use Rattle.ucd_model.specs.View.{ShowsFacts};
+ghost use Rattle.ucd_model.specs.Shown.{shown_facts};
 
 use ucd_model::{FactView, FactsRef, Kind, Point};
 
@@ -16,7 +16,7 @@ pub fn full_exclusion<W: FactView>(view: &W, c: Point) -> bool
 
 /// The same of a code point whose facts are at hand.
 pub fn is_fully_excluded<W: FactView>(view: &W, c: Point, facts: &FactsRef<'_>) -> bool
-    requires { ShowsFacts facts.now (W.facts_of view.now c) }
+    requires { shown_facts facts.now ≡ W.facts_of view.now c }
     ensures { result ≡ full_exclusion (W.facts_of view.now) c }
 {
     facts.excluded

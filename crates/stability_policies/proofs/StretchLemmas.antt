@@ -7,8 +7,7 @@ use Rattle.std.specs.Bool.{Decides}
 use Rattle.std.specs.Str.{bytes_eq}
 use Rattle.ucd_model.specs.Facts.{Facts}
 use Rattle.ucd_model.specs.Limits.{point_count}
-use Rattle.ucd_model.specs.Shown.{shown_facts, shown_is}
-use Rattle.ucd_model.specs.View.{ShowsFacts}
+use Rattle.ucd_model.specs.Shown.{shown_facts}
 use Rattle.ucd_model.specs.declared.view.FactsRef.{FactsRef}
 use Rattle.stability_policies.proofs.PointLemmas.{filter_span}
 use Rattle.stability_policies.specs.BrokenStretches.{KeepAllForms, breaking, broken_to, has_policy, points_in, points_of}
@@ -57,13 +56,13 @@ same_kept : (a b c d e s t u v : Bool) → a ≡ s → b ≡ t → c ≡ u → d
 same_kept a b c d e s t u v loss class mapping composite = rw (loss, class, mapping, composite) refl
 
 -- what is shown of a code point, and the policies that it breaks
-pub told_forms : (O N : ℕ → Facts) (c : ℕ) (a b : FactsRef) (set : PolicySet) → ShowsFacts a (O c) → ShowsFacts b (N c) → ((policy : Policy) → policy ≢ P10 → has_policy set policy ≡ breaks policy O N c)
+pub told_forms : (O N : ℕ → Facts) (c : ℕ) (a b : FactsRef) (set : PolicySet) → shown_facts a ≡ O c → shown_facts b ≡ N c → ((policy : Policy) → policy ≢ P10 → has_policy set policy ≡ breaks policy O N c)
     → all_kept (has_policy set P01) (has_policy set P03) (has_policy set P04) (has_policy set P05) (not (shown_facts a).assigned || bytes_eq (folding_of c (shown_facts a)) (folding_of c (shown_facts b))) ≡ keeps_forms O N c
 told_forms O N c a b set old new told =
     same_kept (has_policy set P01) (has_policy set P03) (has_policy set P04) (has_policy set P05) (not (shown_facts a).assigned || bytes_eq (folding_of c (shown_facts a)) (folding_of c (shown_facts b)))
     (breaks P01 O N c) (breaks P03 O N c) (breaks P04 O N c) (breaks P05 O N c) (told P01 (λ is. absurd cc)) (told P03 (λ is. absurd cc)) (told P04 (λ is. absurd cc)) (told P05 (λ is. absurd cc))
-    ∙ ap (λ (F : Facts). all_kept (breaks P01 O N c) (breaks P03 O N c) (breaks P04 O N c) (breaks P05 O N c) (not F.assigned || bytes_eq (folding_of c F) (folding_of c (shown_facts b)))) (shown_is a (O c) old)
-    ∙ ap (λ (G : Facts). all_kept (breaks P01 O N c) (breaks P03 O N c) (breaks P04 O N c) (breaks P05 O N c) (not (O c).assigned || bytes_eq (folding_of c (O c)) (folding_of c G))) (shown_is b (N c) new)
+    ∙ ap (λ (F : Facts). all_kept (breaks P01 O N c) (breaks P03 O N c) (breaks P04 O N c) (breaks P05 O N c) (not F.assigned || bytes_eq (folding_of c F) (folding_of c (shown_facts b)))) old
+    ∙ ap (λ (G : Facts). all_kept (breaks P01 O N c) (breaks P03 O N c) (breaks P04 O N c) (breaks P05 O N c) (not (O c).assigned || bytes_eq (folding_of c (O c)) (folding_of c G))) new
 
 module _ (O N : ℕ → Facts) where
   all_keep_next : (n c last k : ℕ) → c ≡ n → k ≡ last → ((d : ℕ) → c ≤ d → d ≤ last → keeps_forms O N d ≡ keeps_forms O N c)

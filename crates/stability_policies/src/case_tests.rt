@@ -1,14 +1,13 @@
 //! Policies on case pairs. The Unicode Standard, section 3.13.
 
 ghost use Rattle.std.specs.Prelude.{◌≡◌};
-ghost use Rattle.ucd_model.specs.View.{ShowsFacts};
+ghost use Rattle.ucd_model.specs.Shown.{shown_facts};
 ghost use Rattle.stability_policies.specs.Policies.{breaks, is_case_pair};
 ghost use Rattle.stability_policies.specs.declared.policy.Policy.TheVariants.{P11, P12};
 
 use ucd_model::{FactView, FactsRef, Point};
 
 /// P11: a case pair with its simple lower case mapping in old, and none with that code point in new.
-#[tactic(auto, using(ucd_model::specs::Shown::shown_is))]
 pub fn loses_case_pair<O: FactView, N: FactView>(
     old: &O,
     new: &N,
@@ -16,8 +15,8 @@ pub fn loses_case_pair<O: FactView, N: FactView>(
     a: &FactsRef<'_>,
     b: &FactsRef<'_>,
 ) -> bool
-    requires old { ShowsFacts a.now (O.facts_of old.now c) }
-    requires new { ShowsFacts b.now (N.facts_of new.now c) }
+    requires old { shown_facts a.now ≡ O.facts_of old.now c }
+    requires new { shown_facts b.now ≡ N.facts_of new.now c }
     ensures { result ≡ breaks P11 (O.facts_of old.now) (N.facts_of new.now) c }
 {
     let lower = a.simple_lower;
@@ -25,7 +24,6 @@ pub fn loses_case_pair<O: FactView, N: FactView>(
 }
 
 /// P12: a case pair with its simple lower case mapping in new, both assigned in old, and none with that code point in old.
-#[tactic(auto, using(ucd_model::specs::Shown::shown_is))]
 pub fn gains_case_pair<O: FactView, N: FactView>(
     old: &O,
     new: &N,
@@ -33,8 +31,8 @@ pub fn gains_case_pair<O: FactView, N: FactView>(
     a: &FactsRef<'_>,
     b: &FactsRef<'_>,
 ) -> bool
-    requires old { ShowsFacts a.now (O.facts_of old.now c) }
-    requires new { ShowsFacts b.now (N.facts_of new.now c) }
+    requires old { shown_facts a.now ≡ O.facts_of old.now c }
+    requires new { shown_facts b.now ≡ N.facts_of new.now c }
     ensures { result ≡ breaks P12 (O.facts_of old.now) (N.facts_of new.now) c }
 {
     let lower = b.simple_lower;
@@ -46,7 +44,7 @@ pub fn gains_case_pair<O: FactView, N: FactView>(
 
 /// Whether a code point with these facts and another one are a case pair.
 fn is_case_pair<W: FactView>(view: &W, c: Point, facts: &FactsRef<'_>, lower: Point) -> bool
-    requires { ShowsFacts facts.now (W.facts_of view.now c) }
+    requires { shown_facts facts.now ≡ W.facts_of view.now c }
     ensures { result ≡ is_case_pair (W.facts_of view.now) c lower }
 {
     c != lower && facts.simple_lower == lower && view.facts(lower).simple_upper == c

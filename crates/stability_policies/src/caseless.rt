@@ -4,7 +4,6 @@ ghost use Rattle.std.specs.Prelude.{◌≡◌, [], ◌∷◌, not, IfOk};
 ghost use Rattle.std.specs.Str.{bytes_eq};
 ghost use Rattle.ucd_model.specs.Facts.{is_plain};
 ghost use Rattle.ucd_model.specs.Shown.{shown_facts};
-ghost use Rattle.ucd_model.specs.View.{ShowsFacts};
 ghost use Rattle.stability_policies.specs.CaselessLists.{folding_of, same_where, where_list};
 ghost use Rattle.stability_policies.specs.Policies.{breaks, caseless, same_list};
 ghost use Rattle.stability_policies.specs.declared.policy.Policy.TheVariants.{P10};
@@ -33,7 +32,6 @@ pub fn caseless<W: FactView>(alloc: Global, view: &W, s: &[Point]) -> Result<Opt
 /// P10: assigned in old, with another folding under NFKC in new. No form is made where the code point has no mapping.
 ///
 /// - `Memory`: memory ran out.
-#[tactic(auto, using(ucd_model::specs::Shown::shown_is))]
 pub fn changes_caseless<O: FactView, N: FactView>(
     alloc: Global,
     old: &O,
@@ -42,8 +40,8 @@ pub fn changes_caseless<O: FactView, N: FactView>(
     a: &FactsRef<'_>,
     b: &FactsRef<'_>,
 ) -> Result<bool, Memory>
-    requires old { ShowsFacts a.now (O.facts_of old.now c) }
-    requires new { ShowsFacts b.now (N.facts_of new.now c) }
+    requires old { shown_facts a.now ≡ O.facts_of old.now c }
+    requires new { shown_facts b.now ≡ N.facts_of new.now c }
     ensures { IfOk result (λ broken. broken ≡ breaks P10 (O.facts_of old.now) (N.facts_of new.now) c) }
 {
     if !a.assigned {

@@ -5,7 +5,6 @@ ghost use Rattle.std.specs.Str.{bytes_eq};
 ghost use Rattle.ucd_model.specs.CanonicalOrder.{class_of, order};
 ghost use Rattle.ucd_model.specs.Composites.{first_has_class_zero, is_canonical, primary};
 ghost use Rattle.ucd_model.specs.Shown.{shown_facts};
-ghost use Rattle.ucd_model.specs.View.{ShowsFacts};
 ghost use Rattle.stability_policies.specs.Policies.{all_assigned, breaks, second_maps};
 ghost use Rattle.stability_policies.specs.declared.policy.Policy.TheVariants.{P05};
 
@@ -14,7 +13,6 @@ use std::alloc::Global;
 use ucd_model::{FactView, FactsRef, Kind, Memory, Point, Points};
 
 /// P05: a primary composite in old alone, or in new alone over code points that are assigned in old.
-#[tactic(auto, using(ucd_model::specs::Shown::shown_is))]
 pub fn changes_composite<O: FactView, N: FactView>(
     old: &O,
     new: &N,
@@ -22,8 +20,8 @@ pub fn changes_composite<O: FactView, N: FactView>(
     a: &FactsRef<'_>,
     b: &FactsRef<'_>,
 ) -> bool
-    requires old { ShowsFacts a.now (O.facts_of old.now c) }
-    requires new { ShowsFacts b.now (N.facts_of new.now c) }
+    requires old { shown_facts a.now ≡ O.facts_of old.now c }
+    requires new { shown_facts b.now ≡ N.facts_of new.now c }
     ensures { result ≡ breaks P05 (O.facts_of old.now) (N.facts_of new.now) c }
 {
     let before = is_primary(old, c, a);
@@ -33,7 +31,7 @@ pub fn changes_composite<O: FactView, N: FactView>(
 
 /// Whether a code point with these facts is a primary composite. The Unicode Standard, section 3.11, D114.
 fn is_primary<W: FactView>(view: &W, c: Point, facts: &FactsRef<'_>) -> bool
-    requires { ShowsFacts facts.now (W.facts_of view.now c) }
+    requires { shown_facts facts.now ≡ W.facts_of view.now c }
     ensures { result ≡ primary (W.facts_of view.now) c }
 {
     matches!(facts.kind, Kind::Canonical)

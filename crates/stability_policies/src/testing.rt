@@ -3,7 +3,7 @@
 ghost use Rattle.std.specs.Prelude.{◌≡◌, ◌≢◌, ◌&&◌, not, IfOk};
 ghost use Rattle.ucd_model.specs.Records.{core_at, record_at};
 ghost use Rattle.ucd_model.specs.Sets.{has_core};
-ghost use Rattle.ucd_model.specs.View.{ShowsFacts};
+ghost use Rattle.ucd_model.specs.Shown.{shown_facts};
 ghost use Rattle.ucd_model.specs.declared.property.Core.{Core as CoreValue};
 ghost use Rattle.stability_policies.specs.BrokenStretches.{has_policy};
 ghost use Rattle.stability_policies.specs.Policies.{breaks};
@@ -34,8 +34,8 @@ pub fn other_policies<O: Records + FactView, N: Records + FactView>(
 ) -> Result<PolicySet, Memory>
     requires old { O.record_of old.now ≡ record_at (O.facts_of old.now) }
     requires new { N.record_of new.now ≡ record_at (N.facts_of new.now) }
-    requires old_facts { ShowsFacts a.now (O.facts_of old.now c) }
-    requires new_facts { ShowsFacts b.now (N.facts_of new.now c) }
+    requires old_facts { shown_facts a.now ≡ O.facts_of old.now c }
+    requires new_facts { shown_facts b.now ≡ N.facts_of new.now c }
     ensures { IfOk result (λ policies. (policy : PolicyValue) → policy ≢ P10
         → has_policy policies policy ≡ breaks policy (O.facts_of old.now) (N.facts_of new.now) c) }
 {
@@ -53,7 +53,6 @@ pub fn other_policies<O: Records + FactView, N: Records + FactView>(
 /// nothing is told.
 ///
 /// - `Memory`: memory ran out.
-#[tactic(auto, using(ucd_model::specs::Shown::shown_is))]
 fn is_broken<O: FactView, N: FactView>(
     alloc: Global,
     policy: Policy,
@@ -65,8 +64,8 @@ fn is_broken<O: FactView, N: FactView>(
     x: CoreSet,
     y: CoreSet,
 ) -> Result<bool, Memory>
-    requires old_facts { ShowsFacts a.now (O.facts_of old.now c) }
-    requires new_facts { ShowsFacts b.now (N.facts_of new.now c) }
+    requires old_facts { shown_facts a.now ≡ O.facts_of old.now c }
+    requires new_facts { shown_facts b.now ≡ N.facts_of new.now c }
     requires old_core { (core : CoreValue) → has_core x core ≡ core_at (O.facts_of old.now) c core }
     requires new_core { (core : CoreValue) → has_core y core ≡ core_at (N.facts_of new.now) c core }
     ensures { IfOk result (λ broken. policy ≢ P10 → broken ≡ breaks policy (O.facts_of old.now) (N.facts_of new.now) c) }

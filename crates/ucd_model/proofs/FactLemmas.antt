@@ -1,8 +1,7 @@
 -- Facts that views show.
 use Rattle.std.proofs.Common.{◌≡◌}
 use Rattle.ucd_model.specs.Sets.{has_flag}
-use Rattle.ucd_model.specs.Shown.{shown_facts}
-use Rattle.ucd_model.specs.View.{image_shown}
+use Rattle.ucd_model.specs.Shown.{image_shown, shown_facts}
 use Rattle.ucd_model.specs.declared.property.Flag.{Flag}
 use Rattle.ucd_model.specs.declared.view.FactsRef.{FactsRef}
 

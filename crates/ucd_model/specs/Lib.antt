@@ -16,7 +16,6 @@ pub mod Records
 pub mod Composites
 pub mod CompositeLaws
 pub mod CompositeProofs
-pub mod View
 pub mod Shown
 pub mod FactList
 pub mod Expansion

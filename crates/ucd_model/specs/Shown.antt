@@ -1,13 +1,18 @@
--- The facts that a view shows, as the definitions name them.
+-- What a view shows of the facts of a code point.
 --
--- shown_facts r     the facts that r shows, field by field
--- shown_is          what r shows of F is F
-use Rattle.std.proofs.Common.{◌≡◌, refl}
-use mathlib.Core.Path.{fun_ext}
+-- image_shown shown   the image that is shown: Same where no points are
+-- shown_facts r       the facts that r shows, field by field
+use Rattle.std.specs.Prelude.{ℕ, List, Option, Some, None}
+use Rattle.std.specs.Borrow.{Bor}
 use Rattle.ucd_model.specs.Facts.{Facts}
 use Rattle.ucd_model.specs.Sets.{has_flag}
-use Rattle.ucd_model.specs.View.{ShowsFacts, image_shown}
+use Rattle.ucd_model.specs.declared.image.Image.{Image}
+use Rattle.ucd_model.specs.declared.image.Image.TheVariants.{Same, To}
 use Rattle.ucd_model.specs.declared.view.FactsRef.{FactsRef}
+
+abbrev pub image_shown : Option (Bor (List ℕ)) → Image
+image_shown None = Same
+image_shown (Some points) = To points.now
 
 abbrev pub shown_facts : FactsRef → Facts
 shown_facts r = record {
@@ -28,6 +33,3 @@ shown_facts r = record {
   mid_word = r.mid_word;
   excluded = r.excluded;
 }
-
-pub shown_is : (r : FactsRef) (F : Facts) → ShowsFacts r F → shown_facts r ≡ F
-shown_is r F s = rw (s.assigned, s.category, s.class, s.kind, s.mapping, s.simple_upper, s.simple_lower, s.simple_title, s.simple_fold, s.upper, s.lower, s.title, s.fold, fun_ext s.flags, s.mid_word, s.excluded) refl

@@ -2,8 +2,8 @@
 
 ghost use Rattle.std.specs.Prelude.{◌≡◌};
 ghost use Rattle.ucd_model.specs.Facts.{unassigned};
-ghost use Rattle.ucd_model.specs.View.{ShowsFacts};
 ghost use Rattle.ucd_model.specs.FactList.{kept_facts};
+ghost use Rattle.ucd_model.specs.Shown.{shown_facts};
 
 use crate::category::Category;
 use crate::decomposition::Kind;
@@ -80,7 +80,7 @@ impl Facts {
 
     /// The facts as a view shows them.
     pub fn shown(&self) -> FactsRef<'_>
-        ensures { ShowsFacts result (kept_facts self.now) }
+        ensures { shown_facts result ≡ kept_facts self.now }
     {
         FactsRef {
             assigned: self.assigned,
@@ -107,7 +107,7 @@ impl FactsRef<'_> {
     /// The facts of a code point without a row: `Cn`, class 0, no mapping, no property, and each image the point
     /// itself.
     pub fn unassigned(c: Point) -> FactsRef<'static>
-        ensures { ShowsFacts result (unassigned c) }
+        ensures { shown_facts result ≡ unassigned c }
     {
         FactsRef {
             assigned: false,

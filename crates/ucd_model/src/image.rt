@@ -2,7 +2,7 @@
 
 ghost use Rattle.std.specs.Prelude.{◌≡◌, IsTrue};
 ghost use Rattle.ucd_model.specs.Facts.{image};
-ghost use Rattle.ucd_model.specs.View.{image_shown};
+ghost use Rattle.ucd_model.specs.Shown.{image_shown};
 
 use crate::list::Points;
 use crate::point::Point;

@@ -3,8 +3,7 @@
 ghost use Rattle.std.specs.Prelude.{◌≡◌, IsTrue};
 ghost use Rattle.std.specs.Bool.{Decides};
 ghost use Rattle.ucd_model.specs.Sets.{has_flag};
-ghost use Rattle.ucd_model.specs.Shown.{shown_facts};
-ghost use Rattle.ucd_model.specs.View.{image_shown};
+ghost use Rattle.ucd_model.specs.Shown.{image_shown, shown_facts};
 ghost use Rattle.ucd_model.specs.declared.property.Flag.{Flag};
 
 use crate::point::Point;

@@ -2,7 +2,7 @@
 
 ghost use Rattle.std.specs.Prelude.{◌≡◌, ℕ};
 ghost use Rattle.ucd_model.specs.Facts.{Facts};
-ghost use Rattle.ucd_model.specs.View.{ShowsFacts};
+ghost use Rattle.ucd_model.specs.Shown.{shown_facts};
 ghost use Rattle.ucd_model.specs.Composites.{pair_of, second_of};
 
 use crate::category::Category;
@@ -57,7 +57,7 @@ pub trait FactView {
 
     /// The facts of a code point.
     fn facts(&self, c: Point) -> FactsRef<'_>
-        ensures { ShowsFacts result (facts_of self.now c) };
+        ensures { shown_facts result ≡ facts_of self.now c };
 
     /// The least primary composite whose mapping is `s`, `y`; `None` exactly where there is none.
     /// The Unicode Standard, section 3.11, D114.

@@ -1,8 +1,8 @@
-use Rattle.std.proofs.Common.{ℕ, List, ap, ◌∙◌, ◌||◌, arith}
+use Rattle.std.proofs.Common.{◌≡◌, ℕ, List, ap, ◌∙◌, ◌||◌, arith}
 use Rattle.ucd_model.specs.Casing.{lower_of, upper_of, fold_of}
 use Rattle.ucd_model.specs.Facts.{Facts, image_points}
 use Rattle.ucd_model.specs.Predicates.{cased}
-use Rattle.ucd_model.specs.Shown.{shown_facts, shown_is}
+use Rattle.ucd_model.specs.Shown.{shown_facts}
 use Rattle.case_derivation.specs.Steps.{title_image}
 use Rattle.case_derivation.proofs.MatchingLemmas.{mapped_more, titled_more}
 use Rattle.case_derivation.proofs.changes.changes_behind.Goals as goal
@@ -14,7 +14,7 @@ members-preserved g c =
     let i : ℕ = c.members.c-index in
     let x : ℕ = c.c-item.result in
     let G : Facts = shown_facts c.facts.result in
-    let shown = shown_is c.facts.result (F x) c.facts.ensures in
+    let shown : G ≡ F x = c.facts.ensures in
     let left = c.members.left in
     let put = c.left_behind-left in
     record {

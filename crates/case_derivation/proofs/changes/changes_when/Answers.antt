@@ -4,7 +4,7 @@ use Rattle.std.specs.Str.{bytes_eq}
 use Rattle.ucd_model.specs.Casing.{lower, upper, fold, lower_of, upper_of, fold_of}
 use Rattle.ucd_model.specs.Facts.{Facts, image_points}
 use Rattle.ucd_model.specs.Predicates.{cased}
-use Rattle.ucd_model.specs.Shown.{shown_facts, shown_is}
+use Rattle.ucd_model.specs.Shown.{shown_facts}
 use Rattle.case_derivation.specs.Matching.{matches}
 use Rattle.case_derivation.specs.Steps.{titled, title_image}
 use Rattle.case_derivation.proofs.MatchingLemmas.{mapped_more, titled_more}
@@ -24,7 +24,7 @@ returns-then-not-is_unmapped g c =
     let x : ℕ = c.index-nfd-at.result in
     let is = c.index-nfd-at.is in
     let G : Facts = shown_facts c.facts-facts.result in
-    let shown = shown_is c.facts-facts.result (F x) c.facts-facts.ensures in
+    let shown : G ≡ F x = c.facts-facts.ensures in
     let all = c.all_left in
     let put = c.left_behind-left in
     let found = c.changes_behind.ensures in

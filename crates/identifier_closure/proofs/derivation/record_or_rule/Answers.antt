@@ -1,4 +1,4 @@
-use Rattle.std.proofs.Common.{◌≡◌, ℕ, sym, ◌∙◌}
+use Rattle.std.proofs.Common.{◌≡◌, ℕ, ap, sym, ◌∙◌}
 use Rattle.ucd_model.specs.Facts.{Facts}
 use Rattle.ucd_model.specs.declared.decomposition.Kind.TheVariants.{Plain}
 use Rattle.identifier_closure.specs.PlainProofs.{kind_forms, kind_rule}
@@ -7,8 +7,8 @@ use Rattle.identifier_closure.proofs.derivation.record_or_rule.Goals as goal
 pub recorded-requires-clause-forms : goal.recorded-requires-clause-forms
 recorded-requires-clause-forms g c =
     let F : ℕ → Facts = g.W.FactView.facts_of c.args.view.now in
-    let plain : (F c.args.c).kind ≡ Plain = sym c.facts-facts.ensures.kind ∙ c.in-Plain.is in
+    let plain : (F c.args.c).kind ≡ Plain = ap (λ (G : Facts). G.kind) (sym c.facts-facts.ensures) ∙ c.in-Plain.is in
     rw (c.alone-forms.ensures.nfd, c.alone-forms.ensures.nfc, c.alone-forms.ensures.nfkc) (kind_forms F c.args.c plain)
 
 pub recorded-requires-clause-expansions : goal.recorded-requires-clause-expansions
-recorded-requires-clause-expansions g c = kind_rule (g.W.FactView.facts_of c.args.view.now) c.args.c (sym c.facts-facts.ensures.kind ∙ c.in-Plain.is)
+recorded-requires-clause-expansions g c = kind_rule (g.W.FactView.facts_of c.args.view.now) c.args.c (ap (λ (G : Facts). G.kind) (sym c.facts-facts.ensures) ∙ c.in-Plain.is)

@@ -1,9 +1,9 @@
 use Rattle.std.proofs.Common.{sym}
-use Rattle.ucd_model.specs.Shown.{shown_facts, shown_is}
+use Rattle.ucd_model.specs.Shown.{shown_facts}
 use Rattle.stability_policies.proofs.PlainLemmas.{plain_caseless}
 use Rattle.stability_policies.proofs.caseless.changes_caseless.Goals as goal
 
 pub returns : goal.returns
 returns g c =
     plain_caseless (g.O.FactView.facts_of c.args.old.now) (g.N.FactView.facts_of c.args.new.now) c.args.c (shown_facts c.args.a.now) (shown_facts c.args.b.now) c.has_same_folding.result
-    (shown_is c.args.a.now _ c.requires.old) (shown_is c.args.b.now _ c.requires.new) (sym c.if-has_mapping.ensures) (sym c.if-has_mapping-2.ensures) c.has_same_folding.ensures c.if-not-a.false
+    c.requires.old c.requires.new (sym c.if-has_mapping.ensures) (sym c.if-has_mapping-2.ensures) c.has_same_folding.ensures c.if-not-a.false

@@ -1,6 +1,6 @@
 use Rattle.std.proofs.Common.{◌≡◌, ◌∙◌, sym, ap}
 use Rattle.std.proofs.lemmas.Slice.Eq.{bytes_eq-Decides}
-use Rattle.ucd_model.specs.View.{image_shown}
+use Rattle.ucd_model.specs.Shown.{image_shown}
 use Rattle.ucd_model.specs.declared.image.Image.TheVariants.{To}
 use Rattle.ucd_model.proofs.shown.is_same_image.Goals as goal
 

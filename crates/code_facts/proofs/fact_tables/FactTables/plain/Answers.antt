@@ -9,5 +9,5 @@ returns-then-is_plain-clause-stretch g c = record {
   from = omega arith;
   each = λ d low high.
       let same : c.args.c ≡ d = omega arith in
-      subst (λ (n : ℕ). IsPlain n (facts_at Now c.args.self.now n)) same ((c.is_plain.ensures _ c.facts.ensures).0 c.if-is_plain.true);
+      subst (λ (n : ℕ). IsPlain n (facts_at Now c.args.self.now n)) same (subst (IsPlain c.args.c) c.facts.ensures (c.is_plain.ensures.0 c.if-is_plain.true));
 }

@@ -1,5 +1,4 @@
-use Rattle.std.proofs.Common.{ap₂, sym, subst, ◌∙◌, arith}
-use Rattle.ucd_model.specs.View.{ShowsFacts}
+use Rattle.std.proofs.Common.{ap₂, sym, ◌∙◌, arith}
 use Rattle.code_facts.specs.FactTables.{words_at, rests_at}
 use Rattle.code_facts.specs.KeptFacts.{kept_at}
 use Rattle.code_facts.proofs.FactLemmas.{kept_point}
@@ -8,4 +7,4 @@ use Rattle.code_facts.proofs.fact_tables.FactTables.shown.Goals as goal
 pub returns : goal.returns
 returns g c =
     let kept = kept_point (words_at c.args.version c.args.self.now) (rests_at c.args.version c.args.self.now) c.args.c (omega arith) in
-    subst (ShowsFacts c.shown.result) (ap₂ (kept_at c.args.c) c.word.ensures c.rest.ensures ∙ sym kept) c.shown.ensures
+    c.shown.ensures ∙ ap₂ (kept_at c.args.c) c.word.ensures c.rest.ensures ∙ sym kept

@@ -5,11 +5,11 @@
 use Rattle.std.specs.Prelude.{◌≡◌, ℕ, ◌<◌, List, length, slice_index_or}
 use Rattle.std.specs.Borrow.{Bor}
 use Rattle.ucd_model.specs.Bounds.{Bounds}
-use Rattle.ucd_model.specs.Records.{Record, ShowsRecord}
+use Rattle.ucd_model.specs.Records.{Record, kept_record}
 use Rattle.ucd_model.specs.declared.records.Record.{Record as Kept}
 
 abbrev pub IsShown : (ℕ → Record) → Bounds → Bor Kept → Type 0
-IsShown R piece kept = ShowsRecord kept.now (R piece.lo)
+IsShown R piece kept = kept_record kept.now ≡ R piece.lo
 
 pub record AreShown (R : ℕ → Record) (pieces : List Bounds) (records : List (Bor Kept)) : Type 0 where
   pub count : length records ≡ length pieces

@@ -2,7 +2,7 @@
 
 ghost use Rattle.std.specs.Prelude.{◌≡◌, OnOk, map};
 ghost use Rattle.ucd_model.specs.DerivedFiles.{file_sections};
-ghost use Rattle.ucd_model.specs.Records.{Record as RecordValue, ShowsRecord};
+ghost use Rattle.ucd_model.specs.Records.{kept_record};
 ghost use Rattle.derived_writer.specs.Listings.{listing_section, check_value};
 
 use crate::label::LabelText;
@@ -105,7 +105,7 @@ impl Listing {
         shown: &Record,
         label: &mut LabelText,
     ) -> Result<(), Memory>
-        ensures { OnOk result ((R : RecordValue) → ShowsRecord shown.now R → label.new ≡ (listing_section self).label R) }
+        ensures { OnOk result (label.new ≡ (listing_section self).label (kept_record shown.now)) }
     {
         match self {
             Listing::Core(core) => set_binary(core.name(), shown.core.has(core), label),
@@ -122,7 +122,7 @@ impl Listing {
 
 /// The quick check of a form.
 fn quick(form: Form, shown: &Record) -> Quick
-    ensures { (R : RecordValue) → ShowsRecord shown.now R → result ≡ check_value form R }
+    ensures { result ≡ check_value form (kept_record shown.now) }
 {
     match form {
         Form::Nfd => shown.nfd,

@@ -1,7 +1,6 @@
 -- What is derived again, point by point.
-use Rattle.std.proofs.Common.{◌≡◌, ◌≢◌, ℕ, suc, ◌+◌, ◌<◌, ◌≤◌, Bool, true, false, not, cond, ◌||◌, List, [], ◌∷◌, ◌++◌, length, take, drop, get_or, filter, map, Option, Some, None, Result, Ok, Err, OnOk, IfErr, inl, inr, ◌==◌, refl, sym, ap, subst, ◌∙◌, arith}
+use Rattle.std.proofs.Common.{◌≡◌, ◌≢◌, ℕ, suc, ◌+◌, ◌<◌, ◌≤◌, Bool, true, false, not, cond, ◌||◌, List, [], ◌∷◌, ◌++◌, length, take, drop, get_or, filter, map, Option, Some, None, Ok, Err, inl, inr, ◌==◌, refl, sym, ap, subst, ◌∙◌, arith}
 use Rattle.std.specs.Bool.{Decides}
-use Rattle.std.specs.List.{list_any}
 use Rattle.std.proofs.Math.Seq.{drop-cons, take-suc}
 use Rattle.std.proofs.lemmas.Bool.{cases_eq, or_cases, true≢false}
 use Rattle.std.proofs.lemmas.Bool.Decides.{nat_tests, same_from_decides}
@@ -9,7 +8,7 @@ use Rattle.std.proofs.lemmas.List.{append-nil, map-append, take-append-drop, tak
 use Rattle.std.proofs.lemmas.List.Elements.{filter-append}
 use Rattle.std.proofs.lemmas.List.Folds.{list_any-append}
 use Rattle.ucd_model.specs.Facts.{Facts}
-use Rattle.ucd_model.specs.Records.{Record, ShowsRecord, derived, kept_record, record_at, record_or_rule}
+use Rattle.ucd_model.specs.Records.{Record, derived, kept_record, record_at, record_or_rule}
 use Rattle.ucd_model.specs.Sameness.{is_in, same_record}
 use Rattle.ucd_model.specs.SamenessProofs.{records_are_told}
 use Rattle.ucd_model.specs.Validity.{broken}
@@ -22,7 +21,7 @@ use Rattle.asked_queries.specs.Answers.{is_asked}
 use Rattle.asked_queries.specs.Questions.{asked}
 use Rattle.asked_queries.specs.Turns.{SameQueries}
 use Rattle.asking_points.specs.declared.derivation.Asked.{Asked}
-use Rattle.rederivation.specs.Again.{AsksAnew, IsAdded, IsAgain, IsFound, IsPut, IsFirstBroken, StopsAt, differs}
+use Rattle.rederivation.specs.Again.{AsksAnew, IsAdded, IsAgain, IsFound, IsPut, StopsAt, differs}
 use Rattle.rederivation.specs.declared.again.Again.{Again}
 use Rattle.rederivation.specs.declared.again_stop.AgainStop.{AgainStop}
 use Rattle.rederivation.specs.declared.again_stop.AgainStop.TheVariants.{Broken, Memory}
@@ -169,42 +168,11 @@ stops G points i c Memory lt is before found = tt
 
 -- ---- whether the record is another
 
-shows_kept : (kept : KeptRecord) → ShowsRecord kept (kept_record kept)
-shows_kept kept = record {
-  category = refl;
-  class = refl;
-  kind = refl;
-  core = λ core. refl;
-  exclusion = refl;
-  nfd = refl;
-  nfc = refl;
-  nfkd = refl;
-  nfkc = refl;
-  casefold = refl;
-  changes_casefold = refl;
-}
-
-shows_one : (kept : KeptRecord) (A B : Record) → ShowsRecord kept A → ShowsRecord kept B → A ≡ B
-shows_one kept A B a b = λ i. record {
-  category = (sym a.category ∙ b.category) i;
-  class = (sym a.class ∙ b.class) i;
-  kind = (sym a.kind ∙ b.kind) i;
-  core = λ p. (sym (a.core p) ∙ b.core p) i;
-  exclusion = (sym a.exclusion ∙ b.exclusion) i;
-  nfd = (sym a.nfd ∙ b.nfd) i;
-  nfc = (sym a.nfc ∙ b.nfc) i;
-  nfkd = (sym a.nfkd ∙ b.nfkd) i;
-  nfkc = (sym a.nfkc ∙ b.nfkc) i;
-  casefold = (sym a.casefold ∙ b.casefold) i;
-  changes_casefold = (sym a.changes_casefold ∙ b.changes_casefold) i;
-}
-
-told_is : (R : ℕ → Record) (c : ℕ) (kept value : KeptRecord) (t : Bool) → ShowsRecord kept (R c) → Decides t (kept_record kept ≡ kept_record value) → t ≡ same_record (R c) (kept_record value)
+told_is : (R : ℕ → Record) (c : ℕ) (kept value : KeptRecord) (t : Bool) → kept_record kept ≡ R c → Decides t (kept_record kept ≡ kept_record value) → t ≡ same_record (R c) (kept_record value)
 told_is R c kept value t shown told =
-    let is : kept_record kept ≡ R c = shows_one kept (kept_record kept) (R c) (shows_kept kept) shown in
-    same_from_decides t (same_record (kept_record kept) (kept_record value)) told (records_are_told (kept_record kept) (kept_record value)) ∙ ap (λ (r : Record). same_record r (kept_record value)) is
+    same_from_decides t (same_record (kept_record kept) (kept_record value)) told (records_are_told (kept_record kept) (kept_record value)) ∙ ap (λ (r : Record). same_record r (kept_record value)) shown
 
-pub put_one : (R : ℕ → Record) (c : ℕ) (value : KeptRecord) (old new : Again) (kept : KeptRecord) (t : Bool) → ShowsRecord kept (R c) → Decides t (kept_record kept ≡ kept_record value) → t ≡ false
+pub put_one : (R : ℕ → Record) (c : ℕ) (value : KeptRecord) (old new : Again) (kept : KeptRecord) (t : Bool) → kept_record kept ≡ R c → Decides t (kept_record kept ≡ kept_record value) → t ≡ false
     → new.changed ≡ old.changed ++ c ∷ [] → new.records.items ≡ old.records.items ++ value ∷ [] → IsPut R c value old new
 put_one R c value old new kept t shown told e changed records =
     let same : same_record (R c) (kept_record value) ≡ false = sym (told_is R c kept value t shown told) ∙ e in
@@ -213,7 +181,7 @@ put_one R c value old new kept t shown told e changed records =
       records = records ∙ ap (λ b. old.records.items ++ cond b [] (value ∷ [])) (sym same);
     }
 
-pub put_none : (R : ℕ → Record) (c : ℕ) (value : KeptRecord) (old new : Again) (kept : KeptRecord) (t : Bool) → ShowsRecord kept (R c) → Decides t (kept_record kept ≡ kept_record value) → t ≡ true
+pub put_none : (R : ℕ → Record) (c : ℕ) (value : KeptRecord) (old new : Again) (kept : KeptRecord) (t : Bool) → kept_record kept ≡ R c → Decides t (kept_record kept ≡ kept_record value) → t ≡ true
     → new.changed ≡ old.changed → new.records.items ≡ old.records.items → IsPut R c value old new
 put_none R c value old new kept t shown told e changed records =
     let same : same_record (R c) (kept_record value) ≡ true = sym (told_is R c kept value t shown told) ∙ e in

@@ -2,14 +2,13 @@
 --
 -- Record               the values of a code point's derived properties
 -- kept_record k        the record that a value keeps
--- ShowsRecord kept R   the kept record is R, field by field
 -- core_at F c p        whether c has the core property p
 -- changes_image c i     the image is not c alone
 -- record_at F c        the values of c, where F gives the facts of each code point: category, class and kind are those of its
 --                      facts. What needs a form or a folding of c that is not there is absent, Yes, or c itself
 -- record_or_rule R b    R where there is no rule, else the rule
 -- derived F c          the record of c, or in its place the first rule of a valid release that c breaks
-use Rattle.std.specs.Prelude.{◌≡◌, ℕ, Bool, not, [], ◌∷◌, Option, Some, None, Result, Ok, Err}
+use Rattle.std.specs.Prelude.{ℕ, Bool, not, [], ◌∷◌, Option, Some, None, Result, Ok, Err}
 use Rattle.std.specs.Str.{bytes_eq}
 use Rattle.ucd_model.specs.Casing.{lowers, uppers, titles, folds, casemaps, changes_when}
 use Rattle.ucd_model.specs.Facts.{Facts, image_points}
@@ -56,19 +55,6 @@ kept_record k = record {
   casefold = k.casefold;
   changes_casefold = k.changes_casefold;
 }
-
-pub record ShowsRecord (kept : KeptRecord) (R : Record) : Type 0 where
-  pub category : kept.category ≡ R.category
-  pub class : kept.class ≡ R.class
-  pub kind : kept.kind ≡ R.kind
-  pub core : (core : Core) → has_core kept.core core ≡ R.core core
-  pub exclusion : kept.exclusion ≡ R.exclusion
-  pub nfd : kept.nfd ≡ R.nfd
-  pub nfc : kept.nfc ≡ R.nfc
-  pub nfkd : kept.nfkd ≡ R.nfkd
-  pub nfkc : kept.nfkc ≡ R.nfkc
-  pub casefold : kept.casefold ≡ R.casefold
-  pub changes_casefold : kept.changes_casefold ≡ R.changes_casefold
 
 abbrev pub core_at : (ℕ → Facts) → ℕ → Core → Bool
 core_at F c ChangesWhenLowercased = changes_when lowers F c

@@ -2,7 +2,7 @@
 
 ghost use Rattle.std.specs.Prelude.{◌≡◌, ℕ, IsTrue};
 ghost use Rattle.std.specs.Bool.{Decides};
-ghost use Rattle.ucd_model.specs.Records.{Record, ShowsRecord, kept_record};
+ghost use Rattle.ucd_model.specs.Records.{Record, kept_record};
 
 use crate::category::Category;
 use crate::decomposition::Kind;
@@ -103,5 +103,5 @@ pub trait Records {
 
     /// The record of a code point.
     fn record(&self, c: Point) -> &Record
-        ensures { ShowsRecord result.now (record_of self.now c) };
+        ensures { kept_record result.now ≡ record_of self.now c };
 }

@@ -3,7 +3,7 @@
 ghost use Rattle.std.specs.Prelude.{◌≡◌, ◌≤◌, IfOk, is_some, if◌then◌else◌};
 ghost use Rattle.edit_session.specs.Benches.{bench_record};
 ghost use Rattle.ucd_model.specs.DerivedFiles.{casefold_listing};
-ghost use Rattle.ucd_model.specs.Records.{Record as RecordValue, ShowsRecord};
+ghost use Rattle.ucd_model.specs.Records.{kept_record};
 ghost use Rattle.ucdshop_core.specs.Making.{casefolds, data_rows};
 
 use edit_session::Bench;
@@ -57,7 +57,7 @@ fn listed(bench: &Bench, c: Point, len: u32) -> usize
 
 /// Whether the section NFKC_CF lists a code point with this record.
 fn is_listed(shown: &Record) -> bool
-    ensures { (R : RecordValue) → ShowsRecord shown.now R → result ≡ is_some (casefold_listing.label R) }
+    ensures { result ≡ is_some (casefold_listing.label (kept_record shown.now)) }
 {
     match &shown.casefold {
         Image::Same => false,

@@ -1,7 +1,7 @@
 //! Pieces of equal records, as tests read them.
 
 ghost use Rattle.std.specs.Prelude.{◌≡◌, ℕ, IfOk, map};
-ghost use Rattle.ucd_model.specs.Records.{Record as RecordValue, ShowsRecord};
+ghost use Rattle.ucd_model.specs.Records.{kept_record};
 ghost use Rattle.unicodeset_eval.specs.RecordPieces.{piece_at, piece_value, unfolded, values_record};
 
 use std::alloc::Global;
@@ -33,7 +33,7 @@ pub(crate) struct Piece {
 
 /// The values of a record.
 fn values_of(shown: &Record) -> PropertyValues
-    ensures { (R : RecordValue) → ShowsRecord shown.now R → values_record result ≡ unfolded R }
+    ensures { values_record result ≡ unfolded (kept_record shown.now) }
 {
     PropertyValues {
         category: shown.category,

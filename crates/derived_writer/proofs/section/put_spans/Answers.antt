@@ -1,9 +1,9 @@
-use Rattle.std.proofs.Common.{◌≡◌, ◌++◌, ◌∙◌, ◌∷◌, ◌+◌, ◌-◌, ◌≤◌, ℕ, List, Some, None, sym, ap, subst, drop, get_or, append_assoc, arith}
+use Rattle.std.proofs.Common.{◌≡◌, ◌++◌, ◌∙◌, ◌∷◌, ◌+◌, ◌-◌, ◌≤◌, ℕ, List, Some, None, sym, ap, drop, get_or, append_assoc, arith}
 use Rattle.ucd_model.specs.Limits.{point_count}
 use Rattle.ucd_model.specs.Labels.{Label}
 use Rattle.ucd_model.specs.Bounds.{Bounds}
 use Rattle.std.specs.Borrow.{Bor}
-use Rattle.ucd_model.specs.Records.{Record, ShowsRecord}
+use Rattle.ucd_model.specs.Records.{Record, kept_record}
 use Rattle.ucd_model.specs.declared.records.Record.{Record as Kept}
 use Rattle.ucd_model.specs.LabelLemmas.{labelled_before}
 use Rattle.ucd_model.specs.Cuts.{IsCut}
@@ -32,9 +32,9 @@ pieces-preserved g c =
     let cut : IsCut R c.pieces.run.end point_count (s ∷ rest) = next_piece R c.pieces.run.end point_count c.pieces.piece-index pieces s c.pieces-test.true here c.pieces.invariant.cut in
     let kept = c.index-records-at.result in
     let found : kept ≡ get_or c.args.records.now c.pieces.piece-index kept = rw c.pieces.invariant.at at c.index-records-at.is in
-    let there : ShowsRecord (get_or c.args.records.now c.pieces.piece-index kept).now (R (get_or pieces c.pieces.piece-index s).lo) = c.requires.records.each c.pieces.piece-index s kept c.pieces-test.true in
-    let shown : ShowsRecord kept.now (R s.lo) = subst (λ (b : Bounds). ShowsRecord kept.now (R b.lo)) (sym here) (subst (λ (r : Bor Kept). ShowsRecord r.now (R (get_or pieces c.pieces.piece-index s).lo)) (sym found) there) in
-    let label : c.set_label.new.label ≡ (listing_section c.args.listing).label (R s.lo) = c.in_ok-set_label.ensures (R s.lo) shown in
+    let there : kept_record (get_or c.args.records.now c.pieces.piece-index kept).now ≡ R (get_or pieces c.pieces.piece-index s).lo = c.requires.records.each c.pieces.piece-index s kept c.pieces-test.true in
+    let shown : kept_record kept.now ≡ R s.lo = ap (λ (r : Bor Kept). kept_record r.now) found ∙ there ∙ ap (λ (b : Bounds). R b.lo) (sym here) in
+    let label : c.set_label.new.label ≡ (listing_section c.args.listing).label (R s.lo) = c.in_ok-set_label.ensures ∙ ap (listing_section c.args.listing).label shown in
     let stretch : IsStretch point_count f c.pieces.run.end (c.last.result + 1) c.set_label.new.label = rw (label, c.last.ensures.value) (piece_is_stretch R (listing_section c.args.listing).label c.pieces.run.end point_count s rest cut) in
     let more = c.in_ok-total.ensures.total point_count f c.pieces.invariant.run stretch in
     let few = c.in_ok-total.ensures.few in

@@ -1,4 +1,4 @@
-use Rattle.std.proofs.Common.{◌∙◌, ◌<◌, List, ℕ, ap, sym, subst}
+use Rattle.std.proofs.Common.{◌∙◌, ◌<◌, List, ℕ, ap, subst}
 use Rattle.range_table.specs.Values.{point_count-is}
 use Rattle.record_list.specs.Records.{record_next, record_now, written}
 use Rattle.dependency_map.specs.Maps.{asked_at}

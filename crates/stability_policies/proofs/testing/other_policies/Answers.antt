@@ -1,9 +1,16 @@
-use Rattle.std.proofs.Common.{◌≡◌, length, get_or, ap, arith}
+use Rattle.std.proofs.Common.{◌≡◌, ◌∙◌, ℕ, length, get_or, ap, arith}
+use Rattle.ucd_model.specs.Records.{Record}
 use Rattle.stability_policies.specs.Policies.{breaks, policies}
 use Rattle.stability_policies.specs.PolicyLists.{place_below}
 use Rattle.stability_policies.specs.declared.policy.Policy.TheVariants.{P01}
 use Rattle.stability_policies.proofs.PolicySets.{policies_next}
 use Rattle.stability_policies.proofs.testing.other_policies.Goals as goal
+
+pub is_broken-requires-clause-old_core : goal.is_broken-requires-clause-old_core
+is_broken-requires-clause-old_core g c core = ap (λ (R : Record). R.core core) c.record.ensures ∙ ap (λ (R : ℕ → Record). (R c.args.c).core core) c.requires.old
+
+pub is_broken-requires-clause-new_core : goal.is_broken-requires-clause-new_core
+is_broken-requires-clause-new_core g c core = ap (λ (R : Record). R.core core) c.record-2.ensures ∙ ap (λ (R : ℕ → Record). (R c.args.c).core core) c.requires.new
 
 pub policies-preserved : goal.policies-preserved
 policies-preserved g c =

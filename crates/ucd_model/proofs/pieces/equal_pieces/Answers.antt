@@ -2,11 +2,9 @@ use Rattle.std.proofs.Common.{◌≡◌, ◌≤◌, ◌<◌, ◌+◌, ◌-◌, �
 use Rattle.std.proofs.lemmas.Bool.{cases_lt}
 use Rattle.ucd_model.specs.Limits.{point_count}
 use Rattle.ucd_model.specs.Bounds.{Bounds}
-use Rattle.ucd_model.specs.Records.{Record, ShowsRecord}
-use Rattle.ucd_model.specs.declared.records.Record.{Record as KeptRecord}
+use Rattle.ucd_model.specs.Records.{Record, kept_record}
 use Rattle.ucd_model.specs.Cuts.{IsCut}
 use Rattle.ucd_model.specs.CutLemmas.{cut_push}
-use Rattle.ucd_model.proofs.RecordLemmas.{shows_one}
 use Rattle.ucd_model.proofs.pieces.equal_pieces.Goals.{then-not-is_same+in_ok-push, else-not-is_same}
 use Rattle.ucd_model.proofs.pieces.equal_pieces.Goals as goal
 
@@ -22,7 +20,7 @@ pub points-preserved : goal.points-preserved
 points-preserved g c =
     let R : ℕ → Record = g.B.Records.record_of c.args.bench.now in
     let begun = c.points.invariant.begun in
-    let next : ShowsRecord c.record-next.result.now (R c.points.number) = rw c.at-in-points.ensures at c.record-next.ensures in
+    let next : kept_record c.record-next.result.now ≡ R c.points.number = rw c.at-in-points.ensures at c.record-next.ensures in
     elim c.if-not-is_same.branch [
       | then-not-is_same+in_ok-push w ↦ record {
         begun = omega arith;
@@ -32,7 +30,7 @@ points-preserved g c =
       }
       | else-not-is_same w ↦
           let same : c.points.shown.now ≡ c.record-next.result.now = w.if-not-is_same.ensures.equal refl in
-          let equal : R c.points.number ≡ R c.points.first = shows_one c.record-next.result.now (R c.points.number) (R c.points.first) next (subst (λ (r : KeptRecord). ShowsRecord r (R c.points.first)) same c.points.invariant.shown) in
+          let equal : R c.points.number ≡ R c.points.first = sym next ∙ ap kept_record (sym same) ∙ c.points.invariant.shown in
           record {
             begun = omega arith;
             cut = rw (w.pieces-is, w.first-is) c.points.invariant.cut;

@@ -1,5 +1,5 @@
 use Rattle.std.proofs.Common.{◌≡◌, ℕ, ◌<◌, ◌≤◌}
-use Rattle.ucd_model.specs.Records.{ShowsRecord}
+use Rattle.ucd_model.specs.Records.{kept_record}
 use Rattle.ucd_model.specs.Cuts.{IsCut}
 use Rattle.ucd_model.proofs.pieces.equal_pieces.Given as goal
 
@@ -9,5 +9,5 @@ invariant-points g l = record {
   begun : l.first < l.number;
   cut : IsCut (g.B.Records.record_of l.bench) 0 l.first l.pieces;
   equal : (k : ℕ) → l.first ≤ k → k < l.number → g.B.Records.record_of l.bench k ≡ g.B.Records.record_of l.bench l.first;
-  shown : ShowsRecord l.shown (g.B.Records.record_of l.bench l.first);
+  shown : kept_record l.shown ≡ g.B.Records.record_of l.bench l.first;
 }

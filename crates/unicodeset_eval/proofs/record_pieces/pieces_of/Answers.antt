@@ -25,4 +25,4 @@ spans-preserved g c =
     let lo : c.span.inside.lo ≡ s.lo = ap (λ (b : Bounds). b.lo) c.span.view_is in
     let p : Piece = record { first = c.first-first.result; values = c.values_of-values.result } in
     one_more R c.spans.pieces.items c.push.new.self.items p c.args.spans.now c.spans.span-index s c.in_ok-push.ensures.items c.spans-test.true c.span-item.is (c.first-first.ensures.value ∙ lo)
-    (c.values_of-values.ensures (R c.span.inside.lo) c.record.ensures ∙ ap (λ (n : ℕ). unfolded (R n)) lo) c.spans.invariant
+    (c.values_of-values.ensures ∙ ap unfolded c.record.ensures ∙ ap (λ (n : ℕ). unfolded (R n)) lo) c.spans.invariant

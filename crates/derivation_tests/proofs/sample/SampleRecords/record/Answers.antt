@@ -1,27 +1,11 @@
-use Rattle.std.proofs.Common.{◌≡◌, ◌∙◌, ◌<◌, ℕ, suc, true, List, ◌∷◌, Some, find, length, get_or, drop, refl, sym, ap, subst}
+use Rattle.std.proofs.Common.{◌≡◌, ◌∙◌, ◌<◌, ℕ, suc, true, List, ◌∷◌, Some, find, length, get_or, drop, refl, sym, ap}
 use Rattle.std.proofs.Math.Seq.{drop-cons}
 use Rattle.ucd_model.specs.Bounds.{Bounds}
 use Rattle.ucd_model.specs.Facts.{within}
-use Rattle.ucd_model.specs.Records.{ShowsRecord}
 use Rattle.ucd_model.specs.declared.records.Record.{Record as KeptRecord}
 use Rattle.derivation_tests.specs.Samples.{entry_or, sample_record}
 use Rattle.ucd_model.specs.Records.{kept_record}
 use Rattle.derivation_tests.proofs.sample.SampleRecords.record.Goals as goal
-
-shows_kept : (k : KeptRecord) → ShowsRecord k (kept_record k)
-shows_kept k = record {
-  category = refl;
-  class = refl;
-  kind = refl;
-  core = λ core. refl;
-  exclusion = refl;
-  nfd = refl;
-  nfc = refl;
-  nfkd = refl;
-  nfkc = refl;
-  casefold = refl;
-  changes_casefold = refl;
-}
 
 -- the first entry that covers c gives its record
 found_first : (entries : List (Bounds × KeptRecord)) (rest : KeptRecord) (c i : ℕ) (entry : Bounds × KeptRecord) → i < length entries → entry ≡ get_or entries i entry → within c entry.0 ≡ true
@@ -35,4 +19,4 @@ found_first entries rest c i entry lt here covers left =
 pub returns-then-covers : goal.returns-then-covers
 returns-then-covers c =
     let entry = c.entry-item.result in
-    subst (ShowsRecord entry.1) (found_first c.args.self.now.entries c.args.self.now.rest c.args.c c.entries.entry-index entry (rw c.as_slice-entry-items.ensures at c.entries-test.true) (rw c.as_slice-entry-items.ensures at c.entry-item.is) (sym c.covers.ensures ∙ c.if-covers.true) c.entries.invariant) (shows_kept entry.1)
+    found_first c.args.self.now.entries c.args.self.now.rest c.args.c c.entries.entry-index entry (rw c.as_slice-entry-items.ensures at c.entries-test.true) (rw c.as_slice-entry-items.ensures at c.entry-item.is) (sym c.covers.ensures ∙ c.if-covers.true) c.entries.invariant

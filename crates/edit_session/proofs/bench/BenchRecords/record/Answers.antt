@@ -1,6 +1,6 @@
-use Rattle.std.proofs.Common.{sym, subst}
+use Rattle.std.proofs.Common.{sym, subst, ◌∙◌}
 use Rattle.record_list.specs.Records.{record_now}
-use Rattle.ucd_model.specs.Records.{ShowsRecord, record_at}
+use Rattle.ucd_model.specs.Records.{record_at}
 use Rattle.edit_session.specs.Benches.{bench_facts}
 use Rattle.edit_session.specs.FirstRecords.{SameRecords}
 use Rattle.edit_session.specs.declared.derivation.Derivation.{Derivation}
@@ -10,4 +10,4 @@ use Rattle.edit_session.proofs.bench.BenchRecords.record.Goals as goal
 pub returns : goal.returns
 returns c =
     let records = subst (λ (b : Derivation). SameRecords (record_now b.records) (record_at (bench_facts c.self.inside.release))) (sym c.deref.ensures) c.self.invariant.now.records in
-    rw (← c.self.view_is) (subst (ShowsRecord c.record.result.now) (records c.args.c (is_point c.args.c c.number-number.result c.number-number.ensures.value c.number-number.ensures.bound)) c.record.ensures)
+    rw (← c.self.view_is) (c.record.ensures ∙ records c.args.c (is_point c.args.c c.number-number.result c.number-number.ensures.value c.number-number.ensures.bound))

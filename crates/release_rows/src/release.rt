@@ -19,7 +19,13 @@ use crate::row_iter::Rows;
 use crate::row_text::RowText;
 use std::alloc::Global;
 use std::marker::Model;
-use ucd_model::{Memory, SourceFile, Span, Spans, Text, file_limit};
+use ucd_model::{ListOf, Memory, SourceFile, Span, Spans, Text, file_limit};
+
+/// The answer to a file above the limit.
+const TOO_LONG: LoadStop = LoadStop::Fault {
+    line: 0,
+    rule: LoadRule::G02,
+};
 
 /// The source files of a release. Contracts see the items of each file, now and next.
 ///
@@ -69,12 +75,24 @@ impl Release {
         ensures others { (other : FileValue) → other ≢ file → items_now self.new other ≡ items_now self.old other }
     {
         if bytes.len() > file_limit() {
-            return Err(LoadStop::Fault {
-                line: 0,
-                rule: LoadRule::G02,
-            });
+            return Err(TOO_LONG);
         }
-        let items = load_items(self.alloc, file, bytes)?;
+        let text = text_of(self.alloc, bytes)?;
+        self.load_text(file, text)
+    }
+
+    /// Loads a file that has no items yet, and keeps its text without a copy. The answers are those of `load_file`.
+    pub fn load_text(&mut self, file: SourceFile, text: Text) -> Result<(), LoadStop>
+        requires { items_now self.old file ≡ [] }
+        ensures answer { AnswersLoad result (load_or_fault file text) file self.old self.new }
+        ensures items { OnOk result (load_or_fault file text ≡ Ok (items_now self.new file)) }
+        ensures lossless { OnOk result (bytes_of (items_now self.new file) ≡ text) }
+        ensures others { (other : FileValue) → other ≢ file → items_now self.new other ≡ items_now self.old other }
+    {
+        if text.len() > file_limit() {
+            return Err(TOO_LONG);
+        }
+        let items = load_items(self.alloc, file, text)?;
         put(&mut self.files, file, items);
         Ok(())
     }
@@ -156,4 +174,11 @@ impl Release {
     {
         discard_all(&mut self.files);
     }
+}
+
+/// A copy of these bytes.
+fn text_of(alloc: Global, bytes: &[u8]) -> Result<Text, Memory>
+    ensures { IfOk result (λ text. text ≡ bytes.now) }
+{
+    Ok(ListOf::from_vec(Vec::from_slice(alloc, bytes)?))
 }

@@ -6,16 +6,44 @@ use std::alloc::Global;
 use std::test::Fail;
 use ucd_model::{Memory, Row, SourceFile, Text, file_limit};
 
-/// Whether a file is answered so, and keeps its bytes where it loads and none where it does not.
+/// Whether a file is answered so, of its bytes and of its text, and keeps its bytes where it loads and none where it does
+/// not.
 fn is_answered(
     alloc: Global,
     file: SourceFile,
     bytes: &[u8],
     expected: Result<(), LoadStop>,
 ) -> Result<bool, Memory> {
-    let mut release = Release::empty(alloc);
     let kept = if expected.is_ok() { bytes } else { b"" };
-    let answered = release.load_file(file, bytes) == expected;
+    let copied = bytes_are_answered(alloc, file, bytes, &expected, kept)?;
+    let moved = text_is_answered(alloc, file, bytes, &expected, kept)?;
+    Ok(copied && moved)
+}
+
+/// Whether bytes that are loaded are answered so, and the file has these bytes then.
+fn bytes_are_answered(
+    alloc: Global,
+    file: SourceFile,
+    bytes: &[u8],
+    expected: &Result<(), LoadStop>,
+    kept: &[u8],
+) -> Result<bool, Memory> {
+    let mut release = Release::empty(alloc);
+    let answered = release.load_file(file, bytes) == *expected;
+    Ok(answered && release.text(alloc, file)?.as_slice() == kept)
+}
+
+/// The same of a text of these bytes that is moved into the release.
+fn text_is_answered(
+    alloc: Global,
+    file: SourceFile,
+    bytes: &[u8],
+    expected: &Result<(), LoadStop>,
+    kept: &[u8],
+) -> Result<bool, Memory> {
+    let text = Text::from_vec(Vec::from_slice(alloc, bytes)?);
+    let mut release = Release::empty(alloc);
+    let answered = release.load_text(file, text) == *expected;
     Ok(answered && release.text(alloc, file)?.as_slice() == kept)
 }
 

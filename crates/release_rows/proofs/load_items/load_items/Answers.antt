@@ -14,7 +14,7 @@ same_items c =
     let items = c.into_items-items.result in
     let by_text : List ℕ → List FileItem = λ t. map (stored_at c.args.file t) (now_in items) in
     let by_file : SourceFile → List FileItem = λ f. map (stored_at f c.pieces.loading.text.now) (now_in items) in
-    c.new.ensures.now ∙ ap by_text (c.in_ok-text.ensures ∙ sym c.pieces.invariant.text) ∙ ap by_file (sym c.pieces.invariant.file) ∙ c.into_items-items.ensures.items
+    c.new.ensures.now ∙ ap by_text (sym c.pieces.invariant.text) ∙ ap by_file (sym c.pieces.invariant.file) ∙ c.into_items-items.ensures.items
 
 pub returns-clause-answer : goal.returns-clause-answer
 returns-clause-answer c =
@@ -23,9 +23,9 @@ returns-clause-answer c =
 pub returns-clause-sound : goal.returns-clause-sound
 returns-clause-sound c =
     let whole = at_end c.args.file (items_above c.pieces.loading) c.new.result.now _ _ c.pieces.invariant.whole c.in_default.ensures.piece (same_items c) in
-    (c.loaded_files_are_sound.ensures c.args.file c.args.bytes.now c.new.result.now whole).0
+    (c.loaded_files_are_sound.ensures c.args.file c.args.text c.new.result.now whole).0
 
 pub returns-clause-lossless : goal.returns-clause-lossless
 returns-clause-lossless c =
     let whole = at_end c.args.file (items_above c.pieces.loading) c.new.result.now _ _ c.pieces.invariant.whole c.in_default.ensures.piece (same_items c) in
-    items_join c.args.file c.args.bytes.now c.new.result.now (ap joined (sym c.items-lines.ensures.lines) ∙ c.items-lines.ensures.joined) whole
+    items_join c.args.file c.args.text c.new.result.now (rw c.as_slice-bytes.ensures at (ap joined (sym c.items-lines.ensures.lines) ∙ c.items-lines.ensures.joined)) whole

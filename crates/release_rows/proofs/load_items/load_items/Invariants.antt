@@ -11,10 +11,10 @@ abbrev pub invariant-pieces : goal.invariant-pieces
 invariant-pieces l = record {
   sound : IsSound l.loading;
   file : l.loading.file ≡ l.file;
-  text : l.loading.text.now ≡ l.bytes;
-  whole : items_or_fault l.file (items_above l.loading) (pieces l.file l.lines) ≡ file_or_fault l.file l.bytes;
-  stands : bytes_of (items_above l.loading) ++ joined l.lines ≡ l.bytes;
-  fits : lines_of (items_above l.loading) + length l.lines ≤ length l.bytes;
+  text : l.loading.text.now ≡ l.fn.text;
+  whole : items_or_fault l.file (items_above l.loading) (pieces l.file l.lines) ≡ file_or_fault l.file l.fn.text;
+  stands : bytes_of (items_above l.loading) ++ joined l.lines ≡ l.fn.text;
+  fits : lines_of (items_above l.loading) + length l.lines ≤ length l.fn.text;
 }
 
 abbrev pub decreases-pieces : goal.decreases-pieces

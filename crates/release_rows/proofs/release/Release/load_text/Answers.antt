@@ -4,7 +4,7 @@ use Rattle.release_rows.specs.FileItems.{FileItem, bytes_of}
 use Rattle.release_rows.specs.Loading.{load_or_fault}
 use Rattle.release_rows.specs.Releases.{AreSound, ReleaseItems, items_now, files_now, files_next}
 use Rattle.release_rows.proofs.Files.{files_with, now_with, next_with, kept_with, release_with}
-use Rattle.release_rows.proofs.release.Release.load_file.Goals as goal
+use Rattle.release_rows.proofs.release.Release.load_text.Goals as goal
 
 pub invariant_of-self : goal.invariant_of-self
 invariant_of-self c =
@@ -18,14 +18,14 @@ invariant_of-self c =
 -- what is loaded stands in the file, now and next
 pub returns-clause-answer : goal.returns-clause-answer
 returns-clause-answer c =
-    let loads : load_or_fault c.args.file c.args.bytes.now ≡ Ok c.in_ok-items.items.now = search (rules, c.in_ok-items.ensures.answer.0) in
+    let loads : load_or_fault c.args.file c.args.text ≡ Ok c.in_ok-items.items.now = search (rules, c.in_ok-items.ensures.answer.0) in
     rw (loads, c.put.ensures, ← c.self.view_is) (release_with c.self.inside.files c.args.file c.in_ok-items.items c.in_ok-items.ensures.answer.1)
 
 pub returns-clause-items : goal.returns-clause-items
 returns-clause-items c =
     let files = c.self.inside.files in
     let lists = c.in_ok-items.items in
-    let loads : load_or_fault c.args.file c.args.bytes.now ≡ Ok lists.now = search (rules, c.in_ok-items.ensures.answer.0) in
+    let loads : load_or_fault c.args.file c.args.text ≡ Ok lists.now = search (rules, c.in_ok-items.ensures.answer.0) in
     rw (c.put.ensures, now_with files c.args.file lists)
     (loads ∙ ap (λ (items : List FileItem). Ok items) (sym (items_at-with_items_same (files_now files) c.args.file lists.now c.self.invariant.0.nine)))
 

@@ -8,8 +8,10 @@ use Rattle.ucd_model.specs.declared.files.SourceFile.TheVariants.{UnicodeData}
 use Rattle.release_rows.specs.FileItems.{FileItem}
 use Rattle.release_rows.specs.Releases.{ReleaseItems, items_at, items_now}
 use Rattle.edit_session.specs.Benches.{HasNothingPrepared}
-use Rattle.ucdshop_core.specs.Judging.{JudgedAs, Loads, LoadsFile}
+use Rattle.ucdshop_core.specs.Judging.{JudgedAs, Keeps, Loads, LoadsFile, given_source}
 use Rattle.ucdshop_core.specs.Verdict.{and_then, all_items}
+use Rattle.ucdshop_core.specs.declared.given.Given.{Given}
+use Rattle.ucdshop_core.specs.declared.refusal.Folder.{Folder}
 use Rattle.ucdshop_core.specs.declared.refusal.Refusal.{Refusal}
 use Rattle.ucdshop_core.specs.declared.refusal.JudgeStop.{JudgeStop}
 use Rattle.ucdshop_core.specs.declared.refusal.JudgeStop.TheVariants.{Refused, Memory}
@@ -91,3 +93,27 @@ pub judged_stop : (v : Verdict) (at : ℕ) (release old new : ReleaseItems) (sto
     → JudgedAs {A = ReleaseItems} (λ r. r.current) (Err stop) (all_items v source_files)
 judged_stop v at release old new (Refused refusal) lt loaded h = first_refused v at release refusal lt loaded h
 judged_stop v at release old new Memory lt loaded h = tt
+
+-- ---- texts that move
+
+-- files from a place on are given as they were, and so is all that is not of this folder
+pub record MovesTo (old new : Given) (folder : Folder) (at : ℕ) : Type 0 where
+  pub ahead : (file : SourceFile) → at ≤ file_place file → given_source new folder file ≡ given_source old folder file
+  pub keeps : Keeps (λ other _. other ≡ folder) old new
+
+pub nothing_moves : (given : Given) (folder : Folder) → MovesTo given given folder 0
+nothing_moves given folder = record {
+  ahead = λ file above. refl;
+  keeps = record { sources = λ other file apart. refl; script = refl; made = λ number is. is };
+}
+
+pub moves_on : (old now new : Given) (folder : Folder) (at : ℕ) → at < 9 → MovesTo old now folder at → Keeps (λ other path. (other ≡ folder) × (path ≡ file_at at)) now new → MovesTo old new folder (at + 1)
+moves_on old now new folder at lt before step = record {
+  ahead = λ file above.
+      step.sources folder file (λ p. absurd (omega (arith, ap file_place p.1 ∙ file_place-at at lt))) ∙ before.ahead file (omega arith);
+  keeps = record {
+    sources = λ other file apart. step.sources other file (λ p. apart p.0) ∙ before.keeps.sources other file apart;
+    script = step.script ∙ before.keeps.script;
+    made = λ number is. step.made number (before.keeps.made number is);
+  };
+}

@@ -7,6 +7,7 @@
 -- given_source given folder file  what is given of a source file of a folder: what is held of it, or the text that is made. No earlier
 --                                 release is made
 -- given_script given              what is given of the script: what is held of it, or the script that is made
+-- Keeps IsMoved old new           what is given of the script, and of each source file that is not moved, stays; what is made stays whole
 -- given_verdict job given         what these give, or why they are refused
 -- behind_verdict job given files  what these give behind the release, whose files are these: with the commands and the earlier release
 -- earlier_inputs job given files commands   the same behind the commands: with the earlier release
@@ -14,6 +15,7 @@
 -- ReadAs given tells held         what is given was read, and is this, where the shelf tells what it holds
 -- inputs_of inputs                what the benches' files and the commands stand for
 -- JudgedAs view result expected   a result, seen by view, is what was expected; want of memory says nothing
+-- FaultyBy folder file stop why    a refusal of a file by the line and the rule that it does not load by; want of memory says nothing
 -- BreaksBy folder stop why        a refusal of the release of a folder by the code point and the rule that have no bench; want of memory
 --                                 says nothing
 -- Loads file expected old new     the file has the items that were expected, all other files and their number stay, and nothing is
@@ -38,7 +40,9 @@ use Rattle.ucdshop_core.specs.declared.inputs.Inputs.{Inputs as InputsMade}
 use Rattle.ucdshop_core.specs.declared.refusal.Folder.{Folder}
 use Rattle.ucdshop_core.specs.declared.refusal.Folder.TheVariants.{Data, Previous}
 use Rattle.ucdshop_core.specs.declared.refusal.Refusal.{Refusal}
-use Rattle.ucdshop_core.specs.declared.refusal.Refusal.TheVariants.{Point}
+use Rattle.release_rows.specs.declared.load_stop.LoadStop.{LoadStop}
+use Rattle.release_rows.specs.declared.load_stop.LoadStop.TheVariants.{Fault, Memory as LoadMemory}
+use Rattle.ucdshop_core.specs.declared.refusal.Refusal.TheVariants.{FileLine, Point}
 use Rattle.ucdshop_core.specs.declared.refusal.JudgeStop.{JudgeStop}
 use Rattle.ucdshop_core.specs.declared.refusal.JudgeStop.TheVariants.{Refused, Memory}
 
@@ -63,6 +67,11 @@ given_source (Made number) Previous file = None
 abbrev pub given_script : Given → Option (List ℕ)
 given_script (Read held) = script_held held.items
 given_script (Made number) = Some script_text
+
+pub record Keeps (IsMoved : Folder → SourceFile → Type 0) (old new : Given) : Type 0 where
+  pub sources : (folder : Folder) (file : SourceFile) → ¬ IsMoved folder file → given_source new folder file ≡ given_source old folder file
+  pub script : given_script new ≡ given_script old
+  pub made : (number : ℕ) → old ≡ Made number → new ≡ Made number
 
 abbrev pub given_verdict : Job → Given → Result Inputs Refusal
 given_verdict job given = inputs_verdict job (given_source given Data) (given_script given) (given_source given Previous)
@@ -96,6 +105,11 @@ abbrev pub BreaksBy : Folder → JudgeStop → OpenStop → Type 0
 BreaksBy folder (Refused refusal) (Invalid rule point) = refusal ≡ Point folder (record { point = point; rule = rule })
 BreaksBy folder Memory stop = ⊤
 BreaksBy folder _ stop = ⊥
+
+abbrev pub FaultyBy : Folder → SourceFile → JudgeStop → LoadStop → Type 0
+FaultyBy folder file (Refused refusal) (Fault line rule) = refusal ≡ FileLine folder file line rule
+FaultyBy folder file Memory LoadMemory = ⊤
+FaultyBy folder file _ stop = ⊥
 
 pub record Loads (file : SourceFile) (expected : Result (List FileItem) Refusal) (old new : ReleaseItems) : Type 0 where
   pub items : expected ≡ Ok (items_now new file)

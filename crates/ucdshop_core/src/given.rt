@@ -1,6 +1,6 @@
 //! The texts that a run works on.
 
-ghost use Rattle.std.specs.Prelude.{◌≡◌};
+ghost use Rattle.std.specs.Prelude.{◌≡◌, ◌≢◌, ℕ};
 ghost use Rattle.std.specs.Option.{option_map};
 ghost use Rattle.ucdshop_core.specs.Judging.{given_script, given_source, held_at, held_place};
 ghost use Rattle.ucdshop_core.specs.declared.given.Given.TheVariants.{Made as MadeOf};
@@ -19,17 +19,6 @@ pub enum Given {
 }
 
 impl Given {
-    /// What a source file of a folder holds; `None` where nothing is held at its path, or the folder is not read. No earlier
-    /// release is made.
-    pub fn source(&self, folder: Folder, file: SourceFile) -> Option<&[u8]>
-        ensures { option_map (λ bytes. bytes.now) result ≡ given_source self.now folder file }
-    {
-        match self {
-            Given::Read(held) => held_at(held.as_slice(), held_place(folder, file)),
-            Given::Made(made) => made_source(made, folder, file),
-        }
-    }
-
     /// What the script holds; `None` where nothing is held at its path, or no path of a script is read.
     pub fn script(&self) -> Option<&[u8]>
         ensures { option_map (λ bytes. bytes.now) result ≡ given_script self.now }
@@ -42,7 +31,7 @@ impl Given {
 }
 
 /// The place of a source file of a folder; those of the earlier release stand behind the script.
-fn held_place(folder: Folder, file: SourceFile) -> usize
+pub fn held_place(folder: Folder, file: SourceFile) -> usize
     ensures { result ≡ held_place folder file }
 {
     match folder {
@@ -52,7 +41,7 @@ fn held_place(folder: Folder, file: SourceFile) -> usize
 }
 
 /// The text of a source file that is made; `None` of an earlier release.
-fn made_source(made: &Made, folder: Folder, file: SourceFile) -> Option<&[u8]>
+pub fn made_source(made: &Made, folder: Folder, file: SourceFile) -> Option<&[u8]>
     ensures { option_map (λ bytes. bytes.now) result ≡ given_source (MadeOf made.now) folder file }
 {
     match folder {
@@ -69,4 +58,15 @@ fn held_at(held: &[Option<Text>], at: usize) -> Option<&[u8]>
         Some(Some(text)) => Some(text.as_slice()),
         _ => None,
     }
+}
+
+/// Takes what is held at a place; `None` where nothing is, and past the last. Nothing is held there any longer.
+pub fn take_held(held: &mut Vec<Option<Text>>, at: usize) -> Option<Text>
+    ensures taken { result ≡ held_at held.old.items at }
+    ensures others { (k : ℕ) → k ≢ at → held_at held.new.items k ≡ held_at held.old.items k }
+{
+    if at < held.len() {
+        return held[at].take();
+    }
+    None
 }

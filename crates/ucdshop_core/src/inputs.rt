@@ -1,6 +1,6 @@
 //! What the texts that a run works on give.
 
-ghost use Rattle.std.specs.Prelude.{◌≡◌, ◌+◌, ◌≤◌, [], IfOk};
+ghost use Rattle.std.specs.Prelude.{◌≡◌, ℕ, ◌+◌, ◌≤◌, [], IfOk};
 ghost use Rattle.std.specs.Option.{option_map};
 ghost use Rattle.std.specs.List.{All};
 ghost use Rattle.ucd_model.specs.Limits.{point_count};
@@ -8,6 +8,7 @@ ghost use Rattle.ucdshop_core.specs.Commands.{job_of};
 ghost use Rattle.ucdshop_core.specs.Counting.{opened_limit};
 ghost use Rattle.ucdshop_core.specs.Judging.{JudgedAs, behind_verdict, earlier_inputs, given_script, given_source, given_verdict, inputs_of};
 ghost use Rattle.ucdshop_core.specs.Run.{commands_verdict, earlier_verdict};
+ghost use Rattle.ucdshop_core.specs.declared.given.Given.TheVariants.{Made as MadeOf};
 ghost use Rattle.ucdshop_core.specs.declared.refusal.Folder.TheVariants.{Previous};
 ghost use Rattle.script_lines.specs.Groups.{IsReady};
 
@@ -33,7 +34,7 @@ pub struct Inputs {
     pub earlier: Option<Bench>,
 }
 
-/// Judges what is given to a command. The counter of steps rises by at most the number of code points for each
+/// Judges what is given to a command. Texts of source files that were read move into the benches. The counter of steps rises by at most the number of code points for each
 /// release that the command names.
 ///
 /// - `Refused(refusal)`: the first of these is refused: a source file, a code point, the script, a source file of the earlier
@@ -43,11 +44,12 @@ pub struct Inputs {
 pub fn judge_inputs<L: Ledger>(
     alloc: Global,
     command: Command<'_>,
-    given: &Given,
+    given: &mut Given,
     steps: &mut Steps<L>,
 ) -> Result<Inputs, JudgeStop>
-    ensures inputs { JudgedAs inputs_of result (given_verdict (job_of command.entry) given.now) }
+    ensures inputs { JudgedAs inputs_of result (given_verdict (job_of command.entry) given.old) }
     ensures commands { IfOk result (λ inputs. All IsReady inputs.commands) }
+    ensures made { (number : ℕ) → given.old ≡ MadeOf number → given.new ≡ MadeOf number }
     ensures steps { steps.new ≤ steps.old + opened_limit (job_of command.entry) }
 {
     let bench = judge_release(alloc, given, Folder::Data, steps)?;
@@ -59,12 +61,13 @@ pub fn judge_inputs<L: Ledger>(
 fn judge_behind<L: Ledger>(
     alloc: Global,
     command: Command<'_>,
-    given: &Given,
+    given: &mut Given,
     bench: Bench,
     steps: &mut Steps<L>,
 ) -> Result<Inputs, JudgeStop>
-    ensures inputs { JudgedAs inputs_of result (behind_verdict (job_of command.entry) given.now bench.current) }
+    ensures inputs { JudgedAs inputs_of result (behind_verdict (job_of command.entry) given.old bench.current) }
     ensures commands { IfOk result (λ inputs. All IsReady inputs.commands) }
+    ensures made { (number : ℕ) → given.old ≡ MadeOf number → given.new ≡ MadeOf number }
     ensures steps { steps.new + point_count ≤ steps.old + opened_limit (job_of command.entry) }
 {
     match judge_commands(alloc, command, given) {
@@ -78,14 +81,15 @@ fn judge_behind<L: Ledger>(
 fn with_earlier<L: Ledger>(
     alloc: Global,
     command: Command<'_>,
-    given: &Given,
+    given: &mut Given,
     bench: Bench,
     commands: Commands,
     steps: &mut Steps<L>,
 ) -> Result<Inputs, JudgeStop>
     requires { All IsReady commands }
-    ensures inputs { JudgedAs inputs_of result (earlier_inputs (job_of command.entry) given.now bench.current commands) }
+    ensures inputs { JudgedAs inputs_of result (earlier_inputs (job_of command.entry) given.old bench.current commands) }
     ensures commands { IfOk result (λ inputs. All IsReady inputs.commands) }
+    ensures made { (number : ℕ) → given.old ≡ MadeOf number → given.new ≡ MadeOf number }
     ensures steps { steps.new + point_count ≤ steps.old + opened_limit (job_of command.entry) }
 {
     match judge_earlier(alloc, command, given, steps) {
@@ -102,10 +106,11 @@ fn with_earlier<L: Ledger>(
 fn judge_earlier<L: Ledger>(
     alloc: Global,
     command: Command<'_>,
-    given: &Given,
+    given: &mut Given,
     steps: &mut Steps<L>,
 ) -> Result<Option<Bench>, JudgeStop>
-    ensures earlier { JudgedAs (λ earlier. option_map (λ bench. bench.current) earlier) result (earlier_verdict (job_of command.entry) (given_source given.now Previous)) }
+    ensures earlier { JudgedAs (λ earlier. option_map (λ bench. bench.current) earlier) result (earlier_verdict (job_of command.entry) (given_source given.old Previous)) }
+    ensures made { (number : ℕ) → given.old ≡ MadeOf number → given.new ≡ MadeOf number }
     ensures steps { steps.new + point_count ≤ steps.old + opened_limit (job_of command.entry) }
 {
     match command {

@@ -153,12 +153,12 @@ fn told_refusal(alloc: Global, command: Command<'_>, refusal: Refusal) -> Result
 fn given_plan<L: Ledger>(
     alloc: Global,
     command: Command<'_>,
-    given: &Given,
+    given: &mut Given,
     steps: &mut Steps<L>,
 ) -> Result<Plan, Stop>
-    requires { AreFor given.now (job_of command) }
-    ensures plan { PlansAs result (judged (job_of command.entry) (given_verdict (job_of command.entry) given.now)) }
-    ensures counts { VerdictCounts (job_of command.entry) (given_verdict (job_of command.entry) given.now) steps.old steps.new }
+    requires { AreFor given.old (job_of command) }
+    ensures plan { PlansAs result (judged (job_of command.entry) (given_verdict (job_of command.entry) given.old)) }
+    ensures counts { VerdictCounts (job_of command.entry) (given_verdict (job_of command.entry) given.old) steps.old steps.new }
     ensures steps { MayStep (job_of command.entry) steps.old steps.new }
 {
     match judge_inputs(alloc, command, given, steps) {
@@ -245,8 +245,8 @@ pub fn prepare<S: Shelf, L: Ledger>(
     ensures steps { MayStep (job_of command.entry) steps.old steps.new }
 {
     let plan = {
-        let given = given_texts(alloc, command, shelf)?;
-        given_plan(alloc, command, &given, steps)?
+        let mut given = given_texts(alloc, command, shelf)?;
+        given_plan(alloc, command, &mut given, steps)?
     };
     make_room(shelf, &plan)?;
     Ok(plan)

@@ -1,27 +1,23 @@
-use Rattle.std.proofs.Common.{◌≡◌, ℕ, subst, arith}
-use Rattle.std.proofs.lemmas.Result.{err_from_is_err_and}
+use Rattle.std.proofs.Common.{◌≡◌, ℕ, List, Option, ap, subst, ◌∙◌, arith}
+use Rattle.ucd_model.specs.SourceFiles.{file_at, file_place-at}
 use Rattle.ucd_model.specs.declared.files.SourceFile.{SourceFile}
-use Rattle.ucdshop_core.specs.Judging.{given_source}
+use Rattle.ucdshop_core.specs.Judging.{Loads, given_source}
 use Rattle.ucdshop_core.specs.Verdict.{file_verdict}
-use Rattle.ucdshop_core.proofs.LoadingLemmas.{IsLoadedTo, all_loaded, judged_stop, loaded_to_next}
+use Rattle.ucdshop_core.proofs.LoadingLemmas.{IsLoadedTo, all_loaded, loaded_to_next, moves_on}
 use Rattle.ucdshop_core.proofs.judging.judge.Goals as goal
 
 pub files-preserved : goal.files-preserved
 files-preserved c =
-    loaded_to_next (λ f. file_verdict c.args.folder f (given_source c.args.given.now c.args.folder f)) c.files.at c.files.release c.load_given.new.release (omega arith) c.files.invariant
-    (rw c.source.ensures at c.in_ok-load_given.ensures)
-
-pub returns-in_err-load_given-clause-files : goal.returns-in_err-load_given-clause-files
-returns-in_err-load_given-clause-files c =
-    let p = err_from_is_err_and c.from_residual.result c.from_residual.ensures.1 in
-    rw (p.1, p.2) (judged_stop (λ f. file_verdict c.args.folder f (given_source c.args.given.now c.args.folder f)) c.files.at c.files.release _ _ _ (omega arith) c.files.invariant
-    (rw c.source.ensures at c.in_err-load_given.ensures))
+    let at = c.files.at in
+    let here = c.files.invariant.moves.ahead (file_at at) (omega (arith, file_place-at at (omega arith))) in
+    record {
+      loaded = loaded_to_next (λ f. file_verdict c.args.folder f (given_source c.args.given.now c.args.folder f)) at c.files.release c.load_given.new.release (omega arith) c.files.invariant.loaded
+          (subst (λ (given : Option (List ℕ)). Loads (file_at at) (file_verdict c.args.folder (file_at at) given) c.files.release c.load_given.new.release) here c.in_ok-load_given.ensures.loads);
+      moves = moves_on c.args.given.now c.files.given c.load_given.new.given c.args.folder at (omega arith) c.files.invariant.moves c.in_ok-load_given.ensures.given;
+    }
 
 pub returns-clause-files : goal.returns-clause-files
 returns-clause-files c =
     let done : c.files.at ≡ 9 = omega (arith, c.files-test.false, c.files.auto.at-end) in
     let v = λ (f : SourceFile). file_verdict c.args.folder f (given_source c.args.given.now c.args.folder f) in
-    all_loaded v c.files.release (subst (λ (n : ℕ). IsLoadedTo v n c.files.release) done c.files.invariant)
-
-pub returns-clause-still : goal.returns-clause-still
-returns-clause-still c = c.files.invariant.still
+    all_loaded v c.files.release (subst (λ (n : ℕ). IsLoadedTo v n c.files.release) done c.files.invariant.loaded)

@@ -14,6 +14,7 @@ pub mod Operations
 pub mod Touched
 pub mod MeetingRows
 pub mod MeetingEntries
+pub mod SpanOrder
 pub mod Unchanged
 pub mod Order
 pub mod Loads

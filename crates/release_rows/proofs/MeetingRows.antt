@@ -93,6 +93,10 @@ rows_met file text spans (e ∷ items) read ok stored code =
         ∙ sym (split ∙ ap (λ (rows : List Row). rows ++ filter (meets spans) left) (here true test)))
     by false test rest = rw test (rest ∙ sym (split ∙ ap (λ (rows : List Row). rows ++ filter (meets spans) left) (here false test)))
 
+-- spans that share code points with the same ones are met by the same rows
+pub meets_alike : (spans others : List Bounds) → ((own : Bounds) → list_any (spans_meet own) spans ≡ list_any (spans_meet own) others) → (rows : List Row) → filter (meets spans) rows ≡ filter (meets others) rows
+meets_alike spans others alike rows = λ i. filter (λ row. list_any (λ own. alike own i) (row_spans row)) rows
+
 -- no row of names meets a span
 pub none_met : (file : SourceFile) (text : List ℕ) (spans : List Bounds) (items : List (Spanned Stretch)) → RowsAreRead → RowsAreOk → All (IsStored file text) items → has_code file ≡ false
     → [] ≡ filter (meets spans) (rows_in (map (stored_at file text) items))

@@ -21,6 +21,7 @@ pub mod Finding
 pub mod OperationLaws
 pub mod Touching
 pub mod Meetings
+pub mod SpanOrders
 pub mod TouchingProofs
 pub mod Unchanged
 pub mod Laws

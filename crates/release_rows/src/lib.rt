@@ -28,6 +28,7 @@ mod row_key;
 mod row_text;
 mod run;
 mod search;
+mod span_order;
 mod stored_row;
 mod stretch;
 mod touching;

@@ -10,6 +10,7 @@ ghost use Rattle.release_rows.specs.Touching.{meets};
 use crate::meeting::Meeting;
 use crate::op_spans::has_code;
 use crate::row_text::RowText;
+use crate::span_order::SpanOrder;
 use crate::stretch::{Stretch, content_in};
 use part_list::{PartList, Passing, Spanned};
 use source_rows::{rows_are_ok, rows_are_read};
@@ -75,6 +76,7 @@ pub fn touching_rows<'a>(
     if !has_code(file) {
         return Ok(Vec::new(alloc));
     }
-    let meeting = Meeting { spans };
+    let order = SpanOrder::new(alloc, spans)?;
+    let meeting = Meeting { spans: &order };
     passing_rows(alloc, file, text, items.passing(&meeting))
 }

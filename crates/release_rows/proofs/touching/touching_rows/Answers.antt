@@ -8,7 +8,7 @@ use Rattle.release_rows.specs.FileItems.{rows_in}
 use Rattle.release_rows.specs.Meetings.{entry_meets}
 use Rattle.release_rows.specs.StoredItems.{stored_at, IsStored}
 use Rattle.release_rows.specs.declared.stretch.Stretch.{Stretch}
-use Rattle.release_rows.proofs.MeetingRows.{rows_met, none_met}
+use Rattle.release_rows.proofs.MeetingRows.{rows_met, none_met, meets_alike}
 use Rattle.release_rows.proofs.touching.touching_rows.Goals as goal
 
 pub returns-then-not-has_code : goal.returns-then-not-has_code
@@ -17,13 +17,15 @@ returns-then-not-has_code c =
     c.new.ensures.items ∙ none_met c.args.file c.args.text.now c.args.spans.now (next_in c.args.items.now) c.rows_are_read.ensures c.rows_are_ok.ensures c.requires code
 
 pub passing_rows-requires : goal.passing_rows-requires
-passing_rows-requires c = rw c.passing.ensures (All-filter (entry_meets c.args.spans.now) (IsStored c.args.file c.args.text.now) (next_in c.args.items.now) c.requires)
+passing_rows-requires c = rw c.passing.ensures (All-filter (entry_meets c.in_ok-order.order) (IsStored c.args.file c.args.text.now) (next_in c.args.items.now) c.requires)
 
 -- the rows of the entries that meet the spans are the rows that meet them
 pub returns : goal.returns
 returns c =
     let code : has_code c.args.file ≡ true = sym c.has_code.ensures ∙ c.if-not-has_code.false in
+    let rows = rows_in (map (stored_at c.args.file c.args.text.now) (next_in c.args.items.now)) in
     let same =
     ap (λ (xs : List (Spanned Stretch)). rows_in (map (stored_at c.args.file c.args.text.now) xs)) c.passing.ensures
-    ∙ rows_met c.args.file c.args.text.now c.args.spans.now (next_in c.args.items.now) c.rows_are_read.ensures c.rows_are_ok.ensures c.requires code in
+    ∙ rows_met c.args.file c.args.text.now c.in_ok-order.order (next_in c.args.items.now) c.rows_are_read.ensures c.rows_are_ok.ensures c.requires code
+    ∙ meets_alike c.in_ok-order.order c.args.spans.now c.in_ok-order.ensures rows in
     IfOk-weaker c.passing_rows.result _ _ (λ rows is. is ∙ same) c.passing_rows.ensures

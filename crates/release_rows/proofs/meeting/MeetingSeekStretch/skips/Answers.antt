@@ -9,4 +9,4 @@ is_false false h = refl
 -- an entry within the bounds is no wider than they are
 pub returns : goal.returns
 returns c skipped entry within =
-    misses_all entry.code entry.last c.args.reach.least c.args.reach.most c.args.self.now.spans.now within.least within.last (sym c.meets_some.ensures ∙ is_false c.meets_some.result skipped)
+    misses_all entry.code entry.last c.args.reach.least c.args.reach.most c.args.self.now.spans.now within.least within.last (sym c.meets.ensures ∙ is_false c.meets.result skipped)

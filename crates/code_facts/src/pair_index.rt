@@ -27,8 +27,8 @@ impl PairIndex {
     {
         let PairKeys { pairs, seconds } = keys;
         PairIndex {
-            pairs: set_of(alloc, pairs),
-            seconds: set_of(alloc, seconds),
+            pairs: KeySet::of(alloc, pairs),
+            seconds: KeySet::of(alloc, seconds),
         }
     }
 
@@ -71,14 +71,6 @@ impl PairIndex {
             None
         }
     }
-}
-
-/// The set of the keys of a list, whose spare room is given back.
-fn set_of(alloc: Global, mut keys: Vec<u64>) -> KeySet
-    ensures { (k : ℕ) → has result k ≡ is_in keys.items k }
-{
-    keys.shrink_to_fit();
-    KeySet::of(alloc, keys)
 }
 
 /// Puts keys in. On failure some of them may be in.

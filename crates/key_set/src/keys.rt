@@ -23,7 +23,8 @@ impl KeySet {
         }
     }
 
-    /// The set of the keys of a list, which may repeat some. It takes no memory, and sorts the list.
+    /// The set of the keys of a list, which may repeat some. It takes no memory, sorts the list, and
+    /// gives back the room that no key takes up.
     #[tactic(auto, unfolding(crate::specs::Keys::has))]
     pub fn of(alloc: Global, keys: Vec<u64>) -> KeySet
         ensures { (k : ℕ) → has result k ≡ is_in keys.items k }
@@ -59,13 +60,14 @@ impl KeySet {
     }
 }
 
-/// The numbers of a list in ascending order, each of them once. It takes no memory.
+/// The numbers of a list in ascending order, each of them once. It takes no memory, and gives back what is spare.
 fn ascending(mut keys: Vec<u64>) -> Vec<u64>
     ensures same { (k : ℕ) → is_in result.items k ≡ is_in keys.items k }
     ensures ascends { IsStrictlyIncreasing result.items }
 {
     keys.sort_unstable();
     keys.dedup();
+    keys.shrink_to_fit();
     keys
 }
 

@@ -8,13 +8,13 @@ use Rattle.key_set.specs.Keys.{is_in}
 use Rattle.key_set.proofs.KeyLemmas.{kept_by_dedup}
 use Rattle.key_set.proofs.keys.ascending.Goals as goal
 
-left : (c : goal.After-dedup) → c.dedup.new.self.items ≡ dedup eqb c.sort_unstable.new.self.items
+left : (c : goal.After-shrink_to_fit) → c.dedup.new.self.items ≡ dedup eqb c.sort_unstable.new.self.items
 left c = dedup_is eqb c.sort_unstable.new.self.items c.dedup.new.self.items c.dedup.ensures.filtered
 
 pub returns-clause-same : goal.returns-clause-same
-returns-clause-same c = λ k. ap (λ l. is_in l k) (left c)
+returns-clause-same c = λ k. ap (λ l. is_in l k) (c.shrink_to_fit.ensures.items ∙ left c)
     ∙ kept_by_dedup c.sort_unstable.new.self.items k
     ∙ sym (list_any-IsPermutation (λ y. eqb k y) c.args.keys.items c.sort_unstable.new.self.items c.sort_unstable.ensures.permutation)
 
 pub returns-clause-ascends : goal.returns-clause-ascends
-returns-clause-ascends c = subst IsStrictlyIncreasing (sym (left c)) (IsStrictlyIncreasing-dedup c.sort_unstable.new.self.items c.sort_unstable.ensures.sorted)
+returns-clause-ascends c = subst IsStrictlyIncreasing (sym (c.shrink_to_fit.ensures.items ∙ left c)) (IsStrictlyIncreasing-dedup c.sort_unstable.new.self.items c.sort_unstable.ensures.sorted)

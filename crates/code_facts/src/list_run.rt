@@ -9,6 +9,6 @@ pub struct ListRun<'a> {
     pub points: &'a [Point],
     /// The last code point of the stretch.
     pub last: Point,
-    /// The index of the run that it is in, counted from 0.
+    /// Where to look for the stretch behind this one first. No answer depends on it.
     pub index: usize,
 }

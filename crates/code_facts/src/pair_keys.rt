@@ -6,7 +6,7 @@
 //! | 21 to 41 | the second member |
 //! | 42 to 62 | the first member, in the keys of pairs |
 
-ghost use Rattle.std.specs.Prelude.{◌≡◌, ℕ, ◌<◌, ◌≤◌, true, OnOk};
+ghost use Rattle.std.specs.Prelude.{◌≡◌, ℕ, ◌<◌, ◌≤◌, [], true, OnOk};
 ghost use Rattle.key_set.specs.Keys.{is_in};
 ghost use Rattle.code_facts.specs.Index.{pair_key, second_key, is_gathered};
 
@@ -25,7 +25,10 @@ pub struct PairKeys {
 
 impl PairKeys {
     /// No keys. It takes no memory.
-    pub fn new(alloc: Global) -> PairKeys {
+    pub fn new(alloc: Global) -> PairKeys
+        ensures pairs { result.pairs.items ≡ [] }
+        ensures seconds { result.seconds.items ≡ [] }
+    {
         PairKeys {
             pairs: Vec::new(alloc),
             seconds: Vec::new(alloc),

@@ -9,6 +9,6 @@ pub struct Run<V> {
     pub value: V,
     /// The last code point of the run.
     pub last: Point,
-    /// The index of the run, counted from 0.
+    /// Where to look for the run behind this one first. No answer depends on it.
     pub index: usize,
 }

@@ -1,6 +1,6 @@
 //! The texts that a run works on.
 
-ghost use Rattle.std.specs.Prelude.{◌≡◌, ◌≢◌, ℕ};
+ghost use Rattle.std.specs.Prelude.{◌≡◌, ◌≢◌, ℕ, None};
 ghost use Rattle.std.specs.Option.{option_map};
 ghost use Rattle.ucdshop_core.specs.Judging.{given_script, given_source, held_at, held_place};
 ghost use Rattle.ucdshop_core.specs.declared.given.Given.TheVariants.{Made as MadeOf};
@@ -63,6 +63,7 @@ fn held_at(held: &[Option<Text>], at: usize) -> Option<&[u8]>
 /// Takes what is held at a place; `None` where nothing is, and past the last. Nothing is held there any longer.
 pub fn take_held(held: &mut Vec<Option<Text>>, at: usize) -> Option<Text>
     ensures taken { result ≡ held_at held.old.items at }
+    ensures emptied { held_at held.new.items at ≡ None }
     ensures others { (k : ℕ) → k ≢ at → held_at held.new.items k ≡ held_at held.old.items k }
 {
     if at < held.len() {

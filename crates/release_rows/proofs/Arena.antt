@@ -22,7 +22,7 @@ still_stored file text more e h =
     let fits = h.item.fits in
     let longer = length-append text more in
     record {
-      item = record { fits = omega arith; some = h.item.some; few = h.item.few; is_read = rw same h.item.is_read };
+      item = record { fits = omega arith; some = h.item.some; few = h.item.few; is_read = rw same h.item.is_read; brief = rw same h.item.brief };
       span = rw same h.span;
     }
 

@@ -18,12 +18,13 @@ use Rattle.release_rows.specs.Operations.{follows, place_in, row_passes, same_gr
 use Rattle.release_rows.specs.Searches.{Sought, IsSoughtRow, comes_behind, is_alike}
 use Rattle.release_rows.specs.StoredItems.{IsStored, stored_at}
 use Rattle.release_rows.specs.declared.edits.Gap.TheVariants.{Front, Behind, Only}
+use Rattle.release_rows.specs.Briefs.{no_brief}
 use Rattle.release_rows.specs.declared.stretch.Stretch.{Stretch}
 use Rattle.release_rows.proofs.Moved.{any_moved, first_moved, last_moved}
 use Rattle.release_rows.proofs.Seeking.{alike_found, behind_found}
 
 pub nothing : Spanned Stretch
-nothing = record { code = 0; last = 0; item = record { start = 0; len = 0; ending = Lf; lines = 1 } }
+nothing = record { code = 0; last = 0; item = record { start = 0; len = 0; ending = Lf; lines = 1; brief = no_brief } }
 
 last_some : {A : Type 0} (p : A → Bool) (parts : List (List A)) (spot : Spot) (d : A) → LastAt (Some spot) p parts → list_any p (flat parts) ≡ true
 last_some p parts spot d h =

@@ -17,7 +17,9 @@ use Rattle.ucd_model.specs.declared.row.ValueRow.{ValueRow}
 use Rattle.ucd_model.specs.declared.row.Row.TheVariants.{Value as ValueLine, Casing as CasingLine, Alias as AliasLine}
 use Rattle.source_rows.specs.Faults.{row_or_fault, HasNames, HasValues}
 use Rattle.source_rows.specs.Laws.{RowsAreRead, RowsAreOk}
+use Rattle.release_rows.specs.Briefs.{no_brief}
 use Rattle.release_rows.specs.Entries.{EntersAs}
+use Rattle.release_rows.specs.declared.brief.Brief.{Brief}
 use Rattle.source_rows.specs.Keys.{condition_names, alias_count, key_names, value_names}
 use Rattle.release_rows.specs.Keys.{has_spans, row_end}
 use Rattle.release_rows.specs.Names.{has_names, first_names}
@@ -146,8 +148,8 @@ alias_end file row = by_spans (has_spans file)
     by_spans false = refl
 
 -- what is kept of a row of names
-pub alias_entry : (file : SourceFile) (bytes : List ℕ) (names : List (List ℕ)) (text : Vec ℕ Global) → has_names file ≡ true → RowsAreRead → RowsAreOk → row_or_fault file bytes ≡ Ok (AliasLine (record { names = names })) → (count : ℕ) → count ≡ alias_count file → text.items ≡ first_names count names → EntersAs file (Ok (record { place = record { names = text; code = 0 }; last = 0 })) (row_or_fault file bytes)
-alias_entry file bytes names text has read ok h count is same =
+pub alias_entry : (file : SourceFile) (bytes : List ℕ) (names : List (List ℕ)) (text : Vec ℕ Global) (brief : Brief) → brief ≡ no_brief → has_names file ≡ true → RowsAreRead → RowsAreOk → row_or_fault file bytes ≡ Ok (AliasLine (record { names = names })) → (count : ℕ) → count ≡ alias_count file → text.items ≡ first_names count names → EntersAs file (Ok (record { place = record { names = text; code = 0 }; last = 0; brief = brief })) (row_or_fault file bytes)
+alias_entry file bytes names text brief none has read ok h count is same =
     let row : AliasRow = record { names = names } in
     let fine : RowOk file (AliasLine row) = (ok file (AliasLine row)).1 (bytes, (read file bytes (AliasLine row)).0 h) in
     rw h (record {
@@ -155,6 +157,7 @@ alias_entry file bytes names text has read ok h count is same =
       code = refl;
       last = alias_end file row;
       ordered = omega arith;
+      brief = none;
     })
 
 -- ---- rows of a span and a value
@@ -182,8 +185,8 @@ value_end PropertyAliases row has = absurd has
 value_end PropertyValueAliases row has = absurd has
 
 -- what is kept of a row of a span and a value
-pub value_entry : (file : SourceFile) (bytes : List ℕ) (row : ValueRow) (text : Vec ℕ Global) → HasValues file → row_or_fault file bytes ≡ Ok (ValueLine row) → names_of text.items ≡ value_names file row.value → ValueOk row → EntersAs file (Ok (record { place = record { names = text; code = row.span.lo }; last = row.span.hi })) (row_or_fault file bytes)
-value_entry file bytes row text has h names ok = rw h (record { names = names; code = refl; last = value_end file row has; ordered = ok.span.0 })
+pub value_entry : (file : SourceFile) (bytes : List ℕ) (row : ValueRow) (text : Vec ℕ Global) (brief : Brief) → brief ≡ no_brief → HasValues file → row_or_fault file bytes ≡ Ok (ValueLine row) → names_of text.items ≡ value_names file row.value → ValueOk row → EntersAs file (Ok (record { place = record { names = text; code = row.span.lo }; last = row.span.hi; brief = brief })) (row_or_fault file bytes)
+value_entry file bytes row text brief none has h names ok = rw h (record { names = names; code = refl; last = value_end file row has; ordered = ok.span.0; brief = none })
 
 pub are_names : (file : SourceFile) → has_names file ≡ true → HasNames file
 are_names PropertyAliases has = tt

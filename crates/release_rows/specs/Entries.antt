@@ -1,7 +1,9 @@
--- What is kept of a row while its file is loaded: its key, and the last code point that no other row may have.
+-- What is kept of a row while its file is loaded: its key, the last code point that no other row may have, and what is kept of what
+-- the row gives.
 --
 -- IsFree result place rule     the place is handed back where there is no rule, else the result is the rule
--- IsEntry file row e           e has the names of the row's key, its first code point, and the last one that may not be shared
+-- IsEntry file row e           e has the names of the row's key, its first code point, the last one that may not be shared, and what
+--                              is kept of what the row gives
 -- EntersAs file result row     the result is what is kept of the row, or the fault; want of memory says nothing
 -- EntersSome file o row        o is what is kept of the row, where there is one; None where there is none
 use Rattle.std.specs.Prelude.{◌≡◌, ◌≤◌, Option, Some, None, Result, Ok, Err}
@@ -11,6 +13,7 @@ use Rattle.source_rows.specs.declared.fault.RowFault.{RowFault}
 use Rattle.source_rows.specs.declared.fault.RowStop.{RowStop}
 use Rattle.source_rows.specs.declared.fault.RowStop.TheVariants.{Fault, Memory}
 use Rattle.source_rows.specs.Keys.{row_span, key_names}
+use Rattle.release_rows.specs.Briefs.{brief_of}
 use Rattle.release_rows.specs.Keys.{row_end}
 use Rattle.release_rows.specs.Places.{names_in}
 use Rattle.release_rows.specs.declared.entry.Entry.{Entry}
@@ -26,6 +29,7 @@ pub record IsEntry (file : SourceFile) (row : Row) (e : Entry) : Type 0 where
   pub code : e.place.code ≡ (row_span row).lo
   pub last : e.last ≡ row_end file row
   pub ordered : e.place.code ≤ e.last
+  pub brief : e.brief ≡ brief_of (Some row)
 
 abbrev pub EntersAs : SourceFile → Result Entry RowStop → Result Row RowFault → Type 0
 EntersAs file (Ok e) (Ok row) = IsEntry file row e

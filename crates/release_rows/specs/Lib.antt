@@ -1,4 +1,5 @@
 pub mod Extents
+pub mod Briefs
 pub mod Places
 pub mod Runs
 pub mod Names

@@ -3,7 +3,8 @@
 -- piece_of p                the lines of a piece: its first one, and the second where it has one
 -- content_at text s         the content that stands at a stretch of the text
 -- item_at file text s       the item that stands there: the row is read from the content
--- IsItem file text s        the stretch lies within the text, has one line or two, and its content is trivia or reads as a row
+-- IsItem file text s        the stretch lies within the text, has one line or two, and its content is trivia or reads as a row; what
+--                           is kept of what the row gives is that of the row
 -- HasSpan file row code last   they are the first code point of the row and the last one that no other row may have; nothing of
 --                           trivia
 -- stored_at file text e     the item of an entry
@@ -13,9 +14,12 @@
 --                           file was loaded, and these are fewer than 2^32
 -- row_or_none result        the row that was read; where there is a fault, a row that nothing rests on
 -- read_as file content      the row that the content is read as, by row_or_none
+-- HasRow file content e      the content reads as a row, and the entry has its code points and what is kept of what it gives
+-- IsBriefOf b file row first   the row has one code point, and this is kept of what it gives
+-- IsRowText file content b first   the content reads as a row, and what is kept, if anything is, is kept of a row of one code point
 -- ShowsData text row        the text is that of the row, of UnicodeData.txt; None of the rows of the other files
 -- ShowsValue value row      the value is that of a row of a span and a value; None of other rows
-use Rattle.std.specs.Prelude.{◌≡◌, ℕ, ◌+◌, ◌<◌, ◌≤◌, ◌^◌, List, map, length, take, drop, Option, Some, None, Result, Ok, Err}
+use Rattle.std.specs.Prelude.{◌≡◌, ◌≢◌, ℕ, ◌+◌, ◌<◌, ◌≤◌, ◌^◌, List, map, length, take, drop, Option, Some, None, Result, Ok, Err}
 use Rattle.std.specs.List.{All}
 use Rattle.std.specs.Option.{option_map}
 use Rattle.ucd_model.specs.declared.files.SourceFile.{SourceFile}
@@ -30,10 +34,12 @@ use Rattle.source_rows.specs.declared.values.ValueText.{ValueText}
 use Rattle.part_list.specs.Parts.{PartLists, now_in, next_in}
 use Rattle.part_list.specs.declared.spanned.Spanned.{Spanned}
 use Rattle.source_rows.specs.Keys.{row_span}
+use Rattle.release_rows.specs.Briefs.{brief_of, no_brief}
 use Rattle.release_rows.specs.Keys.{row_end}
 use Rattle.release_rows.specs.Pieces.{Lines}
 use Rattle.release_rows.specs.FileItems.{FileItem, bytes_of}
 use Rattle.release_rows.specs.Loading.{content_row, row_read}
+use Rattle.release_rows.specs.declared.brief.Brief.{Brief}
 use Rattle.release_rows.specs.declared.piece.Piece.{Piece}
 use Rattle.release_rows.specs.declared.stretch.Stretch.{Stretch}
 
@@ -51,6 +57,7 @@ pub record IsItem (file : SourceFile) (text : List ℕ) (s : Stretch) : Type 0 w
   pub some : 1 ≤ s.lines
   pub few : s.lines ≤ 2
   pub is_read : content_row file (content_at text s) ≡ Ok (row_read (content_row file (content_at text s)))
+  pub brief : s.brief ≡ brief_of (row_read (content_row file (content_at text s)))
 
 abbrev pub HasSpan : SourceFile → Option Row → ℕ → ℕ → Type 0
 HasSpan file None code last = Unit {0}
@@ -79,6 +86,18 @@ row_or_none (Err fault) = ExclusionLine (record { span = record { lo = 0; hi = 0
 
 abbrev pub read_as : SourceFile → List ℕ → Row
 read_as file content = row_or_none (row_or_fault file content)
+
+pub record HasRow (file : SourceFile) (content : List ℕ) (e : Spanned Stretch) : Type 0 where
+  pub read : row_or_fault file content ≡ Ok (read_as file content)
+  pub brief : e.item.brief ≡ brief_of (Some (read_as file content))
+  pub span : HasSpan file (Some (read_as file content)) e.code e.last
+
+abbrev pub IsBriefOf : Brief → SourceFile → Row → ℕ → Type 0
+IsBriefOf b file row first = (b ≡ brief_of (Some row)) × HasSpan file (Some row) first first
+
+pub record IsRowText (file : SourceFile) (content : List ℕ) (b : Brief) (first : ℕ) : Type 0 where
+  pub read : row_or_fault file content ≡ Ok (read_as file content)
+  pub brief : b ≢ no_brief → IsBriefOf b file (read_as file content) first
 
 abbrev pub ShowsData : Option DataText → Row → Type 0
 ShowsData (Some text) row = row ≡ DataLine (text_row text)

@@ -1,12 +1,15 @@
 //! What is kept of a row while its file is loaded.
 
+use crate::brief::Brief;
 use crate::place::Place;
 
-/// The key of a row, and the last code point that no other row may have.
+/// The key of a row, the last code point that no other row may have, and what is kept of what the row gives.
 #[derive(Debug, Drop)]
 pub struct Entry {
     /// The key.
     pub place: Place,
     /// The last code point, not less than the first.
     pub last: u32,
+    /// What is kept of what the row gives.
+    pub brief: Brief,
 }

@@ -1,6 +1,7 @@
 //! Loads the source files of a release and keeps their text, from which their rows are read again.
 #![tactic(auto)]
 
+mod brief;
 mod conflict;
 mod edits;
 mod end_map;

@@ -4,6 +4,7 @@ ghost use Rattle.std.specs.Prelude.{◌≡◌, ◌+◌, ◌<◌, ◌≤◌, ◌^
 ghost use Rattle.std.specs.List.{list_any, All};
 ghost use Rattle.ucd_model.specs.declared.files.SourceFile.{SourceFile as FileValue};
 ghost use Rattle.ucd_model.specs.declared.row.Row.{Row as RowValue};
+ghost use Rattle.release_rows.specs.Briefs.{brief_of, no_brief};
 ghost use Rattle.release_rows.specs.Extents.{Extent};
 ghost use Rattle.release_rows.specs.Entries.{IsEntry, EntersSome};
 ghost use Rattle.release_rows.specs.Keys.{is_back};
@@ -49,7 +50,7 @@ fn put_extent(keys: &mut KeySet, entry: Option<Entry>) -> Result<(), Memory>
     ensures { OnOk result ((p : Extent → Bool) → list_any p keys.new ≡ (list_any p (entry_extents entry) || list_any p keys.old)) }
 {
     match entry {
-        Some(Entry { place, last }) => keys.insert(place, last),
+        Some(Entry { place, last, .. }) => keys.insert(place, last),
         None => Ok(()),
     }
 }
@@ -77,6 +78,23 @@ fn spanned(stretch: Stretch, entry: &Option<Entry>, before: Option<u32>) -> Span
         code,
         last,
         item: stretch,
+    }
+}
+
+/// The stretch of a row, with what is kept of what the row gives; a stretch of trivia as it is.
+fn with_brief(stretch: Stretch, entry: &Option<Entry>) -> Stretch
+    ensures start { result.start ≡ stretch.start }
+    ensures len { result.len ≡ stretch.len }
+    ensures ending { result.ending ≡ stretch.ending }
+    ensures lines { result.lines ≡ stretch.lines }
+    ensures brief { (file : FileValue) (row : Option RowValue) → stretch.brief ≡ no_brief → EntersSome file entry.now row → result.brief ≡ brief_of row }
+{
+    match entry {
+        Some(entry) => Stretch {
+            brief: entry.brief,
+            ..stretch
+        },
+        None => stretch,
     }
 }
 
@@ -126,7 +144,7 @@ impl<'a> Loading<'a> {
         requires ordered { entry.place.code ≤ entry.last }
         ensures { (row : RowValue) → IsEntry self.now.file row entry → IsFreeOf result entry (row_rule self.now.file (rows_in (items_above self.now)) row) }
     {
-        let Entry { place, last } = entry;
+        let Entry { place, last, brief } = entry;
         let place = match self.keys.checked_place(place, last) {
             Ok(place) => place,
             Err(Conflict::K1) => return Err(LoadRule::K1),
@@ -135,7 +153,7 @@ impl<'a> Loading<'a> {
         if is_back(self.file, self.before, place.code) {
             return Err(LoadRule::K5);
         }
-        Ok(Entry { place, last })
+        Ok(Entry { place, last, brief })
     }
 
     /// The same of a row that may not be there.
@@ -186,9 +204,10 @@ impl<'a> Loading<'a> {
         ensures piece { TakesPiece result (progress_of self.old) (progress_of self.new) (piece_of piece.entry) }
     {
         let line = self.lines + 1;
-        let stretch = stretch_of(self.end, piece);
-        let content = content_of(self.text, stretch, piece);
+        let unread = stretch_of(self.end, piece);
+        let content = content_of(self.text, unread, piece);
         let entry = read_piece(alloc, self.file, line, piece, content)?;
+        let stretch = with_brief(unread, &entry);
         match self.checked_optional(entry) {
             Ok(entry) => Ok(self.put(stretch, entry)?),
             Err(rule) => Err(LoadStop::Fault { line, rule }),

@@ -4,9 +4,11 @@ ghost use Rattle.std.specs.Prelude.{◌≡◌, ◌+◌, ◌<◌, ◌≤◌, ◌^
 ghost use Rattle.std.specs.Option.{MatchOption};
 ghost use Rattle.ucd_model.specs.Lines.{ending_bytes, joined};
 ghost use Rattle.ucd_lines.specs.Items.{ending_of};
+ghost use Rattle.release_rows.specs.Briefs.{no_brief};
 ghost use Rattle.release_rows.specs.Pieces.{pieces, opens_range, piece_bytes, piece_content, piece_ending, piece_lines};
 ghost use Rattle.release_rows.specs.StoredItems.{content_at, piece_of};
 
+use crate::brief::Brief;
 use crate::stretch::{Stretch, content_in};
 use source_rows::begins_range;
 use ucd_lines::{Ending, Item, Items, is_trivia};
@@ -103,7 +105,7 @@ fn lines_of(piece: Piece<'_>) -> u8
     }
 }
 
-/// Where a piece stands whose first byte has this place.
+/// Where a piece stands whose first byte has this place. Nothing is kept of its row yet.
 pub fn stretch_of(start: u32, piece: Piece<'_>) -> Stretch
     requires { length (piece_content (piece_of piece)) < 2 ^ 32 }
     ensures start { result.start ≡ start }
@@ -112,11 +114,13 @@ pub fn stretch_of(start: u32, piece: Piece<'_>) -> Stretch
     ensures lines { result.lines ≡ piece_lines (piece_of piece.entry) }
     ensures some { 1 ≤ result.lines }
     ensures few { result.lines ≤ 2 }
+    ensures brief { result.brief ≡ no_brief }
 {
     Stretch {
         start,
         len: content_len(piece) as u32,
         ending: ending_of(piece),
         lines: lines_of(piece),
+        brief: Brief::none(),
     }
 }

@@ -6,6 +6,7 @@ ghost use Rattle.source_rows.specs.Faults.{HasValues, row_or_fault};
 ghost use Rattle.release_rows.specs.Entries.{EntersAs};
 ghost use Rattle.release_rows.specs.Names.{has_names, first_names};
 
+use crate::brief::Brief;
 use crate::entry::Entry;
 use crate::place::Place;
 use crate::row_key::{alias_count, key_text, row_end, row_start, value_text};
@@ -48,6 +49,7 @@ fn names_entry(alloc: Global, file: SourceFile, content: &[u8]) -> Result<Entry,
     Ok(Entry {
         place: Place { names, code: 0 },
         last: 0,
+        brief: Brief::none(),
     })
 }
 
@@ -64,6 +66,7 @@ fn entry_of(alloc: Global, file: SourceFile, row: &Row) -> Result<Entry, RowStop
             code: row_start(row),
         },
         last: row_end(file, row),
+        brief: Brief::of_row(row),
     })
 }
 
@@ -87,6 +90,7 @@ fn data_entry(alloc: Global, content: &[u8]) -> Result<Entry, RowStop>
             code: given.span.first(),
         },
         last: given.span.last(),
+        brief: Brief::of_values(&given.values),
     })
 }
 
@@ -106,6 +110,7 @@ fn value_entry(alloc: Global, file: SourceFile, content: &[u8]) -> Result<Entry,
                     code: text.span.first(),
                 },
                 last: text.span.last(),
+                brief: Brief::none(),
             })
         }
         Err(fault) => Err(RowStop::Fault(fault)),

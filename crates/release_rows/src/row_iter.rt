@@ -68,7 +68,7 @@ impl<'a> Iterator for Rows<'a> {
             let content = content_in(self.text, item);
             self.line += u64::from(item.lines);
             if !is_trivia(content) {
-                return Some((line, RowText::new(self.file, content)));
+                return Some((line, RowText::new(self.file, content, &entry)));
             }
         }
         None

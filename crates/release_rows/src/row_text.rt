@@ -1,45 +1,60 @@
 //! A row as it is kept: the bytes that read as it.
 
-ghost use Rattle.std.specs.Prelude.{◌≡◌, Ok, IfOk, IsTrue};
-ghost use Rattle.source_rows.specs.Faults.{row_or_fault};
+ghost use Rattle.std.specs.Prelude.{◌≡◌, Some, IfOk, IsTrue};
+ghost use Rattle.std.specs.Option.{IfSome};
 ghost use Rattle.release_rows.specs.Given.{ShowsGiven};
-ghost use Rattle.release_rows.specs.StoredItems.{ShowsData, ShowsValue, read_as};
+ghost use Rattle.release_rows.specs.StoredItems.{HasRow, ShowsData, ShowsValue, read_as};
 
+use crate::brief::Brief;
+use crate::stretch::Stretch;
+use part_list::Spanned;
 use source_rows::{
     DataText, PointValues, RowStop, ValueText, read_data_text, read_point_values, read_row,
     read_value_text, rows_are_ok, rows_are_read,
 };
 use std::alloc::Global;
 use std::marker::Model;
-use ucd_model::{Memory, Row, SourceFile};
+use ucd_model::{Memory, Point, Row, SourceFile};
 
 /// A row of a file of a release, as it stands in the text of the file. Contracts see the row.
 #[derive(Debug, Drop)]
 pub struct RowText<'a> {
     file: SourceFile,
+    /// What is kept of what the row gives, if it has one code point; else nothing.
+    brief: Brief,
+    /// The first code point.
+    first: u32,
     content: &'a [u8],
 }
 
 impl<'a> Model for RowText<'a> {
-    ghost use Rattle.std.specs.Prelude.{◌≡◌, Ok};
     ghost use Rattle.ucd_model.specs.declared.row.Row.{Row};
-    ghost use Rattle.source_rows.specs.Faults.{row_or_fault};
-    ghost use Rattle.release_rows.specs.StoredItems.{read_as};
+    ghost use Rattle.release_rows.specs.StoredItems.{IsRowText, read_as};
 
     ghost Value = { Row };
 
     ghost view = { λ t. read_as t.file t.content.now };
 
-    ghost invariant = { λ t. row_or_fault t.file t.content.now ≡ Ok (read_as t.file t.content.now) };
+    ghost invariant = { λ t. IsRowText t.file t.content.now t.brief t.first };
 }
 
 impl<'a> RowText<'a> {
-    /// The row that this content of a file is read as.
-    pub(crate) fn new(file: SourceFile, content: &'a [u8]) -> RowText<'a>
-        requires { row_or_fault file content.now ≡ Ok (read_as file content.now) }
+    /// The row that an entry's content is read as.
+    pub(crate) fn new(file: SourceFile, content: &'a [u8], entry: &Spanned<Stretch>) -> RowText<'a>
+        requires { HasRow file content.now entry.now }
         ensures { result ≡ read_as file content.now }
     {
-        RowText { file, content }
+        let brief = if entry.code == entry.last {
+            entry.item.brief
+        } else {
+            Brief::none()
+        };
+        RowText {
+            file,
+            brief,
+            first: entry.code,
+            content,
+        }
     }
 
     /// Whether another row stands in the same bytes of the same file: then it is the same row. Neither is read.
@@ -83,8 +98,17 @@ impl<'a> RowText<'a> {
         }
     }
 
+    /// What is kept of what the row gives, as what it gives; `None` where nothing is kept.
+    fn kept_values(&self, alloc: Global) -> Option<PointValues>
+        ensures { IfSome result (λ given. ShowsGiven (Some given) self.now) }
+    {
+        rows_are_read();
+        rows_are_ok();
+        self.brief.values(alloc, Point::new(self.first)?)
+    }
+
     /// What a row of UnicodeData.txt gives to its code points, without a copy of its texts; `None` of the rows of the
-    /// other files.
+    /// other files. A row that gives no more than a category and a combining class is not read for it.
     ///
     /// - `Memory`: memory ran out.
     pub fn point_values(&self, alloc: Global) -> Result<Option<PointValues>, Memory>
@@ -92,6 +116,9 @@ impl<'a> RowText<'a> {
     {
         rows_are_read();
         rows_are_ok();
+        if let Some(given) = self.kept_values(alloc) {
+            return Ok(Some(given));
+        }
         match self.file {
             SourceFile::UnicodeData => match read_point_values(alloc, self.content) {
                 Ok(given) => Ok(Some(given)),

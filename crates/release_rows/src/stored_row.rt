@@ -7,6 +7,7 @@ ghost use Rattle.source_rows.specs.Faults.{row_or_fault};
 ghost use Rattle.release_rows.specs.Operations.{item_of_row};
 ghost use Rattle.release_rows.specs.StoredItems.{stored_at, IsStored};
 
+use crate::brief::Brief;
 use crate::row_key::{row_end, row_start};
 use crate::stretch::Stretch;
 use part_list::Spanned;
@@ -61,6 +62,7 @@ pub fn store_row(
         len,
         ending,
         lines: lines_in(bytes),
+        brief: Brief::of_row(row),
     };
     Ok(Spanned {
         code: row_start(row),

@@ -3,6 +3,7 @@
 ghost use Rattle.std.specs.Prelude.{◌≡◌, drop, take};
 ghost use Rattle.release_rows.specs.StoredItems.{content_at};
 
+use crate::brief::Brief;
 use ucd_lines::Ending;
 
 /// A line of trivia, or the lines of a row: where the content stands in the text of the file, what ends it, and how
@@ -17,6 +18,8 @@ pub struct Stretch {
     pub ending: Ending,
     /// How many lines there are.
     pub lines: u8,
+    /// What is kept of what the row gives.
+    pub brief: Brief,
 }
 
 /// What stands behind the first `at` bytes; nothing where there are no more.

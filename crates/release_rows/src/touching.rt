@@ -34,7 +34,7 @@ fn put_row<'a>(
     if is_trivia(content) {
         return Ok(());
     }
-    rows.push(RowText::new(file, content))?;
+    rows.push(RowText::new(file, content, entry))?;
     Ok(())
 }
 

@@ -20,4 +20,4 @@ value_text-requires c =
 pub returns-in_ok-names-in-Ok : goal.returns-in_ok-names-in-Ok
 returns-in_ok-names-in-Ok c =
     let row : ValueRow = record { span = c.in-Ok.text.span; value = c.in-Ok.text.value.now } in
-    rw (c.first.ensures.value, c.last.ensures.value) (value_entry c.args.file c.args.content.now row c.in_ok-names-in-Ok.names c.requires c.in-Ok.ensures c.in_ok-names-in-Ok.ensures (is_ok c.args.file c.args.content.now row c.rows_are_read.ensures c.rows_are_ok.ensures c.in-Ok.ensures))
+    rw (c.first.ensures.value, c.last.ensures.value) (value_entry c.args.file c.args.content.now row c.in_ok-names-in-Ok.names c.none.result c.none.ensures c.requires c.in-Ok.ensures c.in_ok-names-in-Ok.ensures (is_ok c.args.file c.args.content.now row c.rows_are_read.ensures c.rows_are_ok.ensures c.in-Ok.ensures))

@@ -29,5 +29,5 @@ returns-in_default c =
     let file = c.self.inside.file in
     let bytes = c.self.inside.content.now in
     let row = read_as file bytes in
-    let ok : RowOk file row = (c.rows_are_ok.ensures file row).1 (bytes, (c.rows_are_read.ensures file bytes row).0 c.self.invariant) in
+    let ok : RowOk file row = (c.rows_are_ok.ensures file row).1 (bytes, (c.rows_are_read.ensures file bytes row).0 c.self.invariant.read) in
     rw (← c.self.view_is) (no_data file row c.in_default.not-UnicodeData ok)

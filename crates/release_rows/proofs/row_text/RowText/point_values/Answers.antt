@@ -25,10 +25,10 @@ no_given SpecialCasing (DataLine row) a ok = absurd ok
 no_given PropertyAliases (DataLine row) a ok = absurd ok
 no_given PropertyValueAliases (DataLine row) a ok = absurd ok
 
-pub returns-in_default : goal.returns-in_default
-returns-in_default c =
+pub returns-in_default-file : goal.returns-in_default-file
+returns-in_default-file c =
     let file = c.self.inside.file in
     let bytes = c.self.inside.content.now in
     let row = read_as file bytes in
-    let ok : RowOk file row = (c.rows_are_ok.ensures file row).1 (bytes, (c.rows_are_read.ensures file bytes row).0 c.self.invariant) in
-    rw (← c.self.view_is) (no_given file row c.in_default.not-UnicodeData ok)
+    let ok : RowOk file row = (c.rows_are_ok.ensures file row).1 (bytes, (c.rows_are_read.ensures file bytes row).0 c.self.invariant.read) in
+    rw (← c.self.view_is) (no_given file row c.in_default-file.not-UnicodeData ok)

@@ -2,27 +2,36 @@
 #![tactic(auto)]
 
 use shelf_io::{DiskShelf, OutSink, Sink};
-use std::alloc::Global;
+use std::alloc::{Allocator, Global};
+use std::env::{self, Args};
+use std::io;
 use std::process::ExitCode;
 use std::rt::Env;
-use std::{env, io};
 use ucd_model::{Memory, Text, Texts};
 use ucdshop_core::{OUT_OF_MEMORY, Status, run};
 
+/// Puts one more word behind the others.
+fn put_word(alloc: Global, words: &mut Texts, arg: &str) -> Result<(), Memory> {
+    let mut word = Text::new(alloc);
+    word.append(arg.as_bytes())?;
+    words.push(word)
+}
+
+/// The words after the program's name, which is the first of these.
+fn words_behind<A: Allocator>(alloc: Global, args: Args<A>) -> Result<Texts, Memory> {
+    let mut words = Texts::new(alloc);
+    for arg in args.skip(1) {
+        put_word(alloc, &mut words, &arg)?;
+    }
+    Ok(words)
+}
+
 /// The words after the program's name. Where one of them is not UTF-8 there are none, which is no listed form.
 fn words_of<R: Env + Alloc>(rt: &R, alloc: Global) -> Result<Texts, Memory> {
-    let mut words = Texts::new(alloc);
     match env::args(rt) {
-        Ok(args) => {
-            for arg in args.skip(1) {
-                let mut word = Text::new(alloc);
-                word.append(arg.as_bytes())?;
-                words.push(word)?;
-            }
-            Ok(words)
-        }
+        Ok(args) => words_behind(alloc, args),
         Err(error) if error.kind() == io::ErrorKind::OutOfMemory => Err(Memory),
-        Err(_) => Ok(words),
+        Err(_) => Ok(Texts::new(alloc)),
     }
 }
 

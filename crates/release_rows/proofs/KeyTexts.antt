@@ -1,5 +1,5 @@
 -- The texts of the names of keys.
-use Rattle.std.proofs.Common.{◌≡◌, ℕ, zero, suc, ◌-◌, ◌<◌, ◌≤◌, Bool, true, false, not, ◌&&◌, ◌||◌, leb, eqb, List, [], ◌∷◌, ◌++◌, take, Result, Ok, Err, refl, ap, ◌∙◌, arith, append_assoc, lit≤, cond, Vec, Global, sym}
+use Rattle.std.proofs.Common.{◌≡◌, ℕ, zero, suc, ◌-◌, ◌<◌, ◌≤◌, Bool, true, false, not, ◌&&◌, ◌||◌, leb, eqb, List, [], ◌∷◌, ◌++◌, take, Result, Ok, Err, refl, ap, ◌∙◌, arith, append_assoc, lit≤, sym}
 use Rattle.std.specs.List.{All, list_all, list_any, slice_split, flat_map, join_with_byte}
 use Rattle.std.specs.Result.{IfOk}
 use Rattle.std.proofs.lemmas.Bool.{and_parts}
@@ -15,14 +15,8 @@ use Rattle.ucd_model.specs.declared.row.AliasRow.{AliasRow}
 use Rattle.ucd_model.specs.declared.row.CasingRow.{CasingRow}
 use Rattle.ucd_model.specs.declared.row.ValueRow.{ValueRow}
 use Rattle.ucd_model.specs.declared.row.Row.TheVariants.{Value as ValueLine, Casing as CasingLine, Alias as AliasLine}
-use Rattle.source_rows.specs.Faults.{row_or_fault, HasNames, HasValues}
-use Rattle.source_rows.specs.Laws.{RowsAreRead, RowsAreOk}
-use Rattle.release_rows.specs.Briefs.{no_brief}
-use Rattle.release_rows.specs.Entries.{EntersAs}
-use Rattle.release_rows.specs.declared.brief.Brief.{Brief}
-use Rattle.source_rows.specs.Keys.{condition_names, alias_count, key_names, value_names}
-use Rattle.release_rows.specs.Keys.{has_spans, row_end}
-use Rattle.release_rows.specs.Names.{has_names, first_names}
+use Rattle.source_rows.specs.Keys.{condition_names, alias_count, key_names}
+use Rattle.release_rows.specs.Names.{first_names}
 use Rattle.release_rows.specs.Places.{names_of}
 
 -- what follows of a value that is there
@@ -129,36 +123,16 @@ alias_by count row some ok = by_names row.names ok.first ok.each
     by_names (n ∷ ns) first each = first_names_are count n ns some first each
 
 -- the names in the key of a row of names that its file can have
-pub alias_text : (file : SourceFile) (row : AliasRow) → has_names file ≡ true → RowOk file (AliasLine row) → names_of (first_names (alias_count file) row.names) ≡ key_names file (AliasLine row)
-alias_text PropertyAliases row has ok = alias_by 2 row (lit≤ tt) ok
-alias_text PropertyValueAliases row has ok = alias_by 3 row (lit≤ tt) ok
-alias_text UnicodeData row has ok = absurd cc
-alias_text PropList row has ok = absurd cc
-alias_text Scripts row has ok = absurd cc
-alias_text WordBreakProperty row has ok = absurd cc
-alias_text CompositionExclusions row has ok = absurd cc
-alias_text CaseFolding row has ok = absurd cc
-alias_text SpecialCasing row has ok = absurd cc
-
-alias_end : (file : SourceFile) (row : AliasRow) → ◌≡◌ {A = ℕ} 0 (row_end file (AliasLine row))
-alias_end file row = by_spans (has_spans file)
-  where
-    by_spans : (b : Bool) → ◌≡◌ {A = ℕ} 0 (cond b 0 0)
-    by_spans true = refl
-    by_spans false = refl
-
--- what is kept of a row of names
-pub alias_entry : (file : SourceFile) (bytes : List ℕ) (names : List (List ℕ)) (text : Vec ℕ Global) (brief : Brief) → brief ≡ no_brief → has_names file ≡ true → RowsAreRead → RowsAreOk → row_or_fault file bytes ≡ Ok (AliasLine (record { names = names })) → (count : ℕ) → count ≡ alias_count file → text.items ≡ first_names count names → EntersAs file (Ok (record { place = record { names = text; code = 0 }; last = 0; brief = brief })) (row_or_fault file bytes)
-alias_entry file bytes names text brief none has read ok h count is same =
-    let row : AliasRow = record { names = names } in
-    let fine : RowOk file (AliasLine row) = (ok file (AliasLine row)).1 (bytes, (read file bytes (AliasLine row)).0 h) in
-    rw h (record {
-      names = ap (λ (bs : List ℕ). names_of bs) (same ∙ ap (λ (n : ℕ). first_names n names) is) ∙ alias_text file row has fine;
-      code = refl;
-      last = alias_end file row;
-      ordered = omega arith;
-      brief = none;
-    })
+pub alias_text : (file : SourceFile) (row : AliasRow) → RowOk file (AliasLine row) → names_of (first_names (alias_count file) row.names) ≡ key_names file (AliasLine row)
+alias_text PropertyAliases row ok = alias_by 2 row (lit≤ tt) ok
+alias_text PropertyValueAliases row ok = alias_by 3 row (lit≤ tt) ok
+alias_text UnicodeData row ok = absurd ok
+alias_text PropList row ok = absurd ok
+alias_text Scripts row ok = absurd ok
+alias_text WordBreakProperty row ok = absurd ok
+alias_text CompositionExclusions row ok = absurd ok
+alias_text CaseFolding row ok = absurd ok
+alias_text SpecialCasing row ok = absurd ok
 
 -- ---- rows of a span and a value
 
@@ -172,29 +146,3 @@ value_ok CaseFolding row ok = absurd ok
 value_ok SpecialCasing row ok = absurd ok
 value_ok PropertyAliases row ok = absurd ok
 value_ok PropertyValueAliases row ok = absurd ok
-
-value_end : (file : SourceFile) (row : ValueRow) → HasValues file → row.span.hi ≡ row_end file (ValueLine row)
-value_end PropList row has = refl
-value_end Scripts row has = refl
-value_end WordBreakProperty row has = refl
-value_end UnicodeData row has = absurd has
-value_end CompositionExclusions row has = absurd has
-value_end CaseFolding row has = absurd has
-value_end SpecialCasing row has = absurd has
-value_end PropertyAliases row has = absurd has
-value_end PropertyValueAliases row has = absurd has
-
--- what is kept of a row of a span and a value
-pub value_entry : (file : SourceFile) (bytes : List ℕ) (row : ValueRow) (text : Vec ℕ Global) (brief : Brief) → brief ≡ no_brief → HasValues file → row_or_fault file bytes ≡ Ok (ValueLine row) → names_of text.items ≡ value_names file row.value → ValueOk row → EntersAs file (Ok (record { place = record { names = text; code = row.span.lo }; last = row.span.hi; brief = brief })) (row_or_fault file bytes)
-value_entry file bytes row text brief none has h names ok = rw h (record { names = names; code = refl; last = value_end file row has; ordered = ok.span.0; brief = none })
-
-pub are_names : (file : SourceFile) → has_names file ≡ true → HasNames file
-are_names PropertyAliases has = tt
-are_names PropertyValueAliases has = tt
-are_names UnicodeData has = absurd cc
-are_names PropList has = absurd cc
-are_names Scripts has = absurd cc
-are_names WordBreakProperty has = absurd cc
-are_names CompositionExclusions has = absurd cc
-are_names CaseFolding has = absurd cc
-are_names SpecialCasing has = absurd cc

@@ -17,18 +17,16 @@
 -- HasRow file content e      the content reads as a row, and the entry has its code points and what is kept of what it gives
 -- IsBriefOf b file row first   the row has one code point, and this is kept of what it gives
 -- IsRowText file content b first   the content reads as a row, and what is kept, if anything is, is kept of a row of one code point
--- ShowsData text row        the text is that of the row, of UnicodeData.txt; None of the rows of the other files
 -- ShowsValue value row      the value is that of a row of a span and a value; None of other rows
 use Rattle.std.specs.Prelude.{◌≡◌, ◌≢◌, ℕ, ◌+◌, ◌<◌, ◌≤◌, ◌^◌, List, map, length, take, drop, Option, Some, None, Result, Ok, Err}
 use Rattle.std.specs.List.{All}
 use Rattle.std.specs.Option.{option_map}
 use Rattle.ucd_model.specs.declared.files.SourceFile.{SourceFile}
 use Rattle.ucd_model.specs.declared.row.Row.{Row}
-use Rattle.ucd_model.specs.declared.row.Row.TheVariants.{Unit as DataLine, Value as ValueLine, Exclusion as ExclusionLine}
+use Rattle.ucd_model.specs.declared.row.Row.TheVariants.{Value as ValueLine, Exclusion as ExclusionLine}
 use Rattle.ucd_lines.specs.Items.{item_of, ending_of}
-use Rattle.source_rows.specs.DataFaults.{text_row}
 use Rattle.source_rows.specs.Faults.{row_or_fault}
-use Rattle.source_rows.specs.declared.data_text.DataText.{DataText}
+use Rattle.source_rows.specs.RowRefs.{value_in}
 use Rattle.source_rows.specs.declared.fault.RowFault.{RowFault}
 use Rattle.source_rows.specs.declared.values.ValueText.{ValueText}
 use Rattle.part_list.specs.Parts.{PartLists, now_in, next_in}
@@ -99,13 +97,8 @@ pub record IsRowText (file : SourceFile) (content : List ℕ) (b : Brief) (first
   pub read : row_or_fault file content ≡ Ok (read_as file content)
   pub brief : b ≢ no_brief → IsBriefOf b file (read_as file content) first
 
-abbrev pub ShowsData : Option DataText → Row → Type 0
-ShowsData (Some text) row = row ≡ DataLine (text_row text)
-ShowsData None (DataLine row) = ⊥
-ShowsData None _ = Unit {0}
-
 abbrev pub ShowsValue : Option ValueText → Row → Type 0
-ShowsValue (Some v) (ValueLine row) = row ≡ record { span = v.span; value = v.value.now }
+ShowsValue (Some v) (ValueLine row) = row ≡ value_in v
 ShowsValue None (ValueLine row) = ⊥
 ShowsValue (Some v) _ = ⊥
 ShowsValue None _ = Unit {0}

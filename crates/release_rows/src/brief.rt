@@ -1,15 +1,15 @@
 //! What is kept of what the row of an item gives to its code points.
 
-ghost use Rattle.std.specs.Prelude.{◌≡◌, ◌≢◌, Some};
+ghost use Rattle.std.specs.Prelude.{◌≡◌, ◌≢◌, ℕ, List, length, Some};
 ghost use Rattle.std.specs.Option.{IfSome};
 ghost use Rattle.ucd_model.specs.declared.row.DataRow.{DataRow as DataValue};
 ghost use Rattle.ucd_model.specs.declared.row.Row.TheVariants.{Unit as DataLine};
 ghost use Rattle.release_rows.specs.Briefs.{brief_by, brief_if, brief_of, is_bare, is_plain, no_brief};
 ghost use Rattle.source_rows.specs.PointValues.{Gives};
+ghost use Rattle.source_rows.specs.RowRefs.{row_in};
 
-use source_rows::{Decomposition, PointValues, Values};
-use std::alloc::Global;
-use ucd_model::{Category, Kind, Point, Points, Row, Span};
+use source_rows::{Decomposition, Mapping, PointValues, RowRef, Values};
+use ucd_model::{Category, Kind, Point, Row, Span};
 
 /// The category and the combining class that a row of UnicodeData.txt gives, if it gives no more. Of a row that also gives
 /// a mapping or a simple case mapping, of a row of another file and of trivia the category is `Cn`, which no row gives.
@@ -21,12 +21,12 @@ pub struct Brief {
     pub class: u8,
 }
 
-/// Whether a mapping of this kind is none.
-fn is_plain(kind: Kind, mapping: &[Point]) -> bool
-    ensures { result ≡ is_plain kind mapping.now }
+/// Whether a mapping of this kind with so many members is none.
+fn is_plain(kind: Kind, members: usize) -> bool
+    ensures { (mapping : List ℕ) → members ≡ length mapping → result ≡ is_plain kind mapping }
 {
     match kind {
-        Kind::Plain => mapping.is_empty(),
+        Kind::Plain => members == 0,
         _ => false,
     }
 }
@@ -61,11 +61,11 @@ impl Brief {
     }
 
     /// What is kept of a row of UnicodeData.txt that gives these values.
-    pub fn of_values(values: &Values) -> Brief
+    pub fn of_values(values: &Values<'_>) -> Brief
         ensures { result ≡ brief_by values.now.category values.now.class values.now.decomposition.kind values.now.decomposition.mapping values.now.upper values.now.lower values.now.title }
     {
-        let mapping = values.decomposition.mapping.as_slice();
-        let plain = is_plain(values.decomposition.kind, mapping);
+        let members = values.decomposition.mapping.len();
+        let plain = is_plain(values.decomposition.kind, members);
         let bare = is_bare(plain, values.upper, values.lower, values.title);
         brief_if(bare, values.category, values.class)
     }
@@ -76,7 +76,7 @@ impl Brief {
     {
         match row {
             Row::Unit(row) => {
-                let plain = is_plain(row.kind, row.mapping.as_slice());
+                let plain = is_plain(row.kind, row.mapping.as_slice().len());
                 let bare = is_bare(plain, row.upper, row.lower, row.title);
                 brief_if(bare, row.category, row.class)
             }
@@ -84,8 +84,18 @@ impl Brief {
         }
     }
 
+    /// What is kept of a row as it stands in its line.
+    pub fn of_row_ref(row: &RowRef<'_>) -> Brief
+        ensures { result ≡ brief_of (Some (row_in row.now)) }
+    {
+        match row {
+            RowRef::Unit(text) => Brief::of_values(&text.values),
+            _ => Brief::none(),
+        }
+    }
+
     /// What the row of a code point gives of which this is kept; `None` where nothing is kept.
-    pub fn values(self, alloc: Global, point: Point) -> Option<PointValues>
+    pub fn values<'a>(self, point: Point) -> Option<PointValues<'a>>
         ensures some { IfSome result (λ given. self ≢ no_brief) }
         ensures gives { IfSome result (λ given. (row : DataValue) → self ≡ brief_of (Some (DataLine row)) → row.span ≡ record { lo = point; hi = point } → Gives given row) }
     {
@@ -98,7 +108,7 @@ impl Brief {
                     class: self.class,
                     decomposition: Decomposition {
                         kind: Kind::Plain,
-                        mapping: Points::new(alloc),
+                        mapping: Mapping::none(),
                     },
                     upper: None,
                     lower: None,

@@ -1,6 +1,6 @@
 //! Reads a piece of a file by itself.
 
-ghost use Rattle.std.specs.Prelude.{◌≡◌, ◌+◌, ◌<◌, ◌^◌, IfOk};
+ghost use Rattle.std.specs.Prelude.{◌≡◌, ◌+◌, ◌<◌, ◌^◌};
 ghost use Rattle.release_rows.specs.Loading.{faulty_last, fault_line};
 ghost use Rattle.release_rows.specs.Pieces.{piece_content};
 ghost use Rattle.release_rows.specs.Progress.{ReadsPiece, StopsAs};
@@ -10,50 +10,34 @@ use crate::entry::Entry;
 use crate::load_stop::{LoadRule, LoadStop};
 use crate::piece::Piece;
 use crate::read_entry::read_entry;
-use source_rows::{RowFault, RowStop, read_row};
+use source_rows::{RowFault, RowStop, read_row_ref};
 use std::alloc::Global;
 use ucd_lines::is_trivia;
-use ucd_model::{Memory, SourceFile};
+use ucd_model::SourceFile;
 
 /// Whether a fault is that of the second line of a range.
-fn is_faulty_last(
-    alloc: Global,
-    file: SourceFile,
-    piece: Piece<'_>,
-    fault: RowFault,
-) -> Result<bool, Memory>
-    ensures { IfOk result (λ last. last ≡ faulty_last file (piece_of piece.entry) fault) }
+fn is_faulty_last(file: SourceFile, piece: Piece<'_>, fault: RowFault) -> bool
+    ensures { result ≡ faulty_last file (piece_of piece.entry) fault }
 {
     if !matches!(fault, RowFault::G04) || piece.last.is_none() {
-        return Ok(false);
+        return false;
     }
-    match read_row(alloc, file, piece.first.content).err() {
-        Some(RowStop::Fault(RowFault::G09)) => Ok(true),
-        Some(RowStop::Memory) => Err(Memory),
-        _ => Ok(false),
-    }
+    matches!(read_row_ref(file, piece.first.content), Err(RowFault::G09))
 }
 
 /// The fault of a piece whose first line has this number.
-fn stop_at(
-    alloc: Global,
-    file: SourceFile,
-    line: u32,
-    piece: Piece<'_>,
-    fault: RowFault,
-) -> LoadStop
+fn stop_at(file: SourceFile, line: u32, piece: Piece<'_>, fault: RowFault) -> LoadStop
     requires { line + 1 < 2 ^ 32 }
     ensures { StopsAs result (record { line = fault_line file line (piece_of piece.entry) fault; rule = LoadRule.Row fault }) }
 {
     let rule = LoadRule::Row(fault);
-    match is_faulty_last(alloc, file, piece, fault) {
-        Ok(true) => LoadStop::Fault {
+    if is_faulty_last(file, piece, fault) {
+        return LoadStop::Fault {
             line: line + 1,
             rule,
-        },
-        Ok(false) => LoadStop::Fault { line, rule },
-        Err(_) => LoadStop::Memory,
+        };
     }
+    LoadStop::Fault { line, rule }
 }
 
 /// What is kept of the row of a piece, whose first line has this number, and nothing where the piece is trivia.
@@ -77,7 +61,7 @@ pub fn read_piece(
     }
     match read_entry(alloc, file, content) {
         Ok(entry) => Ok(Some(entry)),
-        Err(RowStop::Fault(fault)) => Err(stop_at(alloc, file, line, piece, fault)),
+        Err(RowStop::Fault(fault)) => Err(stop_at(file, line, piece, fault)),
         Err(RowStop::Memory) => Err(LoadStop::Memory),
     }
 }

@@ -1,15 +1,18 @@
 //! The keys and the spans of rows.
 
-ghost use Rattle.std.specs.Prelude.{◌≡◌, ◌≤◌, true, IfOk, IsTrue};
+ghost use Rattle.std.specs.Prelude.{◌≡◌, ◌≤◌, true, IfOk};
 ghost use Rattle.ucd_model.specs.Fields.{is_name};
 ghost use Rattle.ucd_model.specs.RowValues.{RowOk};
 ghost use Rattle.source_rows.specs.Keys.{row_span, alias_count, key_names, value_names};
 ghost use Rattle.release_rows.specs.Keys.{row_end, has_spans};
-ghost use Rattle.release_rows.specs.Names.{has_names};
+ghost use Rattle.source_rows.specs.RowRefs.{row_in};
+ghost use Rattle.release_rows.specs.Names.{first_names};
 ghost use Rattle.release_rows.specs.Places.{names_of};
 
+use source_rows::{Conditions, RowRef};
 use std::alloc::{AllocError, Global};
-use ucd_model::{Row, SourceFile};
+use ucd_lines::Fields;
+use ucd_model::{Memory, Row, SourceFile};
 
 /// The first code point of a row. A row of names has none, which 0 stands for.
 pub fn row_start(row: &Row) -> u32
@@ -67,7 +70,7 @@ pub fn row_end(file: SourceFile, row: &Row) -> u32
 }
 
 /// How many names of an alias row its key has.
-pub fn alias_count(file: SourceFile) -> usize
+fn alias_count(file: SourceFile) -> usize
     ensures count { result ≡ alias_count file }
     ensures some { 1 ≤ result }
 {
@@ -77,26 +80,55 @@ pub fn alias_count(file: SourceFile) -> usize
     }
 }
 
-/// The text of the names in the key of a row that is no row of names.
+/// The first names of a list with `;` between them, as many as there are up to the count.
+fn first_names(alloc: Global, mut names: Fields<'_>, count: usize) -> Result<Vec<u8>, AllocError>
+    requires { 1 ≤ count }
+    ensures { IfOk result (λ text. text.items ≡ first_names count names.entry) }
+{
+    let Some(first) = names.next() else {
+        return Ok(Vec::new(alloc));
+    };
+    let mut text = Vec::from_slice(alloc, first)?;
+    let mut left = count - 1;
+    'names: while left > 0 {
+        let Some(name) = names.next() else {
+            return Ok(text);
+        };
+        text.push(b';')?;
+        text.extend_from_slice(name)?;
+        left -= 1;
+    }
+    Ok(text)
+}
+
+/// The names in the key of a row, with `;` between them.
 ///
-/// - `AllocError`: memory ran out.
-pub fn key_text(alloc: Global, file: SourceFile, row: &Row) -> Result<Vec<u8>, AllocError>
-    requires ok { RowOk file row.now }
-    requires no_names { IsTrue (has_names file) → ⊥ }
-    ensures { IfOk result (λ text. names_of text.items ≡ key_names file row.now) }
+/// - `Memory`: memory ran out.
+pub fn key_text(alloc: Global, file: SourceFile, row: RowRef<'_>) -> Result<Vec<u8>, Memory>
+    requires { RowOk file (row_in row) }
+    ensures { IfOk result (λ text. names_of text.items ≡ key_names file (row_in row.entry)) }
 {
     match row {
-        Row::Value(row) => value_text(alloc, file, row.value.as_slice()),
-        Row::Fold(row) => Vec::from_slice(alloc, &[row.status.letter()]),
-        Row::Casing(row) => Vec::from_slice(alloc, row.conditions.as_slice()),
-        Row::Unit(_) | Row::Exclusion(_) | Row::Alias(_) => Ok(Vec::new(alloc)),
+        RowRef::Value(text) => Ok(value_text(alloc, file, text.value)?),
+        RowRef::Fold(text) => Ok(Vec::from_slice(alloc, &[text.status.letter()])?),
+        RowRef::Casing(text) => conditions_text(alloc, text.conditions),
+        RowRef::Alias(names) => Ok(first_names(alloc, names, alias_count(file))?),
+        RowRef::Unit(_) | RowRef::Exclusion(_) => Ok(Vec::new(alloc)),
     }
+}
+
+/// The bytes of conditions.
+fn conditions_text(alloc: Global, conditions: Conditions<'_>) -> Result<Vec<u8>, Memory>
+    ensures { IfOk result (λ text. text.items ≡ conditions.entry) }
+{
+    let conditions = conditions.copied(alloc)?;
+    Ok(Vec::from_slice(alloc, conditions.as_slice())?)
 }
 
 /// The value of a row of PropList.txt, and no name in the other files.
 ///
 /// - `AllocError`: memory ran out.
-pub fn value_text(alloc: Global, file: SourceFile, value: &[u8]) -> Result<Vec<u8>, AllocError>
+fn value_text(alloc: Global, file: SourceFile, value: &[u8]) -> Result<Vec<u8>, AllocError>
     requires { is_name value.now ≡ true }
     ensures { IfOk result (λ text. names_of text.items ≡ value_names file value.now) }
 {

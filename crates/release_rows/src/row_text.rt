@@ -2,15 +2,15 @@
 
 ghost use Rattle.std.specs.Prelude.{◌≡◌, Some, IfOk, IsTrue};
 ghost use Rattle.std.specs.Option.{IfSome};
+ghost use Rattle.source_rows.specs.RowRefs.{row_in};
 ghost use Rattle.release_rows.specs.Given.{ShowsGiven};
-ghost use Rattle.release_rows.specs.StoredItems.{HasRow, ShowsData, ShowsValue, read_as};
+ghost use Rattle.release_rows.specs.StoredItems.{HasRow, ShowsValue, read_as};
 
 use crate::brief::Brief;
 use crate::stretch::Stretch;
 use part_list::Spanned;
 use source_rows::{
-    DataText, PointValues, RowStop, ValueText, read_data_text, read_point_values, read_row,
-    read_value_text, rows_are_ok, rows_are_read,
+    PointValues, RowRef, ValueText, read_point_values, read_row_ref, rows_are_ok, rows_are_read,
 };
 use std::alloc::Global;
 use std::marker::Model;
@@ -67,84 +67,60 @@ impl<'a> RowText<'a> {
         self.content == other.content
     }
 
-    /// The row.
+    /// The row, as it stands in the text of the file. It takes no memory.
+    pub fn row(&self) -> RowRef<'a>
+        ensures { row_in result ≡ self.now }
+    {
+        match read_row_ref(self.file, self.content) {
+            Ok(row) => row,
+            Err(_) => unreachable!(),
+        }
+    }
+
+    /// The row, with copies of its texts and lists.
     ///
     /// - `Memory`: memory ran out.
     pub fn read(&self, alloc: Global) -> Result<Row, Memory>
         ensures { IfOk result (λ row. row ≡ self.now) }
     {
-        match read_row(alloc, self.file, self.content) {
-            Ok(row) => Ok(row),
-            Err(RowStop::Fault(_)) => unreachable!(),
-            Err(RowStop::Memory) => Err(Memory),
-        }
-    }
-
-    /// What the fields of a row of UnicodeData.txt hold, where they stand; `None` of the rows of the other files.
-    ///
-    /// - `Memory`: memory ran out.
-    pub fn data(&self, alloc: Global) -> Result<Option<DataText<'a>>, Memory>
-        ensures { IfOk result (λ text. ShowsData text self.now) }
-    {
-        rows_are_read();
-        rows_are_ok();
-        match self.file {
-            SourceFile::UnicodeData => match read_data_text(alloc, self.content) {
-                Ok(text) => Ok(Some(text)),
-                Err(RowStop::Fault(_)) => unreachable!(),
-                Err(RowStop::Memory) => Err(Memory),
-            },
-            _ => Ok(None),
-        }
+        self.row().into_row(alloc)
     }
 
     /// What is kept of what the row gives, as what it gives; `None` where nothing is kept.
-    fn kept_values(&self, alloc: Global) -> Option<PointValues>
+    fn kept_values(&self) -> Option<PointValues<'a>>
         ensures { IfSome result (λ given. ShowsGiven (Some given) self.now) }
     {
         rows_are_read();
         rows_are_ok();
-        self.brief.values(alloc, Point::new(self.first)?)
+        self.brief.values(Point::new(self.first)?)
     }
 
-    /// What a row of UnicodeData.txt gives to its code points, without a copy of its texts; `None` of the rows of the
-    /// other files. A row that gives no more than a category and a combining class is not read for it.
-    ///
-    /// - `Memory`: memory ran out.
-    pub fn point_values(&self, alloc: Global) -> Result<Option<PointValues>, Memory>
-        ensures { IfOk result (λ given. ShowsGiven given self.now) }
+    /// What a row of UnicodeData.txt gives to its code points, as it stands there; `None` of the rows of the other files.
+    /// A row that gives no more than a category and a combining class is not read for it.
+    pub fn point_values(&self) -> Option<PointValues<'a>>
+        ensures { ShowsGiven result self.now }
     {
         rows_are_read();
         rows_are_ok();
-        if let Some(given) = self.kept_values(alloc) {
-            return Ok(Some(given));
+        if let Some(given) = self.kept_values() {
+            return Some(given);
         }
         match self.file {
-            SourceFile::UnicodeData => match read_point_values(alloc, self.content) {
-                Ok(given) => Ok(Some(given)),
-                Err(RowStop::Fault(_)) => unreachable!(),
-                Err(RowStop::Memory) => Err(Memory),
+            SourceFile::UnicodeData => match read_point_values(self.content) {
+                Ok(given) => Some(given),
+                Err(_) => unreachable!(),
             },
-            _ => Ok(None),
+            _ => None,
         }
     }
 
-    /// The code points and the value of a row of PropList.txt, Scripts.txt or WordBreakProperty.txt, without a copy;
+    /// The code points and the value of a row of PropList.txt, Scripts.txt or WordBreakProperty.txt, as they stand there;
     /// `None` of the rows of the other files.
     pub fn value(&self) -> Option<ValueText<'a>>
         ensures { ShowsValue result self.now }
     {
-        rows_are_read();
-        rows_are_ok();
-        let file = self.file;
-        let content = self.content;
-        match file {
-            SourceFile::PropList | SourceFile::Scripts | SourceFile::WordBreakProperty => {
-                match read_value_text(file, content) {
-                    Ok(text) => Some(text),
-                    Err(_) => None,
-                }
-            }
+        match self.row() {
+            RowRef::Value(text) => Some(text),
             _ => None,
         }
     }

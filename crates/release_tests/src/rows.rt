@@ -5,7 +5,7 @@ ghost use Rattle.ucd_model.specs.RowValues.{RowOk};
 use source_rows::*;
 use std::alloc::Global;
 use std::test::Fail;
-use ucd_model::{Row, SourceFile, Text};
+use ucd_model::{Point, Row, SourceFile, Text};
 
 /// Whether the row of a line is written so, or why the line has none.
 fn is_written(
@@ -43,10 +43,10 @@ fn is_stop(stop: &RowStop, fault: Option<RowFault>) -> bool {
 }
 
 /// Whether a line of UnicodeData.txt has this fault, or none, if only the fields are read that give something.
-fn has_point_fault(alloc: Global, bytes: &[u8], fault: Option<RowFault>) -> bool {
-    match read_point_values(alloc, bytes) {
+fn has_point_fault(bytes: &[u8], fault: Option<RowFault>) -> bool {
+    match read_point_values(bytes) {
         Ok(_) => fault.is_none(),
-        Err(stop) => is_stop(&stop, fault),
+        Err(found) => fault == Some(found),
     }
 }
 
@@ -224,7 +224,7 @@ fn first_faults_of_unicode_data(rt: HostRuntime) {
             has_fault(rt.alloc(), SourceFile::UnicodeData, line, *fault),
             "{line:?}"
         );
-        assert!(rt; has_point_fault(rt.alloc(), line, *fault), "{line:?}");
+        assert!(rt; has_point_fault(line, *fault), "{line:?}");
     }
 }
 
@@ -313,7 +313,7 @@ fn a_mapping_has_at_most_64_code_points(rt: HostRuntime) {
 
 /// Whether a line of PropertyAliases.txt has these names.
 fn has_names(bytes: &[u8], expected: &[&[u8]]) -> bool {
-    let Ok(mut names) = read_names(SourceFile::PropertyAliases, bytes) else {
+    let Ok(RowRef::Alias(mut names)) = read_row_ref(SourceFile::PropertyAliases, bytes) else {
         return false;
     };
     for name in expected {
@@ -326,17 +326,30 @@ fn has_names(bytes: &[u8], expected: &[&[u8]]) -> bool {
 
 /// Whether a line of Scripts.txt gives this script to the code points from the first to the last one.
 fn has_script(bytes: &[u8], first: u32, last: u32, expected: &[u8]) -> bool {
-    match read_value_text(SourceFile::Scripts, bytes) {
-        Ok(text) => {
+    match read_row_ref(SourceFile::Scripts, bytes) {
+        Ok(RowRef::Value(text)) => {
             text.span.first() == first && text.span.last() == last && text.value == expected
         }
-        Err(_) => false,
+        _ => false,
     }
 }
 
+/// Whether a line of CaseFolding.txt folds its code point to these two.
+fn folds_to(bytes: &[u8], first: u32, second: u32) -> bool {
+    let Ok(RowRef::Fold(mut text)) = read_row_ref(SourceFile::CaseFolding, bytes) else {
+        return false;
+    };
+    let found = (
+        text.mapping.next(),
+        text.mapping.next(),
+        text.mapping.next(),
+    );
+    found == (Point::new(first), Point::new(second), None)
+}
+
 /// Whether a line of UnicodeData.txt gives its code points this class, and a mapping of so many members.
-fn gives(alloc: Global, bytes: &[u8], class: u8, members: usize) -> bool {
-    match read_point_values(alloc, bytes) {
+fn gives(bytes: &[u8], class: u8, members: usize) -> bool {
+    match read_point_values(bytes) {
         Ok(PointValues { values, .. }) => {
             values.class == class && values.decomposition.mapping.len() == members
         }
@@ -348,13 +361,19 @@ fn gives(alloc: Global, bytes: &[u8], class: u8, members: usize) -> bool {
 fn real_lines_without_a_copy(rt: HostRuntime) {
     assert!(rt;
         gives(
-            rt.alloc(),
             b"0344;COMBINING GREEK DIALYTIKA TONOS;Mn;230;NSM;0308 0301;;;;N;;;;;",
             230,
             2,
         )
     );
     assert!(rt; has_names(b"gc ; General_Category", &[b"gc", b"General_Category"]));
+    assert!(rt;
+        folds_to(
+            b"1F80; F; 1F00 03B9; # GREEK SMALL LETTER ALPHA WITH PSILI AND YPOGEGRAMMENI",
+            0x1F00,
+            0x03B9
+        )
+    );
     assert!(rt;
         has_script(
             b"0041..005A    ; Latin # L&  [26] LATIN CAPITAL LETTER A..LATIN CAPITAL LETTER Z",

@@ -1,6 +1,5 @@
 -- The row values that a file can have are those that some bytes are read as.
-use Rattle.std.proofs.Common.{◌≡◌, ℕ, ◌≤◌, Bool, true, false, List, [], ◌∷◌, length, refl, sym, ap, subst, ◌∙◌, arith, inl, inr, Result, Ok, Err}
-use Rattle.std.specs.Prelude.{IfOk}
+use Rattle.std.proofs.Common.{◌≡◌, ℕ, ◌≤◌, Bool, true, false, List, [], ◌∷◌, length, refl, sym, ap, subst, ◌∙◌, arith, inl, inr, Ok}
 use Rattle.std.specs.List.{All, list_all, before_first}
 use Rattle.std.proofs.lemmas.Bool.{and_parts}
 use Rattle.std.proofs.lemmas.List.Elements.{All-nil, All-cons, All-head, All-tail}
@@ -29,8 +28,7 @@ use Rattle.source_rows.proofs.Seams.{lacks_before}
 use Rattle.source_rows.proofs.FieldValues.{fields_kept, fields_lack, at_field, empty_kept, lacks_take, lacks_return}
 use Rattle.source_rows.proofs.ReadValues.{is_point, is_span, is_mapping, decomposition_ok, case_ok, class_ok, not_unassigned, spaced_lacks, conditions_again}
 use Rattle.source_rows.proofs.WordTexts.{conditions_are}
-use Rattle.source_rows.specs.Faults.{ReadsAs, row_or_fault}
-use Rattle.source_rows.specs.declared.fault.RowStop.{RowStop}
+use Rattle.source_rows.specs.Faults.{row_or_fault}
 use Rattle.source_rows.proofs.Grammar.{rows_are_read}
 use Rattle.source_rows.proofs.RoundTrips.{text_reads}
 
@@ -162,6 +160,5 @@ pub rows_are_ok : RowsAreOk
 rows_are_ok file row = (λ ok. (row_text file row, text_reads file row ok), λ some. read_ok file some.0 row some.1)
 
 -- what was read as a row
-pub row_ok : (file : SourceFile) (bytes : List ℕ) (result : Result Row RowStop) → ReadsAs result (row_or_fault file bytes) → IfOk result (λ row. RowOk file row)
-row_ok file bytes (Ok row) h = read_ok file bytes row ((rows_are_read file bytes row).0 h)
-row_ok file bytes (Err stop) h = tt
+pub row_ok : (file : SourceFile) (bytes : List ℕ) (row : Row) → row_or_fault file bytes ≡ Ok row → RowOk file row
+row_ok file bytes row h = read_ok file bytes row ((rows_are_read file bytes row).0 h)

@@ -1,13 +1,16 @@
 -- The first word and the words behind it.
-use Rattle.std.proofs.Common.{◌≡◌, ℕ, ◌+◌, ◌<◌, ◌≤◌, Bool, true, false, cond, leb, ◌==◌, List, [], ◌∷◌, ◌++◌, length, Option, Some, None, refl, sym, ap, ◌∙◌, arith, inl, inr, append_assoc}
+use Rattle.std.proofs.Common.{◌≡◌, ℕ, ◌+◌, ◌<◌, ◌≤◌, Bool, true, false, cond, leb, ◌==◌, List, [], ◌∷◌, length, Option, Some, None, refl, sym, ◌∙◌, arith, inl, inr}
 use Rattle.std.specs.Prelude.{filter}
 use Rattle.std.specs.List.{slice_split, position_or_len, before_first, after_first}
+use Rattle.std.specs.Option.{unwrap_or}
 use Rattle.std.proofs.lemmas.Bool.{cases_lt, false≢true, eqb-true, le-leb, lt-leb}
 use Rattle.std.proofs.lemmas.List.{take_all, drop_all}
 use Rattle.std.proofs.lemmas.List.Splits.{slice_split_first}
 use Rattle.ucd_model.specs.Lines.{is_blank}
+use Rattle.ucd_model.specs.Fields.{point_of}
 use Rattle.ucd_model.specs.Mappings.{is_some_bytes, words, onto_points, all_points, mapping_of}
 use Rattle.ucd_lines.specs.Cuts.{split_whole}
+use Rattle.source_rows.specs.Mappings.{points_in}
 
 -- a word that may be empty, and then it is none
 abbrev pub onto_words : List ℕ → List (List ℕ) → List (List ℕ)
@@ -29,22 +32,6 @@ first_word_is text =
 pub no_words : words [] ≡ []
 unfolding words
 no_words = refl
-
--- what was read, and in front of what the rest gives
-abbrev pub with_front : List ℕ → Option (List ℕ) → Option (List ℕ)
-with_front done (Some cs) = Some (done ++ cs)
-with_front done None = None
-
-pub with_point : (done : List ℕ) (c : ℕ) (rest : Option (List ℕ)) → with_front done (onto_points (Some c) rest) ≡ with_front (done ++ c ∷ []) rest
-with_point done c (Some cs) = ap (λ (xs : List ℕ). Some xs) (sym (append_assoc done (c ∷ []) cs))
-with_point done c None = refl
-
-pub front_nothing : (rest : Option (List ℕ)) → with_front [] rest ≡ rest
-front_nothing (Some cs) = refl
-front_nothing None = refl
-
-pub front_none : (done : List ℕ) → with_front done None ≡ None
-front_none done = refl
 
 -- ---- one word more, as a loop takes it
 
@@ -71,18 +58,50 @@ at_end (b ∷ bs) h = absurd (omega (arith, eqb-true (length (b ∷ bs)) 0 h))
 
 -- ---- mappings
 
+-- whether there are code points
+abbrev pub is_spelled : Option (List ℕ) → Bool
+is_spelled (Some cs) = true
+is_spelled None = false
+
+spelled_onto : (c : ℕ) (rest : Option (List ℕ)) → is_spelled (onto_points (Some c) rest) ≡ is_spelled rest
+spelled_onto c (Some cs) = refl
+spelled_onto c None = refl
+
+none_spelled : (o : Option (List ℕ)) → is_spelled o ≡ false → o ≡ None
+none_spelled None h = refl
+none_spelled (Some cs) h = absurd cc
+
+pub some_spelled : (o : Option (List ℕ)) → is_spelled o ≡ true → o ≡ Some (unwrap_or o [])
+some_spelled (Some cs) h = refl
+some_spelled None h = absurd cc
+
 guarded_none : (b : Bool) → cond {A = Option (List ℕ)} b None None ≡ None
 guarded_none true = refl
 guarded_none false = refl
 
-pub none_mapping : (text : List ℕ) → all_points (words text) ≡ None → mapping_of text ≡ None
+pub none_mapping : (text : List ℕ) → is_spelled (all_points (words text)) ≡ false → mapping_of text ≡ None
 unfolding mapping_of
-none_mapping text h = rw h (guarded_none (leb (length (words text)) 64))
+none_mapping text h = rw (none_spelled (all_points (words text)) h) (guarded_none (leb (length (words text)) 64))
 
 pub over_mapping : (text : List ℕ) → 64 < length (words text) → mapping_of text ≡ None
 unfolding mapping_of
 over_mapping text h = rw (lt-leb (length (words text)) 64 h) refl
 
-pub fits_mapping : (text : List ℕ) → length (words text) ≤ 64 → mapping_of text ≡ all_points (words text)
+pub fits_mapping : (text : List ℕ) → is_spelled (all_points (words text)) ≡ true → length (words text) ≤ 64 → mapping_of text ≡ Some (points_in text)
 unfolding mapping_of
-fits_mapping text h = rw (le-leb (length (words text)) 64 h) refl
+fits_mapping text h len = rw (le-leb (length (words text)) 64 len) (some_spelled (all_points (words text)) h)
+
+pub spelled_first : (w : List ℕ) (ws : List (List ℕ)) (c : ℕ) → point_of w ≡ Some c → is_spelled (all_points (w ∷ ws)) ≡ is_spelled (all_points ws)
+spelled_first w ws c h = rw h (spelled_onto c (all_points ws))
+
+pub none_first : (w : List ℕ) (ws : List (List ℕ)) → point_of w ≡ None → is_spelled (all_points (w ∷ ws)) ≡ false
+none_first w ws h = rw h refl
+
+onto_count : (o : Option ℕ) (rest : Option (List ℕ)) (cs : List ℕ) (n : ℕ) → ((ds : List ℕ) → rest ≡ Some ds → length ds ≡ n) → onto_points o rest ≡ Some cs → length cs ≡ n + 1
+onto_count (Some c) (Some ds) cs n h e = let same : c ∷ ds ≡ cs = cc in rw (← same) (omega (arith, h ds refl))
+onto_count (Some c) None cs n h e = absurd cc
+onto_count None rest cs n h e = absurd cc
+
+pub points_count : (ws : List (List ℕ)) (cs : List ℕ) → all_points ws ≡ Some cs → length cs ≡ length ws
+points_count [] cs h = let same : [] ≡ cs = cc in rw (← same) refl
+points_count (w ∷ ws) cs h = omega (arith, onto_count (point_of w) (all_points ws) cs (length ws) (λ ds e. points_count ws ds e) h)

@@ -19,10 +19,7 @@
 -- are_last_fields label fs          fs has 15 fields, the second of which is `<Label, Last>` with this label
 -- pair_end label lo last            the span of a range: G09 where the last line is not that of the label, then G04
 -- pair_or_fault first last          two lines: G03 where the first one is not that of a range, G04, fields 2 to 14, `pair_end`
--- DataTextAs result expected         the text is that of the row that was expected, or the result is its fault; want of memory says
---                                   nothing
--- ValuesReadAs result expected      the result is the values, or the fault, that were expected; want of memory says nothing
--- DecompositionReadsAs result expected   the same of field 5
+-- DataTextAs result expected        the text is that of the row that was expected, or the result is its fault
 use Rattle.std.specs.Prelude.{◌≡◌, ℕ, Bool, true, false, ◌&&◌, List, [], ◌∷◌, length, ◌++◌, Option, Some, None, Result, Ok, Err, ◌==◌, nat_le, if◌then◌else◌, codes}
 use Rattle.std.specs.List.{before_first, after_first}
 use Rattle.std.specs.Str.{bytes_eq}
@@ -44,8 +41,6 @@ use Rattle.source_rows.specs.declared.data_text.DataText.{DataText}
 use Rattle.source_rows.specs.declared.data_values.Values.{Values}
 use Rattle.source_rows.specs.declared.fault.RowFault.{RowFault}
 use Rattle.source_rows.specs.declared.fault.RowFault.TheVariants.{G03, G04, G05, G06, G07, G09, G10, G11}
-use Rattle.source_rows.specs.declared.fault.RowStop.{RowStop}
-use Rattle.source_rows.specs.declared.fault.RowStop.TheVariants.{Fault, Memory}
 
 -- ---- field 5
 
@@ -117,17 +112,6 @@ pair_or_fault first last =
 
 -- ---- results
 
-abbrev pub DataTextAs : Result DataText RowStop → Result Row RowFault → Type 0
+abbrev pub DataTextAs : Result DataText RowFault → Result Row RowFault → Type 0
 DataTextAs (Ok text) expected = expected ≡ Ok (DataLine (text_row text))
-DataTextAs (Err (Fault fault)) expected = expected ≡ Err fault
-DataTextAs (Err Memory) expected = Unit {0}
-
-abbrev pub ValuesReadAs : Result Values RowStop → Result Values RowFault → Type 0
-ValuesReadAs (Ok values) expected = expected ≡ Ok values
-ValuesReadAs (Err (Fault fault)) expected = expected ≡ Err fault
-ValuesReadAs (Err Memory) expected = Unit {0}
-
-abbrev pub DecompositionReadsAs : Result Decomposition RowStop → Result Decomposition RowFault → Type 0
-DecompositionReadsAs (Ok decomposition) expected = expected ≡ Ok decomposition
-DecompositionReadsAs (Err (Fault fault)) expected = expected ≡ Err fault
-DecompositionReadsAs (Err Memory) expected = Unit {0}
+DataTextAs (Err fault) expected = expected ≡ Err fault

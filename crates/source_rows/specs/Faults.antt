@@ -6,26 +6,19 @@
 -- row_or_fault file bytes          of the bytes; bytes with a LF have G03, but for two lines of UnicodeData.txt of which the
 --                                  first one is that of a range. One CR before that LF is no part of the line
 -- ReadsAs result expected          a result is what was expected; want of memory says nothing
--- IsDue fault result found         a result is what was found, or the fault where nothing was; want of memory says nothing
--- NamesAs result expected          the names, or the fault, are what was expected, of lines of names
--- ValueTextAs result expected      the span and the value, or the fault, are what was expected, of lines of a span and a value
--- HasNames file                    the lines are names: PropertyAliases.txt and PropertyValueAliases.txt
--- HasValues file                   the lines are a span and a value: PropList.txt, Scripts.txt and WordBreakProperty.txt
-use Rattle.std.specs.Prelude.{◌≡◌, ℕ, List, Option, Some, None, Result, Ok, Err, if◌then◌else◌}
+use Rattle.std.specs.Prelude.{◌≡◌, ℕ, List, Result, Ok, Err, if◌then◌else◌}
 use Rattle.std.specs.List.{before_first, after_first}
 use Rattle.ucd_model.specs.Lines.{is_lf, holds_line_feed, without_return}
 use Rattle.ucd_model.specs.Fields.{fields}
 use Rattle.ucd_model.specs.declared.files.SourceFile.{SourceFile}
 use Rattle.ucd_model.specs.declared.files.SourceFile.TheVariants.{UnicodeData, PropList, Scripts, WordBreakProperty, CompositionExclusions, CaseFolding, SpecialCasing, PropertyAliases, PropertyValueAliases}
 use Rattle.ucd_model.specs.declared.row.Row.{Row}
-use Rattle.ucd_model.specs.declared.row.Row.TheVariants.{Value as ValueLine, Alias as AliasLine}
 use Rattle.source_rows.specs.DataFaults.{single_or_fault, pair_or_fault}
 use Rattle.source_rows.specs.OtherFaults.{value_or_fault, exclusion_or_fault, fold_or_fault, casing_or_fault, alias_or_fault}
 use Rattle.source_rows.specs.declared.fault.RowFault.{RowFault}
 use Rattle.source_rows.specs.declared.fault.RowFault.TheVariants.{G03}
 use Rattle.source_rows.specs.declared.fault.RowStop.{RowStop}
 use Rattle.source_rows.specs.declared.fault.RowStop.TheVariants.{Fault, Memory}
-use Rattle.source_rows.specs.declared.values.ValueText.{ValueText}
 
 abbrev pub line_or_fault : SourceFile → List ℕ → Result Row RowFault
 line_or_fault UnicodeData content = single_or_fault (fields UnicodeData content)
@@ -49,27 +42,3 @@ abbrev pub ReadsAs : Result Row RowStop → Result Row RowFault → Type 0
 ReadsAs (Ok row) expected = expected ≡ Ok row
 ReadsAs (Err (Fault fault)) expected = expected ≡ Err fault
 ReadsAs (Err Memory) expected = Unit {0}
-
-abbrev pub NamesAs : Result (List (List ℕ)) RowFault → Result Row RowFault → Type 0
-NamesAs (Ok names) expected = expected ≡ Ok (AliasLine (record { names = names }))
-NamesAs (Err fault) expected = expected ≡ Err fault
-
-abbrev pub ValueTextAs : Result ValueText RowFault → Result Row RowFault → Type 0
-ValueTextAs (Ok text) expected = expected ≡ Ok (ValueLine (record { span = text.span; value = text.value.now }))
-ValueTextAs (Err fault) expected = expected ≡ Err fault
-
-abbrev pub HasNames : SourceFile → Type 0
-HasNames PropertyAliases = Unit {0}
-HasNames PropertyValueAliases = Unit {0}
-HasNames _ = ⊥
-
-abbrev pub HasValues : SourceFile → Type 0
-HasValues PropList = Unit {0}
-HasValues Scripts = Unit {0}
-HasValues WordBreakProperty = Unit {0}
-HasValues _ = ⊥
-
-abbrev pub IsDue : {A : Type 0} → RowFault → Result A RowStop → Option A → Type 0
-IsDue fault (Ok a) found = found ≡ Some a
-IsDue fault (Err (Fault f)) found = (f ≡ fault) × (found ≡ None)
-IsDue fault (Err Memory) found = Unit {0}

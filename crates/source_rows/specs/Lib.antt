@@ -7,6 +7,8 @@ pub mod DataFaults
 pub mod OtherFaults
 pub mod Texts
 pub mod Faults
+pub mod Mappings
+pub mod RowRefs
 pub mod Ranges
 pub mod Keys
 pub mod KeyGrammar

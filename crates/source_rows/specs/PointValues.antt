@@ -4,16 +4,13 @@
 -- HasUsedFields line fs  these are so the fields of a line of 15 fields
 -- HasCaseFields line fs  the last three of nine fields
 -- Gives given row       the row has the code points and the values that are given
--- PointValuesAs result expected   what is given is what the row gives that was expected, or the result is its fault; want of memory
---                       says nothing
+-- PointValuesAs result expected   what is given is what the row gives that was expected, or the result is its fault
 use Rattle.std.specs.Prelude.{◌≡◌, ℕ, List, [], ◌∷◌, length, Result, Ok, Err}
 use Rattle.ucd_model.specs.Fields.{field}
 use Rattle.ucd_model.specs.declared.row.DataRow.{DataRow}
 use Rattle.ucd_model.specs.declared.row.Row.{Row}
 use Rattle.ucd_model.specs.declared.row.Row.TheVariants.{Unit as DataLine}
 use Rattle.source_rows.specs.declared.fault.RowFault.{RowFault}
-use Rattle.source_rows.specs.declared.fault.RowStop.{RowStop}
-use Rattle.source_rows.specs.declared.fault.RowStop.TheVariants.{Fault, Memory}
 use Rattle.source_rows.specs.declared.point_values.PointValues.{PointValues}
 use Rattle.source_rows.specs.declared.used_fields.CaseFields.{CaseFields}
 use Rattle.source_rows.specs.declared.used_fields.UsedFields.{UsedFields}
@@ -48,8 +45,7 @@ pub record Gives (given : PointValues) (row : DataRow) : Type 0 where
   pub lower : row.lower ≡ given.values.lower
   pub title : row.title ≡ given.values.title
 
-abbrev pub PointValuesAs : Result PointValues RowStop → Result Row RowFault → Type 0
+abbrev pub PointValuesAs : Result PointValues RowFault → Result Row RowFault → Type 0
 PointValuesAs (Ok given) (Ok (DataLine row)) = Gives given row
 PointValuesAs (Ok given) _ = ⊥
-PointValuesAs (Err (Fault fault)) expected = expected ≡ Err fault
-PointValuesAs (Err Memory) expected = Unit {0}
+PointValuesAs (Err fault) expected = expected ≡ Err fault

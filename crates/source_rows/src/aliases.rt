@@ -4,16 +4,17 @@ ghost use Rattle.std.specs.Prelude.{◌≡◌, IfOk};
 ghost use Rattle.std.specs.List.{before_first, list_all};
 ghost use Rattle.ucd_model.specs.Fields.{is_hash};
 ghost use Rattle.ucd_model.specs.OtherLines.{is_name_or_empty};
-ghost use Rattle.source_rows.specs.Faults.{NamesAs, ReadsAs};
+ghost use Rattle.source_rows.specs.RowRefs.{NamesAs, RefAs};
 ghost use Rattle.source_rows.specs.Fields.{fields_of};
 ghost use Rattle.source_rows.specs.OtherFaults.{alias_or_fault};
 
 use crate::code_point::is_name;
-use crate::fault::{RowFault, RowStop};
+use crate::fault::RowFault;
 use crate::fields::{field_count, first_field, text_of, without_comment};
+use crate::row_ref::RowRef;
 use std::alloc::Global;
 use ucd_lines::{Fields, fields};
-use ucd_model::{AliasRow, Memory, Row, SourceFile, Texts};
+use ucd_model::{Memory, SourceFile, Texts};
 
 /// Whether a field is a name or empty.
 fn is_name_or_empty(field: &[u8]) -> bool
@@ -68,12 +69,11 @@ pub fn copied(alloc: Global, names: Fields<'_>) -> Result<Texts, Memory>
 
 /// The row of a line of at least so many names.
 ///
-/// - `Fault(G03)`: there are fewer fields.
-/// - `Fault(G11)`: the first is no name, or a later one neither a name nor empty.
-/// - `Memory`: memory ran out.
-pub fn read_alias(alloc: Global, least: usize, content: &[u8]) -> Result<Row, RowStop>
-    ensures { ReadsAs result (alias_or_fault least (fields_of (before_first is_hash content.now))) }
+/// - `G03`: there are fewer fields.
+/// - `G11`: the first is no name, or a later one neither a name nor empty.
+pub fn read_names(least: usize, content: &[u8]) -> Result<RowRef<'_>, RowFault>
+    ensures { RefAs result (alias_or_fault least (fields_of (before_first is_hash content.now))) }
 {
-    let names = copied(alloc, names_or_fault(least, content)?)?;
-    Ok(Row::Alias(AliasRow { names }))
+    let names = names_or_fault(least, content)?;
+    Ok(RowRef::Alias(names))
 }

@@ -1,20 +1,20 @@
 //! CaseFolding.txt. UAX #44, section 5.3, and the head of the file.
 
-ghost use Rattle.std.specs.Prelude.{◌≡◌, ◌<◌, IfOk, length};
+ghost use Rattle.std.specs.Prelude.{◌≡◌};
 ghost use Rattle.std.specs.List.{before_first};
 ghost use Rattle.ucd_model.specs.Fields.{is_hash, field};
 ghost use Rattle.ucd_model.specs.Mappings.{mapping_of};
 ghost use Rattle.ucd_model.specs.Names.{status_of};
-ghost use Rattle.source_rows.specs.Faults.{ReadsAs};
+ghost use Rattle.source_rows.specs.RowRefs.{RefAs};
 ghost use Rattle.source_rows.specs.Fields.{fields_of};
 ghost use Rattle.source_rows.specs.OtherFaults.{fold_or_fault, has_fold_fields, folds_to, of_status};
 
-use crate::fault::{RowFault, RowStop};
+use crate::fault::RowFault;
 use crate::fields::{field_count, first_field, three_fields, without_comment};
-use crate::mapping::mapping_of;
-use std::alloc::Global;
+use crate::mapping::{Mapping, mapping_of};
+use crate::row_ref::RowRef;
 use ucd_lines::hex;
-use ucd_model::{FoldRow, FoldStatus, Memory, Points, Row};
+use ucd_model::{FoldStatus, Point};
 
 /// The status that one byte names. `None` for all other bytes.
 pub fn status_of(field: &[u8]) -> Option<FoldStatus>
@@ -29,6 +29,17 @@ pub fn status_of(field: &[u8]) -> Option<FoldStatus>
     }
 }
 
+/// A row of CaseFolding.txt as it stands in its line.
+#[derive(Drop)]
+pub struct FoldText<'a> {
+    /// The code point.
+    pub code: Point,
+    /// The status of the folding.
+    pub status: FoldStatus,
+    /// What the code point folds to.
+    pub mapping: Mapping<'a>,
+}
+
 /// Whether a folding of the status may have so many code points.
 fn folds_to(status: FoldStatus, len: usize) -> bool
     ensures { result ≡ folds_to status len }
@@ -40,16 +51,14 @@ fn folds_to(status: FoldStatus, len: usize) -> bool
 }
 
 /// The mapping of a folding of the status. `None` for all other bytes.
-fn folding_of(alloc: Global, status: FoldStatus, field: &[u8]) -> Result<Option<Points>, Memory>
-    ensures { IfOk result (λ found. found ≡ of_status status (mapping_of field.now)) }
+fn folding_of(status: FoldStatus, field: &[u8]) -> Option<Mapping<'_>>
+    ensures { result ≡ of_status status (mapping_of field.now) }
 {
-    let Some(points) = mapping_of(alloc, field)? else {
-        return Ok(None);
-    };
-    if !folds_to(status, points.len()) {
-        return Ok(None);
+    let mapping = mapping_of(field)?;
+    if !folds_to(status, mapping.len()) {
+        return None;
     }
-    Ok(Some(points))
+    Some(mapping)
 }
 
 /// Whether there are three fields, or four of which the last is empty.
@@ -73,30 +82,29 @@ fn fourth_field(text: &[u8]) -> &[u8]
 
 /// The row of a line.
 ///
-/// - `Fault(G03)`: there are neither three fields nor four of which the last is empty.
-/// - `Fault(G04)`: the first is no code point.
-/// - `Fault(G08)`: the second is no status.
-/// - `Fault(G07)`: the third is no mapping, or not of as many code points as the status has.
-/// - `Memory`: memory ran out.
+/// - `G03`: there are neither three fields nor four of which the last is empty.
+/// - `G04`: the first is no code point.
+/// - `G08`: the second is no status.
+/// - `G07`: the third is no mapping, or not of as many code points as the status has.
 #[tactic(auto, unfolding(crate::specs::OtherFaults::fold_or_fault))]
-pub fn read_fold(alloc: Global, content: &[u8]) -> Result<Row, RowStop>
-    ensures { ReadsAs result (fold_or_fault (fields_of (before_first is_hash content.now))) }
+pub fn read_fold(content: &[u8]) -> Result<RowRef<'_>, RowFault>
+    ensures { RefAs result (fold_or_fault (fields_of (before_first is_hash content.now))) }
 {
     let text = without_comment(content);
     if !has_fold_fields(text) {
-        return Err(RowStop::Fault(RowFault::G03));
+        return Err(RowFault::G03);
     }
     let (code, status, mapping) = three_fields(text);
     let Some(code) = hex(code) else {
-        return Err(RowStop::Fault(RowFault::G04));
+        return Err(RowFault::G04);
     };
     let Some(status) = status_of(status) else {
-        return Err(RowStop::Fault(RowFault::G08));
+        return Err(RowFault::G08);
     };
-    let Some(mapping) = folding_of(alloc, status, mapping)? else {
-        return Err(RowStop::Fault(RowFault::G07));
+    let Some(mapping) = folding_of(status, mapping) else {
+        return Err(RowFault::G07);
     };
-    Ok(Row::Fold(FoldRow {
+    Ok(RowRef::Fold(FoldText {
         code,
         status,
         mapping,

@@ -2,29 +2,30 @@
 
 ghost use Rattle.ucd_model.specs.Fields.{is_hash};
 ghost use Rattle.std.specs.List.{before_first};
-ghost use Rattle.source_rows.specs.Faults.{ReadsAs};
+ghost use Rattle.source_rows.specs.RowRefs.{RefAs};
 ghost use Rattle.source_rows.specs.Fields.{fields_of};
 ghost use Rattle.source_rows.specs.OtherFaults.{exclusion_or_fault};
 
 use crate::code_point::span_of;
-use crate::fault::{RowFault, RowStop};
+use crate::fault::RowFault;
 use crate::fields::{field_count, first_field, without_comment};
-use ucd_model::{ExclusionRow, Row};
+use crate::row_ref::RowRef;
+use ucd_model::ExclusionRow;
 
-/// The row of a line. It takes no memory, and `Memory` does not come.
+/// The row of a line.
 ///
-/// - `Fault(G03)`: there is more than one field.
-/// - `Fault(G04)`: it is no code point and no span.
+/// - `G03`: there is more than one field.
+/// - `G04`: it is no code point and no span.
 #[tactic(auto, unfolding(crate::specs::OtherFaults::exclusion_or_fault))]
-pub fn read_exclusion(content: &[u8]) -> Result<Row, RowStop>
-    ensures { ReadsAs result (exclusion_or_fault (fields_of (before_first is_hash content.now))) }
+pub fn read_exclusion(content: &[u8]) -> Result<RowRef<'_>, RowFault>
+    ensures { RefAs result (exclusion_or_fault (fields_of (before_first is_hash content.now))) }
 {
     let text = without_comment(content);
     if field_count(text) != 1 {
-        return Err(RowStop::Fault(RowFault::G03));
+        return Err(RowFault::G03);
     }
     let Some(span) = span_of(first_field(text).0) else {
-        return Err(RowStop::Fault(RowFault::G04));
+        return Err(RowFault::G04);
     };
-    Ok(Row::Exclusion(ExclusionRow { span }))
+    Ok(RowRef::Exclusion(ExclusionRow { span }))
 }

@@ -21,7 +21,7 @@ pub struct DataText<'a> {
     /// Field 1, and of a range its label.
     pub name: &'a [u8],
     /// What fields 2, 3, 5 and 12 to 14 hold.
-    pub values: Values,
+    pub values: Values<'a>,
     /// The fields, of a range those of its first line.
     pub line: DataFields<'a>,
 }
@@ -34,31 +34,18 @@ pub fn data_row(alloc: Global, text: DataText<'_>) -> Result<DataRow, Memory>
 {
     let name = text_of(alloc, text.name)?;
     let kept = kept_of(alloc, text.line)?;
-    let DataText {
-        span,
-        range,
-        values,
-        ..
-    } = text;
-    let Values {
-        category,
-        class,
-        decomposition,
-        upper,
-        lower,
-        title,
-    } = values;
+    let values = text.values;
     Ok(DataRow {
-        span,
-        range,
+        span: text.span,
+        range: text.range,
         name,
-        category,
-        class,
-        kind: decomposition.kind,
-        mapping: decomposition.mapping,
-        upper,
-        lower,
-        title,
+        category: values.category,
+        class: values.class,
+        kind: values.decomposition.kind,
+        mapping: values.decomposition.mapping.copied(alloc)?,
+        upper: values.upper,
+        lower: values.lower,
+        title: values.title,
         kept,
     })
 }

@@ -3,28 +3,27 @@
 ghost use Rattle.std.specs.Prelude.{◌≡◌, ◌≤◌, true, length};
 ghost use Rattle.std.specs.List.{list_all};
 ghost use Rattle.ucd_model.specs.Fields.{class_of, case_of, decimal_number, is_digit};
-ghost use Rattle.source_rows.specs.DataFaults.{values_or_fault, ValuesReadAs};
+ghost use Rattle.source_rows.specs.DataFaults.{values_or_fault};
 ghost use Rattle.source_rows.specs.Fields.{fields_in};
 ghost use Rattle.source_rows.specs.PointValues.{used_fields_in};
 
 use crate::category_name::category_of;
 use crate::decomposition::{Decomposition, read_decomposition};
-use crate::fault::{RowFault, RowStop};
+use crate::fault::RowFault;
 use crate::fifteen::DataFields;
 use crate::used_fields::UsedFields;
-use std::alloc::Global;
 use ucd_lines::hex;
 use ucd_model::{Category, Point};
 
 /// What fields 2, 3, 5 and 12 to 14 hold.
 #[derive(Drop)]
-pub struct Values {
+pub struct Values<'a> {
     /// Field 2, General_Category.
     pub category: Category,
     /// Field 3, Canonical_Combining_Class: 0 to 254.
     pub class: u8,
     /// Field 5, Decomposition_Type and Decomposition_Mapping.
-    pub decomposition: Decomposition,
+    pub decomposition: Decomposition<'a>,
     /// Field 12, Simple_Uppercase_Mapping; `None` where the field is empty.
     pub upper: Option<Point>,
     /// Field 13, Simple_Lowercase_Mapping; `None` where the field is empty.
@@ -83,8 +82,8 @@ fn case_of(field: &[u8]) -> Option<Option<Point>>
 
 /// The values of a line's fields, as [`read_used`] reads them.
 #[tactic(auto, unfolding(crate::specs::DataFaults::values_or_fault))]
-pub fn read_values(alloc: Global, line: &DataFields<'_>) -> Result<Values, RowStop>
-    ensures { ValuesReadAs result (values_or_fault (fields_in line.now)) }
+pub fn read_values<'a>(line: &DataFields<'a>) -> Result<Values<'a>, RowFault>
+    ensures { result ≡ values_or_fault (fields_in line.now) }
 {
     let used = UsedFields {
         f0: line.f0,
@@ -96,36 +95,35 @@ pub fn read_values(alloc: Global, line: &DataFields<'_>) -> Result<Values, RowSt
         f13: line.f13,
         f14: line.f14,
     };
-    read_used(alloc, &used)
+    read_used(&used)
 }
 
 /// The values of a line's fields. They are tested in this order:
 ///
-/// - `Fault(G05)`: field 2 is no category that the file names.
-/// - `Fault(G06)`: field 3 is no decimal number from 0 to 254.
-/// - `Fault(G07)`, `Fault(G10)`: field 5 is bad, as [`read_decomposition`] tells it.
-/// - `Fault(G07)`: one of the fields 12 to 14 is neither a code point nor empty.
-/// - `Memory`: memory ran out.
+/// - `G05`: field 2 is no category that the file names.
+/// - `G06`: field 3 is no decimal number from 0 to 254.
+/// - `G07`, `G10`: field 5 is bad, as [`read_decomposition`] tells it.
+/// - `G07`: one of the fields 12 to 14 is neither a code point nor empty.
 #[inline(always)]
 #[tactic(auto, unfolding(crate::specs::DataFaults::values_or_fault))]
-pub fn read_used(alloc: Global, line: &UsedFields<'_>) -> Result<Values, RowStop>
-    ensures { ValuesReadAs result (values_or_fault (used_fields_in line.now)) }
+pub fn read_used<'a>(line: &UsedFields<'a>) -> Result<Values<'a>, RowFault>
+    ensures { result ≡ values_or_fault (used_fields_in line.now) }
 {
     let Some(category) = category_of(line.f2) else {
-        return Err(RowStop::Fault(RowFault::G05));
+        return Err(RowFault::G05);
     };
     let Some(class) = class_of(line.f3) else {
-        return Err(RowStop::Fault(RowFault::G06));
+        return Err(RowFault::G06);
     };
-    let decomposition = read_decomposition(alloc, line.f5)?;
+    let decomposition = read_decomposition(line.f5)?;
     let Some(upper) = case_of(line.f12) else {
-        return Err(RowStop::Fault(RowFault::G07));
+        return Err(RowFault::G07);
     };
     let Some(lower) = case_of(line.f13) else {
-        return Err(RowStop::Fault(RowFault::G07));
+        return Err(RowFault::G07);
     };
     let Some(title) = case_of(line.f14) else {
-        return Err(RowStop::Fault(RowFault::G07));
+        return Err(RowFault::G07);
     };
     Ok(Values {
         category,

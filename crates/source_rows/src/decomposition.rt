@@ -2,24 +2,23 @@
 
 ghost use Rattle.std.specs.Prelude.{◌≡◌};
 ghost use Rattle.ucd_model.specs.Names.{tag_of, positional_tag_of, shaped_tag_of, sized_tag_of, other_tag_of};
-ghost use Rattle.source_rows.specs.DataFaults.{decomposition_or_fault, canonical_or_fault, compat_or_fault, DecompositionReadsAs};
+ghost use Rattle.source_rows.specs.DataFaults.{decomposition_or_fault, canonical_or_fault, compat_or_fault};
 
-use crate::fault::{RowFault, RowStop};
-use crate::mapping::some_mapping_of;
-use std::alloc::Global;
+use crate::fault::RowFault;
+use crate::mapping::{Mapping, some_mapping_of};
 use ucd_lines::cut;
-use ucd_model::{Kind, Points, Tag};
+use ucd_model::{Kind, Tag};
 
 /// The greatest number of code points in a canonical mapping.
 const CANONICAL: usize = 2;
 
 /// The kind and the mapping of a decomposition. UAX #44, section 5.7.3.
 #[derive(Drop)]
-pub struct Decomposition {
+pub struct Decomposition<'a> {
     /// The kind; `Plain` where the field is empty.
     pub kind: Kind,
     /// The mapping: one or two code points of `Canonical`, 1 to 64 with a tag, and none of `Plain`.
-    pub mapping: Points,
+    pub mapping: Mapping<'a>,
 }
 
 #[tactic(auto, unfolding(ucd_model::specs::Names::positional_tag_of))]
@@ -115,15 +114,15 @@ fn tag_of(text: &[u8]) -> Option<Tag>
 }
 
 /// A tag and a mapping.
-fn read_compat(alloc: Global, field: &[u8]) -> Result<Decomposition, RowStop>
-    ensures { DecompositionReadsAs result (compat_or_fault field.now) }
+fn read_compat(field: &[u8]) -> Result<Decomposition<'_>, RowFault>
+    ensures { result ≡ compat_or_fault field.now }
 {
     let (tag, behind) = cut(field, b'>');
     let Some(tag) = tag_of(tag) else {
-        return Err(RowStop::Fault(RowFault::G07));
+        return Err(RowFault::G07);
     };
-    let Some(mapping) = some_mapping_of(alloc, behind)? else {
-        return Err(RowStop::Fault(RowFault::G07));
+    let Some(mapping) = some_mapping_of(behind) else {
+        return Err(RowFault::G07);
     };
     Ok(Decomposition {
         kind: Kind::Compat(tag),
@@ -132,14 +131,14 @@ fn read_compat(alloc: Global, field: &[u8]) -> Result<Decomposition, RowStop>
 }
 
 /// A mapping without a tag.
-fn read_canonical(alloc: Global, field: &[u8]) -> Result<Decomposition, RowStop>
-    ensures { DecompositionReadsAs result (canonical_or_fault field.now) }
+fn read_canonical(field: &[u8]) -> Result<Decomposition<'_>, RowFault>
+    ensures { result ≡ canonical_or_fault field.now }
 {
-    let Some(mapping) = some_mapping_of(alloc, field)? else {
-        return Err(RowStop::Fault(RowFault::G07));
+    let Some(mapping) = some_mapping_of(field) else {
+        return Err(RowFault::G07);
     };
     if mapping.len() > CANONICAL {
-        return Err(RowStop::Fault(RowFault::G10));
+        return Err(RowFault::G10);
     }
     Ok(Decomposition {
         kind: Kind::Canonical,
@@ -149,20 +148,19 @@ fn read_canonical(alloc: Global, field: &[u8]) -> Result<Decomposition, RowStop>
 
 /// The decomposition of a field 5.
 ///
-/// - `Fault(G07)`: the tag is unknown, one of the words is no code point, or there are none or more than 64 of them.
-/// - `Fault(G10)`: there is no tag, and there are 3 to 64 code points.
-/// - `Memory`: memory ran out.
+/// - `G07`: the tag is unknown, one of the words is no code point, or there are none or more than 64 of them.
+/// - `G10`: there is no tag, and there are 3 to 64 code points.
 #[inline(always)]
 #[tactic(auto, unfolding(crate::specs::DataFaults::decomposition_or_fault))]
-pub fn read_decomposition(alloc: Global, field: &[u8]) -> Result<Decomposition, RowStop>
-    ensures { DecompositionReadsAs result (decomposition_or_fault field.now) }
+pub fn read_decomposition(field: &[u8]) -> Result<Decomposition<'_>, RowFault>
+    ensures { result ≡ decomposition_or_fault field.now }
 {
     match field {
         [] => Ok(Decomposition {
             kind: Kind::Plain,
-            mapping: Points::new(alloc),
+            mapping: Mapping::none(),
         }),
-        [b'<', ..] => read_compat(alloc, field),
-        _ => read_canonical(alloc, field),
+        [b'<', ..] => read_compat(field),
+        _ => read_canonical(field),
     }
 }

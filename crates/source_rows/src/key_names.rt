@@ -29,7 +29,7 @@ fn compare_part<'a>(text: &'a [u8], part: &[u8]) -> (Ordering, &'a [u8])
 }
 
 /// How a text compares with the words of another one, with one space between them.
-fn compare_spaced(expected: &[u8], text: &[u8]) -> Ordering
+pub fn compare_spaced(expected: &[u8], text: &[u8]) -> Ordering
     ensures { result ≡ slice_cmp nat_cmp expected.now (spaced_words text.now) }
 {
     let mut left = expected;

@@ -11,11 +11,11 @@ ghost use Rattle.source_rows.specs.KeyGrammar.{ReadsKeyAs, alias_key, casing_key
 use crate::aliases::{copied, names_or_fault};
 use crate::case_folding::status_of;
 use crate::code_point::is_name;
+use crate::conditions::conditions_of;
 use crate::fault::{RowFault, RowStop};
 use crate::fields::{field_count, text_of, two_fields, without_comment};
 use crate::key::Key;
 use crate::lines::holds_line_feed;
-use crate::mapping::conditions_of;
 use std::alloc::Global;
 use ucd_lines::hex;
 use ucd_model::{FoldStatus, Memory, Point, SourceFile, Text, Texts};
@@ -144,10 +144,11 @@ fn read_casing_key(alloc: Global, text: &[u8]) -> Result<Key, RowStop>
     let Some(code) = hex(code) else {
         return Err(RowStop::Fault(RowFault::G04));
     };
-    let Some(conditions) = conditions_of(alloc, conditions)? else {
+    let Some(conditions) = conditions_of(conditions) else {
         return Err(RowStop::Fault(RowFault::G11));
     };
-    Ok(key_at(code, condition_names(alloc, conditions)?))
+    let names = condition_names(alloc, conditions.copied(alloc)?)?;
+    Ok(key_at(code, names))
 }
 
 /// So many names.

@@ -1,15 +1,15 @@
-//! Reads mappings and conditions: words between white space. UAX #44, section 4.2.
+//! Reads mappings: code points between white space. UAX #44, section 4.2.
 
-ghost use Rattle.std.specs.Prelude.{◌≡◌, ◌<◌, ◌≤◌, length, IfOk, OnOk};
-ghost use Rattle.std.specs.List.{position_or_len, before_first, after_first, list_all};
+ghost use Rattle.std.specs.Prelude.{◌≡◌, ◌<◌, ◌≤◌, ◌∷◌, [], length, IfOk};
+ghost use Rattle.std.specs.List.{position_or_len, before_first, after_first};
 ghost use Rattle.ucd_model.specs.Lines.{is_blank};
-ghost use Rattle.ucd_model.specs.Mappings.{mapping_of, conditions_of, spaced_words, is_word_byte, is_condition_byte};
+ghost use Rattle.ucd_model.specs.Mappings.{mapping_of, words};
 ghost use Rattle.source_rows.specs.DataFaults.{at_least_one};
-ghost use Rattle.source_rows.specs.Fields.{with_word};
 
 use std::alloc::Global;
+use std::marker::Model;
 use ucd_lines::{hex, is_blank};
-use ucd_model::{Memory, Points, Text};
+use ucd_model::{Memory, Point, Points};
 
 /// The greatest number of code points in a mapping.
 const LIMIT: usize = 64;
@@ -41,13 +41,110 @@ pub fn first_word(text: &[u8]) -> (&[u8], &[u8])
     (&text[..at], &text[at + 1..])
 }
 
-/// The mapping that the words of a text spell. `None` where a word is no code point, and above 64 words.
-///
-/// - `Memory`: memory ran out.
-pub fn mapping_of(alloc: Global, text: &[u8]) -> Result<Option<Points>, Memory>
-    ensures { IfOk result (λ found. found ≡ mapping_of text.now) }
+/// The first word and the text behind it.
+fn next_word(text: &[u8]) -> (&[u8], &[u8])
+    requires { 0 < length (words text.now) }
+    ensures { words text.now ≡ result.0.now ∷ words result.1.now }
 {
-    let mut points = Points::new(alloc);
+    let mut rest = text;
+    'words: while !rest.is_empty() {
+        let (word, behind) = first_word(rest);
+        if !word.is_empty() {
+            return (word, behind);
+        }
+        rest = behind;
+    }
+    unreachable!()
+}
+
+/// The code points of a mapping that are left, in order, as they stand in their line. Contracts see their list.
+#[derive(Drop)]
+pub struct Mapping<'a> {
+    /// The text of the words that are left.
+    text: &'a [u8],
+    /// How many words are left.
+    count: usize,
+}
+
+impl<'a> Model for Mapping<'a> {
+    ghost use Rattle.std.specs.Prelude.{ℕ, List};
+    ghost use Rattle.source_rows.specs.Mappings.{HasPoints, points_in};
+
+    ghost Value = { List ℕ };
+
+    ghost view = { λ m. points_in m.text.now };
+
+    ghost invariant = { λ m. HasPoints m.text.now m.count };
+}
+
+impl<'a> Mapping<'a> {
+    /// The mapping without a code point.
+    #[tactic(auto, unfolding(ucd_model::specs::Mappings::words))]
+    pub fn none() -> Mapping<'a>
+        ensures { result ≡ [] }
+    {
+        Mapping {
+            text: &[],
+            count: 0,
+        }
+    }
+
+    /// How many code points there are.
+    pub fn len(&self) -> usize
+        ensures { result ≡ length self.now }
+    {
+        self.count
+    }
+
+    /// The same code points again.
+    pub fn again(&self) -> Mapping<'a>
+        ensures { result ≡ self.now }
+    {
+        Mapping {
+            text: self.text,
+            count: self.count,
+        }
+    }
+
+    /// A copy of the code points.
+    ///
+    /// - `Memory`: memory ran out.
+    pub fn copied(self, alloc: Global) -> Result<Points, Memory>
+        ensures { IfOk result (λ points. points ≡ self.entry) }
+    {
+        let mut points = Vec::with_capacity(alloc, self.len())?;
+        'points: for point in self {
+            points.push(point)?;
+        }
+        Ok(Points::from_vec(points))
+    }
+}
+
+impl<'a> Iterator for Mapping<'a> {
+    ghost use Rattle.std.specs.Iterator.{YieldsFirst, item_count};
+
+    type Item = Point;
+
+    ghost next_gives = { YieldsFirst (λ rest. rest) };
+
+    ghost remaining = { item_count (λ rest. rest) };
+
+    fn next(&mut self) -> Option<Point> {
+        if self.count == 0 {
+            return None;
+        }
+        let (word, behind) = next_word(self.text);
+        self.text = behind;
+        self.count -= 1;
+        hex(word)
+    }
+}
+
+/// The mapping that the words of a text spell. `None` where a word is no code point, and above 64 words.
+pub fn mapping_of(text: &[u8]) -> Option<Mapping<'_>>
+    ensures { result ≡ mapping_of text.now }
+{
+    let mut count = 0;
     let mut rest = text;
     'words: while !rest.is_empty() {
         let (word, behind) = first_word(rest);
@@ -55,82 +152,24 @@ pub fn mapping_of(alloc: Global, text: &[u8]) -> Result<Option<Points>, Memory>
         if word.is_empty() {
             continue;
         }
-        let Some(point) = hex(word) else {
-            return Ok(None);
+        let Some(_) = hex(word) else {
+            return None;
         };
-        if points.len() == LIMIT {
-            return Ok(None);
+        if count == LIMIT {
+            return None;
         }
-        points.push(point)?;
+        count += 1;
     }
-    Ok(Some(points))
+    Some(Mapping { text, count })
 }
 
 /// The same, of one code point or more. `None` also where there are none.
-///
-/// - `Memory`: memory ran out.
-pub fn some_mapping_of(alloc: Global, text: &[u8]) -> Result<Option<Points>, Memory>
-    ensures { IfOk result (λ found. found ≡ at_least_one (mapping_of text.now)) }
+pub fn some_mapping_of(text: &[u8]) -> Option<Mapping<'_>>
+    ensures { result ≡ at_least_one (mapping_of text.now) }
 {
-    let Some(points) = mapping_of(alloc, text)? else {
-        return Ok(None);
-    };
-    if points.as_slice().is_empty() {
-        return Ok(None);
+    let mapping = mapping_of(text)?;
+    if mapping.len() == 0 {
+        return None;
     }
-    Ok(Some(points))
-}
-
-/// Whether a byte may stand in the conditions: white space, or a byte from 21 to 7E.
-fn is_condition_byte(byte: u8) -> bool
-    ensures { result ≡ is_condition_byte byte }
-{
-    is_blank(byte) || (b'!'..=b'~').contains(&byte)
-}
-
-/// Whether each byte may stand in the conditions.
-fn are_condition_bytes(text: &[u8]) -> bool
-    ensures { result ≡ list_all is_condition_byte text.now }
-{
-    text.iter().all(|b| is_condition_byte(*b))
-}
-
-/// Puts a word at the end, behind a space where it is not the first one.
-fn put_word(spaced: &mut Text, word: &[u8]) -> Result<(), Memory>
-    ensures { OnOk result (spaced.new ≡ with_word spaced.old word.now) }
-{
-    if !spaced.as_slice().is_empty() {
-        spaced.push(b' ')?;
-    }
-    spaced.append(word)
-}
-
-/// The words of a text with one space between them.
-fn spaced_words(alloc: Global, text: &[u8]) -> Result<Text, Memory>
-    ensures { IfOk result (λ spaced. spaced ≡ spaced_words text.now) }
-{
-    let mut spaced = Text::new(alloc);
-    let mut rest = text;
-    'words: while !rest.is_empty() {
-        let (word, behind) = first_word(rest);
-        rest = behind;
-        if word.is_empty() {
-            continue;
-        }
-        put_word(&mut spaced, word)?;
-    }
-    Ok(spaced)
-}
-
-/// The conditions that a text holds. `None` where a byte may not stand in one.
-///
-/// - `Memory`: memory ran out.
-#[tactic(auto, unfolding(ucd_model::specs::Mappings::conditions_of))]
-pub fn conditions_of(alloc: Global, text: &[u8]) -> Result<Option<Text>, Memory>
-    ensures { IfOk result (λ found. found ≡ conditions_of text.now) }
-{
-    if !are_condition_bytes(text) {
-        return Ok(None);
-    }
-    Ok(Some(spaced_words(alloc, text)?))
+    Some(mapping)
 }

@@ -3,18 +3,32 @@
 ghost use Rattle.std.specs.Prelude.{◌≡◌};
 ghost use Rattle.std.specs.List.{before_first};
 ghost use Rattle.ucd_model.specs.Fields.{field, is_hash};
-ghost use Rattle.ucd_model.specs.Mappings.{mapping_of};
-ghost use Rattle.source_rows.specs.Faults.{IsDue, ReadsAs};
-ghost use Rattle.source_rows.specs.declared.fault.RowFault.TheVariants.{G07};
+ghost use Rattle.source_rows.specs.RowRefs.{RefAs};
 ghost use Rattle.source_rows.specs.Fields.{fields_of};
 ghost use Rattle.source_rows.specs.OtherFaults.{casing_or_fault, has_casing_fields};
 
-use crate::fault::{RowFault, RowStop};
+use crate::conditions::{Conditions, conditions_of};
+use crate::fault::RowFault;
 use crate::fields::{field_count, first_field, three_fields, without_comment};
-use crate::mapping::{conditions_of, mapping_of};
-use std::alloc::Global;
+use crate::mapping::{Mapping, mapping_of};
+use crate::row_ref::RowRef;
 use ucd_lines::hex;
-use ucd_model::{CasingRow, Memory, Points, Row};
+use ucd_model::Point;
+
+/// A row of SpecialCasing.txt as it stands in its line.
+#[derive(Drop)]
+pub struct CasingText<'a> {
+    /// The code point.
+    pub code: Point,
+    /// Its full mapping to lower case.
+    pub lower: Mapping<'a>,
+    /// Its full mapping to title case.
+    pub title: Mapping<'a>,
+    /// Its full mapping to upper case.
+    pub upper: Mapping<'a>,
+    /// The conditions under which it has them.
+    pub conditions: Conditions<'a>,
+}
 
 /// The fields of a line, each a part of it. A field that is not there is empty.
 #[derive(Clone, Copy)]
@@ -56,47 +70,38 @@ pub fn conditions_field(text: &[u8]) -> &[u8]
     casing_fields(text).conditions
 }
 
-/// The mapping that a field spells.
-///
-/// - `Fault(G07)`: it is no mapping.
-/// - `Memory`: memory ran out.
-fn due_mapping(alloc: Global, text: &[u8]) -> Result<Points, RowStop>
-    ensures { IsDue G07 result (mapping_of text.now) }
-{
-    match mapping_of(alloc, text) {
-        Ok(Some(points)) => Ok(points),
-        Ok(None) => Err(RowStop::Fault(RowFault::G07)),
-        Err(Memory) => Err(RowStop::Memory),
-    }
-}
-
 /// The row of a line.
 ///
-/// - `Fault(G03)`: there are not four to six fields, or the sixth is not empty.
-/// - `Fault(G04)`: the first is no code point.
-/// - `Fault(G07)`: the second, third or fourth is no mapping.
-/// - `Fault(G11)`: the fifth has a byte that no condition has.
-/// - `Memory`: memory ran out.
+/// - `G03`: there are not four to six fields, or the sixth is not empty.
+/// - `G04`: the first is no code point.
+/// - `G07`: the second, third or fourth is no mapping.
+/// - `G11`: the fifth has a byte that no condition has.
 #[tactic(auto, unfolding(crate::specs::OtherFaults::casing_or_fault))]
-pub fn read_casing(alloc: Global, content: &[u8]) -> Result<Row, RowStop>
-    ensures { ReadsAs result (casing_or_fault (fields_of (before_first is_hash content.now))) }
+pub fn read_casing(content: &[u8]) -> Result<RowRef<'_>, RowFault>
+    ensures { RefAs result (casing_or_fault (fields_of (before_first is_hash content.now))) }
 {
     let text = without_comment(content);
     let count = field_count(text);
     let line = casing_fields(text);
     if count < 4 || count > 6 || !line.behind.is_empty() {
-        return Err(RowStop::Fault(RowFault::G03));
+        return Err(RowFault::G03);
     }
     let Some(code) = hex(line.code) else {
-        return Err(RowStop::Fault(RowFault::G04));
+        return Err(RowFault::G04);
     };
-    let lower = due_mapping(alloc, line.lower)?;
-    let title = due_mapping(alloc, line.title)?;
-    let upper = due_mapping(alloc, line.upper)?;
-    let Some(conditions) = conditions_of(alloc, line.conditions)? else {
-        return Err(RowStop::Fault(RowFault::G11));
+    let Some(lower) = mapping_of(line.lower) else {
+        return Err(RowFault::G07);
     };
-    Ok(Row::Casing(CasingRow {
+    let Some(title) = mapping_of(line.title) else {
+        return Err(RowFault::G07);
+    };
+    let Some(upper) = mapping_of(line.upper) else {
+        return Err(RowFault::G07);
+    };
+    let Some(conditions) = conditions_of(line.conditions) else {
+        return Err(RowFault::G11);
+    };
+    Ok(RowRef::Casing(CasingText {
         code,
         lower,
         title,

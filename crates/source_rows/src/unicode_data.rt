@@ -8,35 +8,32 @@ ghost use Rattle.source_rows.specs.Fields.{fields_of, fields_in};
 ghost use Rattle.source_rows.specs.Lines.{is_first_line};
 ghost use Rattle.source_rows.specs.Openings.{may_open_name};
 ghost use Rattle.source_rows.specs.DataFaults.{DataTextAs, unit_or_fault, single_or_fault, single_end, are_last_fields, pair_end};
-ghost use Rattle.source_rows.specs.Faults.{ReadsAs, lines_or_fault, row_or_fault};
+ghost use Rattle.source_rows.specs.Faults.{lines_or_fault, row_or_fault};
+ghost use Rattle.source_rows.specs.RowRefs.{RefAs};
 
 use crate::code_point::{has_first_name, has_last_name, is_name, is_range_name, label_of};
-use crate::data_text::{DataText, data_row};
+use crate::data_text::DataText;
 use crate::data_values::read_values;
-use crate::fault::{RowFault, RowStop};
+use crate::fault::RowFault;
 use crate::fields::{field_count, near_cut, two_fields};
 use crate::fifteen::{DataFields, FIELDS, fifteen_fields};
 use crate::lines::{holds_line_feed, without_return};
-use std::alloc::Global;
+use crate::row_ref::RowRef;
 use ucd_lines::{cut, hex, is_blank};
-use ucd_model::{Point, Row, SourceFile, Span};
+use ucd_model::{Point, SourceFile, Span};
 
 /// The row of a line's fields 2 to 14, of a name, and of what was found of its span; or the first fault.
 #[tactic(auto, unfolding(crate::specs::DataFaults::unit_or_fault))]
-fn read_unit<'a>(
-    alloc: Global,
+fn text_or_fault<'a>(
     line: &DataFields<'a>,
     range: bool,
     name: &'a [u8],
     end: Result<Span, RowFault>,
-) -> Result<DataText<'a>, RowStop>
+) -> Result<DataText<'a>, RowFault>
     ensures { DataTextAs result (unit_or_fault (fields_in line.now) range name.now end) }
 {
-    let values = read_values(alloc, line)?;
-    let span = match end {
-        Ok(span) => span,
-        Err(fault) => return Err(RowStop::Fault(fault)),
-    };
+    let values = read_values(line)?;
+    let span = end?;
     Ok(DataText {
         span,
         range,
@@ -58,20 +55,20 @@ pub fn single_end(point: Point, name: &[u8]) -> Result<Span, RowFault>
 
 /// The row of one line, or its first fault.
 #[tactic(auto, unfolding(ucd_model::specs::Fields::fields, crate::specs::DataFaults::single_or_fault))]
-fn read_single(alloc: Global, content: &[u8]) -> Result<DataText<'_>, RowStop>
+fn read_single(content: &[u8]) -> Result<DataText<'_>, RowFault>
     ensures { DataTextAs result (single_or_fault (fields SourceFile.UnicodeData content.now)) }
 {
     if field_count(content) != FIELDS {
-        return Err(RowStop::Fault(RowFault::G03));
+        return Err(RowFault::G03);
     }
     let line = fifteen_fields(content);
     let Some(point) = hex(line.f0) else {
-        return Err(RowStop::Fault(RowFault::G04));
+        return Err(RowFault::G04);
     };
     if !is_name(line.f1) {
-        return Err(RowStop::Fault(RowFault::G11));
+        return Err(RowFault::G11);
     }
-    read_unit(alloc, &line, false, line.f1, single_end(point, line.f1))
+    text_or_fault(&line, false, line.f1, single_end(point, line.f1))
 }
 
 /// Whether a text begins with white space or `<`, as that of a name does that begins with `<`.
@@ -128,50 +125,46 @@ fn pair_end(label: &[u8], lo: Point, last: &[u8]) -> Result<Span, RowFault>
 
 /// The row of two lines, or its first fault.
 #[tactic(auto, unfolding(ucd_model::specs::Fields::fields, crate::specs::DataFaults::pair_or_fault))]
-pub fn read_pair<'a>(alloc: Global, front: &'a [u8], last: &[u8]) -> Result<DataText<'a>, RowStop>
+pub fn read_pair<'a>(front: &'a [u8], last: &[u8]) -> Result<DataText<'a>, RowFault>
     ensures { DataTextAs result (lines_or_fault SourceFile.UnicodeData front.now last.now) }
 {
     let first = without_return(front);
     if holds_line_feed(last) || !begins_range(first) {
-        return Err(RowStop::Fault(RowFault::G03));
+        return Err(RowFault::G03);
     }
     let line = fifteen_fields(first);
     let Some(lo) = hex(line.f0) else {
-        return Err(RowStop::Fault(RowFault::G04));
+        return Err(RowFault::G04);
     };
     let label = label_of(b", First>", line.f1);
-    read_unit(alloc, &line, true, label, pair_end(label, lo, last))
+    text_or_fault(&line, true, label, pair_end(label, lo, last))
 }
 
-/// The row that [`read_row`](crate::read_row) reads from a line of UnicodeData.txt, or from the two lines of a range, as it
-/// stands there: only the members of its mapping are copied. The rules are tested in this order:
+/// The row of a line, or of the two lines of a range. The rules are tested in this order:
 ///
-/// - `Fault(G03)`: there are not 15 fields; or there are two lines, and the first begins no range or the second holds a
-///   LF.
-/// - `Fault(G04)`: field 0 is no code point.
-/// - `Fault(G11)`: field 1 of one line is no name.
-/// - `Fault(fault)`: one of the fields 2 to 14 breaks a rule, G05 to G07 or G10.
-/// - `Fault(G09)`: one line has the name of a range; or the second of two lines does not end the range.
-/// - `Fault(G04)`: field 0 of the second line is no code point, or less than that of the first.
-/// - `Memory`: memory ran out.
+/// - `G03`: there are not 15 fields; or there are two lines, and the first begins no range or the second holds a LF.
+/// - `G04`: field 0 is no code point.
+/// - `G11`: field 1 of one line is no name.
+/// - One of the fields 2 to 14 breaks a rule: G05 to G07 or G10.
+/// - `G09`: one line has the name of a range; or the second of two lines does not end the range.
+/// - `G04`: field 0 of the second line is no code point, or less than that of the first.
 ///
 /// UAX #44, sections 4.2.3 and 5.3, table 9.
 #[tactic(auto, unfolding(crate::specs::Faults::row_or_fault))]
-pub fn read_data_text(alloc: Global, bytes: &[u8]) -> Result<DataText<'_>, RowStop>
+fn read_data(bytes: &[u8]) -> Result<DataText<'_>, RowFault>
     ensures { DataTextAs result (row_or_fault SourceFile.UnicodeData bytes.now) }
 {
     if !holds_line_feed(bytes) {
-        return read_single(alloc, bytes);
+        return read_single(bytes);
     }
     let (front, last) = cut(bytes, b'\n');
-    read_pair(alloc, front, last)
+    read_pair(front, last)
 }
 
-/// The row of one line or of two, or its first fault.
-pub fn read_data(alloc: Global, bytes: &[u8]) -> Result<Row, RowStop>
-    ensures { ReadsAs result (row_or_fault SourceFile.UnicodeData bytes.now) }
+/// The same, as a row of any file.
+pub fn read_unit(bytes: &[u8]) -> Result<RowRef<'_>, RowFault>
+    ensures { RefAs result (row_or_fault SourceFile.UnicodeData bytes.now) }
 {
-    let text = read_data_text(alloc, bytes)?;
-    let row = data_row(alloc, text)?;
-    Ok(Row::Unit(row))
+    let text = read_data(bytes)?;
+    Ok(RowRef::Unit(text))
 }

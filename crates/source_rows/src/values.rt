@@ -2,15 +2,15 @@
 
 ghost use Rattle.ucd_model.specs.Fields.{is_hash};
 ghost use Rattle.std.specs.List.{before_first};
-ghost use Rattle.source_rows.specs.Faults.{ReadsAs, ValueTextAs};
+ghost use Rattle.source_rows.specs.RowRefs.{RefAs};
 ghost use Rattle.source_rows.specs.Fields.{fields_of};
 ghost use Rattle.source_rows.specs.OtherFaults.{value_or_fault};
 
 use crate::code_point::{is_name, span_of};
-use crate::fault::{RowFault, RowStop};
-use crate::fields::{field_count, text_of, two_fields, without_comment};
-use std::alloc::Global;
-use ucd_model::{Row, Span, ValueRow};
+use crate::fault::RowFault;
+use crate::fields::{field_count, two_fields, without_comment};
+use crate::row_ref::RowRef;
+use ucd_model::Span;
 
 /// The number of fields of a line.
 const FIELDS: usize = 2;
@@ -24,14 +24,14 @@ pub struct ValueText<'a> {
     pub value: &'a [u8],
 }
 
-/// The span and the value of a line, without a copy.
+/// The row of a line.
 ///
 /// - `G03`: there are not two fields.
 /// - `G04`: the first is no code point and no span.
 /// - `G11`: the second is no name.
 #[tactic(auto, unfolding(crate::specs::OtherFaults::value_or_fault))]
-pub fn value_text(content: &[u8]) -> Result<ValueText<'_>, RowFault>
-    ensures { ValueTextAs result (value_or_fault (fields_of (before_first is_hash content.now))) }
+pub fn read_value(content: &[u8]) -> Result<RowRef<'_>, RowFault>
+    ensures { RefAs result (value_or_fault (fields_of (before_first is_hash content.now))) }
 {
     let text = without_comment(content);
     if field_count(text) != FIELDS {
@@ -44,25 +44,5 @@ pub fn value_text(content: &[u8]) -> Result<ValueText<'_>, RowFault>
     if !is_name(value) {
         return Err(RowFault::G11);
     }
-    Ok(ValueText { span, value })
-}
-
-/// The row of a line.
-///
-/// - `Fault(G03)`: there are not two fields.
-/// - `Fault(G04)`: the first is no code point and no span.
-/// - `Fault(G11)`: the second is no name.
-/// - `Memory`: memory ran out.
-pub fn read_value(alloc: Global, content: &[u8]) -> Result<Row, RowStop>
-    ensures { ReadsAs result (value_or_fault (fields_of (before_first is_hash content.now))) }
-{
-    let text = match value_text(content) {
-        Ok(text) => text,
-        Err(fault) => return Err(RowStop::Fault(fault)),
-    };
-    let value = text_of(alloc, text.value)?;
-    Ok(Row::Value(ValueRow {
-        span: text.span,
-        value,
-    }))
+    Ok(RowRef::Value(ValueText { span, value }))
 }

@@ -5,6 +5,7 @@ ghost use Rattle.stability_policies.specs.NamedRows.{AreAbove, AreLeft, KeepsSte
 
 use crate::named_row::{NamedRow, push_named, put_names};
 use release_rows::RowText;
+use source_rows::RowRef;
 use std::alloc::Global;
 use ucd_model::Memory;
 
@@ -85,7 +86,7 @@ fn take_one(
     if old.is_same_text(new) {
         return Ok(Step::Same);
     }
-    if begins_first(alloc, old, new)? {
+    if begins_first(old, new) {
         push_named(alloc, old, before)?;
         return Ok(Step::Old);
     }
@@ -95,16 +96,14 @@ fn take_one(
 
 /// Whether the first of two rows begins before the second, or where it does. It keeps the two files in step, so that rows
 /// that stand in both meet.
-///
-/// - `Memory`: memory ran out.
-fn begins_first(alloc: Global, row: &RowText<'_>, other: &RowText<'_>) -> Result<bool, Memory>
-    ensures { IfOk result (λ first. first ≡ begins_first row.now other.now) }
+fn begins_first(row: &RowText<'_>, other: &RowText<'_>) -> bool
+    ensures { result ≡ begins_first row.now other.now }
 {
-    let Some(first) = row.data(alloc)? else {
-        return Ok(true);
+    let RowRef::Unit(first) = row.row() else {
+        return true;
     };
-    let Some(second) = other.data(alloc)? else {
-        return Ok(true);
+    let RowRef::Unit(second) = other.row() else {
+        return true;
     };
-    Ok(first.span.first() <= second.span.first())
+    first.span.first() <= second.span.first()
 }

@@ -17,4 +17,4 @@ returns c =
     let begins : are_first_fields line ≡ true = ap (λ (fs : List (List ℕ)). are_first_fields fs) c.fifteen_fields-line.ensures ∙ first in
     let e = pair_is line (fields UnicodeData c.args.last.now) c.in-Some.lo c.label_of-label.result.now c.pair_end.result begins (sym c.hex.ensures ∙ c.in-Some.is) c.label_of-label.ensures c.pair_end.ensures in
     let no_feed = sym c.holds_line_feed.ensures ∙ c.if-holds_line_feed.false in
-    rw no_feed (subst (λ (fs : List (List ℕ)). DataTextAs c.read_unit.result (pair_or_fault fs (fields UnicodeData c.args.last.now))) same (rw e c.read_unit.ensures))
+    rw no_feed (subst (λ (fs : List (List ℕ)). DataTextAs c.text_or_fault.result (pair_or_fault fs (fields UnicodeData c.args.last.now))) same (rw e c.text_or_fault.ensures))

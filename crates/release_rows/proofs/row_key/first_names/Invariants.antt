@@ -1,7 +1,7 @@
 use Rattle.std.proofs.Common.{◌≡◌, ◌++◌, take}
 use Rattle.release_rows.specs.Names.{first_names}
 use Rattle.release_rows.proofs.KeyTexts.{names_behind}
-use Rattle.release_rows.proofs.read_entry.first_names.Given as goal
+use Rattle.release_rows.proofs.row_key.first_names.Given as goal
 
 -- the names so far, and behind them those that are left, are the first names of the whole
 abbrev pub invariant-names : goal.invariant-names

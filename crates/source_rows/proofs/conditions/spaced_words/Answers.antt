@@ -2,7 +2,7 @@ use Rattle.std.proofs.Common.{List, ℕ, sym, ap, ◌∙◌}
 use Rattle.ucd_model.specs.Mappings.{words}
 use Rattle.source_rows.proofs.Words.{no_word, one_word, at_end}
 use Rattle.source_rows.proofs.Spaced.{behind_words, words_onto, all_behind}
-use Rattle.source_rows.proofs.mapping.spaced_words.Goals as goal
+use Rattle.source_rows.proofs.conditions.spaced_words.Goals as goal
 
 pub words-preserved-then-is_empty : goal.words-preserved-then-is_empty
 words-preserved-then-is_empty c =

@@ -1,7 +1,7 @@
 use Rattle.std.proofs.Common.{◌≡◌, [], length}
 use Rattle.ucd_model.specs.Mappings.{words}
 use Rattle.source_rows.proofs.Spaced.{behind_words}
-use Rattle.source_rows.proofs.mapping.spaced_words.Given as goal
+use Rattle.source_rows.proofs.conditions.spaced_words.Given as goal
 
 -- the words so far, and behind them what is left, are what the whole gives
 abbrev pub invariant-words : goal.invariant-words

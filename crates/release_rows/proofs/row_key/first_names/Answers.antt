@@ -1,7 +1,7 @@
 use Rattle.std.proofs.Common.{ℕ, List, ◌++◌, take, sym, ap, ◌∙◌}
 use Rattle.release_rows.specs.Names.{first_names}
 use Rattle.release_rows.proofs.KeyTexts.{names_behind, first_and_behind, more_names}
-use Rattle.release_rows.proofs.read_entry.first_names.Goals as goal
+use Rattle.release_rows.proofs.row_key.first_names.Goals as goal
 
 pub names-init : goal.names-init
 names-init c =

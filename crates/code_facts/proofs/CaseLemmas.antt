@@ -1,12 +1,12 @@
 -- The first row that gives an image.
 use Rattle.std.proofs.Common.{◌≡◌, ℕ, ◌+◌, ◌<◌, Bool, true, false, cond, ◌==◌, List, [], ◌∷◌, ◌++◌, length, take, get_or, find, Option, Some, None, is_some, refl, sym, ap, ◌∙◌, arith}
 use Rattle.std.specs.Ordering.{nat_cmp}
-use Rattle.std.specs.BTreeMap.{is_at}
+use Rattle.std.specs.BTreeMap.{BTreeMap, is_at}
 use Rattle.std.proofs.lemmas.Bool.Decides.{nat_tests}
 use Rattle.std.proofs.lemmas.List.{take_more}
 use Rattle.ucd_model.specs.declared.row.Row.{Row}
 use Rattle.ucd_model.specs.declared.row.Row.TheVariants.{Unit as DataLine, Value as ValueLine, Exclusion as ExclusionLine, Fold as FoldLine, Casing as CasingLine, Alias as AliasLine}
-use Rattle.code_facts.specs.Found.{first_some, passes, image_in, image_by, image_of_row}
+use Rattle.code_facts.specs.Found.{found, first_some, given_to, passes, image_in, image_by, image_of_row}
 use Rattle.code_facts.specs.declared.case.Case.{Case}
 use Rattle.code_facts.specs.declared.case.Case.TheVariants.{Fold, Lower, Title, Upper}
 
@@ -62,6 +62,18 @@ image_push case c (x ∷ xs) row = push_other case c x row xs (passes case c x) 
 
 pub image_more : (case : Case) (c : ℕ) (rows : List Row) (i : ℕ) (d : Row) → i < length rows → image_by case (take (i + 1) rows) c ≡ first_some (image_by case (take i rows) c) (image_of_row case c (get_or rows i d))
 image_more case c rows i d h = rw (take_more rows i d h) (image_push case c (take i rows) (get_or rows i d))
+
+-- a map that gets the images of one row more
+pub more_images : (case : Case) (rows : List Row) (i : ℕ) (d row : Row) (old new : BTreeMap ℕ (List ℕ)) (image : Option (ℕ × List ℕ)) → i < length rows → row ≡ get_or rows i d
+    → ((c : ℕ) → found old c ≡ image_by case (take i rows) c)
+    → ((c : ℕ) → found new c ≡ first_some (found old c) (given_to c image))
+    → ((c : ℕ) → given_to c image ≡ image_of_row case c row)
+    → (c : ℕ) → found new c ≡ image_by case (take (i + 1) rows) c
+more_images case rows i d row old new image inside is before puts gives c =
+    puts c
+    ∙ ap (λ o. first_some o (given_to c image)) (before c)
+    ∙ ap (first_some (image_by case (take i rows) c)) (gives c ∙ ap (image_of_row case c) is)
+    ∙ sym (image_more case c rows i d inside)
 
 -- ---- keys
 

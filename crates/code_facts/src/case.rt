@@ -1,12 +1,13 @@
 //! The images of code points that CaseFolding.txt and SpecialCasing.txt give.
 
-ghost use Rattle.std.specs.Prelude.{◌≡◌, ℕ, ◌==◌, Some, IfOk};
+ghost use Rattle.std.specs.Prelude.{◌≡◌, ℕ, ◌==◌};
 ghost use Rattle.ucd_model.specs.Facts.{status_place};
+ghost use Rattle.ucd_model.specs.declared.row.Row.{Row};
+ghost use Rattle.source_rows.specs.RowRefs.{casing_in, fold_in, row_in};
 ghost use Rattle.code_facts.specs.Found.{given_to, image_of_row};
 
-use crate::points::copied;
-use std::alloc::Global;
-use ucd_model::{CasingRow, FoldRow, FoldStatus, Memory, Point, Points, Row};
+use source_rows::{CasingText, FoldText, Mapping, RowRef};
+use ucd_model::{FoldStatus, Point};
 
 /// What an image is of: a folding of a status, or a casing without conditions.
 #[derive(Clone, Copy)]
@@ -22,53 +23,43 @@ pub enum Case {
 }
 
 impl Case {
-    /// The code point and a copy of the image that a row gives it; `None` where the row gives none of this case.
-    ///
-    /// - `Memory`: memory ran out.
-    pub fn image(self, alloc: Global, row: &Row) -> Result<Option<(Point, Points)>, Memory>
-        ensures { IfOk result (λ image. (c : ℕ) → given_to c image ≡ image_of_row self c row.now) }
+    /// The code point and the image that a row gives it; `None` where the row gives none of this case.
+    pub fn image<'a>(self, row: &RowRef<'a>) -> Option<(Point, Mapping<'a>)>
+        ensures { (c : ℕ) → given_to c result ≡ image_of_row self c (row_in row.now) }
     {
         match row {
-            Row::Fold(row) => self.folding(alloc, row),
-            Row::Casing(row) => self.casing(alloc, row),
-            _ => Ok(None),
+            RowRef::Fold(row) => self.folding(row),
+            RowRef::Casing(row) => self.casing(row),
+            _ => None,
         }
     }
 
     /// The image that a row of CaseFolding.txt gives.
-    fn folding(self, alloc: Global, row: &FoldRow) -> Result<Option<(Point, Points)>, Memory>
-        ensures { IfOk result (λ image. (c : ℕ) → given_to c image ≡ image_of_row self c (Row.Fold row.now)) }
+    fn folding<'a>(self, row: &FoldText<'a>) -> Option<(Point, Mapping<'a>)>
+        ensures { (c : ℕ) → given_to c result ≡ image_of_row self c (Row.Fold (fold_in row.now)) }
     {
         match self {
             Case::Fold(status) if same_status(row.status, status) => {
-                image_to(alloc, row.code, &row.mapping)
+                Some((row.code, row.mapping.again()))
             }
-            _ => Ok(None),
+            _ => None,
         }
     }
 
     /// The image that a row of SpecialCasing.txt gives, if it has no conditions.
-    fn casing(self, alloc: Global, row: &CasingRow) -> Result<Option<(Point, Points)>, Memory>
-        ensures { IfOk result (λ image. (c : ℕ) → given_to c image ≡ image_of_row self c (Row.Casing row.now)) }
+    fn casing<'a>(self, row: &CasingText<'a>) -> Option<(Point, Mapping<'a>)>
+        ensures { (c : ℕ) → given_to c result ≡ image_of_row self c (Row.Casing (casing_in row.now)) }
     {
-        if !row.conditions.as_slice().is_empty() {
-            return Ok(None);
+        if !row.conditions.is_empty() {
+            return None;
         }
         match self {
-            Case::Fold(_) => Ok(None),
-            Case::Lower => image_to(alloc, row.code, &row.lower),
-            Case::Title => image_to(alloc, row.code, &row.title),
-            Case::Upper => image_to(alloc, row.code, &row.upper),
+            Case::Fold(_) => None,
+            Case::Lower => Some((row.code, row.lower.again())),
+            Case::Title => Some((row.code, row.title.again())),
+            Case::Upper => Some((row.code, row.upper.again())),
         }
     }
-}
-
-/// A code point and a copy of its image.
-fn image_to(alloc: Global, code: Point, points: &Points) -> Result<Option<(Point, Points)>, Memory>
-    ensures { IfOk result (λ image. image ≡ Some (code, points.now)) }
-{
-    let copy = copied(alloc, points.as_slice())?;
-    Ok(Some((code, copy)))
 }
 
 /// Whether two statuses are the same.

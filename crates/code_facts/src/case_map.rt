@@ -5,60 +5,78 @@ ghost use Rattle.code_facts.specs.Found.{found, first_some, given_to, image_by};
 
 use crate::case::Case;
 use release_rows::RowText;
+use source_rows::Mapping;
 use std::alloc::Global;
 use std::collections::BTreeMap;
-use ucd_model::{Memory, Point, Points, Row};
+use ucd_model::{Memory, Point, Points};
 
-/// The rows that texts of rows stand for.
-///
-/// - `Memory`: memory ran out.
-pub fn read_rows(alloc: Global, texts: &[RowText<'_>]) -> Result<Vec<Row>, Memory>
-    ensures { IfOk result (λ rows. rows.items ≡ texts.now) }
-{
-    let mut rows = Vec::with_capacity(alloc, texts.len())?;
-    'texts: for text in texts {
-        rows.push(text.read(alloc)?)?;
-    }
-    Ok(rows)
+/// The images of three cases, each under its code point.
+#[derive(Drop)]
+pub struct ThreeMaps {
+    /// Those of the first case.
+    pub first: BTreeMap<Point, Points>,
+    /// Those of the second case.
+    pub second: BTreeMap<Point, Points>,
+    /// Those of the third case.
+    pub third: BTreeMap<Point, Points>,
 }
 
-/// The images of a case. Of several rows that give a code point one, the first counts.
+/// The images of three cases that rows give. Of several rows that give a code point one, the first counts. Each row is read
+/// once, and nothing but the images is copied.
 ///
 /// - `Memory`: memory ran out.
-pub fn case_map(alloc: Global, rows: &[Row], case: Case) -> Result<BTreeMap<Point, Points>, Memory>
-    ensures { IfOk result (λ map. (c : ℕ) → found map c ≡ image_by case rows.now c) }
+pub fn three_maps(
+    alloc: Global,
+    rows: &[RowText<'_>],
+    first: Case,
+    second: Case,
+    third: Case,
+) -> Result<ThreeMaps, Memory>
+    ensures first { IfOk result (λ maps. (c : ℕ) → found maps.first c ≡ image_by first rows.now c) }
+    ensures second { IfOk result (λ maps. (c : ℕ) → found maps.second c ≡ image_by second rows.now c) }
+    ensures third { IfOk result (λ maps. (c : ℕ) → found maps.third c ≡ image_by third rows.now c) }
 {
-    let mut map = BTreeMap::new(alloc);
-    'rows: for row in rows {
-        let image = case.image(alloc, row)?;
-        put_first(&mut map, image)?;
+    let mut firsts = BTreeMap::new(alloc);
+    let mut seconds = BTreeMap::new(alloc);
+    let mut thirds = BTreeMap::new(alloc);
+    'rows: for text in rows {
+        let row = text.row();
+        put_first(alloc, &mut firsts, first.image(&row))?;
+        put_first(alloc, &mut seconds, second.image(&row))?;
+        put_first(alloc, &mut thirds, third.image(&row))?;
     }
-    Ok(map)
+    Ok(ThreeMaps {
+        first: firsts,
+        second: seconds,
+        third: thirds,
+    })
 }
 
-/// Gives a code point an image, unless it has one.
+/// Gives a code point a copy of its image, unless it has one.
 fn put_first(
+    alloc: Global,
     map: &mut BTreeMap<Point, Points>,
-    image: Option<(Point, Points)>,
+    image: Option<(Point, Mapping<'_>)>,
 ) -> Result<(), Memory>
-    ensures { OnOk result ((c : ℕ) → found map.new c ≡ first_some (found map.old c) (given_to c image)) }
+    ensures { OnOk result ((c : ℕ) → found map.new c ≡ first_some (found map.old c) (given_to c image.entry)) }
 {
     if let Some((code, points)) = image {
-        insert_first(map, code, points)?;
+        insert_first(alloc, map, code, points)?;
     }
     Ok(())
 }
 
-/// Inserts an image, unless the code point has one.
+/// Inserts a copy of an image, unless the code point has one.
 fn insert_first(
+    alloc: Global,
     map: &mut BTreeMap<Point, Points>,
     code: Point,
-    points: Points,
+    points: Mapping<'_>,
 ) -> Result<(), Memory>
-    ensures { OnOk result ((c : ℕ) → found map.new c ≡ first_some (found map.old c) (if code == c then Some points else None)) }
+    ensures { OnOk result ((c : ℕ) → found map.new c ≡ first_some (found map.old c) (if code == c then Some points.entry else None)) }
 {
     if !map.contains_key(&code) {
-        map.insert(code, points)?;
+        map.insert(code, points.copied(alloc)?)?;
     }
     Ok(())
 }

@@ -4,21 +4,21 @@ ghost use Rattle.std.specs.Prelude.{◌≡◌, ℕ, None, IfOk, OnOk, IfSome, Is
 ghost use Rattle.std.specs.Box.{box_value};
 ghost use Rattle.std.specs.Option.{option_map};
 ghost use Rattle.code_facts.specs.Found.{found};
-ghost use Rattle.code_facts.specs.CaseMaps.{KeepsImages, KeepsFoldings, KeepsCasings, SameFoldings};
+ghost use Rattle.code_facts.specs.CaseMaps.{KeepsImages};
 ghost use Rattle.code_facts.specs.Plain.{HoldsTo};
 ghost use Rattle.code_facts.specs.Rest.{cases_of, no_cases};
 ghost use Rattle.code_facts.specs.RowLists.{sources_of};
 ghost use Rattle.code_facts.specs.RowTables.{cases_in, with_foldings};
 
 use crate::case::Case;
-use crate::case_map::{case_map, read_rows};
+use crate::case_map::three_maps;
 use crate::cases::Cases;
 use crate::given_points::GivenPoints;
 use crate::points::{lesser, point};
 use crate::row_lists::RowLists;
 use std::alloc::Global;
 use std::collections::BTreeMap;
-use ucd_model::{FoldStatus, Memory, Point, Points, Row};
+use ucd_model::{FoldStatus, Memory, Point, Points};
 
 /// The foldings of the statuses C, F and S, and the casings without conditions, each under its code point.
 #[derive(Drop)]
@@ -44,52 +44,28 @@ impl CaseMaps {
     pub fn of(alloc: Global, rows: &RowLists<'_>) -> Result<CaseMaps, Memory>
         ensures { IfOk result (λ maps. KeepsImages maps (sources_of rows.now)) }
     {
-        let mut maps = CaseMaps::empty(alloc);
-        maps.put(alloc, rows)?;
-        Ok(maps)
-    }
-
-    /// The maps without an image. It takes no memory.
-    fn empty(alloc: Global) -> CaseMaps {
-        CaseMaps {
-            common: BTreeMap::new(alloc),
-            full: BTreeMap::new(alloc),
-            simple: BTreeMap::new(alloc),
-            lower: BTreeMap::new(alloc),
-            title: BTreeMap::new(alloc),
-            upper: BTreeMap::new(alloc),
-        }
-    }
-
-    /// Puts the images that these rows give in the place of what is there.
-    fn put(&mut self, alloc: Global, rows: &RowLists<'_>) -> Result<(), Memory>
-        ensures { OnOk result (KeepsImages self.new (sources_of rows.now)) }
-    {
-        let folding_rows = read_rows(alloc, &rows.case_folding)?;
-        self.put_foldings(alloc, &folding_rows)?;
-        let casing_rows = read_rows(alloc, &rows.special_casing)?;
-        self.put_casings(alloc, &casing_rows)
-    }
-
-    /// Puts the images that these rows of CaseFolding.txt give in the place of what is there.
-    fn put_foldings(&mut self, alloc: Global, rows: &[Row]) -> Result<(), Memory>
-        ensures { OnOk result (KeepsFoldings self.new rows.now) }
-    {
-        self.common = case_map(alloc, rows, Case::Fold(FoldStatus::C))?;
-        self.full = case_map(alloc, rows, Case::Fold(FoldStatus::F))?;
-        self.simple = case_map(alloc, rows, Case::Fold(FoldStatus::S))?;
-        Ok(())
-    }
-
-    /// Puts the images that these rows of SpecialCasing.txt give in the place of what is there. Foldings stay.
-    fn put_casings(&mut self, alloc: Global, rows: &[Row]) -> Result<(), Memory>
-        ensures casings { OnOk result (KeepsCasings self.new rows.now) }
-        ensures foldings { OnOk result (SameFoldings self.old self.new) }
-    {
-        self.lower = case_map(alloc, rows, Case::Lower)?;
-        self.title = case_map(alloc, rows, Case::Title)?;
-        self.upper = case_map(alloc, rows, Case::Upper)?;
-        Ok(())
+        let foldings = three_maps(
+            alloc,
+            &rows.case_folding,
+            Case::Fold(FoldStatus::C),
+            Case::Fold(FoldStatus::F),
+            Case::Fold(FoldStatus::S),
+        )?;
+        let casings = three_maps(
+            alloc,
+            &rows.special_casing,
+            Case::Lower,
+            Case::Title,
+            Case::Upper,
+        )?;
+        Ok(CaseMaps {
+            common: foldings.first,
+            full: foldings.second,
+            simple: foldings.third,
+            lower: casings.first,
+            title: casings.second,
+            upper: casings.third,
+        })
     }
 
     /// The images of a code point; `None` only where it has none.

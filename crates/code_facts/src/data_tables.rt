@@ -91,21 +91,21 @@ impl DataTables {
         requires { IsFresh row.now (data_next self.old) }
         ensures { OnOk result (Adds row.now (data_next self.old) (data_next self.new)) }
     {
-        match row.point_values(alloc)? {
-            Some(given) => self.add(&given),
+        match row.point_values() {
+            Some(given) => self.add(alloc, &given),
             None => Ok(()),
         }
     }
 
     /// Gives the points of a row what the row gives. No row has given them anything.
-    fn add(&mut self, row: &PointValues) -> Result<(), Memory>
+    fn add(&mut self, alloc: Global, row: &PointValues<'_>) -> Result<(), Memory>
         requires fresh { IsFresh (DataLine (given_row row.now)) (data_next self.old) }
         ensures gives { OnOk result ((c : ℕ) → c < 1114112
             → data_next self.new c ≡ (if within c row.now.span then row_data c (Some (given_row row.now)) else data_next self.old c)) }
         ensures class { row.now.values.class < 256 }
     {
         add_word(&mut self.words, row)?;
-        add_mapping(&mut self.lists.mappings, row)?;
+        add_mapping(alloc, &mut self.lists.mappings, row)?;
         add_simple(&mut self.lists.uppers, row.span, row.values.upper)?;
         add_simple(&mut self.lists.lowers, row.span, row.values.lower)?;
         add_simple(&mut self.lists.titles, row.span, row.values.title)
@@ -124,7 +124,7 @@ impl DataTables {
 }
 
 /// Gives the points of a row its part of the word.
-fn add_word(words: &mut RunTable<u64>, row: &PointValues) -> Result<(), Memory>
+fn add_word(words: &mut RunTable<u64>, row: &PointValues<'_>) -> Result<(), Memory>
     ensures word { OnOk result ((c : ℕ) → c < 1114112 → values_next words.new c
         ≡ (if within c row.now.span then (row_data c (Some (given_row row.now))).word else values_next words.old c)) }
     ensures class { row.now.values.class < 256 }
@@ -140,16 +140,17 @@ fn add_word(words: &mut RunTable<u64>, row: &PointValues) -> Result<(), Memory>
 }
 
 /// Gives the points of a row its mapping, or that of a Hangul syllable, where they have none.
-fn add_mapping(mappings: &mut PointLists, row: &PointValues) -> Result<(), Memory>
+fn add_mapping(
+    alloc: Global,
+    mappings: &mut PointLists,
+    row: &PointValues<'_>,
+) -> Result<(), Memory>
     requires { AreEmpty (lists_next mappings.old) row.now.span }
     ensures { OnOk result ((c : ℕ) → c < 1114112 → lists_next mappings.new c
         ≡ (if within c row.now.span then mapping_in c (Some (given_row row.now)) else lists_next mappings.old c)) }
 {
-    put_list(
-        mappings,
-        row.span,
-        row.values.decomposition.mapping.as_slice(),
-    )?;
+    let points = row.values.decomposition.mapping.again().copied(alloc)?;
+    put_list(mappings, row.span, points.as_slice())?;
     if let Kind::Plain = row.values.decomposition.kind
         && let Some(part) = syllables(row.span)
     {

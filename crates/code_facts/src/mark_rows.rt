@@ -13,9 +13,9 @@ ghost use Rattle.code_facts.specs.RowLists.{sources_of};
 use crate::mark::{Mark, is_mid_word_value};
 use crate::row_lists::RowLists;
 use release_rows::RowText;
-use source_rows::ValueText;
+use source_rows::{RowRef, ValueText};
 use std::alloc::Global;
-use ucd_model::{FLAGS, Flag, Memory, Row, Span};
+use ucd_model::{FLAGS, Flag, Memory, Span};
 
 /// The code points of a row of PropList.txt that has the name of a flag.
 #[derive(Clone, Copy)]
@@ -58,25 +58,17 @@ fn excluded_of(alloc: Global, rows: &[RowText<'_>]) -> Result<Vec<Span>, Memory>
 {
     let mut spans = Vec::new(alloc);
     'rows: for row in rows {
-        push_some(&mut spans, excluded_in(alloc, row)?)?;
+        push_some(&mut spans, excluded_span(row))?;
     }
     Ok(spans)
 }
 
-/// The code points of a row of CompositionExclusions.txt, as its bytes stand for it.
-fn excluded_in(alloc: Global, row: &RowText<'_>) -> Result<Option<Span>, Memory>
-    ensures { IfOk result (λ span. (c : ℕ) → covers c span ≡ puts (Mark.Excluded) c row.now) }
-{
-    let row = row.read(alloc)?;
-    Ok(excluded_span(&row))
-}
-
 /// The code points of a row of CompositionExclusions.txt.
-fn excluded_span(row: &Row) -> Option<Span>
+fn excluded_span(row: &RowText<'_>) -> Option<Span>
     ensures { (c : ℕ) → covers c result ≡ puts (Mark.Excluded) c row.now }
 {
-    match row {
-        Row::Exclusion(row) => Some(row.span),
+    match row.row() {
+        RowRef::Exclusion(row) => Some(row.span),
         _ => None,
     }
 }

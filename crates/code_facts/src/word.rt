@@ -21,7 +21,7 @@ use ucd_model::{Category, Flags, Kind};
 pub const NO_ROW: u64 = 8 * 29;
 
 /// The part of the word that a row of UnicodeData.txt with these values gives, where the mapping is of this kind.
-pub fn data_word(values: &Values, kind: Kind) -> u64
+pub fn data_word(values: &Values<'_>, kind: Kind) -> u64
     ensures value { result ≡ data_part true values.now.category values.now.class kind }
     ensures class { values.now.class < 256 }
 {

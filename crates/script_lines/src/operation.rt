@@ -8,7 +8,7 @@ ghost use Rattle.script_lines.specs.declared.stop.ScriptRule.TheVariants.{E6};
 use crate::line::{Put, last_text};
 use crate::stop::{ScriptRule, ScriptStop};
 use release_rows::Op;
-use source_rows::{RowFault, RowStop, read_key, read_row};
+use source_rows::{RowFault, RowStop, read_key, read_row, read_row_ref};
 use std::alloc::Global;
 use ucd_model::{Memory, Row, SourceFile, Text};
 
@@ -28,31 +28,20 @@ fn row_text(alloc: Global, text: &[u8], next: Option<&[u8]>) -> Result<Text, Mem
 }
 
 /// Whether a fault is that of the second line of a range.
-fn is_last_fault(
-    alloc: Global,
-    file: SourceFile,
-    text: &[u8],
-    next: Option<&[u8]>,
-    fault: RowFault,
-) -> Result<bool, Memory>
-    ensures { IfOk result (λ last. last ≡ is_last_fault file text.now (option_map (λ n. n.now) next.entry) fault) }
+fn is_last_fault(file: SourceFile, text: &[u8], next: Option<&[u8]>, fault: RowFault) -> bool
+    ensures { result ≡ is_last_fault file text.now (option_map (λ n. n.now) next.entry) fault }
 {
     let Some(next) = next else {
-        return Ok(false);
+        return false;
     };
     if !matches!(fault, RowFault::G04) || last_text(next).is_none() {
-        return Ok(false);
+        return false;
     }
-    match read_row(alloc, file, text).err() {
-        Some(RowStop::Fault(RowFault::G09)) => Ok(true),
-        Some(RowStop::Memory) => Err(Memory),
-        _ => Ok(false),
-    }
+    matches!(read_row_ref(file, text), Err(RowFault::G09))
 }
 
 /// The fault of a row.
 fn row_stop(
-    alloc: Global,
     line: u32,
     file: SourceFile,
     text: &[u8],
@@ -63,14 +52,13 @@ fn row_stop(
     ensures { StopsAs result (record { line = fault_line line file text.now (option_map (λ n. n.now) next.entry) fault; rule = E6 fault }) }
 {
     let rule = ScriptRule::E6(fault);
-    match is_last_fault(alloc, file, text, next, fault) {
-        Ok(true) => ScriptStop::Fault {
+    if is_last_fault(file, text, next, fault) {
+        return ScriptStop::Fault {
             line: line + 1,
             rule,
-        },
-        Ok(false) => ScriptStop::Fault { line, rule },
-        Err(_) => ScriptStop::Memory,
+        };
     }
+    ScriptStop::Fault { line, rule }
 }
 
 /// The operation that puts a row.
@@ -102,7 +90,7 @@ pub fn row_op(
     let bytes = row_text(alloc, text, next)?;
     match read_row(alloc, file, bytes.as_slice()) {
         Ok(row) => Ok(op_of(put, file, row, bytes)),
-        Err(RowStop::Fault(fault)) => Err(row_stop(alloc, line, file, text, next, fault)),
+        Err(RowStop::Fault(fault)) => Err(row_stop(line, file, text, next, fault)),
         Err(RowStop::Memory) => Err(ScriptStop::Memory),
     }
 }

@@ -16,7 +16,7 @@ use Rattle.release_rows.specs.declared.entry.Entry.{Entry}
 use Rattle.release_rows.proofs.RowRules.{extent_is}
 
 -- the extent of a row, where there is one
-abbrev row_extents : SourceFile → Option Row → List Extent
+abbrev pub row_extents : SourceFile → Option Row → List Extent
 row_extents file None = []
 row_extents file (Some row) = extent_in file row ∷ []
 
@@ -25,7 +25,7 @@ abbrev start_with : Option ℕ → Option Row → Option ℕ
 start_with before None = before
 start_with before (Some row) = Some (row_span row).lo
 
-extents_are : (file : SourceFile) (entry : Option Entry) (row : Option Row) → EntersSome file entry row → entry_extents entry ≡ row_extents file row
+pub extents_are : (file : SourceFile) (entry : Option Entry) (row : Option Row) → EntersSome file entry row → entry_extents entry ≡ row_extents file row
 extents_are file None None h = refl
 extents_are file (Some e) (Some row) h = ap (λ (x : Extent). x ∷ []) (extent_is file row e.place e.last h.names h.code h.last)
 extents_are file None (Some row) h = absurd h
@@ -57,13 +57,13 @@ start_grows : (rows : List Row) (row : Option Row) → start_with (last_start ro
 start_grows rows None = ap last_start (sym (append-nil rows))
 start_grows rows (Some row) = sym (start_of rows row)
 
-swap_any : (a b : Bool) → (a || b) ≡ (b || a)
+pub swap_any : (a b : Bool) → (a || b) ≡ (b || a)
 swap_any true true = refl
 swap_any true false = refl
 swap_any false true = refl
 swap_any false false = refl
 
-map_more : (file : SourceFile) (rows : List Row) (row : Option Row) → map (extent_in file) (rows ++ onto_rows row []) ≡ map (extent_in file) rows ++ row_extents file row
+pub map_more : (file : SourceFile) (rows : List Row) (row : Option Row) → map (extent_in file) (rows ++ onto_rows row []) ≡ map (extent_in file) rows ++ row_extents file row
 map_more file [] None = refl
 map_more file [] (Some row) = refl
 map_more file (r ∷ rows) row = ap (λ (es : List Extent). extent_in file r ∷ es) (map_more file rows row)

@@ -29,6 +29,8 @@ pub mod Arena
 pub mod Cuts
 pub mod Reload
 pub mod Sound
+pub mod Chains
+pub mod Gathered
 mod StoredRows
 mod FoundRows
 mod Edited

@@ -64,7 +64,7 @@ kept_below file above (item ∷ items) read apart = (
   kept_below file (above ++ item ∷ []) items read.1 (rw (append_assoc above (item ∷ []) items) apart),
 )
 
-are_kept : (file : SourceFile) (items : List FileItem) → AllRead file items → all_apart file (rows_in items) ≡ true → AreKept file items
+pub are_kept : (file : SourceFile) (items : List FileItem) → AllRead file items → all_apart file (rows_in items) ≡ true → AreKept file items
 are_kept file items read apart = kept_below file [] items read apart
 
 -- ---- the item of an operation's row

@@ -39,10 +39,10 @@ none_overlap : (file : SourceFile) (row : Row) (above : List Row) → has_spans 
 none_overlap file row [] h = refl
 none_overlap file row (a ∷ above) h = rw (h, none_overlap file row above h) refl
 
-meets_spans : (file : SourceFile) (row a : Row) → has_spans file ≡ true → meets (extent_in file row) (extent_in file a) ≡ overlaps file row a
+pub meets_spans : (file : SourceFile) (row a : Row) → has_spans file ≡ true → meets (extent_in file row) (extent_in file a) ≡ overlaps file row a
 meets_spans file row a h = rw h refl
 
-meets_points : (file : SourceFile) (row a : Row) → has_spans file ≡ false → meets (extent_in file row) (extent_in file a) ≡ same_key file row a
+pub meets_points : (file : SourceFile) (row a : Row) → has_spans file ≡ false → meets (extent_in file row) (extent_in file a) ≡ same_key file row a
 meets_points file row a h = rw (h, both_ways (row_span row).lo (row_span a).lo) refl
 
 one_rule : (b : Bool) → cond b (Some K1) (cond b (Some K4) None) ≡ cond b (Some K1) None

@@ -29,7 +29,7 @@ texts_swap a b = both_or_none (same_texts a b) (same_texts b a) (λ h. rw (texts
 pub numbers_swap : (a b : ℕ) → eqb a b ≡ eqb b a
 numbers_swap a b = grind (arith, nat_tests)
 
-spans_swap : (a b c d : ℕ) → (leb a d && leb c b) ≡ (leb c b && leb a d)
+pub spans_swap : (a b c d : ℕ) → (leb a d && leb c b) ≡ (leb c b && leb a d)
 spans_swap a b c d = grind (arith, nat_tests)
 
 pub keys_swap : (file : SourceFile) (a b : Row) → same_key file a b ≡ same_key file b a

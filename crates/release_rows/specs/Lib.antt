@@ -1,6 +1,7 @@
 pub mod Extents
 pub mod Briefs
 pub mod Places
+pub mod Chains
 pub mod Runs
 pub mod Names
 pub mod Keys
@@ -13,6 +14,7 @@ pub mod StoredItems
 pub mod Given
 pub mod Progress
 pub mod Loaders
+pub mod Gathered
 pub mod Walking
 pub mod Releases
 pub mod Operations

@@ -56,7 +56,7 @@ fn put_extent(keys: &mut KeySet, entry: Option<Entry>) -> Result<(), Memory>
 }
 
 /// The first code point of the last row, with one more row, where there is one.
-fn start_with(before: Option<u32>, entry: &Option<Entry>) -> Option<u32>
+pub fn start_with(before: Option<u32>, entry: &Option<Entry>) -> Option<u32>
     ensures { result ≡ start_of_entry before entry.now }
 {
     match entry {
@@ -66,7 +66,7 @@ fn start_with(before: Option<u32>, entry: &Option<Entry>) -> Option<u32>
 }
 
 /// A stretch with the code points of its row. Trivia has the first code point of the last row.
-fn spanned(stretch: Stretch, entry: &Option<Entry>, before: Option<u32>) -> Spanned<Stretch>
+pub fn spanned(stretch: Stretch, entry: &Option<Entry>, before: Option<u32>) -> Spanned<Stretch>
     ensures item { result.item ≡ stretch }
     ensures span { (file : FileValue) (row : Option RowValue) → EntersSome file entry.now row → HasSpan file row result.code result.last }
 {
@@ -82,7 +82,7 @@ fn spanned(stretch: Stretch, entry: &Option<Entry>, before: Option<u32>) -> Span
 }
 
 /// The stretch of a row, with what is kept of what the row gives; a stretch of trivia as it is.
-fn with_brief(stretch: Stretch, entry: &Option<Entry>) -> Stretch
+pub fn with_brief(stretch: Stretch, entry: &Option<Entry>) -> Stretch
     ensures start { result.start ≡ stretch.start }
     ensures len { result.len ≡ stretch.len }
     ensures ending { result.ending ≡ stretch.ending }

@@ -1,12 +1,12 @@
 //! Reads what is kept of a row while its file is loaded.
 
-ghost use Rattle.std.specs.Prelude.{◌≡◌, ◌≤◌, Ok, if◌then◌else◌};
+ghost use Rattle.std.specs.Prelude.{◌≡◌, ◌≤◌, Ok};
 ghost use Rattle.ucd_model.specs.RowValues.{RowOk};
 ghost use Rattle.source_rows.specs.Faults.{row_or_fault};
 ghost use Rattle.source_rows.specs.Keys.{row_span};
 ghost use Rattle.source_rows.specs.RowRefs.{row_in};
 ghost use Rattle.release_rows.specs.Entries.{EntersAs};
-ghost use Rattle.release_rows.specs.Keys.{has_spans};
+ghost use Rattle.release_rows.specs.Keys.{row_end};
 
 use crate::brief::Brief;
 use crate::entry::Entry;
@@ -32,11 +32,18 @@ fn row_points(row: &RowRef<'_>) -> (u32, u32)
     }
 }
 
-/// The last code point that no other row may have, of a row of the file with this first and this last one.
-fn last_own(file: SourceFile, first: u32, last: u32) -> u32
-    ensures { result ≡ (if has_spans file then last else first) }
+/// The first code point of a row, and the last one that no other row may have.
+fn row_extent(file: SourceFile, row: &RowRef<'_>) -> (u32, u32)
+    ensures first { result.0 ≡ (row_span (row_in row.now)).lo }
+    ensures last { result.1 ≡ row_end file (row_in row.now) }
+    ensures ordered { result.0 ≤ result.1 }
 {
-    if has_spans(file) { last } else { first }
+    let (first, last) = row_points(row);
+    if has_spans(file) {
+        (first, last)
+    } else {
+        (first, first)
+    }
 }
 
 /// What is kept of a row.
@@ -44,12 +51,12 @@ fn entry_of(alloc: Global, file: SourceFile, row: RowRef<'_>) -> Result<Entry, R
     requires { RowOk file (row_in row) }
     ensures { EntersAs file result (Ok (row_in row.entry)) }
 {
-    let (first, last) = row_points(&row);
+    let (code, last) = row_extent(file, &row);
     let brief = Brief::of_row_ref(&row);
     let names = key_text(alloc, file, row)?;
     Ok(Entry {
-        place: Place { names, code: first },
-        last: last_own(file, first, last),
+        place: Place { names, code },
+        last,
         brief,
     })
 }

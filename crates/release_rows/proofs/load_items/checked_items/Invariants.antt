@@ -4,17 +4,17 @@ use Rattle.release_rows.specs.Pieces.{pieces}
 use Rattle.release_rows.specs.FileItems.{bytes_of, lines_of}
 use Rattle.release_rows.specs.Loaders.{IsSound, items_above}
 use Rattle.release_rows.specs.Loading.{items_or_fault, file_or_fault}
-use Rattle.release_rows.proofs.load_items.load_items.Given as goal
+use Rattle.release_rows.proofs.load_items.checked_items.Given as goal
 
 -- the items so far and the pieces that are left give what the whole gives, and stand in the text one behind the other
 abbrev pub invariant-pieces : goal.invariant-pieces
 invariant-pieces l = record {
   sound : IsSound l.loading;
   file : l.loading.file ≡ l.file;
-  text : l.loading.text.now ≡ l.fn.text;
-  whole : items_or_fault l.file (items_above l.loading) (pieces l.file l.lines) ≡ file_or_fault l.file l.fn.text;
-  stands : bytes_of (items_above l.loading) ++ joined l.lines ≡ l.fn.text;
-  fits : lines_of (items_above l.loading) + length l.lines ≤ length l.fn.text;
+  text : l.loading.text.now ≡ l.fn.bytes;
+  whole : items_or_fault l.file (items_above l.loading) (pieces l.file l.lines) ≡ file_or_fault l.file l.fn.bytes;
+  stands : bytes_of (items_above l.loading) ++ joined l.lines ≡ l.fn.bytes;
+  fits : lines_of (items_above l.loading) + length l.lines ≤ length l.fn.bytes;
 }
 
 abbrev pub decreases-pieces : goal.decreases-pieces

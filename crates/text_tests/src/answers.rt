@@ -148,11 +148,14 @@ fn texts_have_answers(rt: HostRuntime) -> Result<(), Fail> {
     texts_are_answered(&rt, rt.alloc(), &release)
 }
 
+/// A call lets the names go: their many parts would else fill this function's proof.
 fn texts_are_answered(rt: &impl Abort, alloc: Global, release: &Release) -> Result<(), Fail>
     requires { items_now release.now UnicodeData ≡ [] }
 {
     let aliases = Aliases::of(alloc, release)?;
-    are_answers(rt, alloc, release, &aliases)
+    let answered = are_answers(rt, alloc, release, &aliases);
+    drop(aliases);
+    answered
 }
 
 fn are_answers(

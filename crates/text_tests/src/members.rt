@@ -172,7 +172,8 @@ fn answer_of(
     Ok(eval_over(alloc, &index, aliases, &expr))
 }
 
-/// What is looked at by names without rows. One function owns their meaning for both tests: that keeps each small.
+/// What is looked at by names without rows. One function owns their meaning for both tests, and a call lets that go: so
+/// each stays small.
 #[derive(Clone, Copy)]
 enum Look {
     Members,
@@ -181,7 +182,9 @@ enum Look {
 
 fn on_aliases(rt: &impl Abort, alloc: Global, look: Look) -> Result<(), Fail> {
     let aliases = aliases(alloc)?;
-    look_at(rt, alloc, &aliases, look)
+    let looked = look_at(rt, alloc, &aliases, look);
+    drop(aliases);
+    looked
 }
 
 fn look_at(rt: &impl Abort, alloc: Global, aliases: &Aliases, look: Look) -> Result<(), Fail> {

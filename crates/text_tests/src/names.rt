@@ -79,7 +79,8 @@ fn aliases(alloc: Global) -> Result<Aliases, Fail> {
     Ok(Aliases::of(alloc, &release)?)
 }
 
-/// What is looked at by that release. One function owns what names mean for all tests: that keeps each of them small.
+/// What is looked at by that release. One function owns what names mean for all tests, and a call lets that go: so each of
+/// them stays small.
 #[derive(Clone, Copy)]
 enum Look {
     Properties,
@@ -90,7 +91,9 @@ enum Look {
 
 fn on_aliases(rt: &impl Abort, alloc: Global, look: Look) -> Result<(), Fail> {
     let aliases = aliases(alloc)?;
-    look_at(rt, alloc, &aliases, look)
+    let looked = look_at(rt, alloc, &aliases, look);
+    drop(aliases);
+    looked
 }
 
 fn look_at(rt: &impl Abort, alloc: Global, aliases: &Aliases, look: Look) -> Result<(), Fail> {

@@ -59,13 +59,23 @@ fn join_files<S: Shelf>(
     let Ok(()) = front.extend_from_slice(back.as_slice()) else {
         return Joined::Memory;
     };
+    write_joined(alloc, shelf, to, front)
+}
+
+/// Writes the bytes of two files to a third one.
+fn write_joined<S: Shelf>(alloc: Global, shelf: &mut S, to: &[u8], bytes: Vec<u8>) -> Joined
+    ensures replaced { IsTrue S.tells → result ≢ Joined.Memory
+        → ¬ Rose (S.write_faults shelf.old) (S.write_faults shelf.new)
+        → ReplacedAt to.now bytes.items (S.holds shelf.old) (S.holds shelf.new) }
+    ensures read_faults_stay { S.read_faults shelf.new ≡ S.read_faults shelf.old }
+{
     let Ok(path) = text_of(alloc, to) else {
         return Joined::Memory;
     };
     let Ok(()) = shelf.room(1) else {
         return Joined::Memory;
     };
-    match shelf.write(path, Text::from_vec(front)) {
+    match shelf.write(path, Text::from_vec(bytes)) {
         Ok(()) => Joined::Joined,
         Err(Failed) => Joined::Failed,
     }

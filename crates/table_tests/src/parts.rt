@@ -1,8 +1,9 @@
 //! Edits at random, beside the same edits of a plain list.
 
-ghost use Rattle.std.specs.Prelude.{nat_eq};
+ghost use Rattle.std.specs.Prelude.{◌<◌, nat_eq, vec_len};
+ghost use Rattle.part_list.specs.Parts.{IsEntry};
 
-use part_list::{Entries, PartList, Reach, Seek, Spanned};
+use part_list::{Entries, PartList, Reach, Seek, Spanned, Spot};
 use std::alloc::Global;
 use std::process::Abort;
 use ucd_model::Memory;
@@ -47,32 +48,77 @@ fn edit(list: &mut PartList<u32>, plain: &mut Vec<u32>, code: u32, how: u32) -> 
     let code = code % 0x11_0000;
     let place = plain.iter().position(|other| *other == code);
     match (list.first(&Code { code }), place) {
-        (None, None) => {
-            list.push_next(entry(code))?;
-            plain.push(code)?;
-        }
-        (Some(spot), Some(at)) => match how % 4 {
-            0 => {
-                list.insert(spot, entry(code + 1))?;
-                plain.insert(at, code + 1)?;
-            }
-            1 => {
-                list.replace(spot, entry(code + 2))?;
-                plain[at] = code + 2;
-            }
-            2 => {
-                list.replace_and_insert(spot, entry(code + 3), entry(code))?;
-                plain[at] = code;
-                plain.insert(at, code + 3)?;
-            }
-            _ => {
-                list.remove(spot)?;
-                plain.remove(at);
-            }
-        },
-        _ => plain.push(u32::MAX)?,
+        (None, None) => put_behind(list, plain, code),
+        (Some(spot), Some(at)) => edit_at(list, plain, spot, at, code, how),
+        _ => Ok(plain.push(u32::MAX)?),
     }
-    Ok(())
+}
+
+/// Puts a code point at the end of both lists.
+fn put_behind(list: &mut PartList<u32>, plain: &mut Vec<u32>, code: u32) -> Result<(), Memory> {
+    list.push_next(entry(code))?;
+    Ok(plain.push(code)?)
+}
+
+/// Does one edit on both lists, at the places that a code point has.
+fn edit_at(
+    list: &mut PartList<u32>,
+    plain: &mut Vec<u32>,
+    spot: Spot,
+    at: usize,
+    code: u32,
+    how: u32,
+) -> Result<(), Memory>
+    requires spot { IsEntry list.old.next spot }
+    requires at { at < vec_len plain.old }
+    requires code { code < 0x11_0000 }
+{
+    match how % 4 {
+        0 => insert_at(list, plain, spot, at, code + 1),
+        1 => {
+            list.replace(spot, entry(code + 2))?;
+            plain[at] = code + 2;
+            Ok(())
+        }
+        2 => replace_and_insert_at(list, plain, spot, at, code),
+        _ => {
+            list.remove(spot)?;
+            plain.remove(at);
+            Ok(())
+        }
+    }
+}
+
+/// Puts a code point before these places.
+fn insert_at(
+    list: &mut PartList<u32>,
+    plain: &mut Vec<u32>,
+    spot: Spot,
+    at: usize,
+    code: u32,
+) -> Result<(), Memory>
+    requires spot { IsEntry list.old.next spot }
+    requires at { at < vec_len plain.old }
+{
+    list.insert(spot, entry(code))?;
+    Ok(plain.insert(at, code)?)
+}
+
+/// Replaces a code point at these places by a greater one, and puts it behind that.
+fn replace_and_insert_at(
+    list: &mut PartList<u32>,
+    plain: &mut Vec<u32>,
+    spot: Spot,
+    at: usize,
+    code: u32,
+) -> Result<(), Memory>
+    requires spot { IsEntry list.old.next spot }
+    requires at { at < vec_len plain.old }
+    requires code { code < 0x11_0000 }
+{
+    list.replace_and_insert(spot, entry(code + 3), entry(code))?;
+    plain[at] = code;
+    Ok(plain.insert(at, code + 3)?)
 }
 
 /// Whether these are the first code points of entries.

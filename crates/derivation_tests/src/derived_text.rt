@@ -1,68 +1,14 @@
 //! Whole files over a few records. The lines are those of Unicode 15.0.0 for these code points, but for their totals
 //! and for points that the sample leaves out.
 
-use crate::sample::{
-    Sample, excluded, plain, with_checks, with_class, with_core, with_folding, with_kind,
+use crate::sample::Sample;
+use crate::sample_text::{
+    Forms, Letters, Mapped, Marks, Normal, Spans, has_text, put_mapped, put_marks,
 };
-use derived_writer::{file_text, text_over};
+use derived_writer::text_over;
 use std::alloc::Global;
 use std::test::Fail;
-use ucd_model::{Category, Core, DerivedFile, Kind, Quick, Record, Tag, equal_pieces};
-
-/// A span with its category and the kind of its mappings.
-type Mapped = (u32, u32, Category, Kind);
-
-/// A span of marks with their combining class.
-type Marks = (u32, u32, u8);
-
-fn put_mapped(bench: &mut Sample, spans: &[Mapped]) -> Result<(), Fail> {
-    for (lo, hi, category, kind) in spans {
-        bench.put(*lo, *hi, with_kind(*category, *kind))?;
-    }
-    Ok(())
-}
-
-fn put_marks(bench: &mut Sample, spans: &[Marks]) -> Result<(), Fail> {
-    for (lo, hi, class) in spans {
-        bench.put(*lo, *hi, with_class(*class))?;
-    }
-    Ok(())
-}
-
-/// What a sample is made of.
-#[derive(Clone, Copy)]
-enum Spans<'a> {
-    Mapped(&'a [Mapped]),
-    Marks(&'a [Marks]),
-    Letters(&'a [Letters]),
-    Normal(&'a [Normal]),
-}
-
-fn put(alloc: Global, bench: &mut Sample, spans: Spans<'_>) -> Result<(), Fail> {
-    match spans {
-        Spans::Mapped(spans) => put_mapped(bench, spans),
-        Spans::Marks(spans) => put_marks(bench, spans),
-        Spans::Letters(spans) => put_letters(bench, spans),
-        Spans::Normal(spans) => put_normal(alloc, bench, spans),
-    }
-}
-
-/// Whether a file over a sample has this text. One function owns the sample for all tests: that keeps each of them small.
-fn has_text(
-    alloc: Global,
-    spans: Spans<'_>,
-    file: DerivedFile,
-    wanted: &[u8],
-) -> Result<bool, Fail> {
-    let mut bench = Sample::new(alloc);
-    put(alloc, &mut bench, spans)?;
-    is_text(alloc, &bench, file, wanted)
-}
-
-fn is_text(alloc: Global, bench: &Sample, file: DerivedFile, wanted: &[u8]) -> Result<bool, Fail> {
-    let text = file_text(alloc, bench, file)?;
-    Ok(text.as_slice() == wanted)
-}
+use ucd_model::{Category, Core, DerivedFile, Kind, Tag, equal_pieces};
 
 /// Two records of one category that follow one another are one span.
 const CATEGORIES: [Mapped; 7] = [
@@ -143,9 +89,6 @@ const CORE_TEXT: &[u8] = b"# Math\n002B ; Math\n# total 1\n\n\
       # Grapheme_Base\n002B ; Grapheme_Base\n0041..005A ; Grapheme_Base\n0061..007A ; Grapheme_Base\n037A ; Grapheme_Base\n# total 54\n\n\
       # Grapheme_Link\n094D ; Grapheme_Link\n# total 1\n\n";
 
-/// A code point or a span with its category and its core properties.
-type Letters = (u32, u32, Category, &'static [Core]);
-
 /// `+`, `A` to `Z`, `a` to `z`, GREEK YPOGEGRAMMENI and DEVANAGARI SIGN VIRAMA.
 const LETTERS: [Letters; 5] = [
     (
@@ -206,13 +149,6 @@ const VIRAMA: [Core; 5] = [
     Core::GraphemeLink,
 ];
 
-fn put_letters(bench: &mut Sample, spans: &[Letters]) -> Result<(), Fail> {
-    for (lo, hi, category, properties) in spans {
-        bench.put(*lo, *hi, with_core(*category, properties))?;
-    }
-    Ok(())
-}
-
 #[test]
 fn all_core_properties(rt: HostRuntime) -> Result<(), Fail> {
     let (spans, file) = (Spans::Letters(&LETTERS), DerivedFile::CoreProperties);
@@ -230,19 +166,6 @@ const NORMALIZATION_TEXT: &[u8] =
       # NFKC_QC\n00A8 ; NFKC_QC ; N\n0300..0304 ; NFKC_QC ; M\n0340..0341 ; NFKC_QC ; N\n2000..200A ; NFKC_QC ; N\n# total 19\n\n\
       # NFKC_CF\n0041 ; NFKC_CF ; 0061\n0042 ; NFKC_CF ; 0062\n00A8 ; NFKC_CF ; 0020 0308\n00AD ; NFKC_CF ;\n0340 ; NFKC_CF ; 0300\n0341 ; NFKC_CF ; 0301\n2000..200A ; NFKC_CF ; 0020\n# total 17\n\n\
       # Changes_When_NFKC_Casefolded\n0041..0042 ; Changes_When_NFKC_Casefolded\n00A8 ; Changes_When_NFKC_Casefolded\n00AD ; Changes_When_NFKC_Casefolded\n0340..0341 ; Changes_When_NFKC_Casefolded\n2000..200A ; Changes_When_NFKC_Casefolded\n# total 17\n\n";
-
-/// Whether code points are in the forms: those of NFD and NFC, and those of NFKD and NFKC; or no form, since they are
-/// excluded from composition.
-#[derive(Clone, Copy)]
-enum Forms {
-    All,
-    Canonical,
-    Mark,
-    Excluded,
-}
-
-/// A span with its category, what it is folded to, if that is not itself, and its forms.
-type Normal = (u32, u32, Category, Option<&'static [u32]>, Forms);
 
 /// Neighbours with different mappings are two spans, and with one mapping one span, though the records differ.
 const NORMAL: [Normal; 9] = [
@@ -286,33 +209,6 @@ const NORMAL: [Normal; 9] = [
         Forms::Canonical,
     ),
 ];
-
-/// A record with the answers of the quick checks.
-fn with_forms(record: Record, forms: Forms) -> Record {
-    let (yes, no, maybe) = (Quick::Yes, Quick::No, Quick::Maybe);
-    match forms {
-        Forms::All => record,
-        Forms::Canonical => with_checks(record, (yes, yes), (no, no)),
-        Forms::Mark => with_checks(record, (yes, maybe), (yes, maybe)),
-        Forms::Excluded => excluded(record),
-    }
-}
-
-/// The record of a category and a folding.
-fn folded(alloc: Global, category: Category, to: Option<&[u32]>) -> Result<Record, Fail> {
-    match to {
-        Some(points) => with_folding(alloc, category, points),
-        None => Ok(plain(category)),
-    }
-}
-
-fn put_normal(alloc: Global, bench: &mut Sample, spans: &[Normal]) -> Result<(), Fail> {
-    for (lo, hi, category, to, forms) in spans {
-        let record = folded(alloc, *category, *to)?;
-        bench.put(*lo, *hi, with_forms(record, *forms))?;
-    }
-    Ok(())
-}
 
 #[test]
 fn all_normalization_properties(rt: HostRuntime) -> Result<(), Fail> {

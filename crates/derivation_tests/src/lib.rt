@@ -21,3 +21,5 @@ mod forms;
 mod records;
 #[cfg(test)]
 mod sample;
+#[cfg(test)]
+mod sample_text;

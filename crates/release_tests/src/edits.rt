@@ -53,7 +53,8 @@ fn op_of(alloc: Global, file: SourceFile, edit: &Edit<'_>) -> Result<Op, RowStop
 /// An edit, and what it is answered.
 type Case<'a> = (Edit<'a>, Result<(), OpStop>);
 
-/// Whether an edit of a file is answered so.
+/// Whether an edit of a file is answered so. A call lets the operation go: its many parts would else fill this function's
+/// proof.
 fn is_answered(
     alloc: Global,
     release: &mut Release,
@@ -61,10 +62,19 @@ fn is_answered(
     case: &Case<'_>,
 ) -> Result<bool, RowStop> {
     let op = op_of(alloc, file, &case.0)?;
-    Ok(match release.prepare(&op) {
-        Ok(_) => case.1.is_ok(),
-        Err(stop) => case.1 == Err(stop),
-    })
+    let answered = is_prepared_so(release, &op, &case.1);
+    drop(op);
+    Ok(answered)
+}
+
+/// Whether an operation is answered so.
+fn is_prepared_so(release: &mut Release, op: &Op, expected: &Result<(), OpStop>) -> bool
+    requires { IsOp op.now }
+{
+    match release.prepare(op) {
+        Ok(_) => expected.is_ok(),
+        Err(stop) => *expected == Err(stop),
+    }
 }
 
 fn are_answered(

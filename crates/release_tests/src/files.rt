@@ -1,14 +1,14 @@
 //! Files that load, and the first line of those that do not.
 
-use release_rows::{LoadRule, LoadStop, Release, Rows};
+use release_rows::{LoadRule, LoadStop, Release};
 use source_rows::RowFault;
 use std::alloc::Global;
 use std::test::Fail;
-use ucd_model::{Memory, Row, SourceFile, Text, file_limit};
+use ucd_model::{Memory, SourceFile, Text, file_limit};
 
 /// Whether a file is answered so, of its bytes and of its text, and keeps its bytes where it loads and none where it does
 /// not.
-fn is_answered(
+pub fn is_answered(
     alloc: Global,
     file: SourceFile,
     bytes: &[u8],
@@ -45,6 +45,13 @@ fn text_is_answered(
     let mut release = Release::empty(alloc);
     let answered = release.load_text(file, text) == *expected;
     Ok(answered && release.text(alloc, file)?.as_slice() == kept)
+}
+
+/// The release with one file.
+pub fn release_of(alloc: Global, file: SourceFile, bytes: &[u8]) -> Result<Release, LoadStop> {
+    let mut release = Release::empty(alloc);
+    release.load_file(file, bytes)?;
+    Ok(release)
 }
 
 /// A file with its bytes, and the line and the rule of its first fault.
@@ -180,171 +187,6 @@ const OTHERS: [(SourceFile, &[u8]); 3] = [
 fn rows_without_spans_are_compared_with_the_rows_above(rt: HostRuntime) -> Result<(), Fail> {
     assert!(rt; are_refused(rt.alloc(), &OTHER_FAULTS)?);
     assert!(rt; are_loaded(rt.alloc(), &OTHERS)?);
-    Ok(())
-}
-
-/// Whether UnicodeData.txt of these lines is answered so.
-fn data_is_answered(
-    alloc: Global,
-    lines: &[&[u8]; 4],
-    expected: Result<(), LoadStop>,
-) -> Result<bool, Memory> {
-    let mut bytes = Text::new(alloc);
-    put_lines(&mut bytes, lines)?;
-    is_answered(alloc, SourceFile::UnicodeData, bytes.as_slice(), expected)
-}
-
-fn put_lines(bytes: &mut Text, lines: &[&[u8]; 4]) -> Result<(), Memory> {
-    for line in lines {
-        bytes.append(line)?;
-    }
-    Ok(())
-}
-
-/// Lines of UnicodeData.txt, and the line and the rule of their first fault.
-type DataFault = ([&'static [u8]; 4], u32, LoadRule);
-
-/// Whether each UnicodeData.txt has this first fault.
-fn data_is_refused(alloc: Global, faults: &[DataFault]) -> Result<bool, Memory> {
-    for (lines, line, rule) in faults {
-        let expected = Err(LoadStop::Fault {
-            line: *line,
-            rule: *rule,
-        });
-        if !data_is_answered(alloc, lines, expected)? {
-            return Ok(false);
-        }
-    }
-    Ok(true)
-}
-
-const A: &[u8] = b"0041;LATIN CAPITAL LETTER A;Lu;0;L;;;;;N;;;;0061;\n";
-
-const B: &[u8] = b"0061;LATIN SMALL LETTER A;Ll;0;L;;;;;N;;;0041;;0041\n";
-
-const FIRST: &[u8] = b"4E00;<CJK Ideograph, First>;Lo;0;L;;;;;N;;;;;\r\n";
-
-const LAST: &[u8] = b"9FFF;<CJK Ideograph, Last>;Lo;0;L;;;;;N;;;;;\n";
-
-const INSIDE: &[u8] = b"5000;CJK;Lo;0;L;;;;;N;;;;;\n";
-
-const NO_CODE: &[u8] = b"9FFG;<CJK Ideograph, Last>;Lo;0;L;;;;;N;;;;;\n";
-
-const BAD_CLASS: &[u8] = b"4E00;<CJK Ideograph, First>;Lo;X;L;;;;;N;;;;;\n";
-
-const BAD_CODE: &[u8] = b"4E0;<CJK Ideograph, First>;Lo;0;L;;;;;N;;;;;\n";
-
-/// K1 before K4 before K5.
-const ORDER_FAULTS: [DataFault; 5] = [
-    ([B, A, b"", b""], 2, LoadRule::K5),
-    ([A, B, A, b""], 3, LoadRule::K1),
-    ([A, FIRST, LAST, INSIDE], 4, LoadRule::K4),
-    ([INSIDE, FIRST, LAST, b""], 2, LoadRule::K4),
-    ([FIRST, LAST, A, b""], 3, LoadRule::K5),
-];
-
-const IN_ORDER: [[&[u8]; 4]; 2] = [[A, B, b"", b""], [A, FIRST, LAST, b"# end"]];
-
-#[test]
-fn unicode_data_ascends(rt: HostRuntime) -> Result<(), Fail> {
-    assert!(rt; data_is_refused(rt.alloc(), &ORDER_FAULTS)?);
-    for lines in &IN_ORDER {
-        assert!(rt; data_is_answered(rt.alloc(), lines, Ok(()))?);
-    }
-    Ok(())
-}
-
-const RANGE_FAULTS: [DataFault; 5] = [
-    ([FIRST, b"", b"", b""], 1, LoadRule::Row(RowFault::G09)),
-    ([A, FIRST, b"\n", LAST], 2, LoadRule::Row(RowFault::G09)),
-    ([A, FIRST, NO_CODE, b""], 3, LoadRule::Row(RowFault::G04)),
-    ([A, BAD_CODE, NO_CODE, b""], 2, LoadRule::Row(RowFault::G04)),
-    ([A, BAD_CLASS, LAST, b""], 2, LoadRule::Row(RowFault::G06)),
-];
-
-#[test]
-fn a_fault_of_a_range_has_its_line(rt: HostRuntime) -> Result<(), Fail> {
-    assert!(rt; data_is_refused(rt.alloc(), &RANGE_FAULTS)?);
-    Ok(())
-}
-
-/// The release with one file.
-pub fn release_of(alloc: Global, file: SourceFile, bytes: &[u8]) -> Result<Release, LoadStop> {
-    let mut release = Release::empty(alloc);
-    release.load_file(file, bytes)?;
-    Ok(release)
-}
-
-/// Whether there are two rows, on these lines.
-fn are_on(mut rows: Rows<'_>, first: u64, second: u64) -> bool {
-    match (rows.next(), rows.next(), rows.next()) {
-        (Some((a, _)), Some((b, _)), None) => a == first && b == second,
-        _ => false,
-    }
-}
-
-/// Whether the first row gives a value from a code point on, read with a copy and without.
-fn gives(alloc: Global, mut rows: Rows<'_>, first: u32, value: &[u8]) -> Result<bool, Memory> {
-    let Some((_, row)) = rows.next() else {
-        return Ok(false);
-    };
-    let in_place = match row.value() {
-        Some(text) => text.span.first() == first && text.value == value,
-        None => false,
-    };
-    match row.read(alloc)? {
-        Row::Value(row) => {
-            Ok(in_place && row.span.first() == first && row.value.as_slice() == value)
-        }
-        _ => Ok(false),
-    }
-}
-
-/// Whether there is a first row, and it is none of a span and a value.
-fn gives_no_value(mut rows: Rows<'_>) -> bool {
-    match rows.next() {
-        Some((_, row)) => row.value().is_none(),
-        None => false,
-    }
-}
-
-const SPACES: &[u8] = b"# head\r\n0020 ; White_Space # SP\r\n\r\n0009..000D    ; White_Space";
-
-/// Whether a release with those lines gives them with their numbers.
-fn gives_spaces(alloc: Global, release: &Release) -> Result<bool, Memory> {
-    let file = SourceFile::PropList;
-    Ok(
-        are_on(release.rows(file), 2, 4)
-            && are_on(release.next_rows(file), 2, 4)
-            && release.rows(SourceFile::Scripts).next().is_none()
-            && gives(alloc, release.rows(file), 0x20, b"White_Space")?,
-    )
-}
-
-#[test]
-fn rows_have_their_lines(rt: HostRuntime) -> Result<(), Fail> {
-    let file = SourceFile::PropList;
-    assert!(rt; is_answered(rt.alloc(), file, SPACES, Ok(()))?);
-    let release = release_of(rt.alloc(), file, SPACES)?;
-    assert!(rt; gives_spaces(rt.alloc(), &release)?);
-    Ok(())
-}
-
-const RANGES: &[u8] =
-    b"AC00;<Hangul Syllable, First>;Lo;0;L;;;;;N;;;;;\nD7A3;<Hangul Syllable, Last>;Lo;0;L;;;;;N;;;;;\r\n\nE000;<Private Use, First>;Co;0;L;;;;;N;;;;;\nF8FF;<Private Use, Last>;Co;0;L;;;;;N;;;;;";
-
-/// Whether a release with those lines gives them with the numbers of their first lines.
-fn gives_ranges(release: &Release) -> bool {
-    let file = SourceFile::UnicodeData;
-    are_on(release.rows(file), 1, 4) && gives_no_value(release.rows(file))
-}
-
-#[test]
-fn a_range_has_two_lines(rt: HostRuntime) -> Result<(), Fail> {
-    let file = SourceFile::UnicodeData;
-    assert!(rt; is_answered(rt.alloc(), file, RANGES, Ok(()))?);
-    let release = release_of(rt.alloc(), file, RANGES)?;
-    assert!(rt; gives_ranges(&release));
     Ok(())
 }
 

@@ -2,11 +2,15 @@
 #![tactic(auto)]
 
 #[cfg(test)]
+mod data_files;
+#[cfg(test)]
 mod edits;
 #[cfg(test)]
 mod files;
 #[cfg(test)]
 mod keys;
+#[cfg(test)]
+mod row_lines;
 #[cfg(test)]
 mod rows;
 #[cfg(test)]

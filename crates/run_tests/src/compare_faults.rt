@@ -1,7 +1,7 @@
 //! Runs of `apply` with an earlier release in which a read, a write or a print fails.
 
 use crate::compares::{BREAKS, BROKEN, EARLIER, LATER, NO_ROW, WORDS, shelf_with};
-use crate::runs::{CORE_PATH, PREVIOUS_PATHS, SOURCE_PATHS, holds, line_of, run_words};
+use crate::runs::{CORE_PATH, PREVIOUS_PATHS, SOURCE_PATHS, ends, holds, line_of, status_of};
 use shelf_io::MemoryShelf;
 use std::alloc::Global;
 use std::test::Fail;
@@ -46,13 +46,16 @@ fn read_path(nth: u32) -> &'static [u8] {
 /// - `Memory`: memory ran out.
 fn tells_read(alloc: Global, data: &[u8], nth: u32) -> Result<bool, Memory> {
     let mut shelf = shelf_with(alloc, data, EARLIER, b"")?;
+    stops_at_read(alloc, &mut shelf, nth)
+}
+
+fn stops_at_read(alloc: Global, shelf: &mut MemoryShelf, nth: u32) -> Result<bool, Memory> {
     shelf.fail_read(nth)?;
-    let (status, out) = run_words(alloc, &WORDS, &mut shelf, 1000)?;
     let line = line_of(alloc, b"read failed: ", read_path(nth))?;
+    let expected = (Status::ReadFault, line.as_slice());
     Ok(
-        status == Status::ReadFault
-            && out.written() == line.as_slice()
-            && holds(&shelf, &[(CORE_PATH, b"old")])
+        ends(alloc, &WORDS, shelf, 1000, expected)?
+            && holds(shelf, &[(CORE_PATH, b"old")])
             && shelf.held(OUTPUT_PATHS[0]).is_none(),
     )
 }
@@ -74,10 +77,15 @@ fn each_failed_read_is_told(rt: HostRuntime) -> Result<(), Fail> {
 /// - `Memory`: memory ran out.
 fn shelf_to_fail(alloc: Global) -> Result<Box<MemoryShelf>, Memory> {
     let mut shelf = shelf_with(alloc, LATER, EARLIER, b"")?;
-    for path in OUTPUT_PATHS {
+    place_old(&mut shelf)?;
+    Ok(shelf)
+}
+
+fn place_old(shelf: &mut MemoryShelf) -> Result<(), Memory> {
+    for path in &OUTPUT_PATHS {
         shelf.place(path, b"old")?;
     }
-    Ok(shelf)
+    Ok(())
 }
 
 /// Whether the outputs before a place are those of a whole run, and those after it are as they were.
@@ -99,16 +107,21 @@ fn is_left(shelf: &MemoryShelf, whole: &MemoryShelf, failed: usize, at: usize) -
 /// - `Memory`: memory ran out.
 fn tells_write(alloc: Global, whole: &MemoryShelf, nth: u32) -> Result<bool, Memory> {
     let mut shelf = shelf_to_fail(alloc)?;
+    stops_at_write(alloc, &mut shelf, whole, nth)
+}
+
+fn stops_at_write(
+    alloc: Global,
+    shelf: &mut MemoryShelf,
+    whole: &MemoryShelf,
+    nth: u32,
+) -> Result<bool, Memory> {
     shelf.fail_write(nth)?;
-    let (status, out) = run_words(alloc, &WORDS, &mut shelf, 1000)?;
     let place = (nth as usize).saturating_sub(1);
     let path = OUTPUT_PATHS.get(place).copied().unwrap_or(b"");
     let line = line_of(alloc, b"write failed: ", path)?;
-    Ok(
-        status == Status::WriteFault
-            && out.written() == line.as_slice()
-            && is_written_to(&shelf, whole, place),
-    )
+    let expected = (Status::WriteFault, line.as_slice());
+    Ok(ends(alloc, &WORDS, shelf, 1000, expected)? && is_written_to(shelf, whole, place))
 }
 
 /// Whether the writes from one to before another, counted from 1, are told if they fail.
@@ -116,10 +129,19 @@ fn tells_write(alloc: Global, whole: &MemoryShelf, nth: u32) -> Result<bool, Mem
 /// - `Memory`: memory ran out.
 fn tell_writes(alloc: Global, from: u32, to: u32) -> Result<bool, Memory> {
     let mut whole = shelf_to_fail(alloc)?;
-    let (status, _) = run_words(alloc, &WORDS, &mut whole, 1000)?;
-    let mut told = status == Status::Done;
+    tell_writes_beside(alloc, &mut whole, from, to)
+}
+
+/// The same beside a shelf on which no write fails.
+fn tell_writes_beside(
+    alloc: Global,
+    whole: &mut MemoryShelf,
+    from: u32,
+    to: u32,
+) -> Result<bool, Memory> {
+    let mut told = status_of(alloc, &WORDS, whole)? == Status::Done;
     for nth in from..to {
-        told = tells_write(alloc, &whole, nth)? && told;
+        told = tells_write(alloc, whole, nth)? && told;
     }
     Ok(told)
 }
@@ -141,11 +163,10 @@ fn failed_writes_of_other_files_are_told(rt: HostRuntime) -> Result<(), Fail> {
 /// - `Memory`: memory ran out.
 fn tells_in_part(alloc: Global, room: usize) -> Result<bool, Memory> {
     let mut shelf = shelf_to_fail(alloc)?;
-    let (status, out) = run_words(alloc, &WORDS, &mut shelf, room)?;
     let told = BROKEN.get(..room).unwrap_or(b"");
+    let expected = (Status::WriteFault, told);
     Ok(
-        status == Status::WriteFault
-            && out.written() == told
+        ends(alloc, &WORDS, &mut shelf, room, expected)?
             && holds(
                 &shelf,
                 &[(b"o/policy.txt", BREAKS), (b"o/UnicodeData.txt", LATER)],

@@ -1,6 +1,6 @@
 //! Runs of `apply` with an earlier release: the policy report, and what is refused.
 
-use crate::runs::{CORE_PATH, File, PREVIOUS_PATHS, holds, run_words, shelf_of};
+use crate::runs::{CORE_PATH, File, PREVIOUS_PATHS, ends, holds, shelf_of, status_of};
 use shelf_io::MemoryShelf;
 use std::alloc::Global;
 use std::test::Fail;
@@ -43,7 +43,8 @@ struct Compared {
     files: &'static [File],
 }
 
-const COMPARED: [Compared; 6] = [
+/// Runs without edits.
+const COMPARED: [Compared; 3] = [
     Compared {
         script: b"",
         words: WORDS,
@@ -64,6 +65,18 @@ const COMPARED: [Compared; 6] = [
         summary: UNBROKEN,
         files: &[(b"o/policy.txt", b"# total 0\n")],
     },
+    // a refused command alone gives the status
+    Compared {
+        script: b"withdraw UnicodeData.txt 0042\n",
+        words: [b"apply", b"p", b"s", b"o", b"p"],
+        status: Status::Done,
+        summary: b"ucdshop: 0 groups accepted, 1 commands refused, 0 sets answered, 0 policy breaks\n",
+        files: &[(b"o/policy.txt", b"# total 0\n")],
+    },
+];
+
+/// Runs with edits, the second of which writes over the release.
+const EDITED: [Compared; 2] = [
     // the rows after the script are compared; refused commands leave none
     Compared {
         script: EDITS,
@@ -78,27 +91,6 @@ const COMPARED: [Compared; 6] = [
             ),
         ],
     },
-    // a refused command alone gives the status
-    Compared {
-        script: b"withdraw UnicodeData.txt 0042\n",
-        words: [b"apply", b"p", b"s", b"o", b"p"],
-        status: Status::Done,
-        summary: b"ucdshop: 0 groups accepted, 1 commands refused, 0 sets answered, 0 policy breaks\n",
-        files: &[(b"o/policy.txt", b"# total 0\n")],
-    },
-    // the earlier release may be written over, since all is read before
-    Compared {
-        script: b"",
-        words: [b"apply", b"d", b"s", b"p", b"p"],
-        status: Status::Done,
-        summary: BROKEN,
-        files: &[
-            (b"p/policy.txt", BREAKS),
-            (b"p/UnicodeData.txt", LATER),
-            (CORE_PATH, b"old"),
-        ],
-    },
-    // and so may the release
     Compared {
         script: EDITS,
         words: [b"apply", b"p", b"s", b"p", b"p"],
@@ -111,6 +103,19 @@ const COMPARED: [Compared; 6] = [
     },
 ];
 
+/// The earlier release may be written over, since all is read before.
+const WRITTEN_OVER: Compared = Compared {
+    script: b"",
+    words: [b"apply", b"d", b"s", b"p", b"p"],
+    status: Status::Done,
+    summary: BROKEN,
+    files: &[
+        (b"p/policy.txt", BREAKS),
+        (b"p/UnicodeData.txt", LATER),
+        (CORE_PATH, b"old"),
+    ],
+};
+
 /// A shelf with the releases of these two UnicodeData.txt in `d` and `p`, and a script.
 ///
 /// - `Memory`: memory ran out.
@@ -121,12 +126,16 @@ pub fn shelf_with(
     script: &[u8],
 ) -> Result<Box<MemoryShelf>, Memory> {
     let mut shelf = shelf_of(alloc, data, b"")?;
-    for path in PREVIOUS_PATHS {
+    place_earlier(&mut shelf, previous, script)?;
+    Ok(shelf)
+}
+
+fn place_earlier(shelf: &mut MemoryShelf, previous: &[u8], script: &[u8]) -> Result<(), Memory> {
+    for path in &PREVIOUS_PATHS {
         shelf.place(path, b"")?;
     }
     shelf.place(b"p/UnicodeData.txt", previous)?;
-    shelf.place(b"s", script)?;
-    Ok(shelf)
+    shelf.place(b"s", script)
 }
 
 /// Whether a run over the two releases ends as it should.
@@ -134,10 +143,9 @@ pub fn shelf_with(
 /// - `Memory`: memory ran out.
 fn ends_so(alloc: Global, compared: &Compared) -> Result<bool, Memory> {
     let mut shelf = shelf_with(alloc, LATER, EARLIER, compared.script)?;
-    let (status, out) = run_words(alloc, &compared.words, &mut shelf, 1000)?;
+    let expected = (compared.status, compared.summary);
     Ok(
-        status == compared.status
-            && out.written() == compared.summary
+        ends(alloc, &compared.words, &mut shelf, 1000, expected)?
             && holds(&shelf, compared.files)
             && holds(&shelf, &[(b"o/other", b"kept"), (b"s", compared.script)]),
     )
@@ -145,20 +153,36 @@ fn ends_so(alloc: Global, compared: &Compared) -> Result<bool, Memory> {
 
 #[test]
 fn releases_are_compared(rt: HostRuntime) -> Result<(), Fail> {
-    for at in 0..COMPARED.len() {
-        assert!(rt; ends_so(rt.alloc(), &COMPARED[at])?, "run {at}");
+    for compared in &COMPARED {
+        assert!(rt; ends_so(rt.alloc(), compared)?);
     }
     Ok(())
 }
 
-/// Without an earlier release there is no report.
+#[test]
+fn edited_releases_are_compared(rt: HostRuntime) -> Result<(), Fail> {
+    for compared in &EDITED {
+        assert!(rt; ends_so(rt.alloc(), compared)?);
+    }
+    Ok(())
+}
+
+#[test]
+fn the_earlier_release_may_be_written_over(rt: HostRuntime) -> Result<(), Fail> {
+    assert!(rt; ends_so(rt.alloc(), &WRITTEN_OVER)?);
+    Ok(())
+}
+
+/// Whether a run without an earlier release writes no report.
+fn has_no_report(alloc: Global) -> Result<bool, Memory> {
+    let mut shelf = shelf_with(alloc, LATER, EARLIER, b"")?;
+    let status = status_of(alloc, &[b"apply", b"d", b"s", b"o"], &mut shelf)?;
+    Ok(status == Status::Clean && shelf.held(b"o/policy.txt").is_none())
+}
+
 #[test]
 fn one_release_has_no_report(rt: HostRuntime) -> Result<(), Fail> {
-    let alloc = rt.alloc();
-    let mut shelf = shelf_with(alloc, LATER, EARLIER, b"")?;
-    let (status, _) = run_words(alloc, &[b"apply", b"d", b"s", b"o"], &mut shelf, 1000)?;
-    assert_eq!(rt; status, Status::Clean);
-    assert_eq!(rt; shelf.held(b"o/policy.txt"), None);
+    assert!(rt; has_no_report(rt.alloc())?);
     Ok(())
 }
 
@@ -177,7 +201,8 @@ pub const NO_ROW: &[u8] = b"0041\n";
 
 const NO_MEMBER: &[u8] = b"1000;X;Lo;0;L;1001;;;;N;;;;;\n";
 
-const FAULTY: [Faulty; 7] = [
+/// Faults of the earlier release.
+const FAULTY: [Faulty; 2] = [
     Faulty {
         data: [LATER, NO_ROW],
         script: b"",
@@ -190,13 +215,18 @@ const FAULTY: [Faulty; 7] = [
         previous: b"p",
         line: b"refused: p point 1000 V1\n",
     },
-    // nothing is there
-    Faulty {
-        data: [LATER, EARLIER],
-        script: b"",
-        previous: b"q",
-        line: b"refused: q/UnicodeData.txt line 0 G01\n",
-    },
+];
+
+/// Nothing is there.
+const ABSENT: Faulty = Faulty {
+    data: [LATER, EARLIER],
+    script: b"",
+    previous: b"q",
+    line: b"refused: q/UnicodeData.txt line 0 G01\n",
+};
+
+/// Faults that come before those of the earlier release.
+const FIRST_FAULTS: [Faulty; 4] = [
     // the script comes before the earlier release, and before both the release
     Faulty {
         data: [LATER, NO_ROW],
@@ -230,36 +260,54 @@ const FAULTY: [Faulty; 7] = [
 fn is_refused(alloc: Global, faulty: &Faulty) -> Result<bool, Memory> {
     let mut shelf = shelf_with(alloc, faulty.data[0], faulty.data[1], faulty.script)?;
     let words: [&[u8]; 5] = [b"apply", b"d", b"s", b"o", faulty.previous];
-    let (status, out) = run_words(alloc, &words, &mut shelf, 1000)?;
+    let expected = (Status::LoadRefused, faulty.line);
     Ok(
-        status == Status::LoadRefused
-            && out.written() == faulty.line
+        ends(alloc, &words, &mut shelf, 1000, expected)?
             && holds(&shelf, &[(CORE_PATH, b"old")])
             && shelf.held(b"o/policy.txt").is_none(),
     )
 }
 
 #[test]
-fn the_first_fault_is_told(rt: HostRuntime) -> Result<(), Fail> {
-    for at in 0..FAULTY.len() {
-        assert!(rt; is_refused(rt.alloc(), &FAULTY[at])?, "run {at}");
+fn faults_of_the_earlier_release_are_told(rt: HostRuntime) -> Result<(), Fail> {
+    for faulty in &FAULTY {
+        assert!(rt; is_refused(rt.alloc(), faulty)?);
     }
     Ok(())
+}
+
+#[test]
+fn an_absent_earlier_release_is_told(rt: HostRuntime) -> Result<(), Fail> {
+    assert!(rt; is_refused(rt.alloc(), &ABSENT)?);
+    Ok(())
+}
+
+#[test]
+fn the_first_fault_is_told(rt: HostRuntime) -> Result<(), Fail> {
+    for faulty in &FIRST_FAULTS {
+        assert!(rt; is_refused(rt.alloc(), faulty)?);
+    }
+    Ok(())
+}
+
+/// Whether a file above the limit is refused, and not one behind it.
+fn refuses_a_long_file(alloc: Global, shelf: &mut MemoryShelf) -> Result<bool, Memory> {
+    let long = vec![in alloc; b'#'; 16_777_217]?;
+    shelf.place(b"p/Scripts.txt", long.as_slice())?;
+    shelf.place(b"p/PropertyAliases.txt", b"x\n")?;
+    let line = b"refused: p/Scripts.txt line 0 G02\n".as_slice();
+    ends(alloc, &WORDS, shelf, 1000, (Status::LoadRefused, line))
+}
+
+/// The same of a shelf that was made for it.
+fn refuses_a_long_earlier_file(alloc: Global) -> Result<bool, Memory> {
+    let mut shelf = shelf_with(alloc, LATER, EARLIER, b"")?;
+    refuses_a_long_file(alloc, &mut shelf)
 }
 
 /// A file of the earlier release has the limit of every file, and the first file with a fault is told.
 #[test]
 fn each_file_of_the_earlier_release_is_judged(rt: HostRuntime) -> Result<(), Fail> {
-    let alloc = rt.alloc();
-    let long = vec![in alloc; b'#'; 16_777_217]?;
-    let mut shelf = shelf_with(alloc, LATER, EARLIER, b"")?;
-    shelf.place(b"p/Scripts.txt", long.as_slice())?;
-    shelf.place(b"p/PropertyAliases.txt", b"x\n")?;
-    let (status, out) = run_words(alloc, &WORDS, &mut shelf, 1000)?;
-    assert_eq!(rt; status, Status::LoadRefused);
-    assert_eq!(rt;
-        out.written(),
-        b"refused: p/Scripts.txt line 0 G02\n".as_slice()
-    );
+    assert!(rt; refuses_a_long_earlier_file(rt.alloc())?);
     Ok(())
 }

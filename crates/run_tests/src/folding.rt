@@ -1,6 +1,7 @@
 //! Releases with case mappings and foldings.
 
-use crate::runs::{CORE_PATH, LETTERS, run_words, shelf_of};
+use crate::runs::{CORE_PATH, LETTERS, ends, shelf_of, status_of};
+use shelf_io::MemoryShelf;
 use std::alloc::Global;
 use std::test::Fail;
 use ucd_model::Memory;
@@ -88,9 +89,13 @@ const CASES: [Case; 5] = [
 /// Whether `derive d o` over a release ends with status 0 and leaves this text at this path.
 fn derives_file(alloc: Global, case: &Case) -> Result<bool, Memory> {
     let mut shelf = shelf_of(alloc, case.data, b"")?;
+    derives_over(alloc, &mut shelf, case)
+}
+
+fn derives_over(alloc: Global, shelf: &mut MemoryShelf, case: &Case) -> Result<bool, Memory> {
     shelf.place(b"d/CaseFolding.txt", case.foldings)?;
     shelf.place(b"d/SpecialCasing.txt", case.casings)?;
-    let (status, _) = run_words(alloc, &[b"derive", b"d", b"o"], &mut shelf, 1000)?;
+    let status = status_of(alloc, &[b"derive", b"d", b"o"], shelf)?;
     Ok(status == Status::Clean && shelf.held(case.path) == Some(case.text))
 }
 
@@ -105,9 +110,18 @@ fn foldings_and_casings_are_derived(rt: HostRuntime) -> Result<(), Fail> {
 /// Whether `derive d o` over two letters with these foldings is refused by this line.
 fn refuses(alloc: Global, foldings: &[u8], line: &[u8]) -> Result<bool, Memory> {
     let mut shelf = shelf_of(alloc, TWO, b"")?;
+    refuses_over(alloc, &mut shelf, foldings, line)
+}
+
+fn refuses_over(
+    alloc: Global,
+    shelf: &mut MemoryShelf,
+    foldings: &[u8],
+    line: &[u8],
+) -> Result<bool, Memory> {
     shelf.place(b"d/CaseFolding.txt", foldings)?;
-    let (status, out) = run_words(alloc, &[b"derive", b"d", b"o"], &mut shelf, 1000)?;
-    Ok(status == Status::LoadRefused && out.written() == line)
+    let words: [&[u8]; 3] = [b"derive", b"d", b"o"];
+    ends(alloc, &words, shelf, 1000, (Status::LoadRefused, line))
 }
 
 #[test]

@@ -6,6 +6,8 @@ mod compare_faults;
 #[cfg(test)]
 mod compares;
 #[cfg(test)]
+mod derive_faults;
+#[cfg(test)]
 mod derives;
 #[cfg(test)]
 mod facts;

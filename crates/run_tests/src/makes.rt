@@ -1,37 +1,46 @@
 //! Runs of `make`: which numbers a release is made of, and what is told of it.
 
-use crate::runs::run_words;
+use crate::derives::USAGE;
+use crate::runs::ends;
 use shelf_io::MemoryShelf;
 use std::alloc::Global;
 use std::test::Fail;
+use ucd_model::Memory;
 use ucdshop_core::Status;
+
+/// Texts that are the number of no release.
+const NO_NUMBERS: [&[u8]; 10] = [
+    b"0", b"51", b"01", b"050", b"99", b"+1", b"1 ", b"1a", b"a1", b"",
+];
+
+/// Whether a run of `make` with this number is refused, and nothing is written.
+fn is_refused(alloc: Global, number: &[u8]) -> Result<bool, Memory> {
+    let mut shelf = Box::new(alloc, MemoryShelf::new(alloc))?;
+    let words: [&[u8]; 3] = [b"make", number, b"o"];
+    Ok(
+        ends(alloc, &words, &mut shelf, 1000, (Status::BadWords, USAGE))?
+            && shelf.held(b"o/UnicodeData.txt").is_none(),
+    )
+}
 
 #[test]
 fn numbers_of_no_release_are_refused(rt: HostRuntime) -> Result<(), Fail> {
-    let alloc = rt.alloc();
-    let numbers: [&[u8]; 10] = [
-        b"0", b"51", b"01", b"050", b"99", b"+1", b"1 ", b"1a", b"a1", b"",
-    ];
-    for number in numbers {
-        let mut shelf = Box::new(alloc, MemoryShelf::new(alloc))?;
-        let (status, out) = run_words(alloc, &[b"make", number, b"o"], &mut shelf, 1000)?;
-        assert_eq!(rt; status, Status::BadWords);
-        assert!(rt; out.written().starts_with(b"usage: "));
-        assert_eq!(rt; shelf.held(b"o/UnicodeData.txt"), None);
+    for number in &NO_NUMBERS {
+        assert!(rt; is_refused(rt.alloc(), number)?);
     }
     Ok(())
 }
 
 /// Whether a run of `make` with this number ends well, tells this line, and writes the script.
-fn is_made(alloc: Global, number: &[u8], line: &[u8]) -> Result<bool, Fail> {
+fn is_made(alloc: Global, number: &[u8], line: &[u8]) -> Result<bool, Memory> {
     let mut shelf = Box::new(alloc, MemoryShelf::new(alloc))?;
-    let (status, out) = run_words(alloc, &[b"make", number, b"o"], &mut shelf, 1000)?;
+    let words: [&[u8]; 3] = [b"make", number, b"o"];
+    Ok(ends(alloc, &words, &mut shelf, 1000, (Status::Clean, line))? && has_script(&shelf))
+}
+
+fn has_script(shelf: &MemoryShelf) -> bool {
     let script = shelf.held(b"o/script.txt").unwrap_or(b"");
-    Ok(
-        status == Status::Clean
-            && out.written() == line
-            && script.starts_with(b"add CaseFolding.txt 30000; C; 20000\n"),
-    )
+    script.starts_with(b"add CaseFolding.txt 30000; C; 20000\n")
 }
 
 #[test]

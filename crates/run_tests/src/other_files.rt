@@ -1,6 +1,6 @@
 //! The derived files beside that of core properties.
 
-use crate::runs::{GRAVE, run_words, shelf_of};
+use crate::runs::{GRAVE, shelf_of, status_of};
 use shelf_io::MemoryShelf;
 use std::alloc::Global;
 use std::test::Fail;
@@ -71,7 +71,7 @@ fn holds_texts(shelf: &MemoryShelf, texts: &[&[u8]; 4]) -> bool {
 /// Whether `derive d o` over a release ends with status 0 and leaves these files.
 fn derives_texts(alloc: Global, data: &[u8], texts: &[&[u8]; 4]) -> Result<bool, Memory> {
     let mut shelf = shelf_of(alloc, data, b"")?;
-    let (status, _) = run_words(alloc, &[b"derive", b"d", b"o"], &mut shelf, 1000)?;
+    let status = status_of(alloc, &[b"derive", b"d", b"o"], &mut shelf)?;
     Ok(status == Status::Clean && holds_texts(&shelf, texts))
 }
 

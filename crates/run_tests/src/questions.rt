@@ -1,8 +1,11 @@
 //! Runs of `apply` whose scripts ask about sets.
 
-use crate::runs::{File, GRAVE, LETTERS, holds, run_words, shelf_of, summary_of};
+use crate::runs::{File, GRAVE, LETTERS, shelf_of};
+use crate::scripts::answers;
+use shelf_io::MemoryShelf;
+use std::alloc::Global;
 use std::test::Fail;
-use ucdshop_core::Status;
+use ucd_model::Memory;
 
 /// Letters as the files of a real release have them, with comments, and an alias row with an empty name.
 const REAL: &[u8] =
@@ -22,25 +25,27 @@ struct Asked {
     files: &'static [File],
 }
 
-const ASKED: [Asked; 5] = [
-    // each rule of a set
-    Asked {
-        data: LETTERS,
-        read: &[],
-        script: b"set []\nset [^]\nset [-a]\nset [z-a]\nset \\p{isLu}\nset \\p{Nope}\nset \\p{gc=Nope}\nset [a\nset [{ab}]\nset [\\q]\nset a\nset [[[[[[[[[[[[[[[[[[[[[[[[[[[[[[[[[[[[[[[[[[[[[[[[[[[[[[[[[[[[[[[[[]]]]]]]]]]]]]]]]]]]]]]]]]]]]]]]]]]]]]]]]]]]]]]]]]]]]]]]]]]]]]]]]]\nset [[[[[[[[[[[[[[[[[[[[[[[[[[[[[[[[[[[[[[[[[[[[[[[[[[[[[[[[[[[[[[[[]]]]]]]]]]]]]]]]]]]]]]]]]]]]]]]]]]]]]]]]]]]]]]]]]]]]]]]]]]]]]]]]\nset [\xff]\n",
-        counts: [b"0", b"9", b"5"],
-        files: &[
-            (
-                b"o/bench.log",
-                b"1 set 0\n2 set 1114112\n3 set 2\n4 refused S4 byte 3\n5 set 1\n6 refused S8 byte 0\n7 refused S9 byte 0\n8 refused S2 byte 2\n9 refused S7 byte 1\n10 refused S5 byte 1\n11 refused S3 byte 0\n12 refused S6 byte 64\n13 set 0\n14 refused S1 byte 1\n",
-            ),
-            (
-                b"o/sets.txt",
-                b"# line 1\n# total 0\n\n# line 2\n0000..10FFFF\n# total 1114112\n\n# line 3\n002D\n0061\n# total 2\n\n# line 5\n0041\n# total 1\n\n# line 13\n# total 0\n\n",
-            ),
-            (b"o/UnicodeData.txt", LETTERS),
-        ],
-    },
+/// Each rule of a set.
+const RULES: Asked = Asked {
+    data: LETTERS,
+    read: &[],
+    script: b"set []\nset [^]\nset [-a]\nset [z-a]\nset \\p{isLu}\nset \\p{Nope}\nset \\p{gc=Nope}\nset [a\nset [{ab}]\nset [\\q]\nset a\nset [[[[[[[[[[[[[[[[[[[[[[[[[[[[[[[[[[[[[[[[[[[[[[[[[[[[[[[[[[[[[[[[[]]]]]]]]]]]]]]]]]]]]]]]]]]]]]]]]]]]]]]]]]]]]]]]]]]]]]]]]]]]]]]]]]\nset [[[[[[[[[[[[[[[[[[[[[[[[[[[[[[[[[[[[[[[[[[[[[[[[[[[[[[[[[[[[[[[[]]]]]]]]]]]]]]]]]]]]]]]]]]]]]]]]]]]]]]]]]]]]]]]]]]]]]]]]]]]]]]]]\nset [\xff]\n",
+    counts: [b"0", b"9", b"5"],
+    files: &[
+        (
+            b"o/bench.log",
+            b"1 set 0\n2 set 1114112\n3 set 2\n4 refused S4 byte 3\n5 set 1\n6 refused S8 byte 0\n7 refused S9 byte 0\n8 refused S2 byte 2\n9 refused S7 byte 1\n10 refused S5 byte 1\n11 refused S3 byte 0\n12 refused S6 byte 64\n13 set 0\n14 refused S1 byte 1\n",
+        ),
+        (
+            b"o/sets.txt",
+            b"# line 1\n# total 0\n\n# line 2\n0000..10FFFF\n# total 1114112\n\n# line 3\n002D\n0061\n# total 2\n\n# line 5\n0041\n# total 1\n\n# line 13\n# total 0\n\n",
+        ),
+        (b"o/UnicodeData.txt", LETTERS),
+    ],
+};
+
+/// Sets that are answered.
+const ASKED: [Asked; 4] = [
     // a set is answered on the rows at its command
     Asked {
         data: GRAVE,
@@ -115,25 +120,29 @@ const ASKED: [Asked; 5] = [
     },
 ];
 
+/// Whether a run whose script asks about sets answers them.
+fn answers_sets(alloc: Global, asked: &Asked) -> Result<bool, Memory> {
+    let mut shelf = shelf_of(alloc, asked.data, b"")?;
+    answers_over(alloc, &mut shelf, asked)
+}
+
+fn answers_over(alloc: Global, shelf: &mut MemoryShelf, asked: &Asked) -> Result<bool, Memory> {
+    for file in asked.read {
+        shelf.place(file.0, file.1)?;
+    }
+    answers(alloc, shelf, asked.script, asked.counts, asked.files)
+}
+
+#[test]
+fn each_rule_of_a_set_is_told(rt: HostRuntime) -> Result<(), Fail> {
+    assert!(rt; answers_sets(rt.alloc(), &RULES)?);
+    Ok(())
+}
+
 #[test]
 fn sets_are_answered(rt: HostRuntime) -> Result<(), Fail> {
-    let alloc = rt.alloc();
     for asked in &ASKED {
-        let mut shelf = shelf_of(alloc, asked.data, b"")?;
-        for file in asked.read {
-            shelf.place(file.0, file.1)?;
-        }
-        shelf.place(b"s", asked.script)?;
-        let words: [&[u8]; 4] = [b"apply", b"d", b"s", b"o"];
-        let (status, out) = run_words(alloc, &words, &mut shelf, 1000)?;
-        let summary = summary_of(alloc, asked.counts)?;
-        let expected = if asked.counts[1] == b"0".as_slice() {
-            Status::Clean
-        } else {
-            Status::Done
-        };
-        assert_eq!(rt; (status, out.written()), (expected, summary.as_slice()));
-        assert!(rt; holds(&shelf, asked.files));
+        assert!(rt; answers_sets(rt.alloc(), asked)?);
     }
     Ok(())
 }

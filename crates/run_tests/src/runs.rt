@@ -55,11 +55,18 @@ pub const CORE_PATH: &[u8] = b"o/DerivedCoreProperties.txt";
 pub fn words_of(alloc: Global, words: &[&[u8]]) -> Result<Texts, Memory> {
     let mut texts = Texts::new(alloc);
     for word in words {
-        let mut text = Text::new(alloc);
-        text.append(*word)?;
-        texts.push(text)?;
+        texts.push(text_of(alloc, word)?)?;
     }
     Ok(texts)
+}
+
+/// The text of these bytes.
+///
+/// - `Memory`: memory ran out.
+fn text_of(alloc: Global, bytes: &[u8]) -> Result<Text, Memory> {
+    let mut text = Text::new(alloc);
+    text.append(bytes)?;
+    Ok(text)
 }
 
 /// A shelf with the nine source files in `d`, seven of them empty, and an older derived file and a stranger in `o`.
@@ -67,29 +74,58 @@ pub fn words_of(alloc: Global, words: &[&[u8]]) -> Result<Texts, Memory> {
 /// - `Memory`: memory ran out.
 pub fn shelf_of(alloc: Global, data: &[u8], properties: &[u8]) -> Result<Box<MemoryShelf>, Memory> {
     let mut shelf = Box::new(alloc, MemoryShelf::new(alloc))?;
-    for path in SOURCE_PATHS {
+    place_files(&mut shelf, data, properties)?;
+    Ok(shelf)
+}
+
+fn place_files(shelf: &mut MemoryShelf, data: &[u8], properties: &[u8]) -> Result<(), Memory> {
+    for path in &SOURCE_PATHS {
         shelf.place(path, b"")?;
     }
     shelf.place(b"d/UnicodeData.txt", data)?;
     shelf.place(b"d/PropList.txt", properties)?;
     shelf.place(CORE_PATH, b"old")?;
-    shelf.place(b"o/other", b"kept")?;
-    Ok(shelf)
+    shelf.place(b"o/other", b"kept")
 }
 
-/// How a run of these words over a shelf ends, and what a sink with room for so many bytes has then.
+/// How a run of these words over a shelf ends, which prints into this sink.
 ///
 /// - `Memory`: memory ran out.
-pub fn run_words(
+fn run_into(
+    alloc: Global,
+    words: &[&[u8]],
+    shelf: &mut MemoryShelf,
+    out: &mut MemorySink,
+) -> Result<Status, Memory> {
+    let words = words_of(alloc, words)?;
+    Ok(run(alloc, &words, shelf, out))
+}
+
+/// How a run of these words over a shelf ends.
+///
+/// - `Memory`: memory ran out.
+pub fn status_of(
+    alloc: Global,
+    words: &[&[u8]],
+    shelf: &mut MemoryShelf,
+) -> Result<Status, Memory> {
+    let mut out = MemorySink::new(alloc, 1000)?;
+    run_into(alloc, words, shelf, &mut out)
+}
+
+/// Whether a run of these words over a shelf ends so, and prints so into a sink with room for so many bytes.
+///
+/// - `Memory`: memory ran out.
+pub fn ends(
     alloc: Global,
     words: &[&[u8]],
     shelf: &mut MemoryShelf,
     room: usize,
-) -> Result<(Status, MemorySink), Memory> {
-    let words = words_of(alloc, words)?;
+    expected: (Status, &[u8]),
+) -> Result<bool, Memory> {
     let mut out = MemorySink::new(alloc, room)?;
-    let status = run(alloc, &words, shelf, &mut out);
-    Ok((status, out))
+    let status = run_into(alloc, words, shelf, &mut out)?;
+    Ok(status == expected.0 && out.written() == expected.1)
 }
 
 /// Whether `derive d o` over a shelf ends so, prints so into a sink with room for so many bytes, and leaves this
@@ -102,10 +138,14 @@ pub fn derives(
     room: usize,
     expected: (Status, &[u8], &[u8]),
 ) -> Result<bool, Memory> {
-    let (status, out) = run_words(alloc, &[b"derive", b"d", b"o"], shelf, room)?;
-    let kept = shelf.held(CORE_PATH) == Some(expected.2)
-        && shelf.held(b"o/other") == Some(b"kept".as_slice());
-    Ok(status == expected.0 && out.written() == expected.1 && kept)
+    let ended = ends(
+        alloc,
+        &[b"derive", b"d", b"o"],
+        shelf,
+        room,
+        (expected.0, expected.1),
+    )?;
+    Ok(ended && holds(shelf, &[(CORE_PATH, expected.2), (b"o/other", b"kept")]))
 }
 
 /// The summary of a run: how many groups were accepted, commands refused and sets answered, in digits.
@@ -113,14 +153,18 @@ pub fn derives(
 /// - `Memory`: memory ran out.
 pub fn summary_of(alloc: Global, counts: [&[u8]; 3]) -> Result<Text, Memory> {
     let mut line = Text::new(alloc);
+    put_summary(&mut line, counts)?;
+    Ok(line)
+}
+
+fn put_summary(line: &mut Text, counts: [&[u8]; 3]) -> Result<(), Memory> {
     line.append(b"ucdshop: ")?;
     line.append(counts[0])?;
     line.append(b" groups accepted, ")?;
     line.append(counts[1])?;
     line.append(b" commands refused, ")?;
     line.append(counts[2])?;
-    line.append(b" sets answered, 0 policy breaks\n")?;
-    Ok(line)
+    line.append(b" sets answered, 0 policy breaks\n")
 }
 
 /// The line that names a path.
@@ -128,13 +172,17 @@ pub fn summary_of(alloc: Global, counts: [&[u8]; 3]) -> Result<Text, Memory> {
 /// - `Memory`: memory ran out.
 pub fn line_of(alloc: Global, said: &[u8], path: &[u8]) -> Result<Text, Memory> {
     let mut line = Text::new(alloc);
-    line.append(said)?;
-    line.append(path)?;
-    line.push(b'\n')?;
+    put_line(&mut line, said, path)?;
     Ok(line)
 }
 
+fn put_line(line: &mut Text, said: &[u8], path: &[u8]) -> Result<(), Memory> {
+    line.append(said)?;
+    line.append(path)?;
+    line.push(b'\n')
+}
+
 /// Whether a shelf holds these files.
-pub fn holds(shelf: &MemoryShelf, files: &[File]) -> bool {
+pub fn holds(shelf: &MemoryShelf, files: &[(&[u8], &[u8])]) -> bool {
     files.iter().all(|file| shelf.held(file.0) == Some(file.1))
 }

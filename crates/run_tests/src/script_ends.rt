@@ -1,7 +1,10 @@
 //! Each way in which a run of `apply` ends without its files: a script with a fault, and a read or a write that fails.
 
-use crate::runs::{CORE_PATH, GRAVE, LETTERS, SOURCE_PATHS, line_of, run_words, shelf_of};
-use crate::scripts::{OUTPUT_PATHS, SESSIONS, WORDS};
+use crate::runs::{
+    CORE_PATH, GRAVE, LETTERS, SOURCE_PATHS, ends, holds, line_of, shelf_of, status_of,
+};
+use crate::scripts::{EXCLUDING, OUTPUT_PATHS, WORDS};
+use shelf_io::MemoryShelf;
 use std::alloc::Global;
 use std::test::Fail;
 use ucd_model::{Memory, Text};
@@ -43,113 +46,155 @@ fn is_refused(
     line: &[u8],
 ) -> Result<bool, Memory> {
     let mut shelf = shelf_of(alloc, data, b"")?;
+    refuses(alloc, &mut shelf, script, line)
+}
+
+fn refuses(
+    alloc: Global,
+    shelf: &mut MemoryShelf,
+    script: Option<&[u8]>,
+    line: &[u8],
+) -> Result<bool, Memory> {
     if let Some(script) = script {
         shelf.place(b"s", script)?;
     }
-    let (status, out) = run_words(alloc, &WORDS, &mut shelf, 1000)?;
     Ok(
-        status == Status::LoadRefused
-            && out.written() == line
-            && shelf.held(CORE_PATH) == Some(b"old".as_slice())
+        ends(alloc, &WORDS, shelf, 1000, (Status::LoadRefused, line))?
+            && holds(shelf, &[(CORE_PATH, b"old")])
             && shelf.held(b"o/bench.log").is_none(),
     )
 }
 
+/// Whether a script with too long a group is refused.
+fn refuses_long_group(alloc: Global) -> Result<bool, Memory> {
+    let group = long_group(alloc)?;
+    let line = b"refused: s line 4098 E5\n";
+    is_refused(alloc, LETTERS, Some(group.as_slice()), line)
+}
+
 #[test]
 fn scripts_are_refused_by_their_first_fault(rt: HostRuntime) -> Result<(), Fail> {
-    let alloc = rt.alloc();
-    for (script, line) in FAULTS {
-        assert!(rt; is_refused(alloc, LETTERS, Some(script), line)?);
+    for (script, line) in &FAULTS {
+        assert!(rt; is_refused(rt.alloc(), LETTERS, Some(script), line)?);
     }
-    let group = long_group(alloc)?;
-    assert!(rt;
-        is_refused(
-            alloc,
-            LETTERS,
-            Some(group.as_slice()),
-            b"refused: s line 4098 E5\n"
-        )?
-    );
+    assert!(rt; refuses_long_group(rt.alloc())?);
     Ok(())
 }
+
+/// Whether a script above the limit is refused.
+fn refuses_long_script(alloc: Global) -> Result<bool, Memory> {
+    let long = vec![in alloc; b'#'; 16_777_217]?;
+    let line = b"refused: s line 0 G02\n";
+    is_refused(alloc, LETTERS, Some(long.as_slice()), line)
+}
+
+/// UnicodeData.txt and the script, if there is one, and the line that refuses them.
+const ORDER: [(&[u8], Option<&[u8]>, &[u8]); 3] = [
+    (LETTERS, None, b"refused: s line 0 G01\n"),
+    (
+        b"0041\n",
+        Some(b"begin"),
+        b"refused: d/UnicodeData.txt line 1 G03\n",
+    ),
+    (
+        b"1000;X;Lo;0;L;1001;;;;N;;;;;\n",
+        None,
+        b"refused: d point 1000 V1\n",
+    ),
+];
 
 /// A script that is not there, one that is too long, and the order of what is refused.
 #[test]
 fn the_script_is_judged_after_the_folder(rt: HostRuntime) -> Result<(), Fail> {
-    let alloc = rt.alloc();
-    assert!(rt; is_refused(alloc, LETTERS, None, b"refused: s line 0 G01\n")?);
-    let long = vec![in alloc; b'#'; 16_777_217]?;
-    assert!(rt;
-        is_refused(
-            alloc,
-            LETTERS,
-            Some(long.as_slice()),
-            b"refused: s line 0 G02\n"
-        )?
-    );
-    let data = b"0041\n";
-    let line = b"refused: d/UnicodeData.txt line 1 G03\n";
-    assert!(rt; is_refused(alloc, data, Some(b"begin"), line)?);
-    let data = b"1000;X;Lo;0;L;1001;;;;N;;;;;\n";
-    assert!(rt; is_refused(alloc, data, None, b"refused: d point 1000 V1\n")?);
+    for (data, script, line) in &ORDER {
+        assert!(rt; is_refused(rt.alloc(), data, *script, line)?);
+    }
+    assert!(rt; refuses_long_script(rt.alloc())?);
     Ok(())
+}
+
+/// Whether a run over a new shelf is told that a read failed, counted from 1, and writes nothing.
+fn tells_read(alloc: Global, nth: u32) -> Result<bool, Memory> {
+    let mut shelf = shelf_of(alloc, LETTERS, b"")?;
+    stops_at_read(alloc, &mut shelf, nth)
+}
+
+fn stops_at_read(alloc: Global, shelf: &mut MemoryShelf, nth: u32) -> Result<bool, Memory> {
+    shelf.place(b"s", b"")?;
+    shelf.fail_read(nth)?;
+    let at = (nth as usize).saturating_sub(1);
+    let path = SOURCE_PATHS.get(at).copied().unwrap_or(b"s");
+    let line = line_of(alloc, b"read failed: ", path)?;
+    let expected = (Status::ReadFault, line.as_slice());
+    Ok(ends(alloc, &WORDS, shelf, 1000, expected)? && shelf.held(OUTPUT_PATHS[0]).is_none())
 }
 
 /// Each read may fail, that of the script too, and nothing is written then.
 #[test]
 fn each_failed_read_is_told(rt: HostRuntime) -> Result<(), Fail> {
-    let alloc = rt.alloc();
-    for at in 0..10 {
-        let path = if at < 9 {
-            SOURCE_PATHS[at]
-        } else {
-            b"s".as_slice()
-        };
-        let mut shelf = shelf_of(alloc, LETTERS, b"")?;
-        shelf.place(b"s", b"")?;
-        shelf.fail_read(at as u32 + 1)?;
-        let (status, out) = run_words(alloc, &WORDS, &mut shelf, 1000)?;
-        let line = line_of(alloc, b"read failed: ", path)?;
-        assert_eq!(rt;
-            (status, out.written()),
-            (Status::ReadFault, line.as_slice())
-        );
-        assert_eq!(rt; shelf.held(OUTPUT_PATHS[0]), None);
+    for nth in 1..11 {
+        assert!(rt; tells_read(rt.alloc(), nth)?, "read {nth}");
     }
     Ok(())
+}
+
+/// Whether the outputs before a place are those of a whole run, and those after it are as they were.
+fn is_written_to(shelf: &MemoryShelf, whole: &MemoryShelf, place: usize) -> bool {
+    (0..OUTPUT_PATHS.len()).all(|at| is_left(shelf, whole, place, at))
+}
+
+/// Whether the output at a place is as it should be, where the write at another one failed.
+fn is_left(shelf: &MemoryShelf, whole: &MemoryShelf, failed: usize, at: usize) -> bool {
+    match OUTPUT_PATHS.get(at) {
+        Some(path) if at < failed => shelf.held(path) == whole.held(path),
+        Some(path) if failed < at => shelf.held(path) == Some(b"old".as_slice()),
+        _ => true,
+    }
+}
+
+/// Whether a run over a new shelf is told that a write failed, counted from 1.
+fn tells_write(alloc: Global, whole: &MemoryShelf, nth: u32) -> Result<bool, Memory> {
+    let mut shelf = shelf_of(alloc, GRAVE, b"")?;
+    stops_at_write(alloc, &mut shelf, whole, nth)
+}
+
+fn stops_at_write(
+    alloc: Global,
+    shelf: &mut MemoryShelf,
+    whole: &MemoryShelf,
+    nth: u32,
+) -> Result<bool, Memory> {
+    place_old(shelf)?;
+    shelf.fail_write(nth)?;
+    let at = (nth as usize).saturating_sub(1);
+    let path = OUTPUT_PATHS.get(at).copied().unwrap_or(b"");
+    let line = line_of(alloc, b"write failed: ", path)?;
+    let expected = (Status::WriteFault, line.as_slice());
+    Ok(ends(alloc, &WORDS, shelf, 1000, expected)? && is_written_to(shelf, whole, at))
+}
+
+/// Places the script, and an old text at each output.
+fn place_old(shelf: &mut MemoryShelf) -> Result<(), Memory> {
+    for path in &OUTPUT_PATHS {
+        shelf.place(path, b"old")?;
+    }
+    shelf.place(b"s", EXCLUDING)
+}
+
+/// Whether each failed write is told, beside a shelf on which none fails.
+fn tell_writes(alloc: Global, whole: &mut MemoryShelf) -> Result<bool, Memory> {
+    whole.place(b"s", EXCLUDING)?;
+    let mut told = status_of(alloc, &WORDS, whole)? == Status::Clean;
+    for nth in 1..17 {
+        told = tells_write(alloc, whole, nth)? && told;
+    }
+    Ok(told)
 }
 
 /// Each write may fail. The files before it are written, and those after it are as they were.
 #[test]
 fn each_failed_write_is_told(rt: HostRuntime) -> Result<(), Fail> {
-    let alloc = rt.alloc();
-    let session = SESSIONS[0];
-    let mut whole = shelf_of(alloc, GRAVE, b"")?;
-    whole.place(b"s", session.script)?;
-    let (status, _) = run_words(alloc, &WORDS, &mut whole, 1000)?;
-    assert_eq!(rt; status, Status::Clean);
-    for at in 0..OUTPUT_PATHS.len() {
-        let mut shelf = shelf_of(alloc, GRAVE, b"")?;
-        shelf.place(b"s", session.script)?;
-        for path in OUTPUT_PATHS {
-            shelf.place(path, b"old")?;
-        }
-        shelf.fail_write(at as u32 + 1)?;
-        let (status, out) = run_words(alloc, &WORDS, &mut shelf, 1000)?;
-        let line = line_of(alloc, b"write failed: ", OUTPUT_PATHS[at])?;
-        assert_eq!(rt;
-            (status, out.written()),
-            (Status::WriteFault, line.as_slice())
-        );
-        for other in 0..OUTPUT_PATHS.len() {
-            let path = OUTPUT_PATHS[other];
-            if other < at {
-                assert_eq!(rt; shelf.held(path), whole.held(path));
-            }
-            if at < other {
-                assert_eq!(rt; shelf.held(path), Some(b"old".as_slice()));
-            }
-        }
-    }
+    let mut whole = shelf_of(rt.alloc(), GRAVE, b"")?;
+    assert!(rt; tell_writes(rt.alloc(), &mut whole)?);
     Ok(())
 }

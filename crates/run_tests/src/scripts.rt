@@ -1,7 +1,10 @@
 //! Runs of `apply`: what a script leaves.
 
-use crate::runs::{CORE_PATH, File, GRAVE, LETTERS, holds, run_words, shelf_of, summary_of};
+use crate::runs::{CORE_PATH, File, GRAVE, LETTERS, ends, holds, shelf_of, status_of, summary_of};
+use shelf_io::MemoryShelf;
+use std::alloc::Global;
 use std::test::Fail;
+use ucd_model::Memory;
 use ucdshop_core::Status;
 
 /// A letter, a mark, and a compatibility character of both.
@@ -33,44 +36,49 @@ pub const OUTPUT_PATHS: [&[u8]; 16] = [
 
 /// A script that is carried out.
 #[derive(Clone, Copy)]
-pub struct Session {
+struct Session {
     /// UnicodeData.txt and PropList.txt.
-    pub data: [&'static [u8]; 2],
+    data: [&'static [u8]; 2],
     /// The script.
-    pub script: &'static [u8],
+    script: &'static [u8],
     /// How many groups are accepted, commands refused and sets answered, in digits.
-    pub counts: [&'static [u8]; 3],
+    counts: [&'static [u8]; 3],
     /// Files that the run writes.
-    pub files: &'static [File],
+    files: &'static [File],
 }
 
-/// Scripts, each with another reason for what it leaves.
-pub const SESSIONS: [Session; 6] = [
-    // a letter is excluded from composition: its mark is no second member any more
-    Session {
-        data: [GRAVE, b""],
-        script: b"add CompositionExclusions.txt 00C0",
-        counts: [b"1", b"0", b"0"],
-        files: &[
-            (b"o/bench.log", b"1 accepted 2\n"),
-            (b"o/CompositionExclusions.txt", b"00C0\n"),
-            (b"o/UnicodeData.txt", GRAVE),
-            (
-                b"o/DerivedNormalizationProps.txt",
-                b"# Full_Composition_Exclusion\n00C0 ; Full_Composition_Exclusion\n# total 1\n\n# NFD_QC\n00C0 ; NFD_QC ; N\n# total 1\n\n# NFC_QC\n00C0 ; NFC_QC ; N\n# total 1\n\n# NFKD_QC\n00C0 ; NFKD_QC ; N\n# total 1\n\n# NFKC_QC\n00C0 ; NFKC_QC ; N\n# total 1\n\n# NFKC_CF\n00C0 ; NFKC_CF ; 0041 0300\n# total 1\n\n# Changes_When_NFKC_Casefolded\n00C0 ; Changes_When_NFKC_Casefolded\n# total 1\n\n",
-            ),
-        ],
-    },
-    // a composite is added, then its folding; both reach a compatibility character
-    Session {
-        data: [FOLDED, b""],
-        script: b"add UnicodeData.txt 00E0;LATIN SMALL LETTER A WITH GRAVE;Ll;0;L;0061 0300;;;;N;;;;;\nadd CaseFolding.txt 00E0; C; 0061\n",
-        counts: [b"2", b"0", b"0"],
-        files: &[
-            (b"o/bench.log", b"1 accepted 3\n2 accepted 2\n"),
-            (b"o/CaseFolding.txt", b"00E0; C; 0061\n"),
-        ],
-    },
+/// A script that excludes a letter from composition.
+pub const EXCLUDING: &[u8] = b"add CompositionExclusions.txt 00C0";
+
+/// A letter is excluded from composition: its mark is no second member any more.
+const EXCLUDED: Session = Session {
+    data: [GRAVE, b""],
+    script: EXCLUDING,
+    counts: [b"1", b"0", b"0"],
+    files: &[
+        (b"o/bench.log", b"1 accepted 2\n"),
+        (b"o/CompositionExclusions.txt", b"00C0\n"),
+        (b"o/UnicodeData.txt", GRAVE),
+        (
+            b"o/DerivedNormalizationProps.txt",
+            b"# Full_Composition_Exclusion\n00C0 ; Full_Composition_Exclusion\n# total 1\n\n# NFD_QC\n00C0 ; NFD_QC ; N\n# total 1\n\n# NFC_QC\n00C0 ; NFC_QC ; N\n# total 1\n\n# NFKD_QC\n00C0 ; NFKD_QC ; N\n# total 1\n\n# NFKC_QC\n00C0 ; NFKC_QC ; N\n# total 1\n\n# NFKC_CF\n00C0 ; NFKC_CF ; 0041 0300\n# total 1\n\n# Changes_When_NFKC_Casefolded\n00C0 ; Changes_When_NFKC_Casefolded\n# total 1\n\n",
+        ),
+    ],
+};
+
+/// A composite is added, then its folding; both reach a compatibility character.
+const FOLDING: Session = Session {
+    data: [FOLDED, b""],
+    script: b"add UnicodeData.txt 00E0;LATIN SMALL LETTER A WITH GRAVE;Ll;0;L;0061 0300;;;;N;;;;;\nadd CaseFolding.txt 00E0; C; 0061\n",
+    counts: [b"2", b"0", b"0"],
+    files: &[
+        (b"o/bench.log", b"1 accepted 3\n2 accepted 2\n"),
+        (b"o/CaseFolding.txt", b"00E0; C; 0061\n"),
+    ],
+};
+
+/// Groups that are refused whole, each before one that is accepted.
+const REFUSED_GROUPS: [Session; 2] = [
     // a group whose mappings meet is refused whole, and the next one is not
     Session {
         data: [b"", b""],
@@ -94,6 +102,10 @@ pub const SESSIONS: [Session; 6] = [
             ),
         ],
     },
+];
+
+/// Operations on rows: what they leave, and what is refused.
+const OPERATIONS: [Session; 2] = [
     // line ends stay, and an item without one gets LF
     Session {
         data: [
@@ -126,77 +138,145 @@ pub const SESSIONS: [Session; 6] = [
     },
 ];
 
+/// Whether a run of `apply d s o` over a shelf with this script ends with these counts, and leaves these files.
+///
+/// - `Memory`: memory ran out.
+pub fn answers(
+    alloc: Global,
+    shelf: &mut MemoryShelf,
+    script: &[u8],
+    counts: [&[u8]; 3],
+    files: &[File],
+) -> Result<bool, Memory> {
+    shelf.place(b"s", script)?;
+    let summary = summary_of(alloc, counts)?;
+    let status = if counts[1] == b"0".as_slice() {
+        Status::Clean
+    } else {
+        Status::Done
+    };
+    Ok(ends(alloc, &WORDS, shelf, 1000, (status, summary.as_slice()))? && holds(shelf, files))
+}
+
+/// Whether a script leaves its files, and the folder that is read stays.
+fn leaves(alloc: Global, session: &Session) -> Result<bool, Memory> {
+    let mut shelf = shelf_of(alloc, session.data[0], session.data[1])?;
+    let left = answers(
+        alloc,
+        &mut shelf,
+        session.script,
+        session.counts,
+        session.files,
+    )?;
+    let kept: [(&[u8], &[u8]); 2] = [
+        (b"d/UnicodeData.txt", session.data[0]),
+        (b"o/other", b"kept"),
+    ];
+    Ok(left && holds(&shelf, &kept))
+}
+
 #[test]
-fn scripts_are_carried_out(rt: HostRuntime) -> Result<(), Fail> {
-    let alloc = rt.alloc();
-    for session in &SESSIONS {
-        let mut shelf = shelf_of(alloc, session.data[0], session.data[1])?;
-        shelf.place(b"s", session.script)?;
-        let (status, out) = run_words(alloc, &WORDS, &mut shelf, 1000)?;
-        let summary = summary_of(alloc, session.counts)?;
-        let expected = if session.counts[1] == b"0".as_slice() {
-            Status::Clean
-        } else {
-            Status::Done
-        };
-        assert_eq!(rt; (status, out.written()), (expected, summary.as_slice()));
-        assert!(rt; holds(&shelf, session.files));
-        assert_eq!(rt; shelf.held(b"d/UnicodeData.txt"), Some(session.data[0]));
-        assert_eq!(rt; shelf.held(b"o/other"), Some(b"kept".as_slice()));
+fn scripts_reach_what_is_derived(rt: HostRuntime) -> Result<(), Fail> {
+    assert!(rt; leaves(rt.alloc(), &EXCLUDED)?);
+    assert!(rt; leaves(rt.alloc(), &FOLDING)?);
+    Ok(())
+}
+
+#[test]
+fn groups_are_refused_whole(rt: HostRuntime) -> Result<(), Fail> {
+    for session in &REFUSED_GROUPS {
+        assert!(rt; leaves(rt.alloc(), session)?);
     }
     Ok(())
 }
 
-/// What is derived is derived of the rows that the script leaves.
 #[test]
-fn files_are_derived_after_the_script(rt: HostRuntime) -> Result<(), Fail> {
-    let alloc = rt.alloc();
-    let session = SESSIONS[1];
+fn scripts_are_carried_out(rt: HostRuntime) -> Result<(), Fail> {
+    for session in &OPERATIONS {
+        assert!(rt; leaves(rt.alloc(), session)?);
+    }
+    Ok(())
+}
+
+/// Whether a run of these words over a shelf with this script ends with status 0.
+fn is_clean(
+    alloc: Global,
+    words: &[&[u8]],
+    shelf: &mut MemoryShelf,
+    script: &[u8],
+) -> Result<bool, Memory> {
+    shelf.place(b"s", script)?;
+    Ok(status_of(alloc, words, shelf)? == Status::Clean)
+}
+
+/// Whether foldings are derived of the rows that a script leaves.
+fn derives_after(alloc: Global, session: &Session) -> Result<bool, Memory> {
     let mut shelf = shelf_of(alloc, session.data[0], b"")?;
-    shelf.place(b"s", session.script)?;
-    let (status, _) = run_words(alloc, &WORDS, &mut shelf, 1000)?;
-    assert_eq!(rt; status, Status::Clean);
+    Ok(is_clean(alloc, &WORDS, &mut shelf, session.script)? && has_foldings(&shelf))
+}
+
+fn has_foldings(shelf: &MemoryShelf) -> bool {
     let section =
         b"# NFKC_CF\n00E0 ; NFKC_CF ; 0061\nFB00 ; NFKC_CF ; 0061\n# total 2\n\n".as_slice();
     let text = shelf
         .held(b"o/DerivedNormalizationProps.txt")
         .unwrap_or(b"");
-    assert!(rt; text.windows(section.len()).any(|part| part == section));
+    text.windows(section.len()).any(|part| part == section)
+}
+
+/// What is derived is derived of the rows that the script leaves.
+#[test]
+fn files_are_derived_after_the_script(rt: HostRuntime) -> Result<(), Fail> {
+    assert!(rt; derives_after(rt.alloc(), &FOLDING)?);
     Ok(())
+}
+
+/// Whether a script edits the folder that is read.
+fn edits_in_place(alloc: Global) -> Result<bool, Memory> {
+    let mut shelf = shelf_of(alloc, GRAVE, b"")?;
+    let words: [&[u8]; 4] = [b"apply", b"d", b"s", b"d"];
+    Ok(
+        is_clean(
+            alloc,
+            &words,
+            &mut shelf,
+            b"add CompositionExclusions.txt 00C0\n",
+        )? && holds(
+            &shelf,
+            &[
+                (b"d/UnicodeData.txt", GRAVE),
+                (b"d/CompositionExclusions.txt", b"00C0\n"),
+                (b"d/bench.log", b"1 accepted 2\n"),
+            ],
+        ),
+    )
 }
 
 /// The output folder may be the one that is read.
 #[test]
 fn a_folder_is_edited_in_place(rt: HostRuntime) -> Result<(), Fail> {
-    let alloc = rt.alloc();
-    let mut shelf = shelf_of(alloc, GRAVE, b"")?;
-    shelf.place(b"s", b"add CompositionExclusions.txt 00C0\n")?;
-    let words: [&[u8]; 4] = [b"apply", b"d", b"s", b"d"];
-    let (status, _) = run_words(alloc, &words, &mut shelf, 1000)?;
-    assert_eq!(rt; status, Status::Clean);
-    assert_eq!(rt; shelf.held(b"d/UnicodeData.txt"), Some(GRAVE));
-    assert_eq!(rt;
-        shelf.held(b"d/CompositionExclusions.txt"),
-        Some(b"00C0\n".as_slice())
-    );
-    assert_eq!(rt;
-        shelf.held(b"d/bench.log"),
-        Some(b"1 accepted 2\n".as_slice())
-    );
+    assert!(rt; edits_in_place(rt.alloc())?);
     Ok(())
+}
+
+/// Whether a long file is written as it is by a run whose script is a file of the folder.
+fn writes_long(alloc: Global, shelf: &mut MemoryShelf, long: &[u8]) -> Result<bool, Memory> {
+    shelf.place(b"d/Scripts.txt", long)?;
+    let words: [&[u8]; 4] = [b"apply", b"d", b"d/PropList.txt", b"o"];
+    let status = status_of(alloc, &words, shelf)?;
+    Ok(status == Status::Clean && holds(shelf, &[(b"o/Scripts.txt", long), (b"o/bench.log", b"")]))
+}
+
+/// The same of a shelf that was made for it.
+fn writes_a_long_file(alloc: Global, long: &[u8]) -> Result<bool, Memory> {
+    let mut shelf = shelf_of(alloc, LETTERS, b"# head\n")?;
+    writes_long(alloc, &mut shelf, long)
 }
 
 /// A long file is written as it is, and a script may be a file of the folder.
 #[test]
 fn a_script_may_be_a_file_of_the_folder(rt: HostRuntime) -> Result<(), Fail> {
-    let alloc = rt.alloc();
-    let long = vec![in alloc; b'#'; 16_777_216]?;
-    let mut shelf = shelf_of(alloc, LETTERS, b"# head\n")?;
-    shelf.place(b"d/Scripts.txt", long.as_slice())?;
-    let words: [&[u8]; 4] = [b"apply", b"d", b"d/PropList.txt", b"o"];
-    let (status, _) = run_words(alloc, &words, &mut shelf, 1000)?;
-    assert_eq!(rt; status, Status::Clean);
-    assert_eq!(rt; shelf.held(b"o/Scripts.txt"), Some(long.as_slice()));
-    assert_eq!(rt; shelf.held(b"o/bench.log"), Some(b"".as_slice()));
+    let long = vec![in rt.alloc(); b'#'; 16_777_216]?;
+    assert!(rt; writes_a_long_file(rt.alloc(), long.as_slice())?);
     Ok(())
 }

@@ -2,4 +2,4 @@ use Rattle.std.proofs.Common.{sym, ◌∙◌}
 use Rattle.run_tests.proofs.next_facts.steps.Goals as goal
 
 pub prepare-requires-2 : goal.prepare-requires-2
-prepare-requires-2 g c = c.discard.ensures.discarded ∙ sym c.discard.ensures.now
+prepare-requires-2 c = c.discard.ensures.discarded ∙ sym c.discard.ensures.now

@@ -53,16 +53,21 @@ fn point(number: u32) -> Result<Point, Fail> {
     Ok(Point::new(number).ok_or("a code point")?)
 }
 
+/// The row of these bytes, as an operation that adds it.
+fn added(alloc: Global, file: SourceFile, bytes: &[u8]) -> Result<Op, Fail>
+    ensures { IfOk result IsOp }
+{
+    let row = read_row(alloc, file, bytes)?;
+    let bytes = ListOf::from_vec(Vec::from_slice(alloc, bytes)?);
+    Ok(Op::Add { file, row, bytes })
+}
+
 /// An edit as an operation.
 fn op_of(alloc: Global, edit: Edit) -> Result<Op, Fail>
     ensures { IfOk result IsOp }
 {
     match edit {
-        Edit::Add(file, bytes) => {
-            let row = read_row(alloc, file, bytes)?;
-            let bytes = ListOf::from_vec(Vec::from_slice(alloc, bytes)?);
-            Ok(Op::Add { file, row, bytes })
-        }
+        Edit::Add(file, bytes) => added(alloc, file, bytes),
         Edit::Withdraw(file, bytes) => {
             let key = read_key(alloc, file, bytes)?;
             Ok(Op::Withdraw { file, key })
@@ -123,7 +128,22 @@ fn is_answered<L: Ledger>(
     })
 }
 
-/// Whether a bench over a release answers the groups so, one after the other.
+/// Whether a bench answers the groups so, one after the other.
+fn each_answered<L: Ledger>(
+    alloc: Global,
+    bench: &mut Bench,
+    groups: &[(&[Edit], Answer)],
+    steps: &mut Steps<L>,
+) -> Result<bool, Fail> {
+    for (edits, expected) in groups {
+        if !is_answered(alloc, bench, edits, expected, steps)? {
+            return Ok(false);
+        }
+    }
+    Ok(true)
+}
+
+/// The same of a bench over a release. A call lets the bench go, so that this function stays small.
 fn all_answered<L: Ledger>(
     alloc: Global,
     release: Release,
@@ -139,12 +159,9 @@ fn all_answered<L: Ledger>(
     let Ok(mut bench) = Bench::open(alloc, release, &mut steps) else {
         return Ok(false);
     };
-    for (edits, expected) in groups {
-        if !is_answered(alloc, &mut bench, edits, expected, &mut steps)? {
-            return Ok(false);
-        }
-    }
-    Ok(true)
+    let answered = each_answered(alloc, &mut bench, groups, &mut steps);
+    drop(bench);
+    answered
 }
 
 /// Whether a bench over these lines of UnicodeData.txt, with all other files empty, answers the groups so.

@@ -1,8 +1,10 @@
 //! Groups at random on a bench, beside benches that are opened anew on the same rows.
 
-ghost use Rattle.std.specs.Prelude.{◌≡◌, ◌≤◌, IfOk, length};
+ghost use Rattle.std.specs.Prelude.{◌≡◌, ◌≢◌, ◌≤◌, [], IfOk, OnOk, length};
 ghost use Rattle.std.specs.List.{All};
+ghost use Rattle.ucd_model.specs.declared.files.SourceFile.{SourceFile as FileValue};
 ghost use Rattle.release_rows.specs.Operations.{IsOp};
+ghost use Rattle.release_rows.specs.Releases.{items_now};
 ghost use Rattle.script_lines.specs.Groups.{IsReady};
 
 use edit_session::{Accepted, ApplyStop, Bench, OpenStop, Refused};
@@ -71,19 +73,37 @@ fn script(alloc: Global, number: u32) -> Result<Vec<u8>, Fail> {
     Ok(text)
 }
 
+/// Loads a file as another release has it.
+fn load_again(
+    alloc: Global,
+    release: &mut Release,
+    other: &Release,
+    file: SourceFile,
+) -> Result<(), Fail>
+    requires still { release.old.prepared ≡ release.old.current }
+    requires empty { items_now release.old file ≡ [] }
+    ensures still { OnOk result (release.new.prepared ≡ release.new.current) }
+    ensures others { (other : FileValue) → other ≢ file → items_now release.new other ≡ items_now release.old other }
+{
+    let text = other.text(alloc, file)?;
+    release.load_file(file, text.as_slice())?;
+    Ok(())
+}
+
 /// The release that is loaded from the files of another one.
 fn loaded(alloc: Global, other: &Release) -> Result<Release, Fail>
     ensures { IfOk result (λ release. release.prepared ≡ release.current) }
 {
     let mut release = Release::empty(alloc);
-    let text = other.text(alloc, SourceFile::UnicodeData)?;
-    release.load_file(SourceFile::UnicodeData, text.as_slice())?;
-    let text = other.text(alloc, SourceFile::PropList)?;
-    release.load_file(SourceFile::PropList, text.as_slice())?;
-    let text = other.text(alloc, SourceFile::CompositionExclusions)?;
-    release.load_file(SourceFile::CompositionExclusions, text.as_slice())?;
-    let text = other.text(alloc, SourceFile::CaseFolding)?;
-    release.load_file(SourceFile::CaseFolding, text.as_slice())?;
+    load_again(alloc, &mut release, other, SourceFile::UnicodeData)?;
+    load_again(alloc, &mut release, other, SourceFile::PropList)?;
+    load_again(
+        alloc,
+        &mut release,
+        other,
+        SourceFile::CompositionExclusions,
+    )?;
+    load_again(alloc, &mut release, other, SourceFile::CaseFolding)?;
     Ok(release)
 }
 
@@ -201,6 +221,20 @@ fn are_changed(old: &Bench, new: &Bench, accepted: &Accepted) -> bool {
     changed.next().is_none()
 }
 
+/// Whether a bench that was told this of a group is as the one that is opened anew after it, or as before it.
+fn is_as_opened(
+    bench: &Bench,
+    before: &Bench,
+    told: &Result<Accepted, ApplyStop>,
+    expected: &Result<Box<Bench>, ApplyStop>,
+) -> bool {
+    match (told, expected) {
+        (Ok(accepted), Ok(after)) => are_same(bench, after) && are_changed(before, after, accepted),
+        (Err(stop), Err(other)) => stop == other && are_same(bench, before),
+        _ => false,
+    }
+}
+
 /// Applies a group, and answers the bench that is opened anew after it; `None` where the two do not agree.
 fn turned<L: Ledger>(
     alloc: Global,
@@ -214,13 +248,10 @@ fn turned<L: Ledger>(
 {
     let expected = anew(alloc, &before, ops, steps)?;
     let told = bench.apply(alloc, ops, steps);
-    Ok(match (told, expected) {
-        (Ok(accepted), Ok(after)) => {
-            (are_same(bench, &after) && are_changed(&before, &after, &accepted)).then_some(after)
-        }
-        (Err(stop), Err(other)) => (stop == other && are_same(bench, &before)).then_some(before),
-        _ => None,
-    })
+    if !is_as_opened(bench, &before, &told, &expected) {
+        return Ok(None);
+    }
+    Ok(Some(expected.unwrap_or(before)))
 }
 
 /// Applies the group of a script of this number, and answers the bench that is opened anew after it.

@@ -1,6 +1,6 @@
 //! Reports over releases of a few lines.
 
-ghost use Rattle.std.specs.Prelude.{◌≡◌, IfOk};
+ghost use Rattle.std.specs.Prelude.{◌≡◌, ◌<◌, IfOk};
 ghost use Rattle.std.specs.List.{list_all};
 ghost use Rattle.edit_session.specs.Benches.{bench_facts};
 ghost use Rattle.stability_policies.specs.Reports.{report};
@@ -88,13 +88,60 @@ fn report_of(alloc: Global, old: &Bench, new: &Bench) -> Result<Breaks, Memory>
     report(alloc, old, old_rows, new, new_rows)
 }
 
-/// Whether the report of two releases with these lines is this text.
-fn reports(alloc: Global, old: &Lines, new: &Lines, expected: &[u8]) -> Result<bool, Fail> {
+/// The code point of a number.
+fn point(number: u32) -> Point
+    requires { number < 1114112 }
+    ensures { result ≡ number }
+{
+    Point::new(number).unwrap()
+}
+
+/// What is looked at in two releases. One function owns their benches for all tests, and calls let these go: so each stays
+/// small.
+#[derive(Clone, Copy)]
+enum Look {
+    /// Whether their report is this text.
+    Text(&'static [u8]),
+    /// Whether the report lists the policies that it breaks, and no others.
+    Policies,
+    /// Whether they have the forms of a list in common, and its folding.
+    Forms,
+}
+
+fn on_benches(alloc: Global, old: &Lines, new: &Lines, look: Look) -> Result<bool, Fail> {
     let old = bench_over(alloc, old)?;
     let new = bench_over(alloc, new)?;
-    let breaks = report_of(alloc, &old, &new)?;
+    let looked = look_at(alloc, &old, &new, look);
+    drop(new);
+    drop(old);
+    Ok(looked?)
+}
+
+fn look_at(alloc: Global, old: &Bench, new: &Bench, look: Look) -> Result<bool, Memory> {
+    match look {
+        Look::Text(expected) => reports(alloc, old, new, expected),
+        Look::Policies => lists_policies(alloc, old, new),
+        Look::Forms => have_in_common(alloc, old, new),
+    }
+}
+
+fn reports(alloc: Global, old: &Bench, new: &Bench, expected: &[u8]) -> Result<bool, Memory> {
+    let breaks = report_of(alloc, old, new)?;
     let text = report_text(alloc, &breaks)?;
     Ok(text.as_slice() == expected)
+}
+
+fn lists_policies(alloc: Global, old: &Bench, new: &Bench) -> Result<bool, Memory> {
+    let breaks = report_of(alloc, old, new)?;
+    Ok(are_listed(&breaks))
+}
+
+fn are_listed(breaks: &Breaks) -> bool {
+    breaks.len() == 7
+        && lists(breaks, Policy::P01)
+        && lists(breaks, Policy::P09)
+        && !lists(breaks, Policy::P02)
+        && !lists(breaks, Policy::P17)
 }
 
 /// Whether all of these code points are assigned.
@@ -129,6 +176,24 @@ fn in_common(
     Ok(Some((forms, folding)))
 }
 
+fn have_in_common(alloc: Global, old: &Bench, new: &Bench) -> Result<bool, Memory> {
+    let held = [point(0xE0), point(0x61), point(0x300)];
+    let kept = match in_common(alloc, old, new, &held)? {
+        Some((forms, folding)) => are_kept(&forms, &folding),
+        None => false,
+    };
+    Ok(kept && in_common(alloc, old, new, &[point(0x301)])?.is_none())
+}
+
+fn are_kept(forms: &Forms, folding: &Points) -> bool {
+    let letter = point(0x61);
+    let grave = point(0x300);
+    let composed = point(0xE0);
+    forms.nfd.as_slice() == [letter, grave, letter, grave].as_slice()
+        && forms.nfc.as_slice() == [composed, composed].as_slice()
+        && folding.as_slice() == [composed, composed].as_slice()
+}
+
 fn data(lines: &'static [u8]) -> Lines {
     Lines {
         data: lines,
@@ -139,17 +204,19 @@ fn data(lines: &'static [u8]) -> Lines {
 
 #[test]
 fn letters_and_marks_are_compared(rt: HostRuntime) -> Result<(), Fail> {
-    let breaks =
-        b"P01 0041\nP03 0300\nP05 00E0\nP06 0041\nP07 0041\nP08 0041\nP09 0041\n# total 7\n";
-    assert!(rt; reports(rt.alloc(), &data(LETTERS), &data(LATER), breaks)?);
-    assert!(rt; reports(rt.alloc(), &data(LETTERS), &data(LETTERS), b"# total 0\n")?);
+    let breaks = Look::Text(
+        b"P01 0041\nP03 0300\nP05 00E0\nP06 0041\nP07 0041\nP08 0041\nP09 0041\n# total 7\n",
+    );
+    assert!(rt; on_benches(rt.alloc(), &data(LETTERS), &data(LATER), breaks)?);
+    let none = Look::Text(b"# total 0\n");
+    assert!(rt; on_benches(rt.alloc(), &data(LETTERS), &data(LETTERS), none)?);
     Ok(())
 }
 
 #[test]
 fn names_and_labels_are_compared(rt: HostRuntime) -> Result<(), Fail> {
-    let breaks = b"P02 01A2\nP02 3402\nP02 3403\n# total 3\n";
-    assert!(rt; reports(rt.alloc(), &data(RANGE), &data(RENAMED), breaks)?);
+    let breaks = Look::Text(b"P02 01A2\nP02 3402\nP02 3403\n# total 3\n");
+    assert!(rt; on_benches(rt.alloc(), &data(RANGE), &data(RENAMED), breaks)?);
     Ok(())
 }
 
@@ -165,36 +232,21 @@ fn names_of_properties_and_values_are_compared(rt: HostRuntime) -> Result<(), Fa
         properties: LESS,
         values: MOVED,
     };
-    let breaks = b"P17 PropertyAliases.txt 3\nP17 PropertyValueAliases.txt 1\n# total 2\n";
-    assert!(rt; reports(rt.alloc(), &old, &new, breaks)?);
+    let breaks = Look::Text(
+        b"P17 PropertyAliases.txt 3\nP17 PropertyValueAliases.txt 1\n# total 2\n",
+    );
+    assert!(rt; on_benches(rt.alloc(), &old, &new, breaks)?);
     Ok(())
 }
 
 #[test]
 fn policies_are_listed(rt: HostRuntime) -> Result<(), Fail> {
-    let old = bench_over(rt.alloc(), &data(LETTERS))?;
-    let new = bench_over(rt.alloc(), &data(LATER))?;
-    let breaks = report_of(rt.alloc(), &old, &new)?;
-    assert_eq!(rt; breaks.len(), 7);
-    assert!(rt; lists(&breaks, Policy::P01) && lists(&breaks, Policy::P09));
-    assert!(rt; !lists(&breaks, Policy::P02) && !lists(&breaks, Policy::P17));
+    assert!(rt; on_benches(rt.alloc(), &data(LETTERS), &data(LATER), Look::Policies)?);
     Ok(())
 }
 
 #[test]
 fn forms_and_foldings_stay(rt: HostRuntime) -> Result<(), Fail> {
-    let old = bench_over(rt.alloc(), &data(GRAVE))?;
-    let new = bench_over(rt.alloc(), &data(MORE))?;
-    let a = Point::new(0x0061).ok_or("a code point")?;
-    let grave = Point::new(0x0300).ok_or("a code point")?;
-    let composed = Point::new(0x00E0).ok_or("a code point")?;
-    let (forms, folding) = in_common(rt.alloc(), &old, &new, &[composed, a, grave])?.ok_or(
-        "no break",
-    )?;
-    assert!(rt; forms.nfd.as_slice() == [a, grave, a, grave].as_slice());
-    assert!(rt; forms.nfc.as_slice() == [composed, composed].as_slice());
-    assert!(rt; folding.as_slice() == [composed, composed].as_slice());
-    let added = Point::new(0x0301).ok_or("a code point")?;
-    assert!(rt; in_common(rt.alloc(), &old, &new, &[added])?.is_none());
+    assert!(rt; on_benches(rt.alloc(), &data(GRAVE), &data(MORE), Look::Forms)?);
     Ok(())
 }

@@ -2,7 +2,7 @@
 
 ghost use Rattle.std.specs.Prelude.{◌≡◌, ◌≢◌, ◌≤◌, [], IfOk, OnOk, length};
 ghost use Rattle.std.specs.List.{All};
-ghost use Rattle.ucd_model.specs.declared.files.SourceFile.{SourceFile as FileValue};
+ghost use Rattle.ucd_points.specs.declared.files.SourceFile.{SourceFile as FileValue};
 ghost use Rattle.release_rows.specs.Operations.{IsOp};
 ghost use Rattle.release_rows.specs.Releases.{items_now};
 ghost use Rattle.script_lines.specs.Groups.{IsReady};

@@ -5,7 +5,7 @@ use Rattle.ucd_model.specs.Facts.{is_data_of, within, data_in, data_row, class_i
 use Rattle.ucd_model.specs.declared.row.Row.{Row}
 use Rattle.ucd_model.specs.declared.row.DataRow.{DataRow}
 use Rattle.ucd_model.specs.declared.row.Row.TheVariants.{Unit as DataLine, Value as ValueLine, Exclusion as ExclusionLine, Fold as FoldLine, Casing as CasingLine, Alias as AliasLine}
-use Rattle.ucd_model.specs.Bounds.{Bounds}
+use Rattle.ucd_points.specs.Bounds.{Bounds}
 use Rattle.source_rows.specs.PointValues.{Gives}
 use Rattle.source_rows.specs.declared.point_values.PointValues.{PointValues}
 use Rattle.release_rows.specs.Given.{ShowsGiven}

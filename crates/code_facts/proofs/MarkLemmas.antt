@@ -12,10 +12,10 @@ use Rattle.ucd_model.specs.Facts.{Sources, within, gives_value, mid_word_at, mid
 use Rattle.ucd_model.specs.Sets.{flag_place}
 use Rattle.ucd_model.specs.declared.property.Flag.{Flag}
 use Rattle.ucd_model.specs.declared.property.Flag.TheVariants.{WhiteSpace}
-use Rattle.ucd_model.specs.declared.files.SourceFile.TheVariants.{PropList, WordBreakProperty, CompositionExclusions}
+use Rattle.ucd_points.specs.declared.files.SourceFile.TheVariants.{PropList, WordBreakProperty, CompositionExclusions}
 use Rattle.ucd_model.specs.declared.row.Row.{Row}
 use Rattle.ucd_model.specs.declared.row.Row.TheVariants.{Unit as DataLine, Value as ValueLine, Exclusion as ExclusionLine, Fold as FoldLine, Casing as CasingLine, Alias as AliasLine}
-use Rattle.ucd_model.specs.Bounds.{Bounds}
+use Rattle.ucd_points.specs.Bounds.{Bounds}
 use Rattle.code_facts.specs.MarkRows.{IsMarked}
 use Rattle.code_facts.specs.Word.{one_if, mark_part}
 use Rattle.code_facts.specs.Marks.{word_of, mark_bit, marks_before, marks_at, all_marks, gives_mid_word, puts}

@@ -4,7 +4,7 @@ use Rattle.std.proofs.lemmas.Bool.{cases_lt}
 use Rattle.std.proofs.lemmas.Bool.Decides.{nat_tests}
 use Rattle.std.proofs.lemmas.List.Folds.{list_any_more}
 use Rattle.std.specs.List.{list_any}
-use Rattle.ucd_model.specs.Bounds.{Bounds}
+use Rattle.ucd_points.specs.Bounds.{Bounds}
 use Rattle.ucd_model.specs.Facts.{within}
 use Rattle.range_table.specs.Values.{SameValues, with_span}
 use Rattle.code_facts.specs.DataTables.{AreEmpty}

@@ -3,8 +3,8 @@ use Rattle.std.proofs.Common.{◌≡◌, ℕ, ◌<◌, Bool, true, false, cond, 
 use Rattle.std.specs.List.{list_any}
 use Rattle.std.proofs.lemmas.Bool.{cases_lt, true≢false}
 use Rattle.range_table.specs.Values.{SameValues}
-use Rattle.ucd_model.specs.Limits.{point_count}
-use Rattle.ucd_model.specs.Bounds.{Bounds}
+use Rattle.ucd_points.specs.Limits.{point_count}
+use Rattle.ucd_points.specs.Bounds.{Bounds}
 use Rattle.ucd_model.specs.Facts.{Facts, Sources, facts, unassigned, within}
 use Rattle.ucd_model.specs.FactsLemmas.{facts_inside}
 use Rattle.ucd_model.specs.Composites.{is_canonical, composes, ends_with}

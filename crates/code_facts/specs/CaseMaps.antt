@@ -3,7 +3,7 @@
 -- KeepsImages maps rows     each map has the images that the rows give
 use Rattle.std.specs.Prelude.{◌≡◌, ℕ}
 use Rattle.ucd_model.specs.Facts.{Sources}
-use Rattle.ucd_model.specs.declared.files.SourceFile.TheVariants.{CaseFolding, SpecialCasing}
+use Rattle.ucd_points.specs.declared.files.SourceFile.TheVariants.{CaseFolding, SpecialCasing}
 use Rattle.ucd_model.specs.declared.row.FoldStatus.TheVariants as status
 use Rattle.code_facts.specs.Found.{found, image_by}
 use Rattle.code_facts.specs.declared.case.Case.TheVariants.{Fold, Lower, Title, Upper}

@@ -19,7 +19,7 @@ use Rattle.std.specs.Prelude.{◌≡◌, ℕ, Bool, true, false, ◌&&◌, ◌||
 use Rattle.std.specs.Bool.{beq}
 use Rattle.std.specs.List.{list_any}
 use Rattle.asked_queries.specs.Answers.{SameAnswer, is_asked}
-use Rattle.ucd_model.specs.Bounds.{Bounds}
+use Rattle.ucd_points.specs.Bounds.{Bounds}
 use Rattle.ucd_model.specs.Composites.{composes}
 use Rattle.ucd_model.specs.Facts.{Facts, within}
 use Rattle.ucd_model.specs.declared.query.Query.{Query}

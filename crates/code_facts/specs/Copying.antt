@@ -6,7 +6,7 @@
 -- IsListed listed t q       where the tables t keep a canonical mapping of two members for q, it is listed under them
 use Rattle.std.specs.Prelude.{◌≡◌, ℕ, Bool, true, ◌&&◌, List, [], ◌∷◌, nat_le, if◌then◌else◌}
 use Rattle.std.specs.List.{list_any}
-use Rattle.ucd_model.specs.Bounds.{Bounds}
+use Rattle.ucd_points.specs.Bounds.{Bounds}
 use Rattle.ucd_model.specs.Composites.{is_canonical}
 use Rattle.ucd_model.specs.Facts.{within}
 use Rattle.code_facts.specs.RowTables.{word_in, rest_in}

@@ -8,7 +8,7 @@
 -- Adds row old new              what is new is what the row gives where it covers a code point, and else what was; a row of another
 --                               file gives nothing
 use Rattle.std.specs.Prelude.{◌≡◌, ℕ, ◌<◌, true, false, List, [], Some, None, if◌then◌else◌}
-use Rattle.ucd_model.specs.Bounds.{Bounds}
+use Rattle.ucd_points.specs.Bounds.{Bounds}
 use Rattle.ucd_model.specs.DataLines.{kept_of}
 use Rattle.ucd_model.specs.Facts.{within}
 use Rattle.ucd_model.specs.declared.row.DataRow.{DataRow}

@@ -5,7 +5,7 @@
 -- all_kept words rests         the facts of all numbers: past the code points those of one without a row
 -- Packs words F                the word of each code point is the packed word of its facts F
 use Rattle.std.specs.Prelude.{◌≡◌, ℕ, ◌<◌, List, [], ◌∷◌, Option, Some, None, unwrap_or, nat_lt, if◌then◌else◌}
-use Rattle.ucd_model.specs.Limits.{point_count}
+use Rattle.ucd_points.specs.Limits.{point_count}
 use Rattle.ucd_model.specs.Sets.{has_flag}
 use Rattle.ucd_model.specs.Facts.{Facts, unassigned, image, only_or}
 use Rattle.ucd_model.specs.declared.image.Image.{Image}

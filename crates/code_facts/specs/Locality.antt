@@ -5,7 +5,7 @@
 -- FactsStay            a code point of which the same rows speak, in the same order, has the same facts
 use Rattle.std.specs.Prelude.{◌≡◌, ℕ, Bool, true, filter}
 use Rattle.ucd_model.specs.Facts.{Sources, facts}
-use Rattle.ucd_model.specs.declared.files.SourceFile.{SourceFile}
+use Rattle.ucd_points.specs.declared.files.SourceFile.{SourceFile}
 use Rattle.ucd_model.specs.declared.row.Row.{Row}
 use Rattle.release_rows.specs.OperationLaws.{speaks_of}
 

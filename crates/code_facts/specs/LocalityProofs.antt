@@ -8,11 +8,11 @@ use Rattle.std.specs.Str.{bytes_eq}
 use Rattle.std.proofs.lemmas.Bool.{true≢false, and_parts, or_left, eqb-true}
 use Rattle.std.proofs.lemmas.Bool.Decides.{nat_tests}
 use Rattle.std.proofs.lemmas.Map.Views.{any-filter_same}
-use Rattle.ucd_model.specs.Limits.{point_count}
+use Rattle.ucd_points.specs.Limits.{point_count}
 use Rattle.ucd_model.specs.Names.{flag_name}
 use Rattle.ucd_model.specs.Facts.{Sources, Facts, facts, given, unassigned, within, is_data_of, data_in, data_row, is_casing_of, casing_in, casing_row, is_folding_of, folding_in, folding, gives_value, mid_word_values, excludes, mid_word_at, excluded_at, full_folding, simple_folding, category_in, class_in, kind_in, mapping_in, upper_in, lower_in, title_in, full_upper, full_lower, full_title, image}
-use Rattle.ucd_model.specs.declared.files.SourceFile.{SourceFile}
-use Rattle.ucd_model.specs.declared.files.SourceFile.TheVariants.{UnicodeData, PropList, WordBreakProperty, CompositionExclusions, CaseFolding, SpecialCasing}
+use Rattle.ucd_points.specs.declared.files.SourceFile.{SourceFile}
+use Rattle.ucd_points.specs.declared.files.SourceFile.TheVariants.{UnicodeData, PropList, WordBreakProperty, CompositionExclusions, CaseFolding, SpecialCasing}
 use Rattle.ucd_model.specs.declared.property.Flag.{Flag}
 use Rattle.ucd_model.specs.declared.row.CasingRow.{CasingRow}
 use Rattle.ucd_model.specs.declared.row.DataRow.{DataRow}

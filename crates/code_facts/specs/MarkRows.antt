@@ -9,10 +9,10 @@ use Rattle.std.specs.Prelude.{◌≡◌, ℕ, Bool, ◌&&◌, ◌==◌, List}
 use Rattle.std.specs.List.{list_any}
 use Rattle.std.specs.Str.{bytes_eq}
 use Rattle.ucd_model.specs.Names.{flag_name}
-use Rattle.ucd_model.specs.Bounds.{Bounds}
+use Rattle.ucd_points.specs.Bounds.{Bounds}
 use Rattle.ucd_model.specs.Facts.{Sources, within}
 use Rattle.ucd_model.specs.Sets.{flag_place}
-use Rattle.ucd_model.specs.declared.files.SourceFile.TheVariants.{PropList}
+use Rattle.ucd_points.specs.declared.files.SourceFile.TheVariants.{PropList}
 use Rattle.ucd_model.specs.declared.property.Flag.{Flag}
 use Rattle.code_facts.specs.Marks.{puts, file_of}
 use Rattle.code_facts.specs.declared.mark.Mark.{Mark}

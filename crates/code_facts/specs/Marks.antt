@@ -11,14 +11,14 @@
 -- marks_at rows c         what all marks add to it together
 use Rattle.std.specs.Prelude.{ℕ, ◌+◌, ◌*◌, ◌^◌, Bool, false, ◌&&◌, List, ◌∷◌, map, length, Option, Some, None, take, sum_by}
 use Rattle.std.specs.List.{list_any}
-use Rattle.ucd_model.specs.Bounds.{Bounds}
+use Rattle.ucd_points.specs.Bounds.{Bounds}
 use Rattle.ucd_model.specs.Enumerations.{flags}
 use Rattle.ucd_model.specs.Names.{flag_name}
 use Rattle.ucd_model.specs.Sets.{flag_place}
 use Rattle.ucd_model.specs.Facts.{Sources, within, gives_value, excludes}
 use Rattle.ucd_model.specs.Values.{is_mid_word}
-use Rattle.ucd_model.specs.declared.files.SourceFile.{SourceFile}
-use Rattle.ucd_model.specs.declared.files.SourceFile.TheVariants.{PropList, WordBreakProperty, CompositionExclusions}
+use Rattle.ucd_points.specs.declared.files.SourceFile.{SourceFile}
+use Rattle.ucd_points.specs.declared.files.SourceFile.TheVariants.{PropList, WordBreakProperty, CompositionExclusions}
 use Rattle.ucd_model.specs.declared.row.Row.{Row}
 use Rattle.ucd_model.specs.declared.row.Row.TheVariants.{Value as ValueLine}
 use Rattle.code_facts.specs.Word.{one_if}

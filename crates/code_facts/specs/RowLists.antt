@@ -4,7 +4,7 @@
 -- AreRowsOf lists rows    the lists are the rows of their files
 use Rattle.std.specs.Prelude.{◌≡◌, []}
 use Rattle.ucd_model.specs.Facts.{Sources}
-use Rattle.ucd_model.specs.declared.files.SourceFile.TheVariants.{UnicodeData, CaseFolding, SpecialCasing, PropList, WordBreakProperty, CompositionExclusions}
+use Rattle.ucd_points.specs.declared.files.SourceFile.TheVariants.{UnicodeData, CaseFolding, SpecialCasing, PropList, WordBreakProperty, CompositionExclusions}
 use Rattle.code_facts.specs.declared.row_lists.RowLists.{RowLists}
 
 abbrev pub sources_of : RowLists → Sources

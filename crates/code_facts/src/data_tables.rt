@@ -5,7 +5,7 @@ ghost use Rattle.std.specs.Option.{option_to_list};
 ghost use Rattle.range_table.specs.Values.{SameValues, with_span};
 ghost use Rattle.range_table.specs.RunTable.{values_next};
 ghost use Rattle.ucd_model.specs.Facts.{within, mapping_in, data_row, class_in, is_hangul_syllable, hangul_mapping};
-ghost use Rattle.ucd_model.specs.declared.files.SourceFile.TheVariants.{UnicodeData};
+ghost use Rattle.ucd_points.specs.declared.files.SourceFile.TheVariants.{UnicodeData};
 ghost use Rattle.ucd_model.specs.declared.row.Row.TheVariants.{Unit as DataLine};
 ghost use Rattle.code_facts.specs.RowLists.{sources_of};
 ghost use Rattle.code_facts.specs.Rows.{row_data, Apart};

@@ -1,7 +1,7 @@
 //! The rows of a release, file by file.
 
 ghost use Rattle.std.specs.Prelude.{◌≡◌, filter, IfOk};
-ghost use Rattle.ucd_model.specs.declared.files.SourceFile.TheVariants.{UnicodeData};
+ghost use Rattle.ucd_points.specs.declared.files.SourceFile.TheVariants.{UnicodeData};
 ghost use Rattle.release_rows.specs.Touching.{meets};
 ghost use Rattle.code_facts.specs.Locality.{rows_within};
 ghost use Rattle.code_facts.specs.RowLists.{AreRowsOf};

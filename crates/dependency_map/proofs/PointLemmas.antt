@@ -5,7 +5,7 @@
 -- points_same p r           tests that answer each code point alike have the same ones
 use Rattle.std.proofs.Common.{◌≡◌, ◌∙◌, ℕ, zero, suc, ◌+◌, ◌-◌, ◌<◌, ◌≤◌, Bool, true, false, cond, List, [], ◌∷◌, filter, refl, sym, ap, arith}
 use Rattle.std.specs.List.{range_with_len}
-use Rattle.ucd_model.specs.Limits.{point_count}
+use Rattle.ucd_points.specs.Limits.{point_count}
 use Rattle.range_table.specs.Values.{point_count-is}
 use Rattle.dependency_map.specs.Askers.{points_from}
 use Rattle.dependency_map.specs.Index.{NoneFrom}

@@ -10,7 +10,7 @@
 -- askers_of_any asked Q   those that ask one of the questions Q
 use Rattle.std.specs.Prelude.{ℕ, ◌-◌, Bool, List, [], ◌∷◌, Option, Some, None, filter}
 use Rattle.std.specs.List.{list_any, range_with_len}
-use Rattle.ucd_model.specs.Limits.{point_count}
+use Rattle.ucd_points.specs.Limits.{point_count}
 use Rattle.ucd_model.specs.declared.query.Query.{Query}
 use Rattle.ucd_model.specs.declared.query.Query.TheVariants.{Row, Second}
 use Rattle.asked_queries.specs.Answers.{is_asked}

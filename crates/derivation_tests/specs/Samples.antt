@@ -3,7 +3,7 @@
 -- entry_or rest entry      the record of the entry that was found, and rest where there is none
 -- sample_record s rest c   the record of c: that of the first entry of s whose span covers c, and without one the default, rest
 use Rattle.std.specs.Prelude.{ℕ, List, Option, Some, None, find}
-use Rattle.ucd_model.specs.Bounds.{Bounds}
+use Rattle.ucd_points.specs.Bounds.{Bounds}
 use Rattle.ucd_model.specs.Facts.{within}
 use Rattle.ucd_model.specs.Records.{Record, kept_record}
 use Rattle.ucd_model.specs.declared.records.Record.{Record as KeptRecord}

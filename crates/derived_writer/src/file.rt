@@ -1,7 +1,7 @@
 //! The text of a derived file.
 
 ghost use Rattle.std.specs.Prelude.{◌≡◌, IfOk};
-ghost use Rattle.ucd_model.specs.Limits.{point_count};
+ghost use Rattle.ucd_points.specs.Limits.{point_count};
 ghost use Rattle.ucd_model.specs.DerivedFiles.{derived_text};
 ghost use Rattle.ucd_model.specs.Cuts.{IsCut};
 ghost use Rattle.derived_writer.specs.Shown.{AreShown};

@@ -3,7 +3,7 @@
 ghost use Rattle.std.specs.Prelude.{◌≡◌, ◌≤◌, ◌<◌, ◌+◌, ℕ, List, ◌++◌, None, IsSome, OnOk, IfOk};
 ghost use Rattle.ucd_model.specs.Labels.{Label, same_label};
 ghost use Rattle.ucd_model.specs.LabelLemmas.{labelled_before};
-ghost use Rattle.ucd_model.specs.DerivedText.{span_text};
+ghost use Rattle.ucd_points.specs.HexText.{span_text};
 ghost use Rattle.derived_writer.specs.Runs.{lines_before, run_line, run_length, IsOpen, IsStretch};
 
 use crate::label::LabelText;
@@ -99,7 +99,7 @@ impl Run {
 }
 
 /// Puts one code point, or two joined by `..`.
-#[tactic(auto, unfolding(ucd_model::specs::DerivedText::span_text))]
+#[tactic(auto, unfolding(ucd_points::specs::HexText::span_text))]
 fn put_span(first: Point, last: Point, text: &mut Text) -> Result<(), Memory>
     ensures { OnOk result (text.new ≡ text.old ++ span_text (record { lo = first; hi = last })) }
 {

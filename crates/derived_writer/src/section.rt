@@ -3,7 +3,7 @@
 ghost use Rattle.std.specs.Prelude.{◌≡◌, ◌++◌, OnOk, IfOk, codes};
 ghost use Rattle.std.specs.List.{flat_map};
 ghost use Rattle.std.specs.Fmt.{decimal};
-ghost use Rattle.ucd_model.specs.Limits.{point_count};
+ghost use Rattle.ucd_points.specs.Limits.{point_count};
 ghost use Rattle.ucd_model.specs.Labels.{label_spans, labelled};
 ghost use Rattle.ucd_model.specs.DerivedText.{section_text, span_line, line_end};
 ghost use Rattle.ucd_model.specs.DerivedFiles.{section_of};

@@ -4,9 +4,9 @@ use Rattle.std.specs.List.{list_any}
 use Rattle.std.proofs.lemmas.Bool.{cases_eq, cases_lt}
 use Rattle.std.proofs.lemmas.List.{get_or-set_other, get_or-set_same, set_past}
 use Rattle.std.proofs.lemmas.List.Folds.{list_any-append}
-use Rattle.ucd_model.specs.Bounds.{Bounds}
+use Rattle.ucd_points.specs.Bounds.{Bounds}
 use Rattle.ucd_model.specs.Facts.{within}
-use Rattle.ucd_model.specs.SourceFiles.{file_place}
+use Rattle.ucd_points.specs.SourceFiles.{file_place}
 use Rattle.release_rows.specs.FileItems.{FileItem, rows_in}
 use Rattle.release_rows.specs.OperationLaws.{RowsStay, speaks_of}
 use Rattle.release_rows.specs.Operations.{AnswersOp, edited, op_file, op_or_rule, touched, with_edited}

@@ -23,9 +23,9 @@
 --                              the code points whose records differ; or the rule that is expected, or want of memory, and what was
 use Rattle.std.specs.Prelude.{◌≡◌, ℕ, ◌+◌, false, not, List, [], ◌∷◌, Option, Some, None, Result, Ok, Err, filter}
 use Rattle.std.specs.List.{list_any, range_with_len}
-use Rattle.ucd_model.specs.Bounds.{Bounds}
+use Rattle.ucd_points.specs.Bounds.{Bounds}
 use Rattle.ucd_model.specs.Facts.{Facts, facts, within}
-use Rattle.ucd_model.specs.Limits.{point_count}
+use Rattle.ucd_points.specs.Limits.{point_count}
 use Rattle.ucd_model.specs.Records.{Record, record_at}
 use Rattle.ucd_model.specs.Sameness.{same_record}
 use Rattle.ucd_model.specs.Validity.{first_broken}

@@ -6,7 +6,7 @@ ghost use Rattle.std.specs.Result.{IsErr};
 ghost use Rattle.code_facts.specs.FactTables.{tables_facts};
 ghost use Rattle.paged_table.specs.Paged.{values_now};
 ghost use Rattle.release_rows.specs.Operations.{IsOp};
-ghost use Rattle.ucd_model.specs.Limits.{point_count};
+ghost use Rattle.ucd_points.specs.Limits.{point_count};
 ghost use Rattle.edit_session.specs.Benches.{bench_facts, bench_record, HasNothingPrepared, IsUnbroken, NamesBroken};
 ghost use Rattle.edit_session.specs.Groups.{AppliesAs, CountsAs, after_ops, group_answer, group_limit};
 

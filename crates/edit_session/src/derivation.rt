@@ -6,7 +6,7 @@ ghost use Rattle.code_facts.specs.FactTables.{tables_facts, tables_next};
 ghost use Rattle.paged_table.specs.Paged.{values_now};
 ghost use Rattle.rederivation.specs.Turned.{CountsWithin};
 ghost use Rattle.ucd_model.specs.Facts.{Facts, within};
-ghost use Rattle.ucd_model.specs.Limits.{point_count};
+ghost use Rattle.ucd_points.specs.Limits.{point_count};
 ghost use Rattle.edit_session.specs.Benches.{bench_facts, NamesBroken};
 ghost use Rattle.edit_session.specs.Derivations.{IsNext, IsNow, IsStill};
 ghost use Rattle.edit_session.specs.declared.open_stop.OpenStop.TheVariants.{Memory as Lacking};

@@ -6,7 +6,7 @@ ghost use Rattle.kept_values.specs.Pool.{Lie, value_at};
 use crate::store::Store;
 use range_table::{Stretches, Table};
 use std::alloc::Global;
-use ucd_model::{Memory, Point, Span};
+use ucd_points::{Memory, Point, Span};
 
 /// A store that keeps its values one after another, and the place of each code point's value in a table of type `T`.
 ///

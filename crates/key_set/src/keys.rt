@@ -9,7 +9,7 @@ ghost use Rattle.key_set.specs.Keys.{IsNext, has, is_in, least};
 use crate::key_set::KeySet;
 use std::alloc::Global;
 use std::collections::BTreeSet;
-use ucd_model::Memory;
+use ucd_points::Memory;
 
 impl KeySet {
     /// The set of no keys. It takes no memory.

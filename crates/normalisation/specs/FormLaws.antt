@@ -11,7 +11,7 @@
 --                               its expansion
 use Rattle.std.specs.Prelude.{◌≡◌, ℕ, ◌<◌, Bool, true, false, List, [], ◌∷◌, Ok}
 use Rattle.std.specs.List.{All}
-use Rattle.ucd_model.specs.Limits.{point_count}
+use Rattle.ucd_points.specs.Limits.{point_count}
 use Rattle.ucd_model.specs.Facts.{Facts}
 use Rattle.ucd_model.specs.Expansion.{expansion}
 use Rattle.ucd_model.specs.Forms.{nfd, nfc, nfkd, nfkc}

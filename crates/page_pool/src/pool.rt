@@ -8,7 +8,7 @@ use crate::block::{WORDS, clear, copy_words, put, read};
 use crate::free::{add_free, give_free, take_free};
 use std::alloc::Global;
 use std::marker::Model;
-use ucd_model::Memory;
+use ucd_points::Memory;
 
 /// Pages of 256 words, in one block of memory. A page that is taken is live until it is given back.
 /// Contracts see the words, and which pages are live. The block is freed with the pool.

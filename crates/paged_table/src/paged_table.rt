@@ -14,7 +14,7 @@ use page_pool::PagePool;
 use range_table::{Stretches, Table};
 use std::alloc::Global;
 use std::marker::Model;
-use ucd_model::{Memory, Point, Span};
+use ucd_points::{Memory, Point, Span};
 
 /// A table of words that keeps the 256 values of a block in a page, or else, where they are equal, that value once.
 ///

@@ -9,7 +9,7 @@ ghost use Rattle.range_table.specs.Values.{with_span};
 use crate::block::Block;
 use crate::layers::{WIDTH, fill_block, put_block};
 use page_pool::PagePool;
-use ucd_model::{Memory, Span};
+use ucd_points::{Memory, Span};
 
 /// Gives the code points of a span a value next, and lists the blocks that it touches. All room is made first.
 ///

@@ -9,7 +9,7 @@ use crate::block::Block;
 use crate::layers::{BLOCKS, WIDTH};
 use crate::value::value_in;
 use page_pool::PagePool;
-use ucd_model::Point;
+use ucd_points::Point;
 
 /// How many blocks behind the block of a code point a stretch reaches at most.
 const REACH: usize = 16;

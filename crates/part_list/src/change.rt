@@ -7,7 +7,7 @@ ghost use Rattle.part_list.specs.PartValues.{committed, discarded, has_entries, 
 
 use crate::part::Part;
 use std::alloc::Global;
-use ucd_model::ListOf;
+use ucd_points::ListOf;
 
 /// A part with more entries next is cut in two.
 const MOST: usize = 1024;

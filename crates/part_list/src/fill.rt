@@ -11,7 +11,7 @@ use crate::put::Put;
 use crate::spanned::Spanned;
 use crate::spot::Spot;
 use std::alloc::Global;
-use ucd_model::{ListOf, Memory};
+use ucd_points::{ListOf, Memory};
 
 /// Puts an entry at the end, now and next.
 ///

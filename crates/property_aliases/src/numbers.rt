@@ -3,7 +3,7 @@
 ghost use Rattle.std.specs.Prelude.{◌≡◌, ◌∷◌, map, IfOk};
 ghost use Rattle.property_aliases.specs.Sources.{in_order, sources_of, value_names};
 ghost use Rattle.release_rows.specs.Releases.{items_now, rows_at};
-ghost use Rattle.ucd_model.specs.declared.files.SourceFile.TheVariants.{PropList};
+ghost use Rattle.ucd_points.specs.declared.files.SourceFile.TheVariants.{PropList};
 
 use crate::in_order::in_order;
 use crate::rows::push_values;

@@ -11,7 +11,7 @@ ghost use Rattle.property_aliases.specs.Tables.{built_in_names};
 ghost use Rattle.property_aliases.specs.Values.{behind, index_of};
 ghost use Rattle.property_aliases.specs.declared.property.Property.{Property};
 ghost use Rattle.release_rows.specs.Releases.{items_now, rows_at};
-ghost use Rattle.ucd_model.specs.declared.files.SourceFile.TheVariants.{PropertyAliases, PropertyValueAliases};
+ghost use Rattle.ucd_points.specs.declared.files.SourceFile.TheVariants.{PropertyAliases, PropertyValueAliases};
 
 use crate::naming::Names;
 use crate::numbers::Numbers;

@@ -10,7 +10,7 @@ ghost use Rattle.property_aliases.specs.Sources.{alias_rows};
 ghost use Rattle.property_aliases.specs.Values.{behind, index_of};
 ghost use Rattle.property_aliases.specs.declared.property.Property.{Property};
 ghost use Rattle.release_rows.specs.Releases.{items_now, rows_at};
-ghost use Rattle.ucd_model.specs.declared.files.SourceFile.TheVariants.{PropertyValueAliases};
+ghost use Rattle.ucd_points.specs.declared.files.SourceFile.TheVariants.{PropertyValueAliases};
 
 use crate::kinds::{kind_of, kinds_of};
 use crate::naming::{Names, less};

@@ -7,7 +7,7 @@
 -- run_count eq f n      how many maximal runs of equal values the points below n have: how many of them begin one
 use Rattle.std.specs.Prelude.{◌≡◌, refl, ℕ, zero, suc, ◌<◌, Bool, true, not, ◌&&◌, nat_le, if◌then◌else◌, count_by}
 use Rattle.std.specs.List.{range_with_len}
-use Rattle.ucd_model.specs.Limits.{point_count}
+use Rattle.ucd_points.specs.Limits.{point_count}
 
 pub point_count-is : point_count ≡ 1114112
 unfolding point_count

@@ -5,7 +5,7 @@ ghost use Rattle.std.specs.Option.{option_to_list};
 ghost use Rattle.range_table.specs.Edit.{edited};
 
 use crate::change::Change;
-use ucd_model::Memory;
+use ucd_points::Memory;
 
 /// What is to be done to a layout to give a span a value: some changes go, and up to two come in their place.
 #[derive(Clone, Copy)]

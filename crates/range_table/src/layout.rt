@@ -2,7 +2,7 @@
 
 ghost use Rattle.std.specs.Prelude.{◌≡◌, ◌+◌, ◌<◌, ◌≤◌, ℕ, true, false, [], ◌++◌, take, drop, length, vec_len, IfOk, IsTrue, OnOk, OnErr};
 ghost use Rattle.range_table.specs.Values.{SameValues, with_span, run_count};
-ghost use Rattle.ucd_model.specs.Limits.{point_count};
+ghost use Rattle.ucd_points.specs.Limits.{point_count};
 ghost use Rattle.range_table.specs.Layout.{Layout as Runs, values, count_before, value_of_run, IsEnd};
 ghost use Rattle.range_table.specs.Edit.{SetsSpan, edited};
 
@@ -11,7 +11,7 @@ use crate::edit::{Edit, change_to, splice};
 use crate::run::Run;
 use std::alloc::Global;
 use std::marker::Model;
-use ucd_model::{Memory, Point, Span};
+use ucd_points::{Memory, Point, Span};
 
 /// The value of the first code point, and the places where the value changes, in ascending order.
 #[derive(Drop)]

@@ -1,6 +1,6 @@
 //! Runs of equal values.
 
-use ucd_model::Point;
+use ucd_points::Point;
 
 /// What a table tells of the maximal run of equal values that a code point lies in.
 #[derive(Clone, Copy)]

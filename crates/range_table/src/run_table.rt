@@ -2,14 +2,14 @@
 
 ghost use Rattle.std.specs.Prelude.{◌≡◌, ℕ, ◌+◌, ◌<◌, ◌≤◌, false};
 ghost use Rattle.range_table.specs.Values.{run_count};
-ghost use Rattle.ucd_model.specs.Limits.{point_count};
+ghost use Rattle.ucd_points.specs.Limits.{point_count};
 
 use crate::layout::Layout;
 use crate::run::Run;
 use crate::stretches::Stretches;
 use crate::table::Table;
 use std::alloc::Global;
-use ucd_model::{Memory, Point, Span};
+use ucd_points::{Memory, Point, Span};
 
 /// A table that keeps each maximal run of equal values once.
 ///

@@ -3,7 +3,7 @@
 ghost use Rattle.std.specs.Prelude.{◌≡◌, ◌≢◌, ℕ, ◌+◌, ◌%◌, ◌<◌, ◌≤◌};
 
 use crate::table::Table;
-use ucd_model::Point;
+use ucd_points::Point;
 
 /// A table that tells, for a code point, how far equal values reach from there.
 /// A stretch ends where the value changes, or at the end of a block of 256 code points: so each table can bound the work

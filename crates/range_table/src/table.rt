@@ -4,7 +4,7 @@ ghost use Rattle.std.specs.Prelude.{◌≡◌, ℕ, true, OnOk, OnErr, IfOk};
 ghost use Rattle.range_table.specs.Values.{SameValues, with_span};
 
 use std::alloc::Global;
-use ucd_model::{Memory, Point, Span};
+use ucd_points::{Memory, Point, Span};
 
 /// A value for each code point, twice: the values now, and the values next.
 /// `prepare` changes what is next, `commit` makes it what is now, and `discard` drops it.

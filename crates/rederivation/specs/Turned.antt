@@ -13,7 +13,7 @@ use Rattle.std.specs.Prelude.{◌≡◌, ℕ, ◌+◌, ◌<◌, ◌≤◌, not, 
 use Rattle.std.specs.List.{range_with_len}
 use Rattle.range_table.specs.Values.{SameValues}
 use Rattle.ucd_model.specs.Facts.{Facts}
-use Rattle.ucd_model.specs.Limits.{point_count}
+use Rattle.ucd_points.specs.Limits.{point_count}
 use Rattle.ucd_model.specs.Records.{Record, record_at}
 use Rattle.ucd_model.specs.Sameness.{same_record}
 use Rattle.ucd_model.specs.Validity.{first_broken}

@@ -1,7 +1,7 @@
 -- The lines that the definitions give at small numbers, worked out by hand.
 use Rattle.std.proofs.Common.{◌≡◌, [], ◌++◌, refl, codes}
-use Rattle.ucd_model.specs.DerivedText.{hex_text}
-use Rattle.ucd_model.specs.declared.files.SourceFile.TheVariants.{PropList, PropertyValueAliases}
+use Rattle.ucd_points.specs.HexText.{hex_text}
+use Rattle.ucd_points.specs.declared.files.SourceFile.TheVariants.{PropList, PropertyValueAliases}
 use Rattle.release_maker.specs.MadeTexts.{base_line, composite_line, compat_line, command_line, series, data_text, source_text}
 
 line_examples : (base_line 0 ≡ codes "20000;BASE;Lo;0;L;;;;;N;;;;;")

@@ -17,9 +17,10 @@
 -- script_text          the script: 1000 commands
 use Rattle.std.specs.Prelude.{ℕ, ◌+◌, ◌*◌, List, [], ◌++◌, codes}
 use Rattle.std.specs.List.{range_with_len, flat_map}
-use Rattle.ucd_model.specs.DerivedText.{hex_text, line_end}
-use Rattle.ucd_model.specs.declared.files.SourceFile.{SourceFile}
-use Rattle.ucd_model.specs.declared.files.SourceFile.TheVariants.{UnicodeData}
+use Rattle.ucd_model.specs.DerivedText.{line_end}
+use Rattle.ucd_points.specs.HexText.{hex_text}
+use Rattle.ucd_points.specs.declared.files.SourceFile.{SourceFile}
+use Rattle.ucd_points.specs.declared.files.SourceFile.TheVariants.{UnicodeData}
 
 abbrev pub base : ℕ → ℕ
 base i = 131072 + i

@@ -1,7 +1,7 @@
 //! The lines of a series.
 
 ghost use Rattle.std.specs.Prelude.{◌≡◌, ◌<◌, ◌++◌, OnOk, codes};
-ghost use Rattle.ucd_model.specs.DerivedText.{hex_text};
+ghost use Rattle.ucd_points.specs.HexText.{hex_text};
 ghost use Rattle.release_maker.specs.MadeTexts.{line_text};
 ghost use Rattle.release_maker.specs.Lines.{line_of};
 

@@ -4,9 +4,9 @@ use Rattle.std.specs.List.{count_by, prefix_len}
 use Rattle.std.proofs.lemmas.Bool.{and_parts, or_from}
 use Rattle.std.proofs.lemmas.List.Folds.{list_any-append}
 use Rattle.ucd_lines.specs.Laws.{IsLine, AreLines}
-use Rattle.ucd_model.specs.Lines.{LineItem, LineEnding, unended, lf, cr_lf, ending_bytes, item_bytes, is_blank, is_lf, is_trivia, holds_line_feed}
-use Rattle.ucd_model.specs.declared.files.SourceFile.{SourceFile}
-use Rattle.ucd_model.specs.declared.files.SourceFile.TheVariants.{UnicodeData}
+use Rattle.ucd_points.specs.Lines.{LineItem, LineEnding, unended, lf, cr_lf, ending_bytes, item_bytes, is_blank, is_lf, is_trivia, holds_line_feed}
+use Rattle.ucd_points.specs.declared.files.SourceFile.{SourceFile}
+use Rattle.ucd_points.specs.declared.files.SourceFile.TheVariants.{UnicodeData}
 use Rattle.ucd_model.specs.declared.row.Row.{Row}
 use Rattle.source_rows.specs.Lines.{is_first_line}
 use Rattle.source_rows.specs.Trivia.{RowsAreNoTrivia}

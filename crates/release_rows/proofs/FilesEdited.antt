@@ -2,10 +2,10 @@
 use Rattle.std.proofs.Common.{◌≡◌, ℕ, ◌+◌, ◌<◌, List, [], ◌∷◌, ◌++◌, length, map, take, drop, set, get_or, Result, Ok, Err, refl, sym, ap, subst, ◌∙◌, arith}
 use Rattle.std.proofs.lemmas.List.{get_or-map, get_or_default, length-append, length-drop, length-map, length-take-le, set-get_or}
 use Rattle.std.proofs.lemmas.List.Edits.{map_over_more}
-use Rattle.ucd_model.specs.Bounds.{Bounds}
-use Rattle.ucd_model.specs.SourceFiles.{file_at-place, file_at, file_place, file_place_small, source_files}
-use Rattle.ucd_model.specs.declared.files.SourceFile.{SourceFile}
-use Rattle.ucd_model.specs.declared.files.SourceFile.TheVariants.{UnicodeData}
+use Rattle.ucd_points.specs.Bounds.{Bounds}
+use Rattle.ucd_points.specs.SourceFiles.{file_at-place, file_at, file_place, file_place_small, source_files}
+use Rattle.ucd_points.specs.declared.files.SourceFile.{SourceFile}
+use Rattle.ucd_points.specs.declared.files.SourceFile.TheVariants.{UnicodeData}
 use Rattle.release_rows.specs.FileItems.{FileItem, FileLists}
 use Rattle.release_rows.specs.OperationLaws.{OperationsKeepCuts, OperationsKeepOrder, OperationsKeepRows}
 use Rattle.release_rows.specs.Operations.{AnswersOp, IsOp, edited, op_file, op_or_rule, with_edited}

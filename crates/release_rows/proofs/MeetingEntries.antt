@@ -2,7 +2,7 @@
 use Rattle.std.proofs.Common.{◌≡◌, ℕ, ◌≤◌, Bool, true, false, ◌||◌, List, [], ◌∷◌, refl, arith}
 use Rattle.std.specs.List.{list_any}
 use Rattle.std.proofs.lemmas.Bool.Decides.{nat_tests}
-use Rattle.ucd_model.specs.Bounds.{Bounds}
+use Rattle.ucd_points.specs.Bounds.{Bounds}
 use Rattle.release_rows.specs.Keys.{spans_meet}
 
 misses_one : (lo hi least most : ℕ) (span : Bounds) → least ≤ lo → hi ≤ most → spans_meet (record { lo = least; hi = most }) span ≡ false → spans_meet (record { lo = lo; hi = hi }) span ≡ false

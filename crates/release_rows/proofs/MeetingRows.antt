@@ -2,8 +2,8 @@
 use Rattle.std.proofs.Common.{◌≡◌, ℕ, Bool, true, false, ◌||◌, List, [], ◌∷◌, ◌++◌, Option, Some, None, is_some, filter, map, cond, refl, sym, ap, subst, ◌∙◌, append_assoc}
 use Rattle.std.specs.List.{All, list_any}
 use Rattle.std.proofs.lemmas.List.Elements.{All-head, All-tail, filter-append}
-use Rattle.ucd_model.specs.Bounds.{Bounds}
-use Rattle.ucd_model.specs.declared.files.SourceFile.{SourceFile}
+use Rattle.ucd_points.specs.Bounds.{Bounds}
+use Rattle.ucd_points.specs.declared.files.SourceFile.{SourceFile}
 use Rattle.ucd_model.specs.declared.row.Row.{Row}
 use Rattle.source_rows.specs.KeyNames.{has_code}
 use Rattle.source_rows.specs.Laws.{RowsAreOk, RowsAreRead}

@@ -10,10 +10,10 @@ use Rattle.std.proofs.lemmas.List.Elements.{All-head, All-tail}
 use Rattle.std.proofs.lemmas.List.Folds.{list_any-append}
 use Rattle.std.proofs.lemmas.Option.{get_or_from_slice_get, slice_get_within}
 use Rattle.ucd_lines.specs.Laws.{IsLine, AreLines, LinesAreUnique}
-use Rattle.ucd_model.specs.Limits.{file_limit}
-use Rattle.ucd_model.specs.Lines.{LineItem, lf, ended_item, ends_in_return, item_bytes, items_of, is_lf, is_trivia, holds_line_feed, joined}
-use Rattle.ucd_model.specs.declared.files.SourceFile.{SourceFile}
-use Rattle.ucd_model.specs.declared.files.SourceFile.TheVariants.{UnicodeData}
+use Rattle.ucd_points.specs.Limits.{file_limit}
+use Rattle.ucd_points.specs.Lines.{LineItem, lf, ended_item, ends_in_return, item_bytes, items_of, is_lf, is_trivia, holds_line_feed, joined}
+use Rattle.ucd_points.specs.declared.files.SourceFile.{SourceFile}
+use Rattle.ucd_points.specs.declared.files.SourceFile.TheVariants.{UnicodeData}
 use Rattle.ucd_model.specs.declared.row.Row.{Row}
 use Rattle.source_rows.specs.Lines.{is_first_line}
 use Rattle.source_rows.specs.RowLines.{TwoLines, RowsHaveLines}

@@ -8,7 +8,7 @@ use Rattle.std.proofs.lemmas.List.Elements.{All-append}
 use Rattle.std.proofs.lemmas.List.Folds.{list_any-append, list_any_at, list_any_none}
 use Rattle.std.proofs.lemmas.List.Sorted.{IsNonDecreasingBy-push}
 use Rattle.std.proofs.lemmas.Option.{slice_get_cases, slice_get-get_or}
-use Rattle.ucd_model.specs.Bounds.{Bounds}
+use Rattle.ucd_points.specs.Bounds.{Bounds}
 use Rattle.release_rows.specs.Keys.{spans_meet}
 use Rattle.release_rows.specs.SpanOrders.{bounds_of, IsOrder, max_with, reach_with, NoneBeginsBehind}
 use Rattle.release_rows.specs.declared.span_order.Begun.{Begun}

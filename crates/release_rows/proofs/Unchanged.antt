@@ -6,9 +6,9 @@ use Rattle.std.proofs.lemmas.Bool.{and_from, cases_lt, eq-eqb, or_parts}
 use Rattle.std.proofs.lemmas.List.{get_or-set_same, get_or_past, map-append, set_past, take-append-drop}
 use Rattle.std.proofs.lemmas.List.Elements.{All-filter, All-head, All-tail, All-take, filter-append}
 use Rattle.std.proofs.lemmas.List.Folds.{list_any-append}
-use Rattle.ucd_model.specs.Lines.{LineEnding, cr_lf, lf, unended}
-use Rattle.ucd_model.specs.SourceFiles.{file_place}
-use Rattle.ucd_model.specs.declared.files.SourceFile.{SourceFile}
+use Rattle.ucd_points.specs.Lines.{LineEnding, cr_lf, lf, unended}
+use Rattle.ucd_points.specs.SourceFiles.{file_place}
+use Rattle.ucd_points.specs.declared.files.SourceFile.{SourceFile}
 use Rattle.ucd_model.specs.declared.row.Row.{Row}
 use Rattle.source_rows.specs.Keys.{key_names}
 use Rattle.release_rows.specs.FileItems.{FileItem}

@@ -10,8 +10,8 @@
 -- lines_of items         how many lines they have
 use Rattle.std.specs.Prelude.{ℕ, List, [], ◌∷◌, ◌++◌, Option, Some, None}
 use Rattle.std.specs.List.{flat_map, sum_by}
-use Rattle.ucd_model.specs.Lines.{LineEnding, ending_bytes}
-use Rattle.ucd_model.specs.declared.files.SourceFile.{SourceFile}
+use Rattle.ucd_points.specs.Lines.{LineEnding, ending_bytes}
+use Rattle.ucd_points.specs.declared.files.SourceFile.{SourceFile}
 use Rattle.ucd_model.specs.declared.row.Row.{Row}
 
 pub record FileItem : Type 0 where

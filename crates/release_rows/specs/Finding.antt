@@ -8,7 +8,7 @@
 --                                      or the rule
 use Rattle.std.specs.List.{position_or_len}
 use Rattle.std.specs.Prelude.{◌≡◌, ℕ, Bool, true, false, List, map, Result, Ok, Err}
-use Rattle.ucd_model.specs.declared.files.SourceFile.{SourceFile}
+use Rattle.ucd_points.specs.declared.files.SourceFile.{SourceFile}
 use Rattle.ucd_model.specs.declared.row.Row.{Row}
 use Rattle.part_list.specs.Parts.{IsEntry, flat, place}
 use Rattle.part_list.specs.declared.spanned.Spanned.{Spanned}

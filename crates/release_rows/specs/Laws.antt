@@ -14,9 +14,9 @@
 -- ReloadsTheSame                    so it is of sound items
 use Rattle.std.specs.Prelude.{◌≡◌, ◌↔◌, ℕ, ◌≤◌, List, [], ◌∷◌, ◌++◌, map, length, Some, None, Ok, Err}
 use Rattle.std.specs.List.{All}
-use Rattle.ucd_model.specs.Limits.{file_limit}
-use Rattle.ucd_model.specs.Lines.{items_of}
-use Rattle.ucd_model.specs.declared.files.SourceFile.{SourceFile}
+use Rattle.ucd_points.specs.Limits.{file_limit}
+use Rattle.ucd_points.specs.Lines.{items_of}
+use Rattle.ucd_points.specs.declared.files.SourceFile.{SourceFile}
 use Rattle.release_rows.specs.Cuts.{IsToldApart}
 use Rattle.release_rows.specs.Pieces.{Lines, pieces}
 use Rattle.release_rows.specs.FileItems.{FileItem, bytes_of}

@@ -7,7 +7,7 @@
 -- LoadsList file text r      the result is that of the file: its entries, or its first fault
 use Rattle.std.specs.Prelude.{◌≡◌, ℕ, ◌<◌, ◌^◌, List, map, length, Result, Ok, Err}
 use Rattle.std.specs.List.{All}
-use Rattle.ucd_model.specs.declared.files.SourceFile.{SourceFile}
+use Rattle.ucd_points.specs.declared.files.SourceFile.{SourceFile}
 use Rattle.part_list.specs.Parts.{PartLists, now_in, next_in}
 use Rattle.part_list.specs.declared.spanned.Spanned.{Spanned}
 use Rattle.release_rows.specs.FileItems.{FileItem}

@@ -25,9 +25,9 @@
 -- file_or_fault file bytes           the items of the file, or its first fault
 -- load_or_fault file bytes           the same; bytes above the limit have G02, on line 0
 use Rattle.std.specs.Prelude.{ℕ, ◌+◌, Bool, true, false, ◌&&◌, List, [], ◌∷◌, ◌++◌, map, length, Option, Some, None, Result, Ok, Err, is_some, nat_lt, if◌then◌else◌}
-use Rattle.ucd_model.specs.Limits.{file_limit}
-use Rattle.ucd_model.specs.Lines.{is_trivia, items_of}
-use Rattle.ucd_model.specs.declared.files.SourceFile.{SourceFile}
+use Rattle.ucd_points.specs.Limits.{file_limit}
+use Rattle.ucd_points.specs.Lines.{is_trivia, items_of}
+use Rattle.ucd_points.specs.declared.files.SourceFile.{SourceFile}
 use Rattle.ucd_model.specs.declared.row.Row.{Row}
 use Rattle.source_rows.specs.Faults.{row_or_fault}
 use Rattle.source_rows.specs.declared.fault.RowFault.{RowFault}

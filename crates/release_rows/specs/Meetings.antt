@@ -3,7 +3,7 @@
 -- entry_meets spans e    the code points from the first to the last one of the entry share one with some of the spans
 use Rattle.std.specs.Prelude.{Bool, List}
 use Rattle.std.specs.List.{list_any}
-use Rattle.ucd_model.specs.Bounds.{Bounds}
+use Rattle.ucd_points.specs.Bounds.{Bounds}
 use Rattle.part_list.specs.declared.spanned.Spanned.{Spanned}
 use Rattle.release_rows.specs.Keys.{spans_meet}
 use Rattle.release_rows.specs.declared.stretch.Stretch.{Stretch}

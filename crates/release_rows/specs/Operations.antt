@@ -30,10 +30,10 @@
 use Rattle.std.specs.Prelude.{◌≡◌, ℕ, ◌+◌, ◌-◌, Bool, false, ◌&&◌, not, List, [], ◌∷◌, ◌++◌, map, take, drop, length, filter, Option, Some, None, Result, Ok, Err, count_by, if◌then◌else◌}
 use Rattle.std.specs.List.{list_any, position_or_len, suffix_len, flat_map}
 use Rattle.std.specs.Str.{bytes_eq}
-use Rattle.ucd_model.specs.Bounds.{Bounds}
-use Rattle.ucd_model.specs.Lines.{LineEnding, unended, lf, cr_lf, is_lf}
+use Rattle.ucd_points.specs.Bounds.{Bounds}
+use Rattle.ucd_points.specs.Lines.{LineEnding, unended, lf, cr_lf, is_lf}
 use Rattle.ucd_model.specs.RowValues.{RowOk}
-use Rattle.ucd_model.specs.declared.files.SourceFile.{SourceFile}
+use Rattle.ucd_points.specs.declared.files.SourceFile.{SourceFile}
 use Rattle.ucd_model.specs.declared.row.Row.{Row}
 use Rattle.ucd_model.specs.declared.row.Row.TheVariants.{Alias as AliasLine}
 use Rattle.source_rows.specs.Faults.{row_or_fault}

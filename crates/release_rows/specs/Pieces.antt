@@ -13,9 +13,9 @@
 -- lines_by                   piece_lines, by the second line, where there is one
 -- piece_bytes p              its content and the bytes of its ending
 use Rattle.std.specs.Prelude.{ℕ, Bool, false, ◌&&◌, not, List, [], ◌∷◌, ◌++◌, Option, Some, None, if◌then◌else◌}
-use Rattle.ucd_model.specs.Lines.{LineItem, LineEnding, item_bytes, ending_bytes, is_trivia}
-use Rattle.ucd_model.specs.declared.files.SourceFile.{SourceFile}
-use Rattle.ucd_model.specs.declared.files.SourceFile.TheVariants.{UnicodeData}
+use Rattle.ucd_points.specs.Lines.{LineItem, LineEnding, item_bytes, ending_bytes, is_trivia}
+use Rattle.ucd_points.specs.declared.files.SourceFile.{SourceFile}
+use Rattle.ucd_points.specs.declared.files.SourceFile.TheVariants.{UnicodeData}
 use Rattle.source_rows.specs.Lines.{is_first_line}
 
 pub record Lines : Type 0 where

@@ -12,7 +12,7 @@ use Rattle.std.specs.declared.cmp.Ordering.{Ordering}
 use Rattle.std.specs.Ordering.{ordering_then, nat_cmp}
 use Rattle.std.specs.Cmp.Lexicographic.{slice_cmp}
 use Rattle.std.specs.BTreeMap.{BTreeMap, get}
-use Rattle.ucd_model.specs.Fields.{is_semicolon}
+use Rattle.ucd_points.specs.Fields.{is_semicolon}
 use Rattle.release_rows.specs.Extents.{Extent}
 use Rattle.release_rows.specs.declared.place.Place.{Place}
 

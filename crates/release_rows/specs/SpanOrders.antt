@@ -7,7 +7,7 @@
 use Rattle.std.specs.Prelude.{ℕ, ◌≤◌, ◌-◌, max, List, length, Option, Some, None}
 use Rattle.std.specs.List.{All, slice_get}
 use Rattle.std.specs.List.Sorted.{IsNonDecreasingBy}
-use Rattle.ucd_model.specs.Bounds.{Bounds}
+use Rattle.ucd_points.specs.Bounds.{Bounds}
 use Rattle.release_rows.specs.declared.span_order.Begun.{Begun}
 
 abbrev pub bounds_of : Begun → Bounds

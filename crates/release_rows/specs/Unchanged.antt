@@ -14,8 +14,8 @@
 -- EverythingElseStays     so it is after each operation that breaks no rule
 use Rattle.std.specs.Prelude.{◌≡◌, ◌≢◌, ℕ, Bool, not, List, ◌++◌, map, take, drop, filter, Ok}
 use Rattle.std.specs.List.{All, position_or_len}
-use Rattle.ucd_model.specs.Lines.{LineEnding, unended}
-use Rattle.ucd_model.specs.declared.files.SourceFile.{SourceFile}
+use Rattle.ucd_points.specs.Lines.{LineEnding, unended}
+use Rattle.ucd_points.specs.declared.files.SourceFile.{SourceFile}
 use Rattle.ucd_model.specs.declared.row.Row.{Row}
 use Rattle.release_rows.specs.FileItems.{FileItem}
 use Rattle.release_rows.specs.Keys.{same_key}

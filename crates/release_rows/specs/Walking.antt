@@ -4,7 +4,7 @@
 --                               numbers stay below 2^64
 use Rattle.std.specs.Prelude.{ℕ, ◌+◌, ◌*◌, ◌<◌, ◌^◌, List, length}
 use Rattle.std.specs.List.{All}
-use Rattle.ucd_model.specs.declared.files.SourceFile.{SourceFile}
+use Rattle.ucd_points.specs.declared.files.SourceFile.{SourceFile}
 use Rattle.part_list.specs.declared.spanned.Spanned.{Spanned}
 use Rattle.release_rows.specs.StoredItems.{IsStored}
 use Rattle.release_rows.specs.declared.stretch.Stretch.{Stretch}

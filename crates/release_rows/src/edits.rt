@@ -2,7 +2,7 @@
 
 ghost use Rattle.std.specs.Prelude.{◌≡◌, ℕ, ◌+◌, List, length, map, OnOk, OnErr};
 ghost use Rattle.std.specs.List.{All};
-ghost use Rattle.ucd_model.specs.declared.files.SourceFile.{SourceFile as FileValue};
+ghost use Rattle.ucd_points.specs.declared.files.SourceFile.{SourceFile as FileValue};
 ghost use Rattle.ucd_model.specs.declared.row.Row.{Row as RowValue};
 ghost use Rattle.part_list.specs.Parts.{next_in, now_in};
 ghost use Rattle.release_rows.specs.Gaps.{IsGapAt};

@@ -3,7 +3,7 @@
 ghost use Rattle.std.specs.Prelude.{◌≡◌, ◌++◌, map, IfOk, OnOk};
 ghost use Rattle.std.specs.List.{All};
 ghost use Rattle.ucd_lines.specs.Items.{ending_of};
-ghost use Rattle.ucd_model.specs.Lines.{ending_bytes};
+ghost use Rattle.ucd_points.specs.Lines.{ending_bytes};
 ghost use Rattle.release_rows.specs.FileItems.{bytes_of, file_item_bytes};
 ghost use Rattle.release_rows.specs.StoredItems.{item_at, stored_at, IsItem, IsStored};
 

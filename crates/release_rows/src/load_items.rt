@@ -2,8 +2,8 @@
 
 ghost use Rattle.std.specs.Prelude.{◌≡◌, ◌≢◌, ◌≤◌, length, IfOk};
 ghost use Rattle.std.specs.Option.{IfSome};
-ghost use Rattle.ucd_model.specs.Limits.{file_limit};
-ghost use Rattle.ucd_model.specs.declared.files.SourceFile.TheVariants.{UnicodeData};
+ghost use Rattle.ucd_points.specs.Limits.{file_limit};
+ghost use Rattle.ucd_points.specs.declared.files.SourceFile.TheVariants.{UnicodeData};
 ghost use Rattle.release_rows.specs.FileItems.{bytes_of};
 ghost use Rattle.release_rows.specs.Loaders.{IsLoaded, LoadsList};
 ghost use Rattle.release_rows.specs.Loading.{file_or_fault};
@@ -26,7 +26,7 @@ use ucd_model::{Memory, SourceFile, Text};
 /// compared once all of them are there, so this is for files whose rows come in any order.
 ///
 /// - `Memory`: memory ran out.
-#[tactic(auto, unfolding(ucd_model::specs::Limits::file_limit))]
+#[tactic(auto, unfolding(ucd_points::specs::Limits::file_limit))]
 fn gathered_items(
     alloc: Global,
     file: SourceFile,
@@ -52,7 +52,7 @@ fn gathered_items(
 ///
 /// - `Fault { line, rule }`: the first line that breaks a rule, counted from 1, and the first rule that it breaks.
 /// - `Memory`: memory ran out.
-#[tactic(auto, unfolding(crate::specs::Loading::file_or_fault, ucd_model::specs::Limits::file_limit))]
+#[tactic(auto, unfolding(crate::specs::Loading::file_or_fault, ucd_points::specs::Limits::file_limit))]
 fn checked_items(
     alloc: Global,
     file: SourceFile,

@@ -2,7 +2,7 @@
 
 ghost use Rattle.std.specs.Prelude.{◌≡◌, ◌+◌, ◌<◌, ◌≤◌, ◌^◌, ◌∷◌, ◌++◌, ◌||◌, [], Bool, OnOk, Option, length, map};
 ghost use Rattle.std.specs.List.{list_any, All};
-ghost use Rattle.ucd_model.specs.declared.files.SourceFile.{SourceFile as FileValue};
+ghost use Rattle.ucd_points.specs.declared.files.SourceFile.{SourceFile as FileValue};
 ghost use Rattle.ucd_model.specs.declared.row.Row.{Row as RowValue};
 ghost use Rattle.release_rows.specs.Briefs.{brief_of, no_brief};
 ghost use Rattle.release_rows.specs.Extents.{Extent};

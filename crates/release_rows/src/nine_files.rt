@@ -1,7 +1,7 @@
 //! The items of the nine source files.
 
 ghost use Rattle.std.specs.Prelude.{◌≡◌, map, slice_set};
-ghost use Rattle.ucd_model.specs.SourceFiles.{file_place, source_files};
+ghost use Rattle.ucd_points.specs.SourceFiles.{file_place, source_files};
 ghost use Rattle.release_rows.specs.Operations.{AnswersOp, IsOp, op_file, op_or_rule, touched};
 ghost use Rattle.release_rows.specs.Releases.{AllAreKept, committed, discarded, items_at, files_now, files_next, no_items};
 

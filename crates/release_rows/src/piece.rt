@@ -2,7 +2,7 @@
 
 ghost use Rattle.std.specs.Prelude.{◌≡◌, ◌+◌, ◌<◌, ◌≤◌, ◌^◌, ◌∷◌, ◌++◌, [], length};
 ghost use Rattle.std.specs.Option.{MatchOption};
-ghost use Rattle.ucd_model.specs.Lines.{ending_bytes, joined};
+ghost use Rattle.ucd_points.specs.Lines.{ending_bytes, joined};
 ghost use Rattle.ucd_lines.specs.Items.{ending_of};
 ghost use Rattle.release_rows.specs.Briefs.{no_brief};
 ghost use Rattle.release_rows.specs.Pieces.{pieces, opens_range, piece_bytes, piece_content, piece_ending, piece_lines};

@@ -1,7 +1,7 @@
 //! The source files of a release.
 
 ghost use Rattle.std.specs.Prelude.{◌≡◌, ◌≢◌, [], filter, Ok, IfOk, OnOk};
-ghost use Rattle.ucd_model.specs.declared.files.SourceFile.{SourceFile as FileValue};
+ghost use Rattle.ucd_points.specs.declared.files.SourceFile.{SourceFile as FileValue};
 ghost use Rattle.release_rows.specs.Cuts.{Ascends};
 ghost use Rattle.release_rows.specs.FileItems.{bytes_of, rows_in};
 ghost use Rattle.release_rows.specs.Laws.{Reloads};
@@ -39,7 +39,7 @@ pub struct Release {
 
 impl Model for Release {
     ghost use Rattle.std.specs.Prelude.{◌≡◌, map};
-    ghost use Rattle.ucd_model.specs.SourceFiles.{source_files};
+    ghost use Rattle.ucd_points.specs.SourceFiles.{source_files};
     ghost use Rattle.release_rows.specs.Releases.{ReleaseItems, AllAreKept, files_now, files_next};
 
     ghost Value = { ReleaseItems };

@@ -1,7 +1,7 @@
 //! The keys and the spans of rows.
 
 ghost use Rattle.std.specs.Prelude.{◌≡◌, ◌≤◌, true, IfOk};
-ghost use Rattle.ucd_model.specs.Fields.{is_name};
+ghost use Rattle.ucd_points.specs.Fields.{is_name};
 ghost use Rattle.ucd_model.specs.RowValues.{RowOk};
 ghost use Rattle.source_rows.specs.Keys.{row_span, alias_count, key_names, value_names};
 ghost use Rattle.release_rows.specs.Keys.{row_end, has_spans};

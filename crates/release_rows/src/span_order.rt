@@ -2,7 +2,7 @@
 
 ghost use Rattle.std.specs.Prelude.{◌≡◌, ◌||◌, IfOk, OnOk};
 ghost use Rattle.std.specs.List.{list_any};
-ghost use Rattle.ucd_model.specs.Bounds.{Bounds};
+ghost use Rattle.ucd_points.specs.Bounds.{Bounds};
 ghost use Rattle.release_rows.specs.Keys.{spans_meet};
 ghost use Rattle.release_rows.specs.SpanOrders.{reach_with, NoneBeginsBehind};
 
@@ -28,7 +28,7 @@ pub struct SpanOrder {
 
 impl Model for SpanOrder {
     ghost use Rattle.std.specs.Prelude.{List, map};
-    ghost use Rattle.ucd_model.specs.Bounds.{Bounds};
+    ghost use Rattle.ucd_points.specs.Bounds.{Bounds};
     ghost use Rattle.release_rows.specs.SpanOrders.{IsOrder, bounds_of};
 
     ghost Value = { List Bounds };

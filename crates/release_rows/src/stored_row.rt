@@ -1,7 +1,7 @@
 //! Puts the bytes of a row into the text of its file.
 
 ghost use Rattle.std.specs.Prelude.{◌≡◌, ◌++◌, Ok, length, IfOk, OnOk, OnErr, if◌then◌else◌};
-ghost use Rattle.ucd_model.specs.Lines.{holds_line_feed};
+ghost use Rattle.ucd_points.specs.Lines.{holds_line_feed};
 ghost use Rattle.ucd_lines.specs.Items.{ending_of};
 ghost use Rattle.source_rows.specs.Faults.{row_or_fault};
 ghost use Rattle.release_rows.specs.Operations.{item_of_row};

@@ -1,7 +1,7 @@
 //! Facts of small releases, made of lines of the real files.
 
 ghost use Rattle.std.specs.Prelude.{◌≡◌, [], IfOk};
-ghost use Rattle.ucd_model.specs.declared.files.SourceFile.TheVariants.{SpecialCasing, WordBreakProperty, CompositionExclusions};
+ghost use Rattle.ucd_points.specs.declared.files.SourceFile.TheVariants.{SpecialCasing, WordBreakProperty, CompositionExclusions};
 ghost use Rattle.release_rows.specs.Releases.{items_now};
 
 use code_facts::FactTables;

@@ -4,7 +4,7 @@ use Rattle.std.specs.Prelude.{cond, if◌then◌else◌, not}
 use Rattle.std.specs.List.{after_last, suffix_len}
 use Rattle.std.proofs.lemmas.List.{length_push, reverse-append, drop-append-le}
 use Rattle.std.proofs.lemmas.List.Elements.{filter-append}
-use Rattle.ucd_model.specs.Lines.{items_of}
+use Rattle.ucd_points.specs.Lines.{items_of}
 use Rattle.release_rows.specs.declared.operation.Op.{Op}
 use Rattle.script_lines.proofs.Runs.{run, run_is, run_append}
 use Rattle.script_lines.specs.Faults.{fault_of, says_group_line, says_operation, is_group_line, is_operation, begin_in, open_begin, operations, is_full, found_fault, fault_by, fault_at, NoFault, FirstFault, Unclosed, FaultsAreFirst}

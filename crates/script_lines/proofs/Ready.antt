@@ -5,8 +5,8 @@ use Rattle.std.specs.List.{All}
 use Rattle.std.proofs.lemmas.List.Elements.{All-nil, All-push}
 use Rattle.std.proofs.lemmas.Bool.{eqb-false}
 use Rattle.std.proofs.lemmas.List.{length_push}
-use Rattle.ucd_model.specs.Lines.{items_of}
-use Rattle.ucd_model.specs.declared.files.SourceFile.{SourceFile}
+use Rattle.ucd_points.specs.Lines.{items_of}
+use Rattle.ucd_points.specs.declared.files.SourceFile.{SourceFile}
 use Rattle.ucd_model.specs.declared.row.Row.{Row}
 use Rattle.source_rows.specs.Faults.{row_or_fault}
 use Rattle.source_rows.specs.KeyGrammar.{key_or_fault}

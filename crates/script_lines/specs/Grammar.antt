@@ -17,7 +17,7 @@
 --   grouped                    `begin`, at most 4,096 operations, `end`, and then a script; the group's line is that of `begin`
 -- ScriptsAreRead             commands are given exactly where the pieces are a script that has them; so no script has two lists of them
 use Rattle.std.specs.Prelude.{◌≡◌, ◌↔◌, ℕ, ◌+◌, ◌≤◌, List, [], ◌∷◌, ◌++◌, length, Option, Ok}
-use Rattle.ucd_model.specs.Lines.{items_of}
+use Rattle.ucd_points.specs.Lines.{items_of}
 use Rattle.ucd_model.specs.Grammar.{Reads}
 use Rattle.ucd_model.specs.declared.row.Row.{Row}
 use Rattle.source_rows.specs.KeyGrammar.{ReadsKey}

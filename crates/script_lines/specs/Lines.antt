@@ -19,10 +19,10 @@
 use Rattle.std.specs.Prelude.{ℕ, Bool, List, length, take, drop, find, Option, Some, None, ◌==◌, nat_lt, codes, if◌then◌else◌}
 use Rattle.std.specs.List.{position_or_len, before_first, after_first}
 use Rattle.std.specs.Str.{bytes_eq}
-use Rattle.ucd_model.specs.Lines.{is_trivia}
-use Rattle.ucd_model.specs.Names.{source_path}
-use Rattle.ucd_model.specs.SourceFiles.{source_files}
-use Rattle.ucd_model.specs.declared.files.SourceFile.{SourceFile}
+use Rattle.ucd_points.specs.Lines.{is_trivia}
+use Rattle.ucd_points.specs.SourceFiles.{source_path}
+use Rattle.ucd_points.specs.SourceFiles.{source_files}
+use Rattle.ucd_points.specs.declared.files.SourceFile.{SourceFile}
 use Rattle.script_lines.specs.declared.line.Line.{Line}
 use Rattle.script_lines.specs.declared.line.Line.TheVariants.{Skipped, Begin, End, Row, Withdraw, Set, Other}
 use Rattle.script_lines.specs.declared.line.Put.{Put}

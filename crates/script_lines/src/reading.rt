@@ -1,7 +1,7 @@
 //! Reads the commands of a script.
 
 ghost use Rattle.std.specs.Prelude.{◌≡◌, ◌+◌, ◌<◌, ◌≤◌, ◌^◌, length};
-ghost use Rattle.ucd_model.specs.Limits.{file_limit};
+ghost use Rattle.ucd_points.specs.Limits.{file_limit};
 ghost use Rattle.script_lines.specs.Pieces.{piece_of};
 ghost use Rattle.script_lines.specs.Scripts.{CommandsAs, StepsAs, closed_by, piece_lines, script_or_fault, step};
 
@@ -78,7 +78,7 @@ fn closed(script: Script) -> Result<Commands, ScriptStop>
 /// - `Fault { line, rule }`: the first line that breaks a rule, and the first rule that it breaks: `E1`, `E3`, `E4`,
 ///   `E5`, `E6`; where no line breaks one, `E2` with the line of the group that is open at the end.
 /// - `Memory`: memory ran out.
-#[tactic(auto, unfolding(crate::specs::Scripts::script_or_fault, ucd_model::specs::Limits::file_limit))]
+#[tactic(auto, unfolding(crate::specs::Scripts::script_or_fault, ucd_points::specs::Limits::file_limit))]
 pub fn commands(alloc: Global, bytes: &[u8]) -> Result<Commands, ScriptStop>
     requires { length bytes.now ≤ file_limit }
     ensures { CommandsAs result (script_or_fault bytes.now) }

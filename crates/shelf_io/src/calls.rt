@@ -5,7 +5,7 @@ ghost use Rattle.shelf_io.specs.Counts.{no_calls, fails_next, passed, failed, fa
 
 use std::alloc::Global;
 use std::marker::Model;
-use ucd_model::{ListOf, Memory};
+use ucd_points::{ListOf, Memory};
 
 /// How many calls were made, the numbers of those that fail, counted from 1, and how many failed.
 #[derive(Drop)]

@@ -17,7 +17,7 @@ use std::io;
 use std::io::{ErrorKind, Read, Write};
 use std::marker::Model;
 use std::rt::Files;
-use ucd_model::{Memory, Text};
+use ucd_points::{Memory, Text};
 
 /// The files of a system. It tells what they hold where the system does, and counts what failed. Each read and write of
 /// a path that is not UTF-8 fails. A write makes the folders that are missing.

@@ -8,7 +8,7 @@ ghost use Rattle.shelf_io.specs.Folders.{no_folder, held_in};
 use crate::shelf::{Found, ReadStop};
 use std::alloc::Global;
 use std::marker::Model;
-use ucd_model::{Memory, Text};
+use ucd_points::{Memory, Text};
 
 /// A file.
 #[derive(Drop)]

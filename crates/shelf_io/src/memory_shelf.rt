@@ -11,7 +11,7 @@ use crate::memory_files::{MemoryFiles, text_of};
 use crate::shelf::{Failed, Found, ReadStop, Shelf};
 use std::alloc::Global;
 use std::marker::Model;
-use ucd_model::{Memory, Text};
+use ucd_points::{Memory, Text};
 
 /// A shelf in memory. It tells what it holds, and the path of its last failed read.
 #[derive(Drop)]

@@ -7,7 +7,7 @@ use crate::shelf::Failed;
 use crate::sink::Sink;
 use std::alloc::Global;
 use std::marker::Model;
-use ucd_model::Memory;
+use ucd_points::Memory;
 
 /// A sink in memory that tells what was written. It has room for so many bytes; a put that does not fit
 /// appends what fits, and is a fault.

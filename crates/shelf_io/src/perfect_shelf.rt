@@ -8,7 +8,7 @@ use crate::memory_files::MemoryFiles;
 use crate::shelf::{Failed, Found, ReadStop, Shelf};
 use std::alloc::Global;
 use std::marker::Model;
-use ucd_model::{Memory, Text};
+use ucd_points::{Memory, Text};
 
 /// A shelf in memory that tells what it holds. Both its counts of faults are always 0, so that no read
 /// and no write of it fails.

@@ -5,7 +5,7 @@ ghost use Rattle.shelf_io.specs.Counts.{Rose};
 ghost use Rattle.shelf_io.specs.Contents.{SameContents, OnlyPath};
 ghost use Rattle.shelf_io.specs.Answers.{Reads, OnFound, OnAbsent, OnReadFailed, failed_after};
 
-use ucd_model::{Memory, Text};
+use ucd_points::{Memory, Text};
 
 /// A write or a put failed.
 #[derive(Clone, Copy, Debug, PartialEq, Eq)]

@@ -5,7 +5,7 @@ ghost use Rattle.std.specs.Io.KnownBytes.{Appends, Consumes, IsAtEnd};
 
 use crate::shelf::{Failed, ReadStop};
 use std::io::{Read, Write};
-use ucd_model::Memory;
+use ucd_points::Memory;
 
 /// How many bytes are asked for at a time.
 const CHUNK: usize = 65536;

@@ -6,8 +6,8 @@ use Rattle.std.proofs.lemmas.Bool.{eqb-true, leb-true, le-leb, cases_lt}
 use Rattle.std.proofs.lemmas.List.{drop_all}
 use Rattle.std.proofs.lemmas.List.Sums.{split_at_first, passes_at_first}
 use Rattle.ucd_model.specs.Names.{category_of, tag_of, tag_text}
-use Rattle.ucd_model.specs.Lines.{is_blank}
-use Rattle.ucd_model.specs.Fields.{field, point_of, class_of, case_of}
+use Rattle.ucd_points.specs.Lines.{is_blank}
+use Rattle.ucd_points.specs.Fields.{field, point_of, class_of, case_of}
 use Rattle.ucd_model.specs.Mappings.{is_some_bytes, words, SpellsMapping, mapping_of}
 use Rattle.ucd_model.specs.DataLines.{SpellsDecomposition, ReadsValues}
 use Rattle.ucd_model.specs.declared.category.Category.{Category}

@@ -1,7 +1,7 @@
 -- What is left of a line of UnicodeData.txt once its first fields are read.
 use Rattle.std.proofs.Common.{◌≡◌, ℕ, true, false, List, length, Some, Result, refl}
-use Rattle.ucd_model.specs.Bounds.{Bounds}
-use Rattle.ucd_model.specs.Fields.{field, point_of, is_name}
+use Rattle.ucd_points.specs.Bounds.{Bounds}
+use Rattle.ucd_points.specs.Fields.{field, point_of, is_name}
 use Rattle.source_rows.specs.Lines.{are_first_fields}
 use Rattle.source_rows.specs.DataFaults.{unit_or_fault, single_end, single_or_fault, first_label, pair_end, pair_or_fault}
 use Rattle.source_rows.specs.declared.fault.RowFault.{RowFault}

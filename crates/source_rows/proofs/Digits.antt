@@ -2,7 +2,7 @@
 use Rattle.std.proofs.Common.{◌≡◌, ℕ, Bool, true, false, cond, List, [], ◌∷◌, length, Option, Some, None, fold, refl, arith}
 use Rattle.std.specs.List.{position_or_len}
 use Rattle.std.proofs.lemmas.Bool.{eqb-true}
-use Rattle.ucd_model.specs.Fields.{digit_of, with_digit, hex_number, if_point, point_of, is_dot}
+use Rattle.ucd_points.specs.Fields.{digit_of, with_digit, hex_number, if_point, point_of, is_dot}
 
 pub none_stays : (bs : List ℕ) → fold (λ n b. with_digit n (digit_of b)) None bs ≡ None
 none_stays [] = refl

@@ -5,7 +5,7 @@ use Rattle.std.proofs.lemmas.Bool.{cases_lt}
 use Rattle.std.proofs.lemmas.Bool.Decides.{nat_tests}
 use Rattle.std.proofs.lemmas.List.{take_all, drop_all, length-map}
 use Rattle.std.proofs.lemmas.List.Splits.{slice_split_first, length-slice_split}
-use Rattle.ucd_model.specs.Fields.{trim, field, is_semicolon}
+use Rattle.ucd_points.specs.Fields.{trim, field, is_semicolon}
 use Rattle.source_rows.specs.Fields.{fields_of}
 use Rattle.ucd_lines.specs.Cuts.{split_whole}
 

@@ -6,8 +6,8 @@ use Rattle.std.proofs.lemmas.Bool.{cases_lt, cond_both, or_parts}
 use Rattle.std.proofs.lemmas.List.{take-append-drop, length-reverse, get_or-reverse}
 use Rattle.std.proofs.lemmas.List.Elements.{All-nil, All-cons, All-head, All-tail}
 use Rattle.std.proofs.lemmas.List.Sums.{prefix_len_stops, prefix_len-drop_no, prefix_len-drop_all, suffix_len-take_no}
-use Rattle.ucd_model.specs.Lines.{is_blank, is_lf, without_return}
-use Rattle.ucd_model.specs.Fields.{trim_start, trim_end, trim, field, is_semicolon}
+use Rattle.ucd_points.specs.Lines.{is_blank, is_lf, without_return}
+use Rattle.ucd_points.specs.Fields.{trim_start, trim_end, trim, field, is_semicolon}
 use Rattle.ucd_model.specs.Mappings.{is_some_bytes, words}
 use Rattle.ucd_model.specs.RowValues.{IsTrimmed, IsKept}
 use Rattle.source_rows.specs.Fields.{fields_of}

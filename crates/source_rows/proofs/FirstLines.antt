@@ -4,12 +4,12 @@ use Rattle.std.specs.Prelude.{◌⊎◌, ◌↔◌, codes, IsSome, IsOk}
 use Rattle.std.specs.List.{list_all, before_first, after_first}
 use Rattle.std.proofs.lemmas.Bool.{and_parts, and_from, or_left, leb-true, leb-false, false≢true}
 use Rattle.std.proofs.lemmas.List.Folds.{list_all-append}
-use Rattle.ucd_model.specs.Bounds.{Bounds}
-use Rattle.ucd_model.specs.Lines.{is_lf, without_return}
+use Rattle.ucd_points.specs.Bounds.{Bounds}
+use Rattle.ucd_points.specs.Lines.{is_lf, without_return}
 use Rattle.ucd_model.specs.Names.{category_of, tag_of}
-use Rattle.ucd_model.specs.Fields.{fields, field, point_of, is_name, is_name_byte, label_of, class_of, case_of}
+use Rattle.ucd_points.specs.Fields.{fields, field, point_of, is_name, is_name_byte, label_of, class_of, case_of}
 use Rattle.ucd_model.specs.Mappings.{mapping_of}
-use Rattle.ucd_model.specs.declared.files.SourceFile.TheVariants.{UnicodeData}
+use Rattle.ucd_points.specs.declared.files.SourceFile.TheVariants.{UnicodeData}
 use Rattle.ucd_model.specs.declared.row.Row.{Row}
 use Rattle.source_rows.specs.Lines.{has_first_name, has_last_name, are_first_fields}
 use Rattle.source_rows.specs.Steps.{or_fault, and_then}

@@ -2,7 +2,7 @@
 use Rattle.std.proofs.Common.{◌≡◌, ℕ, ◌/◌, ◌%◌, ◌<◌, Bool, false, List, ◌∷◌, length, nat_lt, refl, arith}
 use Rattle.std.proofs.lemmas.Bool.{cond_both}
 use Rattle.std.specs.List.{list_any}
-use Rattle.ucd_model.specs.DerivedText.{hex_digit, four_digits, hex_text}
+use Rattle.ucd_points.specs.HexText.{hex_digit, four_digits, hex_text}
 
 digit_lacks : (p : ℕ → Bool) → ((d : ℕ) → d < 16 → p (hex_digit d) ≡ false) → (n : ℕ) → p (hex_digit (n % 16)) ≡ false
 digit_lacks p h n = h (n % 16) (omega arith)

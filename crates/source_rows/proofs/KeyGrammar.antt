@@ -2,13 +2,13 @@
 use Rattle.std.proofs.Common.{◌≡◌, ℕ, Bool, true, false, cond, eqb, leb, List, [], ◌∷◌, length, Option, Some, None, Result, Ok, Err, refl, sym, subst}
 use Rattle.std.specs.List.{list_all}
 use Rattle.std.proofs.lemmas.Bool.{eqb-true, eq-eqb, leb-true, le-leb}
-use Rattle.ucd_model.specs.Lines.{holds_line_feed}
-use Rattle.ucd_model.specs.Fields.{fields, field, point_of, is_name}
+use Rattle.ucd_points.specs.Lines.{holds_line_feed}
+use Rattle.ucd_points.specs.Fields.{fields, field, point_of, is_name}
 use Rattle.ucd_model.specs.Mappings.{conditions_of}
 use Rattle.ucd_model.specs.Names.{status_of, status_code}
 use Rattle.ucd_model.specs.OtherLines.{is_name_or_empty}
-use Rattle.ucd_model.specs.declared.files.SourceFile.{SourceFile}
-use Rattle.ucd_model.specs.declared.files.SourceFile.TheVariants.{UnicodeData, PropList, Scripts, WordBreakProperty, CompositionExclusions, CaseFolding, SpecialCasing, PropertyAliases, PropertyValueAliases}
+use Rattle.ucd_points.specs.declared.files.SourceFile.{SourceFile}
+use Rattle.ucd_points.specs.declared.files.SourceFile.TheVariants.{UnicodeData, PropList, Scripts, WordBreakProperty, CompositionExclusions, CaseFolding, SpecialCasing, PropertyAliases, PropertyValueAliases}
 use Rattle.ucd_model.specs.declared.row.FoldStatus.{FoldStatus}
 use Rattle.source_rows.specs.Steps.{or_fault}
 use Rattle.source_rows.specs.Keys.{condition_names}

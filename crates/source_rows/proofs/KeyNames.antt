@@ -1,10 +1,10 @@
 -- The names of a row's key and its group stand in its content.
 use Rattle.std.proofs.Common.{ℕ, List, [], ◌∷◌, take, refl, sym, ap, inl, inr}
-use Rattle.ucd_model.specs.Fields.{fields, field}
+use Rattle.ucd_points.specs.Fields.{fields, field}
 use Rattle.ucd_model.specs.Grammar.{Reads, ReadsLine, IsRange}
 use Rattle.ucd_model.specs.NameProofs.{statuses_are_spelled}
-use Rattle.ucd_model.specs.declared.files.SourceFile.{SourceFile}
-use Rattle.ucd_model.specs.declared.files.SourceFile.TheVariants.{UnicodeData, PropList, Scripts, WordBreakProperty, CompositionExclusions, CaseFolding, SpecialCasing, PropertyAliases, PropertyValueAliases}
+use Rattle.ucd_points.specs.declared.files.SourceFile.{SourceFile}
+use Rattle.ucd_points.specs.declared.files.SourceFile.TheVariants.{UnicodeData, PropList, Scripts, WordBreakProperty, CompositionExclusions, CaseFolding, SpecialCasing, PropertyAliases, PropertyValueAliases}
 use Rattle.ucd_model.specs.declared.row.Row.{Row}
 use Rattle.ucd_model.specs.declared.row.Row.TheVariants.{Unit as DataLine, Value as ValueLine, Exclusion as ExclusionLine, Fold as FoldLine, Casing as CasingLine, Alias as AliasLine}
 use Rattle.source_rows.specs.Keys.{condition_names}

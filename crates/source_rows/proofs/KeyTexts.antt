@@ -4,16 +4,16 @@ use Rattle.std.specs.Prelude.{codes}
 use Rattle.std.specs.List.{All}
 use Rattle.std.proofs.lemmas.List.{append-nil, length-take-le}
 use Rattle.std.proofs.lemmas.List.Elements.{All-nil, All-cons, All-take}
-use Rattle.ucd_model.specs.Lines.{holds_line_feed}
+use Rattle.ucd_points.specs.Lines.{holds_line_feed}
 use Rattle.ucd_model.specs.Names.{status_code}
-use Rattle.ucd_model.specs.Fields.{fields, field, trim, is_hash, is_name}
+use Rattle.ucd_points.specs.Fields.{fields, field, trim, is_hash, is_name}
 use Rattle.ucd_model.specs.Mappings.{conditions_of}
-use Rattle.ucd_model.specs.DerivedText.{hex_text}
+use Rattle.ucd_points.specs.HexText.{hex_text}
 use Rattle.ucd_model.specs.RowTexts.{names_text}
 use Rattle.ucd_model.specs.RowValues.{RowOk, IsTrimmed, IsAliasName, AliasOk}
-use Rattle.ucd_model.specs.HexTextProofs.{hex_text_spells_its_point}
-use Rattle.ucd_model.specs.declared.files.SourceFile.{SourceFile}
-use Rattle.ucd_model.specs.declared.files.SourceFile.TheVariants.{UnicodeData, PropList, Scripts, WordBreakProperty, CompositionExclusions, CaseFolding, SpecialCasing, PropertyAliases, PropertyValueAliases}
+use Rattle.ucd_points.specs.HexTextProofs.{hex_text_spells_its_point}
+use Rattle.ucd_points.specs.declared.files.SourceFile.{SourceFile}
+use Rattle.ucd_points.specs.declared.files.SourceFile.TheVariants.{UnicodeData, PropList, Scripts, WordBreakProperty, CompositionExclusions, CaseFolding, SpecialCasing, PropertyAliases, PropertyValueAliases}
 use Rattle.ucd_model.specs.declared.row.AliasRow.{AliasRow}
 use Rattle.ucd_model.specs.declared.row.FoldStatus.{FoldStatus}
 use Rattle.ucd_model.specs.declared.row.FoldStatus.TheVariants.{C, F, S, T}

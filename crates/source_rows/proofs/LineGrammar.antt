@@ -3,8 +3,8 @@ use Rattle.std.proofs.Common.{◌≡◌, ℕ, ◌≤◌, Bool, true, false, cond
 use Rattle.std.specs.Prelude.{codes}
 use Rattle.std.specs.Str.{bytes_eq}
 use Rattle.std.proofs.lemmas.Bool.{eqb-true, eq-eqb, leb-true, le-leb, and_parts, and_from}
-use Rattle.ucd_model.specs.Bounds.{Bounds}
-use Rattle.ucd_model.specs.Fields.{field, point_of, is_name, is_range_name, label_of}
+use Rattle.ucd_points.specs.Bounds.{Bounds}
+use Rattle.ucd_points.specs.Fields.{field, point_of, is_name, is_range_name, label_of}
 use Rattle.ucd_model.specs.DataLines.{ReadsValues, ReadsSingle, ReadsPair, kept_of}
 use Rattle.ucd_model.specs.declared.row.Kept.{Kept}
 use Rattle.ucd_model.specs.declared.row.DataRow.{DataRow}

@@ -2,7 +2,7 @@
 use Rattle.std.proofs.Common.{◌≡◌, ℕ, ◌<◌, Bool, true, false, cond, leb, List, [], ◌∷◌, length, map, Option, Some, None, refl, sym, ap, ◌∙◌, arith}
 use Rattle.std.proofs.lemmas.Bool.{leb-true, le-leb}
 use Rattle.std.proofs.lemmas.List.{length-map}
-use Rattle.ucd_model.specs.Fields.{point_of}
+use Rattle.ucd_points.specs.Fields.{point_of}
 use Rattle.ucd_model.specs.Mappings.{words, SpellsMapping, onto_points, all_points, mapping_of}
 use Rattle.source_rows.specs.DataFaults.{at_least_one}
 

@@ -3,9 +3,9 @@ use Rattle.std.proofs.Common.{◌≡◌, ℕ, Bool, true, false, cond, eqb, leb,
 use Rattle.std.specs.Prelude.{◌⊎◌}
 use Rattle.std.specs.List.{list_all}
 use Rattle.std.proofs.lemmas.Bool.{eqb-true, eq-eqb, leb-true, le-leb, ltb-true, lt-ltb, and_parts, and_from, or_cases, or_left, or_right}
-use Rattle.ucd_model.specs.Bounds.{Bounds}
+use Rattle.ucd_points.specs.Bounds.{Bounds}
 use Rattle.ucd_model.specs.Names.{status_of}
-use Rattle.ucd_model.specs.Fields.{field, point_of, span_of, is_name}
+use Rattle.ucd_points.specs.Fields.{field, point_of, span_of, is_name}
 use Rattle.ucd_model.specs.Mappings.{mapping_of, conditions_of}
 use Rattle.ucd_model.specs.OtherLines.{ReadsValue, ReadsExclusion, ReadsFold, FoldsTo, ReadsCasing, ReadsAlias, is_name_or_empty}
 use Rattle.ucd_model.specs.declared.row.FoldStatus.{FoldStatus}

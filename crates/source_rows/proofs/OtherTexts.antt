@@ -4,12 +4,12 @@ use Rattle.std.specs.Prelude.{codes}
 use Rattle.std.specs.List.{All, list_any, list_all, join_with_byte, before_first}
 use Rattle.std.proofs.lemmas.Bool.{and_from}
 use Rattle.std.proofs.lemmas.List.Elements.{All-nil, All-cons, All-head, All-tail}
-use Rattle.ucd_model.specs.Lines.{is_lf, holds_line_feed}
+use Rattle.ucd_points.specs.Lines.{is_lf, holds_line_feed}
 use Rattle.ucd_model.specs.Names.{status_code}
-use Rattle.ucd_model.specs.Fields.{trim, is_semicolon, is_hash, is_name}
+use Rattle.ucd_points.specs.Fields.{trim, is_semicolon, is_hash, is_name}
 use Rattle.ucd_model.specs.Mappings.{conditions_of}
 use Rattle.ucd_model.specs.OtherLines.{ReadsValue, ReadsExclusion, ReadsFold, ReadsCasing, ReadsAlias, is_name_or_empty}
-use Rattle.ucd_model.specs.DerivedText.{hex_text, span_text}
+use Rattle.ucd_points.specs.HexText.{hex_text, span_text}
 use Rattle.ucd_model.specs.RowTexts.{mapping_text, value_text, exclusion_text, fold_text, conditions_text, casing_text, names_text, alias_text}
 use Rattle.ucd_model.specs.RowValues.{IsTrimmed, IsValueName, ValueOk, ExclusionOk, FoldOk, CasingOk, IsAliasName, AliasOk}
 use Rattle.ucd_model.specs.declared.row.FoldStatus.{FoldStatus}
@@ -21,7 +21,7 @@ use Rattle.ucd_model.specs.declared.row.CasingRow.{CasingRow}
 use Rattle.ucd_model.specs.declared.row.AliasRow.{AliasRow}
 use Rattle.source_rows.specs.Fields.{fields_of}
 use Rattle.source_rows.proofs.HexTexts.{hex_lacks}
-use Rattle.ucd_model.specs.HexTextProofs.{hex_text_spells_its_point}
+use Rattle.ucd_points.specs.HexTextProofs.{hex_text_spells_its_point}
 use Rattle.source_rows.proofs.Lacks.{Lacks, lacks_both, lacks_cons, lacks_join, split_join}
 use Rattle.source_rows.proofs.Trims.{trim_firm, space_before, space_behind}
 use Rattle.source_rows.proofs.Seams.{before_no_seam}

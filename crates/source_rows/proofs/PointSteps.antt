@@ -1,7 +1,7 @@
 -- What the fields of a line that are read say of its row.
 use Rattle.std.proofs.Common.{◌≡◌, ℕ, Bool, List, Result, Ok, Err, refl}
-use Rattle.ucd_model.specs.Bounds.{Bounds}
-use Rattle.ucd_model.specs.Fields.{field}
+use Rattle.ucd_points.specs.Bounds.{Bounds}
+use Rattle.ucd_points.specs.Fields.{field}
 use Rattle.source_rows.specs.Steps.{and_then}
 use Rattle.source_rows.specs.PointValues.{PointValuesAs}
 use Rattle.source_rows.specs.DataFaults.{unit_of, unit_or_fault, values_or_fault}

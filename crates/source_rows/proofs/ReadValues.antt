@@ -4,9 +4,9 @@ use Rattle.std.specs.Prelude.{not}
 use Rattle.std.specs.List.{All, list_any, list_all, join_with_byte}
 use Rattle.std.proofs.lemmas.Bool.{ltb-true, leb-true, and_parts, and_from, or_parts, not-false}
 use Rattle.std.proofs.lemmas.List.Elements.{All-nil, All-cons}
-use Rattle.ucd_model.specs.Bounds.{Bounds}
+use Rattle.ucd_points.specs.Bounds.{Bounds}
 use Rattle.ucd_model.specs.Names.{letter_of, mark_of, number_of, punctuation_of, symbol_of, separator_of, other_of, category_of}
-use Rattle.ucd_model.specs.Fields.{point_of, if_point, some_point, hex_number, SpellsSpan, is_digit, is_class, decimal_number, class_of, case_of}
+use Rattle.ucd_points.specs.Fields.{point_of, if_point, some_point, hex_number, SpellsSpan, is_digit, is_class, decimal_number, class_of, case_of}
 use Rattle.ucd_model.specs.Mappings.{words, SpellsMapping, is_condition_byte, spaced_words, conditions_of}
 use Rattle.ucd_model.specs.DataLines.{SpellsDecomposition}
 use Rattle.ucd_model.specs.RowValues.{IsPoint, IsSpan, IsMapping, DecompositionOk, CaseOk}

@@ -1,11 +1,11 @@
 -- The text of a row that the file can have is read as that row.
 use Rattle.std.proofs.Common.{inl, arith}
-use Rattle.ucd_model.specs.Fields.{fields}
+use Rattle.ucd_points.specs.Fields.{fields}
 use Rattle.ucd_model.specs.Grammar.{Reads}
 use Rattle.ucd_model.specs.RowTexts.{row_text}
 use Rattle.ucd_model.specs.RowValues.{RowOk}
-use Rattle.ucd_model.specs.declared.files.SourceFile.{SourceFile}
-use Rattle.ucd_model.specs.declared.files.SourceFile.TheVariants.{UnicodeData, PropList, Scripts, WordBreakProperty, CompositionExclusions, CaseFolding, SpecialCasing, PropertyAliases, PropertyValueAliases}
+use Rattle.ucd_points.specs.declared.files.SourceFile.{SourceFile}
+use Rattle.ucd_points.specs.declared.files.SourceFile.TheVariants.{UnicodeData, PropList, Scripts, WordBreakProperty, CompositionExclusions, CaseFolding, SpecialCasing, PropertyAliases, PropertyValueAliases}
 use Rattle.ucd_model.specs.declared.row.Row.{Row}
 use Rattle.ucd_model.specs.declared.row.Row.TheVariants.{Unit as DataLine, Value as ValueLine, Exclusion as ExclusionLine, Fold as FoldLine, Casing as CasingLine, Alias as AliasLine}
 use Rattle.source_rows.specs.Laws.{TextsReadBack}

@@ -3,15 +3,15 @@ use Rattle.std.proofs.Common.{◌≡◌, ℕ, ◌≤◌, Bool, true, false, List
 use Rattle.std.specs.List.{All, list_all, before_first}
 use Rattle.std.proofs.lemmas.Bool.{and_parts}
 use Rattle.std.proofs.lemmas.List.Elements.{All-nil, All-cons, All-head, All-tail}
-use Rattle.ucd_model.specs.Lines.{is_lf, holds_line_feed, without_return}
-use Rattle.ucd_model.specs.Fields.{fields, field, is_semicolon, is_hash, is_name, is_range_name}
+use Rattle.ucd_points.specs.Lines.{is_lf, holds_line_feed, without_return}
+use Rattle.ucd_points.specs.Fields.{fields, field, is_semicolon, is_hash, is_name, is_range_name}
 use Rattle.ucd_model.specs.DataLines.{ReadsValues, ReadsSingle, ReadsPair}
 use Rattle.ucd_model.specs.OtherLines.{ReadsValue, ReadsExclusion, ReadsFold, ReadsCasing, ReadsAlias, is_name_or_empty}
 use Rattle.ucd_model.specs.Grammar.{ReadsLine, ReadsRange, IsRange, Reads}
 use Rattle.ucd_model.specs.RowTexts.{row_text}
 use Rattle.ucd_model.specs.RowValues.{IsSpan, IsKept, IsTrimmed, IsValueName, SingleOk, NameOk, DataOk, ValueOk, ExclusionOk, FoldOk, CasingOk, IsAliasName, AliasOk, RowOk}
-use Rattle.ucd_model.specs.declared.files.SourceFile.{SourceFile}
-use Rattle.ucd_model.specs.declared.files.SourceFile.TheVariants.{UnicodeData, PropList, Scripts, WordBreakProperty, CompositionExclusions, CaseFolding, SpecialCasing, PropertyAliases, PropertyValueAliases}
+use Rattle.ucd_points.specs.declared.files.SourceFile.{SourceFile}
+use Rattle.ucd_points.specs.declared.files.SourceFile.TheVariants.{UnicodeData, PropList, Scripts, WordBreakProperty, CompositionExclusions, CaseFolding, SpecialCasing, PropertyAliases, PropertyValueAliases}
 use Rattle.ucd_model.specs.declared.row.Kept.{Kept}
 use Rattle.ucd_model.specs.declared.row.DataRow.{DataRow}
 use Rattle.ucd_model.specs.declared.row.ValueRow.{ValueRow}

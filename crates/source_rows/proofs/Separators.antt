@@ -4,9 +4,9 @@ use Rattle.std.specs.List.{list_all}
 use Rattle.std.proofs.lemmas.Bool.{ne_eqb, and_parts, leb-true}
 use Rattle.std.proofs.lemmas.Bool.Decides.{nat_tests}
 use Rattle.std.specs.Prelude.{nat_le, ◌&&◌, not, ◌==◌}
-use Rattle.ucd_model.specs.Lines.{is_lf}
-use Rattle.ucd_model.specs.Fields.{is_semicolon, is_hash, is_name_byte, is_name}
-use Rattle.ucd_model.specs.DerivedText.{hex_digit}
+use Rattle.ucd_points.specs.Lines.{is_lf}
+use Rattle.ucd_points.specs.Fields.{is_semicolon, is_hash, is_name_byte, is_name}
+use Rattle.ucd_points.specs.HexText.{hex_digit}
 use Rattle.source_rows.proofs.Lacks.{Lacks, lacks_all}
 
 -- no digit, letter, space or dot, and no `<` or `>`

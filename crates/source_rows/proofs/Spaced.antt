@@ -2,7 +2,7 @@
 use Rattle.std.proofs.Common.{◌≡◌, ℕ, List, [], ◌∷◌, ◌++◌, refl, ◌∙◌, append_assoc}
 use Rattle.std.specs.List.{join_with_byte, slice_split}
 use Rattle.std.specs.Prelude.{filter}
-use Rattle.ucd_model.specs.Lines.{is_blank}
+use Rattle.ucd_points.specs.Lines.{is_blank}
 use Rattle.source_rows.specs.Fields.{with_word}
 use Rattle.ucd_model.specs.Mappings.{is_some_bytes, words, spaced_words}
 

@@ -4,8 +4,8 @@ use Rattle.std.specs.List.{position_or_len, before_first, after_first}
 use Rattle.std.proofs.lemmas.Bool.{cases_lt, eqb-true, le-ltb, lt-ltb, leb-true, le-leb}
 use Rattle.std.proofs.lemmas.List.{take_at, drop-drop, drop_at, length-append}
 use Rattle.std.proofs.lemmas.List.Sums.{split_at_first, passes_at_first}
-use Rattle.ucd_model.specs.Bounds.{Bounds}
-use Rattle.ucd_model.specs.Fields.{is_dot, point_of, one_point, two_points, behind_dot, span_of, SpellsSpan}
+use Rattle.ucd_points.specs.Bounds.{Bounds}
+use Rattle.ucd_points.specs.Fields.{is_dot, point_of, one_point, two_points, behind_dot, span_of, SpellsSpan}
 use Rattle.source_rows.proofs.Digits.{point_no_dot}
 
 -- ---- what is given is spelled

@@ -4,7 +4,7 @@ use Rattle.std.specs.Prelude.{codes, OnOk}
 use Rattle.std.specs.Fmt.{decimal}
 use Rattle.std.proofs.lemmas.List.{append-nil, take_all}
 use Rattle.ucd_model.specs.Names.{category_code}
-use Rattle.ucd_model.specs.DerivedText.{hex_text}
+use Rattle.ucd_points.specs.HexText.{hex_text}
 use Rattle.ucd_model.specs.RowTexts.{mapping_text, spaced, decomposition_text, case_text, data_line, names_text}
 use Rattle.ucd_model.specs.RowTextLemmas.{mapping_text-is}
 use Rattle.ucd_model.specs.declared.row.DataRow.{DataRow}

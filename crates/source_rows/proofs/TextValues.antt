@@ -6,13 +6,13 @@ use Rattle.std.specs.List.{All, list_all, join_with_byte}
 use Rattle.std.proofs.lemmas.Bool.{eqb-true, cond_both, ltb-true, le-leb, and_from, and_parts}
 use Rattle.std.proofs.lemmas.Bool.Decides.{nat_tests}
 use Rattle.std.proofs.lemmas.List.Elements.{All-nil, All-cons, All-head, All-tail}
-use Rattle.ucd_model.specs.Bounds.{Bounds}
-use Rattle.ucd_model.specs.Lines.{is_blank}
+use Rattle.ucd_points.specs.Bounds.{Bounds}
+use Rattle.ucd_points.specs.Lines.{is_blank}
 use Rattle.ucd_model.specs.Names.{category_of, category_code, status_of, status_code, tag_text}
-use Rattle.ucd_model.specs.Fields.{point_of, SpellsSpan, class_of, is_class, is_digit, decimal_number, case_of, trim}
+use Rattle.ucd_points.specs.Fields.{point_of, SpellsSpan, class_of, is_class, is_digit, decimal_number, case_of, trim}
 use Rattle.ucd_model.specs.Mappings.{is_some_bytes, words, SpellsMapping}
 use Rattle.ucd_model.specs.DataLines.{SpellsDecomposition}
-use Rattle.ucd_model.specs.DerivedText.{hex_digit, hex_text, span_text}
+use Rattle.ucd_points.specs.HexText.{hex_digit, hex_text, span_text}
 use Rattle.ucd_model.specs.RowTexts.{mapping_text, decomposition_text, case_text}
 use Rattle.source_rows.proofs.ClassDigits.{decimal_digit, class_digits, class_is}
 use Rattle.ucd_model.specs.RowValues.{IsPoint, IsSpan, IsMapping, DecompositionOk, CaseOk}
@@ -25,7 +25,7 @@ use Rattle.ucd_model.specs.declared.decomposition.Tag.TheVariants.{Font, NoBreak
 use Rattle.ucd_model.specs.declared.row.FoldStatus.{FoldStatus}
 use Rattle.ucd_model.specs.declared.row.FoldStatus.TheVariants.{C, F, S, T}
 use Rattle.source_rows.proofs.HexTexts.{hex_lacks, hex_some}
-use Rattle.ucd_model.specs.HexTextProofs.{hex_text_spells_its_point}
+use Rattle.ucd_points.specs.HexTextProofs.{hex_text_spells_its_point}
 use Rattle.source_rows.proofs.Lacks.{Lacks, lacks_both, lacks_cons, lacks_join, split_join}
 use Rattle.source_rows.proofs.Trims.{Firm, trim_firm, solid, firm_ends, firm_around}
 

@@ -5,8 +5,8 @@ use Rattle.std.proofs.lemmas.Bool.{or_parts, ne_eqb, eq-eqb, cases_eq}
 use Rattle.std.proofs.lemmas.List.{take_all, drop_all, take-append-le, drop-append-le, reverse-append, length-reverse}
 use Rattle.std.proofs.lemmas.List.Folds.{prefix_len-append, list_any-append}
 use Rattle.std.proofs.lemmas.List.Sums.{prefix_len-le-length}
-use Rattle.ucd_model.specs.Lines.{is_blank}
-use Rattle.ucd_model.specs.Fields.{trim_start, trim_end, trim}
+use Rattle.ucd_points.specs.Lines.{is_blank}
+use Rattle.ucd_points.specs.Fields.{trim_start, trim_end, trim}
 use Rattle.source_rows.proofs.Lacks.{Lacks}
 
 -- bytes, of which neither the first nor the last is white space

@@ -4,10 +4,10 @@ use Rattle.std.specs.List.{list_all, list_any, before_first, after_first, positi
 use Rattle.std.proofs.lemmas.Bool.{false_from_ne_true, and_from}
 use Rattle.std.proofs.lemmas.Bool.Decides.{nat_tests}
 use Rattle.std.proofs.lemmas.List.Splits.{slice_split_none}
-use Rattle.ucd_model.specs.Lines.{is_blank, is_lf, is_trivia, holds_line_feed, without_return}
-use Rattle.ucd_model.specs.Fields.{fields, field, trim, trim_start, is_hash, is_semicolon, point_of, span_of, hex_number, with_digit, digit_of, if_point}
-use Rattle.ucd_model.specs.declared.files.SourceFile.{SourceFile}
-use Rattle.ucd_model.specs.declared.files.SourceFile.TheVariants.{UnicodeData, PropList, Scripts, WordBreakProperty, CompositionExclusions, CaseFolding, SpecialCasing, PropertyAliases, PropertyValueAliases}
+use Rattle.ucd_points.specs.Lines.{is_blank, is_lf, is_trivia, holds_line_feed, without_return}
+use Rattle.ucd_points.specs.Fields.{fields, field, trim, trim_start, is_hash, is_semicolon, point_of, span_of, hex_number, with_digit, digit_of, if_point}
+use Rattle.ucd_points.specs.declared.files.SourceFile.{SourceFile}
+use Rattle.ucd_points.specs.declared.files.SourceFile.TheVariants.{UnicodeData, PropList, Scripts, WordBreakProperty, CompositionExclusions, CaseFolding, SpecialCasing, PropertyAliases, PropertyValueAliases}
 use Rattle.ucd_model.specs.declared.row.Row.{Row}
 use Rattle.source_rows.specs.Fields.{fields_of}
 use Rattle.source_rows.specs.Lines.{are_first_fields}

@@ -4,8 +4,8 @@ use Rattle.std.specs.Prelude.{filter}
 use Rattle.std.specs.List.{All, list_all, join_with_byte, slice_split, onto_first}
 use Rattle.std.proofs.lemmas.Bool.{ne_eqb, and_parts}
 use Rattle.std.proofs.lemmas.List.Elements.{All-nil, All-cons, All-head, All-tail}
-use Rattle.ucd_model.specs.Lines.{is_blank, is_lf}
-use Rattle.ucd_model.specs.Fields.{trim}
+use Rattle.ucd_points.specs.Lines.{is_blank, is_lf}
+use Rattle.ucd_points.specs.Fields.{trim}
 use Rattle.ucd_model.specs.Mappings.{is_some_bytes, words, spaced_words, is_condition_byte, conditions_of}
 use Rattle.source_rows.proofs.Lacks.{Lacks, lacks_all}
 use Rattle.source_rows.proofs.Trims.{Firm, trim_firm, solid, firm_around}

@@ -23,9 +23,9 @@
 use Rattle.std.specs.Prelude.{◌≡◌, ℕ, Bool, true, false, ◌&&◌, List, [], ◌∷◌, length, ◌++◌, Option, Some, None, Result, Ok, Err, ◌==◌, nat_le, if◌then◌else◌, codes}
 use Rattle.std.specs.List.{before_first, after_first}
 use Rattle.std.specs.Str.{bytes_eq}
-use Rattle.ucd_model.specs.Bounds.{Bounds}
+use Rattle.ucd_points.specs.Bounds.{Bounds}
 use Rattle.ucd_model.specs.Names.{category_of, tag_of}
-use Rattle.ucd_model.specs.Fields.{field, point_of, is_name, is_range_name, label_of, class_of, case_of}
+use Rattle.ucd_points.specs.Fields.{field, point_of, is_name, is_range_name, label_of, class_of, case_of}
 use Rattle.ucd_model.specs.Mappings.{mapping_of}
 use Rattle.ucd_model.specs.DataLines.{kept_of}
 use Rattle.ucd_model.specs.declared.decomposition.Kind.TheVariants.{Plain, Canonical, Compat}

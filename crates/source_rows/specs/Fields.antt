@@ -5,7 +5,7 @@
 -- with_word done word   the word behind what stands so far, and behind a space where anything does
 use Rattle.std.specs.Prelude.{ℕ, List, [], ◌∷◌, ◌++◌, map}
 use Rattle.std.specs.List.{slice_split}
-use Rattle.ucd_model.specs.Fields.{trim, is_semicolon}
+use Rattle.ucd_points.specs.Fields.{trim, is_semicolon}
 use Rattle.source_rows.specs.declared.fifteen.DataFields.{DataFields}
 
 abbrev pub fields_of : List ℕ → List (List ℕ)

@@ -17,13 +17,13 @@
 -- KeysAreRead                   a key is given exactly where the text stands for that key
 use Rattle.std.specs.Prelude.{◌≡◌, ◌↔◌, ℕ, ◌≤◌, true, false, List, [], ◌∷◌, length, Some, None, Result, Ok, Err, ◌==◌, nat_le, if◌then◌else◌}
 use Rattle.std.specs.List.{list_all}
-use Rattle.ucd_model.specs.Lines.{holds_line_feed}
-use Rattle.ucd_model.specs.Fields.{fields, field, point_of, is_name}
+use Rattle.ucd_points.specs.Lines.{holds_line_feed}
+use Rattle.ucd_points.specs.Fields.{fields, field, point_of, is_name}
 use Rattle.ucd_model.specs.Mappings.{conditions_of}
 use Rattle.ucd_model.specs.Names.{status_of, status_code}
 use Rattle.ucd_model.specs.OtherLines.{is_name_or_empty}
-use Rattle.ucd_model.specs.declared.files.SourceFile.{SourceFile}
-use Rattle.ucd_model.specs.declared.files.SourceFile.TheVariants.{UnicodeData, PropList, Scripts, WordBreakProperty, CompositionExclusions, CaseFolding, SpecialCasing, PropertyAliases, PropertyValueAliases}
+use Rattle.ucd_points.specs.declared.files.SourceFile.{SourceFile}
+use Rattle.ucd_points.specs.declared.files.SourceFile.TheVariants.{UnicodeData, PropList, Scripts, WordBreakProperty, CompositionExclusions, CaseFolding, SpecialCasing, PropertyAliases, PropertyValueAliases}
 use Rattle.ucd_model.specs.declared.row.FoldStatus.{FoldStatus}
 use Rattle.source_rows.specs.Keys.{condition_names}
 use Rattle.source_rows.specs.OtherFaults.{names_of}

@@ -7,8 +7,8 @@
 use Rattle.std.specs.Prelude.{◌≡◌, ℕ, List, [], ◌∷◌, ◌++◌, Ok, codes}
 use Rattle.ucd_model.specs.RowTexts.{case_text, names_text}
 use Rattle.ucd_model.specs.RowValues.{RowOk}
-use Rattle.ucd_model.specs.declared.files.SourceFile.{SourceFile}
-use Rattle.ucd_model.specs.declared.files.SourceFile.TheVariants.{PropList, CaseFolding, SpecialCasing, PropertyAliases, PropertyValueAliases}
+use Rattle.ucd_points.specs.declared.files.SourceFile.{SourceFile}
+use Rattle.ucd_points.specs.declared.files.SourceFile.TheVariants.{PropList, CaseFolding, SpecialCasing, PropertyAliases, PropertyValueAliases}
 use Rattle.ucd_model.specs.declared.row.Row.{Row}
 use Rattle.source_rows.specs.Keys.{key_of}
 use Rattle.source_rows.specs.KeyGrammar.{key_or_fault}

@@ -5,8 +5,8 @@
 -- are_first_fields fs     fs has 15 fields, the second of which is `<Label, First>`
 -- is_first_line content   a line of UnicodeData.txt with such fields
 use Rattle.std.specs.Prelude.{ℕ, Bool, ◌&&◌, List, length, ◌==◌, codes}
-use Rattle.ucd_model.specs.Fields.{fields, field, is_label_closed_by}
-use Rattle.ucd_model.specs.declared.files.SourceFile.TheVariants.{UnicodeData}
+use Rattle.ucd_points.specs.Fields.{fields, field, is_label_closed_by}
+use Rattle.ucd_points.specs.declared.files.SourceFile.TheVariants.{UnicodeData}
 
 abbrev pub has_first_name : List ℕ → Bool
 has_first_name name = is_label_closed_by (codes ", First>") name

@@ -17,7 +17,7 @@
 use Rattle.std.specs.Prelude.{ℕ, Bool, true, false, ◌&&◌, ◌||◌, List, [], ◌∷◌, length, Option, Some, None, Result, Ok, Err, ◌==◌, nat_le, nat_lt, if◌then◌else◌}
 use Rattle.std.specs.List.{list_all}
 use Rattle.ucd_model.specs.Names.{status_of}
-use Rattle.ucd_model.specs.Fields.{field, point_of, span_of, is_name}
+use Rattle.ucd_points.specs.Fields.{field, point_of, span_of, is_name}
 use Rattle.ucd_model.specs.Mappings.{mapping_of, conditions_of}
 use Rattle.ucd_model.specs.OtherLines.{is_name_or_empty}
 use Rattle.ucd_model.specs.declared.row.FoldStatus.{FoldStatus}

@@ -6,7 +6,7 @@
 -- Gives given row       the row has the code points and the values that are given
 -- PointValuesAs result expected   what is given is what the row gives that was expected, or the result is its fault
 use Rattle.std.specs.Prelude.{◌≡◌, ℕ, List, [], ◌∷◌, length, Result, Ok, Err}
-use Rattle.ucd_model.specs.Fields.{field}
+use Rattle.ucd_points.specs.Fields.{field}
 use Rattle.ucd_model.specs.declared.row.DataRow.{DataRow}
 use Rattle.ucd_model.specs.declared.row.Row.{Row}
 use Rattle.ucd_model.specs.declared.row.Row.TheVariants.{Unit as DataLine}

@@ -11,9 +11,9 @@
 -- FirstLinesBegin                 a first line by itself is no row. Where it has G09, its own fields are read, and the two lines
 --                                 have `PairFaults`; any other fault of it is the fault of the two lines
 use Rattle.std.specs.Prelude.{◌≡◌, ◌≢◌, ◌⊎◌, ◌↔◌, ℕ, ◌<◌, true, false, List, ◌∷◌, ◌++◌, Option, Some, None, Result, Ok, Err, IsSome, IsOk}
-use Rattle.ucd_model.specs.Lines.{holds_line_feed, without_return}
-use Rattle.ucd_model.specs.Fields.{fields, field, point_of, is_name}
-use Rattle.ucd_model.specs.declared.files.SourceFile.TheVariants.{UnicodeData}
+use Rattle.ucd_points.specs.Lines.{holds_line_feed, without_return}
+use Rattle.ucd_points.specs.Fields.{fields, field, point_of, is_name}
+use Rattle.ucd_points.specs.declared.files.SourceFile.TheVariants.{UnicodeData}
 use Rattle.ucd_model.specs.declared.row.Row.{Row}
 use Rattle.source_rows.specs.Lines.{is_first_line}
 use Rattle.source_rows.specs.DataFaults.{values_or_fault, first_label, are_last_fields}

@@ -5,9 +5,9 @@
 -- HasLines file bytes   bytes with a LF are two such lines; a line without one begins no range
 -- RowsHaveLines         so it is of all bytes that are read as a row
 use Rattle.std.specs.Prelude.{◌≡◌, ◌≢◌, ℕ, true, false, List, [], ◌∷◌, ◌++◌, Ok}
-use Rattle.ucd_model.specs.Lines.{is_trivia, holds_line_feed, without_return}
-use Rattle.ucd_model.specs.declared.files.SourceFile.{SourceFile}
-use Rattle.ucd_model.specs.declared.files.SourceFile.TheVariants.{UnicodeData}
+use Rattle.ucd_points.specs.Lines.{is_trivia, holds_line_feed, without_return}
+use Rattle.ucd_points.specs.declared.files.SourceFile.{SourceFile}
+use Rattle.ucd_points.specs.declared.files.SourceFile.TheVariants.{UnicodeData}
 use Rattle.ucd_model.specs.declared.row.Row.{Row}
 use Rattle.source_rows.specs.Faults.{row_or_fault}
 use Rattle.source_rows.specs.Lines.{is_first_line}

@@ -2,8 +2,8 @@
 --
 -- RowsAreNoTrivia   bytes that are read as a row are neither blank nor a comment
 use Rattle.std.specs.Prelude.{◌≡◌, ℕ, false, List, Ok}
-use Rattle.ucd_model.specs.Lines.{is_trivia}
-use Rattle.ucd_model.specs.declared.files.SourceFile.{SourceFile}
+use Rattle.ucd_points.specs.Lines.{is_trivia}
+use Rattle.ucd_points.specs.declared.files.SourceFile.{SourceFile}
 use Rattle.ucd_model.specs.declared.row.Row.{Row}
 use Rattle.source_rows.specs.Faults.{row_or_fault}
 

@@ -2,7 +2,7 @@
 
 ghost use Rattle.std.specs.Prelude.{◌≡◌, IfOk};
 ghost use Rattle.std.specs.List.{before_first, list_all};
-ghost use Rattle.ucd_model.specs.Fields.{is_hash};
+ghost use Rattle.ucd_points.specs.Fields.{is_hash};
 ghost use Rattle.ucd_model.specs.OtherLines.{is_name_or_empty};
 ghost use Rattle.source_rows.specs.RowRefs.{NamesAs, RefAs};
 ghost use Rattle.source_rows.specs.Fields.{fields_of};
@@ -24,7 +24,7 @@ fn is_name_or_empty(field: &[u8]) -> bool
 }
 
 /// The fields of a line, in order and without a copy. Both files cut off a comment.
-#[tactic(auto, unfolding(ucd_model::specs::Fields::fields))]
+#[tactic(auto, unfolding(ucd_points::specs::Fields::fields))]
 fn names_in(content: &[u8]) -> Fields<'_>
     ensures { result ≡ fields_of (before_first is_hash content.now) }
 {

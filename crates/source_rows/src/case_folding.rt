@@ -2,7 +2,7 @@
 
 ghost use Rattle.std.specs.Prelude.{◌≡◌};
 ghost use Rattle.std.specs.List.{before_first};
-ghost use Rattle.ucd_model.specs.Fields.{is_hash, field};
+ghost use Rattle.ucd_points.specs.Fields.{is_hash, field};
 ghost use Rattle.ucd_model.specs.Mappings.{mapping_of};
 ghost use Rattle.ucd_model.specs.Names.{status_of};
 ghost use Rattle.source_rows.specs.RowRefs.{RefAs};

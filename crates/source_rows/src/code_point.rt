@@ -2,7 +2,7 @@
 
 ghost use Rattle.std.specs.Prelude.{◌≡◌};
 ghost use Rattle.std.specs.List.{list_all};
-ghost use Rattle.ucd_model.specs.Fields.{span_of, behind_dot, is_name_byte, is_name, is_label_closed_by, is_range_name, label_of};
+ghost use Rattle.ucd_points.specs.Fields.{span_of, behind_dot, is_name_byte, is_name, is_label_closed_by, is_range_name, label_of};
 ghost use Rattle.source_rows.specs.Lines.{has_first_name, has_last_name};
 
 use ucd_lines::{cut, first_at, hex};
@@ -19,7 +19,7 @@ fn behind_dot(text: &[u8]) -> Option<Point>
 }
 
 /// The span of one code point, or of two joined by `..`, the first at most the second. `None` for all other bytes.
-#[tactic(auto, unfolding(ucd_model::specs::Fields::span_of))]
+#[tactic(auto, unfolding(ucd_points::specs::Fields::span_of))]
 pub fn span_of(field: &[u8]) -> Option<Span>
     ensures { result ≡ span_of field.now }
 {
@@ -56,7 +56,7 @@ pub fn is_name(text: &[u8]) -> bool
 }
 
 /// Whether the text is `<`, a label that is a name, and the closing.
-#[tactic(auto, unfolding(ucd_model::specs::Fields::is_label_closed_by))]
+#[tactic(auto, unfolding(ucd_points::specs::Fields::is_label_closed_by))]
 fn is_label_closed_by(closing: &[u8], text: &[u8]) -> bool
     ensures { result ≡ is_label_closed_by closing.now text.now }
 {
@@ -85,7 +85,7 @@ pub fn has_last_name(name: &[u8]) -> bool
 
 /// Whether the name is that of the first or the last line of a range: `<Label, First>` or `<Label, Last>`. Most names are
 /// ruled out by their first byte. UAX #44, section 4.2.3.
-#[tactic(auto, unfolding(ucd_model::specs::Fields::is_label_closed_by))]
+#[tactic(auto, unfolding(ucd_points::specs::Fields::is_label_closed_by))]
 pub fn is_range_name(name: &[u8]) -> bool
     ensures { result ≡ is_range_name name.now }
 {

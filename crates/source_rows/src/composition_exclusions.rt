@@ -1,6 +1,6 @@
 //! CompositionExclusions.txt. UAX #44, section 5.3.
 
-ghost use Rattle.ucd_model.specs.Fields.{is_hash};
+ghost use Rattle.ucd_points.specs.Fields.{is_hash};
 ghost use Rattle.std.specs.List.{before_first};
 ghost use Rattle.source_rows.specs.RowRefs.{RefAs};
 ghost use Rattle.source_rows.specs.Fields.{fields_of};

@@ -2,7 +2,7 @@
 
 ghost use Rattle.std.specs.Prelude.{◌≡◌, ◌≤◌, true, length};
 ghost use Rattle.std.specs.List.{list_all};
-ghost use Rattle.ucd_model.specs.Fields.{class_of, case_of, decimal_number, is_digit};
+ghost use Rattle.ucd_points.specs.Fields.{class_of, case_of, decimal_number, is_digit};
 ghost use Rattle.source_rows.specs.DataFaults.{values_or_fault};
 ghost use Rattle.source_rows.specs.Fields.{fields_in};
 ghost use Rattle.source_rows.specs.PointValues.{used_fields_in};
@@ -53,7 +53,7 @@ fn decimal_number(digits: &[u8]) -> u32
 }
 
 /// The number from 0 to 254 that one to three decimal digits write. `None` for all other bytes.
-#[tactic(auto, unfolding(ucd_model::specs::Fields::class_of))]
+#[tactic(auto, unfolding(ucd_points::specs::Fields::class_of))]
 fn class_of(field: &[u8]) -> Option<u8>
     ensures { result ≡ class_of field.now }
 {

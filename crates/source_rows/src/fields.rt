@@ -1,7 +1,7 @@
 //! Cuts a line into its fields, each a part of the line. UAX #44, section 4.2.
 
 ghost use Rattle.std.specs.Prelude.{◌≡◌, ℕ, ◌+◌, ◌-◌, ◌<◌, ◌≤◌, ◌∷◌, [], length, count_by, IfOk};
-ghost use Rattle.ucd_model.specs.Fields.{field, trim, is_hash, is_semicolon};
+ghost use Rattle.ucd_points.specs.Fields.{field, trim, is_hash, is_semicolon};
 ghost use Rattle.std.specs.List.{after_first, before_first, position_or_len};
 ghost use Rattle.source_rows.specs.Fields.{fields_of};
 

@@ -4,7 +4,7 @@ ghost use Rattle.std.specs.Prelude.{◌≡◌, List, ℕ, [], ◌∷◌, take, d
 ghost use Rattle.std.specs.Cmp.Lexicographic.{slice_cmp};
 ghost use Rattle.std.specs.List.{before_first};
 ghost use Rattle.std.specs.Ordering.{nat_cmp, ordering_then};
-ghost use Rattle.ucd_model.specs.Fields.{fields, field, is_hash};
+ghost use Rattle.ucd_points.specs.Fields.{fields, field, is_hash};
 ghost use Rattle.ucd_model.specs.Mappings.{spaced_words};
 ghost use Rattle.source_rows.specs.Fields.{fields_of};
 ghost use Rattle.source_rows.specs.Keys.{condition_names};
@@ -133,7 +133,7 @@ fn second_field(content: &[u8]) -> &[u8]
 /// How names compare with those in the key of a row that stands in this content of the file. It takes no memory.
 ///
 /// Names are compared one after the other, each by its bytes.
-#[tactic(auto, unfolding(ucd_model::specs::Fields::fields))]
+#[tactic(auto, unfolding(ucd_points::specs::Fields::fields))]
 pub fn compare_names(file: SourceFile, names: &[Text], content: &[u8]) -> Ordering
     ensures { result ≡ names_cmp names.now (content_names file content.now) }
 {
@@ -162,7 +162,7 @@ pub fn compare_names(file: SourceFile, names: &[Text], content: &[u8]) -> Orderi
 
 /// The name of the group of a row that stands in this content of the file: the value in PropList.txt, Scripts.txt and
 /// WordBreakProperty.txt, the property in PropertyValueAliases.txt; nothing in the other files. It takes no memory.
-#[tactic(auto, unfolding(ucd_model::specs::Fields::fields))]
+#[tactic(auto, unfolding(ucd_points::specs::Fields::fields))]
 pub fn content_group(file: SourceFile, content: &[u8]) -> &[u8]
     ensures { result.now ≡ content_group file content.now }
 {

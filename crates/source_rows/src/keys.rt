@@ -2,7 +2,7 @@
 
 ghost use Rattle.std.specs.Prelude.{◌≡◌, ◌∷◌, [], IfOk, Some};
 ghost use Rattle.std.specs.List.{before_first};
-ghost use Rattle.ucd_model.specs.Fields.{is_hash};
+ghost use Rattle.ucd_points.specs.Fields.{is_hash};
 ghost use Rattle.ucd_model.specs.Names.{status_code};
 ghost use Rattle.source_rows.specs.Fields.{fields_of};
 ghost use Rattle.source_rows.specs.Keys.{condition_names};
@@ -179,7 +179,7 @@ fn read_alias_key(alloc: Global, count: usize, content: &[u8]) -> Result<Key, Ro
 /// - `Fault(G08)`: the status of a folding is unknown.
 /// - `Fault(G11)`: no name stands where one is due, or the conditions have a byte that they may not have.
 /// - `Memory`: memory ran out.
-#[tactic(auto, unfolding(crate::specs::KeyGrammar::key_or_fault, ucd_model::specs::Fields::fields))]
+#[tactic(auto, unfolding(crate::specs::KeyGrammar::key_or_fault, ucd_points::specs::Fields::fields))]
 pub fn read_key(alloc: Global, file: SourceFile, bytes: &[u8]) -> Result<Key, RowStop>
     ensures { ReadsKeyAs result (key_or_fault file bytes.now) }
 {

@@ -1,7 +1,7 @@
 //! Line ends inside the bytes of a row. UAX #44, section 4.2.
 
 ghost use Rattle.std.specs.Prelude.{◌≡◌};
-ghost use Rattle.ucd_model.specs.Lines.{without_return, holds_line_feed};
+ghost use Rattle.ucd_points.specs.Lines.{without_return, holds_line_feed};
 
 use ucd_lines::first_at;
 

@@ -2,7 +2,7 @@
 
 ghost use Rattle.std.specs.Prelude.{◌≡◌, ◌<◌, ◌≤◌, ◌∷◌, [], length, IfOk};
 ghost use Rattle.std.specs.List.{position_or_len, before_first, after_first};
-ghost use Rattle.ucd_model.specs.Lines.{is_blank};
+ghost use Rattle.ucd_points.specs.Lines.{is_blank};
 ghost use Rattle.ucd_model.specs.Mappings.{mapping_of, words};
 ghost use Rattle.source_rows.specs.DataFaults.{at_least_one};
 

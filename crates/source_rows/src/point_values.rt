@@ -1,7 +1,7 @@
 //! Reads what a row of UnicodeData.txt gives to its code points. UAX #44, section 5.3, table 9.
 
 ghost use Rattle.std.specs.Prelude.{false};
-ghost use Rattle.ucd_model.specs.Fields.{fields};
+ghost use Rattle.ucd_points.specs.Fields.{fields};
 ghost use Rattle.source_rows.specs.DataFaults.{unit_or_fault, single_or_fault};
 ghost use Rattle.source_rows.specs.Faults.{lines_or_fault, row_or_fault};
 ghost use Rattle.source_rows.specs.PointValues.{PointValuesAs, used_fields_in};
@@ -39,7 +39,7 @@ fn unit_values<'a>(
 }
 
 /// What the row of one line gives, or its first fault.
-#[tactic(auto, unfolding(ucd_model::specs::Fields::fields, crate::specs::DataFaults::single_or_fault))]
+#[tactic(auto, unfolding(ucd_points::specs::Fields::fields, crate::specs::DataFaults::single_or_fault))]
 fn single_values(content: &[u8]) -> Result<PointValues<'_>, RowFault>
     ensures { PointValuesAs result (single_or_fault (fields SourceFile.UnicodeData content.now)) }
 {

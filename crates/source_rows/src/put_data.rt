@@ -2,7 +2,7 @@
 
 ghost use Rattle.std.specs.Prelude.{◌≡◌, ◌+◌, ◌%◌, ◌<◌, ◌++◌, ◌∷◌, [], OnOk, IfOk, codes};
 ghost use Rattle.std.specs.Fmt.{decimal};
-ghost use Rattle.ucd_model.specs.DerivedText.{hex_text};
+ghost use Rattle.ucd_points.specs.HexText.{hex_text};
 ghost use Rattle.ucd_model.specs.Names.{category_code};
 ghost use Rattle.ucd_model.specs.RowTexts.{decomposition_text, case_text, data_line, data_text, value_fields, range_text};
 ghost use Rattle.source_rows.specs.Texts.{ended};

@@ -1,7 +1,7 @@
 //! Writes code points, spans and mappings.
 
 ghost use Rattle.std.specs.Prelude.{◌≡◌, ◌++◌, OnOk};
-ghost use Rattle.ucd_model.specs.DerivedText.{hex_text, span_text};
+ghost use Rattle.ucd_points.specs.HexText.{hex_text, span_text};
 ghost use Rattle.ucd_model.specs.RowTexts.{mapping_text, spaced};
 
 use ucd_lines::put_hex;
@@ -36,7 +36,7 @@ pub fn put_mapping(points: &[Point], into: &mut Text) -> Result<(), Memory>
 /// Appends a code point, or the first and the last one joined by `..`.
 ///
 /// - `Memory`: memory ran out. A part may stand at the end of the text then.
-#[tactic(auto, unfolding(ucd_model::specs::DerivedText::span_text))]
+#[tactic(auto, unfolding(ucd_points::specs::HexText::span_text))]
 pub fn put_span(span: Span, into: &mut Text) -> Result<(), Memory>
     ensures { OnOk result (into.new ≡ into.old ++ span_text span) }
 {

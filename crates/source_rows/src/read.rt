@@ -24,7 +24,7 @@ use ucd_model::{Row, SourceFile};
 /// between them; all other bytes that hold a LF are `G03`.
 ///
 /// A fault says that the bytes are no row, and is the first rule that they break.
-#[tactic(auto, unfolding(crate::specs::Faults::row_or_fault, ucd_model::specs::Fields::fields))]
+#[tactic(auto, unfolding(crate::specs::Faults::row_or_fault, ucd_points::specs::Fields::fields))]
 pub fn read_row_ref(file: SourceFile, bytes: &[u8]) -> Result<RowRef<'_>, RowFault>
     ensures { RefAs result (row_or_fault file bytes.now) }
 {

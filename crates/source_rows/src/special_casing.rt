@@ -2,7 +2,7 @@
 
 ghost use Rattle.std.specs.Prelude.{◌≡◌};
 ghost use Rattle.std.specs.List.{before_first};
-ghost use Rattle.ucd_model.specs.Fields.{field, is_hash};
+ghost use Rattle.ucd_points.specs.Fields.{field, is_hash};
 ghost use Rattle.source_rows.specs.RowRefs.{RefAs};
 ghost use Rattle.source_rows.specs.Fields.{fields_of};
 ghost use Rattle.source_rows.specs.OtherFaults.{casing_or_fault, has_casing_fields};

@@ -1,9 +1,9 @@
 //! UnicodeData.txt. UAX #44, section 5.3, table 9, and section 4.2.3 for ranges.
 
 ghost use Rattle.std.specs.Prelude.{◌≡◌};
-ghost use Rattle.ucd_model.specs.Bounds.{Bounds};
-ghost use Rattle.ucd_model.specs.Fields.{fields, field};
-ghost use Rattle.ucd_model.specs.Lines.{without_return};
+ghost use Rattle.ucd_points.specs.Bounds.{Bounds};
+ghost use Rattle.ucd_points.specs.Fields.{fields, field};
+ghost use Rattle.ucd_points.specs.Lines.{without_return};
 ghost use Rattle.source_rows.specs.Fields.{fields_of, fields_in};
 ghost use Rattle.source_rows.specs.Lines.{is_first_line};
 ghost use Rattle.source_rows.specs.Openings.{may_open_name};
@@ -54,7 +54,7 @@ pub fn single_end(point: Point, name: &[u8]) -> Result<Span, RowFault>
 }
 
 /// The row of one line, or its first fault.
-#[tactic(auto, unfolding(ucd_model::specs::Fields::fields, crate::specs::DataFaults::single_or_fault))]
+#[tactic(auto, unfolding(ucd_points::specs::Fields::fields, crate::specs::DataFaults::single_or_fault))]
 fn read_single(content: &[u8]) -> Result<DataText<'_>, RowFault>
     ensures { DataTextAs result (single_or_fault (fields SourceFile.UnicodeData content.now)) }
 {
@@ -83,7 +83,7 @@ fn may_open_name(text: &[u8]) -> bool
 
 /// Whether a line of UnicodeData.txt begins a range: it has 15 fields and the name `<Label, First>`. Most lines are ruled
 /// out by the first byte behind their first `;`. UAX #44, section 4.2.3.
-#[tactic(auto, unfolding(ucd_model::specs::Fields::fields))]
+#[tactic(auto, unfolding(ucd_points::specs::Fields::fields))]
 pub fn begins_range(content: &[u8]) -> bool
     ensures { result ≡ is_first_line content.now }
 {
@@ -95,7 +95,7 @@ pub fn begins_range(content: &[u8]) -> bool
 }
 
 /// Whether a line ends the range of a label.
-#[tactic(auto, unfolding(ucd_model::specs::Fields::fields))]
+#[tactic(auto, unfolding(ucd_points::specs::Fields::fields))]
 fn ends_range(label: &[u8], content: &[u8]) -> bool
     ensures { result ≡ are_last_fields label.now (fields SourceFile.UnicodeData content.now) }
 {
@@ -107,7 +107,7 @@ fn ends_range(label: &[u8], content: &[u8]) -> bool
 }
 
 /// The span of a range, by its label, its first code point and its last line.
-#[tactic(auto, unfolding(ucd_model::specs::Fields::fields, crate::specs::DataFaults::pair_end))]
+#[tactic(auto, unfolding(ucd_points::specs::Fields::fields, crate::specs::DataFaults::pair_end))]
 fn pair_end(label: &[u8], lo: Point, last: &[u8]) -> Result<Span, RowFault>
     ensures { result ≡ pair_end label.now lo (fields SourceFile.UnicodeData last.now) }
 {
@@ -124,7 +124,7 @@ fn pair_end(label: &[u8], lo: Point, last: &[u8]) -> Result<Span, RowFault>
 }
 
 /// The row of two lines, or its first fault.
-#[tactic(auto, unfolding(ucd_model::specs::Fields::fields, crate::specs::DataFaults::pair_or_fault))]
+#[tactic(auto, unfolding(ucd_points::specs::Fields::fields, crate::specs::DataFaults::pair_or_fault))]
 pub fn read_pair<'a>(front: &'a [u8], last: &[u8]) -> Result<DataText<'a>, RowFault>
     ensures { DataTextAs result (lines_or_fault SourceFile.UnicodeData front.now last.now) }
 {

@@ -1,6 +1,6 @@
 //! Lines of a span and a value: PropList.txt, Scripts.txt and WordBreakProperty.txt. UAX #44, section 4.2.
 
-ghost use Rattle.ucd_model.specs.Fields.{is_hash};
+ghost use Rattle.ucd_points.specs.Fields.{is_hash};
 ghost use Rattle.std.specs.List.{before_first};
 ghost use Rattle.source_rows.specs.RowRefs.{RefAs};
 ghost use Rattle.source_rows.specs.Fields.{fields_of};

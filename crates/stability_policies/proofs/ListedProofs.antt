@@ -9,11 +9,11 @@ use Rattle.ucd_model.specs.Composites.{first_has_class_zero, is_canonical, prima
 use Rattle.ucd_model.specs.Facts.{Facts, Sources, data_row, facts, given, kind_in}
 use Rattle.ucd_model.specs.FactsLemmas.{facts_inside, facts_outside}
 use Rattle.ucd_model.specs.Forms.{appended, composed, decomposed, expansions, in_order, nfkc}
-use Rattle.ucd_model.specs.Limits.{point_count}
+use Rattle.ucd_points.specs.Limits.{point_count}
 use Rattle.ucd_model.specs.Validity.{lacks_row}
 use Rattle.ucd_model.specs.ValidityLaws.{IsValid as AllHaveRecords}
 use Rattle.ucd_model.specs.ValidityProofs.{broken-none, broken-rules, valid_expands, valid_is_unbroken}
-use Rattle.ucd_model.specs.declared.files.SourceFile.TheVariants.{UnicodeData}
+use Rattle.ucd_points.specs.declared.files.SourceFile.TheVariants.{UnicodeData}
 use Rattle.ucd_model.specs.declared.form.Bad.{Bad as Rule}
 use Rattle.ucd_model.specs.declared.form.Form.{Form}
 use Rattle.ucd_model.specs.declared.form.Form.TheVariants.{Nfd, Nfc, Nfkd, Nfkc}

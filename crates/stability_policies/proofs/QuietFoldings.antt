@@ -5,7 +5,7 @@ use Rattle.std.proofs.lemmas.Slice.Eq.{bytes_eq-Decides}
 use Rattle.release_rows.specs.Releases.{ReleaseItems}
 use Rattle.ucd_model.specs.Casing.{fold_of}
 use Rattle.ucd_model.specs.Facts.{Facts, facts}
-use Rattle.ucd_model.specs.Limits.{point_count}
+use Rattle.ucd_points.specs.Limits.{point_count}
 use Rattle.ucd_model.specs.declared.form.Bad.{Bad as Rule}
 use Rattle.stability_policies.specs.Policies.{breaks, caseless, same_list}
 use Rattle.stability_policies.specs.StableForms.{IsRooted, Old, StaysNormal, all_kept, keeps_forms}

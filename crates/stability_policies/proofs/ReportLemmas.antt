@@ -6,8 +6,8 @@ use Rattle.std.proofs.lemmas.Grind.{flat_map-append}
 use Rattle.std.proofs.lemmas.Bool.Decides.{nat_tests}
 use Rattle.release_rows.specs.Releases.{ReleaseItems}
 use Rattle.ucd_model.specs.Facts.{Facts, facts}
-use Rattle.ucd_model.specs.Limits.{point_count}
-use Rattle.ucd_model.specs.declared.files.SourceFile.{SourceFile}
+use Rattle.ucd_points.specs.Limits.{point_count}
+use Rattle.ucd_points.specs.declared.files.SourceFile.{SourceFile}
 use Rattle.ucd_model.specs.declared.row.Row.{Row}
 use Rattle.stability_policies.specs.BrokenStretches.{AreStretches, breaking}
 use Rattle.stability_policies.specs.Policies.{policies}

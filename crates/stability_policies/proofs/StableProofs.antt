@@ -14,7 +14,7 @@ use Rattle.ucd_model.specs.Composition.{Split, compose, compose_onto, composed_w
 use Rattle.ucd_model.specs.Expansion.{alone_or_joined, both, counted, counts, expand, expansion, full, joined, judged}
 use Rattle.ucd_model.specs.Facts.{Facts}
 use Rattle.ucd_model.specs.Forms.{appended, composed, decomposed, expansions, in_order, nfkc}
-use Rattle.ucd_model.specs.Limits.{point_count}
+use Rattle.ucd_points.specs.Limits.{point_count}
 use Rattle.ucd_model.specs.declared.decomposition.Kind.{Kind}
 use Rattle.ucd_model.specs.declared.decomposition.Kind.TheVariants.{Plain, Canonical, Compat}
 use Rattle.ucd_model.specs.declared.form.Bad.{Bad as Rule}

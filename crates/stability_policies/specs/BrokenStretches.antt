@@ -13,7 +13,7 @@
 use Rattle.std.specs.Prelude.{◌≡◌, ◌≢◌, ◌≤◌, ◌<◌, ◌+◌, ◌-◌, ℕ, Bool, true, false, List, [], cond, filter, get_or}
 use Rattle.std.specs.List.{flat_map, range_with_len}
 use Rattle.ucd_model.specs.Facts.{Facts}
-use Rattle.ucd_model.specs.Limits.{point_count}
+use Rattle.ucd_points.specs.Limits.{point_count}
 use Rattle.stability_policies.specs.Policies.{breaks, place_of_policy}
 use Rattle.stability_policies.specs.StableForms.{keeps_forms}
 use Rattle.stability_policies.specs.declared.broken_stretch.BrokenStretch.{BrokenStretch}

@@ -7,8 +7,9 @@
 use Rattle.std.specs.Prelude.{ℕ, List, ◌++◌, length, codes}
 use Rattle.std.specs.Fmt.{decimal}
 use Rattle.std.specs.List.{flat_map}
-use Rattle.ucd_model.specs.DerivedText.{hex_text, line_end}
-use Rattle.ucd_model.specs.Names.{source_path}
+use Rattle.ucd_model.specs.DerivedText.{line_end}
+use Rattle.ucd_points.specs.HexText.{hex_text}
+use Rattle.ucd_points.specs.SourceFiles.{source_path}
 use Rattle.stability_policies.specs.declared.breaks.Break.{Break}
 use Rattle.stability_policies.specs.declared.breaks.Break.TheVariants.{At, Alias}
 use Rattle.stability_policies.specs.declared.policy.Policy.{Policy}

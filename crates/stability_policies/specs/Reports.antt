@@ -14,9 +14,9 @@ use Rattle.std.specs.Prelude.{ℕ, Bool, true, false, ◌&&◌, not, List, [], �
 use Rattle.std.specs.List.{flat_map, list_all, list_any, range_with_len}
 use Rattle.std.specs.Str.{bytes_eq}
 use Rattle.release_rows.specs.Releases.{ReleaseItems, items_now, rows_at}
-use Rattle.ucd_model.specs.Limits.{point_count}
-use Rattle.ucd_model.specs.declared.files.SourceFile.{SourceFile}
-use Rattle.ucd_model.specs.declared.files.SourceFile.TheVariants.{PropertyAliases, PropertyValueAliases}
+use Rattle.ucd_points.specs.Limits.{point_count}
+use Rattle.ucd_points.specs.declared.files.SourceFile.{SourceFile}
+use Rattle.ucd_points.specs.declared.files.SourceFile.TheVariants.{PropertyAliases, PropertyValueAliases}
 use Rattle.ucd_model.specs.declared.row.Row.{Row}
 use Rattle.ucd_model.specs.declared.row.Row.TheVariants.{Alias as AliasLine}
 use Rattle.stability_policies.specs.Policies.{is_broken, place_of_policy, policies}

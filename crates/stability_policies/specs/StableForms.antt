@@ -18,7 +18,7 @@ use Rattle.std.specs.Str.{bytes_eq}
 use Rattle.ucd_model.specs.Composites.{primary}
 use Rattle.ucd_model.specs.Facts.{Facts}
 use Rattle.ucd_model.specs.Forms.{nfd, nfc, nfkd, nfkc}
-use Rattle.ucd_model.specs.Limits.{point_count}
+use Rattle.ucd_points.specs.Limits.{point_count}
 use Rattle.normalisation.specs.FormLaws.{HaveExpansions}
 use Rattle.stability_policies.specs.CaselessLists.{folding_of}
 use Rattle.stability_policies.specs.Policies.{all_assigned, breaks, caseless, same_list, sort_of}

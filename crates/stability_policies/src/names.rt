@@ -3,7 +3,7 @@
 ghost use Rattle.std.specs.Prelude.{◌≡◌, ◌++◌, ◌-◌, ◌<◌, ◌≤◌, [], cond, filter, map, OnOk};
 ghost use Rattle.std.specs.List.{range_with_len};
 ghost use Rattle.std.specs.Option.{option_copied};
-ghost use Rattle.ucd_model.specs.Limits.{point_count};
+ghost use Rattle.ucd_points.specs.Limits.{point_count};
 ghost use Rattle.stability_policies.specs.NamedRows.{AreAbove, BeginsAt, end_at, left_behind, name_at, name_here, named, row_name};
 ghost use Rattle.stability_policies.specs.Policies.{differ};
 ghost use Rattle.stability_policies.specs.Reports.{breaks_of};

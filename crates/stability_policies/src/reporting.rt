@@ -2,7 +2,7 @@
 
 ghost use Rattle.std.specs.Prelude.{◌≡◌, ◌++◌, IfOk, OnOk};
 ghost use Rattle.ucd_model.specs.Facts.{facts};
-ghost use Rattle.ucd_model.specs.declared.files.SourceFile.TheVariants.{PropertyAliases, PropertyValueAliases};
+ghost use Rattle.ucd_points.specs.declared.files.SourceFile.TheVariants.{PropertyAliases, PropertyValueAliases};
 ghost use Rattle.stability_policies.specs.BrokenStretches.{AreStretches};
 ghost use Rattle.stability_policies.specs.Reports.{breaks_of, lost_in, report};
 ghost use Rattle.stability_policies.specs.Views.{Belongs, IsValid, rows_of};

@@ -2,7 +2,7 @@
 
 ghost use Rattle.std.specs.Prelude.{◌≡◌, ◌≢◌, ◌≤◌, ◌++◌, IfOk, OnOk};
 ghost use Rattle.std.specs.Bool.{Decides};
-ghost use Rattle.ucd_model.specs.Limits.{point_count};
+ghost use Rattle.ucd_points.specs.Limits.{point_count};
 ghost use Rattle.ucd_model.specs.Records.{record_at};
 ghost use Rattle.stability_policies.specs.BrokenStretches.{AreOthers, AreStretches, IsAlikeTo, KeepAllForms, breaking, broken_to, points_of};
 ghost use Rattle.stability_policies.specs.StableForms.{IsRooted, keeps_forms};

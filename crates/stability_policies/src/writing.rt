@@ -2,8 +2,9 @@
 
 ghost use Rattle.std.specs.Prelude.{◌≡◌, ◌++◌, length, codes, IfOk, OnOk};
 ghost use Rattle.std.specs.Fmt.{decimal};
-ghost use Rattle.ucd_model.specs.DerivedText.{hex_text, line_end};
-ghost use Rattle.ucd_model.specs.Names.{source_path};
+ghost use Rattle.ucd_model.specs.DerivedText.{line_end};
+ghost use Rattle.ucd_points.specs.HexText.{hex_text};
+ghost use Rattle.ucd_points.specs.SourceFiles.{source_path};
 ghost use Rattle.stability_policies.specs.ReportTexts.{break_line, policy_code, report_text};
 ghost use Rattle.stability_policies.specs.declared.policy.Policy.TheVariants.{P17};
 

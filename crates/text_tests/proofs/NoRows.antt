@@ -2,9 +2,9 @@
 use Rattle.std.proofs.Common.{◌≡◌, ℕ, ◌<◌, List, [], ap, ◌∙◌}
 use Rattle.ucd_model.specs.Facts.{Facts, category_in, data_row, facts}
 use Rattle.ucd_model.specs.FactsLemmas.{facts_inside}
-use Rattle.ucd_model.specs.Limits.{point_count}
+use Rattle.ucd_points.specs.Limits.{point_count}
 use Rattle.ucd_model.specs.declared.category.Category.TheVariants.{Cn}
-use Rattle.ucd_model.specs.declared.files.SourceFile.TheVariants.{UnicodeData}
+use Rattle.ucd_points.specs.declared.files.SourceFile.TheVariants.{UnicodeData}
 use Rattle.release_rows.specs.FileItems.{FileItem, rows_in}
 use Rattle.release_rows.specs.Releases.{ReleaseItems, items_now}
 use Rattle.unicodeset_eval.specs.Tests.{rows_of}

@@ -6,7 +6,7 @@ ghost use Rattle.property_aliases.specs.Found.{AreAliasesOf};
 ghost use Rattle.property_aliases.specs.Sources.{sources_of};
 ghost use Rattle.release_rows.specs.Releases.{items_now};
 ghost use Rattle.ucd_model.specs.declared.category.Category.TheVariants.{Cn};
-ghost use Rattle.ucd_model.specs.declared.files.SourceFile.TheVariants.{UnicodeData};
+ghost use Rattle.ucd_points.specs.declared.files.SourceFile.TheVariants.{UnicodeData};
 
 use crate::members::{are, has_spans};
 use property_aliases::{Aliases, Test};

@@ -1,8 +1,8 @@
 //! The edges of lines, fields and code points, and callers that know the lists by the contracts alone.
 
 ghost use Rattle.std.specs.Prelude.{◌≡◌, length, IfOk};
-ghost use Rattle.ucd_model.specs.Lines.{contents};
-ghost use Rattle.ucd_model.specs.Fields.{fields};
+ghost use Rattle.ucd_points.specs.Lines.{contents};
+ghost use Rattle.ucd_points.specs.Fields.{fields};
 
 use std::alloc::Global;
 use ucd_lines::*;

@@ -6,7 +6,7 @@ use Rattle.std.proofs.lemmas.Bool.{not-true}
 use Rattle.std.proofs.lemmas.List.Sums.{prefix_len_is, suffix_len_is}
 use Rattle.bstr.specs.Bytes.{is_in, not_in}
 use Rattle.bstr.specs.Find.{IsFirst, IsLast, Passes}
-use Rattle.ucd_model.specs.Lines.{is_blank}
+use Rattle.ucd_points.specs.Lines.{is_blank}
 
 is_other : (b : ℕ) → not_in (32 ∷ 9 ∷ []) b ≡ not (is_blank b)
 unfolding is_in

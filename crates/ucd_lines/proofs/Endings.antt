@@ -5,7 +5,7 @@ use Rattle.std.specs.Option.{option_eq}
 use Rattle.std.proofs.lemmas.Bool.{eqb-true}
 use Rattle.std.proofs.lemmas.List.{take_more, take_all, append_assoc, length-append}
 use Rattle.std.proofs.lemmas.Option.{slice_get_within, get_or_from_slice_get}
-use Rattle.ucd_model.specs.Lines.{unended, lf, cr_lf, ends_in_return, ended_item, item_bytes}
+use Rattle.ucd_points.specs.Lines.{unended, lf, cr_lf, ends_in_return, ended_item, item_bytes}
 
 is_return : (o : Option ℕ) → option_eq nat_eq o (Some 13) ≡ true → o ≡ Some 13
 is_return None h = absurd cc

@@ -4,7 +4,7 @@ use Rattle.std.specs.List.{slice_split, position_or_len}
 use Rattle.std.proofs.lemmas.List.{take_all, length-drop, length-map}
 use Rattle.std.proofs.lemmas.List.Splits.{slice_split_first, length-slice_split}
 use Rattle.std.proofs.lemmas.List.Sums.{count_by-le-length}
-use Rattle.ucd_model.specs.Fields.{trim, is_semicolon}
+use Rattle.ucd_points.specs.Fields.{trim, is_semicolon}
 use Rattle.ucd_lines.specs.Cuts.{split_whole}
 
 pub last_field : (text : List ℕ) → position_or_len is_semicolon text ≡ length text → map trim (slice_split is_semicolon text) ≡ trim text ∷ []

@@ -4,7 +4,7 @@ use Rattle.std.specs.List.{slice_split, position_or_len, before_first, after_fir
 use Rattle.std.proofs.lemmas.Bool.{cases_lt, eqb-true}
 use Rattle.std.proofs.lemmas.List.{take_all, drop_all, length-take}
 use Rattle.std.proofs.lemmas.List.Splits.{slice_split_first, length-slice_split}
-use Rattle.ucd_model.specs.Lines.{is_lf, unended, ended_item, items_of_pieces, items_of}
+use Rattle.ucd_points.specs.Lines.{is_lf, unended, ended_item, items_of_pieces, items_of}
 use Rattle.ucd_lines.specs.Cuts.{split_whole}
 
 pub no_item : (text : List ℕ) → (length text == 0) ≡ true → items_of text ≡ []

@@ -3,7 +3,7 @@ use Rattle.std.proofs.Common.{◌≡◌, ◌≢◌, ℕ, zero, suc, ◌-◌, ◌
 use Rattle.std.specs.List.{slice_split, onto_first, list_any, join_with_byte}
 use Rattle.std.proofs.lemmas.List.{append_assoc, append-nil, length-append}
 use Rattle.std.proofs.lemmas.List.Splits.{join_with_byte-slice_split, length-slice_split}
-use Rattle.ucd_model.specs.Lines.{LineItem, LineEnding, unended, lf, cr_lf, is_lf, ending_bytes, without_return, ends_in_return, ended_item, contents_of_pieces, contents, items_of_pieces, items_of, item_bytes, joined}
+use Rattle.ucd_points.specs.Lines.{LineItem, LineEnding, unended, lf, cr_lf, is_lf, ending_bytes, without_return, ends_in_return, ended_item, contents_of_pieces, contents, items_of_pieces, items_of, item_bytes, joined}
 use Rattle.ucd_lines.specs.Laws.{IsLine, AreLines}
 use Rattle.ucd_lines.proofs.ItemCuts.{ended}
 use Rattle.ucd_lines.proofs.Endings.{ended_bytes, ended_told, ended_ends, with_return}

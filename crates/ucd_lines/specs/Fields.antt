@@ -4,7 +4,7 @@
 use Rattle.std.specs.Prelude.{ℕ, List, [], map, Option, Some, None}
 use Rattle.std.specs.List.{slice_split}
 use Rattle.std.specs.Borrow.{Bor}
-use Rattle.ucd_model.specs.Fields.{trim, is_semicolon}
+use Rattle.ucd_points.specs.Fields.{trim, is_semicolon}
 
 abbrev pub fields_left : Option (Bor (List ℕ)) → List (List ℕ)
 fields_left None = []

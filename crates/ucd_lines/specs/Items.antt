@@ -2,7 +2,7 @@
 --
 -- ending_of e   what ends the line: nothing, LF, or CR LF
 -- item_of i     the line of an item: its content and what ends it
-use Rattle.ucd_model.specs.Lines.{LineItem, LineEnding, unended, lf, cr_lf}
+use Rattle.ucd_points.specs.Lines.{LineItem, LineEnding, unended, lf, cr_lf}
 use Rattle.ucd_lines.specs.declared.item.Ending.{Ending}
 use Rattle.ucd_lines.specs.declared.item.Ending.TheVariants.{None, Lf, CrLf}
 use Rattle.ucd_lines.specs.declared.item.Item.{Item}

@@ -14,9 +14,9 @@
 -- HexReadsPutHex                  what a code point is written in spells that code point
 use Rattle.std.specs.Prelude.{◌≡◌, ◌≢◌, ℕ, ◌<◌, false, List, [], ◌∷◌, ◌++◌, map, Some}
 use Rattle.std.specs.List.{list_any}
-use Rattle.ucd_model.specs.Lines.{LineItem, unended, lf, is_lf, ends_in_return, contents, items_of, joined}
-use Rattle.ucd_model.specs.Fields.{point_of}
-use Rattle.ucd_model.specs.DerivedText.{hex_text}
+use Rattle.ucd_points.specs.Lines.{LineItem, unended, lf, is_lf, ends_in_return, contents, items_of, joined}
+use Rattle.ucd_points.specs.Fields.{point_of}
+use Rattle.ucd_points.specs.HexText.{hex_text}
 
 abbrev pub HasItem : List ℕ → List LineItem → LineItem → List LineItem → Type 0
 HasItem bytes front item rest = items_of bytes ≡ front ++ item ∷ rest

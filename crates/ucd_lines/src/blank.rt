@@ -2,8 +2,8 @@
 
 ghost use Rattle.std.specs.Prelude.{◌≡◌, ◌-◌, ◌≤◌, length};
 ghost use Rattle.std.specs.List.{prefix_len, suffix_len};
-ghost use Rattle.ucd_model.specs.Fields.{trim_start, trim_end, trim};
-ghost use Rattle.ucd_model.specs.Lines.{is_blank};
+ghost use Rattle.ucd_points.specs.Fields.{trim_start, trim_end, trim};
+ghost use Rattle.ucd_points.specs.Lines.{is_blank};
 
 use bstr::ByteSlice;
 

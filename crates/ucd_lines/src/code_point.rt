@@ -1,9 +1,9 @@
 //! Reads code points in hexadecimal digits. UAX #44, section 4.2.
 
 ghost use Rattle.std.specs.Prelude.{◌≡◌, ◌<◌, ◌≤◌, length, IfSome};
-ghost use Rattle.ucd_model.specs.Fields.{digit_of, hex_number, point_of};
+ghost use Rattle.ucd_points.specs.Fields.{digit_of, hex_number, point_of};
 
-use ucd_model::Point;
+use ucd_points::Point;
 
 /// What a hexadecimal digit is worth, in either case.
 #[inline]
@@ -34,7 +34,7 @@ pub fn hex_number(digits: &[u8]) -> Option<u32>
 
 /// The code point that a field spells: 4 to 6 hexadecimal digits of either case, at most 10FFFF. `None` exactly for
 /// all other bytes. UAX #44, section 4.2.
-#[tactic(auto, unfolding(ucd_model::specs::Fields::point_of))]
+#[tactic(auto, unfolding(ucd_points::specs::Fields::point_of))]
 pub fn hex(field: &[u8]) -> Option<Point>
     ensures { result ≡ point_of field.now }
 {

@@ -2,7 +2,7 @@
 
 ghost use Rattle.std.specs.Prelude.{◌≡◌, ◌∷◌, map};
 ghost use Rattle.std.specs.List.{slice_split};
-ghost use Rattle.ucd_model.specs.Fields.{trim, is_semicolon};
+ghost use Rattle.ucd_points.specs.Fields.{trim, is_semicolon};
 ghost use Rattle.ucd_lines.specs.Fields.{fields_left};
 
 use crate::blank::trim;

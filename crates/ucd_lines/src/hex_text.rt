@@ -1,10 +1,10 @@
 //! Writes code points in hexadecimal digits.
 
 ghost use Rattle.std.specs.Prelude.{◌≡◌, ◌≤◌, ◌<◌, ◌++◌, drop, OnOk, OnErr};
-ghost use Rattle.ucd_model.specs.DerivedText.{hex_digit, hex_text};
+ghost use Rattle.ucd_points.specs.HexText.{hex_digit, hex_text};
 ghost use Rattle.ucd_lines.specs.Digits.{six_digits};
 
-use ucd_model::{Memory, Point, Text};
+use ucd_points::{Memory, Point, Text};
 
 /// Appends the hexadecimal digits of a code point in upper case: at least four, and no more than it needs.
 /// UAX #44, section 4.2.
@@ -19,7 +19,7 @@ pub fn put_hex(c: Point, into: &mut Text) -> Result<(), Memory>
 }
 
 /// How many of six digits a number does not need, of which at least four are written.
-#[tactic(auto, unfolding(ucd_model::specs::DerivedText::hex_text))]
+#[tactic(auto, unfolding(ucd_points::specs::HexText::hex_text))]
 fn spare_digits(number: u32) -> usize
     requires { number < 1114112 }
     ensures within { result ≤ 2 }

@@ -1,10 +1,10 @@
 //! A line of a file, and what ends it.
 
 ghost use Rattle.std.specs.Prelude.{◌≡◌, ◌++◌, OnOk, OnErr};
-ghost use Rattle.ucd_model.specs.Lines.{item_bytes, ending_bytes};
+ghost use Rattle.ucd_points.specs.Lines.{item_bytes, ending_bytes};
 ghost use Rattle.ucd_lines.specs.Items.{item_of, ending_of};
 
-use ucd_model::{Memory, Text};
+use ucd_points::{Memory, Text};
 
 /// What ends a line. UAX #44, section 4.2.
 #[derive(Clone, Copy, Debug, PartialEq, Eq)]

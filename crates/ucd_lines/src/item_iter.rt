@@ -1,7 +1,7 @@
 //! Goes over the lines of a text.
 
 ghost use Rattle.std.specs.Prelude.{◌≡◌, ◌<◌, ◌∷◌, length};
-ghost use Rattle.ucd_model.specs.Lines.{ended_item, items_of};
+ghost use Rattle.ucd_points.specs.Lines.{ended_item, items_of};
 ghost use Rattle.ucd_lines.specs.Items.{item_of};
 
 use crate::item::{Ending, Item};
@@ -16,7 +16,7 @@ pub struct Items<'a> {
 
 impl<'a> Model for Items<'a> {
     ghost use Rattle.std.specs.Prelude.{List};
-    ghost use Rattle.ucd_model.specs.Lines.{LineItem, items_of};
+    ghost use Rattle.ucd_points.specs.Lines.{LineItem, items_of};
 
     ghost Value = { List LineItem };
 

@@ -1,13 +1,13 @@
 //! Cuts a text into its lines, and a line into its fields. UAX #44, section 4.2.
 
 ghost use Rattle.std.specs.Prelude.{◌≡◌, ◌+◌, ◌≤◌, length, map};
-ghost use Rattle.ucd_model.specs.Lines.{items_of, joined, contents};
-ghost use Rattle.ucd_model.specs.Fields.{fields, uncommented};
+ghost use Rattle.ucd_points.specs.Lines.{items_of, joined, contents};
+ghost use Rattle.ucd_points.specs.Fields.{fields, uncommented};
 
 use crate::field_iter::Fields;
 use crate::item_iter::Items;
 use crate::search::cut;
-use ucd_model::SourceFile;
+use ucd_points::SourceFile;
 
 /// The lines of a text, in order and without a copy. A line ends after LF; its ending is LF, CR LF, or none at the
 /// end of the text. The empty text has no line. Contents and endings put together give the bytes.
@@ -25,7 +25,7 @@ pub fn items(bytes: &[u8]) -> Items<'_>
 /// The fields of a line, in order and without a copy: what stands between the `;`, each without white space (space and
 /// tab) around it. In all files but UnicodeData.txt a comment, from the first `#` on, is cut off before.
 /// There is always at least one field. UAX #44, section 4.2.
-#[tactic(auto, using(crate::proofs::FieldCuts::few_fields), unfolding(ucd_model::specs::Fields::fields))]
+#[tactic(auto, using(crate::proofs::FieldCuts::few_fields), unfolding(ucd_points::specs::Fields::fields))]
 pub fn fields(file: SourceFile, content: &[u8]) -> Fields<'_>
     ensures fields { result ≡ fields file content.now }
     ensures few { length result ≤ length content.now + 1 }

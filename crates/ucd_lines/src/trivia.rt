@@ -1,7 +1,7 @@
 //! Tells blank lines and comment lines from rows. UAX #44, section 4.2.
 
 ghost use Rattle.std.specs.Prelude.{◌≡◌};
-ghost use Rattle.ucd_model.specs.Lines.{is_trivia};
+ghost use Rattle.ucd_points.specs.Lines.{is_trivia};
 
 use crate::blank::leading_blanks;
 

@@ -8,7 +8,7 @@
 -- PairIsOnly         and nothing else is: whatever is so is the pair of s and y
 -- SecondIsExact      y is told to be a second member exactly where it is that of some primary composite's mapping
 use Rattle.std.specs.Prelude.{◌≡◌, ℕ, ◌<◌, true, [], ◌∷◌, Option, Some, None, ◌↔◌}
-use Rattle.ucd_model.specs.Limits.{point_count}
+use Rattle.ucd_points.specs.Limits.{point_count}
 use Rattle.ucd_model.specs.Facts.{Facts}
 use Rattle.ucd_model.specs.Composites.{primary, pair_of, second_of}
 

@@ -12,7 +12,7 @@
 use Rattle.std.proofs.Common.{◌≡◌, ℕ, zero, suc, ◌+◌, ◌<◌, ◌≤◌, Bool, true, false, cond, ◌==◌, List, [], ◌∷◌, Option, Some, None, find, refl, sym, ap, ◌∙◌, arith, inl, inr}
 use Rattle.std.specs.List.{list_any, range_with_len}
 use Rattle.std.proofs.lemmas.Bool.{true≢false, both_ways, cases_lt, and_parts, and_from, or_cases, or_right, eqb-true, eq-eqb, false_from_ne_true}
-use Rattle.ucd_model.specs.Limits.{point_count}
+use Rattle.ucd_points.specs.Limits.{point_count}
 use Rattle.ucd_model.specs.Facts.{Facts}
 use Rattle.ucd_model.specs.Composites.{primary, is_pair, is_second, composes, ends_with, pair_of, second_of}
 use Rattle.ucd_model.specs.CompositeLaws.{Composes, IsPair, IsSecond, PairIsLeast, PairIsOnly, SecondIsExact}

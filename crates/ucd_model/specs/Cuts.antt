@@ -4,7 +4,7 @@
 -- IsCut R lo n pieces   the pieces are spans that follow one another from lo to before n, and R is the same throughout each; no
 --                       pieces where lo is n
 use Rattle.std.specs.Prelude.{◌≡◌, ◌≤◌, ◌+◌, ℕ, List, [], ◌∷◌}
-use Rattle.ucd_model.specs.Bounds.{Bounds}
+use Rattle.ucd_points.specs.Bounds.{Bounds}
 use Rattle.ucd_model.specs.Records.{Record}
 
 abbrev pub IsEqualIn : (ℕ → Record) → Bounds → Type 0

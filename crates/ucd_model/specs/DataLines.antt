@@ -8,7 +8,7 @@
 -- ReadsPair first last row         the lines `<Label, First>` and `<Label, Last>`; of the last one the code and the name are read
 use Rattle.std.specs.Prelude.{◌≡◌, ℕ, ◌<◌, ◌≤◌, true, false, List, [], ◌++◌, length, Some, codes}
 use Rattle.ucd_model.specs.Names.{category_of, tag_text}
-use Rattle.ucd_model.specs.Fields.{field, point_of, is_name, is_range_name, class_of, case_of}
+use Rattle.ucd_points.specs.Fields.{field, point_of, is_name, is_range_name, class_of, case_of}
 use Rattle.ucd_model.specs.Mappings.{SpellsMapping}
 use Rattle.ucd_model.specs.declared.decomposition.Kind.{Kind}
 use Rattle.ucd_model.specs.declared.decomposition.Kind.TheVariants.{Plain, Canonical, Compat}

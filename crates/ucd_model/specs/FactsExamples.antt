@@ -5,8 +5,8 @@
 -- 0130                                       a casing row for Turkish, and one without conditions
 -- 0049 0130 1E9E                             foldings of each status
 use Rattle.std.proofs.Common.{◌≡◌, ℕ, true, false, [], ◌∷◌, Some, None, refl, codes}
-use Rattle.ucd_model.specs.Bounds.{Bounds}
-use Rattle.ucd_model.specs.Limits.{point_count}
+use Rattle.ucd_points.specs.Bounds.{Bounds}
+use Rattle.ucd_points.specs.Limits.{point_count}
 use Rattle.ucd_model.specs.Facts.{Sources, Facts, facts, unassigned}
 use Rattle.ucd_model.specs.Composites.{pair_below, second_below}
 use Rattle.ucd_model.specs.Expansion.{expand, full}
@@ -15,7 +15,7 @@ use Rattle.ucd_model.specs.declared.category.Category.TheVariants.{Lu, Ll, Lo, M
 use Rattle.ucd_model.specs.declared.decomposition.Kind.TheVariants.{Plain, Canonical, Compat}
 use Rattle.ucd_model.specs.declared.decomposition.Tag.TheVariants.{Compat as CompatTag}
 use Rattle.ucd_model.specs.declared.image.Image.TheVariants.{Same, To}
-use Rattle.ucd_model.specs.declared.files.SourceFile.TheVariants.{UnicodeData, WordBreakProperty, CompositionExclusions, CaseFolding, SpecialCasing}
+use Rattle.ucd_points.specs.declared.files.SourceFile.TheVariants.{UnicodeData, WordBreakProperty, CompositionExclusions, CaseFolding, SpecialCasing}
 use Rattle.ucd_model.specs.declared.row.DataRow.{DataRow}
 use Rattle.ucd_model.specs.declared.row.Row.TheVariants.{Unit as DataLine, Value as ValueLine, Exclusion as ExclusionLine, Fold as FoldLine, Casing as CasingLine}
 use Rattle.ucd_model.specs.declared.row.FoldStatus.TheVariants as status

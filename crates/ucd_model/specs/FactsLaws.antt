@@ -9,7 +9,7 @@
 --                      without an ending and its ending. The Unicode Standard, section 3.12
 -- FactsAreCut          a number past the code points has the facts of a code point without a row
 use Rattle.std.specs.Prelude.{◌≡◌, ℕ, ◌+◌, ◌-◌, ◌*◌, ◌%◌, ◌<◌, ◌≤◌, List, [], ◌∷◌, ◌↔◌, ◌⊎◌, true}
-use Rattle.ucd_model.specs.Limits.{point_count}
+use Rattle.ucd_points.specs.Limits.{point_count}
 use Rattle.ucd_model.specs.Facts.{Sources, facts, unassigned, image, is_hangul_syllable, hangul_mapping}
 use Rattle.ucd_model.specs.declared.image.Image.TheVariants.{Same, To}
 

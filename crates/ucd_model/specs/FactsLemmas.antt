@@ -9,7 +9,7 @@ use Rattle.std.specs.Str.{bytes_eq}
 use Rattle.std.proofs.lemmas.Bool.{lt-ltb, le-ltb, eqb-true}
 use Rattle.std.proofs.lemmas.Slice.Eq.{bytes_eq-Decides}
 use Rattle.std.proofs.lemmas.Bool.Decides.{nat_tests}
-use Rattle.ucd_model.specs.Limits.{point_count}
+use Rattle.ucd_points.specs.Limits.{point_count}
 use Rattle.ucd_model.specs.Facts.{Sources, facts, given, is_hangul_syllable, hangul_mapping}
 use Rattle.ucd_model.specs.FactsLaws.{ImageIsSame, ImageIsOther, IsLV, IsLVT, HangulComposesBack, FactsAreCut}
 use Rattle.ucd_model.specs.declared.image.Image.TheVariants.{Same, To}

@@ -6,12 +6,12 @@
 -- IsRange file bytes row       the same of any file: none but UnicodeData.txt has ranges
 -- Reads file bytes row         the bytes are such a line, without a LF, or such two lines
 use Rattle.std.specs.Prelude.{◌≡◌, ◌⊎◌, ℕ, false, List, ◌∷◌, ◌++◌}
-use Rattle.ucd_model.specs.Lines.{holds_line_feed, without_return}
-use Rattle.ucd_model.specs.Fields.{fields}
+use Rattle.ucd_points.specs.Lines.{holds_line_feed, without_return}
+use Rattle.ucd_points.specs.Fields.{fields}
 use Rattle.ucd_model.specs.DataLines.{ReadsSingle, ReadsPair}
 use Rattle.ucd_model.specs.OtherLines.{ReadsValue, ReadsExclusion, ReadsFold, ReadsCasing, ReadsAlias}
-use Rattle.ucd_model.specs.declared.files.SourceFile.{SourceFile}
-use Rattle.ucd_model.specs.declared.files.SourceFile.TheVariants.{UnicodeData, PropList, Scripts, WordBreakProperty, CompositionExclusions, CaseFolding, SpecialCasing, PropertyAliases, PropertyValueAliases}
+use Rattle.ucd_points.specs.declared.files.SourceFile.{SourceFile}
+use Rattle.ucd_points.specs.declared.files.SourceFile.TheVariants.{UnicodeData, PropList, Scripts, WordBreakProperty, CompositionExclusions, CaseFolding, SpecialCasing, PropertyAliases, PropertyValueAliases}
 use Rattle.ucd_model.specs.declared.row.DataRow.{DataRow}
 use Rattle.ucd_model.specs.declared.row.Row.{Row}
 use Rattle.ucd_model.specs.declared.row.Row.TheVariants.{Unit as DataLine, Value as ValueLine, Exclusion as ExclusionLine, Fold as FoldLine, Casing as CasingLine, Alias as AliasLine}

@@ -1,9 +1,4 @@
-pub mod Limits
-pub mod Bounds
 pub mod Names
-pub mod SourceFiles
-pub mod Lines
-pub mod Fields
 pub mod Mappings
 pub mod DataLines
 pub mod OtherLines
@@ -39,8 +34,6 @@ pub mod DerivedFilesLaws
 pub mod LabelLemmas
 pub mod LabelLaws
 pub mod LabelLawProofs
-pub mod HexTextLaws
-pub mod HexTextProofs
 pub mod Enumerations
 pub mod EnumerationProofs
 pub mod Sameness

@@ -14,8 +14,8 @@
 --                       none; else None
 use Rattle.std.specs.Prelude.{◌≡◌, ℕ, ◌≤◌, Bool, true, false, ◌&&◌, ◌||◌, List, [], ◌∷◌, length, map, filter, Option, Some, None, nat_le, if◌then◌else◌}
 use Rattle.std.specs.List.{slice_split, join_with_byte, list_all}
-use Rattle.ucd_model.specs.Lines.{is_blank}
-use Rattle.ucd_model.specs.Fields.{point_of}
+use Rattle.ucd_points.specs.Lines.{is_blank}
+use Rattle.ucd_points.specs.Fields.{point_of}
 
 abbrev pub is_some_bytes : List ℕ → Bool
 is_some_bytes [] = false

@@ -10,14 +10,15 @@
 --                      a property
 use Rattle.std.specs.Prelude.{◌≡◌, ◌≢◌, ◌↔◌, ℕ, ◌≤◌, Bool, List, [], ◌∷◌, ◌++◌, Some, ⊤, codes}
 use Rattle.std.specs.List.{All}
-use Rattle.ucd_model.specs.Names.{category_of, category_code, status_of, status_code, tag_text, tag_name, flag_name, core_name, source_path, derived_path}
+use Rattle.ucd_model.specs.Names.{category_of, category_code, status_of, status_code, tag_text, tag_name, flag_name, core_name, derived_path}
+use Rattle.ucd_points.specs.SourceFiles.{source_path}
 use Rattle.ucd_model.specs.DerivedFiles.{binary_label, category_label, class_label, kind_label, quick_label, casefold_label}
 use Rattle.ucd_model.specs.RowValues.{IsPoint}
 use Rattle.ucd_model.specs.declared.category.Category.{Category}
 use Rattle.ucd_model.specs.declared.category.Category.TheVariants.{Cn}
 use Rattle.ucd_model.specs.declared.decomposition.Kind.{Kind}
 use Rattle.ucd_model.specs.declared.decomposition.Tag.{Tag}
-use Rattle.ucd_model.specs.declared.files.SourceFile.{SourceFile}
+use Rattle.ucd_points.specs.declared.files.SourceFile.{SourceFile}
 use Rattle.ucd_model.specs.declared.files.DerivedFile.{DerivedFile}
 use Rattle.ucd_model.specs.declared.form.Quick.{Quick}
 use Rattle.ucd_model.specs.declared.image.Image.{Image}

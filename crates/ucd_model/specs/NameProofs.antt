@@ -13,19 +13,20 @@ use Rattle.std.proofs.lemmas.List.{append_cancel_left}
 use Rattle.std.proofs.lemmas.List.Elements.{All-weaker, All-head, All-tail}
 use Rattle.std.proofs.lemmas.List.Splits.{slice_split_none, slice_split_at}
 use Rattle.std.proofs.lemmas.Slice.Eq.{bytes_eq-Decides}
-use Rattle.ucd_model.specs.Fields.{point_of}
-use Rattle.ucd_model.specs.Names.{category_of, category_code, status_of, status_code, tag_text, tag_name, flag_name, core_name, source_path, derived_path}
+use Rattle.ucd_points.specs.Fields.{point_of}
+use Rattle.ucd_model.specs.Names.{category_of, category_code, status_of, status_code, tag_text, tag_name, flag_name, core_name, derived_path}
+use Rattle.ucd_points.specs.SourceFiles.{source_path}
 use Rattle.ucd_model.specs.Labels.{Label}
-use Rattle.ucd_model.specs.DerivedText.{hex_text}
+use Rattle.ucd_points.specs.HexText.{hex_text}
 use Rattle.ucd_model.specs.DerivedFiles.{listed, binary_label, category_label, class_label, kind_label, quick_label, casefold_label, derived_files}
-use Rattle.ucd_model.specs.HexTextLaws.{IsUpperHex}
-use Rattle.ucd_model.specs.HexTextProofs.{hex_text_is_upper_case, hex_text_spells_its_point}
+use Rattle.ucd_points.specs.HexTextLaws.{IsUpperHex}
+use Rattle.ucd_points.specs.HexTextProofs.{hex_text_is_upper_case, hex_text_spells_its_point}
 use Rattle.ucd_model.specs.RowTexts.{mapping_text}
 use Rattle.ucd_model.specs.RowValues.{IsPoint}
 use Rattle.ucd_model.specs.Facts.{status_place}
 use Rattle.ucd_model.specs.Predicates.{category_place, core_properties}
 use Rattle.ucd_model.specs.Sets.{flag_place, core_place}
-use Rattle.ucd_model.specs.SourceFiles.{source_files, file_place}
+use Rattle.ucd_points.specs.SourceFiles.{source_files, file_place}
 use Rattle.ucd_model.specs.Enumerations.{categories, statuses, tags, place_of_tag, kinds, place_of_kind, flags, place_of_derived}
 use Rattle.ucd_model.specs.EnumerationProofs.{enumerates_categories, enumerates_statuses, enumerates_tags, enumerates_kinds, enumerates_flags, enumerates_core_properties, enumerates_source_files, enumerates_derived_files, true_of_each, place-injective, text-injective}
 use Rattle.ucd_model.specs.NameLaws.{HasPoints, CategoriesAreSpelled, StatusesAreSpelled, TagTextsAreNames, NamesTellValues, LabelsTellValues}

@@ -24,7 +24,6 @@
 -- tag_name t             the tag without `<` and `>`, a value of Decomposition_Type
 -- flag_name f            the name of the property in PropList.txt. UAX #44, section 5.3
 -- core_name p            the name of the property in DerivedCoreProperties.txt. UAX #44, section 5.3
--- source_path f          where a source file lies below the folder of a release
 -- derived_path f         where a derived file lies below the folder of the output
 use Rattle.std.specs.Prelude.{ℕ, List, [], ◌∷◌, Option, Some, None, ◌==◌, if◌then◌else◌, codes}
 use Rattle.ucd_model.specs.declared.category.Category.{Category}
@@ -38,8 +37,6 @@ use Rattle.ucd_model.specs.declared.property.Flag.{Flag}
 use Rattle.ucd_model.specs.declared.property.Flag.TheVariants.{WhiteSpace, OtherMath, OtherLowercase, OtherUppercase, OtherAlphabetic, OtherIdStart, OtherIdContinue, PatternSyntax, PatternWhiteSpace, OtherDefaultIgnorableCodePoint, VariationSelector, PrependedConcatenationMark, OtherGraphemeExtend, NoncharacterCodePoint}
 use Rattle.ucd_model.specs.declared.property.Core.{Core}
 use Rattle.ucd_model.specs.declared.property.Core.TheVariants.{Math, Alphabetic, Lowercase, Uppercase, Cased, CaseIgnorable, ChangesWhenLowercased, ChangesWhenUppercased, ChangesWhenTitlecased, ChangesWhenCasefolded, ChangesWhenCasemapped, IdStart, IdContinue, XidStart, XidContinue, DefaultIgnorableCodePoint, GraphemeExtend, GraphemeBase, GraphemeLink}
-use Rattle.ucd_model.specs.declared.files.SourceFile.{SourceFile}
-use Rattle.ucd_model.specs.declared.files.SourceFile.TheVariants.{UnicodeData, PropList, Scripts, WordBreakProperty, CompositionExclusions, CaseFolding, SpecialCasing, PropertyAliases, PropertyValueAliases}
 use Rattle.ucd_model.specs.declared.files.DerivedFile.{DerivedFile}
 use Rattle.ucd_model.specs.declared.files.DerivedFile.TheVariants.{CoreProperties, NormalizationProps, GeneralCategory, CombiningClass, DecompositionType}
 
@@ -211,17 +208,6 @@ core_name GraphemeBase = codes "Grapheme_Base"
 core_name GraphemeLink = codes "Grapheme_Link"
 
 -- ---- files
-
-abbrev pub source_path : SourceFile → List ℕ
-source_path UnicodeData = codes "UnicodeData.txt"
-source_path PropList = codes "PropList.txt"
-source_path Scripts = codes "Scripts.txt"
-source_path WordBreakProperty = codes "auxiliary/WordBreakProperty.txt"
-source_path CompositionExclusions = codes "CompositionExclusions.txt"
-source_path CaseFolding = codes "CaseFolding.txt"
-source_path SpecialCasing = codes "SpecialCasing.txt"
-source_path PropertyAliases = codes "PropertyAliases.txt"
-source_path PropertyValueAliases = codes "PropertyValueAliases.txt"
 
 abbrev pub derived_path : DerivedFile → List ℕ
 derived_path CoreProperties = codes "DerivedCoreProperties.txt"

@@ -13,7 +13,7 @@
 use Rattle.std.specs.Prelude.{◌≡◌, ◌⊎◌, ℕ, ◌<◌, ◌≤◌, Bool, true, List, [], ◌∷◌, length, Some}
 use Rattle.std.specs.List.{list_all}
 use Rattle.ucd_model.specs.Names.{status_of}
-use Rattle.ucd_model.specs.Fields.{field, point_of, SpellsSpan, is_name}
+use Rattle.ucd_points.specs.Fields.{field, point_of, SpellsSpan, is_name}
 use Rattle.ucd_model.specs.Mappings.{SpellsMapping, conditions_of}
 use Rattle.ucd_model.specs.declared.row.FoldStatus.{FoldStatus}
 use Rattle.ucd_model.specs.declared.row.FoldStatus.TheVariants.{C, F, S, T}

@@ -14,7 +14,8 @@ use Rattle.ucd_model.specs.Facts.{Facts, unassigned}
 use Rattle.ucd_model.specs.Names.{tag_text, tag_name}
 use Rattle.ucd_model.specs.Predicates.{holds, core_properties}
 use Rattle.ucd_model.specs.Records.{Record, record_at}
-use Rattle.ucd_model.specs.DerivedText.{section_text, span_text, hex_text}
+use Rattle.ucd_model.specs.DerivedText.{section_text}
+use Rattle.ucd_points.specs.HexText.{span_text, hex_text}
 use Rattle.ucd_model.specs.DerivedFiles.{derived_text, listed, category_label, class_label, kind_label}
 use Rattle.ucd_model.specs.RowTexts.{mapping_text}
 use Rattle.ucd_model.specs.Sets.{flag_place}

@@ -7,7 +7,7 @@ use Rattle.std.specs.Str.{bytes_eq}
 use Rattle.std.proofs.lemmas.Bool.{true≢false, cases_lt}
 use Rattle.std.proofs.lemmas.List.Elements.{All-head, All-tail}
 use Rattle.std.proofs.lemmas.List.Sums.{sum_by-cons}
-use Rattle.ucd_model.specs.Limits.{point_count}
+use Rattle.ucd_points.specs.Limits.{point_count}
 use Rattle.ucd_model.specs.Facts.{within, is_data_of, data_in, data_row, maps_by_rule, kind_in, mapping_in, hangul_mapping, is_plain, gives_value}
 use Rattle.ucd_model.specs.FactsLemmas.{facts_inside, facts_outside}
 use Rattle.ucd_model.specs.RowValues.{RowOk, DataOk, DecompositionOk}
@@ -15,7 +15,7 @@ use Rattle.ucd_model.specs.RowLaws.{KindsAreMapped, MidWordIsValue}
 use Rattle.ucd_model.specs.Values.{gives_some, value_in, value_at, word_break_at}
 use Rattle.ucd_model.specs.declared.decomposition.Kind.{Kind}
 use Rattle.ucd_model.specs.declared.decomposition.Kind.TheVariants.{Plain, Canonical, Compat}
-use Rattle.ucd_model.specs.declared.files.SourceFile.TheVariants.{UnicodeData}
+use Rattle.ucd_points.specs.declared.files.SourceFile.TheVariants.{UnicodeData}
 use Rattle.ucd_model.specs.declared.row.DataRow.{DataRow}
 use Rattle.ucd_model.specs.declared.row.ValueRow.{ValueRow}
 use Rattle.ucd_model.specs.declared.row.Row.{Row}

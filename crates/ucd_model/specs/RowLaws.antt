@@ -9,7 +9,7 @@ use Rattle.std.specs.List.{All, count_by}
 use Rattle.ucd_model.specs.Facts.{Sources, facts, is_plain, mid_word_at}
 use Rattle.ucd_model.specs.RowValues.{RowOk}
 use Rattle.ucd_model.specs.Values.{gives_some, word_break_at, is_mid_word}
-use Rattle.ucd_model.specs.declared.files.SourceFile.TheVariants.{UnicodeData}
+use Rattle.ucd_points.specs.declared.files.SourceFile.TheVariants.{UnicodeData}
 use Rattle.ucd_model.specs.declared.row.Row.{Row}
 
 abbrev pub KindsAreMapped : Type 0

@@ -4,7 +4,7 @@
 use Rattle.std.proofs.Common.{◌≡◌, ℕ, List, [], ◌∷◌, ◌++◌, map, sym, ap}
 use Rattle.std.specs.List.{join_with_byte}
 use Rattle.std.proofs.lemmas.List.{append-nil}
-use Rattle.ucd_model.specs.DerivedText.{hex_text}
+use Rattle.ucd_points.specs.HexText.{hex_text}
 use Rattle.ucd_model.specs.RowTexts.{mapping_text, spaced}
 
 joined_are : (c : ℕ) (cs : List ℕ) → join_with_byte 32 (hex_text c ∷ map hex_text cs) ≡ hex_text c ++ spaced cs

@@ -26,8 +26,8 @@ use Rattle.std.specs.Prelude.{ℕ, List, [], ◌∷◌, ◌++◌, map, Option, S
 use Rattle.std.specs.Fmt.{decimal}
 use Rattle.std.specs.List.{flat_map, join_with_byte}
 use Rattle.ucd_model.specs.Names.{category_code, status_code, tag_text}
-use Rattle.ucd_model.specs.DerivedText.{hex_text, span_text}
-use Rattle.ucd_model.specs.declared.files.SourceFile.{SourceFile}
+use Rattle.ucd_points.specs.HexText.{hex_text, span_text}
+use Rattle.ucd_points.specs.declared.files.SourceFile.{SourceFile}
 use Rattle.ucd_model.specs.declared.decomposition.Kind.{Kind}
 use Rattle.ucd_model.specs.declared.decomposition.Kind.TheVariants.{Plain, Canonical, Compat}
 use Rattle.ucd_model.specs.declared.row.DataRow.{DataRow}

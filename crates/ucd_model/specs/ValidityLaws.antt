@@ -16,7 +16,7 @@
 -- ValidPairIsSingle  in a valid release two primary composites with one mapping are one
 use Rattle.std.specs.Prelude.{◌≡◌, ℕ, ◌<◌, Bool, true, List, [], ◌∷◌, length, Some, None, Ok, Err, ◌↔◌, ⊤}
 use Rattle.std.specs.List.{Contains}
-use Rattle.ucd_model.specs.Limits.{point_count}
+use Rattle.ucd_points.specs.Limits.{point_count}
 use Rattle.ucd_model.specs.Facts.{Facts}
 use Rattle.ucd_model.specs.Expansion.{counted, full, expansion}
 use Rattle.ucd_model.specs.CompositeLaws.{Composes}

@@ -2,14 +2,13 @@
 
 ghost use Rattle.std.specs.Prelude.{◌≡◌, ℕ, ◌<◌, length};
 ghost use Rattle.ucd_model.specs.Composites.{primary, composes, ends_with, is_pair, is_second, is_canonical, first_has_class_zero};
-ghost use Rattle.ucd_model.specs.Limits.{point_count};
+ghost use Rattle.ucd_points.specs.Limits.{point_count};
 ghost use Rattle.ucd_model.specs.FactList.{facts_in};
 
 use crate::decomposition::Kind;
 use crate::facts::Facts;
-use crate::list::ListOf;
-use crate::point::{Point, point_count};
 use crate::view::{FactView, FactsRef};
+use ucd_points::{ListOf, Point, point_count};
 
 /// The facts of a few code points. Of two entries of one code point the first counts, and every code point without an
 /// entry has the facts of one without a row.

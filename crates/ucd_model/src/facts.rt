@@ -8,11 +8,10 @@ ghost use Rattle.ucd_model.specs.Shown.{shown_facts};
 use crate::category::Category;
 use crate::decomposition::Kind;
 use crate::image::Image;
-use crate::list::Points;
-use crate::point::Point;
 use crate::sets::Flags;
 use crate::view::FactsRef;
 use std::alloc::Global;
+use ucd_points::{Point, Points};
 
 /// The facts of a code point. UAX #44, sections 5.3, 5.6 and 5.7.
 #[derive(Debug, Drop)]

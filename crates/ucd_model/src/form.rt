@@ -2,10 +2,9 @@
 
 ghost use Rattle.std.specs.Prelude.{◌≡◌};
 
-use crate::memory::Memory;
-use crate::point::Point;
 use std::error::Error;
 use std::fmt;
+use ucd_points::{Memory, Point};
 
 /// A normalisation form. UAX #15, section 1.2.
 #[derive(Clone, Copy, Debug, PartialEq, Eq)]

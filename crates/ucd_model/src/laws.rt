@@ -1,7 +1,5 @@
-//! The laws of maximal spans and of the text of code points: each function here does nothing, and its contract is a
-//! law.
+//! The laws of maximal spans: each function here does nothing, and its contract is a law.
 
-ghost use Rattle.ucd_model.specs.HexTextLaws.{HexTextHasFourToSixDigits, HexTextHasNoSpareDigit, HexTextIsUpperCase, HexTextSpellsItsNumber, HexTextSpellsItsPoint, SpanTextSpellsItsSpan};
 ghost use Rattle.ucd_model.specs.LabelLaws.{SpansLieBelow, SpansHaveOneLabel, SpansAreMaximal, StretchesAreSpans, SpansAscend, SpansDoNotTouch, SpansAreDisjoint, LabelledLieInASpan, OthersLieInNoSpan, LabelledIsTheirLength};
 
 /// Every span has a number in it, and all its numbers are below the bound.
@@ -52,34 +50,4 @@ pub fn others_lie_in_no_span()
 /// The numbers that have a label are as many as lie in the spans together.
 pub fn labelled_is_their_length()
     ensures { LabelledIsTheirLength }
-{}
-
-/// The text of a number has four, five or six digits.
-pub fn hex_text_has_four_to_six_digits()
-    ensures { HexTextHasFourToSixDigits }
-{}
-
-/// Where the text has more than four digits, the first is not `0`.
-pub fn hex_text_has_no_spare_digit()
-    ensures { HexTextHasNoSpareDigit }
-{}
-
-/// Each byte of the text is one of `0` to `9` and `A` to `F`.
-pub fn hex_text_is_upper_case()
-    ensures { HexTextIsUpperCase }
-{}
-
-/// Read as hexadecimal digits, the text of a number is that number.
-pub fn hex_text_spells_its_number()
-    ensures { HexTextSpellsItsNumber }
-{}
-
-/// Read as a code point, the text of a code point is that point.
-pub fn hex_text_spells_its_point()
-    ensures { HexTextSpellsItsPoint }
-{}
-
-/// Read as a span, the text of a span is that span.
-pub fn span_text_spells_its_span()
-    ensures { SpanTextSpellsItsSpan }
 {}

@@ -14,10 +14,7 @@ mod files;
 mod form;
 mod image;
 pub mod laws;
-mod list;
-mod memory;
 mod pieces;
-mod point;
 mod property;
 mod query;
 mod records;
@@ -26,7 +23,6 @@ pub mod row_laws;
 pub mod sameness_laws;
 mod sets;
 mod shown;
-mod span;
 mod steps;
 pub mod validity_laws;
 mod view;
@@ -35,13 +31,10 @@ pub use category::{CATEGORIES, Category};
 pub use decomposition::{Kind, TAGS, Tag};
 pub use fact_list::FactList;
 pub use facts::Facts;
-pub use files::{DERIVED_FILES, DerivedFile, FILE_LIMIT, SOURCE_FILES, SourceFile, file_limit};
+pub use files::{DERIVED_FILES, DerivedFile};
 pub use form::{Bad, Broken, Form, FormStop, Quick};
 pub use image::Image;
-pub use list::{Copied, ListOf, Points, Spans, Text, Texts};
-pub use memory::Memory;
 pub use pieces::equal_pieces;
-pub use point::{Point, point_count};
 pub use property::{CORE_PROPERTIES, Core, FLAGS, Flag};
 pub use query::{Queries, Query};
 pub use records::{Record, Records};
@@ -50,6 +43,9 @@ pub use row::{
 };
 pub use sets::{CoreSet, Flags};
 pub use shown::same_facts;
-pub use span::Span;
 pub use steps::Steps;
 pub use view::{FactView, FactsRef};
+pub use ucd_points::{
+    Copied, FILE_LIMIT, ListOf, Memory, Point, Points, SOURCE_FILES, SourceFile, Span, Spans, Text,
+    Texts, file_limit, point_count,
+};

@@ -1,15 +1,12 @@
 //! The code points cut into spans of equal records: what is the same from point to point is looked at once.
 
 ghost use Rattle.std.specs.Prelude.{◌≡◌, ◌≤◌, ◌<◌, IfOk};
-ghost use Rattle.ucd_model.specs.Limits.{point_count};
+ghost use Rattle.ucd_points.specs.Limits.{point_count};
 ghost use Rattle.ucd_model.specs.Cuts.{IsCut};
 
-use crate::list::Spans;
-use crate::memory::Memory;
-use crate::point::{Point, point_count};
 use crate::records::Records;
-use crate::span::Span;
 use std::alloc::Global;
+use ucd_points::{Memory, Point, Span, Spans, point_count};
 
 /// Spans that follow one another over all code points, in each of which the records are equal.
 ///

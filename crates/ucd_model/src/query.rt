@@ -1,9 +1,7 @@
 //! Questions about the facts of code points.
 
-use crate::list::{Copied, ListOf};
-use crate::memory::Memory;
-use crate::point::Point;
 use std::alloc::Global;
+use ucd_points::{Copied, ListOf, Memory, Point};
 
 /// A question that the derivation of a code point asks. Questions are ordered by their kind, and then by their code
 /// points.

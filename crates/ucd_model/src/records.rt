@@ -8,8 +8,8 @@ use crate::category::Category;
 use crate::decomposition::Kind;
 use crate::form::Quick;
 use crate::image::Image;
-use crate::point::Point;
 use crate::sets::CoreSet;
+use ucd_points::Point;
 
 /// The derived properties of a code point. UAX #44, section 5.3.
 #[derive(Debug, Drop)]

@@ -5,9 +5,7 @@ ghost use Rattle.ucd_model.specs.Names.{status_code};
 
 use crate::category::Category;
 use crate::decomposition::Kind;
-use crate::list::{ListOf, Points, Text, Texts};
-use crate::point::Point;
-use crate::span::Span;
+use ucd_points::{ListOf, Point, Points, Span, Text, Texts};
 
 /// Fields 4 and 6 to 11 of a row of UnicodeData.txt, which are kept as they stand, without white space around them,
 /// and are not tested. UAX #44, section 5.3, table 9.

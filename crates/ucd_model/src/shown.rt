@@ -6,8 +6,8 @@ ghost use Rattle.ucd_model.specs.Sets.{has_flag};
 ghost use Rattle.ucd_model.specs.Shown.{image_shown, shown_facts};
 ghost use Rattle.ucd_model.specs.declared.property.Flag.{Flag};
 
-use crate::point::Point;
 use crate::view::FactsRef;
+use ucd_points::Point;
 
 /// Whether two views show equal facts: of one code point before and after an edit, say. It takes no memory.
 #[tactic(auto, using(crate::proofs::FactLemmas::shown_alike))]

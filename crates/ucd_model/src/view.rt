@@ -7,8 +7,8 @@ ghost use Rattle.ucd_model.specs.Composites.{pair_of, second_of};
 
 use crate::category::Category;
 use crate::decomposition::Kind;
-use crate::point::Point;
 use crate::sets::Flags;
+use ucd_points::Point;
 
 /// The facts of a code point. UAX #44, sections 5.3, 5.6 and 5.7. Of `upper`, `lower`, `title` and `fold`, `None`
 /// stands for the point itself alone.

@@ -1,7 +1,7 @@
 -- What a question is answered, from what its tree is answered.
 use Rattle.std.proofs.Common.{◌≡◌, ℕ, Bool, List, Result, Err, sym, ap, ◌∙◌}
-use Rattle.ucd_model.specs.Bounds.{Bounds}
-use Rattle.ucd_model.specs.Limits.{point_count}
+use Rattle.ucd_points.specs.Bounds.{Bounds}
+use Rattle.ucd_points.specs.Limits.{point_count}
 use Rattle.property_aliases.specs.Found.{AreAliasesOf}
 use Rattle.property_aliases.specs.Sources.{Sources}
 use Rattle.property_aliases.specs.declared.aliases.Aliases.{Aliases}

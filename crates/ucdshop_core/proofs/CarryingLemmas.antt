@@ -13,7 +13,7 @@ use Rattle.script_lines.specs.declared.command.What.{What}
 use Rattle.script_lines.specs.declared.command.What.TheVariants.{Group, Question}
 use Rattle.edit_session.specs.CountProofs.{counts_none}
 use Rattle.edit_session.specs.Groups.{after_ops, files_facts}
-use Rattle.ucd_model.specs.declared.memory.Memory.{Memory as NoMemory}
+use Rattle.ucd_points.specs.declared.memory.Memory.{Memory as NoMemory}
 use Rattle.ucdshop_core.specs.Answering.{AnswersFront}
 use Rattle.ucdshop_core.specs.Carrying.{session_on}
 use Rattle.ucdshop_core.specs.Counting.{CommandCounts, SessionCounts}

@@ -1,6 +1,6 @@
 -- How far a run raises its counter, from what is judged to what was seen.
 use Rattle.std.proofs.Common.{◌≡◌, ◌≤◌, ℕ, ◌+◌, Bool, Option, Some, None, Result, Ok, Err, refl, sym, subst, arith}
-use Rattle.ucd_model.specs.Limits.{point_count}
+use Rattle.ucd_points.specs.Limits.{point_count}
 use Rattle.ucdshop_core.specs.Counting.{FormCounts, SessionCounts, VerdictCounts, opened_limit}
 use Rattle.ucdshop_core.specs.Judging.{given_verdict}
 use Rattle.ucdshop_core.specs.Run.{Contents, Job, Derive, Apply, Compare, Make, Inputs, Sees, everywhere, job_verdict}

@@ -1,8 +1,8 @@
 -- A cut of all code points.
 use Rattle.std.proofs.Common.{◌≡◌, ℕ, List, subst}
-use Rattle.ucd_model.specs.Bounds.{Bounds}
+use Rattle.ucd_points.specs.Bounds.{Bounds}
 use Rattle.ucd_model.specs.Cuts.{IsCut}
-use Rattle.ucd_model.specs.Limits.{point_count}
+use Rattle.ucd_points.specs.Limits.{point_count}
 use Rattle.ucd_model.specs.Records.{Record}
 
 pub cut_whole : (R : ℕ → Record) (n : ℕ) (pieces : List Bounds) → n ≡ 1114112 → IsCut R 0 n pieces → IsCut R 0 point_count pieces

@@ -10,8 +10,9 @@ use Rattle.std.proofs.lemmas.Bool.{and_parts, and_from, eq-eqb, not-true, not_fr
 use Rattle.std.proofs.lemmas.List.Elements.{All-nil, All-cons, All-head, All-tail}
 use Rattle.std.proofs.lemmas.Slice.Eq.{bytes_eq-Decides}
 use Rattle.ucd_model.specs.DerivedFiles.{derived_files}
-use Rattle.ucd_model.specs.Names.{source_path, derived_path}
-use Rattle.ucd_model.specs.SourceFiles.{source_files}
+use Rattle.ucd_model.specs.Names.{derived_path}
+use Rattle.ucd_points.specs.SourceFiles.{source_path}
+use Rattle.ucd_points.specs.SourceFiles.{source_files}
 use Rattle.ucdshop_core.specs.Paths.{path_in}
 use Rattle.stability_policies.specs.declared.breaks.Break.{Break}
 use Rattle.ucdshop_core.specs.Run.{Contents, Job, Derive, Apply, Compare, Make, NewFile, new_files, output_paths, put, after}

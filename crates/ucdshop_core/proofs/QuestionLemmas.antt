@@ -4,11 +4,11 @@ use Rattle.std.specs.Prelude.{sum_by, IfOk}
 use Rattle.std.specs.List.{range_with_len}
 use Rattle.std.proofs.lemmas.List.FromFn.{length-range_with_len}
 use Rattle.std.proofs.lemmas.List.Sums.{count_by-le-length, sum_by-cons}
-use Rattle.ucd_model.specs.Bounds.{Bounds}
+use Rattle.ucd_points.specs.Bounds.{Bounds}
 use Rattle.ucd_model.specs.LabelLaws.{span_length}
 use Rattle.ucd_model.specs.LabelLawProofs.{labelled_is_their_length}
 use Rattle.ucd_model.specs.Labels.{LabelSpan, label_spans, labelled}
-use Rattle.ucd_model.specs.Limits.{point_count}
+use Rattle.ucd_points.specs.Limits.{point_count}
 use Rattle.release_rows.specs.FileItems.{FileItem}
 use Rattle.unicodeset_eval.specs.Members.{member_label, member_spans}
 use Rattle.unicodeset_eval.specs.Questions.{NameFault, members, names_of, spans_of}

@@ -5,11 +5,11 @@ use Rattle.std.proofs.lemmas.Bool.{cases_lt, lt-ltb}
 use Rattle.std.proofs.lemmas.List.{length-take, take_all}
 use Rattle.std.specs.Str.{bytes_eq}
 use Rattle.std.proofs.Math.Seq.{drop-append_seam}
-use Rattle.ucd_model.specs.Limits.{file_limit}
-use Rattle.ucd_model.specs.SourceFiles.{source_files}
-use Rattle.ucd_model.specs.Names.{source_path}
-use Rattle.ucd_model.specs.declared.files.SourceFile.{SourceFile}
-use Rattle.ucd_model.specs.declared.files.SourceFile.TheVariants.{UnicodeData, PropList, Scripts, WordBreakProperty, CompositionExclusions, CaseFolding, SpecialCasing, PropertyAliases, PropertyValueAliases}
+use Rattle.ucd_points.specs.Limits.{file_limit}
+use Rattle.ucd_points.specs.SourceFiles.{source_files}
+use Rattle.ucd_points.specs.SourceFiles.{source_path}
+use Rattle.ucd_points.specs.declared.files.SourceFile.{SourceFile}
+use Rattle.ucd_points.specs.declared.files.SourceFile.TheVariants.{UnicodeData, PropList, Scripts, WordBreakProperty, CompositionExclusions, CaseFolding, SpecialCasing, PropertyAliases, PropertyValueAliases}
 use Rattle.release_rows.specs.FileItems.{FileItem}
 use Rattle.release_rows.specs.Loading.{file_or_fault}
 use Rattle.release_rows.specs.declared.load_stop.LoadRule.TheVariants.{G02}

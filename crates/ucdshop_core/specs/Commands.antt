@@ -6,7 +6,7 @@
 -- MayStep job old new     the counter rises by at most the number of code points; where a script is carried out, nothing is said
 -- FormMayStep form old new   the same of what the words ask for; the counter stays where they have no listed form
 use Rattle.std.specs.Prelude.{◌≡◌, ◌≤◌, ℕ, ◌+◌, Option, Some, None, ⊤}
-use Rattle.ucd_model.specs.Limits.{point_count}
+use Rattle.ucd_points.specs.Limits.{point_count}
 use Rattle.ucdshop_core.specs.Run.{Job, Derive, Apply, Compare, Make}
 use Rattle.ucdshop_core.specs.declared.command.Command.{Command}
 use Rattle.ucdshop_core.specs.declared.command.Command.TheVariants.{Derive as DeriveWords, Apply as ApplyWords, Compare as CompareWords, Make as MakeWords}

@@ -23,8 +23,8 @@
 -- LoadsFile result expected file old new   so it is, or the refusal is the expected one; want of memory says nothing
 use Rattle.std.specs.Prelude.{◌≡◌, ◌≢◌, ℕ, ◌+◌, Bool, IsTrue, List, length, Option, Some, None, Result, Ok, Err, ⊤, slice_index_or}
 use Rattle.std.specs.Option.{option_map}
-use Rattle.ucd_model.specs.declared.files.SourceFile.{SourceFile}
-use Rattle.ucd_model.specs.SourceFiles.{file_place}
+use Rattle.ucd_points.specs.declared.files.SourceFile.{SourceFile}
+use Rattle.ucd_points.specs.SourceFiles.{file_place}
 use Rattle.release_rows.specs.FileItems.{FileItem}
 use Rattle.release_rows.specs.Releases.{ReleaseItems, items_now}
 use Rattle.edit_session.specs.Benches.{HasNothingPrepared}

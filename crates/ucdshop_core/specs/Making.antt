@@ -19,11 +19,11 @@ use Rattle.release_rows.specs.FileItems.{FileItem, rows_in}
 use Rattle.release_rows.specs.Releases.{items_at}
 use Rattle.edit_session.specs.Groups.{files_facts}
 use Rattle.ucd_model.specs.DerivedFiles.{casefold_listing}
-use Rattle.ucd_model.specs.Fields.{is_digit}
+use Rattle.ucd_points.specs.Fields.{is_digit}
 use Rattle.ucd_model.specs.Labels.{labelled}
-use Rattle.ucd_model.specs.Limits.{point_count}
+use Rattle.ucd_points.specs.Limits.{point_count}
 use Rattle.ucd_model.specs.Records.{record_at}
-use Rattle.ucd_model.specs.declared.files.SourceFile.TheVariants.{UnicodeData}
+use Rattle.ucd_points.specs.declared.files.SourceFile.TheVariants.{UnicodeData}
 use Rattle.ucdshop_core.specs.Printed.{MadeCounts}
 use Rattle.ucdshop_core.specs.Session.{Session}
 

@@ -9,9 +9,10 @@
 -- script_in folder         the path of a script that is made below a folder
 -- policy_in folder         the path of a policy report below a folder
 use Rattle.std.specs.Prelude.{ℕ, List, ◌++◌, map, codes}
-use Rattle.ucd_model.specs.Names.{source_path, derived_path}
-use Rattle.ucd_model.specs.SourceFiles.{source_files}
-use Rattle.ucd_model.specs.declared.files.SourceFile.{SourceFile}
+use Rattle.ucd_model.specs.Names.{derived_path}
+use Rattle.ucd_points.specs.SourceFiles.{source_path}
+use Rattle.ucd_points.specs.SourceFiles.{source_files}
+use Rattle.ucd_points.specs.declared.files.SourceFile.{SourceFile}
 use Rattle.ucd_model.specs.declared.files.DerivedFile.{DerivedFile}
 
 abbrev pub path_in : List ℕ → List ℕ → List ℕ

@@ -19,7 +19,8 @@
 -- row_rule_code fault      the code of a rule that a line breaks by itself: G03 to G11
 use Rattle.std.specs.Prelude.{ℕ, List, ◌++◌, codes}
 use Rattle.std.specs.Fmt.{decimal}
-use Rattle.ucd_model.specs.DerivedText.{hex_text, line_end}
+use Rattle.ucd_model.specs.DerivedText.{line_end}
+use Rattle.ucd_points.specs.HexText.{hex_text}
 use Rattle.ucd_model.specs.declared.form.Bad.{Bad}
 use Rattle.ucd_model.specs.declared.form.Bad.TheVariants.{V1, V2, V3, V4, V5}
 use Rattle.ucd_model.specs.declared.form.Broken.{Broken}

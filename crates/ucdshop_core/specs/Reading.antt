@@ -6,7 +6,7 @@
 -- OnOneFailed result P   P, where the path could not be read
 use Rattle.std.specs.Prelude.{ℕ, ◌+◌, List, [], take, Option, Result, Ok, Err, ⊤, slice_index_or}
 use Rattle.std.specs.Option.{option_map}
-use Rattle.ucd_model.specs.Limits.{file_limit}
+use Rattle.ucd_points.specs.Limits.{file_limit}
 use Rattle.shelf_io.specs.declared.shelf.ReadStop.{ReadStop}
 use Rattle.shelf_io.specs.declared.shelf.ReadStop.TheVariants as one
 use Rattle.ucdshop_core.specs.declared.reading.ReadingStop.{ReadingStop}

@@ -73,11 +73,11 @@
 -- IsFine words seen                by what was seen the run is not refused
 use Rattle.std.specs.Prelude.{◌≡◌, ℕ, Bool, IsTrue, ◌||◌, List, [], ◌∷◌, ◌++◌, length, map, Option, Some, None, Result, Ok, Err, nat_lt, if◌then◌else◌, codes}
 use Rattle.std.specs.Str.{bytes_eq}
-use Rattle.ucd_model.specs.Limits.{point_count}
+use Rattle.ucd_points.specs.Limits.{point_count}
 use Rattle.ucd_model.specs.DerivedFiles.{derived_files, derived_text}
 use Rattle.ucd_model.specs.Records.{record_at}
-use Rattle.ucd_model.specs.declared.files.SourceFile.{SourceFile}
-use Rattle.ucd_model.specs.SourceFiles.{source_files}
+use Rattle.ucd_points.specs.declared.files.SourceFile.{SourceFile}
+use Rattle.ucd_points.specs.SourceFiles.{source_files}
 use Rattle.ucd_model.specs.declared.files.DerivedFile.{DerivedFile}
 use Rattle.release_rows.specs.FileItems.{FileItem, bytes_of}
 use Rattle.release_rows.specs.Releases.{ReleaseItems, items_at}

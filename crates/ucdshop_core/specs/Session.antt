@@ -26,8 +26,9 @@
 use Rattle.std.specs.Prelude.{ℕ, ◌+◌, List, [], ◌++◌, length, Result, Ok, Err, codes}
 use Rattle.std.specs.Fmt.{decimal}
 use Rattle.std.specs.List.{fold}
-use Rattle.ucd_model.specs.Bounds.{Bounds}
-use Rattle.ucd_model.specs.DerivedText.{hex_text, line_end}
+use Rattle.ucd_points.specs.Bounds.{Bounds}
+use Rattle.ucd_model.specs.DerivedText.{line_end}
+use Rattle.ucd_points.specs.HexText.{hex_text}
 use Rattle.release_rows.specs.FileItems.{FileItem}
 use Rattle.release_rows.specs.declared.key_rule.KeyRule.{KeyRule}
 use Rattle.release_rows.specs.declared.key_rule.KeyRule.TheVariants.{K1, K2, K4}

@@ -7,8 +7,9 @@
 use Rattle.std.specs.Prelude.{ℕ, ◌+◌, ◌-◌, List, ◌++◌, codes, sum_by}
 use Rattle.std.specs.Fmt.{decimal}
 use Rattle.std.specs.List.{flat_map}
-use Rattle.ucd_model.specs.Bounds.{Bounds}
-use Rattle.ucd_model.specs.DerivedText.{line_end, span_text}
+use Rattle.ucd_points.specs.Bounds.{Bounds}
+use Rattle.ucd_model.specs.DerivedText.{line_end}
+use Rattle.ucd_points.specs.HexText.{span_text}
 
 abbrev pub span_entry : Bounds → List ℕ
 span_entry s = span_text s ++ line_end

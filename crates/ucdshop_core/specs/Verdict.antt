@@ -10,10 +10,10 @@
 -- script_verdict held         the commands of what is held of the script; an absent one is refused, one that is too long, and one
 --                             with a fault
 use Rattle.std.specs.Prelude.{ℕ, List, [], ◌∷◌, length, Option, Some, None, Result, Ok, Err, nat_lt, if◌then◌else◌}
-use Rattle.ucd_model.specs.Limits.{file_limit}
-use Rattle.ucd_model.specs.SourceFiles.{source_files}
+use Rattle.ucd_points.specs.Limits.{file_limit}
+use Rattle.ucd_points.specs.SourceFiles.{source_files}
 use Rattle.ucd_model.specs.Validity.{first_broken}
-use Rattle.ucd_model.specs.declared.files.SourceFile.{SourceFile}
+use Rattle.ucd_points.specs.declared.files.SourceFile.{SourceFile}
 use Rattle.ucd_model.specs.declared.form.Broken.{Broken}
 use Rattle.release_rows.specs.FileItems.{FileItem}
 use Rattle.release_rows.specs.Loading.{LoadFault, load_or_fault}

@@ -7,7 +7,7 @@ ghost use Rattle.edit_session.specs.Benches.{bench_record};
 ghost use Rattle.script_lines.specs.Groups.{IsReady};
 ghost use Rattle.script_lines.specs.declared.command.What.TheVariants.{Question};
 ghost use Rattle.ucd_model.specs.Cuts.{IsCut};
-ghost use Rattle.ucd_model.specs.Limits.{point_count};
+ghost use Rattle.ucd_points.specs.Limits.{point_count};
 ghost use Rattle.ucdshop_core.specs.Answering.{AnswersFront};
 ghost use Rattle.ucdshop_core.specs.Carrying.{counted, session_on, question_command};
 ghost use Rattle.ucdshop_core.specs.Session.{step_by};

@@ -3,7 +3,7 @@
 ghost use Rattle.std.specs.Prelude.{◌≡◌, ◌≤◌, IfOk};
 ghost use Rattle.edit_session.specs.Benches.{bench_record};
 ghost use Rattle.ucd_model.specs.Cuts.{IsCut};
-ghost use Rattle.ucd_model.specs.Limits.{point_count};
+ghost use Rattle.ucd_points.specs.Limits.{point_count};
 ghost use Rattle.ucdshop_core.specs.Asking.{IsUnnamed, IsUnread};
 ghost use Rattle.ucdshop_core.specs.Questions.{AskedAs, files_hold, question_answer, tree_answer};
 ghost use Rattle.ucdshop_core.specs.SetTexts.{members_in};

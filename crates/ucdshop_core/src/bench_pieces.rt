@@ -3,7 +3,7 @@
 ghost use Rattle.std.specs.Prelude.{◌≡◌, ◌≤◌, ◌<◌, IfOk};
 ghost use Rattle.ucd_model.specs.Cuts.{IsCut};
 ghost use Rattle.edit_session.specs.Benches.{bench_record};
-ghost use Rattle.ucd_model.specs.Limits.{point_count};
+ghost use Rattle.ucd_points.specs.Limits.{point_count};
 
 use edit_session::Bench;
 use std::alloc::Global;

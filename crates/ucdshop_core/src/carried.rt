@@ -1,7 +1,7 @@
 //! What carrying out commands gave.
 
 ghost use Rattle.std.specs.Prelude.{◌≡◌, ◌+◌, ◌<◌, ◌≤◌, ◌^◌, [], ◌++◌, OnOk};
-ghost use Rattle.ucd_model.specs.Limits.{point_count};
+ghost use Rattle.ucd_points.specs.Limits.{point_count};
 ghost use Rattle.ucdshop_core.specs.Carrying.{counted};
 ghost use Rattle.ucdshop_core.specs.Session.{accepted_line, refused_line, set_line, unasked_line};
 ghost use Rattle.ucdshop_core.specs.SetTexts.{members_in, set_section};

@@ -2,7 +2,7 @@
 
 ghost use Rattle.std.specs.Prelude.{◌≡◌, ◌≢◌, ℕ, ◌+◌, ◌≤◌, [], IfOk};
 ghost use Rattle.std.specs.Option.{option_map};
-ghost use Rattle.ucd_model.specs.Limits.{point_count};
+ghost use Rattle.ucd_points.specs.Limits.{point_count};
 ghost use Rattle.release_rows.specs.Releases.{items_now};
 ghost use Rattle.edit_session.specs.Benches.{HasNothingPrepared};
 ghost use Rattle.ucdshop_core.specs.Judging.{BreaksBy, FaultyBy, JudgedAs, Keeps, LoadsFile, given_source, held_at, held_place, source_held};

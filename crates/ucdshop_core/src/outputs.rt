@@ -4,8 +4,8 @@ ghost use Rattle.std.specs.Prelude.{◌≡◌, ℕ, ◌∷◌, ◌++◌, [], IfO
 ghost use Rattle.ucd_model.specs.Cuts.{IsCut};
 ghost use Rattle.edit_session.specs.Benches.{bench_record};
 ghost use Rattle.ucd_model.specs.DerivedFiles.{derived_files};
-ghost use Rattle.ucd_model.specs.Limits.{point_count};
-ghost use Rattle.ucd_model.specs.SourceFiles.{source_files};
+ghost use Rattle.ucd_points.specs.Limits.{point_count};
+ghost use Rattle.ucd_points.specs.SourceFiles.{source_files};
 ghost use Rattle.ucdshop_core.specs.Carrying.{session_of};
 ghost use Rattle.ucdshop_core.specs.Commands.{job_of};
 ghost use Rattle.ucdshop_core.specs.Judging.{AreFor};

@@ -2,7 +2,7 @@
 
 ghost use Rattle.std.specs.Prelude.{◌≡◌, ◌≤◌, ◌+◌, [], IfOk, IsTrue, OnOk, Some, length, map};
 ghost use Rattle.std.specs.List.{All};
-ghost use Rattle.ucd_model.specs.Limits.{point_count};
+ghost use Rattle.ucd_points.specs.Limits.{point_count};
 ghost use Rattle.ucdshop_core.specs.Commands.{IsListed, MayStep, job_of};
 ghost use Rattle.ucdshop_core.specs.Counting.{FormCounts, SessionCounts, VerdictCounts};
 ghost use Rattle.ucdshop_core.specs.Judging.{AreFor, ReadAs, given_verdict, inputs_of};

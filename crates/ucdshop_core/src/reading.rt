@@ -4,7 +4,7 @@ ghost use Rattle.std.specs.Prelude.{◌≡◌, ◌+◌, ◌<◌, ◌≤◌, IsTr
 ghost use Rattle.std.specs.Option.{option_map};
 ghost use Rattle.shelf_io.specs.Counts.{Rose};
 ghost use Rattle.shelf_io.specs.Contents.{SameContents};
-ghost use Rattle.ucd_model.specs.Limits.{file_limit};
+ghost use Rattle.ucd_points.specs.Limits.{file_limit};
 ghost use Rattle.ucdshop_core.specs.Reading.{cut, text_at, OnFailedAt, OnOneFailed};
 
 use shelf_io::{Found, ReadStop, Shelf};

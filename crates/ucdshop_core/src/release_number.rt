@@ -1,7 +1,7 @@
 //! The number that a release is made of.
 
 ghost use Rattle.std.specs.Prelude.{◌≡◌, ◌≤◌, ◌∷◌, []};
-ghost use Rattle.ucd_model.specs.Fields.{is_digit};
+ghost use Rattle.ucd_points.specs.Fields.{is_digit};
 ghost use Rattle.ucdshop_core.specs.Making.{limited, number_of, IsInRange};
 
 /// The number from 1 to 50 that one or two digits write without a leading zero; `None` for all other words.

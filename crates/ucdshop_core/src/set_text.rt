@@ -3,8 +3,9 @@
 ghost use Rattle.std.specs.Prelude.{◌≡◌, ◌++◌, ◌≤◌, IfOk, OnOk, codes};
 ghost use Rattle.std.specs.Fmt.{decimal};
 ghost use Rattle.std.specs.List.{flat_map};
-ghost use Rattle.ucd_model.specs.DerivedText.{line_end, span_text};
-ghost use Rattle.ucd_model.specs.Limits.{point_count};
+ghost use Rattle.ucd_model.specs.DerivedText.{line_end};
+ghost use Rattle.ucd_points.specs.HexText.{span_text};
+ghost use Rattle.ucd_points.specs.Limits.{point_count};
 ghost use Rattle.ucdshop_core.specs.SetTexts.{members_in, set_section, span_entry};
 
 use crate::printed::put_decimal;
@@ -42,7 +43,7 @@ fn put_head(alloc: Global, text: &mut Text, line: u32) -> Result<(), Memory>
 }
 
 /// Puts a line for each span, and answers how many code points lie in them together.
-#[tactic(auto, unfolding(ucd_model::specs::Limits::point_count))]
+#[tactic(auto, unfolding(ucd_points::specs::Limits::point_count))]
 fn put_spans(text: &mut Text, spans: &[Span]) -> Result<usize, Memory>
     requires { members_in spans.now ≤ point_count }
     ensures text { OnOk result (text.new ≡ text.old ++ flat_map span_entry spans.now) }
@@ -57,7 +58,7 @@ fn put_spans(text: &mut Text, spans: &[Span]) -> Result<usize, Memory>
 }
 
 /// Puts the line of a span.
-#[tactic(auto, unfolding(ucd_model::specs::DerivedText::span_text))]
+#[tactic(auto, unfolding(ucd_points::specs::HexText::span_text))]
 fn put_entry(text: &mut Text, span: Span) -> Result<(), Memory>
     ensures { OnOk result (text.new ≡ text.old ++ span_entry span) }
 {

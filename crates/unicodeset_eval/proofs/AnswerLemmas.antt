@@ -7,7 +7,7 @@ use Rattle.property_aliases.specs.Found.{AreAliasesOf}
 use Rattle.property_aliases.specs.Sources.{Sources}
 use Rattle.property_aliases.specs.declared.aliases.Aliases.{Aliases}
 use Rattle.property_aliases.specs.declared.property.Test.{Test}
-use Rattle.ucd_model.specs.Bounds.{Bounds}
+use Rattle.ucd_points.specs.Bounds.{Bounds}
 use Rattle.unicodeset_eval.specs.Answers.{Stops, names_in, names_are}
 use Rattle.unicodeset_eval.specs.Edges.{Edges, has}
 use Rattle.unicodeset_eval.specs.Members.{member_spans}

@@ -11,16 +11,16 @@ use Rattle.ucd_model.specs.EnumerationProofs.{enumerates_categories}
 use Rattle.ucd_model.specs.Enumerations.{categories}
 use Rattle.ucd_model.specs.Facts.{Sources, facts, data_row, data_in, is_data_of, category_in}
 use Rattle.ucd_model.specs.FactsLemmas.{facts_inside}
-use Rattle.ucd_model.specs.Limits.{point_count}
+use Rattle.ucd_points.specs.Limits.{point_count}
 use Rattle.ucd_model.specs.Predicates.{category_place}
 use Rattle.ucd_model.specs.RowValues.{RowOk, DataOk}
 use Rattle.ucd_model.specs.declared.category.Category.{Category}
 use Rattle.ucd_model.specs.declared.category.Category.TheVariants.{Cn}
-use Rattle.ucd_model.specs.declared.files.SourceFile.TheVariants.{UnicodeData}
+use Rattle.ucd_points.specs.declared.files.SourceFile.TheVariants.{UnicodeData}
 use Rattle.ucd_model.specs.declared.row.DataRow.{DataRow}
 use Rattle.ucd_model.specs.declared.row.Row.{Row}
 use Rattle.ucd_model.specs.declared.row.Row.TheVariants.{Unit as DataLine, Value as ValueLine, Exclusion as ExclusionLine, Fold as FoldLine, Casing as CasingLine, Alias as AliasLine}
-use Rattle.ucd_model.specs.Lines.{is_trivia}
+use Rattle.ucd_points.specs.Lines.{is_trivia}
 use Rattle.source_rows.specs.Faults.{row_or_fault}
 use Rattle.source_rows.specs.Laws.{RowsAreOk, RowsAreRead}
 use Rattle.source_rows.specs.declared.fault.RowFault.{RowFault}

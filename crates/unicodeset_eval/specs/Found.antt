@@ -12,7 +12,7 @@ use Rattle.ucd_model.specs.Predicates.{category_place}
 use Rattle.ucd_model.specs.Records.{Record}
 use Rattle.ucd_model.specs.Values.{script_at, word_break_at}
 use Rattle.ucd_model.specs.declared.category.Category.TheVariants.{Cn}
-use Rattle.ucd_model.specs.declared.files.SourceFile.TheVariants.{PropList, Scripts, WordBreakProperty}
+use Rattle.ucd_points.specs.declared.files.SourceFile.TheVariants.{PropList, Scripts, WordBreakProperty}
 use Rattle.property_aliases.specs.declared.property.Test.{Test}
 use Rattle.property_aliases.specs.declared.property.Test.TheVariants as test
 use Rattle.unicodeset_eval.specs.Edges.{Edges, has}

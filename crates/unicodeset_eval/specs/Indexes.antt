@@ -2,7 +2,7 @@
 --
 -- index_holds record_of index test c   what the index says of c by the records and sets that it keeps; never past 10FFFF
 use Rattle.std.specs.Prelude.{ℕ, Bool, ◌&&◌, nat_lt}
-use Rattle.ucd_model.specs.Limits.{point_count}
+use Rattle.ucd_points.specs.Limits.{point_count}
 use Rattle.ucd_model.specs.Records.{Record}
 use Rattle.ucd_model.specs.declared.records.Records.{Ghosts}
 use Rattle.property_aliases.specs.declared.property.Test.{Test}

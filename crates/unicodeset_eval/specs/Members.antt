@@ -8,7 +8,7 @@
 -- member_label p c     the empty text for a member, None for another number
 -- member_spans n p     the members below n as spans: maximal, so that no two of them touch, and ascending (Labels)
 use Rattle.std.specs.Prelude.{ℕ, ◌+◌, Bool, false, not, ◌&&◌, cond, nat_le, nat_lt, List, [], ◌∷◌, map, Some, None}
-use Rattle.ucd_model.specs.Bounds.{Bounds}
+use Rattle.ucd_points.specs.Bounds.{Bounds}
 use Rattle.ucd_model.specs.Labels.{Label, label_spans}
 use Rattle.unicodeset_eval.specs.Edges.{holds}
 use Rattle.unicodeset_parser.specs.declared.expr.Join.{Join}

@@ -10,10 +10,10 @@ use Rattle.std.proofs.Common.{◌≡◌, ℕ, ◌+◌, ◌<◌, ◌≤◌, Bool,
 use Rattle.std.specs.Prelude.{nat_lt}
 use Rattle.std.proofs.Math.Bridge.{le_prop}
 use Rattle.std.proofs.lemmas.Bool.{cases_lt, lt-ltb, le-ltb}
-use Rattle.ucd_model.specs.Bounds.{Bounds}
+use Rattle.ucd_points.specs.Bounds.{Bounds}
 use Rattle.ucd_model.specs.Cuts.{IsCut}
 use Rattle.ucd_model.specs.CutLemmas.{cut_within, point_count-is}
-use Rattle.ucd_model.specs.Limits.{point_count}
+use Rattle.ucd_points.specs.Limits.{point_count}
 use Rattle.ucd_model.specs.Records.{Record}
 use Rattle.unicodeset_eval.specs.Edges.{inside, Rises}
 use Rattle.unicodeset_eval.specs.EdgeLaws.{edge_law, emit_rises, inside_early, Rises-from}

@@ -16,7 +16,7 @@ use Rattle.property_aliases.specs.Sources.{Sources}
 use Rattle.property_aliases.specs.Values.{value_of, lone_of}
 use Rattle.property_aliases.specs.declared.property.Property.{Property}
 use Rattle.property_aliases.specs.declared.property.Test.{Test}
-use Rattle.ucd_model.specs.Bounds.{Bounds}
+use Rattle.ucd_points.specs.Bounds.{Bounds}
 use Rattle.unicodeset_eval.specs.Members.{between, joined, member_spans, nothing, outside}
 use Rattle.unicodeset_eval.specs.declared.stop.NameRule.{NameRule}
 use Rattle.unicodeset_eval.specs.declared.stop.NameRule.TheVariants.{S8, S9}

@@ -12,9 +12,9 @@
 -- piece_turns_are          pieces of a cut turn where the spans do
 -- at_first_is              the first piece of a cut begins at 0
 use Rattle.std.proofs.Common.{◌≡◌, ℕ, ◌<◌, Bool, false, List, [], ◌∷◌, map, refl, ap, ◌∙◌, arith}
-use Rattle.ucd_model.specs.Bounds.{Bounds}
+use Rattle.ucd_points.specs.Bounds.{Bounds}
 use Rattle.ucd_model.specs.Cuts.{IsCut}
-use Rattle.ucd_model.specs.Limits.{point_count}
+use Rattle.ucd_points.specs.Limits.{point_count}
 use Rattle.ucd_model.specs.Records.{Record}
 use Rattle.ucd_model.specs.Sets.{has_core}
 use Rattle.ucd_model.specs.declared.form.Form.{Form}

@@ -4,7 +4,7 @@
 use Rattle.std.specs.Prelude.{ℕ, Bool, ◌&&◌, nat_lt}
 use Rattle.property_aliases.specs.declared.property.Test.{Test}
 use Rattle.ucd_model.specs.Facts.{Sources}
-use Rattle.ucd_model.specs.Limits.{point_count}
+use Rattle.ucd_points.specs.Limits.{point_count}
 use Rattle.ucd_model.specs.Records.{Record}
 use Rattle.unicodeset_eval.specs.Tests.{test_holds}
 

@@ -13,7 +13,7 @@ use Rattle.ucd_model.specs.Sets.{core_place}
 use Rattle.ucd_model.specs.declared.category.Category.{Category}
 use Rattle.ucd_model.specs.declared.category.Category.TheVariants.{Lu, Lt, Lm, Mn, Mc, Nl, Pi, Sk, Zl, Cn}
 use Rattle.ucd_model.specs.declared.decomposition.Kind.TheVariants.{Plain, Canonical}
-use Rattle.ucd_model.specs.declared.files.SourceFile.TheVariants.{UnicodeData, PropList, Scripts, WordBreakProperty}
+use Rattle.ucd_points.specs.declared.files.SourceFile.TheVariants.{UnicodeData, PropList, Scripts, WordBreakProperty}
 use Rattle.ucd_model.specs.declared.form.Form.TheVariants.{Nfd, Nfc}
 use Rattle.ucd_model.specs.declared.form.Quick.TheVariants.{Yes, No, Maybe}
 use Rattle.ucd_model.specs.declared.image.Image.TheVariants.{Same}

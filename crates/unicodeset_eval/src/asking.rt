@@ -4,7 +4,7 @@ ghost use Rattle.std.specs.Prelude.{◌≡◌, ℕ, Bool, ◌&&◌, ◌<◌, nat
 ghost use Rattle.property_aliases.specs.declared.property.Test.{Test as TestValue};
 ghost use Rattle.ucd_model.specs.Cuts.{IsCut};
 ghost use Rattle.ucd_model.specs.Facts.{facts};
-ghost use Rattle.ucd_model.specs.Limits.{point_count};
+ghost use Rattle.ucd_points.specs.Limits.{point_count};
 ghost use Rattle.unicodeset_eval.specs.Edges.{has, holds};
 ghost use Rattle.unicodeset_eval.specs.Found.{has_at};
 ghost use Rattle.unicodeset_eval.specs.Indexes.{index_holds};

@@ -3,7 +3,7 @@
 ghost use Rattle.std.specs.Prelude.{◌≡◌, ℕ, List, Option, Err};
 ghost use Rattle.property_aliases.specs.Found.{AreAliasesOf, lone_in, property_in, value_in};
 ghost use Rattle.property_aliases.specs.Sources.{Sources};
-ghost use Rattle.ucd_model.specs.Limits.{point_count};
+ghost use Rattle.ucd_points.specs.Limits.{point_count};
 ghost use Rattle.unicodeset_eval.specs.Answers.{Gives, names_in};
 ghost use Rattle.unicodeset_eval.specs.Changes.{gathered};
 ghost use Rattle.unicodeset_eval.specs.Edges.{has};

@@ -1,7 +1,7 @@
 //! Sets of code points.
 
 ghost use Rattle.std.specs.Prelude.{◌≡◌, ◌≤◌, ℕ, nat_lt, IfOk};
-ghost use Rattle.ucd_model.specs.Limits.{point_count};
+ghost use Rattle.ucd_points.specs.Limits.{point_count};
 ghost use Rattle.unicodeset_eval.specs.Edges.{Rises, has};
 ghost use Rattle.unicodeset_eval.specs.Members.{between, joined, member_spans, nothing, outside};
 

@@ -9,7 +9,7 @@ ghost use Rattle.property_aliases.specs.Sources.{in_order, value_names};
 ghost use Rattle.release_rows.specs.Keys.{has_spans};
 ghost use Rattle.release_rows.specs.Releases.{items_now};
 ghost use Rattle.ucd_model.specs.Values.{value_at};
-ghost use Rattle.ucd_model.specs.declared.files.SourceFile.TheVariants.{PropList};
+ghost use Rattle.ucd_points.specs.declared.files.SourceFile.TheVariants.{PropList};
 ghost use Rattle.unicodeset_eval.specs.Edges.{has};
 ghost use Rattle.unicodeset_eval.specs.Found.{AreRowSets, has_at};
 ghost use Rattle.unicodeset_eval.specs.Given.{given, given_or_default};

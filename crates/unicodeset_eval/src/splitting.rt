@@ -1,7 +1,7 @@
 //! The spans of a set.
 
 ghost use Rattle.std.specs.Prelude.{◌≡◌, ◌≤◌, ◌++◌, IfOk, OnOk, OnErr};
-ghost use Rattle.ucd_model.specs.Limits.{point_count};
+ghost use Rattle.ucd_points.specs.Limits.{point_count};
 ghost use Rattle.unicodeset_eval.specs.Pieces.{piece, pieces};
 
 use std::alloc::Global;

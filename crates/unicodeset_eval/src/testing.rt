@@ -1,7 +1,7 @@
 //! Tests of what is derived of each code point, and their sets.
 
 ghost use Rattle.std.specs.Prelude.{◌≡◌, ℕ, ◌&&◌, map, nat_lt, IfOk};
-ghost use Rattle.ucd_model.specs.Limits.{point_count};
+ghost use Rattle.ucd_points.specs.Limits.{point_count};
 ghost use Rattle.ucd_model.specs.Predicates.{is_one_of};
 ghost use Rattle.unicodeset_eval.specs.Edges.{has};
 ghost use Rattle.unicodeset_eval.specs.Found.{tells};

@@ -5,10 +5,10 @@ use Rattle.std.proofs.lemmas.Str.{is_utf8-from_IsUtf8}
 use Rattle.std.specs.Prelude.{◌==◌, ◌||◌, nat_le, nat_lt, not}
 use Rattle.std.specs.List.{All, position_or_len}
 use Rattle.std.specs.Str.{IsUtf8}
-use Rattle.ucd_model.specs.DerivedText.{hex_text}
-use Rattle.ucd_model.specs.Fields.{hex_number, if_point}
-use Rattle.ucd_model.specs.HexTextLaws.{IsUpperHex}
-use Rattle.ucd_model.specs.HexTextProofs.{hex_text_has_four_to_six_digits, hex_text_is_upper_case, hex_text_spells_its_number}
+use Rattle.ucd_points.specs.HexText.{hex_text}
+use Rattle.ucd_points.specs.Fields.{hex_number, if_point}
+use Rattle.ucd_points.specs.HexTextLaws.{IsUpperHex}
+use Rattle.ucd_points.specs.HexTextProofs.{hex_text_has_four_to_six_digits, hex_text_is_upper_case, hex_text_spells_its_number}
 use Rattle.unicodeset_parser.specs.Blanks.{is_white, closes}
 use Rattle.unicodeset_parser.specs.Bytes.{begins_with, found_at}
 use Rattle.unicodeset_parser.specs.Escapes.{spelled as spelled_letter, braced_digits, bad_escape, brace_at}

@@ -10,8 +10,8 @@ use Rattle.std.specs.Option.{is_some}
 use Rattle.std.specs.Str.{is_utf8}
 use Rattle.bstr.specs.Utf8.{decoded}
 use Rattle.bstr.proofs.lemmas.SoundLemmas.{SpellsChar-decoded}
-use Rattle.ucd_model.specs.Bounds.{Bounds}
-use Rattle.ucd_model.specs.Fields.{hex_number, if_point}
+use Rattle.ucd_points.specs.Bounds.{Bounds}
+use Rattle.ucd_points.specs.Fields.{hex_number, if_point}
 use Rattle.unicodeset_parser.specs.Blanks.{blank_size, closes}
 use Rattle.unicodeset_parser.specs.Bytes.{begins_with, found_at}
 use Rattle.unicodeset_parser.specs.Escapes.{bad_escape, spelled as spelled_letter, fixed_digits, braced_digits, any_digits, control_of, control_or, is_letter_or_digit, plain_escape, brace_at}

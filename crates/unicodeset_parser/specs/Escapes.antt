@@ -10,7 +10,7 @@
 --                          digits, else that code point
 use Rattle.std.specs.Prelude.{ℕ, ◌+◌, Bool, ◌&&◌, ◌||◌, ◌==◌, nat_le, List, length, take, drop, Option, Some, None, if◌then◌else◌}
 use Rattle.std.specs.List.{position_or_len}
-use Rattle.ucd_model.specs.Fields.{hex_number, if_point}
+use Rattle.ucd_points.specs.Fields.{hex_number, if_point}
 use Rattle.unicodeset_parser.specs.Bytes.{begins_with}
 use Rattle.unicodeset_parser.specs.Tokens.{Lexed, sized, letter, wrong}
 use Rattle.unicodeset_parser.specs.declared.token.Wrong.TheVariants.{BadEscape}

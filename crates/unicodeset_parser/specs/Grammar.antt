@@ -13,7 +13,7 @@
 --   spelled                     a character or a range, in union
 -- IsText ps t                 the tokens are one set, with at most 64 bracket sets open at once
 use Rattle.std.specs.Prelude.{ℕ, suc, ◌≤◌, Bool, List, [], ◌∷◌}
-use Rattle.ucd_model.specs.Bounds.{Bounds}
+use Rattle.ucd_points.specs.Bounds.{Bounds}
 use Rattle.unicodeset_parser.specs.Trees.{Tree, chars, Step, bracket_of}
 use Rattle.unicodeset_parser.specs.Tokens.{open_set, close, dash, meet, letter, property, Token, placed}
 use Rattle.unicodeset_parser.specs.declared.expr.Join.{Join}

@@ -11,7 +11,7 @@
 -- steps_of ps           a list of steps as Steps
 -- bracket_of negated ps   the bracket set of a list of steps, or its complement
 use Rattle.std.specs.Prelude.{ℕ, Bool, true, false, List, [], ◌∷◌}
-use Rattle.ucd_model.specs.Bounds.{Bounds}
+use Rattle.ucd_points.specs.Bounds.{Bounds}
 use Rattle.unicodeset_parser.specs.declared.expr.Join.{Join}
 
 mutual

@@ -3,12 +3,12 @@
 ghost use Rattle.std.specs.Prelude.{◌≡◌, ◌<◌, ◌≤◌, IfSome};
 ghost use Rattle.unicodeset_parser.specs.Escapes.{bad_escape, spelled, fixed_digits, braced_digits, any_digits, control_of, is_letter_or_digit, plain_escape};
 ghost use Rattle.unicodeset_parser.specs.TokenViews.{lexeme_view};
-ghost use Rattle.ucd_model.specs.Fields.{if_point};
+ghost use Rattle.ucd_points.specs.Fields.{if_point};
 
 use crate::bytes::{begins_with, behind};
 use crate::token::{Lexeme, Token, Wrong};
 use ucd_lines::{first_at, hex_number};
-use ucd_model::Point;
+use ucd_points::Point;
 
 /// An escape that gives no code point.
 pub(crate) fn bad_escape() -> Lexeme

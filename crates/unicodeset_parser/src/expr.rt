@@ -4,7 +4,7 @@ ghost use Rattle.std.specs.Prelude.{◌≡◌, [], ◌∷◌, ◌++◌, map, OnO
 ghost use Rattle.unicodeset_parser.specs.Views.{part_view, parts_view};
 
 use std::alloc::Global;
-use ucd_model::{Memory, Span, Text};
+use ucd_points::{Memory, Span, Text};
 
 /// How a set is joined to what stands before it in its bracket set.
 #[derive(Clone, Copy, Debug, PartialEq, Eq)]

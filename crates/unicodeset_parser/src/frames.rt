@@ -14,7 +14,7 @@ use crate::property::negated_by;
 use crate::state::{Frame, Mode, Nest, State};
 use crate::stop::{SetRule, SetStop};
 use std::alloc::Global;
-use ucd_model::{Memory, Point, Span};
+use ucd_points::{Memory, Point, Span};
 
 /// How many bracket sets may stand around an open one. UTS #35 has no limit; this one is the project's.
 const AROUND: usize = 63;

@@ -11,7 +11,7 @@ use crate::escape::{any_digits, fixed_digits, plain_escape, spelled};
 use crate::property::{braces, property_at};
 use crate::token::{Lexeme, Token, Wrong};
 use std::alloc::Global;
-use ucd_model::Memory;
+use ucd_points::Memory;
 
 /// A token of one byte.
 fn one_byte(token: Token) -> Lexeme

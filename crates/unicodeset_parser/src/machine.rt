@@ -15,7 +15,7 @@ use crate::state::{Mode, Nest, State};
 use crate::stop::{SetRule, SetStop};
 use crate::token::Token;
 use std::alloc::Global;
-use ucd_model::{Point, Span};
+use ucd_points::{Point, Span};
 
 /// The first token of the text.
 fn begun(alloc: Global, end: usize, at: usize, token: Token) -> Result<State, SetStop>

@@ -13,7 +13,7 @@ use crate::expr::Expr;
 use crate::token::{Lexeme, Token, Wrong};
 use std::alloc::Global;
 use ucd_lines::{cut, first_at};
-use ucd_model::{Memory, Text};
+use ucd_points::{Memory, Text};
 
 /// The bytes of 2260, the not-equal sign.
 const NOT_EQUAL: &[u8] = b"\xe2\x89\xa0";

@@ -1,7 +1,7 @@
 //! How far a text is read.
 
 use crate::expr::{Expr, Join, Parts};
-use ucd_model::Point;
+use ucd_points::Point;
 
 /// A bracket set that is open.
 #[derive(Debug, Drop)]

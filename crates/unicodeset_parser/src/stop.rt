@@ -4,7 +4,7 @@ ghost use Rattle.std.specs.Prelude.{◌≡◌};
 
 use std::alloc::{AllocError, AllocFailed};
 use thiserror::Error;
-use ucd_model::Memory;
+use ucd_points::Memory;
 
 /// The rule that a text breaks. UTS #35, "Unicode Sets".
 #[derive(Clone, Copy, Debug, PartialEq, Eq, Drop, Error)]

@@ -1,7 +1,7 @@
 //! The tokens of a text.
 
 use crate::expr::Expr;
-use ucd_model::Point;
+use ucd_points::Point;
 
 /// What stands in no text. By the place where it stands it breaks one rule or another.
 #[derive(Clone, Copy, Debug)]

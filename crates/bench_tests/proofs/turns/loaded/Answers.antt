@@ -1,6 +1,6 @@
 use Rattle.std.proofs.Common.{ap, ◌∙◌}
 use Rattle.release_rows.specs.Releases.{items_now}
-use Rattle.ucd_model.specs.declared.files.SourceFile.TheVariants.{PropList, CompositionExclusions, CaseFolding}
+use Rattle.ucd_points.specs.declared.files.SourceFile.TheVariants.{PropList, CompositionExclusions, CaseFolding}
 use Rattle.bench_tests.proofs.turns.loaded.Goals as goal
 
 -- a file that was not loaded yet is empty

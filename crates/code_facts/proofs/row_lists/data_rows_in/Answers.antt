@@ -2,7 +2,7 @@ use Rattle.std.proofs.Common.{sym, subst}
 use Rattle.release_rows.specs.FileItems.{rows_in}
 use Rattle.release_rows.specs.Releases.{items_next}
 use Rattle.release_rows.specs.Touching.{meets}
-use Rattle.ucd_model.specs.declared.files.SourceFile.TheVariants.{UnicodeData}
+use Rattle.ucd_points.specs.declared.files.SourceFile.TheVariants.{UnicodeData}
 use Rattle.code_facts.specs.Rows.{Apart}
 use Rattle.code_facts.proofs.MarkLemmas.{if_ok_map}
 use Rattle.code_facts.proofs.RowLemmas.{apart_within, kept_apart}

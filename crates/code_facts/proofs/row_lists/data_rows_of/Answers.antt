@@ -1,6 +1,6 @@
 use Rattle.std.proofs.Common.{sym, subst}
 use Rattle.release_rows.specs.Releases.{items_now}
-use Rattle.ucd_model.specs.declared.files.SourceFile.TheVariants.{UnicodeData}
+use Rattle.ucd_points.specs.declared.files.SourceFile.TheVariants.{UnicodeData}
 use Rattle.code_facts.specs.Rows.{Apart}
 use Rattle.code_facts.proofs.MarkLemmas.{if_ok_map}
 use Rattle.code_facts.proofs.RowLemmas.{kept_apart}

@@ -1,5 +1,5 @@
 use Rattle.std.proofs.Common.{◌++◌, ◌∙◌, ℕ, List, get_or, sym, ap}
-use Rattle.ucd_model.specs.Limits.{point_count}
+use Rattle.ucd_points.specs.Limits.{point_count}
 use Rattle.ucd_model.specs.DerivedFiles.{Section, section_of}
 use Rattle.derived_writer.specs.Listings.{listing_section}
 use Rattle.derived_writer.specs.declared.listing.Listing.{Listing}

@@ -1,5 +1,5 @@
 use Rattle.std.proofs.Common.{◌≡◌, ◌≤◌, ◌++◌, drop}
-use Rattle.ucd_model.specs.Limits.{point_count}
+use Rattle.ucd_points.specs.Limits.{point_count}
 use Rattle.ucd_model.specs.LabelLemmas.{labelled_before}
 use Rattle.ucd_model.specs.Cuts.{IsCut}
 use Rattle.derived_writer.specs.Listings.{listing_labels}

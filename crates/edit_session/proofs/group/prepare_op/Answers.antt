@@ -1,5 +1,5 @@
 use Rattle.std.proofs.Common.{◌∙◌, ◌++◌, List, ap}
-use Rattle.ucd_model.specs.Bounds.{Bounds}
+use Rattle.ucd_points.specs.Bounds.{Bounds}
 use Rattle.edit_session.proofs.TouchedLemmas.{touched_by}
 use Rattle.edit_session.proofs.group.prepare_op.Goals as goal
 

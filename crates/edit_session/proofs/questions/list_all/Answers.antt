@@ -4,7 +4,7 @@ use Rattle.dependency_map.specs.Maps.{asked_at, put_at}
 use Rattle.kept_values.specs.Kept.{values}
 use Rattle.paged_table.specs.Paged.{values_now, values_next}
 use Rattle.ucd_model.specs.Facts.{Facts}
-use Rattle.ucd_model.specs.Limits.{point_count}
+use Rattle.ucd_points.specs.Limits.{point_count}
 use Rattle.ucd_model.specs.declared.query.Query.{Query}
 use Rattle.edit_session.proofs.DerivationLemmas.{kept_same}
 use Rattle.edit_session.proofs.FirstQuestions.{asks_all, asks_none}

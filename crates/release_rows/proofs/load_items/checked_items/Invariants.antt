@@ -1,5 +1,5 @@
 use Rattle.std.proofs.Common.{◌≡◌, ◌+◌, ◌≤◌, ◌++◌, length}
-use Rattle.ucd_model.specs.Lines.{joined}
+use Rattle.ucd_points.specs.Lines.{joined}
 use Rattle.release_rows.specs.Pieces.{pieces}
 use Rattle.release_rows.specs.FileItems.{bytes_of, lines_of}
 use Rattle.release_rows.specs.Loaders.{IsSound, items_above}

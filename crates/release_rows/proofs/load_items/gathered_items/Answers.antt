@@ -1,7 +1,7 @@
 use Rattle.std.proofs.Common.{sym, ap, ◌∙◌}
 use Rattle.std.proofs.lemmas.Option.{IfSome_then}
 use Rattle.std.proofs.lemmas.Result.{IfOk-weaker}
-use Rattle.ucd_model.specs.Lines.{joined}
+use Rattle.ucd_points.specs.Lines.{joined}
 use Rattle.release_rows.proofs.Gathered.{are_loaded}
 use Rattle.release_rows.proofs.load_items.gathered_items.Goals as goal
 

@@ -1,5 +1,5 @@
 use Rattle.std.proofs.Common.{◌≡◌, ◌+◌, ◌≤◌, ◌++◌, length, map}
-use Rattle.ucd_model.specs.Lines.{items_of, joined}
+use Rattle.ucd_points.specs.Lines.{items_of, joined}
 use Rattle.release_rows.specs.Pieces.{pieces}
 use Rattle.release_rows.specs.FileItems.{bytes_of, lines_of}
 use Rattle.release_rows.specs.Gathered.{IsGathering, gathered_above}

@@ -1,5 +1,5 @@
 use Rattle.std.proofs.Common.{refl, sym, ap, ◌∙◌}
-use Rattle.ucd_model.specs.SourceFiles.{file_place}
+use Rattle.ucd_points.specs.SourceFiles.{file_place}
 use Rattle.release_rows.specs.Operations.{op_file, touched}
 use Rattle.release_rows.proofs.FilesEdited.{all_kept, answered, file_here, files_same, kept_here, now_same}
 use Rattle.release_rows.proofs.nine_files.prepare_in.Goals as goal

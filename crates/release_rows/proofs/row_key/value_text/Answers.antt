@@ -1,5 +1,5 @@
 use Rattle.std.proofs.Common.{ℕ, List, sym, ap, ◌∙◌}
-use Rattle.ucd_model.specs.declared.files.SourceFile.{SourceFile}
+use Rattle.ucd_points.specs.declared.files.SourceFile.{SourceFile}
 use Rattle.source_rows.specs.Keys.{value_names}
 use Rattle.release_rows.specs.Places.{names_of}
 use Rattle.release_rows.proofs.KeyTexts.{if_ok_map, one_name}

@@ -1,5 +1,5 @@
 use Rattle.std.proofs.Common.{ap, ◌∙◌}
-use Rattle.ucd_model.specs.declared.files.SourceFile.TheVariants.{PropList, CaseFolding, SpecialCasing, WordBreakProperty, CompositionExclusions}
+use Rattle.ucd_points.specs.declared.files.SourceFile.TheVariants.{PropList, CaseFolding, SpecialCasing, WordBreakProperty, CompositionExclusions}
 use Rattle.release_rows.specs.Releases.{ReleaseItems, items_now}
 use Rattle.run_tests.proofs.facts.three_files.Goals as goal
 

@@ -1,6 +1,6 @@
 use Rattle.std.proofs.Common.{◌&&◌, Bool, sym, ap₂, ◌∙◌, arith}
 use Rattle.std.proofs.lemmas.List.Folds.{list_all_more}
-use Rattle.ucd_model.specs.Fields.{is_name_byte}
+use Rattle.ucd_points.specs.Fields.{is_name_byte}
 use Rattle.source_rows.proofs.code_point.are_name_bytes.Goals as goal
 
 pub bytes-preserved : goal.bytes-preserved

@@ -1,6 +1,6 @@
 use Rattle.std.proofs.Common.{◌≡◌, take}
 use Rattle.std.specs.List.{list_all}
-use Rattle.ucd_model.specs.Fields.{is_name_byte}
+use Rattle.ucd_points.specs.Fields.{is_name_byte}
 use Rattle.source_rows.proofs.code_point.are_name_bytes.Given as goal
 
 -- the bytes before this one may

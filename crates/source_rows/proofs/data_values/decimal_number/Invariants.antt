@@ -1,5 +1,5 @@
 use Rattle.std.proofs.Common.{◌≡◌, ◌^◌, ◌<◌, take}
-use Rattle.ucd_model.specs.Fields.{decimal_number}
+use Rattle.ucd_points.specs.Fields.{decimal_number}
 use Rattle.source_rows.proofs.data_values.decimal_number.Given as goal
 
 -- the number that the digits so far write

@@ -1,6 +1,6 @@
 use Rattle.std.proofs.Common.{◌≡◌, ◌+◌, drop}
 use Rattle.std.specs.List.{position_or_len}
-use Rattle.ucd_model.specs.Fields.{is_semicolon}
+use Rattle.ucd_points.specs.Fields.{is_semicolon}
 use Rattle.source_rows.proofs.fields.near_cut.Given as goal
 
 -- what is left gives what the whole gives

@@ -1,7 +1,7 @@
 use Rattle.std.proofs.Common.{◌≡◌, ℕ, suc, ◌+◌, Bool, true, false, not, cond, ltb, ◌||◌, List, [], ◌∷◌, length, refl, ap, ◌∙◌, arith}
 use Rattle.std.specs.List.{list_any, position_or_len}
 use Rattle.std.proofs.lemmas.Bool.Decides.{nat_tests}
-use Rattle.ucd_model.specs.Lines.{is_lf}
+use Rattle.ucd_points.specs.Lines.{is_lf}
 use Rattle.source_rows.proofs.lines.holds_line_feed.Goals as goal
 
 found_step : (b : Bool) (n m : ℕ) (rest : Bool) → ltb n m ≡ rest → ltb (cond (not b) (1 + n) 0) (suc m) ≡ (b || rest)

@@ -1,6 +1,6 @@
 use Rattle.std.proofs.Common.{◌≡◌, ◌+◌, drop}
 use Rattle.std.specs.List.{position_or_len}
-use Rattle.ucd_model.specs.Lines.{is_blank}
+use Rattle.ucd_points.specs.Lines.{is_blank}
 use Rattle.source_rows.proofs.mapping.first_blank.Given as goal
 
 -- what is left gives what the whole gives

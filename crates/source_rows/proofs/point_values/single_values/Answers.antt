@@ -1,6 +1,6 @@
 use Rattle.std.proofs.Common.{◌≡◌, ℕ, true, false, List, Some, sym, ap, ◌∙◌}
-use Rattle.ucd_model.specs.Fields.{fields, field, point_of, is_name}
-use Rattle.ucd_model.specs.declared.files.SourceFile.TheVariants.{UnicodeData}
+use Rattle.ucd_points.specs.Fields.{fields, field, point_of, is_name}
+use Rattle.ucd_points.specs.declared.files.SourceFile.TheVariants.{UnicodeData}
 use Rattle.source_rows.specs.PointValues.{used_fields_in}
 use Rattle.source_rows.specs.DataFaults.{single_end}
 use Rattle.source_rows.proofs.DataSteps.{single_is}

@@ -3,8 +3,8 @@ use Rattle.std.specs.Prelude.{codes}
 use Rattle.std.specs.List.{prefix_len, suffix_len, position_or_len, before_first, after_first}
 use Rattle.std.specs.Str.{bytes_eq}
 use Rattle.std.proofs.lemmas.Bool.{or_parts}
-use Rattle.ucd_model.specs.Lines.{is_blank}
-use Rattle.ucd_model.specs.Fields.{fields, field, trim, trim_start, is_label_closed_by, is_semicolon}
+use Rattle.ucd_points.specs.Lines.{is_blank}
+use Rattle.ucd_points.specs.Fields.{fields, field, trim, trim_start, is_label_closed_by, is_semicolon}
 use Rattle.source_rows.specs.Fields.{fields_of}
 use Rattle.source_rows.specs.Lines.{has_first_name}
 use Rattle.source_rows.specs.Openings.{may_open_name}

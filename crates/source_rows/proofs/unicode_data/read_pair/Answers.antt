@@ -1,7 +1,7 @@
 use Rattle.std.proofs.Common.{◌≡◌, ℕ, List, true, sym, ap, subst, ◌∙◌}
-use Rattle.ucd_model.specs.Lines.{without_return}
-use Rattle.ucd_model.specs.Fields.{fields}
-use Rattle.ucd_model.specs.declared.files.SourceFile.TheVariants.{UnicodeData}
+use Rattle.ucd_points.specs.Lines.{without_return}
+use Rattle.ucd_points.specs.Fields.{fields}
+use Rattle.ucd_points.specs.declared.files.SourceFile.TheVariants.{UnicodeData}
 use Rattle.source_rows.specs.Fields.{fields_in, fields_of}
 use Rattle.source_rows.specs.Lines.{are_first_fields}
 use Rattle.source_rows.specs.DataFaults.{DataTextAs, pair_or_fault}

@@ -1,6 +1,6 @@
 use Rattle.std.proofs.Common.{◌≡◌, ℕ, List, refl, sym, subst, ◌∙◌}
-use Rattle.ucd_model.specs.Fields.{fields}
-use Rattle.ucd_model.specs.declared.files.SourceFile.TheVariants.{UnicodeData}
+use Rattle.ucd_points.specs.Fields.{fields}
+use Rattle.ucd_points.specs.declared.files.SourceFile.TheVariants.{UnicodeData}
 use Rattle.source_rows.specs.Fields.{fields_in}
 use Rattle.source_rows.specs.DataFaults.{DataTextAs, single_or_fault}
 use Rattle.source_rows.proofs.DataSteps.{single_is}

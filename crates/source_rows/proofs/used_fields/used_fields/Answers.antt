@@ -1,6 +1,6 @@
 use Rattle.std.proofs.Common.{◌≡◌, ℕ, ◌+◌, List, sym, ap, ◌∙◌, arith}
 use Rattle.std.specs.List.{count_by}
-use Rattle.ucd_model.specs.Fields.{field, is_semicolon}
+use Rattle.ucd_points.specs.Fields.{field, is_semicolon}
 use Rattle.source_rows.specs.Fields.{fields_of}
 use Rattle.source_rows.proofs.FieldCuts.{count_is, others_are, fewer_are}
 use Rattle.source_rows.proofs.used_fields.used_fields.Goals as goal

@@ -1,5 +1,5 @@
 use Rattle.std.proofs.Common.{◌≡◌, ◌++◌, ℕ, length, map}
-use Rattle.ucd_model.specs.declared.files.SourceFile.TheVariants.{UnicodeData}
+use Rattle.ucd_points.specs.declared.files.SourceFile.TheVariants.{UnicodeData}
 use Rattle.ucd_model.specs.declared.row.Row.{Row}
 use Rattle.stability_policies.specs.Views.{rows_of}
 use Rattle.stability_policies.proofs.named_row.all_rows.Given as goal

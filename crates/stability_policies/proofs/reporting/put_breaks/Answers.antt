@@ -1,6 +1,6 @@
 use Rattle.std.proofs.Common.{◌≡◌, ◌++◌, OnOk, List, ap, subst, sym, ◌∙◌}
 use Rattle.ucd_model.specs.Facts.{facts}
-use Rattle.ucd_model.specs.Limits.{point_count}
+use Rattle.ucd_points.specs.Limits.{point_count}
 use Rattle.stability_policies.specs.BrokenStretches.{breaking, points_of}
 use Rattle.stability_policies.specs.Views.{rows_of}
 use Rattle.stability_policies.specs.declared.breaks.Break.{Break}

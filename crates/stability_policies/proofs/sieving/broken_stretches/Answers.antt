@@ -1,5 +1,5 @@
 use Rattle.std.proofs.Common.{ap, ◌∙◌}
-use Rattle.ucd_model.specs.Limits.{point_count}
+use Rattle.ucd_points.specs.Limits.{point_count}
 use Rattle.stability_policies.specs.BrokenStretches.{points_of}
 use Rattle.stability_policies.specs.declared.policy.Policy.TheVariants.{P10}
 use Rattle.stability_policies.proofs.QuietFoldings.{quiet_foldings}

@@ -1,5 +1,5 @@
 use Rattle.std.proofs.Common.{◌≡◌, ◌++◌, map}
-use Rattle.ucd_model.specs.Lines.{contents}
+use Rattle.ucd_points.specs.Lines.{contents}
 use Rattle.text_tests.proofs.lines.all_contents.Given as goal
 
 -- the contents that were read, behind them those of the lines that are left, are all

@@ -1,6 +1,6 @@
 use Rattle.std.proofs.Common.{◌≡◌, ℕ, Option, Some, None, get_or, take, arith, refl, sym, ap, ◌∙◌}
 use Rattle.std.proofs.lemmas.List.Folds.{fold_stuck}
-use Rattle.ucd_model.specs.Fields.{digit_of, with_digit, hex_number}
+use Rattle.ucd_points.specs.Fields.{digit_of, with_digit, hex_number}
 use Rattle.ucd_lines.proofs.Digits.{seven_digits, no_digit}
 use Rattle.ucd_lines.proofs.code_point.hex_number.Goals as goal
 

@@ -1,5 +1,5 @@
 use Rattle.std.proofs.Common.{◌≡◌, ◌^◌, ◌<◌, take, Some}
-use Rattle.ucd_model.specs.Fields.{hex_number}
+use Rattle.ucd_points.specs.Fields.{hex_number}
 use Rattle.ucd_lines.proofs.code_point.hex_number.Given as goal
 
 -- the number that the digits so far write

@@ -1,6 +1,6 @@
 use Rattle.std.proofs.Common.{◌≡◌, ◌∙◌, sym, ap, length, arith}
 use Rattle.std.specs.List.{before_first}
-use Rattle.ucd_model.specs.Lines.{is_lf}
+use Rattle.ucd_points.specs.Lines.{is_lf}
 use Rattle.ucd_lines.proofs.ItemCuts.{first_item_last, first_item_more}
 use Rattle.ucd_lines.proofs.item_iter.first_item.Goals as goal
 

@@ -2,7 +2,7 @@ use Rattle.std.proofs.Common.{ap, ◌∙◌}
 use Rattle.std.specs.Prelude.{◌&&◌, nat_lt}
 use Rattle.edit_session.specs.Benches.{bench_record}
 use Rattle.release_rows.specs.Releases.{ReleaseItems}
-use Rattle.ucd_model.specs.Limits.{point_count}
+use Rattle.ucd_points.specs.Limits.{point_count}
 use Rattle.unicodeset_eval.specs.Indexes.{index_holds}
 use Rattle.unicodeset_eval.specs.Tests.{rows_of, test_holds}
 use Rattle.ucdshop_core.proofs.CarryingLemmas.{holds_are}

@@ -1,5 +1,5 @@
 use Rattle.std.proofs.Common.{arith}
-use Rattle.ucd_model.specs.Bounds.{Bounds}
+use Rattle.ucd_points.specs.Bounds.{Bounds}
 use Rattle.edit_session.specs.Benches.{bench_record}
 use Rattle.ucd_model.specs.CutLemmas.{cut_push}
 use Rattle.ucdshop_core.proofs.CutLemmas.{cut_whole}

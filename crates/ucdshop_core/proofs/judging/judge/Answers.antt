@@ -1,6 +1,6 @@
 use Rattle.std.proofs.Common.{◌≡◌, ℕ, List, Option, ap, subst, ◌∙◌, arith}
-use Rattle.ucd_model.specs.SourceFiles.{file_at, file_place-at}
-use Rattle.ucd_model.specs.declared.files.SourceFile.{SourceFile}
+use Rattle.ucd_points.specs.SourceFiles.{file_at, file_place-at}
+use Rattle.ucd_points.specs.declared.files.SourceFile.{SourceFile}
 use Rattle.ucdshop_core.specs.Judging.{Loads, given_source}
 use Rattle.ucdshop_core.specs.Verdict.{file_verdict}
 use Rattle.ucdshop_core.proofs.LoadingLemmas.{IsLoadedTo, all_loaded, loaded_to_next, moves_on}

@@ -1,6 +1,6 @@
 use Rattle.std.proofs.Common.{◌≡◌, ◌≤◌, ◌<◌, ◌+◌, ◌-◌, ℕ, cond, is_some, ap, subst, ◌∙◌, arith}
 use Rattle.ucd_model.specs.CutLemmas.{point_count-is}
-use Rattle.ucd_model.specs.Limits.{point_count}
+use Rattle.ucd_points.specs.Limits.{point_count}
 use Rattle.ucd_model.specs.DerivedFiles.{casefold_listing}
 use Rattle.ucd_model.specs.Labels.{Label, labelled}
 use Rattle.ucd_model.specs.Records.{Record}

@@ -1,6 +1,6 @@
 use Rattle.std.proofs.Common.{◌≡◌, ◌+◌, length}
 use Rattle.release_rows.specs.Releases.{items_at, rows_at}
-use Rattle.ucd_model.specs.declared.files.SourceFile.TheVariants.{UnicodeData}
+use Rattle.ucd_points.specs.declared.files.SourceFile.TheVariants.{UnicodeData}
 use Rattle.ucdshop_core.proofs.making.data_rows.Given as goal
 
 -- the rows so far, and those that are left

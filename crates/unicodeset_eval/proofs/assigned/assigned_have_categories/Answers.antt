@@ -1,5 +1,5 @@
 use Rattle.std.proofs.Common.{refl}
-use Rattle.ucd_model.specs.declared.files.SourceFile.TheVariants.{UnicodeData}
+use Rattle.ucd_points.specs.declared.files.SourceFile.TheVariants.{UnicodeData}
 use Rattle.release_rows.specs.Releases.{items_now}
 use Rattle.unicodeset_eval.specs.Assigned.{assigned_have_categories}
 use Rattle.unicodeset_eval.specs.Tests.{rows_of}

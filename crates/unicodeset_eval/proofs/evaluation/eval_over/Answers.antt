@@ -1,4 +1,4 @@
-use Rattle.ucd_model.specs.Limits.{point_count}
+use Rattle.ucd_points.specs.Limits.{point_count}
 use Rattle.unicodeset_parser.specs.Views.{tree_view}
 use Rattle.unicodeset_eval.proofs.AnswerLemmas.{answer_is, answer_stops}
 use Rattle.unicodeset_eval.proofs.evaluation.eval_over.Goals as goal

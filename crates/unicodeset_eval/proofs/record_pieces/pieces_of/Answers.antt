@@ -1,6 +1,6 @@
 use Rattle.std.proofs.Common.{◌≡◌, ℕ, ◌+◌, ◌<◌, List, [], ◌∷◌, ◌++◌, map, take, length, get_or, sym, ap, ◌∙◌}
 use Rattle.std.proofs.lemmas.List.{map-append, take_more}
-use Rattle.ucd_model.specs.Bounds.{Bounds}
+use Rattle.ucd_points.specs.Bounds.{Bounds}
 use Rattle.ucd_model.specs.Records.{Record}
 use Rattle.unicodeset_eval.specs.RecordPieces.{PieceValue, piece_at, piece_value, unfolded, values_record}
 use Rattle.unicodeset_eval.specs.declared.record_pieces.Piece.{Piece}

@@ -1,7 +1,7 @@
 use Rattle.std.proofs.Common.{ap, ◌∙◌}
 use Rattle.property_aliases.specs.Sources.{in_order, value_names}
 use Rattle.release_rows.specs.Releases.{items_now}
-use Rattle.ucd_model.specs.declared.files.SourceFile.TheVariants.{PropList}
+use Rattle.ucd_points.specs.declared.files.SourceFile.TheVariants.{PropList}
 use Rattle.unicodeset_eval.specs.Given.{given}
 use Rattle.unicodeset_eval.specs.Numbers.{names_in}
 use Rattle.unicodeset_eval.specs.RowSetLaws.{listed_is}

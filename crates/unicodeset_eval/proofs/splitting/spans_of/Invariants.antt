@@ -1,5 +1,5 @@
 use Rattle.std.proofs.Common.{◌≡◌, ◌++◌, drop}
-use Rattle.ucd_model.specs.Limits.{point_count}
+use Rattle.ucd_points.specs.Limits.{point_count}
 use Rattle.unicodeset_eval.specs.Pieces.{pieces}
 use Rattle.unicodeset_eval.proofs.splitting.spans_of.Given as goal
 

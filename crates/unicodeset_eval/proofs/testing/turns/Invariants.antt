@@ -1,5 +1,5 @@
 use Rattle.std.proofs.Common.{◌≡◌, ◌++◌, drop, map}
-use Rattle.ucd_model.specs.Limits.{point_count}
+use Rattle.ucd_points.specs.Limits.{point_count}
 use Rattle.unicodeset_eval.specs.Found.{tells}
 use Rattle.unicodeset_eval.specs.RecordPieces.{piece_turns, piece_value}
 use Rattle.unicodeset_eval.proofs.testing.turns.Given as goal

@@ -5,8 +5,8 @@ use Rattle.kept_values.specs.Kept.{values}
 use Rattle.paged_table.specs.Paged.{values_now, values_next}
 use Rattle.record_list.specs.Records.{record_next, record_now}
 use Rattle.ucd_model.specs.Facts.{Facts}
-use Rattle.ucd_model.specs.declared.list.ListOf.{ListOf}
-use Rattle.ucd_model.specs.declared.point.Point.{Point}
+use Rattle.ucd_points.specs.declared.list.ListOf.{ListOf}
+use Rattle.ucd_points.specs.declared.point.Point.{Point}
 use Rattle.edit_session.specs.Groups.{files_facts}
 use Rattle.edit_session.proofs.DerivationLemmas.{answers_broken, answers_valid, counts_over, keeps_same, moved, ready, turned, turned_points}
 use Rattle.edit_session.proofs.derivation.Derivation.turn_listed.Goals as goal

@@ -14,7 +14,7 @@ use Rattle.property_aliases.specs.declared.values.ValueNames.{ValueNames}
 use Rattle.property_aliases.proofs.PropertyLaws.{kind_below, property_by_index}
 use Rattle.property_aliases.proofs.RowsNumbers.{resolved}
 use Rattle.release_rows.specs.Releases.{items_now, rows_at}
-use Rattle.ucd_model.specs.declared.files.SourceFile.TheVariants.{PropertyValueAliases}
+use Rattle.ucd_points.specs.declared.files.SourceFile.TheVariants.{PropertyValueAliases}
 use Rattle.property_aliases.proofs.values.ValueNames.of.Goals as goal
 
 -- the numbers of a property's kind, and those of its rows, are those of its values

@@ -1,6 +1,6 @@
 use Rattle.std.proofs.Common.{◌≤◌, arith}
 use Rattle.range_table.specs.Values.{point_count-is}
-use Rattle.ucd_model.specs.Limits.{point_count}
+use Rattle.ucd_points.specs.Limits.{point_count}
 use Rattle.range_table.proofs.RunCounts.{run_count-layout}
 use Rattle.range_table.proofs.layout.Layout.runs.Goals as goal
 

@@ -1,7 +1,7 @@
 use Rattle.std.proofs.Common.{◌≡◌, ◌∙◌, [], ◌∷◌, length, get_or, subst, ap, arith}
 use Rattle.std.proofs.lemmas.List.{length-append}
 use Rattle.range_table.specs.Values.{SameValues, with_span}
-use Rattle.ucd_model.specs.Bounds.{Bounds}
+use Rattle.ucd_points.specs.Bounds.{Bounds}
 use Rattle.ucd_model.specs.Records.{kept_record}
 use Rattle.record_list.specs.Records.{record_next, record_now}
 use Rattle.record_list.proofs.RecordSteps.{written_to}

@@ -1,5 +1,5 @@
 use Rattle.std.proofs.Common.{sym, ap, ◌∙◌}
-use Rattle.ucd_model.specs.Lines.{is_trivia}
+use Rattle.ucd_points.specs.Lines.{is_trivia}
 use Rattle.release_rows.proofs.Walks.{walks_on, rows_behind}
 use Rattle.release_rows.proofs.row_iter.RowsIterator.next.Goals as goal
 

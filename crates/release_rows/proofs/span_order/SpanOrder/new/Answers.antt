@@ -5,7 +5,7 @@ use Rattle.std.proofs.lemmas.List.{take_all, get_or_default}
 use Rattle.std.proofs.lemmas.List.Elements.{All-weaker}
 use Rattle.std.proofs.lemmas.List.Folds.{list_any_more}
 use Rattle.std.proofs.lemmas.List.Sorted.{list_any-IsPermutation, IsNonDecreasingBy-from_sort_by_key}
-use Rattle.ucd_model.specs.Bounds.{Bounds}
+use Rattle.ucd_points.specs.Bounds.{Bounds}
 use Rattle.release_rows.specs.Keys.{spans_meet}
 use Rattle.release_rows.proofs.span_order.SpanOrder.new.Goals as goal
 

@@ -1,6 +1,6 @@
 use Rattle.std.proofs.Common.{◌≡◌, ◌<◌, take, length, get_or}
 use Rattle.std.specs.List.{list_any}
-use Rattle.ucd_model.specs.Bounds.{Bounds}
+use Rattle.ucd_points.specs.Bounds.{Bounds}
 use Rattle.release_rows.specs.Keys.{spans_meet}
 use Rattle.release_rows.specs.SpanOrders.{NoneBeginsBehind}
 use Rattle.release_rows.proofs.span_order.SpanOrder.new.Given as goal

@@ -3,7 +3,7 @@ use Rattle.std.specs.Prelude.{nat_lt}
 use Rattle.std.proofs.Math.Bool.{Bool-set}
 use Rattle.std.proofs.Math.Logic.{∥∥₁_elim}
 use Rattle.ucd_model.specs.CutLemmas.{point_count-is}
-use Rattle.ucd_model.specs.Limits.{point_count}
+use Rattle.ucd_points.specs.Limits.{point_count}
 use Rattle.ucd_model.specs.Records.{Record}
 use Rattle.property_aliases.specs.declared.property.Test.{Test}
 use Rattle.unicodeset_eval.specs.Edges.{inside, Rises}

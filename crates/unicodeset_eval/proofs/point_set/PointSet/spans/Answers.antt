@@ -1,5 +1,5 @@
 use Rattle.std.proofs.Common.{ap, ◌∙◌}
-use Rattle.ucd_model.specs.Limits.{point_count}
+use Rattle.ucd_points.specs.Limits.{point_count}
 use Rattle.unicodeset_eval.specs.Edges.{has}
 use Rattle.unicodeset_eval.specs.Members.{member_spans}
 use Rattle.unicodeset_eval.specs.Pieces.{pieces_are}

@@ -10,9 +10,9 @@
 -- SpanTextSpellsItsSpan       read as a span, the text of a span is that span
 use Rattle.std.specs.Prelude.{◌≡◌, ◌≢◌, ◌≤◌, ◌<◌, ◌^◌, ◌⊎◌, ℕ, Some, length, slice_get}
 use Rattle.std.specs.List.{All}
-use Rattle.ucd_model.specs.Bounds.{Bounds}
-use Rattle.ucd_model.specs.Fields.{hex_number, point_of, span_of}
-use Rattle.ucd_model.specs.DerivedText.{hex_text, span_text}
+use Rattle.ucd_points.specs.Bounds.{Bounds}
+use Rattle.ucd_points.specs.Fields.{hex_number, point_of, span_of}
+use Rattle.ucd_points.specs.HexText.{hex_text, span_text}
 
 abbrev pub IsUpperHex : ℕ → Type 0
 IsUpperHex b = ((48 ≤ b) × (b ≤ 57)) ⊎ ((65 ≤ b) × (b ≤ 70))

@@ -1,17 +1,29 @@
 -- The source files in the order in which the bench reads them. UAX #44, section 5.3.
 --
 -- source_files         the nine files
+-- source_path file     where a source file lies below the folder of a release
 -- file_place file      the place of a file among them, from 0
 -- file_at at           the file at a place; the first one past the last place
 -- file_place_small     each place is below nine
 -- file_at-place        the file at the place of a file is that file
 -- file_place-at        the place of the file at a place is that place
-use Rattle.std.proofs.Common.{◌≡◌, ℕ, zero, suc, ◌<◌, List, [], ◌∷◌, get_or, refl, arith, lit<}
-use Rattle.ucd_model.specs.declared.files.SourceFile.{SourceFile}
-use Rattle.ucd_model.specs.declared.files.SourceFile.TheVariants.{UnicodeData, PropList, Scripts, WordBreakProperty, CompositionExclusions, CaseFolding, SpecialCasing, PropertyAliases, PropertyValueAliases}
+use Rattle.std.proofs.Common.{◌≡◌, ℕ, zero, suc, ◌<◌, List, [], ◌∷◌, get_or, codes, refl, arith, lit<}
+use Rattle.ucd_points.specs.declared.files.SourceFile.{SourceFile}
+use Rattle.ucd_points.specs.declared.files.SourceFile.TheVariants.{UnicodeData, PropList, Scripts, WordBreakProperty, CompositionExclusions, CaseFolding, SpecialCasing, PropertyAliases, PropertyValueAliases}
 
 abbrev pub source_files : List SourceFile
 source_files = UnicodeData ∷ PropList ∷ Scripts ∷ WordBreakProperty ∷ CompositionExclusions ∷ CaseFolding ∷ SpecialCasing ∷ PropertyAliases ∷ PropertyValueAliases ∷ []
+
+abbrev pub source_path : SourceFile → List ℕ
+source_path UnicodeData = codes "UnicodeData.txt"
+source_path PropList = codes "PropList.txt"
+source_path Scripts = codes "Scripts.txt"
+source_path WordBreakProperty = codes "auxiliary/WordBreakProperty.txt"
+source_path CompositionExclusions = codes "CompositionExclusions.txt"
+source_path CaseFolding = codes "CaseFolding.txt"
+source_path SpecialCasing = codes "SpecialCasing.txt"
+source_path PropertyAliases = codes "PropertyAliases.txt"
+source_path PropertyValueAliases = codes "PropertyValueAliases.txt"
 
 abbrev pub file_place : SourceFile → ℕ
 file_place UnicodeData = 0

@@ -1,5 +1,5 @@
 use Rattle.std.proofs.Common.{◌≡◌, take}
-use Rattle.ucd_model.proofs.list.ListOf.copy.Given as goal
+use Rattle.ucd_points.proofs.list.ListOf.copy.Given as goal
 
 -- what was copied is the front of the list
 abbrev pub invariant-loop-item : goal.invariant-loop-item

@@ -10,10 +10,10 @@ use Rattle.std.proofs.lemmas.Bool.{cases_lt, cases_eq, eq-eqb, ne_eqb, lt-ltb, l
 use Rattle.std.proofs.lemmas.Nat.{mod_below}
 use Rattle.std.proofs.lemmas.List.{length-append, get_or_append_left, get_or_at, take_at, drop_at, append_assoc}
 use Rattle.std.proofs.lemmas.List.Sums.{position_or_len_is}
-use Rattle.ucd_model.specs.Bounds.{Bounds}
-use Rattle.ucd_model.specs.Fields.{digit_of, with_digit, hex_number, point_of, is_dot, one_point, two_points, behind_dot, span_of}
-use Rattle.ucd_model.specs.DerivedText.{hex_digit, four_digits, hex_text, span_text}
-use Rattle.ucd_model.specs.HexTextLaws.{IsUpperHex, SpanTextSpellsItsSpan, HexTextHasFourToSixDigits, HexTextHasNoSpareDigit, HexTextIsUpperCase, HexTextSpellsItsNumber, HexTextSpellsItsPoint}
+use Rattle.ucd_points.specs.Bounds.{Bounds}
+use Rattle.ucd_points.specs.Fields.{digit_of, with_digit, hex_number, point_of, is_dot, one_point, two_points, behind_dot, span_of}
+use Rattle.ucd_points.specs.HexText.{hex_digit, four_digits, hex_text, span_text}
+use Rattle.ucd_points.specs.HexTextLaws.{IsUpperHex, SpanTextSpellsItsSpan, HexTextHasFourToSixDigits, HexTextHasNoSpareDigit, HexTextIsUpperCase, HexTextSpellsItsNumber, HexTextSpellsItsPoint}
 
 -- ---- one digit
 

@@ -2,7 +2,7 @@
 
 ghost use Rattle.std.specs.Prelude.{◌≡◌, ◌<◌, ◌≤◌};
 ghost use Rattle.std.specs.Option.{SomeIff};
-ghost use Rattle.ucd_model.specs.Bounds.{Bounds};
+ghost use Rattle.ucd_points.specs.Bounds.{Bounds};
 
 use crate::point::Point;
 use std::marker::Model;
@@ -18,7 +18,7 @@ pub struct Span {
 
 impl Model for Span {
     ghost use Rattle.std.specs.Prelude.{◌≤◌};
-    ghost use Rattle.ucd_model.specs.Bounds.{Bounds};
+    ghost use Rattle.ucd_points.specs.Bounds.{Bounds};
 
     ghost Value = { Bounds };
 

@@ -1,5 +1,0 @@
-use Rattle.ucd_model.specs.HexTextProofs.{hex_text_has_no_spare_digit}
-use Rattle.ucd_model.proofs.laws.hex_text_has_no_spare_digit.Goals as goal
-
-pub returns : goal.returns
-returns c = hex_text_has_no_spare_digit

@@ -1,5 +1,0 @@
-use Rattle.ucd_model.specs.HexTextProofs.{hex_text_is_upper_case}
-use Rattle.ucd_model.proofs.laws.hex_text_is_upper_case.Goals as goal
-
-pub returns : goal.returns
-returns c = hex_text_is_upper_case

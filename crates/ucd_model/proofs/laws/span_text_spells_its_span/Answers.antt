@@ -1,5 +1,0 @@
-use Rattle.ucd_model.specs.HexTextProofs.{span_text_spells_its_span}
-use Rattle.ucd_model.proofs.laws.span_text_spells_its_span.Goals as goal
-
-pub returns : goal.returns
-returns c = span_text_spells_its_span

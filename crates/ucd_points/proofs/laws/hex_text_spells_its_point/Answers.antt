@@ -1,0 +1,5 @@
+use Rattle.ucd_points.specs.HexTextProofs.{hex_text_spells_its_point}
+use Rattle.ucd_points.proofs.laws.hex_text_spells_its_point.Goals as goal
+
+pub returns : goal.returns
+returns c = hex_text_spells_its_point

@@ -32,8 +32,6 @@ pub mod DerivedText
 pub mod DerivedFiles
 pub mod DerivedFilesLaws
 pub mod LabelLemmas
-pub mod LabelLaws
-pub mod LabelLawProofs
 pub mod Enumerations
 pub mod EnumerationProofs
 pub mod Sameness
@@ -42,14 +40,6 @@ pub mod NameLaws
 pub mod NameProofs
 pub mod FactsLaws
 pub mod FactsLemmas
-pub mod Examples
 pub mod RowTexts
 pub mod RowTextLemmas
 pub mod RowValues
-pub mod RowLaws
-pub mod RowLawProofs
-pub mod FactsExamples
-pub mod FormExamples
-pub mod ValidityExamples
-pub mod RecordExamples
-pub mod CasingExamples

@@ -5,8 +5,8 @@ use Rattle.std.specs.List.{range_with_len}
 use Rattle.std.proofs.lemmas.List.FromFn.{length-range_with_len}
 use Rattle.std.proofs.lemmas.List.Sums.{count_by-le-length, sum_by-cons}
 use Rattle.ucd_points.specs.Bounds.{Bounds}
-use Rattle.ucd_model.specs.LabelLaws.{span_length}
-use Rattle.ucd_model.specs.LabelLawProofs.{labelled_is_their_length}
+use Rattle.ucd_laws.specs.LabelLaws.{span_length}
+use Rattle.ucd_laws.specs.LabelLawProofs.{labelled_is_their_length}
 use Rattle.ucd_model.specs.Labels.{LabelSpan, label_spans, labelled}
 use Rattle.ucd_points.specs.Limits.{point_count}
 use Rattle.release_rows.specs.FileItems.{FileItem}

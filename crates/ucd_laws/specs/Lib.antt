@@ -1,0 +1,10 @@
+pub mod LabelLaws
+pub mod LabelLawProofs
+pub mod RowLaws
+pub mod RowLawProofs
+pub mod Examples
+pub mod FactsExamples
+pub mod FormExamples
+pub mod ValidityExamples
+pub mod RecordExamples
+pub mod CasingExamples

@@ -3,14 +3,13 @@
 ghost use Rattle.std.specs.Prelude.{◌≡◌, ◌≤◌, ◌<◌, ◌+◌, ℕ, List, ◌++◌, None, IsSome, OnOk, IfOk};
 ghost use Rattle.ucd_model.specs.Labels.{Label, same_label};
 ghost use Rattle.ucd_model.specs.LabelLemmas.{labelled_before};
-ghost use Rattle.ucd_points.specs.HexText.{span_text};
 ghost use Rattle.derived_writer.specs.Runs.{lines_before, run_line, run_length, IsOpen, IsStretch};
 
 use crate::label::LabelText;
 use std::alloc::Global;
 use std::mem;
-use ucd_lines::put_hex;
-use ucd_model::{Memory, Point, Text};
+use ucd_lines::put_span;
+use ucd_model::{Memory, Point, Span, Text};
 
 /// The run of one label that ends where a section has come to: the numbers from `first` to before `end`.
 #[derive(Drop)]
@@ -89,24 +88,12 @@ impl Run {
         match self.label.text() {
             None => Ok(0),
             Some(label) => {
-                put_span(Point::at(self.first), Point::at(self.end - 1), text)?;
+                let run = Span::between(Point::at(self.first), Point::at(self.end - 1));
+                put_span(run, text)?;
                 text.append(label)?;
                 text.append(b"\n")?;
                 Ok(self.end - self.first)
             }
         }
     }
-}
-
-/// Puts one code point, or two joined by `..`.
-#[tactic(auto, unfolding(ucd_points::specs::HexText::span_text))]
-fn put_span(first: Point, last: Point, text: &mut Text) -> Result<(), Memory>
-    ensures { OnOk result (text.new ≡ text.old ++ span_text (record { lo = first; hi = last })) }
-{
-    put_hex(first, text)?;
-    if first == last {
-        return Ok(());
-    }
-    text.append(b"..")?;
-    put_hex(last, text)
 }

@@ -1,11 +1,10 @@
 //! The text of a section.
 
-ghost use Rattle.std.specs.Prelude.{◌≡◌, ◌++◌, OnOk, IfOk, codes};
+ghost use Rattle.std.specs.Prelude.{◌≡◌, ◌++◌, OnOk, IfOk};
 ghost use Rattle.std.specs.List.{flat_map};
-ghost use Rattle.std.specs.Fmt.{decimal};
 ghost use Rattle.ucd_points.specs.Limits.{point_count};
 ghost use Rattle.ucd_model.specs.Labels.{label_spans, labelled};
-ghost use Rattle.ucd_model.specs.DerivedText.{section_text, span_line, line_end};
+ghost use Rattle.ucd_model.specs.DerivedText.{section_text, span_line};
 ghost use Rattle.ucd_model.specs.DerivedFiles.{section_of};
 ghost use Rattle.ucd_model.specs.Cuts.{IsCut};
 ghost use Rattle.derived_writer.specs.Listings.{listing_section, listing_labels};
@@ -15,6 +14,7 @@ use crate::label::LabelText;
 use crate::listing::Listing;
 use crate::run::Run;
 use std::alloc::Global;
+use ucd_lines::put_total;
 use ucd_model::{Memory, Record, Records, Span, Text};
 
 /// Puts a section at the end of a text: `# NAME`, a line for each maximal span of one value, `# total N` with the
@@ -39,7 +39,8 @@ pub fn put_section<B: Records>(
     text.append(b"\n")?;
     let mut label = LabelText::none(alloc);
     let total = put_spans(alloc, bench, pieces, records, listing, &mut label, text)?;
-    put_total(alloc, text, total)
+    put_total(alloc, total as usize, text)?;
+    text.append(b"\n")
 }
 
 /// Puts a line for each maximal span of one value, and answers how many code points are listed. The label is a buffer.
@@ -67,14 +68,4 @@ fn put_spans<B: Records>(
     }
     total += run.end(text)?;
     Ok(total)
-}
-
-/// Puts `# total N` and an empty line.
-fn put_total(alloc: Global, text: &mut Text, total: u32) -> Result<(), Memory>
-    ensures { OnOk result (text.new ≡ text.old ++ codes "# total " ++ decimal total ++ line_end ++ line_end) }
-{
-    let digits = total.to_string(alloc)?;
-    text.append(b"# total ")?;
-    text.append(digits.as_bytes())?;
-    text.append(b"\n\n")
 }

@@ -4,8 +4,8 @@ ghost use Rattle.std.specs.Prelude.{◌≡◌, ◌++◌, OnOk};
 ghost use Rattle.ucd_model.specs.RowTexts.{value_text, exclusion_text, fold_text, casing_text, conditions_text, names_text, alias_text};
 ghost use Rattle.source_rows.specs.Texts.{named};
 
-use crate::put_points::{put_mapping, put_span};
-use ucd_lines::put_hex;
+use crate::put_points::put_mapping;
+use ucd_lines::{put_hex, put_span};
 use ucd_model::{CasingRow, FoldRow, Memory, Text, ValueRow};
 
 /// Appends a span and a value.

@@ -5,9 +5,9 @@ ghost use Rattle.ucd_model.specs.RowTexts.{row_text};
 ghost use Rattle.ucd_model.specs.RowValues.{RowOk};
 
 use crate::put_data::put_data;
-use crate::put_points::put_span;
 use crate::put_rows::{put_casing, put_fold, put_names, put_value};
 use std::alloc::Global;
+use ucd_lines::put_span;
 use ucd_model::{Memory, Row, SourceFile, Text};
 
 /// The text of a row, which [`read_row`](crate::read_row) reads as the same row. Of a range it is two lines with LF

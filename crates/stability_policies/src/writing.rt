@@ -11,7 +11,7 @@ ghost use Rattle.stability_policies.specs.declared.policy.Policy.TheVariants.{P1
 use crate::breaks::{Break, Breaks};
 use crate::policy::Policy;
 use std::alloc::Global;
-use ucd_lines::put_hex;
+use ucd_lines::{put_decimal, put_hex, put_total};
 use ucd_model::{Memory, Point, SourceFile, Text};
 
 /// The text of a report: a line for each break, in order, with the code of the policy and the code point, or of P17 the
@@ -25,7 +25,7 @@ pub fn report_text(alloc: Global, breaks: &Breaks) -> Result<Text, Memory>
     'breaks: for b in breaks.as_slice() {
         put_break(alloc, &mut text, *b)?;
     }
-    put_total(alloc, &mut text, breaks.len() as u64)?;
+    put_total(alloc, breaks.len(), &mut text)?;
     Ok(text)
 }
 
@@ -63,27 +63,6 @@ fn put_alias(alloc: Global, text: &mut Text, file: SourceFile, line: u64) -> Res
     text.append(b" ")?;
     text.append(file.path())?;
     text.append(b" ")?;
-    put_decimal(alloc, text, line)?;
+    put_decimal(alloc, line as usize, text)?;
     text.append(b"\n")
-}
-
-/// Puts the last line: how many breaks there are.
-///
-/// - `Memory`: memory ran out.
-fn put_total(alloc: Global, text: &mut Text, total: u64) -> Result<(), Memory>
-    ensures { OnOk result (text.new ≡ text.old ++ codes "# total " ++ decimal total ++ line_end) }
-{
-    text.append(b"# total ")?;
-    put_decimal(alloc, text, total)?;
-    text.append(b"\n")
-}
-
-/// Puts a number in decimal.
-///
-/// - `Memory`: memory ran out.
-fn put_decimal(alloc: Global, text: &mut Text, number: u64) -> Result<(), Memory>
-    ensures { OnOk result (text.new ≡ text.old ++ decimal number) }
-{
-    let digits = number.to_string(alloc)?;
-    text.append(digits.as_bytes())
 }

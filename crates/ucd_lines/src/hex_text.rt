@@ -1,10 +1,10 @@
-//! Writes code points in hexadecimal digits.
+//! Writes code points in hexadecimal digits, and spans of them.
 
 ghost use Rattle.std.specs.Prelude.{◌≡◌, ◌≤◌, ◌<◌, ◌++◌, drop, OnOk, OnErr};
-ghost use Rattle.ucd_points.specs.HexText.{hex_digit, hex_text};
+ghost use Rattle.ucd_points.specs.HexText.{hex_digit, hex_text, span_text};
 ghost use Rattle.ucd_lines.specs.Digits.{six_digits};
 
-use ucd_points::{Memory, Point, Text};
+use ucd_points::{Memory, Point, Span, Text};
 
 /// Appends the hexadecimal digits of a code point in upper case: at least four, and no more than it needs.
 /// UAX #44, section 4.2.
@@ -16,6 +16,21 @@ pub fn put_hex(c: Point, into: &mut Text) -> Result<(), Memory>
 {
     let digits = six_digits(c.number());
     into.append(&digits[spare_digits(c.number())..])
+}
+
+/// Appends a code point, or the first and the last one joined by `..`. UAX #44, section 4.2.
+///
+/// - `Memory`: memory ran out. A part may stand at the end of the text then.
+#[tactic(auto, unfolding(ucd_points::specs::HexText::span_text))]
+pub fn put_span(span: Span, into: &mut Text) -> Result<(), Memory>
+    ensures { OnOk result (into.new ≡ into.old ++ span_text span) }
+{
+    put_hex(span.lo, into)?;
+    if span.first() == span.last() {
+        return Ok(());
+    }
+    into.append(b"..")?;
+    put_hex(span.hi, into)
 }
 
 /// How many of six digits a number does not need, of which at least four are written.

@@ -4,6 +4,7 @@
 
 mod blank;
 mod code_point;
+mod decimal_text;
 mod field_iter;
 mod hex_text;
 mod item;
@@ -15,8 +16,9 @@ mod trivia;
 
 pub use blank::{is_blank, trim};
 pub use code_point::{hex, hex_number};
+pub use decimal_text::{put_decimal, put_total};
 pub use field_iter::Fields;
-pub use hex_text::put_hex;
+pub use hex_text::{put_hex, put_span};
 pub use item::{Ending, Item, join};
 pub use item_iter::Items;
 pub use laws::{

@@ -35,8 +35,5 @@ fn span(first: u32, last: u32) -> Span
     requires below { last < 1114112 }
     ensures { result ≡ record { lo = first; hi = last } }
 {
-    match Span::new(Point::at(first), Point::at(last)) {
-        Some(span) => span,
-        None => unreachable!(),
-    }
+    Span::between(Point::at(first), Point::at(last))
 }

@@ -41,6 +41,14 @@ impl Span {
         }
     }
 
+    /// The span from `lo` to `hi`, which is known not to be less.
+    pub fn between(lo: Point, hi: Point) -> Span
+        requires { lo ≤ hi }
+        ensures { result ≡ record { lo = lo; hi = hi } }
+    {
+        Span { lo, hi }
+    }
+
     /// The span of one code point.
     pub fn one(point: Point) -> Span
         ensures { result ≡ record { lo = point; hi = point } }

@@ -5,11 +5,11 @@ ghost use Rattle.std.specs.Fmt.{decimal};
 ghost use Rattle.ucdshop_core.specs.Session.{accepted_line, ask_rule_code, key_rule_code, refusal_text, refused_line, set_line, set_rule_code, unasked_line};
 
 use crate::ask_stop::{AskFault, AskRule};
-use crate::printed::{bad_code, put_decimal};
+use crate::printed::bad_code;
 use edit_session::Refused;
 use release_rows::KeyRule;
 use std::alloc::Global;
-use ucd_lines::put_hex;
+use ucd_lines::{put_decimal, put_hex};
 use ucd_model::{Memory, Text};
 use unicodeset_eval::NameRule;
 use unicodeset_parser::SetRule;
@@ -21,9 +21,9 @@ use unicodeset_parser::SetRule;
 pub fn put_accepted(alloc: Global, text: &mut Text, line: u32, count: usize) -> Result<(), Memory>
     ensures { OnOk result (text.new ≡ text.old ++ accepted_line line count) }
 {
-    put_decimal(alloc, text, line as usize)?;
+    put_decimal(alloc, line as usize, text)?;
     text.append(b" accepted ")?;
-    put_decimal(alloc, text, count)?;
+    put_decimal(alloc, count, text)?;
     text.append(b"\n")
 }
 
@@ -33,7 +33,7 @@ pub fn put_accepted(alloc: Global, text: &mut Text, line: u32, count: usize) -> 
 pub fn put_refused(alloc: Global, text: &mut Text, line: u32, why: Refused) -> Result<(), Memory>
     ensures { OnOk result (text.new ≡ text.old ++ refused_line line why) }
 {
-    put_decimal(alloc, text, line as usize)?;
+    put_decimal(alloc, line as usize, text)?;
     text.append(b" ")?;
     put_refusal(alloc, text, why)?;
     text.append(b"\n")
@@ -48,7 +48,7 @@ fn put_refusal(alloc: Global, text: &mut Text, why: Refused) -> Result<(), Memor
         Refused::Key { rule, op } => {
             text.append(key_rule_code(rule))?;
             text.append(b" operation ")?;
-            put_decimal(alloc, text, op as usize)
+            put_decimal(alloc, op as usize, text)
         }
         Refused::Valid { rule, point } => {
             text.append(bad_code(rule))?;
@@ -76,9 +76,9 @@ fn key_rule_code(rule: KeyRule) -> &'static [u8]
 pub fn put_set(alloc: Global, text: &mut Text, line: u32, count: usize) -> Result<(), Memory>
     ensures { OnOk result (text.new ≡ text.old ++ set_line line count) }
 {
-    put_decimal(alloc, text, line as usize)?;
+    put_decimal(alloc, line as usize, text)?;
     text.append(b" set ")?;
-    put_decimal(alloc, text, count)?;
+    put_decimal(alloc, count, text)?;
     text.append(b"\n")
 }
 
@@ -88,11 +88,11 @@ pub fn put_set(alloc: Global, text: &mut Text, line: u32, count: usize) -> Resul
 pub fn put_unasked(alloc: Global, text: &mut Text, line: u32, fault: AskFault) -> Result<(), Memory>
     ensures { OnOk result (text.new ≡ text.old ++ unasked_line line fault) }
 {
-    put_decimal(alloc, text, line as usize)?;
+    put_decimal(alloc, line as usize, text)?;
     text.append(b" refused ")?;
     text.append(ask_rule_code(fault.rule))?;
     text.append(b" byte ")?;
-    put_decimal(alloc, text, fault.at)?;
+    put_decimal(alloc, fault.at, text)?;
     text.append(b"\n")
 }
 

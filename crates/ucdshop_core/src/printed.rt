@@ -8,7 +8,7 @@ ghost use Rattle.ucd_model.specs.DerivedText.{line_end};
 use release_rows::LoadRule;
 use source_rows::RowFault;
 use std::alloc::Global;
-use ucd_lines::put_hex;
+use ucd_lines::{put_decimal, put_hex};
 use ucd_model::{Bad, Broken, Memory, Text};
 
 /// The line for words that have no listed form.
@@ -41,7 +41,7 @@ pub fn refused(alloc: Global, path: &[u8], line: usize, rule: &[u8]) -> Result<T
     text.append(b"refused: ")?;
     text.append(path)?;
     text.append(b" line ")?;
-    put_decimal(alloc, &mut text, line)?;
+    put_decimal(alloc, line, &mut text)?;
     put_rule(&mut text, rule)?;
     Ok(text)
 }
@@ -168,7 +168,7 @@ fn put_made(alloc: Global, text: &mut Text, number: u8, rows: usize) -> Result<(
 fn put_count(alloc: Global, text: &mut Text, count: usize, what: &[u8]) -> Result<(), Memory>
     ensures { OnOk result (text.new ≡ text.old ++ decimal count ++ what.now) }
 {
-    put_decimal(alloc, text, count)?;
+    put_decimal(alloc, count, text)?;
     text.append(what)
 }
 
@@ -200,12 +200,4 @@ pub fn row_rule_code(fault: RowFault) -> &'static [u8]
         RowFault::G10 => b"G10",
         RowFault::G11 => b"G11",
     }
-}
-
-/// Puts a number in decimal digits.
-pub fn put_decimal(alloc: Global, text: &mut Text, number: usize) -> Result<(), Memory>
-    ensures { OnOk result (text.new ≡ text.old ++ decimal number) }
-{
-    let digits = number.to_string(alloc)?;
-    text.append(digits.as_bytes())
 }

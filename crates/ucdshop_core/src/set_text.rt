@@ -4,13 +4,11 @@ ghost use Rattle.std.specs.Prelude.{◌≡◌, ◌++◌, ◌≤◌, IfOk, OnOk, 
 ghost use Rattle.std.specs.Fmt.{decimal};
 ghost use Rattle.std.specs.List.{flat_map};
 ghost use Rattle.ucd_model.specs.DerivedText.{line_end};
-ghost use Rattle.ucd_points.specs.HexText.{span_text};
 ghost use Rattle.ucd_points.specs.Limits.{point_count};
 ghost use Rattle.ucdshop_core.specs.SetTexts.{members_in, set_section, span_entry};
 
-use crate::printed::put_decimal;
 use std::alloc::Global;
-use ucd_lines::put_hex;
+use ucd_lines::{put_decimal, put_span, put_total};
 use ucd_model::{Memory, Span, Text};
 
 /// Puts the answer to the question on this line, and answers how many members it has: `# line L`, a line for each span,
@@ -29,7 +27,8 @@ pub fn put_answer(
 {
     put_head(alloc, text, line)?;
     let count = put_spans(text, spans)?;
-    put_total(alloc, text, count)?;
+    put_total(alloc, count, text)?;
+    text.append(b"\n")?;
     Ok(count)
 }
 
@@ -38,7 +37,7 @@ fn put_head(alloc: Global, text: &mut Text, line: u32) -> Result<(), Memory>
     ensures { OnOk result (text.new ≡ text.old ++ codes "# line " ++ decimal line ++ line_end) }
 {
     text.append(b"# line ")?;
-    put_decimal(alloc, text, line as usize)?;
+    put_decimal(alloc, line as usize, text)?;
     text.append(b"\n")
 }
 
@@ -58,23 +57,9 @@ fn put_spans(text: &mut Text, spans: &[Span]) -> Result<usize, Memory>
 }
 
 /// Puts the line of a span.
-#[tactic(auto, unfolding(ucd_points::specs::HexText::span_text))]
 fn put_entry(text: &mut Text, span: Span) -> Result<(), Memory>
     ensures { OnOk result (text.new ≡ text.old ++ span_entry span) }
 {
-    put_hex(span.lo, text)?;
-    if span.lo != span.hi {
-        text.append(b"..")?;
-        put_hex(span.hi, text)?;
-    }
+    put_span(span, text)?;
     text.append(b"\n")
-}
-
-/// Puts `# total N` and an empty line.
-fn put_total(alloc: Global, text: &mut Text, count: usize) -> Result<(), Memory>
-    ensures { OnOk result (text.new ≡ text.old ++ codes "# total " ++ decimal count ++ line_end ++ line_end) }
-{
-    text.append(b"# total ")?;
-    put_decimal(alloc, text, count)?;
-    text.append(b"\n\n")
 }

@@ -98,8 +98,8 @@ impl Bench {
         apply_group(alloc, &mut self.release, &mut self.derivation, group, steps)
     }
 
-    /// The last code point of the stretch of equal records that `c` lies in. It takes time by the logarithm of the
-    /// number of stretches.
+    /// The last code point of the stretch of equal records that `c` lies in. It takes time by the stretches that it
+    /// passes: each ends where a record is held at another place, or at the end of a block of 256 code points.
     pub fn last_alike(&self, c: Point) -> Point
         ensures from { c ≤ result }
         ensures same { (d : ℕ) → c ≤ d → d ≤ result → bench_record self.now d ≡ bench_record self.now c }

@@ -2,12 +2,12 @@
 --
 -- class is the canonical combining class of each code point.
 -- class_of F             the classes that the facts give
--- greater class y x      x has a greater class than y
+-- greater class y x      x has a greater class than y; with a class of y above 0, x and y are a reorderable pair (D108)
 -- placed class y xs      y before the longest suffix of xs in which every class is greater; at the end where there is none
 -- with_next class xs y   a list in order with one more point behind it: one of class 0 stays at the end, and nothing passes
 --                        it; another one is placed
 -- order_onto class done rest   the points of rest, one after the other, put behind those that are in order already
--- order class xs         the list in canonical order
+-- order class xs         D109: the list in canonical order
 use Rattle.std.specs.Prelude.{ℕ, Bool, List, [], ◌∷◌, ◌++◌, nat_lt, ◌==◌, if◌then◌else◌}
 use Rattle.std.specs.List.{list_all}
 use Rattle.ucd_model.specs.Facts.{Facts}

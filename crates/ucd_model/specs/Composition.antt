@@ -1,21 +1,21 @@
 -- Canonical composition. The Unicode Standard, section 3.11, D115 and D117; UAX #15, section 1.3.
 --
 -- class is the canonical combining class of each code point, and pair the primary composite of two code points, or None.
--- A starter is a code point of class 0.
+-- A starter is a code point of class 0 (D107).
 -- Split                     a list cut at a starter: what stands before it, the starter, and what stands after it
 -- starter_behind class x xs cut   the last starter of the list x and xs, where cut is that of xs: the same, with x before it;
 --                           where xs has none, x where its class is 0, else None
--- last_starter class xs     the list cut at its last starter; None where it has none
--- is_open class y after     every class in after is less than that of y, so that y is not blocked by what stands after the last
+-- last_starter class xs     D117, R1: the list cut at its last starter; None where it has none
+-- is_open class y after     D115, the other way round: every class in after is less than that of y, so that y is not blocked by what stands after the last
 --                           starter; where anything stands there, a y of class 0 is blocked
 -- where_open class y cut    the cut, where y is not blocked by what stands after its starter; else None
--- reached class xs y        the list cut at its last starter, where y behind the list is not blocked from it; else None
--- with_composite xs y cut q   the cut list with the composite q in the starter's place; without a composite xs with y at the end
+-- reached class xs y        D116: the list cut at its last starter, where y behind the list is not blocked from it; else None
+-- with_composite xs y cut q   D117, R2: the cut list with the composite q in the starter's place; without a composite xs with y at the end
 -- with_point pair xs y cut   where the starter and y have a composite, it takes the starter's place, and y goes; else, and where
 --                           no starter is reached, y stands at the end
 -- composed_with class pair xs y   a composed list with one more point behind it
 -- compose_onto class pair done rest   the points of rest, one after the other, put behind those that are composed already
--- compose class pair xs     the list composed
+-- compose class pair xs     D117: the list composed
 use Rattle.std.specs.Prelude.{ℕ, Bool, List, [], ◌∷◌, ◌++◌, Option, Some, None, nat_lt, ◌==◌, if◌then◌else◌}
 use Rattle.std.specs.List.{list_all}
 

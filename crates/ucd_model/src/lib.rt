@@ -37,7 +37,7 @@ pub use property::{CORE_PROPERTIES, Core, FLAGS, Flag};
 pub use query::{Queries, Query};
 pub use records::{Record, Records};
 pub use row::{
-    AliasRow, CasingRow, DataRow, ExclusionRow, FoldRow, FoldStatus, Kept, Row, Rows, ValueRow,
+    AliasRow, CasingRow, DataRow, ExclusionRow, FoldRow, FoldStatus, Kept, Row, ValueRow,
 };
 pub use sets::{CoreSet, Flags};
 pub use shown::same_facts;

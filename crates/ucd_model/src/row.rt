@@ -5,7 +5,7 @@ ghost use Rattle.ucd_model.specs.Names.{status_code};
 
 use crate::category::Category;
 use crate::decomposition::Kind;
-use ucd_points::{ListOf, Point, Points, Span, Text, Texts};
+use ucd_points::{Point, Points, Span, Text, Texts};
 
 /// Fields 4 and 6 to 11 of a row of UnicodeData.txt, which are kept as they stand, without white space around them,
 /// and are not tested. UAX #44, section 5.3, table 9.
@@ -148,6 +148,3 @@ pub enum Row {
     /// Of PropertyAliases.txt or PropertyValueAliases.txt.
     Alias(AliasRow),
 }
-
-/// Rows of one file, in the order of the file.
-pub type Rows = ListOf<Row>;

@@ -9,8 +9,8 @@ use edit_session::Bench;
 use std::alloc::Global;
 use ucd_model::{Memory, Point, Span, Spans};
 
-/// Spans that follow one another over all code points, in each of which the records of a bench are equal. No two records
-/// are compared: the bench knows up to where a record stays.
+/// Spans that follow one another over all code points, in each of which the records of a bench are equal. Records are
+/// compared only where a stretch ends that the bench holds as one.
 ///
 /// - `Memory`: memory ran out.
 pub fn bench_pieces(alloc: Global, bench: &Bench) -> Result<Spans, Memory>

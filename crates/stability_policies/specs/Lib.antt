@@ -9,4 +9,5 @@ pub mod BrokenStretches
 pub mod PolicyLists
 pub mod NamedRows
 pub mod StableForms
+pub mod ReportLaws
 pub mod FormValues

@@ -1,5 +1,5 @@
 -- The stability policies of the Unicode Standard, as tests of one code point in two releases, an old one and a new one.
--- Unicode Character Encoding Stability Policies; UAX #15, section 3; UAX #31, section 3.4.
+-- Unicode Character Encoding Stability Policies; UAX #15, section 3; UAX #31, sections 1.1 and 2.5.
 --
 -- O and N are the facts of each code point in the old release and in the new one.
 -- policies, place_of_policy P   the policies in order, and the place of each, counted from 0

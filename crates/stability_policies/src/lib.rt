@@ -25,7 +25,10 @@ mod writing;
 
 pub use breaks::{Break, Breaks, lists};
 pub use common::{Forms, common_caseless, common_forms};
-pub use laws::{caseless_stays, forms_stay, policies_are_whole};
+pub use laws::{
+    caseless_stays, empty_part_keeps_caseless, empty_part_keeps_forms, forms_stay,
+    policies_are_whole,
+};
 pub use policy::{POLICIES, Policy};
 pub use reporting::report;
 pub use writing::report_text;

@@ -5,7 +5,7 @@ ghost use Rattle.stability_policies.specs.Policies.{place_of_policy, policies};
 ghost use Rattle.stability_policies.specs.ReportTexts.{policy_code};
 
 /// A stability policy, in the order of a report. Unicode Character Encoding Stability Policies; UAX #15, section 3;
-/// UAX #31, section 3.4.
+/// UAX #31, sections 1.1 and 2.5.
 #[derive(Clone, Copy, Debug, PartialEq, Eq)]
 pub enum Policy {
     /// Assigned code points stay assigned.

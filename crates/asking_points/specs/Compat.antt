@@ -12,7 +12,7 @@ use Rattle.ucd_model.specs.declared.decomposition.Kind.{Kind}
 use Rattle.ucd_model.specs.declared.decomposition.Kind.TheVariants.{Plain, Canonical, Compat}
 use Rattle.ucd_model.specs.declared.query.Query.{Query}
 use Rattle.asked_queries.specs.Questions.{tree, whole_tree, asks}
-use Rattle.identifier_closure.specs.PointForms.{is_compat}
+use Rattle.ucd_model.specs.Expansion.{is_compat}
 
 abbrev pub has_compat : (ℕ → Facts) → ℕ → ℕ → Bool
 has_compat F zero c = false

@@ -3,11 +3,10 @@
 ghost use Rattle.std.specs.Prelude.{◌≡◌, ◌++◌, OnOk};
 ghost use Rattle.std.specs.List.{flat_map};
 ghost use Rattle.asked_queries.specs.Questions.{tree, whole_tree, row_queries};
-ghost use Rattle.identifier_closure.specs.PointForms.{is_compat};
 ghost use Rattle.asking_points.specs.Compat.{has_compat};
 
 use decomposition::counted;
-use ucd_model::{FactView, Kind, Memory, Point, Query};
+use ucd_model::{FactView, Memory, Point, Query};
 
 /// The levels of an expansion: one more than the longest chain of mappings (real releases need 3).
 const LEVELS: u8 = 8;
@@ -82,7 +81,7 @@ fn has_compat_within<W: FactView>(view: &W, levels: u8, c: Point) -> bool
     if levels == 0 {
         return false;
     }
-    if is_compat(view.kind(c)) {
+    if view.kind(c).is_compat() {
         return true;
     }
     let mapping = counted(view, true, c);
@@ -92,11 +91,4 @@ fn has_compat_within<W: FactView>(view: &W, levels: u8, c: Point) -> bool
         }
     }
     false
-}
-
-/// Whether a mapping of this kind is a compatibility mapping.
-fn is_compat(kind: Kind) -> bool
-    ensures { result ≡ is_compat kind }
-{
-    matches!(kind, Kind::Compat(_))
 }

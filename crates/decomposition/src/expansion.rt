@@ -1,11 +1,11 @@
 //! The expansion of a code point.
 
 ghost use Rattle.std.specs.Prelude.{◌≡◌, ◌≤◌, [], ◌∷◌, ◌++◌, length, OnOk, OnErr};
-ghost use Rattle.ucd_model.specs.Expansion.{counts, counted, expand, expansion, FormAnswers};
+ghost use Rattle.ucd_model.specs.Expansion.{counted, expand, expansion, FormAnswers};
 ghost use Rattle.decomposition.specs.Walk.{kept, Puts};
 
 use std::alloc::Global;
-use ucd_model::{Bad, FactView, FormStop, Kind, Memory, Point, Points};
+use ucd_model::{Bad, FactView, FormStop, Memory, Point, Points};
 
 /// The levels of an expansion: one more than the longest chain of mappings (real releases need 3).
 const LEVELS: u8 = 8;
@@ -82,20 +82,9 @@ fn put(points: &mut Points, c: Point) -> Result<(), Memory>
 pub fn counted<W: FactView>(view: &W, compat: bool, c: Point) -> &[Point]
     ensures { result.now ≡ counted (W.facts_of view.now) compat c }
 {
-    if counts(compat, view.kind(c)) {
+    if view.kind(c).counts(compat) {
         view.mapping(c)
     } else {
         &[]
-    }
-}
-
-/// Whether a mapping of this kind counts.
-fn counts(compat: bool, kind: Kind) -> bool
-    ensures { result ≡ counts compat kind }
-{
-    match kind {
-        Kind::Plain => false,
-        Kind::Canonical => true,
-        Kind::Compat(_) => compat,
     }
 }

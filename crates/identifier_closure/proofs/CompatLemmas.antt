@@ -8,7 +8,8 @@ use Rattle.ucd_model.specs.declared.decomposition.Kind.TheVariants.{Plain, Canon
 use Rattle.ucd_model.specs.declared.form.Bad.TheVariants.{V3}
 use Rattle.decomposition.specs.ExpansionProofs.{none_some, some_same, both_some}
 use Rattle.normalisation.specs.ExpandedLemmas.{Each-front, Each-back, ok_same}
-use Rattle.identifier_closure.specs.PointForms.{is_compat, ExpandTo}
+use Rattle.identifier_closure.specs.PointForms.{ExpandTo}
+use Rattle.ucd_model.specs.Expansion.{is_compat}
 use Rattle.identifier_closure.proofs.FormLemmas.{both_expanded}
 
 -- ---- mappings of one kind or the other

@@ -1,7 +1,6 @@
 -- The forms of a code point alone, as far as its record follows from them.
 --
 -- expansion_rule F c           the first rule that the expansions of c break: V2, then V3; None where they break none
--- is_compat kind               a mapping of this kind is a compatibility mapping
 -- HaveForms F c nfd nfc nfkc   the forms of c alone are these lists
 -- form_kc forms                the NFKC that is kept; if none is kept apart, the NFC
 -- composed_form F s            the list s in canonical order, composed
@@ -19,8 +18,6 @@ use Rattle.ucd_model.specs.Expansion.{expansion}
 use Rattle.ucd_model.specs.Facts.{Facts}
 use Rattle.ucd_model.specs.Forms.{nfd, nfc, nfkc}
 use Rattle.ucd_model.specs.Validity.{is_endless, is_too_long}
-use Rattle.ucd_model.specs.declared.decomposition.Kind.{Kind}
-use Rattle.ucd_model.specs.declared.decomposition.Kind.TheVariants.{Compat}
 use Rattle.ucd_model.specs.declared.form.Bad.{Bad as Rule}
 use Rattle.ucd_model.specs.declared.form.Bad.TheVariants.{V2, V3}
 use Rattle.ucd_model.specs.declared.form.FormStop.{FormStop}
@@ -30,10 +27,6 @@ use Rattle.identifier_closure.specs.declared.point_forms.Forms.{Forms}
 
 abbrev pub expansion_rule : (ℕ → Facts) → ℕ → Option Rule
 expansion_rule F c = if is_endless F c then Some V2 else (if is_too_long F c then Some V3 else None)
-
-abbrev pub is_compat : Kind → Bool
-is_compat (Compat tag) = true
-is_compat _ = false
 
 pub record HaveForms (F : ℕ → Facts) (c : ℕ) (decomposed composed compat : List ℕ) : Type 0 where
   pub nfd : nfd F (c ∷ []) ≡ Ok decomposed

@@ -4,12 +4,13 @@ ghost use Rattle.std.specs.Prelude.{◌≡◌, Ok, Err, true, false};
 ghost use Rattle.std.specs.List.{list_any};
 ghost use Rattle.std.specs.Option.{option_map};
 ghost use Rattle.ucd_model.specs.Expansion.{expansion};
-ghost use Rattle.identifier_closure.specs.PointForms.{ExpansionsAnswer, FormsAnswer, StopsBy, composed_form, form_kc, is_compat};
+ghost use Rattle.identifier_closure.specs.PointForms.{ExpansionsAnswer, FormsAnswer, StopsBy, composed_form, form_kc};
+ghost use Rattle.ucd_model.specs.Expansion.{is_compat};
 
 use decomposition::expand;
 use normalisation::{compose, order};
 use std::alloc::Global;
-use ucd_model::{Bad, FactView, FormStop, Kind, Point, Points};
+use ucd_model::{Bad, FactView, FormStop, Point, Points};
 
 /// Normalisation Forms D, C and KC of a code point alone. UAX #15, section 1.2.
 #[derive(Drop)]
@@ -152,18 +153,11 @@ fn has_compat<W: FactView>(view: &W, points: &[Point]) -> bool
     ensures { result ≡ list_any (λ x. is_compat (W.facts_of view.now x).kind) points.now }
 {
     'members: for member in points {
-        if is_compat(view.kind(*member)) {
+        if view.kind(*member).is_compat() {
             return true;
         }
     }
     false
-}
-
-/// Whether a mapping of this kind is a compatibility mapping.
-fn is_compat(kind: Kind) -> bool
-    ensures { result ≡ is_compat kind }
-{
-    matches!(kind, Kind::Compat(_))
 }
 
 /// The first rule that the expansions of a code point break, where the canonical one breaks this rule.

@@ -1,7 +1,7 @@
 //! The quick checks of the normalisation forms.
 
 ghost use Rattle.std.specs.Prelude.{◌≡◌, [], ◌∷◌};
-ghost use Rattle.ucd_model.specs.Expansion.{counts, FormAnswers};
+ghost use Rattle.ucd_model.specs.Expansion.{FormAnswers};
 ghost use Rattle.ucd_model.specs.QuickChecks.{quick_composed, quick};
 ghost use Rattle.quick_checks.specs.Checks.{quick_decomposed, decomposed_check, composed_check};
 
@@ -32,7 +32,7 @@ pub fn quick<W: FactView>(alloc: Global, view: &W, form: Form, c: Point) -> Resu
 pub fn quick_decomposed(kind: Kind, compat: bool) -> Quick
     ensures { result ≡ quick_decomposed kind compat }
 {
-    if counts(compat, kind) {
+    if kind.counts(compat) {
         Quick::No
     } else {
         Quick::Yes
@@ -63,7 +63,7 @@ fn decomposed_check<W: FactView>(
     ensures { FormAnswers result (decomposed_check (W.facts_of view.now) compat c) }
 {
     let kind = view.kind(c);
-    if counts(compat, kind) {
+    if kind.counts(compat) {
         // the list itself is not looked at, only whether there is one
         expand(alloc, view, compat, c)?;
     }
@@ -79,7 +79,7 @@ fn composed_check<W: FactView>(
 ) -> Result<Quick, FormStop>
     ensures { FormAnswers result (composed_check (W.facts_of view.now) compat c) }
 {
-    if !counts(compat, view.kind(c)) {
+    if !view.kind(c).counts(compat) {
         return Ok(quick_composed(view, c, &[c]));
     }
     let composed = if compat {
@@ -88,15 +88,4 @@ fn composed_check<W: FactView>(
         nfc(alloc, view, &[c])?
     };
     Ok(quick_composed(view, c, composed.as_slice()))
-}
-
-/// Whether a mapping of this kind is undone by the decomposition, canonical, or compatibility where `compat` holds.
-fn counts(compat: bool, kind: Kind) -> bool
-    ensures { result ≡ counts compat kind }
-{
-    match kind {
-        Kind::Plain => false,
-        Kind::Canonical => true,
-        Kind::Compat(_) => compat,
-    }
 }

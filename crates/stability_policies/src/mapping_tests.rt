@@ -3,7 +3,7 @@
 ghost use Rattle.std.specs.Prelude.{◌≡◌, ◌&&◌, ◌||◌, not, ◌==◌, IfOk};
 ghost use Rattle.std.specs.Str.{bytes_eq};
 ghost use Rattle.ucd_model.specs.CanonicalOrder.{class_of, order};
-ghost use Rattle.ucd_model.specs.Composites.{first_has_class_zero, is_canonical, primary};
+ghost use Rattle.ucd_model.specs.Composites.{is_canonical};
 ghost use Rattle.ucd_model.specs.Shown.{shown_facts};
 ghost use Rattle.stability_policies.specs.Policies.{all_assigned, breaks, second_maps};
 ghost use Rattle.stability_policies.specs.declared.policy.Policy.TheVariants.{P05};
@@ -24,30 +24,9 @@ pub fn changes_composite<O: FactView, N: FactView>(
     requires new { shown_facts b.now ≡ N.facts_of new.now c }
     ensures { result ≡ breaks P05 (O.facts_of old.now) (N.facts_of new.now) c }
 {
-    let before = is_primary(old, c, a);
-    let after = is_primary(new, c, b);
+    let before = a.is_primary(old);
+    let after = b.is_primary(new);
     (before && !after) || (after && !before && are_assigned(old, b.mapping))
-}
-
-/// Whether a code point with these facts is a primary composite. The Unicode Standard, section 3.11, D114.
-fn is_primary<W: FactView>(view: &W, c: Point, facts: &FactsRef<'_>) -> bool
-    requires { shown_facts facts.now ≡ W.facts_of view.now c }
-    ensures { result ≡ primary (W.facts_of view.now) c }
-{
-    matches!(facts.kind, Kind::Canonical)
-        && facts.class == 0
-        && first_has_class_zero(view, facts.mapping)
-        && !facts.excluded
-}
-
-/// Whether a mapping has two members, of which the first has class 0.
-fn first_has_class_zero<W: FactView>(view: &W, mapping: &[Point]) -> bool
-    ensures { result ≡ first_has_class_zero (W.facts_of view.now) mapping.now }
-{
-    match mapping {
-        [first, _] => view.class(*first) == 0,
-        _ => false,
-    }
 }
 
 /// Whether all of these code points are assigned.

@@ -3,8 +3,9 @@
 -- F is the facts of each code point.
 -- is_canonical kind          the kind of the mapping is Canonical
 -- first_has_class_zero F m   m has two members, and the first has class 0
--- primary F q                q is a primary composite: its mapping is canonical and has two members, q and the first member have
---                            class 0, and q is not excluded
+-- primary_of F G             D114: a code point with the facts G is a primary composite: its mapping is canonical and has two
+--                            members, it and the first member have class 0, and it is not excluded
+-- primary F q                q is one
 -- is_pair s y m              the mapping m has two members, s and y
 -- is_second y m              the mapping m has two members, and the second is y
 -- composes F s y q           q is a primary composite with the mapping s y
@@ -28,8 +29,11 @@ abbrev pub first_has_class_zero : (ℕ → Facts) → List ℕ → Bool
 first_has_class_zero F (s ∷ y ∷ []) = (F s).class == 0
 first_has_class_zero F _ = false
 
+abbrev pub primary_of : (ℕ → Facts) → Facts → Bool
+primary_of F G = is_canonical G.kind && ((G.class == 0) && (first_has_class_zero F G.mapping && not G.excluded))
+
 abbrev pub primary : (ℕ → Facts) → ℕ → Bool
-primary F q = is_canonical (F q).kind && (((F q).class == 0) && (first_has_class_zero F (F q).mapping && not (F q).excluded))
+primary F q = primary_of F (F q)
 
 abbrev pub is_pair : ℕ → ℕ → List ℕ → Bool
 is_pair s y (a ∷ b ∷ []) = (a == s) && (b == y)

@@ -2,6 +2,7 @@
 --
 -- F is the facts of each code point, and `compat` says whether compatibility mappings count.
 -- counts compat kind      a mapping of this kind counts: a canonical one always, a compatibility one where compat holds
+-- is_compat kind          a mapping of this kind is a compatibility mapping
 -- counted F compat c      the mapping of c where it counts, else none
 -- both a b                the list a and behind it b; None where one of them is None
 -- joined f xs             f of the members, joined in order; the empty list for no members; None where it is None of one of them
@@ -25,6 +26,10 @@ abbrev pub counts : Bool → Kind → Bool
 counts compat Plain = false
 counts compat Canonical = true
 counts compat (Compat _) = compat
+
+abbrev pub is_compat : Kind → Bool
+is_compat (Compat tag) = true
+is_compat _ = false
 
 abbrev pub counted : (ℕ → Facts) → Bool → ℕ → List ℕ
 counted F compat c = if counts compat (F c).kind then (F c).mapping else []

@@ -1,6 +1,7 @@
 //! Kinds of decomposition mappings.
 
 ghost use Rattle.std.specs.Prelude.{◌≡◌, ◌<◌, slice_get};
+ghost use Rattle.ucd_model.specs.Expansion.{counts, is_compat};
 ghost use Rattle.ucd_model.specs.Enumerations.{tags, place_of_tag, kinds, place_of_kind};
 ghost use Rattle.ucd_model.specs.Names.{tag_name, tag_text};
 
@@ -157,6 +158,25 @@ impl Kind {
             Kind::Canonical => 1,
             Kind::Compat(tag) => 2 + tag.place(),
         }
+    }
+
+    /// Whether a mapping of this kind counts in an expansion: a canonical one always, a compatibility one where `compat`
+    /// holds. UAX #15, section 1.3.
+    pub fn counts(self, compat: bool) -> bool
+        ensures { result ≡ counts compat self }
+    {
+        match self {
+            Kind::Plain => false,
+            Kind::Canonical => true,
+            Kind::Compat(_) => compat,
+        }
+    }
+
+    /// Whether a mapping of this kind is a compatibility mapping. UAX #44, section 5.7.3.
+    pub fn is_compat(self) -> bool
+        ensures { result ≡ is_compat self }
+    {
+        matches!(self, Kind::Compat(_))
     }
 
     /// The kind at a place; `None` past 17.

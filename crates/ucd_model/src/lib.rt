@@ -3,6 +3,7 @@
 
 mod bits;
 mod category;
+mod composite;
 pub mod composite_laws;
 mod decomposition;
 mod enumeration;

@@ -76,6 +76,7 @@ fn read_file<S: System>(
     ensures contents { IsTrue S.tells → Reads result (file_of (S.at system.now path.now)) most into.new.items }
     ensures missing { IsTrue S.tells → IsUtf8 path.now → S.at system.now path.now ≡ Nothing
         → result ≡ Ok Found.Absent }
+    ensures absent_only { IsTrue S.tells → OnAbsent result (S.at system.now path.now ≡ Nothing) }
     ensures not_text { ¬ IsUtf8 path.now → result ≡ Err ReadStop.Failed }
     ensures at_most { OnFound result (length into.new.items ≤ most) }
     ensures absent { OnAbsent result (into.new.items ≡ into.old.items) }
@@ -184,6 +185,8 @@ impl<S: System> Shelf for DiskShelf<S> {
             Reads result (file_of (S.at self.old.system path.now)) most into.new.items }
         ensures missing { IsTrue S.tells → IsUtf8 path.now → S.at self.old.system path.now ≡ Nothing
             → result ≡ Ok Found.Absent }
+        ensures absent_only { IsTrue S.tells →
+            OnAbsent result (S.at self.old.system path.now ≡ Nothing) }
         ensures not_text { ¬ IsUtf8 path.now → result ≡ Err ReadStop.Failed }
         ensures at_most { OnFound result (length into.new.items ≤ most) }
         ensures absent { OnAbsent result (into.new.items ≡ into.old.items) }

@@ -3,8 +3,8 @@
 --
 -- F is the facts of each code point.
 -- lower_of upper_of title_of fold_of F c   the full mapping of c
--- lower upper fold F s     the full mappings of the members, joined in order: R2, R1 and R4 of section 3.13
--- title F s                R3 of section 3.13: the members before the first Cased one stay; that one has its title mapping, and each later
+-- lower upper fold F s     the full mappings of the members, joined in order: toLowercase, toUppercase and toCasefold
+-- title F s                toTitlecase: the members before the first Cased one stay; that one has its title mapping, and each later
 --                          member its lower mapping
 -- changes map s            the mapped list is not s
 -- lowers uppers titles folds F s    whether the list changes when it is mapped so: not D139, D140, D141, D142

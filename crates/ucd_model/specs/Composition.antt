@@ -5,12 +5,13 @@
 -- Split                     a list cut at a starter: what stands before it, the starter, and what stands after it
 -- starter_behind class x xs cut   the last starter of the list x and xs, where cut is that of xs: the same, with x before it;
 --                           where xs has none, x where its class is 0, else None
--- last_starter class xs     D117, R1: the list cut at its last starter; None where it has none
--- is_open class y after     D115, the other way round: every class in after is less than that of y, so that y is not blocked by what stands after the last
---                           starter; where anything stands there, a y of class 0 is blocked
+-- last_starter class xs     D117, its first rule: the list cut at its last starter; None where it has none
+-- is_open class y after     not blocked (D115): every class in after, which stands behind the last starter, is less than that of y;
+--                           where anything stands there, a y of class 0 is blocked
 -- where_open class y cut    the cut, where y is not blocked by what stands after its starter; else None
 -- reached class xs y        D116: the list cut at its last starter, where y behind the list is not blocked from it; else None
--- with_composite xs y cut q   D117, R2: the cut list with the composite q in the starter's place; without a composite xs with y at the end
+-- with_composite xs y cut q   D117, its second rule: the cut list with the composite q in the starter's place; without a composite
+--                           xs with y at the end
 -- with_point pair xs y cut   where the starter and y have a composite, it takes the starter's place, and y goes; else, and where
 --                           no starter is reached, y stands at the end
 -- composed_with class pair xs y   a composed list with one more point behind it

@@ -152,7 +152,7 @@ fn texts_that_end_too_early(rt: HostRuntime) {
 }
 
 /// Texts with a character that is not allowed, and its place.
-const OTHERS: [(&[u8], usize); 24] = [
+const OTHERS: [(&[u8], usize); 28] = [
     (b"a", 0),
     (b"]", 0),
     (b"{", 0),
@@ -161,6 +161,10 @@ const OTHERS: [(&[u8], usize); 24] = [
     (b"[a][b]", 3),
     (b"[a]\\", 3),
     (b"[a]\\p", 3),
+    (b"[a]\\p{x\xe2\x89\xa0y}", 3),
+    (b"[a][:x=/y:]", 3),
+    (b"[a]&\\p{x\xe2\x89\xa0y}", 3),
+    (b"\\p{L}\\P{gc=/L}", 5),
     (b"[a]$", 3),
     (b"[ ^a]", 2),
     (b"[a&b]", 2),
@@ -190,7 +194,7 @@ fn characters_that_are_not_allowed(rt: HostRuntime) {
 }
 
 /// Texts with a range, an escape or a form that is refused, and the fault of each.
-const REFUSED: [(&[u8], SetRule, usize); 23] = [
+const REFUSED: [(&[u8], SetRule, usize); 25] = [
     (b"[z-a]", SetRule::S4, 3),
     (b"[a--]", SetRule::S4, 3),
     (b"[a - \\u0041]", SetRule::S4, 5),
@@ -213,7 +217,9 @@ const REFUSED: [(&[u8], SetRule, usize); 23] = [
     (b"[$]", SetRule::S7, 1),
     (b"[\\N{x}]", SetRule::S7, 1),
     (b"[a-\\N]", SetRule::S7, 3),
-    (b"[a]\\p{\xe2\x89\xa0}", SetRule::S7, 3),
+    (b"\\p{x\xe2\x89\xa0y}", SetRule::S7, 0),
+    (b"[[a]&\\p{x\xe2\x89\xa0y}]", SetRule::S7, 5),
+    (b"[a[:x=/y:]]", SetRule::S7, 2),
 ];
 
 #[test]

@@ -5,8 +5,9 @@ pub mod Cutting
 pub mod Encoding
 pub mod Complete
 pub mod Sound
+pub mod Stops
+pub mod FaultNames
 pub mod FaultPlaces
-pub mod FirstFaults
 pub mod Lexemes
 pub mod ReadBack
 pub mod Closings

@@ -10,6 +10,7 @@ pub mod TokenViews
 pub mod Machine
 pub mod Grammar
 pub mod Laws
+pub mod FaultNames
 pub mod Spelling
 pub mod Parsed
 pub mod TreeNames

@@ -72,9 +72,8 @@ range_fault e at CharacterName = fault S7 at
 range_fault e at BadEscape = fault S5 at
 range_fault e at w = fault S3 at
 
--- behind the whole set, where nothing may stand
+-- behind the whole set, where nothing may stand, so that no name is looked at
 abbrev pub late_fault : ℕ → Wrong → Fault
-late_fault at RefusedName = fault S7 at
 late_fault at CharacterName = fault S7 at
 late_fault at BadEscape = fault S5 at
 late_fault at w = fault S3 at

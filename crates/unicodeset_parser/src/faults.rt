@@ -48,12 +48,12 @@ pub(crate) fn range_fault(end: usize, at: usize, wrong: Wrong) -> SetStop
     }
 }
 
-/// Behind the whole set, where nothing may stand.
+/// Behind the whole set, where nothing may stand, so that no name is looked at.
 pub(crate) fn late_fault(at: usize, wrong: Wrong) -> SetStop
     ensures { result ≡ stop_of (late_fault at wrong) }
 {
     match wrong {
-        Wrong::RefusedName | Wrong::CharacterName => fault(SetRule::S7, at),
+        Wrong::CharacterName => fault(SetRule::S7, at),
         Wrong::BadEscape => fault(SetRule::S5, at),
         _ => fault(SetRule::S3, at),
     }

@@ -1,5 +1,6 @@
 //! Laws of the grammar.
 
+ghost use Rattle.unicodeset_parser.specs.FaultNames.{FaultsAreNamed};
 ghost use Rattle.unicodeset_parser.specs.Laws.{ReadsExactly, OneTree, FaultsAreFirst};
 ghost use Rattle.unicodeset_parser.specs.Spelling.{TextsReadBack, ReadTreesCanBeWritten};
 ghost use Rattle.unicodeset_parser.specs.TreeNames.{PlacesAscend};
@@ -18,6 +19,12 @@ pub fn one_tree()
 /// of it begins a text, and the fault is S2 at the end.
 pub fn faults_are_first()
     ensures { FaultsAreFirst }
+{}
+
+/// The rule of what is refused is told by what may stand behind the tokens before it: a set, a character, both or
+/// neither.
+pub fn faults_are_named()
+    ensures { FaultsAreNamed }
 {}
 
 /// The text of a tree that can be written is read as that tree, the places of its properties aside.

@@ -1,8 +1,8 @@
--- What is refused has its first fault.
+-- Where the reading of tokens stops.
 use Rattle.std.proofs.Common.{◌≡◌, ◌⊎◌, ℕ, true, List, [], ◌∷◌, ◌++◌, Result, Ok, Err, inl, inr, refl, sym, ap, ◌∙◌, arith, append_assoc}
 use Rattle.std.proofs.lemmas.Bool.Decides.{nat_tests}
 use Rattle.std.specs.Prelude.{nat_le}
-use Rattle.unicodeset_parser.specs.Laws.{Begins, FirstFault, FaultsAreFirst}
+use Rattle.unicodeset_parser.specs.Laws.{Begins}
 use Rattle.unicodeset_parser.specs.Machine as m
 use Rattle.unicodeset_parser.specs.Machine.{Fault, fault, State, Frame, within, before, after, first, behind_set, elsewhere, pending, lacking, due, put, range_of, step, run, finished, then_run}
 use Rattle.unicodeset_parser.specs.Tokens.{Token, placed, close, letter, property}
@@ -11,7 +11,6 @@ use Rattle.unicodeset_parser.specs.declared.expr.Join.TheVariants.{Union}
 use Rattle.unicodeset_parser.specs.declared.stop.SetRule.TheVariants.{S2}
 use Rattle.unicodeset_parser.proofs.Complete.{runs, complete}
 use Rattle.unicodeset_parser.proofs.Sound.{sound}
-use Rattle.unicodeset_parser.proofs.FaultPlaces.{step_place}
 
 -- ---- every state can be finished
 
@@ -43,22 +42,22 @@ ends e (within (due j) f a) = let r = closed_ends e (put j (named [] 0) f) a in 
 
 -- ---- where a run stops
 
-abbrev Reaches : ℕ → State → List Token → State → Type 0
+abbrev pub Reaches : ℕ → State → List Token → State → Type 0
 Reaches e st front next = (more : List Token) → run e st (front ++ more) ≡ run e next more
 
-record AtToken (e : ℕ) (st : State) (ps : List Token) (f : Fault) : Type 0 where
-  front : List Token
-  token : Token
-  rest : List Token
-  next : State
-  cut : ps ≡ front ++ token ∷ rest
-  reached : Reaches e st front next
-  refused : step e next token ≡ Err f
+pub record AtToken (e : ℕ) (st : State) (ps : List Token) (f : Fault) : Type 0 where
+  pub front : List Token
+  pub token : Token
+  pub rest : List Token
+  pub next : State
+  pub cut : ps ≡ front ++ token ∷ rest
+  pub reached : Reaches e st front next
+  pub refused : step e next token ≡ Err f
 
-record AtEnd (e : ℕ) (st : State) (ps : List Token) (f : Fault) : Type 0 where
-  next : State
-  reached : Reaches e st ps next
-  refused : finished e next ≡ Err f
+pub record AtEnd (e : ℕ) (st : State) (ps : List Token) (f : Fault) : Type 0 where
+  pub next : State
+  pub reached : Reaches e st ps next
+  pub refused : finished e next ≡ Err f
 
 one_more : (e : ℕ) (st next : State) (p : Token) (ps : List Token) (f : Fault) → step e st p ≡ Ok next → AtToken e next ps f ⊎ AtEnd e next ps f → AtToken e st (p ∷ ps) f ⊎ AtEnd e st (p ∷ ps) f
 one_more e st next p ps f is (inl h) = inl (record { front = p ∷ h.front; token = h.token; rest = h.rest; next = h.next; cut = ap (λ qs. p ∷ qs) h.cut; reached = λ more. runs e st next p (h.front ++ more) is ∙ h.reached more; refused = h.refused })
@@ -69,14 +68,14 @@ stops_by : (e : ℕ) (st : State) (p : Token) (ps : List Token) (f : Fault) (r :
 stops_by e st p ps f (Ok next) is h ih = one_more e st next p ps f is (ih next h)
 stops_by e st p ps f (Err g) is h ih = inl (record { front = []; token = p; rest = ps; next = st; cut = refl; reached = λ more. refl; refused = let same : g ≡ f = cc in is ∙ ap (λ y. Err y) same })
 
-stops : (e : ℕ) (ps : List Token) (st : State) (f : Fault) → run e st ps ≡ Err f → AtToken e st ps f ⊎ AtEnd e st ps f
+pub stops : (e : ℕ) (ps : List Token) (st : State) (f : Fault) → run e st ps ≡ Err f → AtToken e st ps f ⊎ AtEnd e st ps f
 stops e [] st f h = inr (record { next = st; reached = λ more. refl; refused = h })
 stops e (p ∷ ps) st f h = stops_by e st p ps f (step e st p) refl h (λ next k. stops e ps next f k)
 
-begins : (e : ℕ) (front : List Token) (next : State) → Reaches e before front next → Begins front
+pub begins : (e : ℕ) (front : List Token) (next : State) → Reaches e before front next → Begins front
 begins e front next reached = let r = ends e next in record { more = r.more; tree = r.tree; text = sound e (front ++ r.more) r.tree (reached r.more ∙ r.goes) }
 
-no_text : (e : ℕ) (front : List Token) (p : Token) (next : State) (f : Fault) → Reaches e before front next → step e next p ≡ Err f → ¬ (Begins (front ++ p ∷ []))
+pub no_text : (e : ℕ) (front : List Token) (p : Token) (next : State) (f : Fault) → Reaches e before front next → step e next p ≡ Err f → ¬ (Begins (front ++ p ∷ []))
 no_text e front p next f reached refused b =
     let ok : run e before ((front ++ p ∷ []) ++ b.more) ≡ Ok b.tree = complete e ((front ++ p ∷ []) ++ b.more) b.tree b.text in
     let cut : run e before ((front ++ p ∷ []) ++ b.more) ≡ run e before (front ++ (p ∷ b.more)) = ap (λ ts. run e before ts) (append_assoc front (p ∷ []) b.more) in
@@ -84,14 +83,7 @@ no_text e front p next f reached refused b =
     let no : Err f ≡ Ok b.tree = sym (cut ∙ reached (p ∷ b.more) ∙ stop) ∙ ok in
     absurd (cc)
 
-end_place : (e : ℕ) (st : State) (f : Fault) → finished e st ≡ Err f → f ≡ fault S2 e
+pub end_place : (e : ℕ) (st : State) (f : Fault) → finished e st ≡ Err f → f ≡ fault S2 e
 end_place e before f h = cc
 end_place e (within mode g a) f h = cc
 end_place e (after t) f h = absurd (cc)
-
-first_fault : (e : ℕ) (ps : List Token) (f : Fault) → AtToken e before ps f ⊎ AtEnd e before ps f → FirstFault e ps f
-first_fault e ps f (inl h) = inl (record { front = h.front; token = h.token; rest = h.rest; cut = h.cut; begins = begins e h.front h.next h.reached; ends = no_text e h.front h.token h.next f h.reached h.refused; stands = step_place e f h.next h.token h.refused })
-first_fault e ps f (inr h) = inr (record { begins = begins e ps h.next h.reached; stands = end_place e h.next f h.refused })
-
-pub faults_are_first : FaultsAreFirst
-faults_are_first e ps f h = first_fault e ps f (stops e ps before f h)

@@ -1,8 +1,7 @@
--- Stretches of code points, and facts that are shown without a mapping. UAX #44, sections 5.6 and 5.7.
+-- Facts that are shown without a mapping. UAX #44, sections 5.6 and 5.7.
 --
 -- IsOwnImage c shown  each simple image of the shown facts is c; ShowsNoImage shown: none of their images is shown
--- HoldsTo P c last    last is not before c, and P holds of all numbers from c to last
-use Rattle.std.specs.Prelude.{◌≡◌, ℕ, ◌≤◌, None}
+use Rattle.std.specs.Prelude.{◌≡◌, ℕ, None}
 use Rattle.ucd_model.specs.declared.view.FactsRef.{FactsRef}
 
 pub record IsOwnImage (c : ℕ) (shown : FactsRef) : Type 0 where
@@ -16,7 +15,3 @@ pub record ShowsNoImage (shown : FactsRef) : Type 0 where
   pub lower : shown.lower ≡ None
   pub title : shown.title ≡ None
   pub fold : shown.fold ≡ None
-
-pub record HoldsTo (P : ℕ → Type 0) (c last : ℕ) : Type 0 where
-  pub from : c ≤ last
-  pub each : (d : ℕ) → c ≤ d → d ≤ last → P d

@@ -5,7 +5,7 @@ ghost use Rattle.std.specs.Box.{box_value};
 ghost use Rattle.std.specs.Option.{option_map};
 ghost use Rattle.code_facts.specs.Found.{found};
 ghost use Rattle.code_facts.specs.CaseMaps.{KeepsImages};
-ghost use Rattle.code_facts.specs.Plain.{HoldsTo};
+ghost use Rattle.ucd_points.specs.Stretches.{HoldsTo};
 ghost use Rattle.code_facts.specs.Rest.{cases_of, no_cases};
 ghost use Rattle.code_facts.specs.RowLists.{sources_of};
 ghost use Rattle.code_facts.specs.RowTables.{cases_in, with_foldings};

@@ -3,7 +3,7 @@
 ghost use Rattle.std.specs.Prelude.{◌≡◌, ◌<◌, ◌≤◌, ℕ, [], vec_len, OnOk, IfOk};
 ghost use Rattle.range_table.specs.Values.{SameValues, with_span};
 ghost use Rattle.code_facts.specs.Lists.{LiesIn, slice_at};
-ghost use Rattle.code_facts.specs.Plain.{HoldsTo};
+ghost use Rattle.ucd_points.specs.Stretches.{HoldsTo};
 ghost use Rattle.code_facts.specs.PointLists.{lists_now, lists_next};
 
 use crate::list_run::ListRun;

@@ -4,7 +4,8 @@ ghost use Rattle.std.specs.Prelude.{◌≡◌, ◌↔◌, IfSome, IsSome, IsTrue
 ghost use Rattle.ucd_model.specs.Shown.{shown_facts};
 ghost use Rattle.ucd_model.specs.Uniform.{IsPlain};
 ghost use Rattle.code_facts.specs.FactTables.{tables_facts};
-ghost use Rattle.code_facts.specs.Plain.{IsOwnImage, ShowsNoImage, HoldsTo};
+ghost use Rattle.code_facts.specs.Plain.{IsOwnImage, ShowsNoImage};
+ghost use Rattle.ucd_points.specs.Stretches.{HoldsTo};
 
 use crate::fact_tables::FactTables;
 use kept_values::Store;

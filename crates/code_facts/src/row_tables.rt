@@ -7,7 +7,7 @@ ghost use Rattle.ucd_model.specs.Facts.{data_row, class_in};
 ghost use Rattle.ucd_points.specs.declared.files.SourceFile.TheVariants.{UnicodeData};
 ghost use Rattle.code_facts.specs.DataTables.{data_now};
 ghost use Rattle.code_facts.specs.Marks.{marks_at};
-ghost use Rattle.code_facts.specs.Plain.{HoldsTo};
+ghost use Rattle.ucd_points.specs.Stretches.{HoldsTo};
 ghost use Rattle.code_facts.specs.PointLists.{lists_now};
 ghost use Rattle.code_facts.specs.Rest.{no_rest, bare_rest as bare_with};
 ghost use Rattle.code_facts.specs.RowLists.{sources_of};

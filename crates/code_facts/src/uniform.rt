@@ -4,7 +4,7 @@ ghost use Rattle.std.specs.Prelude.{◌≡◌, ◌↔◌, IfSome, IsSome};
 ghost use Rattle.ucd_model.specs.Composites.{second_of};
 ghost use Rattle.ucd_model.specs.Uniform.{Alike, IsPlain, Uniform};
 ghost use Rattle.code_facts.specs.FactTables.{tables_facts};
-ghost use Rattle.code_facts.specs.Plain.{HoldsTo};
+ghost use Rattle.ucd_points.specs.Stretches.{HoldsTo};
 
 use crate::fact_tables::FactTables;
 use crate::pair_index::next_second;

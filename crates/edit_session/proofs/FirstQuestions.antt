@@ -11,7 +11,7 @@ use Rattle.asked_queries.specs.Answers.{is_asked}
 use Rattle.asked_queries.specs.PlainProofs.{plain_ask_own}
 use Rattle.asked_queries.specs.Questions.{asked}
 use Rattle.asked_queries.specs.Turns.{KeepsAsked, SameQueries}
-use Rattle.code_facts.specs.Plain.{HoldsTo}
+use Rattle.ucd_points.specs.Stretches.{HoldsTo}
 use Rattle.dependency_map.specs.Askers.{own_queries}
 use Rattle.edit_session.specs.Questions.{AsksBelow}
 

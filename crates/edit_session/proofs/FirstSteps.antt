@@ -11,7 +11,7 @@ use Rattle.ucd_model.specs.Validity.{broken}
 use Rattle.ucd_model.specs.ValidityLaws.{IsValid}
 use Rattle.ucd_model.specs.ValidityProofs.{broken_is_least}
 use Rattle.ucd_model.specs.declared.form.Bad.{Bad as Rule}
-use Rattle.code_facts.specs.Plain.{HoldsTo}
+use Rattle.ucd_points.specs.Stretches.{HoldsTo}
 use Rattle.identifier_closure.specs.UniformProofs.{uniform_derived}
 use Rattle.range_table.specs.Values.{SameValues, with_span}
 use Rattle.edit_session.specs.Benches.{NamesBroken}

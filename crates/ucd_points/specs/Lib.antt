@@ -6,3 +6,4 @@ pub mod Fields
 pub mod HexText
 pub mod HexTextLaws
 pub mod HexTextProofs
+pub mod Stretches

@@ -1,5 +1,5 @@
 use Rattle.std.proofs.Common.{◌≡◌, ◌+◌, refl, ap, subst, ◌∙◌, arith}
-use Rattle.code_facts.specs.Plain.{HoldsTo}
+use Rattle.ucd_points.specs.Stretches.{HoldsTo}
 use Rattle.code_facts.specs.PointLists.{lists_now}
 use Rattle.code_facts.specs.RowTables.{rest_in}
 use Rattle.code_facts.specs.declared.data_lists.DataLists.{DataLists}

@@ -3,8 +3,8 @@
 ghost use Rattle.std.specs.Prelude.{◌≡◌, IsTrue};
 ghost use Rattle.ucd_model.specs.Facts.{image};
 ghost use Rattle.ucd_model.specs.Shown.{image_shown};
-use ucd_points::{Point, Points};
 
+use ucd_points::{Point, Points};
 
 /// What a code point is mapped to. `Same` stands exactly where that is the point itself alone.
 #[derive(Debug, Drop)]

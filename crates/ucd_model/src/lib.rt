@@ -43,8 +43,8 @@ pub use row::{
 pub use sets::{CoreSet, Flags};
 pub use shown::same_facts;
 pub use steps::Steps;
-pub use view::{FactView, FactsRef};
 pub use ucd_points::{
     Copied, FILE_LIMIT, ListOf, Memory, Point, Points, SOURCE_FILES, SourceFile, Span, Spans, Text,
     Texts, file_limit, point_count,
 };
+pub use view::{FactView, FactsRef};

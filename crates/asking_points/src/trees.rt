@@ -3,7 +3,7 @@
 ghost use Rattle.std.specs.Prelude.{◌≡◌, ◌++◌, OnOk};
 ghost use Rattle.std.specs.List.{flat_map};
 ghost use Rattle.asked_queries.specs.Questions.{tree, whole_tree, row_queries};
-ghost use Rattle.identifier_closure.specs.PointForms.{is_compat};
+ghost use Rattle.ucd_model.specs.Expansion.{is_compat};
 ghost use Rattle.asking_points.specs.Compat.{has_compat};
 
 use decomposition::{LEVELS, counted};

@@ -24,7 +24,7 @@ use Rattle.ucd_model.specs.DerivedFiles.{derived_files}
 use Rattle.ucd_model.specs.Facts.{status_place}
 use Rattle.ucd_model.specs.Predicates.{category_place, core_properties}
 use Rattle.ucd_model.specs.Sets.{flag_place, core_place}
-use Rattle.ucd_model.specs.SourceFiles.{source_files, file_place, file_place_small, file_at-place}
+use Rattle.ucd_points.specs.SourceFiles.{source_files, file_place, file_place_small, file_at-place}
 use Rattle.ucd_model.specs.Enumerations.{IsEnumeration, EnumerationsAreWhole, categories, statuses, tags, place_of_tag, kinds, place_of_kind, flags, place_of_derived, foldings, place_of_folding, forms, place_of_form, quick_values, place_of_quick, rules, place_of_rule}
 use Rattle.ucd_model.specs.declared.category.Category.{Category}
 use Rattle.ucd_model.specs.declared.category.Category.TheVariants.{Lu, Ll, Lt, Lm, Lo, Mn, Mc, Me, Nd, Nl, No, Pc, Pd, Ps, Pe, Pi, Pf, Po, Sm, Sc, Sk, So, Zs, Zl, Zp, Cc, Cf, Cs, Co, Cn}
@@ -32,8 +32,8 @@ use Rattle.ucd_model.specs.declared.decomposition.Kind.{Kind}
 use Rattle.ucd_model.specs.declared.decomposition.Kind.TheVariants as kind
 use Rattle.ucd_model.specs.declared.decomposition.Tag.{Tag}
 use Rattle.ucd_model.specs.declared.decomposition.Tag.TheVariants.{Font, NoBreak, Initial, Medial, Final, Isolated, Circle, Super, Sub, Vertical, Wide, Narrow, Small, Square, Fraction, Compat}
-use Rattle.ucd_model.specs.declared.files.SourceFile.{SourceFile}
-use Rattle.ucd_model.specs.declared.files.SourceFile.TheVariants.{UnicodeData}
+use Rattle.ucd_points.specs.declared.files.SourceFile.{SourceFile}
+use Rattle.ucd_points.specs.declared.files.SourceFile.TheVariants.{UnicodeData}
 use Rattle.ucd_model.specs.declared.files.DerivedFile.{DerivedFile}
 use Rattle.ucd_model.specs.declared.files.DerivedFile.TheVariants.{CoreProperties, NormalizationProps, GeneralCategory, CombiningClass, DecompositionType}
 use Rattle.ucd_model.specs.declared.folding.Folding.{Folding}

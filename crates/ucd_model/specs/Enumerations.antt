@@ -23,7 +23,7 @@ use Rattle.ucd_model.specs.DerivedFiles.{derived_files}
 use Rattle.ucd_model.specs.Facts.{status_place}
 use Rattle.ucd_model.specs.Predicates.{category_place, core_properties}
 use Rattle.ucd_model.specs.Sets.{flag_place, core_place}
-use Rattle.ucd_model.specs.SourceFiles.{source_files, file_place}
+use Rattle.ucd_points.specs.SourceFiles.{source_files, file_place}
 use Rattle.ucd_model.specs.declared.category.Category.{Category}
 use Rattle.ucd_model.specs.declared.category.Category.TheVariants.{Lu, Ll, Lt, Lm, Lo, Mn, Mc, Me, Nd, Nl, No, Pc, Pd, Ps, Pe, Pi, Pf, Po, Sm, Sc, Sk, So, Zs, Zl, Zp, Cc, Cf, Cs, Co, Cn}
 use Rattle.ucd_model.specs.declared.decomposition.Kind.{Kind}

@@ -23,7 +23,7 @@ use Rattle.std.specs.Option.{option_map}
 use Rattle.std.specs.Str.{bytes_eq}
 use Rattle.ucd_model.specs.Composites.{primary, pair_of}
 use Rattle.ucd_model.specs.Expansion.{full}
-use Rattle.ucd_model.specs.Limits.{point_count}
+use Rattle.ucd_points.specs.Limits.{point_count}
 use Rattle.ucd_model.specs.Facts.{Facts, image_points}
 use Rattle.ucd_model.specs.FoldRounds.{casefold}
 use Rattle.ucd_model.specs.declared.folding.Folding.TheVariants.{Full}

@@ -5,8 +5,9 @@
 -- TreeIsLeast             where c has an expansion, the whole tree of c is that set
 -- SameExpansions          the expansion with n levels, and its tree
 -- SameForms               the ordered expansions of a list, these composed, and what a form of it asks
--- SameRounds              the NFKC of a list, its folding without ignorable points, one round, and what the round asks
--- SameFoldings            where c alone reaches a last round: each list up to the one after it, which round is the last, and what
+-- SameRounds              by either folding: the NFKC of a list, its folding without ignorable points, one round, and what the round
+--                         asks
+-- SameFoldings            by either folding, where c alone reaches a last round: each list up to the one after it, which round is the last, and what
 --                         the rounds ask
 -- AskedIsLocal            the record of a point that has one, and what its derivation asks
 -- PlainAskOwn             a point without a mapping asks its own row, and whether it is a second member, and nothing else
@@ -19,6 +20,7 @@ use Rattle.ucd_model.specs.Forms.{decomposed, composed}
 use Rattle.ucd_model.specs.Records.{Record, derived}
 use Rattle.ucd_model.specs.Sameness.{is_in}
 use Rattle.ucd_model.specs.Uniform.{IsPlain}
+use Rattle.ucd_model.specs.declared.folding.Folding.{Folding}
 use Rattle.ucd_model.specs.declared.query.Query.{Query}
 use Rattle.ucd_model.specs.declared.query.Query.TheVariants.{Row, Second}
 use Rattle.asked_queries.specs.Answers.{is_asked, SameAnswer, Each}
@@ -46,22 +48,22 @@ pub record SameForm (F G : ℕ → Facts) (compat : Bool) (s : List ℕ) : Type 
 abbrev pub SameForms : Type 0
 SameForms = (F G : ℕ → Facts) (compat : Bool) (s : List ℕ) → Each (SameAnswer F G) (asks F compat s) → SameForm F G compat s
 
-pub record SameRound (F G : ℕ → Facts) (s : List ℕ) : Type 0 where
+pub record SameRound (folding : Folding) (F G : ℕ → Facts) (s : List ℕ) : Type 0 where
   pub form : short_nfkc G s ≡ short_nfkc F s
-  pub folding : option_and_then (short_fold G) (short_nfkc G s) ≡ option_and_then (short_fold F) (short_nfkc F s)
-  pub next : round G s ≡ round F s
-  pub asks : round_asks G s ≡ round_asks F s
+  pub folded : option_and_then (short_fold folding G) (short_nfkc G s) ≡ option_and_then (short_fold folding F) (short_nfkc F s)
+  pub next : round folding G s ≡ round folding F s
+  pub asks : round_asks folding G s ≡ round_asks folding F s
 
 abbrev pub SameRounds : Type 0
-SameRounds = (F G : ℕ → Facts) (s : List ℕ) → Each (SameAnswer F G) (round_asks F s) → SameRound F G s
+SameRounds = (folding : Folding) (F G : ℕ → Facts) (s : List ℕ) → Each (SameAnswer F G) (round_asks folding F s) → SameRound folding F G s
 
-pub record SameFolding (F G : ℕ → Facts) (c n : ℕ) : Type 0 where
-  pub lists : (i : ℕ) → i ≤ suc n → rounds G i (c ∷ []) ≡ rounds F i (c ∷ [])
-  pub last : last_round G c ≡ Some n
-  pub asks : rounds_ask G c (Some n) ≡ rounds_ask F c (Some n)
+pub record SameFolding (folding : Folding) (F G : ℕ → Facts) (c n : ℕ) : Type 0 where
+  pub lists : (i : ℕ) → i ≤ suc n → rounds folding G i (c ∷ []) ≡ rounds folding F i (c ∷ [])
+  pub last : last_round folding G c ≡ Some n
+  pub asks : rounds_ask folding G c (Some n) ≡ rounds_ask folding F c (Some n)
 
 abbrev pub SameFoldings : Type 0
-SameFoldings = (F G : ℕ → Facts) (c n : ℕ) → last_round F c ≡ Some n → Each (SameAnswer F G) (rounds_ask F c (Some n)) → SameFolding F G c n
+SameFoldings = (folding : Folding) (F G : ℕ → Facts) (c n : ℕ) → last_round folding F c ≡ Some n → Each (SameAnswer F G) (rounds_ask folding F c (Some n)) → SameFolding folding F G c n
 
 abbrev pub AskedIsLocal : Type 0
 AskedIsLocal = (F G : ℕ → Facts) (c : ℕ) (R : Record) → derived F c ≡ Ok R → Each (SameAnswer F G) (asked F c) → (derived G c ≡ Ok R) × (asked G c ≡ asked F c)

@@ -5,10 +5,10 @@
 -- Each-if                  of either of two lists
 -- Each-to                  what follows for each member holds of each
 -- Each-filter              of the members that pass a test
--- list_all-same, filter-same, flat_map-same   the same where the functions are the same at each member
+-- list_all-same, filter-same, flat_map-same, map-same   the same where the functions are the same at each member
 -- every                    what holds of everything holds of each
 -- both_parts, appended_parts   where both of two optional lists are there, and where neither of two results is a rule
-use Rattle.std.proofs.Common.{◌≡◌, ℕ, Bool, true, false, cond, List, [], ◌∷◌, ◌++◌, Option, Some, None, Result, Ok, Err, filter, refl}
+use Rattle.std.proofs.Common.{◌≡◌, ℕ, Bool, true, false, cond, List, [], ◌∷◌, ◌++◌, Option, Some, None, Result, Ok, Err, filter, map, refl}
 use Rattle.std.specs.List.{list_all, flat_map}
 use Rattle.ucd_model.specs.Expansion.{both}
 use Rattle.ucd_model.specs.Forms.{appended}
@@ -56,6 +56,10 @@ Each-filter P p (x ∷ xs) e =
 pub flat_map-same : {A : Type 0} (f g : ℕ → List A) (xs : List ℕ) → Each (λ x. f x ≡ g x) xs → flat_map f xs ≡ flat_map g xs
 flat_map-same f g [] e = refl
 flat_map-same f g (x ∷ xs) e = rw (e.0, flat_map-same f g xs e.1) refl
+
+pub map-same : (f g : ℕ → ℕ) (xs : List ℕ) → Each (λ x. f x ≡ g x) xs → map f xs ≡ map g xs
+map-same f g [] e = refl
+map-same f g (x ∷ xs) e = rw (e.0, map-same f g xs e.1) refl
 
 pub record BothParts (a b : Option (List ℕ)) (xs : List ℕ) : Type 0 where
   pub front : List ℕ

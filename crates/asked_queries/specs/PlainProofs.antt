@@ -6,7 +6,7 @@ use Rattle.std.specs.List.{flat_map, range_with_len}
 use Rattle.std.specs.Option.{option_and_then}
 use Rattle.std.proofs.lemmas.Bool.{true≢false, or_cases, or_left, or_right}
 use Rattle.ucd_model.specs.CanonicalOrder.{class_of, order}
-use Rattle.ucd_model.specs.Casing.{fold}
+use Rattle.ucd_model.specs.Casing.{folded}
 use Rattle.ucd_model.specs.Composites.{primary}
 use Rattle.ucd_model.specs.Expansion.{counts, counted, alone_or_joined, expand, full}
 use Rattle.ucd_model.specs.Facts.{Facts, image_points}
@@ -15,6 +15,8 @@ use Rattle.ucd_model.specs.Forms.{decomposed, composed, nfkc}
 use Rattle.ucd_model.specs.Predicates.{default_ignorable}
 use Rattle.ucd_model.specs.Uniform.{IsPlain}
 use Rattle.ucd_model.specs.Validity.{mappings}
+use Rattle.ucd_model.specs.declared.folding.Folding.{Folding}
+use Rattle.ucd_model.specs.declared.folding.Folding.TheVariants.{Full, Simple}
 use Rattle.ucd_model.specs.declared.query.Query.{Query}
 use Rattle.ucd_model.specs.declared.query.Query.TheVariants.{Row, Second}
 use Rattle.asked_queries.specs.Answers.{same_query, is_asked, Each}
@@ -71,8 +73,13 @@ module _ (F : ℕ → Facts) (c : ℕ) (p : IsPlain c (F c)) where
   nfkc_alone : nfkc F (c ∷ []) ≡ Ok (c ∷ [])
   nfkc_alone = ap (composed F) (decomposed_alone true)
 
-  fold_alone : fold F (c ∷ []) ≡ c ∷ []
-  fold_alone = ap (λ i. image_points c i ++ []) p.fold
+  folded_none : (folding : Folding) → folded folding F [] ≡ []
+  folded_none Full = refl
+  folded_none Simple = refl
+
+  fold_alone : (folding : Folding) → folded folding F (c ∷ []) ≡ c ∷ []
+  fold_alone Full = ap (λ i. image_points c i ++ []) p.fold
+  fold_alone Simple = ap (λ (x : ℕ). x ∷ []) p.simple_fold
 
   rows_own : (xs : List ℕ) → Each (λ x. x ≡ c) xs → Each (IsOwn c) (row_queries xs)
   rows_own [] e = tt
@@ -93,45 +100,47 @@ module _ (F : ℕ → Facts) (c : ℕ) (p : IsPlain c (F c)) where
   form_alone : short_nfkc F (c ∷ []) ≡ Some (c ∷ [])
   form_alone = ap short_form nfkc_alone
 
-  round_folded : round F (c ∷ []) ≡ option_and_then (short_nfkc F) (short (drop_ignorable F (c ∷ [])))
-  round_folded = ap (λ r. option_and_then (short_nfkc F) (option_and_then (short_fold F) r)) form_alone ∙ ap (λ t. option_and_then (short_nfkc F) (short (drop_ignorable F t))) fold_alone
-
-  abbrev Alone : Option (List ℕ) → Type 0
-  Alone r = (r ≡ Some (c ∷ [])) ⊎ (r ≡ Some [])
-
-  round_alone : (b : Bool) → default_ignorable c (F c) ≡ b → Alone (round F (c ∷ []))
-  round_alone true e = inr (round_folded ∙ ap (λ t. option_and_then (short_nfkc F) (short t)) (dropped true e))
-  round_alone false e = inl (round_folded ∙ ap (λ t. option_and_then (short_nfkc F) (short t)) (dropped false e) ∙ form_alone)
-
-  round_more : (r : Option (List ℕ)) → Alone r → Alone (option_and_then (round F) r)
-  round_more r (inl e) = subst (λ t. Alone (option_and_then (round F) t)) (sym e) (round_alone (default_ignorable c (F c)) refl)
-  round_more r (inr e) = inr (ap (option_and_then (round F)) e)
-
-  rounds_alone : (i : ℕ) → Alone (rounds F i (c ∷ []))
-  rounds_alone zero = inl refl
-  rounds_alone (suc i) = round_more (rounds F i (c ∷ [])) (rounds_alone i)
-
   dropped_own : (b : Bool) → default_ignorable c (F c) ≡ b → Each (IsOwn c) (asks F true (drop_ignorable F (c ∷ [])))
   dropped_own true e = subst (λ t. Each (IsOwn c) (asks F true t)) (sym (dropped true e)) tt
   dropped_own false e = subst (λ t. Each (IsOwn c) (asks F true t)) (sym (dropped false e)) (asks_own true)
 
-  folding_own : Each (IsOwn c) (folding_asks F (nfkc F (c ∷ [])))
-  folding_own =
-      let folded : Each (IsOwn c) (row_queries (c ∷ []) ++ asks F true (drop_ignorable F (c ∷ []))) = (inl refl, dropped_own (default_ignorable c (F c)) refl) in
-      let after : Each (IsOwn c) (folding_asks F (Ok (c ∷ []))) = subst (λ t. Each (IsOwn c) (row_queries t ++ asks F true (drop_ignorable F t))) (sym fold_alone) folded in
-      subst (λ r. Each (IsOwn c) (folding_asks F r)) (sym nfkc_alone) after
+  abbrev Alone : Option (List ℕ) → Type 0
+  Alone r = (r ≡ Some (c ∷ [])) ⊎ (r ≡ Some [])
 
-  round_own : (r : Option (List ℕ)) → Alone r → Each (IsOwn c) (round_asks_at F r)
-  round_own r (inl e) = subst (λ t. Each (IsOwn c) (round_asks_at F t)) (sym e) (Each-both (IsOwn c) (asks F true (c ∷ [])) (folding_asks F (nfkc F (c ∷ []))) (asks_own true) folding_own)
-  round_own r (inr e) = subst (λ t. Each (IsOwn c) (round_asks_at F t)) (sym e) tt
+  -- by either folding
+  module _ (folding : Folding) where
+    round_folded : round folding F (c ∷ []) ≡ option_and_then (short_nfkc F) (short (drop_ignorable F (c ∷ [])))
+    round_folded = ap (λ r. option_and_then (short_nfkc F) (option_and_then (short_fold folding F) r)) form_alone ∙ ap (λ t. option_and_then (short_nfkc F) (short (drop_ignorable F t))) (fold_alone folding)
 
-  all_own : (is : List ℕ) → Each (IsOwn c) (flat_map (λ i. round_asks_at F (rounds F i (c ∷ []))) is)
-  all_own [] = tt
-  all_own (i ∷ is) = Each-both (IsOwn c) (round_asks_at F (rounds F i (c ∷ []))) (flat_map (λ i. round_asks_at F (rounds F i (c ∷ []))) is) (round_own (rounds F i (c ∷ [])) (rounds_alone i)) (all_own is)
+    round_alone : (b : Bool) → default_ignorable c (F c) ≡ b → Alone (round folding F (c ∷ []))
+    round_alone true e = inr (round_folded ∙ ap (λ t. option_and_then (short_nfkc F) (short t)) (dropped true e))
+    round_alone false e = inl (round_folded ∙ ap (λ t. option_and_then (short_nfkc F) (short t)) (dropped false e) ∙ form_alone)
 
-  rounds_own : (last : Option ℕ) → Each (IsOwn c) (rounds_ask F c last)
-  rounds_own (Some last) = all_own (range_with_len 0 (suc last))
-  rounds_own None = tt
+    round_more : (r : Option (List ℕ)) → Alone r → Alone (option_and_then (round folding F) r)
+    round_more r (inl e) = subst (λ t. Alone (option_and_then (round folding F) t)) (sym e) (round_alone (default_ignorable c (F c)) refl)
+    round_more r (inr e) = inr (ap (option_and_then (round folding F)) e ∙ ap (λ t. option_and_then (short_nfkc F) (short (drop_ignorable F t))) (folded_none folding))
+
+    rounds_alone : (i : ℕ) → Alone (rounds folding F i (c ∷ []))
+    rounds_alone zero = inl refl
+    rounds_alone (suc i) = round_more (rounds folding F i (c ∷ [])) (rounds_alone i)
+
+    folding_own : Each (IsOwn c) (folding_asks folding F (nfkc F (c ∷ [])))
+    folding_own =
+        let rows : Each (IsOwn c) (row_queries (c ∷ []) ++ asks F true (drop_ignorable F (c ∷ []))) = (inl refl, dropped_own (default_ignorable c (F c)) refl) in
+        let after : Each (IsOwn c) (folding_asks folding F (Ok (c ∷ []))) = subst (λ t. Each (IsOwn c) (row_queries t ++ asks F true (drop_ignorable F t))) (sym (fold_alone folding)) rows in
+        subst (λ r. Each (IsOwn c) (folding_asks folding F r)) (sym nfkc_alone) after
+
+    round_own : (r : Option (List ℕ)) → Alone r → Each (IsOwn c) (round_asks_at folding F r)
+    round_own r (inl e) = subst (λ t. Each (IsOwn c) (round_asks_at folding F t)) (sym e) (Each-both (IsOwn c) (asks F true (c ∷ [])) (folding_asks folding F (nfkc F (c ∷ []))) (asks_own true) folding_own)
+    round_own r (inr e) = subst (λ t. Each (IsOwn c) (round_asks_at folding F t)) (sym e) (subst (λ t. Each (IsOwn c) (row_queries t ++ asks F true (drop_ignorable F t))) (sym (folded_none folding)) tt)
+
+    all_own : (is : List ℕ) → Each (IsOwn c) (flat_map (λ i. round_asks_at folding F (rounds folding F i (c ∷ []))) is)
+    all_own [] = tt
+    all_own (i ∷ is) = Each-both (IsOwn c) (round_asks_at folding F (rounds folding F i (c ∷ []))) (flat_map (λ i. round_asks_at folding F (rounds folding F i (c ∷ []))) is) (round_own (rounds folding F i (c ∷ [])) (rounds_alone i)) (all_own is)
+
+    rounds_own : (last : Option ℕ) → Each (IsOwn c) (rounds_ask folding F c last)
+    rounds_own (Some last) = all_own (range_with_len 0 (suc last))
+    rounds_own None = tt
 
   -- ---- all parts
 
@@ -145,13 +154,13 @@ module _ (F : ℕ → Facts) (c : ℕ) (p : IsPlain c (F c)) where
   no_composite = ap (λ m. cond (primary F c) (pair_queries m) []) p.mapping ∙ either (primary F c) []
 
   abbrev others : List Query
-  others = composite_asks F c ++ (asks F false (c ∷ []) ++ (asks F true (c ∷ []) ++ rounds_ask F c (last_round F c)))
+  others = composite_asks F c ++ (asks F false (c ∷ []) ++ (asks F true (c ∷ []) ++ rounds_ask Full F c (last_round Full F c)))
 
   others_own : Each (IsOwn c) others
   others_own =
-      let compat : Each (IsOwn c) (asks F true (c ∷ []) ++ rounds_ask F c (last_round F c)) = Each-both (IsOwn c) (asks F true (c ∷ [])) (rounds_ask F c (last_round F c)) (asks_own true) (rounds_own (last_round F c)) in
-      let canonical : Each (IsOwn c) (asks F false (c ∷ []) ++ (asks F true (c ∷ []) ++ rounds_ask F c (last_round F c))) = Each-both (IsOwn c) (asks F false (c ∷ [])) (asks F true (c ∷ []) ++ rounds_ask F c (last_round F c)) (asks_own false) compat in
-      subst (λ t. Each (IsOwn c) (t ++ (asks F false (c ∷ []) ++ (asks F true (c ∷ []) ++ rounds_ask F c (last_round F c))))) (sym no_composite) canonical
+      let compat : Each (IsOwn c) (asks F true (c ∷ []) ++ rounds_ask Full F c (last_round Full F c)) = Each-both (IsOwn c) (asks F true (c ∷ [])) (rounds_ask Full F c (last_round Full F c)) (asks_own true) (rounds_own Full (last_round Full F c)) in
+      let canonical : Each (IsOwn c) (asks F false (c ∷ []) ++ (asks F true (c ∷ []) ++ rounds_ask Full F c (last_round Full F c))) = Each-both (IsOwn c) (asks F false (c ∷ [])) (asks F true (c ∷ []) ++ rounds_ask Full F c (last_round Full F c)) (asks_own false) compat in
+      subst (λ t. Each (IsOwn c) (t ++ (asks F false (c ∷ []) ++ (asks F true (c ∷ []) ++ rounds_ask Full F c (last_round Full F c))))) (sym no_composite) canonical
 
   pub plain_asks : (q : Query) → is_asked (asked F c) q ≡ is_asked (Row c ∷ Second c ∷ []) q
   unfolding asked

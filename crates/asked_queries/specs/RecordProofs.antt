@@ -17,6 +17,7 @@ use Rattle.ucd_model.specs.QuickChecks.{excludes_mapping, full_exclusion, quick_
 use Rattle.ucd_model.specs.Records.{Record, core_at, changes_image, record_at, record_or_rule}
 use Rattle.ucd_model.specs.Validity.{mappings, lacks_row, lacks_a_row, is_none, is_endless, is_too_long, composite_of, is_other, is_hidden, is_unfolded, broken}
 use Rattle.ucd_model.specs.ValidityProofs.{KeepsRules, broken-none, broken-rules}
+use Rattle.ucd_model.specs.declared.folding.Folding.TheVariants.{Full}
 use Rattle.ucd_model.specs.declared.form.Form.{Form}
 use Rattle.ucd_model.specs.declared.form.Form.TheVariants.{Nfd, Nfc, Nfkd, Nfkc}
 use Rattle.ucd_model.specs.declared.form.Quick.{Quick}
@@ -40,17 +41,17 @@ unbroken : (F : ℕ → Facts) (c : ℕ) → KeepsRules F c → broken F c ≡ N
 unfolding broken
 unbroken F c k = rw (k.rows, k.chains, k.lengths, k.composites, k.folds) refl
 
-some_last : (F : ℕ → Facts) (c : ℕ) (r : Option ℕ) → is_none (option_and_then (λ i. rounds F i (c ∷ [])) r) ≡ false → (n : ℕ) × (r ≡ Some n)
+some_last : (F : ℕ → Facts) (c : ℕ) (r : Option ℕ) → is_none (option_and_then (λ i. rounds Full F i (c ∷ [])) r) ≡ false → (n : ℕ) × (r ≡ Some n)
 some_last F c (Some n) e = (n, refl)
 some_last F c None e = cc
 
-has_last : (F : ℕ → Facts) (c : ℕ) → is_unfolded F c ≡ false → (n : ℕ) × (last_round F c ≡ Some n)
+has_last : (F : ℕ → Facts) (c : ℕ) → is_unfolded F c ≡ false → (n : ℕ) × (last_round Full F c ≡ Some n)
 unfolding last_round
-has_last F c e = some_last F c (last_round F c) e
+has_last F c e = some_last F c (last_round Full F c) e
 
-casefold_at : (F : ℕ → Facts) (c n : ℕ) → last_round F c ≡ Some n → casefold F c ≡ rounds F n (c ∷ [])
+casefold_at : (F : ℕ → Facts) (c n : ℕ) → last_round Full F c ≡ Some n → casefold Full F c ≡ rounds Full F n (c ∷ [])
 unfolding last_round
-casefold_at F c n e = ap (option_and_then (λ i. rounds F i (c ∷ []))) e
+casefold_at F c n e = ap (option_and_then (λ i. rounds Full F i (c ∷ []))) e
 
 -- ---- what the record is made of
 
@@ -59,24 +60,24 @@ record AskedParts (F G : ℕ → Facts) (c : ℕ) : Type 0 where
   composite : Each (SameAnswer F G) (composite_asks F c)
   canonical : Each (SameAnswer F G) (asks F false (c ∷ []))
   compat : Each (SameAnswer F G) (asks F true (c ∷ []))
-  folding : Each (SameAnswer F G) (rounds_ask F c (last_round F c))
+  folding : Each (SameAnswer F G) (rounds_ask Full F c (last_round Full F c))
 
 asked_parts : (F G : ℕ → Facts) (c : ℕ) → Each (SameAnswer F G) (asked F c) → AskedParts F G c
 unfolding asked
 asked_parts F G c a =
     let P : Query → Type 0 = SameAnswer F G in
-    let r1 = Each-right P (facts_ask F c) (composite_asks F c ++ (asks F false (c ∷ []) ++ (asks F true (c ∷ []) ++ rounds_ask F c (last_round F c)))) a in
-    let r2 = Each-right P (composite_asks F c) (asks F false (c ∷ []) ++ (asks F true (c ∷ []) ++ rounds_ask F c (last_round F c))) r1 in
-    let r3 = Each-right P (asks F false (c ∷ [])) (asks F true (c ∷ []) ++ rounds_ask F c (last_round F c)) r2 in
+    let r1 = Each-right P (facts_ask F c) (composite_asks F c ++ (asks F false (c ∷ []) ++ (asks F true (c ∷ []) ++ rounds_ask Full F c (last_round Full F c)))) a in
+    let r2 = Each-right P (composite_asks F c) (asks F false (c ∷ []) ++ (asks F true (c ∷ []) ++ rounds_ask Full F c (last_round Full F c))) r1 in
+    let r3 = Each-right P (asks F false (c ∷ [])) (asks F true (c ∷ []) ++ rounds_ask Full F c (last_round Full F c)) r2 in
     record {
-      facts = Each-left P (facts_ask F c) (composite_asks F c ++ (asks F false (c ∷ []) ++ (asks F true (c ∷ []) ++ rounds_ask F c (last_round F c)))) a;
-      composite = Each-left P (composite_asks F c) (asks F false (c ∷ []) ++ (asks F true (c ∷ []) ++ rounds_ask F c (last_round F c))) r1;
-      canonical = Each-left P (asks F false (c ∷ [])) (asks F true (c ∷ []) ++ rounds_ask F c (last_round F c)) r2;
-      compat = Each-left P (asks F true (c ∷ [])) (rounds_ask F c (last_round F c)) r3;
-      folding = Each-right P (asks F true (c ∷ [])) (rounds_ask F c (last_round F c)) r3;
+      facts = Each-left P (facts_ask F c) (composite_asks F c ++ (asks F false (c ∷ []) ++ (asks F true (c ∷ []) ++ rounds_ask Full F c (last_round Full F c)))) a;
+      composite = Each-left P (composite_asks F c) (asks F false (c ∷ []) ++ (asks F true (c ∷ []) ++ rounds_ask Full F c (last_round Full F c))) r1;
+      canonical = Each-left P (asks F false (c ∷ [])) (asks F true (c ∷ []) ++ rounds_ask Full F c (last_round Full F c)) r2;
+      compat = Each-left P (asks F true (c ∷ [])) (rounds_ask Full F c (last_round Full F c)) r3;
+      folding = Each-right P (asks F true (c ∷ [])) (rounds_ask Full F c (last_round Full F c)) r3;
     }
 
-module _ (F G : ℕ → Facts) (c : ℕ) (a : AskedParts F G c) (n : ℕ) (last : last_round F c ≡ Some n) where
+module _ (F G : ℕ → Facts) (c : ℕ) (a : AskedParts F G c) (n : ℕ) (last : last_round Full F c ≡ Some n) where
   own : F c ≡ G c
   own = a.facts.0
 
@@ -95,8 +96,8 @@ module _ (F G : ℕ → Facts) (c : ℕ) (a : AskedParts F G c) (n : ℕ) (last 
   compat : SameForm F G true (c ∷ [])
   compat = form_same F G true (c ∷ []) a.compat
 
-  folding : SameFolding F G c n
-  folding = folding_same F G c n last (subst (λ r. Each (SameAnswer F G) (rounds_ask F c r)) last a.folding)
+  folding : SameFolding Full F G c n
+  folding = folding_same Full F G c n last (subst (λ r. Each (SameAnswer F G) (rounds_ask Full F c r)) last a.folding)
 
   expansion_full : (kind : Bool) → Each (SameAnswer F G) (asks F kind (c ∷ [])) → full G kind c ≡ full F kind c
   expansion_full kind own = full_same F G kind c (Each-left (λ x. F x ≡ G x) (whole_tree F kind c) [] (tree_rows F G kind (c ∷ []) own))
@@ -123,7 +124,7 @@ module _ (F G : ℕ → Facts) (c : ℕ) (a : AskedParts F G c) (n : ℕ) (last 
       ∙ ap (λ (facts : Facts). primary F c && is_other c (composite_of G facts.mapping)) (sym own)
       ∙ hidden_same F G (primary F c) c (F c).mapping a.composite
 
-  casefold_same : casefold G c ≡ casefold F c
+  casefold_same : casefold Full G c ≡ casefold Full F c
   casefold_same = casefold_at G c n folding.last ∙ folding.lists n (omega arith) ∙ sym (casefold_at F c n last)
 
   rules_kept : KeepsRules F c → KeepsRules G c
@@ -184,7 +185,7 @@ module _ (F G : ℕ → Facts) (c : ℕ) (a : AskedParts F G c) (n : ℕ) (last 
   quick_same Nfc = ap (λ t. quick_where (composed_quick t) (nfc G (c ∷ []))) (sym second) ∙ ap (quick_where (quick_given F Nfc c)) canonical.composition
   quick_same Nfkc = ap (λ t. quick_where (composed_quick t) (nfkc G (c ∷ []))) (sym second) ∙ ap (quick_where (quick_given F Nfkc c)) compat.composition
 
-  image_same : image_or_same (casefold_image G c) ≡ image_or_same (casefold_image F c)
+  image_same : image_or_same (casefold_image Full G c) ≡ image_or_same (casefold_image Full F c)
   image_same = ap (λ r. image_or_same (image_or_rule c r)) casefold_same
 
   record_same : record_at G c ≡ record_at F c
@@ -210,16 +211,16 @@ module _ (F G : ℕ → Facts) (c : ℕ) (a : AskedParts F G c) (n : ℕ) (last 
   composite_asked : composite_asks G c ≡ composite_asks F c
   composite_asked = ap (λ b. cond b (pair_queries (G c).mapping) []) primary_same ∙ ap (λ (facts : Facts). cond (primary F c) (pair_queries facts.mapping) []) (sym own)
 
-  folding_asked : rounds_ask G c (last_round G c) ≡ rounds_ask F c (last_round F c)
-  folding_asked = ap (rounds_ask G c) folding.last ∙ folding.asks ∙ ap (rounds_ask F c) (sym last)
+  folding_asked : rounds_ask Full G c (last_round Full G c) ≡ rounds_ask Full F c (last_round Full F c)
+  folding_asked = ap (rounds_ask Full G c) folding.last ∙ folding.asks ∙ ap (rounds_ask Full F c) (sym last)
 
   asked_same : asked G c ≡ asked F c
   unfolding asked
   asked_same =
-      ap (λ t. t ++ (composite_asks G c ++ (asks G false (c ∷ []) ++ (asks G true (c ∷ []) ++ rounds_ask G c (last_round G c))))) facts_asked
-      ∙ ap (λ t. facts_ask F c ++ (t ++ (asks G false (c ∷ []) ++ (asks G true (c ∷ []) ++ rounds_ask G c (last_round G c))))) composite_asked
-      ∙ ap (λ t. facts_ask F c ++ (composite_asks F c ++ (t ++ (asks G true (c ∷ []) ++ rounds_ask G c (last_round G c))))) canonical.asks
-      ∙ ap (λ t. facts_ask F c ++ (composite_asks F c ++ (asks F false (c ∷ []) ++ (t ++ rounds_ask G c (last_round G c))))) compat.asks
+      ap (λ t. t ++ (composite_asks G c ++ (asks G false (c ∷ []) ++ (asks G true (c ∷ []) ++ rounds_ask Full G c (last_round Full G c))))) facts_asked
+      ∙ ap (λ t. facts_ask F c ++ (t ++ (asks G false (c ∷ []) ++ (asks G true (c ∷ []) ++ rounds_ask Full G c (last_round Full G c))))) composite_asked
+      ∙ ap (λ t. facts_ask F c ++ (composite_asks F c ++ (t ++ (asks G true (c ∷ []) ++ rounds_ask Full G c (last_round Full G c))))) canonical.asks
+      ∙ ap (λ t. facts_ask F c ++ (composite_asks F c ++ (asks F false (c ∷ []) ++ (t ++ rounds_ask Full G c (last_round Full G c))))) compat.asks
       ∙ ap (λ t. facts_ask F c ++ (composite_asks F c ++ (asks F false (c ∷ []) ++ (asks F true (c ∷ []) ++ t)))) folding_asked
 
 pub asked_is_local : AskedIsLocal

@@ -19,6 +19,7 @@ use Rattle.ucd_model.specs.Uniform.{IsPlain}
 use Rattle.ucd_model.specs.Validity.{mappings, is_none}
 use Rattle.ucd_model.specs.ValidityLaws.{HasRecord}
 use Rattle.ucd_model.specs.ValidityProofs.{broken-none, broken-rules}
+use Rattle.ucd_model.specs.declared.folding.Folding.TheVariants.{Full}
 use Rattle.ucd_model.specs.declared.form.Bad.{Bad as Rule}
 use Rattle.ucd_model.specs.declared.form.FormStop.{FormStop}
 use Rattle.ucd_model.specs.declared.form.FormStop.TheVariants.{Bad, Memory}
@@ -67,15 +68,15 @@ composite_shown F G = if is_canonical G.kind && ((G.class == 0) && (first_has_cl
 abbrev pub other_asks : (ℕ → Facts) → ℕ → List Query
 other_asks F c =
     row_queries (flat_map (λ m. m) (mappings c (F c)))
-    ++ (composite_asks F c ++ (canonical_asks F c ++ puts_from F 8 false (c ∷ [])))
+    ++ (composite_asks F c ++ (canonical_asks F c ++ puts_from Full F 8 false (c ∷ [])))
 
-some_last : (F : ℕ → Facts) (c : ℕ) (r : Option ℕ) → is_none (option_and_then (λ i. rounds F i (c ∷ [])) r) ≡ false → is_some r ≡ true
+some_last : (F : ℕ → Facts) (c : ℕ) (r : Option ℕ) → is_none (option_and_then (λ i. rounds Full F i (c ∷ [])) r) ≡ false → is_some r ≡ true
 some_last F c (Some n) e = refl
 some_last F c None e = absurd (true≢false e)
 
-has_last : (F : ℕ → Facts) (c : ℕ) → HasRecord F c → is_some (last_round F c) ≡ true
+has_last : (F : ℕ → Facts) (c : ℕ) → HasRecord F c → is_some (last_round Full F c) ≡ true
 unfolding last_round
-has_last F c has = some_last F c (last_round F c) (broken-rules F c (broken-none F c has)).folds
+has_last F c has = some_last F c (last_round Full F c) (broken-rules F c (broken-none F c has)).folds
 
 -- ---- all questions
 
@@ -83,15 +84,15 @@ repeated : (a b c : Bool) → ((a || b) || c) ≡ (a || ((a || b) || c))
 repeated true b c = refl
 repeated false b c = refl
 
-first_round : (F : ℕ → Facts) (c : ℕ) (q : Query) (last : Option ℕ) → is_some last ≡ true → is_asked (rounds_ask F c last) q ≡ is_asked (asks F true (c ∷ []) ++ rounds_ask F c last) q
+first_round : (F : ℕ → Facts) (c : ℕ) (q : Query) (last : Option ℕ) → is_some last ≡ true → is_asked (rounds_ask Full F c last) q ≡ is_asked (asks F true (c ∷ []) ++ rounds_ask Full F c last) q
 first_round F c q None e = absurd (true≢false (sym e))
 first_round F c q (Some n) e =
     let form : List Query = asks F true (c ∷ []) in
-    let folding : List Query = folding_asks F (nfkc F (c ∷ [])) in
-    let later : List Query = flat_map (λ i. round_asks_at F (rounds F i (c ∷ []))) (range_with_len (0 + 1) n) in
-    let split : is_asked (rounds_ask F c (Some n)) q ≡ ((is_asked form q || is_asked folding q) || is_asked later q) =
+    let folding : List Query = folding_asks Full F (nfkc F (c ∷ [])) in
+    let later : List Query = flat_map (λ i. round_asks_at Full F (rounds Full F i (c ∷ []))) (range_with_len (0 + 1) n) in
+    let split : is_asked (rounds_ask Full F c (Some n)) q ≡ ((is_asked form q || is_asked folding q) || is_asked later q) =
     list_any-append (same_query q) (form ++ folding) later ∙ ap (λ b. b || is_asked later q) (list_any-append (same_query q) form folding) in
-    split ∙ repeated (is_asked form q) (is_asked folding q) (is_asked later q) ∙ ap (λ b. is_asked form q || b) (sym split) ∙ sym (list_any-append (same_query q) form (rounds_ask F c (Some n)))
+    split ∙ repeated (is_asked form q) (is_asked folding q) (is_asked later q) ∙ ap (λ b. is_asked form q || b) (sym split) ∙ sym (list_any-append (same_query q) form (rounds_ask Full F c (Some n)))
 
 behind : (xs ys zs : List Query) (q : Query) → is_asked ys q ≡ is_asked zs q → is_asked (xs ++ ys) q ≡ is_asked (xs ++ zs) q
 behind xs ys zs q e = list_any-append (same_query q) xs ys ∙ ap (λ b. is_asked xs q || b) e ∙ sym (list_any-append (same_query q) xs zs)
@@ -107,12 +108,12 @@ canonical_repeated F c q false rounds e last =
 pub asked_is : (F : ℕ → Facts) (c : ℕ) → HasRecord F c → SameQueries (Row c ∷ Second c ∷ other_asks F c) (asked F c)
 unfolding asked
 asked_is F c has = λ q.
-    let put = puts_from F 8 false (c ∷ []) in
-    let rounds = rounds_ask F c (last_round F c) in
+    let put = puts_from Full F 8 false (c ∷ []) in
+    let rounds = rounds_ask Full F c (last_round Full F c) in
     let all = asks F true (c ∷ []) ++ rounds in
     let some = has_last F c has in
-    let last = first_round F c q (last_round F c) some in
-    let canonical = behind (canonical_asks F c) put rounds q (puts_are F c some q) ∙ canonical_repeated F c q (has_compat F 8 c) rounds refl last in
+    let last = first_round F c q (last_round Full F c) some in
+    let canonical = behind (canonical_asks F c) put rounds q (puts_are Full F c some q) ∙ canonical_repeated F c q (has_compat F 8 c) rounds refl last in
     let composite = behind (composite_asks F c) (canonical_asks F c ++ put) (asks F false (c ∷ []) ++ all) q canonical in
     behind (facts_ask F c) (composite_asks F c ++ (canonical_asks F c ++ put)) (composite_asks F c ++ (asks F false (c ∷ []) ++ all)) q composite
 

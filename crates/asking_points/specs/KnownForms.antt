@@ -1,26 +1,28 @@
 -- Rounds from a list that is known to be its own NFKC.
 --
--- after_at s kept r      the list r after a round from s, where it is another one; it is known where it is the list `kept`, whose
---                        NFKC it is
--- after_form F s r       the same of a round from s, whose NFKC is r; None where there is none
--- after_round F s        the same of a round from s
--- known_puts F known s   what is put for a round from s, without what the NFKC of s asks, where s is known
--- puts_at f r            f of the list r and of whether it is known; nothing where there is none
--- puts_from F n known s  what is put for at most n rounds from s, until one gives no other list
--- after_is_form          a list that is known after a round is its own NFKC
--- puts_are               what is put round by round are the questions that all rounds up to the last one ask
--- rounds_stop, rounds_more, rounds_end   a round after which no other list comes, one after which another one comes, and no round
---                        left
+-- F is the facts of each code point, and `folding` the full or the simple folding.
+-- after_at s kept r                      the list r after a round from s, where it is another one; it is known where it is the
+--                                        list `kept`, whose NFKC it is
+-- after_form folding F s r               the same of a round from s, whose NFKC is r; None where there is none
+-- after_round folding F s                the same of a round from s
+-- known_puts folding F known s           what is put for a round from s, without what the NFKC of s asks, where s is known
+-- puts_at f r                            f of the list r and of whether it is known; nothing where there is none
+-- puts_from folding F n known s          what is put for at most n rounds from s, until one gives no other list
+-- after_is_form                          a list that is known after a round is its own NFKC
+-- puts_are                               what is put round by round are the questions that all rounds up to the last one ask
+-- rounds_stop, rounds_more, rounds_end   a round after which no other list comes, one after which another one comes, and no
+--                                        round left
 use Rattle.std.proofs.Common.{◌≡◌, ℕ, zero, suc, ◌+◌, ◌-◌, ◌<◌, ◌≤◌, Bool, true, false, cond, ◌||◌, List, [], ◌∷◌, ◌++◌, append_assoc, append-nil, length, nat_le, Option, Some, None, is_some, if◌then◌else◌, refl, sym, ap, ◌∙◌, arith}
 use Rattle.std.specs.Option.{option_and_then}
 use Rattle.std.specs.Str.{bytes_eq}
 use Rattle.std.proofs.lemmas.Bool.{true≢false}
 use Rattle.std.proofs.lemmas.List.Folds.{list_any-append}
 use Rattle.std.proofs.lemmas.Slice.Eq.{bytes_eq-Decides}
-use Rattle.ucd_model.specs.Casing.{fold}
+use Rattle.ucd_model.specs.Casing.{folded}
 use Rattle.ucd_model.specs.Facts.{Facts}
 use Rattle.ucd_model.specs.FoldRounds.{drop_ignorable, short, round}
 use Rattle.ucd_model.specs.Forms.{nfkc}
+use Rattle.ucd_model.specs.declared.folding.Folding.{Folding}
 use Rattle.ucd_model.specs.declared.query.Query.{Query}
 use Rattle.asked_queries.specs.Answers.{same_query, is_asked}
 use Rattle.asked_queries.specs.Turns.{SameQueries}
@@ -34,31 +36,31 @@ abbrev pub after_at : List ℕ → List ℕ → Option (List ℕ) → Option Aft
 after_at s kept (Some t) = if bytes_eq t s then None else Some (record { list = t; known = bytes_eq kept t })
 after_at s kept None = None
 
-abbrev pub after_form : (ℕ → Facts) → List ℕ → Option (List ℕ) → Option After
-after_form F s (Some form) = after_at s (drop_ignorable F (fold F form)) (folded_round F form)
-after_form F s None = None
+abbrev pub after_form : Folding → (ℕ → Facts) → List ℕ → Option (List ℕ) → Option After
+after_form folding F s (Some form) = after_at s (drop_ignorable F (folded folding F form)) (folded_round folding F form)
+after_form folding F s None = None
 
-abbrev pub after_round : (ℕ → Facts) → List ℕ → Option After
-after_round F s = after_form F s (list_in (nfkc F s))
+abbrev pub after_round : Folding → (ℕ → Facts) → List ℕ → Option After
+after_round folding F s = after_form folding F s (list_in (nfkc F s))
 
-abbrev pub known_puts : (ℕ → Facts) → Bool → List ℕ → List Query
-known_puts F known s = (if known then [] else asks F true s) ++ folding_puts F s (list_in (nfkc F s))
+abbrev pub known_puts : Folding → (ℕ → Facts) → Bool → List ℕ → List Query
+known_puts folding F known s = (if known then [] else asks F true s) ++ folding_puts folding F s (list_in (nfkc F s))
 
 abbrev pub puts_at : (Bool → List ℕ → List Query) → Option After → List Query
 puts_at f (Some a) = f a.known a.list
 puts_at f None = []
 
-unfoldable pub puts_from : (ℕ → Facts) → ℕ → Bool → List ℕ → List Query
-puts_from F zero known s = []
-puts_from F (suc n) known s = known_puts F known s ++ puts_at (puts_from F n) (after_round F s)
+unfoldable pub puts_from : Folding → (ℕ → Facts) → ℕ → Bool → List ℕ → List Query
+puts_from folding F zero known s = []
+puts_from folding F (suc n) known s = known_puts folding F known s ++ puts_at (puts_from folding F n) (after_round folding F s)
 
-puts_step : (F : ℕ → Facts) (n : ℕ) (known : Bool) (s : List ℕ) → puts_from F (suc n) known s ≡ known_puts F known s ++ puts_at (puts_from F n) (after_round F s)
+puts_step : (folding : Folding) (F : ℕ → Facts) (n : ℕ) (known : Bool) (s : List ℕ) → puts_from folding F (suc n) known s ≡ known_puts folding F known s ++ puts_at (puts_from folding F n) (after_round folding F s)
 unfolding puts_from
-puts_step F n known s = refl
+puts_step folding F n known s = refl
 
-puts_none : (F : ℕ → Facts) (known : Bool) (s : List ℕ) → puts_from F 0 known s ≡ []
+puts_none : (folding : Folding) (F : ℕ → Facts) (known : Bool) (s : List ℕ) → puts_from folding F 0 known s ≡ []
 unfolding puts_from
-puts_none F known s = refl
+puts_none folding F known s = refl
 
 -- ---- the list after a round
 
@@ -74,12 +76,12 @@ listed_at : (s kept : List ℕ) (r : Option (List ℕ)) → list_of (after_at s 
 listed_at s kept (Some t) = listed_if s kept t (bytes_eq t s)
 listed_at s kept None = refl
 
-listed_form : (F : ℕ → Facts) (s : List ℕ) (r : Option (List ℕ)) → list_of (after_form F s r) ≡ next_at s (next_from F r)
-listed_form F s (Some form) = listed_at s (drop_ignorable F (fold F form)) (folded_round F form)
-listed_form F s None = refl
+listed_form : (folding : Folding) (F : ℕ → Facts) (s : List ℕ) (r : Option (List ℕ)) → list_of (after_form folding F s r) ≡ next_at s (next_from folding F r)
+listed_form folding F s (Some form) = listed_at s (drop_ignorable F (folded folding F form)) (folded_round folding F form)
+listed_form folding F s None = refl
 
-listed : (F : ℕ → Facts) (s : List ℕ) → list_of (after_round F s) ≡ next_at s (round F s)
-listed F s = listed_form F s (list_in (nfkc F s)) ∙ ap (next_at s) (next_is F s)
+listed : (folding : Folding) (F : ℕ → Facts) (s : List ℕ) → list_of (after_round folding F s) ≡ next_at s (round folding F s)
+listed folding F s = listed_form folding F s (list_in (nfkc F s)) ∙ ap (next_at s) (next_is folding F s)
 
 record IsKnown (s kept : List ℕ) (r : Option (List ℕ)) (a : After) : Type 0 where
   same : kept ≡ a.list
@@ -114,27 +116,27 @@ or_true : (b : Bool) → (b || true) ≡ true
 or_true true = refl
 or_true false = refl
 
-module _ (F : ℕ → Facts) (s : List ℕ) (a : After) (known : a.known ≡ true) where
-  form_of : (r : Option (List ℕ)) → after_form F s r ≡ Some a → Some a.list ≡ list_in (nfkc F a.list)
+module _ (folding : Folding) (F : ℕ → Facts) (s : List ℕ) (a : After) (known : a.known ≡ true) where
+  form_of : (r : Option (List ℕ)) → after_form folding F s r ≡ Some a → Some a.list ≡ list_in (nfkc F a.list)
   form_of (Some form) is =
-      let kept : List ℕ = drop_ignorable F (fold F form) in
-      let k = known_at s kept (folded_round F form) a is known in
+      let kept : List ℕ = drop_ignorable F (folded folding F form) in
+      let k = known_at s kept (folded_round folding F form) a is known in
       sym (ap (λ xs. list_in (nfkc F xs)) (sym k.same) ∙ of_round (nat_le (length form) 255) (nat_le (length kept) 255) (list_in (nfkc F kept)) a.list k.list)
   form_of None is = cc
 
-  asked_of : (r : Option (List ℕ)) → after_form F s r ≡ Some a → (q : Query) → is_asked (asks F true a.list) q ≡ true → is_asked (folding_puts F s r) q ≡ true
+  asked_of : (r : Option (List ℕ)) → after_form folding F s r ≡ Some a → (q : Query) → is_asked (asks F true a.list) q ≡ true → is_asked (folding_puts folding F s r) q ≡ true
   asked_of (Some form) is q e =
-      let kept : List ℕ = drop_ignorable F (fold F form) in
-      let k = known_at s kept (folded_round F form) a is known in
+      let kept : List ℕ = drop_ignorable F (folded folding F form) in
+      let k = known_at s kept (folded_round folding F form) a is known in
       let put : again_puts F s kept ≡ asks F true a.list = ap (λ b. cond b [] (asks F true kept)) k.other ∙ ap (asks F true) k.same in
-      list_any-append (same_query q) (row_queries (fold F form)) (again_puts F s kept)
-      ∙ ap (λ (Q : List Query). is_asked (row_queries (fold F form)) q || is_asked Q q) put
-      ∙ ap (λ b. is_asked (row_queries (fold F form)) q || b) e
-      ∙ or_true (is_asked (row_queries (fold F form)) q)
+      list_any-append (same_query q) (row_queries (folded folding F form)) (again_puts F s kept)
+      ∙ ap (λ (Q : List Query). is_asked (row_queries (folded folding F form)) q || is_asked Q q) put
+      ∙ ap (λ b. is_asked (row_queries (folded folding F form)) q || b) e
+      ∙ or_true (is_asked (row_queries (folded folding F form)) q)
   asked_of None is q e = cc
 
-pub after_is_form : (F : ℕ → Facts) (s : List ℕ) (a : After) → Some a ≡ after_round F s → a.known ≡ true → Some a.list ≡ list_in (nfkc F a.list)
-after_is_form F s a is known = form_of F s a known (list_in (nfkc F s)) (sym is)
+pub after_is_form : (folding : Folding) (F : ℕ → Facts) (s : List ℕ) (a : After) → Some a ≡ after_round folding F s → a.known ≡ true → Some a.list ≡ list_in (nfkc F a.list)
+after_is_form folding F s a is known = form_of folding F s a known (list_in (nfkc F s)) (sym is)
 
 -- ---- what is put
 
@@ -147,70 +149,70 @@ or_assoc : (a b c : Bool) → (a || (b || c)) ≡ ((a || b) || c)
 or_assoc true b c = refl
 or_assoc false b c = refl
 
-module _ (F : ℕ → Facts) where
+module _ (folding : Folding) (F : ℕ → Facts) where
   abbrev Stands : List Query → Bool → List ℕ → Type 0
   Stands P known s = known ≡ true → (q : Query) → is_asked (asks F true s) q ≡ true → is_asked P q ≡ true
 
-  round_put : (P : List Query) (known : Bool) (s : List ℕ) → Stands P known s → (q : Query) → (is_asked P q || is_asked (known_puts F known s) q) ≡ (is_asked P q || is_asked (round_puts F s) q)
+  round_put : (P : List Query) (known : Bool) (s : List ℕ) → Stands P known s → (q : Query) → (is_asked P q || is_asked (known_puts folding F known s) q) ≡ (is_asked P q || is_asked (round_puts folding F s) q)
   round_put P true s stands q =
-      let rest = folding_puts F s (list_in (nfkc F s)) in
+      let rest = folding_puts folding F s (list_in (nfkc F s)) in
       left_out (is_asked P q) (is_asked (asks F true s) q) (is_asked rest q) (stands refl q) ∙ ap (λ b. is_asked P q || b) (sym (list_any-append (same_query q) (asks F true s) rest))
   round_put P false s stands q = refl
 
   in_three : (P Q R : List Query) (q : Query) → is_asked (P ++ (Q ++ R)) q ≡ ((is_asked P q || is_asked Q q) || is_asked R q)
   in_three P Q R q = list_any-append (same_query q) P (Q ++ R) ∙ ap (λ b. is_asked P q || b) (list_any-append (same_query q) Q R) ∙ or_assoc (is_asked P q) (is_asked Q q) (is_asked R q)
 
-  stands_next : (P : List Query) (s : List ℕ) (a : After) → after_round F s ≡ Some a → Stands (P ++ round_puts F s) a.known a.list
+  stands_next : (P : List Query) (s : List ℕ) (a : After) → after_round folding F s ≡ Some a → Stands (P ++ round_puts folding F s) a.known a.list
   stands_next P s a is k q e =
       let form : List Query = asks F true s in
-      let rest : List Query = folding_puts F s (list_in (nfkc F s)) in
+      let rest : List Query = folding_puts folding F s (list_in (nfkc F s)) in
       in_three P form rest q
-      ∙ ap (λ b. (is_asked P q || is_asked form q) || b) (asked_of F s a k (list_in (nfkc F s)) is q e)
+      ∙ ap (λ b. (is_asked P q || is_asked form q) || b) (asked_of folding F s a k (list_in (nfkc F s)) is q e)
       ∙ or_true (is_asked P q || is_asked form q)
 
   later : (n : ℕ) (P : List Query) (s : List ℕ)
-      → ((known : Bool) (t : List ℕ) (Q : List Query) → Stands Q known t → SameQueries (Q ++ puts_from F n known t) (Q ++ asks_from F n t))
-      → (r : Option After) → after_round F s ≡ r → SameQueries ((P ++ round_puts F s) ++ puts_at (puts_from F n) r) ((P ++ round_puts F s) ++ asks_at (asks_from F n) (list_of r))
-  later n P s each (Some a) is = each a.known a.list (P ++ round_puts F s) (stands_next P s a is)
+      → ((known : Bool) (t : List ℕ) (Q : List Query) → Stands Q known t → SameQueries (Q ++ puts_from folding F n known t) (Q ++ asks_from folding F n t))
+      → (r : Option After) → after_round folding F s ≡ r → SameQueries ((P ++ round_puts folding F s) ++ puts_at (puts_from folding F n) r) ((P ++ round_puts folding F s) ++ asks_at (asks_from folding F n) (list_of r))
+  later n P s each (Some a) is = each a.known a.list (P ++ round_puts folding F s) (stands_next P s a is)
   later n P s each None is = λ q. refl
 
-  puts_same : (n : ℕ) (known : Bool) (s : List ℕ) (P : List Query) → Stands P known s → SameQueries (P ++ puts_from F n known s) (P ++ asks_from F n s)
-  puts_same zero known s P stands q = ap (λ Q. is_asked (P ++ Q) q) (puts_none F known s ∙ sym (asks_none F s))
+  puts_same : (n : ℕ) (known : Bool) (s : List ℕ) (P : List Query) → Stands P known s → SameQueries (P ++ puts_from folding F n known s) (P ++ asks_from folding F n s)
+  puts_same zero known s P stands q = ap (λ Q. is_asked (P ++ Q) q) (puts_none folding F known s ∙ sym (asks_none folding F s))
   puts_same (suc n) known s P stands q =
-      let R : List Query = round_puts F s in
-      ap (λ Q. is_asked (P ++ Q) q) (puts_step F n known s)
-      ∙ in_three P (known_puts F known s) (puts_at (puts_from F n) (after_round F s)) q
-      ∙ ap (λ b. b || is_asked (puts_at (puts_from F n) (after_round F s)) q) (round_put P known s stands q)
-      ∙ sym (in_three P R (puts_at (puts_from F n) (after_round F s)) q)
-      ∙ ap (λ Q. is_asked Q q) (sym (append_assoc P R (puts_at (puts_from F n) (after_round F s))))
-      ∙ later n P s (puts_same n) (after_round F s) refl q
-      ∙ ap (λ Q. is_asked Q q) (append_assoc P R (asks_at (asks_from F n) (list_of (after_round F s))))
-      ∙ ap (λ r. is_asked (P ++ (R ++ asks_at (asks_from F n) r)) q) (listed F s)
-      ∙ ap (λ Q. is_asked (P ++ Q) q) (sym (asks_step F n s))
+      let R : List Query = round_puts folding F s in
+      ap (λ Q. is_asked (P ++ Q) q) (puts_step folding F n known s)
+      ∙ in_three P (known_puts folding F known s) (puts_at (puts_from folding F n) (after_round folding F s)) q
+      ∙ ap (λ b. b || is_asked (puts_at (puts_from folding F n) (after_round folding F s)) q) (round_put P known s stands q)
+      ∙ sym (in_three P R (puts_at (puts_from folding F n) (after_round folding F s)) q)
+      ∙ ap (λ Q. is_asked Q q) (sym (append_assoc P R (puts_at (puts_from folding F n) (after_round folding F s))))
+      ∙ later n P s (puts_same n) (after_round folding F s) refl q
+      ∙ ap (λ Q. is_asked Q q) (append_assoc P R (asks_at (asks_from folding F n) (list_of (after_round folding F s))))
+      ∙ ap (λ r. is_asked (P ++ (R ++ asks_at (asks_from folding F n) r)) q) (listed folding F s)
+      ∙ ap (λ Q. is_asked (P ++ Q) q) (sym (asks_step folding F n s))
 
-pub puts_are : (F : ℕ → Facts) (c : ℕ) → is_some (last_round F c) ≡ true → SameQueries (puts_from F 8 false (c ∷ [])) (rounds_ask F c (last_round F c))
-puts_are F c e = λ q. puts_same F 8 false (c ∷ []) [] (λ no. absurd (true≢false (sym no))) q ∙ rounds_are F c e q
+pub puts_are : (folding : Folding) (F : ℕ → Facts) (c : ℕ) → is_some (last_round folding F c) ≡ true → SameQueries (puts_from folding F 8 false (c ∷ [])) (rounds_ask folding F c (last_round folding F c))
+puts_are folding F c e = λ q. puts_same folding F 8 false (c ∷ []) [] (λ no. absurd (true≢false (sym no))) q ∙ rounds_are folding F c e q
 
 -- ---- round by round
 
-module _ (F : ℕ → Facts) (i : ℕ) (known : Bool) (s : List ℕ) (all now : List Query) (so_far : now ++ puts_from F (8 - i) known s ≡ all) where
-  one_round : i < 8 → (put : List Query) → put ≡ now ++ known_puts F known s → (r : Option After) → r ≡ after_round F s → put ++ puts_at (puts_from F (8 - (i + 1))) r ≡ all
+module _ (folding : Folding) (F : ℕ → Facts) (i : ℕ) (known : Bool) (s : List ℕ) (all now : List Query) (so_far : now ++ puts_from folding F (8 - i) known s ≡ all) where
+  one_round : i < 8 → (put : List Query) → put ≡ now ++ known_puts folding F known s → (r : Option After) → r ≡ after_round folding F s → put ++ puts_at (puts_from folding F (8 - (i + 1))) r ≡ all
   one_round lt put e r next =
       let left : 8 - i ≡ suc (8 - (i + 1)) = omega arith in
-      ap (λ q. q ++ puts_at (puts_from F (8 - (i + 1))) r) e
-      ∙ append_assoc now (known_puts F known s) (puts_at (puts_from F (8 - (i + 1))) r)
-      ∙ ap (λ t. now ++ (known_puts F known s ++ puts_at (puts_from F (8 - (i + 1))) t)) next
-      ∙ ap (λ q. now ++ q) (sym (puts_step F (8 - (i + 1)) known s))
-      ∙ ap (λ k. now ++ puts_from F k known s) (sym left)
+      ap (λ q. q ++ puts_at (puts_from folding F (8 - (i + 1))) r) e
+      ∙ append_assoc now (known_puts folding F known s) (puts_at (puts_from folding F (8 - (i + 1))) r)
+      ∙ ap (λ t. now ++ (known_puts folding F known s ++ puts_at (puts_from folding F (8 - (i + 1))) t)) next
+      ∙ ap (λ q. now ++ q) (sym (puts_step folding F (8 - (i + 1)) known s))
+      ∙ ap (λ k. now ++ puts_from folding F k known s) (sym left)
       ∙ so_far
 
-  pub rounds_stop : i < 8 → (put : List Query) → put ≡ now ++ known_puts F known s → None ≡ after_round F s → put ≡ all
+  pub rounds_stop : i < 8 → (put : List Query) → put ≡ now ++ known_puts folding F known s → None ≡ after_round folding F s → put ≡ all
   rounds_stop lt put e next = sym (append-nil put) ∙ one_round lt put e None next
 
-  pub rounds_more : i < 8 → (put : List Query) → put ≡ now ++ known_puts F known s → (a : After) → Some a ≡ after_round F s → put ++ puts_from F (8 - (i + 1)) a.known a.list ≡ all
+  pub rounds_more : i < 8 → (put : List Query) → put ≡ now ++ known_puts folding F known s → (a : After) → Some a ≡ after_round folding F s → put ++ puts_from folding F (8 - (i + 1)) a.known a.list ≡ all
   rounds_more lt put e a next = one_round lt put e (Some a) next
 
   pub rounds_end : 8 ≤ i → now ≡ all
   rounds_end past =
       let none : 8 - i ≡ 0 = omega arith in
-      sym (append-nil now) ∙ ap (λ q. now ++ q) (sym (puts_none F known s)) ∙ ap (λ k. now ++ puts_from F k known s) (sym none) ∙ so_far
+      sym (append-nil now) ∙ ap (λ q. now ++ q) (sym (puts_none folding F known s)) ∙ ap (λ k. now ++ puts_from folding F k known s) (sym none) ∙ so_far

@@ -18,7 +18,9 @@ use crate::trees::has_compat;
 use identifier_closure::{Derived, derive_point};
 use std::alloc::Global;
 use std::sync::ledger::Ledger;
-use ucd_model::{FactView, FactsRef, FormStop, Kind, Memory, Point, Queries, Query, Record, Steps};
+use ucd_model::{
+    FactView, FactsRef, Folding, FormStop, Kind, Memory, Point, Queries, Query, Record, Steps,
+};
 
 /// How many questions a list has room for at first: most lists have fewer, repeats among them.
 const ROOM: usize = 32;
@@ -109,7 +111,7 @@ fn put_more<W: FactView>(
     put_members(c, facts, asked)?;
     put_composite(view, facts, asked)?;
     put_canonical(alloc, view, c, asked)?;
-    put_rounds(alloc, view, c, asked)?;
+    put_rounds(alloc, view, Folding::Full, c, asked)?;
     Ok(())
 }
 

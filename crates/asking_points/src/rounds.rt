@@ -2,7 +2,6 @@
 
 ghost use Rattle.std.specs.Prelude.{◌≡◌, [], ◌∷◌, ◌++◌, true, false, IfOk, OnOk, Some};
 ghost use Rattle.std.specs.Str.{bytes_eq};
-ghost use Rattle.ucd_model.specs.FoldRounds.{drop_ignorable};
 ghost use Rattle.ucd_model.specs.Forms.{nfkc};
 ghost use Rattle.asking_points.specs.Forms.{list_in};
 ghost use Rattle.asking_points.specs.Rounds.{again_puts, folding_puts, short_round};
@@ -10,16 +9,10 @@ ghost use Rattle.asking_points.specs.KnownForms.{after_at, after_form, after_rou
 
 use crate::forms::put_asks;
 use crate::rows::put_rows;
-use case_derivation::fold;
-use fold_rounds::default_ignorable;
+use case_derivation::folded;
+use fold_rounds::{LISTS, MOST_POINTS, drop_ignorable};
 use std::alloc::Global;
-use ucd_model::{FactView, Memory, Point, Points, Query};
-
-/// The most code points that a list of a round may have (the longest result of a real release has 18).
-const MOST: usize = 255;
-
-/// How many lists are looked at for one that a round leaves as it is: after 0 to 7 rounds (real releases need 0 or 1).
-const LISTS: u8 = 8;
+use ucd_model::{FactView, Folding, Memory, Point, Points, Query};
 
 /// The list after a round, another one than the list before.
 #[derive(Drop)]
@@ -30,23 +23,24 @@ pub struct After {
     pub known: bool,
 }
 
-/// Puts what the folding rounds of a code point ask at the end, until a round gives no other list. The Unicode Standard,
+/// Puts what the rounds of a code point by either folding ask at the end, until a round gives no other list. The Unicode Standard,
 /// section 3.13, toNFKC_Casefold.
 ///
 /// - `Memory`: memory ran out.
 pub fn put_rounds<W: FactView>(
     alloc: Global,
     view: &W,
+    folding: Folding,
     c: Point,
     asked: &mut Vec<Query>,
 ) -> Result<(), Memory>
-    ensures { OnOk result (asked.new.items ≡ asked.old.items ++ puts_from (W.facts_of view.now) 8 false (c ∷ [])) }
+    ensures { OnOk result (asked.new.items ≡ asked.old.items ++ puts_from folding (W.facts_of view.now) 8 false (c ∷ [])) }
 {
     let mut list = Points::new(alloc);
     list.push(c)?;
     let mut known = false;
     'rounds: for done in 0..LISTS {
-        match put_round(alloc, view, list.as_slice(), known, asked)? {
+        match put_round(alloc, view, folding, list.as_slice(), known, asked)? {
             Some(after) => {
                 known = after.known;
                 list = after.list;
@@ -62,19 +56,20 @@ pub fn put_rounds<W: FactView>(
 fn put_round<W: FactView>(
     alloc: Global,
     view: &W,
+    folding: Folding,
     s: &[Point],
     known: bool,
     asked: &mut Vec<Query>,
 ) -> Result<Option<After>, Memory>
     requires { known ≡ true → Some s.now ≡ list_in (nfkc (W.facts_of view.now) s.now) }
-    ensures asked { OnOk result (asked.new.items ≡ asked.old.items ++ known_puts (W.facts_of view.now) known s.now) }
-    ensures next { IfOk result (λ next. next ≡ after_round (W.facts_of view.now) s.now) }
+    ensures asked { OnOk result (asked.new.items ≡ asked.old.items ++ known_puts folding (W.facts_of view.now) known s.now) }
+    ensures next { IfOk result (λ next. next ≡ after_round folding (W.facts_of view.now) s.now) }
 {
     if known {
-        return put_folding(alloc, view, s, s, asked);
+        return put_folding(alloc, view, folding, s, s, asked);
     }
     match put_asks(alloc, view, true, s, asked)? {
-        Some(form) => put_folding(alloc, view, s, form.as_slice(), asked),
+        Some(form) => put_folding(alloc, view, folding, s, form.as_slice(), asked),
         None => Ok(None),
     }
 }
@@ -84,17 +79,18 @@ fn put_round<W: FactView>(
 fn put_folding<W: FactView>(
     alloc: Global,
     view: &W,
+    folding: Folding,
     s: &[Point],
     form: &[Point],
     asked: &mut Vec<Query>,
 ) -> Result<Option<After>, Memory>
     requires { Some form.now ≡ list_in (nfkc (W.facts_of view.now) s.now) }
-    ensures asked { OnOk result (asked.new.items ≡ asked.old.items ++ folding_puts (W.facts_of view.now) s.now (Some form.now)) }
-    ensures next { IfOk result (λ next. next ≡ after_form (W.facts_of view.now) s.now (Some form.now)) }
+    ensures asked { OnOk result (asked.new.items ≡ asked.old.items ++ folding_puts folding (W.facts_of view.now) s.now (Some form.now)) }
+    ensures next { IfOk result (λ next. next ≡ after_form folding (W.facts_of view.now) s.now (Some form.now)) }
 {
-    let folded = fold(alloc, view, form)?;
-    put_rows(folded.as_slice(), asked)?;
-    let kept = without_ignorable(alloc, view, folded.as_slice())?;
+    let mut kept = folded(alloc, view, folding, form)?;
+    put_rows(kept.as_slice(), asked)?;
+    drop_ignorable(view, &mut kept);
     let next = put_again(alloc, view, s, form, kept.as_slice(), asked)?;
     let next = short_round(form, kept.as_slice(), next);
     Ok(changed(next, s, kept.as_slice()))
@@ -128,14 +124,14 @@ fn put_again<W: FactView>(
 fn short_round(form: &[Point], kept: &[Point], next: Option<Points>) -> Option<Points>
     ensures { result ≡ short_round form.now kept.now next }
 {
-    if form.len() > MOST {
+    if form.len() > MOST_POINTS {
         return None;
     }
-    if kept.len() > MOST {
+    if kept.len() > MOST_POINTS {
         return None;
     }
     match next {
-        Some(next) if next.len() <= MOST => Some(next),
+        Some(next) if next.len() <= MOST_POINTS => Some(next),
         _ => None,
     }
 }
@@ -163,17 +159,4 @@ fn is_same(a: &[Point], b: &[Point]) -> bool
     ensures { result ≡ bytes_eq a.now b.now }
 {
     a == b
-}
-
-/// A list without its Default_Ignorable_Code_Points. UAX #44, section 5.3, table 9.
-fn without_ignorable<W: FactView>(alloc: Global, view: &W, s: &[Point]) -> Result<Points, Memory>
-    ensures { IfOk result (λ kept. kept ≡ drop_ignorable (W.facts_of view.now) s.now) }
-{
-    let mut kept = Points::new(alloc);
-    'points: for x in s {
-        if !default_ignorable(view, *x) {
-            kept.push(*x)?;
-        }
-    }
-    Ok(kept)
 }

@@ -5,11 +5,8 @@ ghost use Rattle.std.specs.List.{flat_map};
 ghost use Rattle.asked_queries.specs.Questions.{tree, whole_tree, row_queries};
 ghost use Rattle.asking_points.specs.Compat.{has_compat};
 
-use decomposition::counted;
+use decomposition::{LEVELS, counted};
 use ucd_model::{FactView, Memory, Point, Query};
-
-/// The levels of an expansion: one more than the longest chain of mappings (real releases need 3).
-const LEVELS: u8 = 8;
 
 /// Puts the questions for the facts of the code points that the expansions of these look at at the end.
 /// UAX #15, section 1.3.

@@ -4,18 +4,10 @@ ghost use Rattle.std.specs.Prelude.{◌≡◌, ◌++◌, IfOk, OnOk};
 ghost use Rattle.ucd_model.specs.CanonicalOrder.{class_of};
 ghost use Rattle.ucd_model.specs.Composites.{pair_of};
 ghost use Rattle.asked_queries.specs.Questions.{tries};
-ghost use Rattle.asking_points.specs.Tries.{passes, highest_with, reached_point, staying, tried_by, with_composite, next_starter, tries_from};
+ghost use Rattle.asking_points.specs.Tries.{reached_point, tried_by, with_composite, next_starter, tries_from};
 
+use normalisation::{Starter, passes, starter_behind};
 use ucd_model::{FactView, Memory, Point, Query};
-
-/// The last starter of what is composed so far, and the greatest class behind it, where anything stands there.
-#[derive(Drop)]
-pub struct Starter {
-    /// The code point, which has class 0.
-    pub point: Point,
-    /// The greatest class behind it, from 0 to 255; `None` where nothing stands there.
-    pub highest: Option<u8>,
-}
 
 /// Puts the pairs that are tried while a list is composed at the end, whether they have a composite or not. It looks up
 /// at most one pair for each code point. The Unicode Standard, section 3.11, D117.
@@ -40,10 +32,10 @@ pub fn put_tries<W: FactView>(
 /// behind the code point.
 fn put_tried<W: FactView>(
     view: &W,
-    starter: &Option<Starter>,
+    starter: &Option<Starter<Point>>,
     y: Point,
     asked: &mut Vec<Query>,
-) -> Result<Option<Starter>, Memory>
+) -> Result<Option<Starter<Point>>, Memory>
     ensures asked { OnOk result (asked.new.items ≡ asked.old.items
         ++ tried_by (reached_point starter.now (class_of (W.facts_of view.now) y)) y) }
     ensures starter { IfOk result (λ next. next
@@ -51,73 +43,34 @@ fn put_tried<W: FactView>(
 {
     let class = view.class(y);
     let Some(point) = reached_point(starter, class) else {
-        return Ok(staying(starter, y, class));
+        return Ok(starter_behind(y, starter, class));
     };
     asked.push(Query::Pair(point, y))?;
     match view.pair(point, y) {
         Some(q) => Ok(with_composite(starter, q)),
-        None => Ok(staying(starter, y, class)),
+        None => Ok(starter_behind(y, starter, class)),
     }
 }
 
 /// The last starter's code point, where one of this class is not blocked from it.
-fn reached_point(starter: &Option<Starter>, class: u8) -> Option<Point>
+fn reached_point(starter: &Option<Starter<Point>>, class: u8) -> Option<Point>
     ensures { result ≡ reached_point starter.now class }
 {
     match starter {
-        Some(starter) if passes(starter.highest, class) => Some(starter.point),
+        Some(starter) if passes(starter.highest, class) => Some(starter.which),
         _ => None,
     }
 }
 
 /// A composite in the last starter's place.
-fn with_composite(starter: &Option<Starter>, q: Point) -> Option<Starter>
+fn with_composite(starter: &Option<Starter<Point>>, q: Point) -> Option<Starter<Point>>
     ensures { result ≡ with_composite starter.now q }
 {
     match starter {
         Some(starter) => Some(Starter {
-            point: q,
+            which: q,
             highest: starter.highest,
         }),
         None => None,
-    }
-}
-
-/// Whether a class is greater than the greatest one behind the starter.
-fn passes(highest: Option<u8>, class: u8) -> bool
-    ensures { result ≡ passes highest class }
-{
-    match highest {
-        Some(highest) => highest < class,
-        None => true,
-    }
-}
-
-/// The last starter once a code point of this class stays behind it.
-fn staying(starter: &Option<Starter>, y: Point, class: u8) -> Option<Starter>
-    ensures { result ≡ staying starter.now y class }
-{
-    if class == 0 {
-        return Some(Starter {
-            point: y,
-            highest: None,
-        });
-    }
-    match starter {
-        Some(starter) => Some(Starter {
-            point: starter.point,
-            highest: Some(highest_with(starter.highest, class)),
-        }),
-        None => None,
-    }
-}
-
-/// The greater one of the greatest class so far and a class.
-fn highest_with(highest: Option<u8>, class: u8) -> u8
-    ensures { result ≡ highest_with highest class }
-{
-    match highest {
-        Some(highest) => highest.max(class),
-        None => class,
     }
 }

@@ -9,7 +9,7 @@ mod predicates;
 mod titling;
 
 pub use changes::{Changes, changes_when};
-pub use mapping::{fold, lower, upper};
+pub use mapping::{fold, folded, lower, upper};
 pub use predicates::{
     case_ignorable, cased, is_case_ignorable, is_cased, is_lowercase, is_uppercase,
 };

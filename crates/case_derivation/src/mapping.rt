@@ -1,13 +1,14 @@
-//! The mappings that each code point takes by itself: to lower case, to upper case, and the folding.
+//! The mappings that each code point takes by itself: to lower case, to upper case, and the foldings.
 
 ghost use Rattle.std.specs.Prelude.{◌≡◌, ◌++◌, IfOk, OnOk, OnErr};
-ghost use Rattle.ucd_model.specs.Casing.{lower, upper, fold};
+ghost use Rattle.ucd_model.specs.Casing.{lower, upper, fold, folded};
 ghost use Rattle.ucd_model.specs.Facts.{image_points};
 ghost use Rattle.ucd_model.specs.Shown.{image_shown, shown_facts};
+ghost use Rattle.ucd_model.specs.declared.folding.Folding.TheVariants.{Simple};
 ghost use Rattle.case_derivation.specs.Steps.{image_of, mapped_by};
 
 use std::alloc::Global;
-use ucd_model::{FactView, FactsRef, Memory, Point, Points};
+use ucd_model::{FactView, FactsRef, Folding, Memory, Point, Points};
 
 /// A full mapping that each code point takes by itself.
 #[derive(Clone, Copy)]
@@ -44,6 +45,35 @@ pub fn fold<W: FactView>(alloc: Global, view: &W, s: &[Point]) -> Result<Points,
     ensures { IfOk result (λ points. points ≡ fold (W.facts_of view.now) s.now) }
 {
     mapped(alloc, view, Casing::Fold, s)
+}
+
+/// The list folded by either folding: the full foldings of its members, joined in order, or the simple folding of each
+/// member in its place. The Unicode Standard, section 5.18, Caseless Matching.
+///
+/// - `Memory`: memory ran out.
+pub fn folded<W: FactView>(
+    alloc: Global,
+    view: &W,
+    folding: Folding,
+    s: &[Point],
+) -> Result<Points, Memory>
+    ensures { IfOk result (λ points. points ≡ folded folding (W.facts_of view.now) s.now) }
+{
+    match folding {
+        Folding::Full => fold(alloc, view, s),
+        Folding::Simple => simply_folded(alloc, view, s),
+    }
+}
+
+/// The list with the simple folding of each member in its place.
+fn simply_folded<W: FactView>(alloc: Global, view: &W, s: &[Point]) -> Result<Points, Memory>
+    ensures { IfOk result (λ points. points ≡ folded Simple (W.facts_of view.now) s.now) }
+{
+    let mut points = Points::new(alloc);
+    'members: for c in s {
+        points.push(view.facts(*c).simple_fold)?;
+    }
+    Ok(points)
 }
 
 /// The mappings of the members, joined in order.

@@ -8,7 +8,7 @@ use std::alloc::Global;
 use ucd_model::{Bad, FactView, FormStop, Memory, Point, Points};
 
 /// The levels of an expansion: one more than the longest chain of mappings (real releases need 3).
-const LEVELS: u8 = 8;
+pub const LEVELS: u8 = 8;
 
 /// The most code points that an expansion may have (the compatibility expansion of FDFA has 18).
 const MOST: usize = 64;

@@ -4,4 +4,4 @@
 mod expansion;
 pub mod laws;
 
-pub use expansion::{counted, expand};
+pub use expansion::{LEVELS, counted, expand};

@@ -1,8 +1,8 @@
 //! Worked case foldings, over a view that lists a few code points.
 
 use crate::facts::{
-    CANONICAL, FoldedRow, PLAIN, listed_folded, point, points, put_flagged, put_folded, repeated,
-    rule_of,
+    CANONICAL, FoldedRow, PLAIN, facts_of, listed_folded, point, points, put_flagged, put_folded,
+    repeated, rule_of,
 };
 use fold_rounds::{
     casefold_of, default_ignorable, is_default_ignorable, is_visible_format, nfkc_casefold,
@@ -11,8 +11,8 @@ use normalisation::nfkc;
 use std::alloc::Global;
 use std::test::Fail;
 use ucd_model::{
-    Bad, Category, FactList, FactView, Flag, Flags, FormStop, Image, Kind, ListOf, Point, Points,
-    Tag,
+    Bad, Category, FactList, FactView, Flag, Flags, Folding, FormStop, Image, Kind, ListOf, Point,
+    Points, Tag,
 };
 
 const LETTER: Category = Category::Lo;
@@ -76,15 +76,20 @@ fn letters_are_folded(rt: HostRuntime) -> Result<(), Fail> {
     Ok(())
 }
 
-/// NFKC_Casefold of a code point whose facts and form are looked up before.
-fn casefold_by_form<W: FactView>(alloc: Global, view: &W, c: Point) -> Result<Image, FormStop> {
+/// The image of a code point under the rounds by a folding, with its facts and its form looked up before.
+fn casefold_by_form<W: FactView>(
+    alloc: Global,
+    view: &W,
+    folding: Folding,
+    c: Point,
+) -> Result<Image, FormStop> {
     let form = nfkc(alloc, view, &[c])?;
-    casefold_of(alloc, view, c, &view.facts(c), form.as_slice())
+    casefold_of(alloc, view, folding, c, &view.facts(c), form.as_slice())
 }
 
 /// Whether NFKC_Casefold of such a code point is no code points.
 fn is_dropped(alloc: Global, list: &FactList, c: Point) -> Result<bool, Fail> {
-    let found = casefold_by_form(alloc, list, c)?;
+    let found = casefold_by_form(alloc, list, Folding::Full, c)?;
     Ok(found.is_same(&Image::To(Points::new(alloc))))
 }
 
@@ -103,6 +108,34 @@ fn ignored_are_dropped(alloc: Global, list: &FactList) -> Result<bool, Fail> {
 fn ignored_points_are_dropped(rt: HostRuntime) -> Result<(), Fail> {
     let list = listed_folded(rt.alloc(), &IGNORED)?;
     assert!(rt; ignored_are_dropped(rt.alloc(), &list)?);
+    Ok(())
+}
+
+/// The capital sharp s, which CaseFolding.txt folds to two letters with status F, and to the small one with status S.
+fn put_sharp(alloc: Global, list: &mut FactList) -> Result<(), Fail> {
+    let row = (0x1E9E, LETTER, 0, PLAIN, &[], &[0x0073, 0x0073]);
+    let mut facts = facts_of(alloc, row)?;
+    facts.simple_fold = point(0x00DF)?;
+    Ok(list.push((point(0x1E9E)?, facts))?)
+}
+
+/// Whether the image of the capital sharp s by a folding is exactly these code points.
+fn sharp_folds_to(
+    alloc: Global,
+    list: &FactList,
+    folding: Folding,
+    wanted: &[u32],
+) -> Result<bool, Fail> {
+    let found = casefold_by_form(alloc, list, folding, point(0x1E9E)?)?;
+    Ok(found.is_same(&Image::To(points(alloc, wanted)?)))
+}
+
+#[test]
+fn each_folding_has_its_own_list(rt: HostRuntime) -> Result<(), Fail> {
+    let mut list = FactList::new(rt.alloc());
+    put_sharp(rt.alloc(), &mut list)?;
+    assert!(rt; sharp_folds_to(rt.alloc(), &list, Folding::Full, &[0x0073, 0x0073])?);
+    assert!(rt; sharp_folds_to(rt.alloc(), &list, Folding::Simple, &[0x00DF])?);
     Ok(())
 }
 

@@ -5,12 +5,14 @@ ghost use Rattle.ucd_model.specs.Expansion.{FormAnswers};
 ghost use Rattle.ucd_model.specs.FoldRounds.{casefold_image};
 ghost use Rattle.ucd_model.specs.Forms.{nfkc};
 ghost use Rattle.ucd_model.specs.Shown.{shown_facts};
+ghost use Rattle.ucd_model.specs.declared.folding.Folding.TheVariants.{Full};
 
 use crate::ignorable::is_default_ignorable;
 use crate::rounds::{fixed, is_same};
+use crate::settled::is_own;
 use normalisation::nfkc;
 use std::alloc::Global;
-use ucd_model::{Bad, FactView, FactsRef, FormStop, Image, Point, Points};
+use ucd_model::{Bad, FactView, FactsRef, Folding, FormStop, Image, Point, Points};
 
 /// NFKC_Casefold of a code point: from the code point alone, the first list after 0 to 7 rounds that one more round
 /// leaves as it is. A round is the folding, without ignorable code points, of the Normalisation Form KC, in that form
@@ -20,38 +22,47 @@ use ucd_model::{Bad, FactView, FactsRef, FormStop, Image, Point, Points};
 ///   code points. No other rule comes.
 /// - `Memory`: memory ran out.
 pub fn nfkc_casefold<W: FactView>(alloc: Global, view: &W, c: Point) -> Result<Image, FormStop>
-    ensures { FormAnswers result (casefold_image (W.facts_of view.now) c) }
+    ensures { FormAnswers result (casefold_image Full (W.facts_of view.now) c) }
 {
     match nfkc(alloc, view, &[c]) {
-        Ok(form) => casefold_of(alloc, view, c, &view.facts(c), form.as_slice()),
+        Ok(form) => casefold_of(
+            alloc,
+            view,
+            Folding::Full,
+            c,
+            &view.facts(c),
+            form.as_slice(),
+        ),
         Err(FormStop::Bad(_)) => Err(FormStop::Bad(Bad::V5)),
         Err(FormStop::Memory) => Err(FormStop::Memory),
     }
 }
 
-/// NFKC_Casefold of a code point with these facts, whose Normalisation Form KC is `form`. It takes no memory where
-/// neither that form nor the folding changes the code point. The Unicode Standard, section 3.13, toNFKC_Casefold.
+/// NFKC_Casefold of a code point with these facts, whose Normalisation Form KC is `form`; by the simple folding, where
+/// that is named, in place of the full one. It takes no memory where neither that form nor the folding changes the code
+/// point. The Unicode Standard, section 3.13, toNFKC_Casefold.
 ///
 /// - `Bad(V5)`: as for [`nfkc_casefold`]. No other rule comes.
 /// - `Memory`: memory ran out.
 pub fn casefold_of<W: FactView>(
     alloc: Global,
     view: &W,
+    folding: Folding,
     c: Point,
     facts: &FactsRef<'_>,
     form: &[Point],
 ) -> Result<Image, FormStop>
     requires facts { shown_facts facts.now ≡ W.facts_of view.now c }
     requires form { nfkc (W.facts_of view.now) (c ∷ []) ≡ Ok form.now }
-    ensures { FormAnswers result (casefold_image (W.facts_of view.now) c) }
+    ensures { FormAnswers result (casefold_image folding (W.facts_of view.now) c) }
 {
-    if facts.fold.is_none() && is_same(form, &[c]) {
+    if is_own(folding, c, facts) && is_same(form, &[c]) {
         if is_default_ignorable(c, facts) {
             return Ok(Image::To(Points::new(alloc)));
         }
         return Ok(Image::Same);
     }
-    match fixed(alloc, view, c, form)? {
+    match fixed(alloc, view, folding, c, form)? {
         Some(points) => Ok(Image::of(c, points)),
         None => Err(FormStop::Bad(Bad::V5)),
     }

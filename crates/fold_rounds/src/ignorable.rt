@@ -35,8 +35,8 @@ pub fn is_visible_format(c: Point) -> bool
     matches!(c.number(), 0xFFF9..=0xFFFB | 0x13430..=0x1343F)
 }
 
-/// Takes the Default_Ignorable_Code_Points out of a list, in place. It takes no memory.
-pub(crate) fn drop_ignorable<W: FactView>(view: &W, s: &mut Points)
+/// Takes the Default_Ignorable_Code_Points out of a list, in place. It takes no memory. UAX #44, section 5.3, table 9.
+pub fn drop_ignorable<W: FactView>(view: &W, s: &mut Points)
     ensures { s.new ≡ drop_ignorable (W.facts_of view.now) s.old }
 {
     let mut kept = 0;

@@ -1,4 +1,4 @@
-//! The laws of NFKC_Casefold: each function here does nothing, and its contract is a law.
+//! The laws of the folding rounds, by either folding: each function here does nothing, and its contract is a law.
 
 ghost use Rattle.fold_rounds.specs.RoundLaws.{FixedIsFound, FoundIsFixed};
 

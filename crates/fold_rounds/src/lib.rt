@@ -8,4 +8,5 @@ mod rounds;
 mod settled;
 
 pub use casefold::{casefold_of, nfkc_casefold};
-pub use ignorable::{default_ignorable, is_default_ignorable, is_visible_format};
+pub use ignorable::{default_ignorable, drop_ignorable, is_default_ignorable, is_visible_format};
+pub use rounds::{LISTS, MOST_POINTS};

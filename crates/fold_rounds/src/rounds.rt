@@ -9,16 +9,16 @@ ghost use Rattle.fold_rounds.specs.Steps.{folded_form, is_settled};
 
 use crate::ignorable::drop_ignorable;
 use crate::settled::is_settled;
-use case_derivation::fold;
+use case_derivation::folded;
 use normalisation::nfkc;
 use std::alloc::Global;
-use ucd_model::{FactView, FormStop, Memory, Point, Points};
+use ucd_model::{FactView, Folding, FormStop, Memory, Point, Points};
 
 /// The most code points that a list of a round may have (the longest result of a real release has 18).
-const MOST: usize = 255;
+pub const MOST_POINTS: usize = 255;
 
 /// How many lists are looked at for one that a round leaves as it is: after 0 to 7 rounds (real releases need 0 or 1).
-const LISTS: u8 = 8;
+pub const LISTS: u8 = 8;
 
 /// The first list, after 0 to 7 rounds from a code point with this Normalisation Form KC, that one more round leaves as
 /// it is; `None` where there is none. The Unicode Standard, section 3.13, toNFKC_Casefold.
@@ -27,22 +27,23 @@ const LISTS: u8 = 8;
 pub(crate) fn fixed<W: FactView>(
     alloc: Global,
     view: &W,
+    folding: Folding,
     c: Point,
     form: &[Point],
 ) -> Result<Option<Points>, Memory>
     requires { nfkc (W.facts_of view.now) (c ∷ []) ≡ Ok form.now }
-    ensures { IfOk result (λ found. found ≡ casefold (W.facts_of view.now) c) }
+    ensures { IfOk result (λ found. found ≡ casefold folding (W.facts_of view.now) c) }
 {
-    if form.len() > MOST {
+    if form.len() > MOST_POINTS {
         return Ok(None);
     }
-    if is_settled(view, form) {
-        return fixed_by(alloc, view, c, form, true);
+    if is_settled(view, folding, form) {
+        return fixed_by(alloc, view, folding, c, form, true);
     }
-    match short_fold(alloc, view, form)? {
+    match short_fold(alloc, view, folding, form)? {
         Some(folded) => {
-            let settled = is_settled(view, folded.as_slice());
-            fixed_by(alloc, view, c, folded.as_slice(), settled)
+            let settled = is_settled(view, folding, folded.as_slice());
+            fixed_by(alloc, view, folding, c, folded.as_slice(), settled)
         }
         None => Ok(None),
     }
@@ -53,13 +54,14 @@ pub(crate) fn fixed<W: FactView>(
 fn fixed_by<W: FactView>(
     alloc: Global,
     view: &W,
+    folding: Folding,
     c: Point,
     folded: &[Point],
     settled: bool,
 ) -> Result<Option<Points>, Memory>
-    requires first { round (W.facts_of view.now) (c ∷ []) ≡ short_nfkc (W.facts_of view.now) folded.now }
-    requires settled { settled ≡ list_all (λ x. is_settled x (W.facts_of view.now x)) folded.now }
-    ensures { IfOk result (λ found. found ≡ casefold (W.facts_of view.now) c) }
+    requires first { round folding (W.facts_of view.now) (c ∷ []) ≡ short_nfkc (W.facts_of view.now) folded.now }
+    requires settled { settled ≡ list_all (λ x. is_settled folding x (W.facts_of view.now x)) folded.now }
+    ensures { IfOk result (λ found. found ≡ casefold folding (W.facts_of view.now) c) }
 {
     let Some(list) = short_nfkc(alloc, view, folded)? else {
         return Ok(None);
@@ -67,25 +69,26 @@ fn fixed_by<W: FactView>(
     if settled && is_same(list.as_slice(), folded) {
         return Ok(Some(list));
     }
-    fixed_behind(alloc, view, c, list)
+    fixed_behind(alloc, view, folding, c, list)
 }
 
 /// The same from the list after the first round.
 fn fixed_behind<W: FactView>(
     alloc: Global,
     view: &W,
+    folding: Folding,
     c: Point,
     first: Points,
 ) -> Result<Option<Points>, Memory>
-    requires { round (W.facts_of view.now) (c ∷ []) ≡ Some first }
-    ensures { IfOk result (λ found. found ≡ casefold (W.facts_of view.now) c) }
+    requires { round folding (W.facts_of view.now) (c ∷ []) ≡ Some first }
+    ensures { IfOk result (λ found. found ≡ casefold folding (W.facts_of view.now) c) }
 {
     if is_same(first.as_slice(), &[c]) {
         return Ok(Some(first));
     }
     let mut list = first;
     'rounds: for done in 1..LISTS {
-        let Some(next) = round(alloc, view, list.as_slice())? else {
+        let Some(next) = round(alloc, view, folding, list.as_slice())? else {
             return Ok(None);
         };
         if is_same(next.as_slice(), list.as_slice()) {
@@ -97,11 +100,16 @@ fn fixed_behind<W: FactView>(
 }
 
 /// One round: the folding, without ignorable code points, of the Normalisation Form KC of a list, in that form again.
-fn round<W: FactView>(alloc: Global, view: &W, s: &[Point]) -> Result<Option<Points>, Memory>
-    ensures { IfOk result (λ next. next ≡ round (W.facts_of view.now) s.now) }
+fn round<W: FactView>(
+    alloc: Global,
+    view: &W,
+    folding: Folding,
+    s: &[Point],
+) -> Result<Option<Points>, Memory>
+    ensures { IfOk result (λ next. next ≡ round folding (W.facts_of view.now) s.now) }
 {
     match short_nfkc(alloc, view, s)? {
-        Some(form) => folded_form(alloc, view, form.as_slice()),
+        Some(form) => folded_form(alloc, view, folding, form.as_slice()),
         None => Ok(None),
     }
 }
@@ -110,23 +118,29 @@ fn round<W: FactView>(alloc: Global, view: &W, s: &[Point]) -> Result<Option<Poi
 fn folded_form<W: FactView>(
     alloc: Global,
     view: &W,
+    folding: Folding,
     form: &[Point],
 ) -> Result<Option<Points>, Memory>
-    ensures { IfOk result (λ next. next ≡ folded_form (W.facts_of view.now) form.now) }
+    ensures { IfOk result (λ next. next ≡ folded_form folding (W.facts_of view.now) form.now) }
 {
-    match short_fold(alloc, view, form)? {
+    match short_fold(alloc, view, folding, form)? {
         Some(folded) => short_nfkc(alloc, view, folded.as_slice()),
         None => Ok(None),
     }
 }
 
-/// The full folding of a list without ignorable code points; `None` where that is too long.
-fn short_fold<W: FactView>(alloc: Global, view: &W, s: &[Point]) -> Result<Option<Points>, Memory>
-    ensures { IfOk result (λ folded. folded ≡ short_fold (W.facts_of view.now) s.now) }
+/// The folding of a list without ignorable code points; `None` where that is too long.
+fn short_fold<W: FactView>(
+    alloc: Global,
+    view: &W,
+    folding: Folding,
+    s: &[Point],
+) -> Result<Option<Points>, Memory>
+    ensures { IfOk result (λ folded. folded ≡ short_fold folding (W.facts_of view.now) s.now) }
 {
-    let mut folded = fold(alloc, view, s)?;
-    drop_ignorable(view, &mut folded);
-    Ok(short(folded))
+    let mut points = folded(alloc, view, folding, s)?;
+    drop_ignorable(view, &mut points);
+    Ok(short(points))
 }
 
 /// The Normalisation Form KC of a list; `None` where there is none, and where it is too long.
@@ -151,7 +165,7 @@ pub(crate) fn is_same(a: &[Point], b: &[Point]) -> bool
 fn short(points: Points) -> Option<Points>
     ensures { result ≡ short points }
 {
-    if points.len() <= MOST {
+    if points.len() <= MOST_POINTS {
         Some(points)
     } else {
         None

@@ -16,6 +16,7 @@ use Rattle.ucd_model.specs.Shown.{shown_facts}
 use Rattle.ucd_model.specs.Validity.{lacks_a_row, is_unfolded, is_none}
 use Rattle.ucd_model.specs.declared.decomposition.Kind.{Kind}
 use Rattle.ucd_model.specs.declared.decomposition.Kind.TheVariants.{Plain, Canonical, Compat}
+use Rattle.ucd_model.specs.declared.folding.Folding.TheVariants.{Full}
 use Rattle.ucd_model.specs.declared.form.Bad.{Bad as Rule}
 use Rattle.ucd_model.specs.declared.form.Bad.TheVariants.{V4, V5}
 use Rattle.ucd_model.specs.declared.form.FormStop.{FormStop}
@@ -48,15 +49,15 @@ same_check F c s t e = ap (quick_composed F c) (sym ((bytes_eq-Decides s t).0 e)
 ok_same : (i j : Image) → ◌≡◌ {A = Result Image Rule} (Ok i) (Ok j) → i ≡ j
 ok_same i j e = cc
 
-pub folded : (F : ℕ → Facts) (c : ℕ) (i : Image) → casefold_image F c ≡ Ok i → is_unfolded F c ≡ false
-folded F c i e = folded_if c (casefold F c) i e
+pub folded : (F : ℕ → Facts) (c : ℕ) (i : Image) → casefold_image Full F c ≡ Ok i → is_unfolded F c ≡ false
+folded F c i e = folded_if c (casefold Full F c) i e
 
 unfolded_if : (c : ℕ) (r : Option (List ℕ)) (rule : Rule) → image_or_rule c r ≡ Err rule → is_none r ≡ true
 unfolded_if c (Some s) rule e = cc
 unfolded_if c None rule e = refl
 
-pub not_folded : (F : ℕ → Facts) (c : ℕ) (rule : Rule) → casefold_image F c ≡ Err rule → is_unfolded F c ≡ true
-not_folded F c rule e = unfolded_if c (casefold F c) rule e
+pub not_folded : (F : ℕ → Facts) (c : ℕ) (rule : Rule) → casefold_image Full F c ≡ Err rule → is_unfolded F c ≡ true
+not_folded F c rule e = unfolded_if c (casefold Full F c) rule e
 
 -- ---- forms
 
@@ -155,7 +156,7 @@ pub record IsTold (F : ℕ → Facts) (c : ℕ) (d n k : List ℕ) (kept : KeptR
   pub changes : kept.changes_casefold ≡ is_other kept.casefold
 
 pub record_is : (F : ℕ → Facts) (c : ℕ) (r : FactsRef) (d n k : List ℕ) (kept : KeptRecord) (told : ToldByForms) → shown_facts r ≡ F c → HaveForms F c d n k
-    → casefold_image F c ≡ Ok kept.casefold → kept.category ≡ r.category → kept.class ≡ r.class → kept.kind ≡ r.kind
+    → casefold_image Full F c ≡ Ok kept.casefold → kept.category ≡ r.category → kept.class ≡ r.class → kept.kind ≡ r.kind
     → ((core : Core) → has_core kept.core core ≡ core_given c (shown_facts r) told core) → IsTold F c d n k kept told → kept_record kept ≡ record_at F c
 record_is F c r d n k kept told shows forms fold category class kind cores found =
     let same_kind : kept.kind ≡ (F c).kind = kind ∙ ap (λ (G : Facts). G.kind) shows in
@@ -163,12 +164,12 @@ record_is F c r d n k kept told shows forms fold category class kind cores found
     cores core ∙ ap (λ (G : Facts). core_given c G told core) shows
     ∙ cores_are F c told core (found.lowered ∙ changes_are F c d n k forms (lowers F)) (found.uppered ∙ changes_are F c d n k forms (uppers F)) (found.titled ∙ changes_are F c d n k forms (titles F))
     (found.folded ∙ changes_are F c d n k forms (folds F)) (found.mapped ∙ changes_are F c d n k forms (casemaps F)) found.xid_start found.xid_continue in
-    let image : kept.casefold ≡ image_or_same (casefold_image F c) = ap image_or_same (sym fold) in
+    let image : kept.casefold ≡ image_or_same (casefold_image Full F c) = ap image_or_same (sym fold) in
     let nfd : kept.nfd ≡ quick_or_yes (quick F Nfd c) = found.nfd ∙ ap (λ x. quick_decomposed x false) same_kind ∙ nfd_check F c d n k forms in
     let nfc : kept.nfc ≡ quick_or_yes (quick F Nfc c) = found.nfc ∙ nfc_check F c d n k forms in
     let nfkd : kept.nfkd ≡ quick_or_yes (quick F Nfkd c) = found.nfkd ∙ ap (λ x. quick_decomposed x true) same_kind ∙ nfkd_check F c d n k forms in
     let nfkc : kept.nfkc ≡ quick_or_yes (quick F Nfkc c) = found.nfkc ∙ nfkc_check F c d n k forms in
-    let changes : kept.changes_casefold ≡ changes_image c (image_or_same (casefold_image F c)) = found.changes ∙ other_of c (casefold F c) kept.casefold fold ∙ ap (changes_image c) image in
+    let changes : kept.changes_casefold ≡ changes_image c (image_or_same (casefold_image Full F c)) = found.changes ∙ other_of c (casefold Full F c) kept.casefold fold ∙ ap (changes_image c) image in
     let category_is : kept.category ≡ (F c).category = category ∙ ap (λ (G : Facts). G.category) shows in
     let class_is : kept.class ≡ (F c).class = class ∙ ap (λ (G : Facts). G.class) shows in
     λ i. record {
@@ -195,12 +196,12 @@ only_V5 c (Some s) rule e = cc
 only_V5 c None rule e = cc
 
 pub folding_stop : (F : ℕ → Facts) (c : ℕ) (r : FactsRef) (stop : FormStop) → shown_facts r ≡ F c → lacks_a_row F c ≡ false → expansion_rule F c ≡ None → hidden_of F c (shown_facts r) ≡ false
-    → FormAnswers {A = Image} (Err stop) (casefold_image F c) → RecordAnswers (Err stop) (derived F c)
+    → FormAnswers {A = Image} (Err stop) (casefold_image Full F c) → RecordAnswers (Err stop) (derived F c)
 folding_stop F c r (Bad rule) shows lacks none hidden e =
-    by_folding F c lacks none (sym (ap (hidden_of F c) shows) ∙ hidden) (not_folded F c rule e) ∙ ap (λ (k : Rule). Err k) (only_V5 c (casefold F c) rule e)
+    by_folding F c lacks none (sym (ap (hidden_of F c) shows) ∙ hidden) (not_folded F c rule e) ∙ ap (λ (k : Rule). Err k) (only_V5 c (casefold Full F c) rule e)
 folding_stop F c r Memory shows lacks none hidden e = tt
 
 pub valid : (F : ℕ → Facts) (c : ℕ) (r : FactsRef) (i : Image) (kept : KeptRecord) → shown_facts r ≡ F c → lacks_a_row F c ≡ false → expansion_rule F c ≡ None → hidden_of F c (shown_facts r) ≡ false
-    → casefold_image F c ≡ Ok i → kept_record kept ≡ record_at F c → derived F c ≡ Ok (kept_record kept)
+    → casefold_image Full F c ≡ Ok i → kept_record kept ≡ record_at F c → derived F c ≡ Ok (kept_record kept)
 valid F c r i kept shows lacks none hidden fold same =
     by_none F c lacks none (sym (ap (hidden_of F c) shows) ∙ hidden) (folded F c i fold) ∙ ap (λ (R : Record). Ok R) (sym same)

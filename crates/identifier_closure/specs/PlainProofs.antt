@@ -26,6 +26,7 @@ use Rattle.ucd_model.specs.Records.{Record, core_at, changes_image, record_at, d
 use Rattle.ucd_model.specs.Uniform.{IsPlain}
 use Rattle.ucd_model.specs.Validity.{lacks_row, lacks_a_row, mappings, is_none, is_hidden, is_other, composite_of}
 use Rattle.ucd_model.specs.declared.decomposition.Kind.TheVariants.{Plain}
+use Rattle.ucd_model.specs.declared.folding.Folding.TheVariants.{Full}
 use Rattle.ucd_model.specs.declared.form.Form.TheVariants.{Nfd, Nfc, Nfkd, Nfkc}
 use Rattle.ucd_model.specs.declared.form.Quick.TheVariants.{Yes, No, Maybe}
 use Rattle.ucd_model.specs.declared.image.Image.{Image}
@@ -105,9 +106,9 @@ not_hidden F c p =
 
 -- ---- the folding
 
-fold_by : (F : ℕ → Facts) (c : ℕ) → nfkc F (c ∷ []) ≡ Ok (c ∷ []) → (F c).fold ≡ Same → (b : Bool) → default_ignorable c (F c) ≡ b → casefold_image F c ≡ Ok (if b then To [] else Same)
-fold_by F c form folds true e = alone_ignored F c form (ap (image_points c) folds) e
-fold_by F c form folds false e = alone_same F c form (ap (image_points c) folds) e
+fold_by : (F : ℕ → Facts) (c : ℕ) → nfkc F (c ∷ []) ≡ Ok (c ∷ []) → (F c).fold ≡ Same → (b : Bool) → default_ignorable c (F c) ≡ b → casefold_image Full F c ≡ Ok (if b then To [] else Same)
+fold_by F c form folds true e = alone_ignored Full F c form (ap (λ i. image_points c i ++ []) folds) e
+fold_by F c form folds false e = alone_same Full F c form (ap (λ i. image_points c i ++ []) folds) e
 
 pub folded_if : (c : ℕ) (r : Option (List ℕ)) (i : Image) → image_or_rule c r ≡ Ok i → is_none r ≡ false
 folded_if c (Some s) i e = refl
@@ -221,7 +222,7 @@ module _ (F : ℕ → Facts) (c : ℕ) (p : IsPlain c (F c)) where
   nfkc_check : quick_or_yes (quick F Nfkc c) ≡ (if second_of F c then Maybe else Yes)
   nfkc_check = ap (λ r. quick_or_yes (quick_where (quick_given F Nfkc c) r)) nfkc_is ∙ composed_check
 
-  fold_is : casefold_image F c ≡ Ok (if default_ignorable c (F c) then To [] else Same)
+  fold_is : casefold_image Full F c ≡ Ok (if default_ignorable c (F c) then To [] else Same)
   fold_is = fold_by F c nfkc_is p.fold (default_ignorable c (F c)) refl
 
   changes_if : (b : Bool) → changes_image c (if b then To [] else Same) ≡ b
@@ -230,8 +231,8 @@ module _ (F : ℕ → Facts) (c : ℕ) (p : IsPlain c (F c)) where
 
   record_is : record_at F c ≡ plain_record c (F c) (second_of F c)
   record_is =
-      let image : image_or_same (casefold_image F c) ≡ (if default_ignorable c (F c) then To [] else Same) = ap image_or_same fold_is in
-      let changes : changes_image c (image_or_same (casefold_image F c)) ≡ default_ignorable c (F c) = ap (changes_image c) image ∙ changes_if (default_ignorable c (F c)) in
+      let image : image_or_same (casefold_image Full F c) ≡ (if default_ignorable c (F c) then To [] else Same) = ap image_or_same fold_is in
+      let changes : changes_image c (image_or_same (casefold_image Full F c)) ≡ default_ignorable c (F c) = ap (changes_image c) image ∙ changes_if (default_ignorable c (F c)) in
       λ i. record {
         category = (F c).category;
         class = (F c).class;
@@ -246,8 +247,8 @@ module _ (F : ℕ → Facts) (c : ℕ) (p : IsPlain c (F c)) where
         changes_casefold = changes i;
       }
 
-  folded : is_none (casefold F c) ≡ false
-  folded = folded_if c (casefold F c) (if default_ignorable c (F c) then To [] else Same) fold_is
+  folded : is_none (casefold Full F c) ≡ false
+  folded = folded_if c (casefold Full F c) (if default_ignorable c (F c) then To [] else Same) fold_is
 
   pub plain_derived : derived F c ≡ Ok (plain_record c (F c) (second_of F c))
   plain_derived = by_none F c (lacks_none F c p) (no_rule F c u) (not_hidden F c p) folded ∙ ap (λ (R : Record). Ok R) record_is

@@ -5,6 +5,7 @@ ghost use Rattle.ucd_model.specs.FoldRounds.{casefold_image};
 ghost use Rattle.ucd_model.specs.Records.{kept_record, record_at, derived};
 ghost use Rattle.ucd_model.specs.Validity.{lacks_a_row};
 ghost use Rattle.ucd_model.specs.Shown.{shown_facts};
+ghost use Rattle.ucd_model.specs.declared.folding.Folding.TheVariants.{Full};
 ghost use Rattle.identifier_closure.specs.Derived.{DerivesAs, RecordAnswers};
 ghost use Rattle.identifier_closure.specs.PointForms.{expansion_rule, HaveForms};
 
@@ -20,7 +21,9 @@ use fold_rounds::casefold_of;
 use quick_checks::{is_fully_excluded, quick_decomposed};
 use std::alloc::Global;
 use std::sync::ledger::Ledger;
-use ucd_model::{Bad, FactView, FactsRef, FormStop, Image, Kind, Point, Queries, Record, Steps};
+use ucd_model::{
+    Bad, FactView, FactsRef, Folding, FormStop, Image, Kind, Point, Queries, Record, Steps,
+};
 
 /// What the derivation of a code point gives.
 #[derive(Debug, Drop)]
@@ -93,7 +96,7 @@ fn recorded<W: FactView>(
     if is_hidden(view, c, facts) {
         return Err(FormStop::Bad(Bad::V4));
     }
-    match casefold_of(alloc, view, c, facts, forms.nfkc) {
+    match casefold_of(alloc, view, Folding::Full, c, facts, forms.nfkc) {
         Ok(casefold) => Ok(record_of(view, c, facts, forms, casefold)),
         Err(stop) => Err(stop),
     }
@@ -109,7 +112,7 @@ fn record_of<W: FactView>(
 ) -> Record
     requires facts { shown_facts facts.now ≡ W.facts_of view.now c }
     requires forms { HaveForms (W.facts_of view.now) c forms.nfd.now forms.nfc.now forms.nfkc.now }
-    requires casefold { casefold_image (W.facts_of view.now) c ≡ Ok casefold }
+    requires casefold { casefold_image Full (W.facts_of view.now) c ≡ Ok casefold }
     ensures { kept_record result ≡ record_at (W.facts_of view.now) c }
 {
     let closed = closure_of(view, c, facts, forms.nfkc);

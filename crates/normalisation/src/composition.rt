@@ -5,23 +5,16 @@ ghost use Rattle.std.specs.Option.{ForSome};
 ghost use Rattle.ucd_model.specs.CanonicalOrder.{class_of};
 ghost use Rattle.ucd_model.specs.Composites.{pair_of};
 ghost use Rattle.ucd_model.specs.Composition.{last_starter, composed_with, compose};
-ghost use Rattle.normalisation.specs.SoFar.{passes, highest_with, starter_behind, joined, Describes};
+ghost use Rattle.normalisation.specs.SoFar.{joined, Describes};
 
+use crate::starter::{Starter, passes, starter_behind};
 use ucd_model::{FactView, Point, Points};
-
-/// The last starter of what is composed so far: its place, and the greatest class behind it, where anything stands
-/// there.
-#[derive(Clone, Copy)]
-struct Starter {
-    at: usize,
-    highest: Option<u8>,
-}
 
 /// What is composed so far, at the front of the list: how many code points, and the last starter among them.
 #[derive(Clone, Copy)]
 struct SoFar {
     len: usize,
-    starter: Option<Starter>,
+    starter: Option<Starter<usize>>,
 }
 
 /// A composite, and the place of the starter that it takes.
@@ -71,7 +64,7 @@ fn put_next<W: FactView>(view: &W, s: &mut Points, so_far: SoFar, at: usize) -> 
             s.replace(so_far.len, y);
             SoFar {
                 len: so_far.len + 1,
-                starter: starter_behind(so_far, class),
+                starter: starter_behind(so_far.len, &so_far.starter, class),
             }
         }
     }
@@ -82,57 +75,20 @@ fn put_next<W: FactView>(view: &W, s: &mut Points, so_far: SoFar, at: usize) -> 
 fn joined<W: FactView>(
     view: &W,
     s: &Points,
-    starter: Option<Starter>,
+    starter: Option<Starter<usize>>,
     y: Point,
     class: u8,
 ) -> Option<Join>
-    requires { ForSome starter (λ starter. starter.at < length s.now) }
+    requires { ForSome starter (λ starter. starter.which < length s.now) }
     ensures { result ≡ joined (pair_of (W.facts_of view.now)) s.now starter y class }
 {
     let starter = starter?;
     if !passes(starter.highest, class) {
         return None;
     }
-    let point = view.pair(s.as_slice()[starter.at], y)?;
+    let point = view.pair(s.as_slice()[starter.which], y)?;
     Some(Join {
-        at: starter.at,
+        at: starter.which,
         point,
     })
-}
-
-/// Whether a class is greater than the greatest one behind the starter.
-fn passes(highest: Option<u8>, class: u8) -> bool
-    ensures { result ≡ passes highest class }
-{
-    match highest {
-        Some(highest) => highest < class,
-        None => true,
-    }
-}
-
-/// The last starter once a code point of this class stands behind what is composed so far.
-fn starter_behind(so_far: SoFar, class: u8) -> Option<Starter>
-    ensures { result ≡ starter_behind so_far.len so_far.starter class }
-{
-    if class == 0 {
-        return Some(Starter {
-            at: so_far.len,
-            highest: None,
-        });
-    }
-    let starter = so_far.starter?;
-    Some(Starter {
-        at: starter.at,
-        highest: Some(highest_with(starter.highest, class)),
-    })
-}
-
-/// The greater one of the greatest class so far and a class.
-fn highest_with(highest: Option<u8>, class: u8) -> u8
-    ensures { result ≡ highest_with highest class }
-{
-    match highest {
-        Some(highest) => highest.max(class),
-        None => class,
-    }
 }

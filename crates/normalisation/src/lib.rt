@@ -7,7 +7,9 @@ pub mod composition_laws;
 pub mod form_laws;
 mod forms;
 pub mod order_laws;
+mod starter;
 
 pub use canonical_order::order;
 pub use composition::compose;
 pub use forms::{nfc, nfd, nfkc, nfkd};
+pub use starter::{Starter, passes, starter_behind};

@@ -4,6 +4,8 @@
 -- F is the facts of each code point.
 -- lower_of upper_of title_of fold_of F c   the full mapping of c
 -- lower upper fold F s     the full mappings of the members, joined in order: toLowercase, toUppercase and toCasefold
+-- folded folding F s       the folded list: by the full folding `fold F s`; by the simple one the simple fold of each member in
+--                          its place
 -- title F s                toTitlecase: the members before the first Cased one stay; that one has its title mapping, and each later
 --                          member its lower mapping
 -- changes map s            the mapped list is not s
@@ -11,12 +13,14 @@
 -- casemaps F s             D143: whether it changes when it is lowercased, uppercased or titlecased
 -- where_form p r           p of the list r; false where r is a rule
 -- changes_when test F c    the test of the canonical decomposition of c
-use Rattle.std.specs.Prelude.{ℕ, Bool, false, ◌||◌, not, List, [], ◌∷◌, ◌++◌, Result, Ok, Err, if◌then◌else◌}
+use Rattle.std.specs.Prelude.{ℕ, Bool, false, ◌||◌, not, List, [], ◌∷◌, ◌++◌, Result, Ok, Err, map, if◌then◌else◌}
 use Rattle.std.specs.List.{flat_map}
 use Rattle.std.specs.Str.{bytes_eq}
 use Rattle.ucd_model.specs.Facts.{Facts, image_points}
 use Rattle.ucd_model.specs.Forms.{nfd}
 use Rattle.ucd_model.specs.Predicates.{cased}
+use Rattle.ucd_model.specs.declared.folding.Folding.{Folding}
+use Rattle.ucd_model.specs.declared.folding.Folding.TheVariants.{Full, Simple}
 use Rattle.ucd_model.specs.declared.form.Bad.{Bad as Rule}
 
 abbrev pub lower_of : (ℕ → Facts) → ℕ → List ℕ
@@ -39,6 +43,10 @@ upper F s = flat_map (upper_of F) s
 
 abbrev pub fold : (ℕ → Facts) → List ℕ → List ℕ
 fold F s = flat_map (fold_of F) s
+
+abbrev pub folded : Folding → (ℕ → Facts) → List ℕ → List ℕ
+folded Full F s = fold F s
+folded Simple F s = map (λ x. (F x).simple_fold) s
 
 abbrev pub title : (ℕ → Facts) → List ℕ → List ℕ
 title F [] = []

@@ -25,7 +25,7 @@ use Rattle.ucd_model.specs.Facts.{status_place}
 use Rattle.ucd_model.specs.Predicates.{category_place, core_properties}
 use Rattle.ucd_model.specs.Sets.{flag_place, core_place}
 use Rattle.ucd_points.specs.SourceFiles.{source_files, file_place, file_place_small, file_at-place}
-use Rattle.ucd_model.specs.Enumerations.{IsEnumeration, EnumerationsAreWhole, categories, statuses, tags, place_of_tag, kinds, place_of_kind, flags, place_of_derived, forms, place_of_form, quick_values, place_of_quick, rules, place_of_rule}
+use Rattle.ucd_model.specs.Enumerations.{IsEnumeration, EnumerationsAreWhole, categories, statuses, tags, place_of_tag, kinds, place_of_kind, flags, place_of_derived, foldings, place_of_folding, forms, place_of_form, quick_values, place_of_quick, rules, place_of_rule}
 use Rattle.ucd_model.specs.declared.category.Category.{Category}
 use Rattle.ucd_model.specs.declared.category.Category.TheVariants.{Lu, Ll, Lt, Lm, Lo, Mn, Mc, Me, Nd, Nl, No, Pc, Pd, Ps, Pe, Pi, Pf, Po, Sm, Sc, Sk, So, Zs, Zl, Zp, Cc, Cf, Cs, Co, Cn}
 use Rattle.ucd_model.specs.declared.decomposition.Kind.{Kind}
@@ -36,6 +36,8 @@ use Rattle.ucd_points.specs.declared.files.SourceFile.{SourceFile}
 use Rattle.ucd_points.specs.declared.files.SourceFile.TheVariants.{UnicodeData}
 use Rattle.ucd_model.specs.declared.files.DerivedFile.{DerivedFile}
 use Rattle.ucd_model.specs.declared.files.DerivedFile.TheVariants.{CoreProperties, NormalizationProps, GeneralCategory, CombiningClass, DecompositionType}
+use Rattle.ucd_model.specs.declared.folding.Folding.{Folding}
+use Rattle.ucd_model.specs.declared.folding.Folding.TheVariants.{Full, Simple}
 use Rattle.ucd_model.specs.declared.form.Bad.{Bad as Rule}
 use Rattle.ucd_model.specs.declared.form.Bad.TheVariants.{V1, V2, V3, V4, V5}
 use Rattle.ucd_model.specs.declared.form.Form.{Form}
@@ -167,6 +169,10 @@ derived_at GeneralCategory = refl
 derived_at CombiningClass = refl
 derived_at DecompositionType = refl
 
+folding_at : (x : Folding) → slice_get foldings (place_of_folding x) ≡ Some x
+folding_at Full = refl
+folding_at Simple = refl
+
 form_at : (x : Form) → slice_get forms (place_of_form x) ≡ Some x
 form_at Nfd = refl
 form_at Nfc = refl
@@ -209,6 +215,9 @@ enumerates_source_files = record { each = source_at; order = refl }
 pub enumerates_derived_files : IsEnumeration derived_files place_of_derived
 enumerates_derived_files = record { each = derived_at; order = refl }
 
+pub enumerates_foldings : IsEnumeration foldings place_of_folding
+enumerates_foldings = record { each = folding_at; order = refl }
+
 pub enumerates_forms : IsEnumeration forms place_of_form
 enumerates_forms = record { each = form_at; order = refl }
 
@@ -228,6 +237,7 @@ enumerations_are_whole = record {
   of_core = enumerates_core_properties;
   of_source = enumerates_source_files;
   of_derived = enumerates_derived_files;
+  of_folding = enumerates_foldings;
   of_form = enumerates_forms;
   of_quick = enumerates_quick_values;
   of_rule = enumerates_rules;

@@ -8,6 +8,7 @@
 -- kinds, place_of_kind k   Plain, Canonical, and the kinds with a tag, in the order of the tags
 -- flags                the properties of PropList.txt, in the order of Flag
 -- place_of_derived f   the place of a derived file in `derived_files`
+-- foldings, place_of_folding f   the foldings: full, simple
 -- forms, place_of_form f   the normalisation forms: NFD NFC NFKD NFKC
 -- quick_values, place_of_quick q   the values of a quick check: Yes No Maybe
 -- rules, place_of_rule r   the rules of a valid release, in the order in which they are tested
@@ -31,6 +32,8 @@ use Rattle.ucd_model.specs.declared.decomposition.Tag.{Tag}
 use Rattle.ucd_model.specs.declared.decomposition.Tag.TheVariants.{Font, NoBreak, Initial, Medial, Final, Isolated, Circle, Super, Sub, Vertical, Wide, Narrow, Small, Square, Fraction, Compat}
 use Rattle.ucd_model.specs.declared.files.DerivedFile.{DerivedFile}
 use Rattle.ucd_model.specs.declared.files.DerivedFile.TheVariants.{CoreProperties, NormalizationProps, GeneralCategory, CombiningClass, DecompositionType}
+use Rattle.ucd_model.specs.declared.folding.Folding.{Folding}
+use Rattle.ucd_model.specs.declared.folding.Folding.TheVariants.{Full, Simple}
 use Rattle.ucd_model.specs.declared.form.Bad.{Bad as Rule}
 use Rattle.ucd_model.specs.declared.form.Bad.TheVariants.{V1, V2, V3, V4, V5}
 use Rattle.ucd_model.specs.declared.form.Form.{Form}
@@ -98,6 +101,13 @@ place_of_derived GeneralCategory = 2
 place_of_derived CombiningClass = 3
 place_of_derived DecompositionType = 4
 
+abbrev pub foldings : List Folding
+foldings = Full ∷ Simple ∷ []
+
+abbrev pub place_of_folding : Folding → ℕ
+place_of_folding Full = 0
+place_of_folding Simple = 1
+
 abbrev pub forms : List Form
 forms = Nfd ∷ Nfc ∷ Nfkd ∷ Nfkc ∷ []
 
@@ -134,6 +144,7 @@ pub record EnumerationsAreWhole : Type 0 where
   pub of_core : IsEnumeration core_properties core_place
   pub of_source : IsEnumeration source_files file_place
   pub of_derived : IsEnumeration derived_files place_of_derived
+  pub of_folding : IsEnumeration foldings place_of_folding
   pub of_form : IsEnumeration forms place_of_form
   pub of_quick : IsEnumeration quick_values place_of_quick
   pub of_rule : IsEnumeration rules place_of_rule

@@ -22,6 +22,7 @@ use Rattle.ucd_model.specs.declared.decomposition.Kind.{Kind}
 use Rattle.ucd_model.specs.declared.form.Quick.{Quick}
 use Rattle.ucd_model.specs.Validity.{broken}
 use Rattle.ucd_model.specs.declared.form.Bad.{Bad as Rule}
+use Rattle.ucd_model.specs.declared.folding.Folding.TheVariants.{Full}
 use Rattle.ucd_model.specs.declared.form.Form.TheVariants.{Nfd, Nfc, Nfkd, Nfkc}
 use Rattle.ucd_model.specs.declared.image.Image.{Image}
 use Rattle.ucd_model.specs.declared.property.Core.{Core}
@@ -91,8 +92,8 @@ record_at F c = record {
   nfc = quick_or_yes (quick F Nfc c);
   nfkd = quick_or_yes (quick F Nfkd c);
   nfkc = quick_or_yes (quick F Nfkc c);
-  casefold = image_or_same (casefold_image F c);
-  changes_casefold = changes_image c (image_or_same (casefold_image F c));
+  casefold = image_or_same (casefold_image Full F c);
+  changes_casefold = changes_image c (image_or_same (casefold_image Full F c));
 }
 
 abbrev pub record_or_rule : Record → Option Rule → Result Record Rule

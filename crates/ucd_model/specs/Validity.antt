@@ -26,6 +26,7 @@ use Rattle.ucd_model.specs.Expansion.{full}
 use Rattle.ucd_points.specs.Limits.{point_count}
 use Rattle.ucd_model.specs.Facts.{Facts, image_points}
 use Rattle.ucd_model.specs.FoldRounds.{casefold}
+use Rattle.ucd_model.specs.declared.folding.Folding.TheVariants.{Full}
 use Rattle.ucd_model.specs.declared.form.Bad.{Bad as Rule}
 use Rattle.ucd_model.specs.declared.form.Bad.TheVariants.{V1, V2, V3, V4, V5}
 use Rattle.ucd_model.specs.declared.form.Broken.{Broken}
@@ -67,7 +68,7 @@ abbrev pub is_hidden : (ℕ → Facts) → ℕ → Bool
 is_hidden F c = primary F c && is_other c (composite_of F (F c).mapping)
 
 abbrev pub is_unfolded : (ℕ → Facts) → ℕ → Bool
-is_unfolded F c = is_none (casefold F c)
+is_unfolded F c = is_none (casefold Full F c)
 
 unfoldable pub broken : (ℕ → Facts) → ℕ → Option Rule
 broken F c =

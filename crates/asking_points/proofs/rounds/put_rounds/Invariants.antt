@@ -7,5 +7,5 @@ use Rattle.asking_points.proofs.rounds.put_rounds.Given as goal
 -- what the rounds that are left ask, behind what is asked so far, is what all gives; and a list that is known is its own NFKC
 abbrev pub invariant-rounds : goal.invariant-rounds
 invariant-rounds g l =
-    (l.asked.items ++ puts_from (g.W.FactView.facts_of l.view) (8 - l.done) l.known l.list ≡ l.initial.asked.items ++ puts_from (g.W.FactView.facts_of l.view) 8 false (l.fn.c ∷ []))
+    (l.asked.items ++ puts_from l.folding (g.W.FactView.facts_of l.view) (8 - l.done) l.known l.list ≡ l.initial.asked.items ++ puts_from l.folding (g.W.FactView.facts_of l.view) 8 false (l.fn.c ∷ []))
     × (l.known ≡ true → Some l.list ≡ list_in (nfkc (g.W.FactView.facts_of l.view) l.list))

@@ -5,6 +5,6 @@ use Rattle.fold_rounds.proofs.rounds.fixed_behind.Given as goal
 -- the list is what the rounds so far give, and each list before it was changed by one more round
 abbrev pub invariant-rounds : goal.invariant-rounds
 invariant-rounds g l = record {
-  list : rounds (g.W.FactView.facts_of l.view) l.done (l.fn.c ∷ []) ≡ Some l.list;
-  before : (k : ℕ) → k < l.done → is_last (g.W.FactView.facts_of l.view) l.fn.c k ≡ false;
+  list : rounds l.folding (g.W.FactView.facts_of l.view) l.done (l.fn.c ∷ []) ≡ Some l.list;
+  before : (k : ℕ) → k < l.done → is_last l.folding (g.W.FactView.facts_of l.view) l.fn.c k ≡ false;
 }

@@ -1,6 +1,10 @@
 -- Which blocks have several values, and how many.
-use Rattle.std.proofs.Common.{◌≡◌, ℕ, zero, suc, ◌+◌, ◌*◌, ◌/◌, ◌%◌, ◌<◌, true, false, eqb, List, refl, sym, ap, ◌∙◌, add-one, arith, inl, inr}
+use Rattle.std.proofs.Common.{◌≡◌, ℕ, zero, suc, ◌+◌, ◌*◌, ◌/◌, ◌%◌, ◌<◌, Bool, true, false, not, cond, eqb, List, refl, sym, ap, ◌∙◌, arith, inl, inr}
+use Rattle.std.specs.Bool.{Decides}
+use Rattle.std.specs.List.{count_by, range_with_len}
 use Rattle.std.proofs.lemmas.Bool.{cases_lt, cases_Bool, and_from, and_parts, eq-eqb, eqb-true}
+use Rattle.std.proofs.lemmas.List.{map-id}
+use Rattle.std.proofs.lemmas.List.FromFn.{sum_by-map-range_with_len_more}
 use Rattle.page_pool.specs.Pool.{Pool, word_of}
 use Rattle.paged_table.specs.declared.block.Block.{Block}
 use Rattle.paged_table.specs.declared.block.Block.TheVariants.{One, Page}
@@ -39,11 +43,14 @@ even_block-each f b h a d la ld =
     let each = all_same-each (in_block f b) (in_block f b 0) block_width h in
     each a (omega arith) ∙ sym (each d (omega arith))
 
+pub even_block-Decides : (f : ℕ → ℕ) (b : ℕ) → Decides (even_block f b) (IsEvenBlock f b)
+even_block-Decides f b = (even_block-each f b, even_block-true f b)
+
 pub even_block-false : (f : ℕ → ℕ) (b : ℕ) → (IsEvenBlock f b → ⊥) → even_block f b ≡ false
 even_block-false f b h =
     elim (cases_Bool (even_block f b)) [
       | inl is ↦ absurd (h (even_block-each f b is))
-      | inr not ↦ not
+      | inr uneven ↦ uneven
     ]
 
 pub in_block-is : (pool : Pool) (xs : List Block) (b a : ℕ) → a < 256 → in_block (values pool xs) b a ≡ value_of pool (block_at xs b) a
@@ -54,6 +61,13 @@ in_block-is pool xs b a lt =
 
 in_page : (pool : Pool) (xs : List Block) (b p a : ℕ) → block_at xs b ≡ Page p → a < 256 → word_of pool p a ≡ in_block (values pool xs) b a
 in_page pool xs b p a is lt = sym (in_block-is pool xs b a lt ∙ ap (λ x. value_of pool x a) is)
+
+-- one block more is one more, if it is uneven
+uneven_count-more : (f : ℕ → ℕ) (n : ℕ) → uneven_count f (n + 1) ≡ uneven_count f n + cond (not (even_block f n)) 1 0
+uneven_count-more f n =
+    let uneven : ℕ → Bool = λ b. not (even_block f b) in
+    ap (count_by uneven) (sym (map-id (range_with_len 0 (n + 1)))) ∙ sum_by-map-range_with_len_more (λ k. cond (uneven k) 1 0) (λ k. k) 0 n n (omega arith)
+    ∙ ap (λ (xs : List ℕ). count_by uneven xs + cond (uneven n) 1 0) (map-id (range_with_len 0 n))
 
 -- a block with a page
 pub page-of : (pool : Pool) (xs ys : List Block) (b p : ℕ) → IsApart pool xs ys → block_at xs b ≡ Page p → IsPageOf pool (values pool xs) b p
@@ -66,7 +80,7 @@ page-of pool xs ys b p ok is =
     }
 
 pub count-page : (pool : Pool) (xs ys : List Block) (b p : ℕ) → IsApart pool xs ys → block_at xs b ≡ Page p → uneven_count (values pool xs) (b + 1) ≡ uneven_count (values pool xs) b + 1
-count-page pool xs ys b p ok is = rw (add-one b, even_block-false (values pool xs) b (page-of pool xs ys b p ok is).uneven) refl
+count-page pool xs ys b p ok is = uneven_count-more (values pool xs) b ∙ ap (λ e. uneven_count (values pool xs) b + cond (not e) 1 0) (even_block-false (values pool xs) b (page-of pool xs ys b p ok is).uneven)
 
 -- a block without one
 pub even-one : (pool : Pool) (xs : List Block) (b v : ℕ) → block_at xs b ≡ One v → IsEvenBlock (values pool xs) b
@@ -74,4 +88,6 @@ even-one pool xs b v is a d la ld =
     in_block-is pool xs b a la ∙ ap (λ x. value_of pool x a) is ∙ sym (in_block-is pool xs b d ld ∙ ap (λ x. value_of pool x d) is)
 
 pub count-one : (pool : Pool) (xs : List Block) (b v : ℕ) → block_at xs b ≡ One v → uneven_count (values pool xs) (b + 1) ≡ uneven_count (values pool xs) b
-count-one pool xs b v is = rw (add-one b, even_block-true (values pool xs) b (even-one pool xs b v is)) (omega arith)
+count-one pool xs b v is =
+    let none : uneven_count (values pool xs) b + 0 ≡ uneven_count (values pool xs) b = omega arith in
+    uneven_count-more (values pool xs) b ∙ ap (λ e. uneven_count (values pool xs) b + cond (not e) 1 0) (even_block-true (values pool xs) b (even-one pool xs b v is)) ∙ none

@@ -7,8 +7,11 @@
 -- all_same f v n       the first n of f are equal to v
 -- even_block f b       whether they are equal
 -- uneven_count f n     how many of the first n blocks have several values
+-- EvenBlocksAreTold    even_block tells exactly which blocks have equal values
 -- ShowsPage ..         a page shows the values of a block that has several values; no page, that they are equal
-use Rattle.std.specs.Prelude.{◌≡◌, ℕ, zero, suc, ◌+◌, ◌*◌, ◌<◌, Bool, true, ◌==◌, ◌&&◌, if◌then◌else◌, Option, None, Some}
+use Rattle.std.specs.Prelude.{◌≡◌, ℕ, zero, suc, ◌+◌, ◌*◌, ◌<◌, Bool, true, not, ◌==◌, ◌&&◌, Option, None, Some}
+use Rattle.std.specs.Bool.{Decides}
+use Rattle.std.specs.List.{count_by, range_with_len}
 use Rattle.page_pool.specs.Pool.{Pool, is_live, word_of}
 use Rattle.paged_table.specs.Blocks.{IsEven}
 
@@ -31,9 +34,11 @@ all_same f v (suc n) = all_same f v n && f n == v
 unfoldable pub even_block : (ℕ → ℕ) → ℕ → Bool
 even_block f b = all_same (in_block f b) (in_block f b 0) block_width
 
+abbrev pub EvenBlocksAreTold : Type 0
+EvenBlocksAreTold = (f : ℕ → ℕ) (b : ℕ) → Decides (even_block f b) (IsEvenBlock f b)
+
 abbrev pub uneven_count : (ℕ → ℕ) → ℕ → ℕ
-uneven_count f zero = 0
-uneven_count f (suc n) = uneven_count f n + (if even_block f n then 0 else 1)
+uneven_count f n = count_by (λ b. not (even_block f b)) (range_with_len 0 n)
 
 pub record IsPageOf (pool : Pool) (f : ℕ → ℕ) (b p : ℕ) : Type 0 where
   pub live : is_live pool p ≡ true

@@ -2,6 +2,7 @@
 #![tactic(auto)]
 
 mod block;
+pub mod laws;
 mod layers;
 mod paged_table;
 mod part;

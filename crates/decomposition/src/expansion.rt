@@ -1,11 +1,12 @@
 //! The expansion of a code point.
 
-ghost use Rattle.std.specs.Prelude.{◌≡◌, ◌≤◌, [], ◌∷◌, ◌++◌, length, OnOk, OnErr};
+ghost use Rattle.std.specs.Prelude.{◌≡◌, ◌≤◌, [], length};
 ghost use Rattle.ucd_model.specs.Expansion.{counted, expand, expansion, FormAnswers};
-ghost use Rattle.decomposition.specs.Walk.{kept, Puts};
+ghost use Rattle.decomposition.specs.Walk.{Puts};
 
+use crate::levels::has_long_chain;
 use std::alloc::Global;
-use ucd_model::{Bad, FactView, FormStop, Memory, Point, Points};
+use ucd_model::{Bad, FactView, FormStop, Point, Points};
 
 /// The levels of an expansion: one more than the longest chain of mappings (real releases need 3).
 pub const LEVELS: u8 = 8;
@@ -13,11 +14,11 @@ pub const LEVELS: u8 = 8;
 /// The most code points that an expansion may have (the compatibility expansion of FDFA has 18).
 const MOST: usize = 64;
 
-/// The most code points that the walk keeps: one more, which tells that there are too many.
-const ROOM: usize = 65;
-
 /// The full decomposition of a code point before it is put in order: canonical, or compatibility where `compat` holds.
 /// UAX #15, section 1.3; The Unicode Standard, section 3.7, Decomposition.
+///
+/// It takes few steps, unless there are more than 64 code points: then each mapping below the code point is looked at once
+/// for each level.
 ///
 /// - `Bad(V2)`: a chain of eight mappings or more is needed, or one without end.
 /// - `Bad(V3)`: no such chain is needed, and the expansion has more than 64 code points.
@@ -32,15 +33,17 @@ pub fn expand<W: FactView>(
 {
     let mut points = Points::new(alloc);
     put_expansion(view, compat, LEVELS, c, &mut points)?;
-    if points.len() > MOST {
-        Err(FormStop::Bad(Bad::V3))
-    } else {
-        Ok(points)
+    if points.len() <= MOST {
+        return Ok(points);
     }
+    if has_long_chain(alloc, view, compat, c)? {
+        return Err(FormStop::Bad(Bad::V2));
+    }
+    Err(FormStop::Bad(Bad::V3))
 }
 
-/// Puts the expansion of a code point, with some levels left, at the end of a list with room for one point too many.
-/// The walk goes on where the list is full, since a chain that is too long is named before an expansion that is.
+/// Puts the expansion of a code point, with some levels left, at the end of a list, up to the 65th code point of the list.
+/// The walk ends there, and tells nothing of the chains that it did not come to.
 fn put_expansion<W: FactView>(
     view: &W,
     compat: bool,
@@ -51,30 +54,21 @@ fn put_expansion<W: FactView>(
     requires { length points.old ≤ 65 }
     ensures { Puts points.old points.new result (expand (W.facts_of view.now) compat levels c) }
 {
+    if points.len() > MOST {
+        return Ok(());
+    }
     if levels == 0 {
         return Err(FormStop::Bad(Bad::V2));
     }
     let mapping = counted(view, compat, c);
     if mapping.is_empty() {
-        put(points, c)?;
+        points.push(c)?;
         return Ok(());
     }
     'members: for member in mapping {
         put_expansion(view, compat, levels - 1, *member, points)?;
     }
     Ok(())
-}
-
-/// Puts a code point at the end of a list where there is room for it; a full list stays.
-fn put(points: &mut Points, c: Point) -> Result<(), Memory>
-    requires { length points.old ≤ 65 }
-    ensures { OnOk result (points.new ≡ kept (points.old ++ c ∷ [])) }
-{
-    if points.len() < ROOM {
-        points.push(c)
-    } else {
-        Ok(())
-    }
 }
 
 /// The mapping of a code point where it counts: a canonical one always, a compatibility one where `compat` holds; else

@@ -1,6 +1,7 @@
 //! The outside of the program: shelves that hold files, and sinks that take what is printed.
 #![tactic(auto)]
 
+mod beside;
 mod calls;
 mod disk_shelf;
 mod memory_files;
@@ -8,6 +9,7 @@ mod memory_shelf;
 mod memory_sink;
 mod out_sink;
 mod perfect_shelf;
+mod replacing;
 mod shelf;
 mod sink;
 mod standard_output;

@@ -1,4 +1,4 @@
-//! The outside of the program: shelves that hold files, and sinks that take what is printed.
+//! The outside of the program: shelves that hold files, sinks that take what is printed, and the words that are given.
 #![tactic(auto)]
 
 mod beside;
@@ -16,6 +16,7 @@ mod standard_output;
 mod system;
 mod system_calls;
 mod transfer;
+mod words;
 
 pub use disk_shelf::DiskShelf;
 pub use memory_shelf::MemoryShelf;
@@ -27,3 +28,4 @@ pub use sink::Sink;
 pub use standard_output::StandardOutput;
 pub use system::System;
 pub use system_calls::SystemCalls;
+pub use words::{words_behind, words_of};

@@ -17,7 +17,7 @@ use std::io::ErrorKind;
 use std::marker::Model;
 use std::rt::Files;
 use std::str::from_utf8;
-use ucd_model::{Memory, Text};
+use ucd_points::{Memory, Text};
 
 /// The files of a system. It tells what they hold where the system does, and counts what failed.
 ///

@@ -8,7 +8,7 @@ ghost use Rattle.shelf_io.specs.Systems.{SameEntries};
 use crate::shelf::{Failed, ReadStop};
 use crate::system::System;
 use std::io::Write;
-use ucd_model::Memory;
+use ucd_points::Memory;
 
 /// How many bytes are asked for at a time.
 const CHUNK: usize = 65536;

@@ -8,7 +8,7 @@ use std::alloc::{Allocator, Global};
 use std::env::{self, Args};
 use std::io;
 use std::rt::Env;
-use ucd_model::{Memory, Texts};
+use ucd_points::{Memory, Texts};
 
 /// These words, as texts.
 ///

@@ -1,3 +1,4 @@
+mod BesideLemmas
 mod FolderLemmas
 mod HeldLemmas
 mod TransferLemmas

@@ -4,3 +4,4 @@ pub mod Answers
 pub mod Folders
 pub mod Sinks
 pub mod Systems
+pub mod Beside

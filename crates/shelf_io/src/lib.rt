@@ -1,6 +1,7 @@
-//! The outside of the program: shelves that hold files, and sinks that take what is printed.
+//! The outside of the program: shelves that hold files, sinks that take what is printed, and the words that are given.
 #![tactic(auto)]
 
+mod beside;
 mod calls;
 mod disk_shelf;
 mod memory_files;
@@ -8,12 +9,14 @@ mod memory_shelf;
 mod memory_sink;
 mod out_sink;
 mod perfect_shelf;
+mod replacing;
 mod shelf;
 mod sink;
 mod standard_output;
 mod system;
 mod system_calls;
 mod transfer;
+mod words;
 
 pub use disk_shelf::DiskShelf;
 pub use memory_shelf::MemoryShelf;
@@ -25,3 +28,4 @@ pub use sink::Sink;
 pub use standard_output::StandardOutput;
 pub use system::System;
 pub use system_calls::SystemCalls;
+pub use words::{words_behind, words_of};

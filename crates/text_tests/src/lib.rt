@@ -13,6 +13,8 @@ mod members;
 #[cfg(test)]
 mod names;
 #[cfg(test)]
+mod replacing;
+#[cfg(test)]
 mod sets;
 #[cfg(test)]
 mod shelves;

@@ -1,7 +1,9 @@
 //! The shelf of a system and the sink of a writer at work: on real files, and on readers, writers and a system that
 //! were made for it.
 
-ghost use Rattle.std.specs.Prelude.{true, if◌then◌else◌, bytes_eq, codes};
+ghost use Rattle.std.specs.Prelude.{◌≡◌, ◌≤◌, IsErrAnd, OnErr, true, if◌then◌else◌, bytes_eq, codes};
+ghost use Rattle.std.specs.IoError.{error_kind};
+ghost use Rattle.shelf_io.specs.Counts.{Rose};
 
 use crate::shelves::{ReadCase, first_wrong_read, read_gives, write_once};
 use shelf_io::{DiskShelf, Failed, Found, OutSink, ReadStop, Shelf, Sink, System};
@@ -50,7 +52,7 @@ const READS: [ReadCase<'static>; 9] = [
 ];
 
 /// The number of the first of these writes that has another answer.
-fn first_wrong_write<S: Shelf>(
+pub fn first_wrong_write<S: Shelf>(
     alloc: Global,
     shelf: &mut S,
     cases: &[(&[u8], &[u8], Result<(), Failed>)],
@@ -128,6 +130,32 @@ struct Parts {
     left: usize,
     fails: usize,
     room: usize,
+    stops_at: u8,
+    faults: u64,
+}
+
+impl Parts {
+    /// A step of a write, which fails where it is the one to stop at.
+    fn step(&mut self, number: u8) -> io::Result<()>
+        ensures failed { OnErr result (Rose self.old.faults self.new.faults) }
+        ensures never_falls { self.old.faults ≤ self.new.faults }
+    {
+        if number == self.stops_at {
+            self.count(true);
+            return Err(io::Error::from(ErrorKind::Other));
+        }
+        Ok(())
+    }
+
+    /// Counts a call that failed.
+    fn count(&mut self, failed: bool)
+        ensures failed { failed ≡ true → Rose self.old.faults self.new.faults }
+        ensures never_falls { self.old.faults ≤ self.new.faults }
+    {
+        if failed {
+            self.faults = self.faults.saturating_add(1);
+        }
+    }
 }
 
 impl System for Parts {
@@ -142,11 +170,21 @@ impl System for Parts {
 
     ghost at = { λ system path. Other };
 
-    fn open(&self, _path: &str) -> io::Result<Drip> {
+    ghost replaces = { λ system path. true };
+
+    ghost faults = { λ system. system.faults };
+
+    fn open(&mut self, _path: &str) -> io::Result<Drip> {
         Ok(Drip {
             left: self.left,
             fails: self.fails,
         })
+    }
+
+    fn read(&mut self, file: &mut Drip, buf: &mut [u8]) -> io::Result<usize> {
+        let answer = file.read(buf);
+        self.count(answer.is_err());
+        answer
     }
 
     fn make_folders(&mut self, _path: &str) -> io::Result<()> {
@@ -157,14 +195,40 @@ impl System for Parts {
         Ok(Narrow { room: self.room })
     }
 
+    fn create_beside(&mut self, _path: &str, _beside: &str) -> io::Result<Option<Narrow>> {
+        Ok(Some(Narrow { room: self.room }))
+    }
+
+    fn write(&mut self, file: &mut Narrow, buf: &[u8]) -> io::Result<usize> {
+        let answer = file.write(buf);
+        let takes = matches!(answer, Ok(taken) if taken > 0);
+        self.count(!takes);
+        answer
+    }
+
+    fn keep(&mut self, _path: &str, file: Narrow) -> io::Result<()> {
+        self.room = file.room;
+        self.step(1)
+    }
+
     fn close(&mut self, _path: &str, file: Narrow) {
         self.room = file.room;
+    }
+
+    fn rename(&mut self, _from: &str, _to: &str) -> io::Result<()> {
+        self.step(2)
     }
 }
 
 /// A system whose files have so many bytes, one of whose reads fails, and room for so many.
 fn in_parts(left: usize, fails: usize, room: usize) -> DiskShelf<Parts> {
-    DiskShelf::over(Parts { left, fails, room })
+    DiskShelf::over(Parts {
+        left,
+        fails,
+        room,
+        stops_at: 0,
+        faults: 0,
+    })
 }
 
 /// How many bytes a file has, which of its reads fails, and what a read gives.
@@ -209,24 +273,63 @@ fn writes_in_parts(rt: HostRuntime) -> Result<(), Memory> {
     Ok(())
 }
 
+/// What a write answers that stops as the file is kept, or as it is renamed.
+fn write_that_stops(alloc: Global, stops_at: u8) -> Result<Result<(), Failed>, Memory> {
+    let system = Parts {
+        left: 0,
+        fails: 0,
+        room: 9,
+        stops_at,
+        faults: 0,
+    };
+    write_once(alloc, &mut DiskShelf::over(system), b"f", b"abcde")
+}
+
+#[test]
+fn a_write_fails_at_each_step(rt: HostRuntime) -> Result<(), Memory> {
+    assert_eq!(rt; write_that_stops(rt.alloc(), 0)?, Ok(()));
+    assert_eq!(rt; write_that_stops(rt.alloc(), 1)?, Err(Failed));
+    assert_eq!(rt; write_that_stops(rt.alloc(), 2)?, Err(Failed));
+    Ok(())
+}
+
 #[test]
 fn standard_output_takes_bytes(rt: HostRuntime) {
     let mut out = OutSink::new(rt);
     assert_eq!(rt; out.put(b"a line\n"), Ok(()));
 }
 
-/// A system of the folder `d` and the file `d/f`, which tells what is there and never fails but for memory.
+/// A system of the folder `d`, the file `d/f` and the name beside it, which tells what is there and never fails but for
+/// memory.
 #[derive(Drop)]
 struct OneFile {
     alloc: Global,
     has_folder: bool,
+    is_there: bool,
+    bytes: Vec<u8>,
     is_created: bool,
     is_closed: bool,
-    bytes: Vec<u8>,
+    is_kept: bool,
+    next: Vec<u8>,
+    faults: u64,
+}
+
+impl OneFile {
+    /// A call that fails. It is counted.
+    fn fail<T>(&mut self, kind: ErrorKind) -> io::Result<T>
+        ensures kind { IsErrAnd result (λ e. error_kind e ≡ kind) }
+        ensures stays { self.new ≡ record self.old { faults = self.new.faults } }
+        ensures counted { Rose self.old.faults self.new.faults }
+        ensures never_falls { self.old.faults ≤ self.new.faults }
+    {
+        self.faults = self.faults.saturating_add(1);
+        Err(io::Error::from(kind))
+    }
 }
 
 impl System for OneFile {
-    ghost use Rattle.shelf_io.specs.Systems.Entry.{Nothing, Folder, File, Created, Other};
+    ghost use Rattle.shelf_io.specs.Systems.Entry.{Nothing, Folder, File, Kept, Created, Other};
+    ghost use Rattle.shelf_io.specs.Beside.{beside};
 
     type Opened = Cursor<Vec<u8>>;
 
@@ -236,45 +339,92 @@ impl System for OneFile {
 
     ghost at = { λ system path.
         if bytes_eq path (codes "d/f") then (
-        if system.is_closed then File system.bytes.items else if system.is_created then Created else Nothing
+        if system.is_there then Kept system.bytes.items else Nothing
+        ) else if bytes_eq path (codes "d/f.ucdshop-new") then (
+        if system.is_created then Created else if system.is_closed then File system.next.items
+        else if system.is_kept then Kept system.next.items else Nothing
         ) else if bytes_eq path (codes "d") then (
         if system.has_folder then Folder else Nothing
         ) else Other };
 
-    fn open(&self, path: &str) -> io::Result<Cursor<Vec<u8>>> {
-        if path == "d/f" && self.is_closed {
+    ghost replaces = { λ system path. bytes_eq path (codes "d/f") };
+
+    ghost faults = { λ system. system.faults };
+
+    fn open(&mut self, path: &str) -> io::Result<Cursor<Vec<u8>>> {
+        if path == "d/f" && self.is_there {
             let mut bytes = Vec::new(self.alloc);
             let Ok(()) = bytes.extend_from_slice(self.bytes.as_slice()) else {
-                return Err(io::Error::from(ErrorKind::OutOfMemory));
+                return self.fail(ErrorKind::OutOfMemory);
             };
             return Ok(Cursor::new(bytes));
         }
-        if (path == "d/f" && !self.is_created) || (path == "d" && !self.has_folder) {
-            return Err(io::Error::from(ErrorKind::NotFound));
+        if path == "d/f" || (path == "d" && !self.has_folder) {
+            return self.fail(ErrorKind::NotFound);
         }
-        Err(io::Error::from(ErrorKind::PermissionDenied))
+        if path == "d/f.ucdshop-new" && !self.is_created && !self.is_closed && !self.is_kept {
+            return self.fail(ErrorKind::NotFound);
+        }
+        self.fail(ErrorKind::PermissionDenied)
+    }
+
+    fn read(&mut self, file: &mut Cursor<Vec<u8>>, buf: &mut [u8]) -> io::Result<usize> {
+        match file.read(buf) {
+            Ok(taken) => Ok(taken),
+            Err(error) => self.fail(error.kind()),
+        }
     }
 
     fn make_folders(&mut self, path: &str) -> io::Result<()> {
         if path != "d" {
-            return Err(io::Error::from(ErrorKind::PermissionDenied));
+            return self.fail(ErrorKind::PermissionDenied);
         }
         self.has_folder = true;
         Ok(())
     }
 
-    fn create(&mut self, path: &str) -> io::Result<Vec<u8>> {
+    fn create(&mut self, _path: &str) -> io::Result<Vec<u8>> {
+        self.fail(ErrorKind::PermissionDenied)
+    }
+
+    fn create_beside(&mut self, path: &str, _beside: &str) -> io::Result<Option<Vec<u8>>> {
         if path != "d/f" {
-            return Err(io::Error::from(ErrorKind::PermissionDenied));
+            return self.fail(ErrorKind::PermissionDenied);
         }
         self.is_created = true;
+        Ok(Some(Vec::new(self.alloc)))
+    }
+
+    fn write(&mut self, file: &mut Vec<u8>, buf: &[u8]) -> io::Result<usize> {
+        match file.write(buf) {
+            Ok(taken) if taken > 0 || buf.is_empty() => Ok(taken),
+            Ok(_) => self.fail(ErrorKind::WriteZero),
+            Err(error) => self.fail(error.kind()),
+        }
+    }
+
+    fn keep(&mut self, _path: &str, file: Vec<u8>) -> io::Result<()> {
+        self.is_created = false;
         self.is_closed = false;
-        Ok(Vec::new(self.alloc))
+        self.is_kept = true;
+        self.next = file;
+        Ok(())
     }
 
     fn close(&mut self, _path: &str, file: Vec<u8>) {
-        self.bytes = file;
+        self.is_created = false;
         self.is_closed = true;
+        self.next = file;
+    }
+
+    fn rename(&mut self, _from: &str, to: &str) -> io::Result<()> {
+        if to != "d/f" {
+            return self.fail(ErrorKind::PermissionDenied);
+        }
+        self.is_there = true;
+        self.bytes = std::mem::replace(&mut self.next, Vec::new(self.alloc));
+        self.is_kept = false;
+        Ok(())
     }
 }
 
@@ -300,9 +450,13 @@ fn first_wrong_of_a_system(alloc: Global) -> Result<Option<usize>, Memory> {
     let system = OneFile {
         alloc,
         has_folder: false,
+        is_there: false,
+        bytes: Vec::new(alloc),
         is_created: false,
         is_closed: false,
-        bytes: Vec::new(alloc),
+        is_kept: false,
+        next: Vec::new(alloc),
+        faults: 0,
     };
     first_wrong_of_one(alloc, &mut DiskShelf::over(system))
 }

@@ -4,8 +4,10 @@
 -- gives_some c row     a row with a value that covers c: of PropList.txt, Scripts.txt or WordBreakProperty.txt
 -- value_in d row       the value of the row that was found; d where there is none, and for a row of another file
 -- value_at rows d c    the value of the first row that covers c; d where none does
--- script_at rows c     the Script of c, by the rows of Scripts.txt; default Unknown
--- word_break_at rows c the Word_Break of c, by the rows of WordBreakProperty.txt; default Other
+-- default_script       Unknown, the Script of what no row covers
+-- default_word_break   Other, the Word_Break of what no row covers
+-- script_at rows c     the Script of c, by the rows of Scripts.txt
+-- word_break_at rows c the Word_Break of c, by the rows of WordBreakProperty.txt
 -- is_mid_word value    the value of Word_Break is one of those in the middle of a word
 use Rattle.std.specs.Prelude.{ℕ, Bool, false, List, Option, Some, find, codes}
 use Rattle.std.specs.List.{list_any}
@@ -25,11 +27,17 @@ value_in default _ = default
 abbrev pub value_at : List Row → List ℕ → ℕ → List ℕ
 value_at rows default c = value_in default (find (gives_some c) rows)
 
+abbrev pub default_script : List ℕ
+default_script = codes "Unknown"
+
+abbrev pub default_word_break : List ℕ
+default_word_break = codes "Other"
+
 abbrev pub script_at : List Row → ℕ → List ℕ
-script_at rows c = value_at rows (codes "Unknown") c
+script_at rows c = value_at rows default_script c
 
 abbrev pub word_break_at : List Row → ℕ → List ℕ
-word_break_at rows c = value_at rows (codes "Other") c
+word_break_at rows c = value_at rows default_word_break c
 
 abbrev pub is_mid_word : List ℕ → Bool
 is_mid_word value = list_any (bytes_eq value) mid_word_values

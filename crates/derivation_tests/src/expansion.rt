@@ -172,3 +172,27 @@ fn a_long_chain_is_named_before_a_long_expansion(rt: HostRuntime) -> Result<(), 
     assert!(rt; long_chain_comes_first(rt.alloc(), &mut list)?);
     Ok(())
 }
+
+/// Puts the code points from one up to 1006, each of which maps to 64 times the next one.
+fn put_branches(alloc: Global, list: &mut FactList, from: u32) -> Result<(), Fail> {
+    for c in from..0x1007 {
+        let mapping = repeated(alloc, c + 1, 64)?;
+        put(alloc, list, (c, 0, COMPAT, mapping.as_slice()))?;
+    }
+    Ok(())
+}
+
+/// The rule that the first of these code points breaks.
+fn rule_of_branches(alloc: Global, from: u32) -> Result<Option<Bad>, Fail> {
+    let mut list = FactList::new(alloc);
+    put_branches(alloc, &mut list, from)?;
+    rule(alloc, &list, true, from)
+}
+
+/// A walk through each branch would take 64 to the power of 7 steps, and of 8.
+#[test]
+fn expansions_of_many_branches_have_their_rule(rt: HostRuntime) -> Result<(), Fail> {
+    assert!(rt; rule_of_branches(rt.alloc(), 0x1000)? == Some(Bad::V3));
+    assert!(rt; rule_of_branches(rt.alloc(), 0x0FFF)? == Some(Bad::V2));
+    Ok(())
+}

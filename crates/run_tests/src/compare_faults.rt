@@ -41,11 +41,11 @@ fn read_path(nth: u32) -> &'static [u8] {
     }
 }
 
-/// Whether a run over this release is told that a read failed, counted from 1, and writes nothing.
+/// Whether a run over this release is told that a read failed, counted from 1, and writes none of the outputs.
 ///
 /// - `Memory`: memory ran out.
 fn tells_read(alloc: Global, data: &[u8], nth: u32) -> Result<bool, Memory> {
-    let mut shelf = shelf_with(alloc, data, EARLIER, b"")?;
+    let mut shelf = shelf_to_fail(alloc, data)?;
     stops_at_read(alloc, &mut shelf, nth)
 }
 
@@ -53,11 +53,14 @@ fn stops_at_read(alloc: Global, shelf: &mut MemoryShelf, nth: u32) -> Result<boo
     shelf.fail_read(nth)?;
     let line = line_of(alloc, b"read failed: ", read_path(nth))?;
     let expected = (Status::ReadFault, line.as_slice());
-    Ok(
-        ends(alloc, &WORDS, shelf, 1000, expected)?
-            && holds(shelf, &[(CORE_PATH, b"old")])
-            && shelf.held(OUTPUT_PATHS[0]).is_none(),
-    )
+    Ok(ends(alloc, &WORDS, shelf, 1000, expected)? && is_old(shelf))
+}
+
+/// Whether each output has its old text.
+fn is_old(shelf: &MemoryShelf) -> bool {
+    OUTPUT_PATHS
+        .iter()
+        .all(|path| shelf.held(path) == Some(b"old".as_slice()))
 }
 
 /// Each read may fail. A failed read is told also where the release has a fault.
@@ -72,11 +75,11 @@ fn each_failed_read_is_told(rt: HostRuntime) -> Result<(), Fail> {
     Ok(())
 }
 
-/// A shelf with the two releases, on which each output has an old text.
+/// A shelf with this release and the earlier one, on which each output has an old text.
 ///
 /// - `Memory`: memory ran out.
-fn shelf_to_fail(alloc: Global) -> Result<Box<MemoryShelf>, Memory> {
-    let mut shelf = shelf_with(alloc, LATER, EARLIER, b"")?;
+fn shelf_to_fail(alloc: Global, data: &[u8]) -> Result<Box<MemoryShelf>, Memory> {
+    let mut shelf = shelf_with(alloc, data, EARLIER, b"")?;
     place_old(&mut shelf)?;
     Ok(shelf)
 }
@@ -106,7 +109,7 @@ fn is_left(shelf: &MemoryShelf, whole: &MemoryShelf, failed: usize, at: usize) -
 ///
 /// - `Memory`: memory ran out.
 fn tells_write(alloc: Global, whole: &MemoryShelf, nth: u32) -> Result<bool, Memory> {
-    let mut shelf = shelf_to_fail(alloc)?;
+    let mut shelf = shelf_to_fail(alloc, LATER)?;
     stops_at_write(alloc, &mut shelf, whole, nth)
 }
 
@@ -128,7 +131,7 @@ fn stops_at_write(
 ///
 /// - `Memory`: memory ran out.
 fn tell_writes(alloc: Global, from: u32, to: u32) -> Result<bool, Memory> {
-    let mut whole = shelf_to_fail(alloc)?;
+    let mut whole = shelf_to_fail(alloc, LATER)?;
     tell_writes_beside(alloc, &mut whole, from, to)
 }
 
@@ -158,26 +161,38 @@ fn failed_writes_of_other_files_are_told(rt: HostRuntime) -> Result<(), Fail> {
     Ok(())
 }
 
-/// Whether a run into a sink with room for so many bytes writes all files, and tells so much of its summary.
+/// Whether a run into a sink with room for so many bytes writes each file as a whole run does, and tells so much of its
+/// summary.
 ///
 /// - `Memory`: memory ran out.
-fn tells_in_part(alloc: Global, room: usize) -> Result<bool, Memory> {
-    let mut shelf = shelf_to_fail(alloc)?;
+fn tells_in_part(alloc: Global, whole: &MemoryShelf, room: usize) -> Result<bool, Memory> {
+    let mut shelf = shelf_to_fail(alloc, LATER)?;
     let told = BROKEN.get(..room).unwrap_or(b"");
     let expected = (Status::WriteFault, told);
     Ok(
         ends(alloc, &WORDS, &mut shelf, room, expected)?
-            && holds(
-                &shelf,
-                &[(b"o/policy.txt", BREAKS), (b"o/UnicodeData.txt", LATER)],
-            ),
+            && is_written_to(&shelf, whole, OUTPUT_PATHS.len()),
     )
+}
+
+/// The same of three sinks, beside a shelf whose run is told whole.
+///
+/// - `Memory`: memory ran out.
+fn tell_in_part(alloc: Global, whole: &mut MemoryShelf) -> Result<bool, Memory> {
+    let mut told = status_of(alloc, &WORDS, whole)? == Status::Done
+        && holds(
+            whole,
+            &[(b"o/policy.txt", BREAKS), (b"o/UnicodeData.txt", LATER)],
+        );
+    for room in [0, 1, BROKEN.len() - 1] {
+        told = tells_in_part(alloc, whole, room)? && told;
+    }
+    Ok(told)
 }
 
 #[test]
 fn a_short_sink_keeps_the_files(rt: HostRuntime) -> Result<(), Fail> {
-    for room in [0, 1, BROKEN.len() - 1] {
-        assert!(rt; tells_in_part(rt.alloc(), room)?, "room {room}");
-    }
+    let mut whole = shelf_to_fail(rt.alloc(), LATER)?;
+    assert!(rt; tell_in_part(rt.alloc(), &mut whole)?);
     Ok(())
 }

@@ -8,14 +8,14 @@ use crate::runs::{
 use shelf_io::MemoryShelf;
 use std::alloc::Global;
 use std::test::Fail;
-use ucd_model::Memory;
+use ucd_model::{Memory, Text};
 use ucdshop_core::Status;
 
 const SWAPPED: &[u8] =
     b"0061;LATIN SMALL LETTER A;Ll;0;L;;;;;N;;;0041;;0041\n0041;LATIN CAPITAL LETTER A;Lu;0;L;;;;;N;;;;0061;\n";
 
 /// UnicodeData.txt and PropList.txt, and the line that tells their first fault.
-const FAULTS: [(&[u8], &[u8], &[u8]); 8] = [
+const FAULTS: [(&[u8], &[u8], &[u8]); 12] = [
     (
         b"0041;A;Xx;0;L;;;;;N;;;;0061;\n",
         b"",
@@ -38,6 +38,27 @@ const FAULTS: [(&[u8], &[u8], &[u8]); 8] = [
     ),
     (
         b"4E00;<CJK Ideograph, First>;Lo;0;L;;;;;N;;;;;\n",
+        b"",
+        b"refused: d/UnicodeData.txt line 1 G09\n",
+    ),
+    // a comment between the lines of a range; another label; a last code point below the first; and no first one
+    (
+        b"4E00;<R, First>;Lo;0;L;;;;;N;;;;;\n# x\n4E10;<R, Last>;Lo;0;L;;;;;N;;;;;\n",
+        b"",
+        b"refused: d/UnicodeData.txt line 1 G09\n",
+    ),
+    (
+        b"4E00;<R, First>;Lo;0;L;;;;;N;;;;;\n4E10;<S, Last>;Lo;0;L;;;;;N;;;;;\n",
+        b"",
+        b"refused: d/UnicodeData.txt line 1 G09\n",
+    ),
+    (
+        b"4E00;<R, First>;Lo;0;L;;;;;N;;;;;\n4DFF;<R, Last>;Lo;0;L;;;;;N;;;;;\n",
+        b"",
+        b"refused: d/UnicodeData.txt line 2 G04\n",
+    ),
+    (
+        b"4DFF;<R, Last>;Lo;0;L;;;;;N;;;;;\n",
         b"",
         b"refused: d/UnicodeData.txt line 1 G09\n",
     ),
@@ -66,6 +87,39 @@ fn files_are_refused_by_their_first_fault(rt: HostRuntime) -> Result<(), Fail> {
     for (data, properties, line) in &FAULTS {
         assert!(rt; is_refused(rt.alloc(), data, properties, line)?);
     }
+    Ok(())
+}
+
+/// Puts a row of a code point that maps to so many times another one.
+///
+/// - `Memory`: memory ran out.
+fn put_times(data: &mut Text, times: u32) -> Result<(), Memory> {
+    data.append(b"1000;X;So;0;L;<compat>")?;
+    for _ in 0..times {
+        data.append(b" 1000")?;
+    }
+    data.append(b";;;;N;;;;;\n")
+}
+
+fn long_mapping_is_refused(alloc: Global) -> Result<bool, Memory> {
+    let mut data = Text::new(alloc);
+    put_times(&mut data, 65)?;
+    let line = b"refused: d/UnicodeData.txt line 1 G07\n";
+    is_refused(alloc, data.as_slice(), b"", line)
+}
+
+#[test]
+fn a_mapping_of_65_members_is_refused(rt: HostRuntime) -> Result<(), Fail> {
+    assert!(rt; long_mapping_is_refused(rt.alloc())?);
+    Ok(())
+}
+
+/// A file of the greatest size that is one line.
+#[test]
+fn a_line_of_semicolons_alone_is_refused(rt: HostRuntime) -> Result<(), Fail> {
+    let line = b"refused: d/PropList.txt line 1 G03\n";
+    let properties = vec![in rt.alloc(); b';'; 16_777_216]?;
+    assert!(rt; is_refused(rt.alloc(), b"", properties.as_slice(), line)?);
     Ok(())
 }
 

@@ -4,7 +4,7 @@ use crate::runs::{CORE_PATH, File, GRAVE, LETTERS, ends, holds, shelf_of, status
 use shelf_io::MemoryShelf;
 use std::alloc::Global;
 use std::test::Fail;
-use ucd_model::Memory;
+use ucd_model::{Memory, Text};
 use ucdshop_core::Status;
 
 /// A letter, a mark, and a compatibility character of both.
@@ -278,5 +278,45 @@ fn writes_a_long_file(alloc: Global, long: &[u8]) -> Result<bool, Memory> {
 fn a_script_may_be_a_file_of_the_folder(rt: HostRuntime) -> Result<(), Fail> {
     let long = vec![in rt.alloc(); b'#'; 16_777_216]?;
     assert!(rt; writes_a_long_file(rt.alloc(), long.as_slice())?);
+    Ok(())
+}
+
+/// The digits of a code point.
+const DIGITS: &[u8; 16] = b"0123456789ABCDEF";
+
+/// Puts the line that adds a row of a code point from 1000 to 1FFF.
+///
+/// - `Memory`: memory ran out.
+fn put_addition(script: &mut Text, at: usize) -> Result<(), Memory> {
+    script.append(b"add UnicodeData.txt 1")?;
+    script.push(DIGITS[at / 256 % 16])?;
+    script.push(DIGITS[at / 16 % 16])?;
+    script.push(DIGITS[at % 16])?;
+    script.append(b";A;Lo;0;L;;;;;N;;;;;\n")
+}
+
+/// The group of most operations: it adds a row of each code point from 1000 to 1FFF.
+///
+/// - `Memory`: memory ran out.
+fn put_group(script: &mut Text) -> Result<(), Memory> {
+    script.append(b"begin\n")?;
+    for at in 0..4096 {
+        put_addition(script, at)?;
+    }
+    script.append(b"end\n")
+}
+
+fn adds_most(alloc: Global, shelf: &mut MemoryShelf) -> Result<bool, Memory> {
+    let mut script = Text::new(alloc);
+    put_group(&mut script)?;
+    let counts: [&[u8]; 3] = [b"1", b"0", b"0"];
+    let files: [File; 1] = [(b"o/bench.log", b"1 accepted 4096\n")];
+    answers(alloc, shelf, script.as_slice(), counts, &files)
+}
+
+#[test]
+fn a_group_of_most_operations_is_accepted(rt: HostRuntime) -> Result<(), Fail> {
+    let mut shelf = shelf_of(rt.alloc(), b"", b"")?;
+    assert!(rt; adds_most(rt.alloc(), &mut shelf)?);
     Ok(())
 }

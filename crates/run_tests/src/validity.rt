@@ -109,3 +109,43 @@ fn a_long_expansion_is_refused(rt: HostRuntime) -> Result<(), Fail> {
     assert!(rt; a_long_one_is_refused(rt.alloc())?);
     Ok(())
 }
+
+/// Code points, each one behind the one before.
+const LINKS: [&[u8]; 9] = [
+    b"0FFF", b"1000", b"1001", b"1002", b"1003", b"1004", b"1005", b"1006", b"1007",
+];
+
+/// Puts the row of a code point that maps to 64 times another one.
+///
+/// - `Memory`: memory ran out.
+fn put_link(data: &mut Text, link: &[u8], next: &[u8]) -> Result<(), Memory> {
+    put_all(data, &[link, b";X;So;0;L;<compat>"])?;
+    for _ in 0..64 {
+        put_all(data, &[b" ", next])?;
+    }
+    data.append(b";;;;N;;;;;\n")
+}
+
+/// The rows of the links from a place on, each of which maps to 64 times the next one, and that of the last one.
+///
+/// - `Memory`: memory ran out.
+fn put_links(data: &mut Text, from: usize) -> Result<(), Memory> {
+    for at in from..8 {
+        put_link(data, LINKS[at], LINKS[at + 1])?;
+    }
+    data.append(b"1007;X;So;0;L;;;;;N;;;;;\n")
+}
+
+fn links_are_refused(alloc: Global, from: usize, line: &[u8]) -> Result<bool, Memory> {
+    let mut data = Text::new(alloc);
+    put_links(&mut data, from)?;
+    is_refused(alloc, data.as_slice(), line)
+}
+
+/// A walk through each branch would take 64 to the power of 7 steps, and of 8.
+#[test]
+fn expansions_of_many_branches_are_refused(rt: HostRuntime) -> Result<(), Fail> {
+    assert!(rt; links_are_refused(rt.alloc(), 1, b"refused: d point 1000 V3\n")?);
+    assert!(rt; links_are_refused(rt.alloc(), 0, b"refused: d point 0FFF V2\n")?);
+    Ok(())
+}

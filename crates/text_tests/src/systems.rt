@@ -329,7 +329,6 @@ impl OneFile {
 
 impl System for OneFile {
     ghost use Rattle.shelf_io.specs.Systems.Entry.{Nothing, Folder, File, Kept, Created, Other};
-    ghost use Rattle.shelf_io.specs.Beside.{beside};
 
     type Opened = Cursor<Vec<u8>>;
 

@@ -3,6 +3,7 @@
 ghost use Rattle.std.specs.Prelude.{◌≡◌, ℕ, ◌+◌, ◌-◌, ◌<◌, ◌≤◌, Ok, IfOk, IfErr, OnOk};
 ghost use Rattle.code_facts.specs.FactTables.{tables_facts};
 ghost use Rattle.paged_table.specs.Paged.{values_now};
+ghost use Rattle.range_table.specs.Values.{SameValues};
 ghost use Rattle.record_list.specs.Records.{record_next, record_now};
 ghost use Rattle.ucd_model.specs.Limits.{point_count};
 ghost use Rattle.ucd_model.specs.Predicates.{is_visible_format};
@@ -32,6 +33,7 @@ pub fn derive_all<L: Ledger>(
 ) -> Result<RecordTable, OpenStop>
     ensures valid { OnOk result (IsValid (tables_facts values_now tables.now)) }
     ensures records { IfOk result (λ table. SameRecords (record_now table) (record_at (tables_facts values_now tables.now))) }
+    ensures still { IfOk result (λ table. SameValues (record_next table) (record_now table)) }
     ensures invalid { IfErr result (λ stop. NamesBroken stop (tables_facts values_now tables.now)) }
     ensures steps { steps.new ≤ steps.old + point_count }
 {

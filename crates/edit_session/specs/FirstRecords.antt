@@ -7,7 +7,7 @@
 --                              says nothing
 use Rattle.std.specs.Prelude.{◌≡◌, ℕ, ◌<◌, Result, Ok, Err, ⊤}
 use Rattle.ucd_model.specs.Facts.{Facts}
-use Rattle.ucd_model.specs.Limits.{point_count}
+use Rattle.ucd_points.specs.Limits.{point_count}
 use Rattle.ucd_model.specs.Records.{Record, derived, kept_record}
 use Rattle.ucd_model.specs.declared.records.Record.{Record as KeptRecord}
 use Rattle.edit_session.specs.declared.open_stop.OpenStop.{OpenStop}

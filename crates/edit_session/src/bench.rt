@@ -8,7 +8,7 @@ ghost use Rattle.code_facts.specs.FactTables.{tables_facts, tables_next};
 ghost use Rattle.paged_table.specs.Paged.{values_now};
 ghost use Rattle.paged_table.specs.Pages.{IsEvenBlock, IsPageOf};
 ghost use Rattle.release_rows.specs.Operations.{IsOp};
-ghost use Rattle.ucd_model.specs.Limits.{point_count};
+ghost use Rattle.ucd_points.specs.Limits.{point_count};
 ghost use Rattle.edit_session.specs.Benches.{bench_facts, bench_record, bench_word, HasNothingPrepared, IsUnbroken, NamesBroken};
 ghost use Rattle.edit_session.specs.Groups.{AppliesAs, CountsAs, after_ops, group_answer, group_limit};
 

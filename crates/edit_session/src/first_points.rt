@@ -5,7 +5,7 @@ ghost use Rattle.code_facts.specs.FactTables.{tables_facts};
 ghost use Rattle.paged_table.specs.Paged.{values_now};
 ghost use Rattle.range_table.specs.Values.{SameValues};
 ghost use Rattle.record_list.specs.Records.{record_next, record_now};
-ghost use Rattle.ucd_model.specs.Limits.{point_count};
+ghost use Rattle.ucd_points.specs.Limits.{point_count};
 ghost use Rattle.ucd_model.specs.Predicates.{is_visible_format};
 ghost use Rattle.ucd_model.specs.Records.{derived, record_at};
 ghost use Rattle.ucd_model.specs.ValidityLaws.{IsValid};

@@ -3,7 +3,7 @@ use Rattle.code_facts.specs.FactTables.{tables_facts}
 use Rattle.paged_table.specs.Paged.{values_now}
 use Rattle.range_table.specs.Values.{SameValues, with_span}
 use Rattle.record_list.specs.Records.{record_next}
-use Rattle.ucd_model.specs.Bounds.{Bounds}
+use Rattle.ucd_points.specs.Bounds.{Bounds}
 use Rattle.ucd_model.specs.Facts.{Facts}
 use Rattle.ucd_model.specs.Records.{derived, kept_record}
 use Rattle.edit_session.proofs.FirstSteps.{run_below, stops}

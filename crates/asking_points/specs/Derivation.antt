@@ -39,9 +39,9 @@ use Rattle.asked_queries.specs.Turns.{SameQueries}
 use Rattle.asked_queries.specs.Questions.{row_queries, asks, last_round, rounds_ask, round_asks_at, folding_asks, facts_ask, pair_queries, composite_asks, asked}
 use Rattle.asking_points.specs.Compat.{canonical_asks, has_compat, forms_alike}
 use Rattle.asking_points.specs.KnownForms.{puts_from, puts_are}
-use Rattle.asking_points.specs.declared.derivation.Asked.{Asked}
+use Rattle.asking_points.specs.declared.derivation.Derived.{Derived}
 
-abbrev pub DerivesAs : Result Asked FormStop → Result Record Rule → Type 0
+abbrev pub DerivesAs : Result Derived FormStop → Result Record Rule → Type 0
 DerivesAs (Ok found) value = value ≡ Ok (kept_record found.value)
 DerivesAs (Err (Bad rule)) value = value ≡ Err rule
 DerivesAs (Err Memory) value = ⊤

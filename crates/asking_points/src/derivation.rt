@@ -15,7 +15,7 @@ use crate::query_list::query_set;
 use crate::rounds::put_rounds;
 use crate::rows::put_members;
 use crate::trees::has_compat;
-use identifier_closure::{Derived, derive_point};
+use identifier_closure::derive_record;
 use std::alloc::Global;
 use std::sync::ledger::Ledger;
 use ucd_model::{
@@ -27,7 +27,7 @@ const ROOM: usize = 32;
 
 /// What the derivation of a code point gives, with the questions that it asks.
 #[derive(Debug, Drop)]
-pub struct Asked {
+pub struct Derived {
     /// The derived properties.
     pub value: Record,
     /// The questions that were asked of the facts, in their order, each of them once.
@@ -39,19 +39,19 @@ pub struct Asked {
 ///
 /// - `Bad(rule)`: the code point breaks a rule of a valid release, and `rule`, V1 to V5, is the first that it breaks.
 /// - `Memory`: memory ran out.
-pub fn derive_asking<W: FactView, L: Ledger>(
+pub fn derive_point<W: FactView, L: Ledger>(
     alloc: Global,
     view: &W,
     c: Point,
     steps: &mut Steps<L>,
-) -> Result<Asked, FormStop>
+) -> Result<Derived, FormStop>
     ensures value { DerivesAs result (derived (W.facts_of view.now) c) }
     ensures asked { IfOk result (λ found. SameQueries found.asked (asked (W.facts_of view.now) c)) }
     ensures rising { IfOk result (λ found. IsStrictlySortedBy (⟦<Query as Ord>⟧.cmp) found.asked) }
     ensures step { steps.new ≡ steps.old + 1 }
 {
-    match derive_point(alloc, view, c, steps) {
-        Ok(found) => with_questions(alloc, view, c, found),
+    match derive_record(alloc, view, c, steps) {
+        Ok(value) => with_questions(alloc, view, c, value),
         Err(stop) => Err(stop),
     }
 }
@@ -61,18 +61,15 @@ fn with_questions<W: FactView>(
     alloc: Global,
     view: &W,
     c: Point,
-    found: Derived,
-) -> Result<Asked, FormStop>
-    requires { derived (W.facts_of view.now) c ≡ Ok (kept_record found.value) }
+    value: Record,
+) -> Result<Derived, FormStop>
+    requires { derived (W.facts_of view.now) c ≡ Ok (kept_record value) }
     ensures value { DerivesAs result (derived (W.facts_of view.now) c) }
     ensures asked { IfOk result (λ found. SameQueries found.asked (asked (W.facts_of view.now) c)) }
     ensures rising { IfOk result (λ found. IsStrictlySortedBy (⟦<Query as Ord>⟧.cmp) found.asked) }
 {
     match questions_of(alloc, view, c) {
-        Ok(asked) => Ok(Asked {
-            value: found.value,
-            asked,
-        }),
+        Ok(asked) => Ok(Derived { value, asked }),
         Err(Memory) => Err(FormStop::Memory),
     }
 }

@@ -9,4 +9,4 @@ mod rows;
 mod trees;
 mod tries;
 
-pub use derivation::{Asked, derive_asking, questions_of};
+pub use derivation::{Derived, derive_point, questions_of};

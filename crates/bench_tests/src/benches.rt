@@ -48,10 +48,28 @@ fn shows_facts(bench: &Bench) -> bool {
         && bench.pair(capital, grave) == Point::new(0x00C0)
 }
 
+/// Whether its packed words lie in pages: that of 0041 says that it has a row and category Lu, the place of which is 0;
+/// that of 0300 that it has a row, category Mn, the place of which is 5, and class 230. No code point from 0100 to 01FF
+/// has a row.
+fn shows_pages(bench: &Bench) -> bool {
+    has_word(bench, 0x00, 0x41, 1)
+        && has_word(bench, 0x03, 0x00, 1 + 8 * 5 + 256 * 230)
+        && bench.packed_page(Point::at(0x0100)).is_none()
+        && bench.tables().next().class(Point::at(0x0300)) == 230
+}
+
+/// Whether the page of a block has the word at a place.
+fn has_word(bench: &Bench, block: u8, place: u8, word: u64) -> bool {
+    match bench.packed_page(Point::at(u32::from(block) * 256)) {
+        Some((pool, page)) => pool.get(page, place) == word,
+        None => false,
+    }
+}
+
 /// The same, and whether it gives their text back.
 fn shows_letters(alloc: Global, bench: &Bench) -> Result<bool, Memory> {
     let text = bench.release().text(alloc, SourceFile::UnicodeData)?;
-    Ok(text.as_slice() == LETTERS && shows_facts(bench))
+    Ok(text.as_slice() == LETTERS && shows_facts(bench) && shows_pages(bench))
 }
 
 /// The same of a bench that is opened for it. A call lets the bench go, so that this function stays small.

@@ -35,6 +35,8 @@ enum Edit {
 enum Answer {
     /// The records of these code points differ.
     Changed(&'static [u32]),
+    /// The records of all code points from one number to another differ.
+    ChangedSpan(u32, u32),
     /// The group is not carried out.
     Stopped(ApplyStop),
 }
@@ -94,11 +96,16 @@ fn have_numbers(points: &[Point], numbers: &[u32]) -> bool {
         .eq(numbers.iter().copied())
 }
 
+/// Whether the code points have all numbers from one to another.
+fn are_numbers(points: &[Point], first: u32, last: u32) -> bool {
+    points.iter().map(|c| c.number()).eq(first..=last)
+}
+
 /// Whether a group is stopped as it is expected.
 fn is_stopped(stop: ApplyStop, expected: &Answer) -> bool {
     match expected {
         Answer::Stopped(other) => stop == *other,
-        Answer::Changed(_) => false,
+        Answer::Changed(_) | Answer::ChangedSpan(..) => false,
     }
 }
 
@@ -106,6 +113,9 @@ fn is_stopped(stop: ApplyStop, expected: &Answer) -> bool {
 fn is_accepted(accepted: &Accepted, expected: &Answer) -> bool {
     match expected {
         Answer::Changed(numbers) => have_numbers(accepted.changed.as_slice(), numbers),
+        Answer::ChangedSpan(first, last) => {
+            are_numbers(accepted.changed.as_slice(), *first, *last)
+        }
         Answer::Stopped(_) => false,
     }
 }
@@ -255,6 +265,49 @@ fn the_first_operation_that_breaks_a_rule_is_named(rt: HostRuntime) -> Result<()
         (&[NEW, MISSING, AGAIN], key(KeyRule::K2, 2)),
         (&[NEW], Answer::Changed(&[0x0062])),
     ];
+    assert!(rt; answers(rt.alloc(), LETTERS, &groups)?);
+    Ok(())
+}
+
+#[test]
+fn a_folding_that_does_not_end_is_refused(rt: HostRuntime) -> Result<(), Fail> {
+    let least = point(0x0041)?;
+    let groups: [(&[Edit], Answer); 1] = [(
+        &[
+            Edit::Add(SourceFile::CaseFolding, b"0061; C; 0041"),
+            Edit::Add(SourceFile::CaseFolding, b"0041; C; 0061"),
+        ],
+        valid(Bad::V5, least),
+    )];
+    assert!(rt; answers(rt.alloc(), LETTERS, &groups)?);
+    Ok(())
+}
+
+#[test]
+fn a_group_changes_a_whole_plane(rt: HostRuntime) -> Result<(), Fail> {
+    let groups: [(&[Edit], Answer); 2] = [
+        (
+            &[Edit::Add(SourceFile::PropList, b"20000..2FFFF ; Other_Math")],
+            Answer::ChangedSpan(0x20000, 0x2FFFF),
+        ),
+        (
+            &[Edit::Withdraw(SourceFile::PropList, b"20000 ; Other_Math")],
+            Answer::ChangedSpan(0x20000, 0x2FFFF),
+        ),
+    ];
+    assert!(rt; answers(rt.alloc(), LETTERS, &groups)?);
+    Ok(())
+}
+
+#[test]
+fn a_row_may_have_some_hundred_bytes(rt: HostRuntime) -> Result<(), Fail> {
+    let groups: [(&[Edit], Answer); 1] = [(
+        &[Edit::Add(
+            SourceFile::UnicodeData,
+            b"0062;LATIN SMALL LETTER B WITH A NAME THAT IS LONG AND GOES ON AND ON AND ON AND ON AND ON AND ON AND ON AND ON AND ON AND ON AND ON AND ON AND ON AND ON AND ON AND ON AND ON AND ON AND ON AND ON AND ON AND ON AND ON AND ON AND ON AND ON AND ON AND ON AND ON AND ON AND ON AND ON AND ON AND ON AND ON AND ON AND ON AND ON AND ON AND ON AND ON AND ON;Ll;0;L;;;;;N;;;;;",
+        )],
+        Answer::Changed(&[0x0062]),
+    )];
     assert!(rt; answers(rt.alloc(), LETTERS, &groups)?);
     Ok(())
 }

@@ -3,7 +3,7 @@
 ghost use Rattle.std.specs.Prelude.{◌≡◌};
 
 use crate::facts::{CANONICAL, COMPAT, FoldedRow, PLAIN, listed_folded, point};
-use asking_points::{Asked, derive_asking};
+use asking_points::{Derived, derive_point};
 use std::alloc::Global;
 use std::marker::Brand;
 use std::sync::ledger::{Blank, Ledger};
@@ -44,7 +44,7 @@ fn counted<L: Ledger>(
     requires some { blank.parts ≡ 1 }
 {
     let mut steps = Steps::<L>::new(blank);
-    let Asked { value: _, asked } = derive_asking(alloc, list, c, &mut steps)?;
+    let Derived { value: _, asked } = derive_point(alloc, list, c, &mut steps)?;
     Ok(asked)
 }
 

@@ -3,7 +3,7 @@
 ghost use Rattle.std.specs.Prelude.{◌≡◌};
 
 use crate::facts::{CANONICAL, COMPAT, FoldedRow, PLAIN, listed_folded, point, rule_of};
-use identifier_closure::{Derived, derive_point, id_continue, id_start};
+use identifier_closure::{derive_record, id_continue, id_start};
 use std::alloc::Global;
 use std::marker::Brand;
 use std::sync::ledger::{Blank, Ledger};
@@ -39,8 +39,7 @@ fn counted<L: Ledger>(
     requires some { blank.parts ≡ 1 }
 {
     let mut steps = Steps::<L>::new(blank);
-    let Derived { value, asked: _ } = derive_point(alloc, list, c, &mut steps)?;
-    Ok(value)
+    derive_record(alloc, list, c, &mut steps)
 }
 
 fn record(alloc: Global, list: &FactList, c: Point) -> Result<Record, FormStop> {

@@ -4,3 +4,4 @@ mod DerivationLemmas
 mod TouchedLemmas
 mod CountLemmas
 mod GroupLemmas
+mod PageLemmas

@@ -2,6 +2,7 @@
 --
 -- bench_facts release          the facts of the release's rows now
 -- bench_record release c       the record of c that is derived of these facts
+-- bench_word release c         the packed word of these facts of c
 -- IsUnbroken release           no code point breaks a rule of a valid release
 -- NamesBroken stop F           the stop names the least code point that breaks a rule over the facts F, with its first rule; want of
 --                              memory says nothing
@@ -12,6 +13,7 @@ use Rattle.ucd_model.specs.Records.{Record, record_at}
 use Rattle.ucd_model.specs.Validity.{first_broken}
 use Rattle.release_rows.specs.Releases.{ReleaseItems}
 use Rattle.code_facts.specs.Rows.{release_sources}
+use Rattle.code_facts.specs.Word.{packed}
 use Rattle.edit_session.specs.declared.open_stop.OpenStop.{OpenStop}
 use Rattle.edit_session.specs.declared.open_stop.OpenStop.TheVariants.{Invalid, Memory}
 
@@ -20,6 +22,9 @@ bench_facts release = facts (release_sources release)
 
 abbrev pub bench_record : ReleaseItems → ℕ → Record
 bench_record release = record_at (bench_facts release)
+
+abbrev pub bench_word : ReleaseItems → ℕ → ℕ
+bench_word release c = packed (bench_facts release c)
 
 abbrev pub IsUnbroken : ReleaseItems → Type 0
 IsUnbroken release = first_broken (bench_facts release) ≡ None

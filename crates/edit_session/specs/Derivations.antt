@@ -4,7 +4,7 @@
 --                            what the code points ask, listed or not
 -- IsNow F d                  what the derivation has now is that of the facts F
 -- IsNext F d                 what it has next is
--- IsStill d                  its facts next are those now, and so is what is kept of what its code points ask
+-- IsStill d                  its facts next are those now, and so are its records and what is kept of what its code points ask
 use Rattle.std.specs.Prelude.{◌≡◌, ℕ, Bool, List}
 use Rattle.ucd_model.specs.Facts.{Facts}
 use Rattle.ucd_model.specs.Records.{Record, record_at}
@@ -14,6 +14,7 @@ use Rattle.code_facts.specs.FactTables.{tables_facts, tables_next}
 use Rattle.dependency_map.specs.Maps.{asked_at}
 use Rattle.kept_values.specs.Kept.{values}
 use Rattle.paged_table.specs.Paged.{values_next, values_now}
+use Rattle.range_table.specs.Values.{SameValues}
 use Rattle.record_list.specs.Records.{record_next, record_now}
 use Rattle.edit_session.specs.FirstRecords.{SameRecords}
 use Rattle.edit_session.specs.Questions.{AreStill, Keeps}
@@ -33,4 +34,5 @@ IsNext F d = AreOf F (tables_next values_now d.tables) (record_next d.records) d
 
 pub record IsStill (d : Derivation) : Type 0 where
   pub tables : tables_next values_now d.tables ≡ tables_facts values_now d.tables
+  pub records : SameValues (record_next d.records) (record_now d.records)
   pub asked : AreStill d.questions

@@ -9,7 +9,7 @@ use Rattle.std.specs.Prelude.{◌≡◌, ℕ, ◌<◌, Result, Ok, Err, ⊤}
 use Rattle.ucd_model.specs.Facts.{Facts}
 use Rattle.ucd_points.specs.Limits.{point_count}
 use Rattle.ucd_model.specs.Records.{Record, derived, kept_record}
-use Rattle.identifier_closure.specs.declared.derivation.Derived.{Derived}
+use Rattle.ucd_model.specs.declared.records.Record.{Record as KeptRecord}
 use Rattle.edit_session.specs.declared.open_stop.OpenStop.{OpenStop}
 use Rattle.edit_session.specs.declared.open_stop.OpenStop.TheVariants.{Invalid, Memory}
 
@@ -19,7 +19,7 @@ SameRecords R S = (c : ℕ) → c < point_count → R c ≡ S c
 abbrev pub DerivedBelow : (ℕ → Record) → ℕ → (ℕ → Facts) → Type 0
 DerivedBelow R n F = (c : ℕ) → c < n → derived F c ≡ Ok (R c)
 
-abbrev pub IsFound : (ℕ → Facts) → ℕ → Result Derived OpenStop → Type 0
-IsFound F c (Ok found) = derived F c ≡ Ok (kept_record found.value)
+abbrev pub IsFound : (ℕ → Facts) → ℕ → Result KeptRecord OpenStop → Type 0
+IsFound F c (Ok value) = derived F c ≡ Ok (kept_record value)
 IsFound F c (Err (Invalid rule point)) = (point ≡ c) × (derived F c ≡ Err rule)
 IsFound F c (Err Memory) = ⊤

@@ -1,13 +1,15 @@
 //! The bench: a valid release, the facts of its rows and the records of all code points.
 
-ghost use Rattle.std.specs.Prelude.{◌≡◌, ◌≢◌, ℕ, ◌+◌, ◌<◌, ◌≤◌, length, IfOk, IfErr, OnOk};
+ghost use Rattle.std.specs.Prelude.{◌≡◌, ◌≢◌, ℕ, ◌+◌, ◌/◌, ◌<◌, ◌≤◌, length, IfOk, IfErr, OnOk};
 ghost use Rattle.std.specs.List.{All};
+ghost use Rattle.std.specs.Option.{MatchOption};
 ghost use Rattle.std.specs.Result.{IsErr};
-ghost use Rattle.code_facts.specs.FactTables.{tables_facts};
+ghost use Rattle.code_facts.specs.FactTables.{tables_facts, tables_next};
 ghost use Rattle.paged_table.specs.Paged.{values_now};
+ghost use Rattle.paged_table.specs.Pages.{IsEvenBlock, IsPageOf};
 ghost use Rattle.release_rows.specs.Operations.{IsOp};
 ghost use Rattle.ucd_points.specs.Limits.{point_count};
-ghost use Rattle.edit_session.specs.Benches.{bench_facts, bench_record, HasNothingPrepared, IsUnbroken, NamesBroken};
+ghost use Rattle.edit_session.specs.Benches.{bench_facts, bench_record, bench_word, HasNothingPrepared, IsUnbroken, NamesBroken};
 ghost use Rattle.edit_session.specs.Groups.{AppliesAs, CountsAs, after_ops, group_answer, group_limit};
 
 use crate::accepted::Accepted;
@@ -16,6 +18,7 @@ use crate::derivation::Derivation;
 use crate::group::apply_group;
 use crate::open_stop::OpenStop;
 use code_facts::FactTables;
+use page_pool::PagePool;
 use paged_table::PagedTable;
 use release_rows::{Op, Release};
 use std::alloc::Global;
@@ -117,11 +120,26 @@ impl Bench {
         &self.release
     }
 
-    /// The tables of the facts of its rows.
+    /// The tables of the facts of its rows, now and next.
     pub fn tables(&self) -> &FactTables<PagedTable>
-        ensures { tables_facts values_now result.now ≡ bench_facts self.now }
+        ensures now { tables_facts values_now result.now ≡ bench_facts self.now }
+        ensures next { tables_next values_now result.now ≡ bench_facts self.now }
     {
         &self.derivation.tables
+    }
+
+    /// The pool of pages in which the packed words of its facts lie, and in it the page of the block of 256 code points
+    /// that `c` is in; `None` exactly where all words of the block are equal.
+    pub fn packed_page(&self, c: Point) -> Option<(&PagePool, u32)>
+        ensures { MatchOption result (IsEvenBlock (bench_word self.now) (c / 256))
+            (λ found. IsPageOf found.0.now (bench_word self.now) (c / 256) found.1) }
+    {
+        let _number = c.number();
+        let words = self.derivation.tables.packed();
+        match words.page(c) {
+            Some(page) => Some((words.pool(), page)),
+            None => None,
+        }
     }
 }
 

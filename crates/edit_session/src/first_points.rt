@@ -3,6 +3,7 @@
 ghost use Rattle.std.specs.Prelude.{◌≡◌, ℕ, ◌+◌, ◌-◌, ◌<◌, ◌≤◌, Ok, IfOk, IfErr, OnOk};
 ghost use Rattle.code_facts.specs.FactTables.{tables_facts};
 ghost use Rattle.paged_table.specs.Paged.{values_now};
+ghost use Rattle.range_table.specs.Values.{SameValues};
 ghost use Rattle.record_list.specs.Records.{record_next, record_now};
 ghost use Rattle.ucd_points.specs.Limits.{point_count};
 ghost use Rattle.ucd_model.specs.Predicates.{is_visible_format};
@@ -13,12 +14,12 @@ ghost use Rattle.edit_session.specs.FirstRecords.{DerivedBelow, IsFound, SameRec
 
 use crate::open_stop::OpenStop;
 use code_facts::FactTables;
-use identifier_closure::{Derived, derive_point};
+use identifier_closure::derive_record;
 use paged_table::PagedTable;
 use record_list::RecordTable;
 use std::alloc::Global;
 use std::sync::ledger::Ledger;
-use ucd_model::{FactView, FormStop, Point, Span, Steps, point_count};
+use ucd_model::{FactView, FormStop, Point, Record, Span, Steps, point_count};
 
 /// The records that are derived of the facts of all code points. Code points that stand together and are uniform are
 /// derived in one step. UAX #44, section 5.3.
@@ -32,6 +33,7 @@ pub fn derive_all<L: Ledger>(
 ) -> Result<RecordTable, OpenStop>
     ensures valid { OnOk result (IsValid (tables_facts values_now tables.now)) }
     ensures records { IfOk result (λ table. SameRecords (record_now table) (record_at (tables_facts values_now tables.now))) }
+    ensures still { IfOk result (λ table. SameValues (record_next table) (record_now table)) }
     ensures invalid { IfErr result (λ stop. NamesBroken stop (tables_facts values_now tables.now)) }
     ensures steps { steps.new ≤ steps.old + point_count }
 {
@@ -58,8 +60,8 @@ fn derive_first<L: Ledger>(
     ensures step { steps.new ≡ steps.old + 1 }
 {
     match derive_one(alloc, tables, Point::at(0), steps) {
-        Ok(found) => {
-            let table = RecordTable::filled(alloc, found.value)?;
+        Ok(value) => {
+            let table = RecordTable::filled(alloc, value)?;
             Ok(table)
         }
         Err(stop) => Err(stop),
@@ -84,9 +86,9 @@ fn derive_run<L: Ledger>(
 {
     let _number = c.number();
     match derive_one(alloc, tables, c, steps) {
-        Ok(found) => {
+        Ok(value) => {
             let end = end_of_alike(tables, c);
-            table.prepare_span(span_up_to(c, end), found.value)?;
+            table.prepare_span(span_up_to(c, end), value)?;
             Ok(end)
         }
         Err(stop) => Err(stop),
@@ -140,12 +142,12 @@ fn derive_one<W: FactView, L: Ledger>(
     view: &W,
     c: Point,
     steps: &mut Steps<L>,
-) -> Result<Derived, OpenStop>
+) -> Result<Record, OpenStop>
     ensures found { IsFound (W.facts_of view.now) c result }
     ensures step { steps.new ≡ steps.old + 1 }
 {
-    match derive_point(alloc, view, c, steps) {
-        Ok(found) => Ok(found),
+    match derive_record(alloc, view, c, steps) {
+        Ok(value) => Ok(value),
         Err(FormStop::Bad(rule)) => Err(OpenStop::Invalid { rule, point: c }),
         Err(FormStop::Memory) => Err(OpenStop::Memory),
     }

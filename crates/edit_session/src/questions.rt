@@ -54,8 +54,9 @@ impl Questions {
         requires kept { KeepsNow (tables_facts values_now tables.now) self.old }
         requires still { AreStill self.old }
         ensures kept { KeepsNow (tables_facts values_now tables.now) self.new }
-        ensures still { OnOk result (AreStill self.new) }
+        ensures still { AreStill self.new }
         ensures listed { OnOk result (self.new.listed ≡ true) }
+        ensures once { self.old.listed ≡ true → self.new ≡ self.old }
     {
         if self.listed {
             return Ok(());

@@ -1,12 +1,12 @@
 //! The derivation of a code point.
 
-ghost use Rattle.std.specs.Prelude.{◌≡◌, ◌+◌, [], ◌∷◌, Ok, None, false, IfOk};
+ghost use Rattle.std.specs.Prelude.{◌≡◌, ◌+◌, [], ◌∷◌, Ok, None, false};
 ghost use Rattle.ucd_model.specs.FoldRounds.{casefold_image};
 ghost use Rattle.ucd_model.specs.Records.{kept_record, record_at, derived};
 ghost use Rattle.ucd_model.specs.Validity.{lacks_a_row};
 ghost use Rattle.ucd_model.specs.Shown.{shown_facts};
 ghost use Rattle.ucd_model.specs.declared.folding.Folding.TheVariants.{Full};
-ghost use Rattle.identifier_closure.specs.Derived.{DerivesAs, RecordAnswers};
+ghost use Rattle.identifier_closure.specs.Derived.{RecordAnswers};
 ghost use Rattle.identifier_closure.specs.PointForms.{expansion_rule, HaveForms};
 
 use crate::composed_checks::composed_checks;
@@ -21,39 +21,23 @@ use fold_rounds::casefold_of;
 use quick_checks::{is_fully_excluded, quick_decomposed};
 use std::alloc::Global;
 use std::sync::ledger::Ledger;
-use ucd_model::{
-    Bad, FactView, FactsRef, Folding, FormStop, Image, Kind, Point, Queries, Record, Steps,
-};
+use ucd_model::{Bad, FactView, FactsRef, Folding, FormStop, Image, Kind, Point, Record, Steps};
 
-/// What the derivation of a code point gives.
-#[derive(Debug, Drop)]
-pub struct Derived {
-    /// The derived properties.
-    pub value: Record,
-    /// The questions that were asked. [`derive_point`] lists none.
-    pub asked: Queries,
-}
-
-/// Derives a code point: its record, in one step, which is counted where an error comes too. UAX #44, section 5.3.
+/// Derives a code point: its record alone, in one step, which is counted where an error comes too. UAX #44, section 5.3.
 ///
 /// - `Bad(rule)`: the code point breaks a rule of a valid release, and `rule`, V1 to V5, is the first that it breaks.
 /// - `Memory`: memory ran out.
-pub fn derive_point<W: FactView, L: Ledger>(
+pub fn derive_record<W: FactView, L: Ledger>(
     alloc: Global,
     view: &W,
     c: Point,
     steps: &mut Steps<L>,
-) -> Result<Derived, FormStop>
-    ensures value { DerivesAs result (derived (W.facts_of view.now) c) }
-    ensures unasked { IfOk result (λ found. found.asked ≡ []) }
+) -> Result<Record, FormStop>
+    ensures value { RecordAnswers result (derived (W.facts_of view.now) c) }
     ensures step { steps.new ≡ steps.old + 1 }
 {
     steps.tick();
-    let value = record_or_rule(alloc, view, c)?;
-    Ok(Derived {
-        value,
-        asked: Queries::new(alloc),
-    })
+    record_or_rule(alloc, view, c)
 }
 
 /// The record of a code point, or the first rule that it breaks. Where it has no mapping, its forms are itself, and no

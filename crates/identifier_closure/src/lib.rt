@@ -12,5 +12,5 @@ mod missing_rows;
 mod point_forms;
 mod predicates;
 
-pub use derivation::{Derived, derive_point};
+pub use derivation::derive_record;
 pub use identifiers::{id_continue, id_start, xid_continue, xid_start};

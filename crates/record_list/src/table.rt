@@ -72,15 +72,16 @@ impl RecordTable {
         Ok(())
     }
 
-    /// Gives code points these records next, in order, and all others those that they have now. What was prepared before
-    /// is dropped. It takes steps by the number of code points.
+    /// Gives code points these records next, in order; all others keep those that they have. Nothing may be prepared before.
+    /// It takes steps by the number of code points.
     ///
-    /// - `Memory`: memory ran out. What is now becomes next.
+    /// - `Memory`: memory ran out. What is next stays too.
     pub fn prepare(&mut self, points: &[Point], records: Vec<Record>) -> Result<(), Memory>
-        requires { length records.items ≡ length points.now }
+        requires still { SameValues (record_next self.old) (record_now self.old) }
+        requires lengths { length records.items ≡ length points.now }
         ensures now { SameValues (record_now self.new) (record_now self.old) }
         ensures ok { OnOk result (SameValues (record_next self.new) (written points.now records.items (record_now self.old))) }
-        ensures err { OnErr result (SameValues (record_next self.new) (record_now self.old)) }
+        ensures err { OnErr result (SameValues (record_next self.new) (record_next self.old)) }
     {
         match self.prepare_all(points, records) {
             Ok(()) => Ok(()),
@@ -95,11 +96,11 @@ impl RecordTable {
     ///
     /// - `Memory`: memory ran out. Some of the records may be prepared.
     fn prepare_all(&mut self, points: &[Point], records: Vec<Record>) -> Result<(), Memory>
-        requires { length records.items ≡ length points.now }
+        requires still { SameValues (record_next self.old) (record_now self.old) }
+        requires lengths { length records.items ≡ length points.now }
         ensures now { SameValues (record_now self.new) (record_now self.old) }
         ensures ok { OnOk result (SameValues (record_next self.new) (written points.now records.items (record_now self.old))) }
     {
-        self.discard();
         let mut at = 0;
         'records: for record in records {
             self.prepare_span(Span::one(points[at]), record)?;

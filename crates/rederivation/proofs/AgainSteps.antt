@@ -20,7 +20,7 @@ use Rattle.range_table.specs.Values.{SameValues, with_span}
 use Rattle.asked_queries.specs.Answers.{is_asked}
 use Rattle.asked_queries.specs.Questions.{asked}
 use Rattle.asked_queries.specs.Turns.{SameQueries}
-use Rattle.asking_points.specs.declared.derivation.Asked.{Asked}
+use Rattle.asking_points.specs.declared.derivation.Derived.{Derived}
 use Rattle.rederivation.specs.Again.{AsksAnew, IsAdded, IsAgain, IsFound, IsPut, StopsAt, differs}
 use Rattle.rederivation.specs.declared.again.Again.{Again}
 use Rattle.rederivation.specs.declared.again_stop.AgainStop.{AgainStop}
@@ -32,7 +32,7 @@ pub ok_is : (R S : Record) (b : Option Rule) → record_or_rule R b ≡ Ok S →
 ok_is R S None e = cc
 ok_is R S (Some rule) e = cc
 
-kept_is : (G : ℕ → Facts) (c : ℕ) (found : Asked) → IsFound G c (Ok found) → kept_record found.value ≡ record_at G c
+kept_is : (G : ℕ → Facts) (c : ℕ) (found : Derived) → IsFound G c (Ok found) → kept_record found.value ≡ record_at G c
 kept_is G c found (has, asks) = ok_is (record_at G c) (kept_record found.value) (broken G c) has
 
 one : (same : Bool) (c : ℕ) (p : ℕ → Bool) → p c ≡ not same → cond same [] (c ∷ []) ≡ filter p (c ∷ [])
@@ -53,7 +53,7 @@ span_here A c queries = grind (arith, nat_tests)
 span_there : (A : ℕ → List Query) (c d : ℕ) (queries : List Query) → d ≢ c → with_span A c c queries d ≡ A d
 span_there A c d queries other = grind (arith, nat_tests)
 
-pub added : (R : ℕ → Record) (G : ℕ → Facts) (c : ℕ) (found : Asked) (old new : Again) (A B : ℕ → List Query) → IsFound G c (Ok found) → IsPut R c found.value old new
+pub added : (R : ℕ → Record) (G : ℕ → Facts) (c : ℕ) (found : Derived) (old new : Again) (A B : ℕ → List Query) → IsFound G c (Ok found) → IsPut R c found.value old new
     → SameValues B (with_span A c c found.asked) → IsAdded R G c old new A B
 added R G c found old new A B is put spans =
     let same : kept_record found.value ≡ record_at G c = kept_is G c found is in

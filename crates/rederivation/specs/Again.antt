@@ -23,7 +23,7 @@ use Rattle.ucd_model.specs.declared.query.Query.{Query}
 use Rattle.ucd_model.specs.declared.records.Record.{Record as KeptRecord}
 use Rattle.asked_queries.specs.Questions.{asked}
 use Rattle.asked_queries.specs.Turns.{SameQueries}
-use Rattle.asking_points.specs.declared.derivation.Asked.{Asked}
+use Rattle.asking_points.specs.declared.derivation.Derived.{Derived}
 use Rattle.rederivation.specs.declared.again_stop.AgainStop.{AgainStop}
 use Rattle.rederivation.specs.declared.again_stop.AgainStop.TheVariants.{Broken, Memory}
 use Rattle.rederivation.specs.declared.again.Again.{Again}
@@ -31,7 +31,7 @@ use Rattle.rederivation.specs.declared.again.Again.{Again}
 abbrev pub differs : (ℕ → Record) → (ℕ → Facts) → ℕ → Bool
 differs R G c = not (same_record (R c) (record_at G c))
 
-abbrev pub IsFound : (ℕ → Facts) → ℕ → Result Asked AgainStop → Type 0
+abbrev pub IsFound : (ℕ → Facts) → ℕ → Result Derived AgainStop → Type 0
 IsFound G c (Ok found) = (derived G c ≡ Ok (kept_record found.value)) × SameQueries found.asked (asked G c)
 IsFound G c (Err (Broken rule point)) = (point ≡ c) × (derived G c ≡ Err rule)
 IsFound G c (Err Memory) = ⊤

@@ -6,7 +6,5 @@ mod again_stop;
 mod points_again;
 mod release_turn;
 
-pub use again::Again;
 pub use again_stop::AgainStop;
-pub use points_again::derive_again;
 pub use release_turn::turn;

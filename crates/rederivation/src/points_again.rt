@@ -7,7 +7,7 @@ ghost use Rattle.rederivation.specs.Again.{AsksAnew, IsAdded, IsAgain, IsFound, 
 
 use crate::again::Again;
 use crate::again_stop::AgainStop;
-use asking_points::{Asked, derive_asking};
+use asking_points::{Derived, derive_point};
 use dependency_map::DependencyMap;
 use kept_values::Store;
 use std::alloc::Global;
@@ -86,11 +86,11 @@ fn derive_asked<W: FactView, L: Ledger>(
     view: &W,
     c: Point,
     steps: &mut Steps<L>,
-) -> Result<Asked, AgainStop>
+) -> Result<Derived, AgainStop>
     ensures found { IsFound (W.facts_of view.now) c result }
     ensures step { steps.new ≡ steps.old + 1 }
 {
-    match derive_asking(alloc, view, c, steps) {
+    match derive_point(alloc, view, c, steps) {
         Ok(found) => Ok(found),
         Err(FormStop::Bad(rule)) => Err(AgainStop::Broken { rule, point: c }),
         Err(FormStop::Memory) => Err(AgainStop::Memory),

@@ -1,6 +1,6 @@
 //! A turn: what is kept of all code points goes from the facts of one release to those of the next one.
 
-ghost use Rattle.std.specs.Prelude.{◌≡◌, ℕ, IfErr, IfOk};
+ghost use Rattle.std.specs.Prelude.{◌≡◌, ℕ, IfErr, IfOk, OnErr};
 ghost use Rattle.range_table.specs.Values.{SameValues};
 ghost use Rattle.ucd_model.specs.Facts.{Facts};
 ghost use Rattle.record_list.specs.Records.{record_next, record_now};
@@ -16,8 +16,8 @@ use std::alloc::Global;
 use std::sync::ledger::Ledger;
 use ucd_model::{FactView, Points, Queries, Steps};
 
-/// Derives the code points that ask one of the questions over the facts of a view, prepares their records and what they
-/// ask, and answers those whose records differ, in ascending order. No other code point is derived.
+/// Derives code points that ask one of the questions over the facts of a view, prepares their records and what they ask,
+/// and answers those whose records differ, in ascending order. Nothing may be prepared before.
 ///
 /// The questions are those that the view does not answer as the facts did that the records and the map are of. The counter
 /// rises by at most the number of code points that depend on the change.
@@ -26,7 +26,7 @@ use ucd_model::{FactView, Points, Queries, Steps};
 ///   its first rule.
 /// - `Memory`: memory ran out.
 ///
-/// After either, some may be prepared.
+/// After either, what is next stays too.
 pub fn turn<W: FactView, S: Store<Option<Queries>>, L: Ledger>(
     alloc: Global,
     view: &W,
@@ -35,6 +35,44 @@ pub fn turn<W: FactView, S: Store<Option<Queries>>, L: Ledger>(
     map: &mut DependencyMap<S>,
     steps: &mut Steps<L>,
 ) -> Result<Points, AgainStop>
+    requires still { SameValues (record_next records.old) (record_now records.old) }
+    requires unasked { SameValues (asked_at S.next map.old) (asked_at S.now map.old) }
+    ensures now { SameValues (record_now records.new) (record_now records.old) }
+    ensures asked { SameValues (asked_at S.now map.new) (asked_at S.now map.old) }
+    ensures turned { IfOk result (λ changed. (F : ℕ → Facts)
+        → IsReady F (W.facts_of view.now) (record_now records.old) (asked_at S.now map.old) (asked_at S.next map.old) queries.now
+        → IsTurned F (W.facts_of view.now) (record_next records.new) (asked_at S.next map.new) changed) }
+    ensures stop { IfErr result (λ stop. (F : ℕ → Facts)
+        → IsReady F (W.facts_of view.now) (record_now records.old) (asked_at S.now map.old) (asked_at S.next map.old) queries.now
+        → StopsTurn (W.facts_of view.now) stop) }
+    ensures steps { (F : ℕ → Facts)
+        → IsReady F (W.facts_of view.now) (record_now records.old) (asked_at S.now map.old) (asked_at S.next map.old) queries.now
+        → CountsWithin F (W.facts_of view.now) steps.old steps.new }
+    ensures err { OnErr result (SameValues (record_next records.new) (record_next records.old)) }
+    ensures dropped { OnErr result (SameValues (asked_at S.next map.new) (asked_at S.next map.old)) }
+{
+    match turn_in_part(alloc, view, queries, records, map, steps) {
+        Ok(changed) => Ok(changed),
+        Err(stop) => {
+            records.discard();
+            map.discard();
+            Err(stop)
+        }
+    }
+}
+
+/// The same.
+///
+/// After either error, some may be prepared.
+fn turn_in_part<W: FactView, S: Store<Option<Queries>>, L: Ledger>(
+    alloc: Global,
+    view: &W,
+    queries: &Queries,
+    records: &mut RecordTable,
+    map: &mut DependencyMap<S>,
+    steps: &mut Steps<L>,
+) -> Result<Points, AgainStop>
+    requires still { SameValues (record_next records.old) (record_now records.old) }
     ensures now { SameValues (record_now records.new) (record_now records.old) }
     ensures asked { SameValues (asked_at S.now map.new) (asked_at S.now map.old) }
     ensures turned { IfOk result (λ changed. (F : ℕ → Facts)

@@ -12,8 +12,8 @@ pub returns-in_ok-table-in-Ok-clause-records : goal.returns-in_ok-table-in-Ok-cl
 returns-in_ok-table-in-Ok-clause-records g c =
     let F : ℕ → Facts = tables_facts values_now c.args.tables.now in
     let first : c.at.result ≡ 0 = c.at.ensures in
-    let found : derived F c.at.result ≡ Ok (kept_record c.in-Ok.found.value) = c.in-Ok.ensures.found in
-    first_below (record_next c.in_ok-table-in-Ok.table) F (kept_record c.in-Ok.found.value) (ap (derived F) (sym first) ∙ found) c.in_ok-table-in-Ok.ensures.next
+    let found : derived F c.at.result ≡ Ok (kept_record c.in-Ok.value) = c.in-Ok.ensures.found in
+    first_below (record_next c.in_ok-table-in-Ok.table) F (kept_record c.in-Ok.value) (ap (derived F) (sym first) ∙ found) c.in_ok-table-in-Ok.ensures.next
 
 pub returns-in-Err-clause-invalid : goal.returns-in-Err-clause-invalid
 returns-in-Err-clause-invalid g c =

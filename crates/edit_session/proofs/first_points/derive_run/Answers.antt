@@ -12,9 +12,9 @@ use Rattle.edit_session.proofs.first_points.derive_run.Goals as goal
 pub returns-in_ok-prepare_span-in-Ok-clause-records : goal.returns-in_ok-prepare_span-in-Ok-clause-records
 returns-in_ok-prepare_span-in-Ok-clause-records g c =
     let F : ℕ → Facts = tables_facts values_now c.args.tables.now in
-    let here : derived F c.args.c ≡ Ok (kept_record c.in-Ok.found.value) = c.in-Ok.ensures.found in
-    run_below (record_next c.args.table.now) (record_next c.prepare_span.new.self) c.args.c c.end_of_alike-end.result F (kept_record c.in-Ok.found.value) c.end_of_alike-end.ensures.from c.end_of_alike-end.ensures.inside c.requires
-    (subst (λ (s : Bounds). SameValues (record_next c.prepare_span.new.self) (with_span (record_next c.args.table.now) s.lo s.hi (kept_record c.in-Ok.found.value))) c.span_up_to.ensures c.in_ok-prepare_span-in-Ok.ensures.ok)
+    let here : derived F c.args.c ≡ Ok (kept_record c.in-Ok.value) = c.in-Ok.ensures.found in
+    run_below (record_next c.args.table.now) (record_next c.prepare_span.new.self) c.args.c c.end_of_alike-end.result F (kept_record c.in-Ok.value) c.end_of_alike-end.ensures.from c.end_of_alike-end.ensures.inside c.requires
+    (subst (λ (s : Bounds). SameValues (record_next c.prepare_span.new.self) (with_span (record_next c.args.table.now) s.lo s.hi (kept_record c.in-Ok.value))) c.span_up_to.ensures c.in_ok-prepare_span-in-Ok.ensures.ok)
     (λ k from lt. c.end_of_alike-end.ensures.alike k from lt ∙ here)
 
 pub returns-in-Err-clause-invalid : goal.returns-in-Err-clause-invalid

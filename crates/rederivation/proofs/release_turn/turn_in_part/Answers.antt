@@ -3,7 +3,7 @@ use Rattle.range_table.specs.Values.{point_count-is}
 use Rattle.record_list.specs.Records.{record_next, record_now, written}
 use Rattle.dependency_map.specs.Maps.{asked_at}
 use Rattle.rederivation.proofs.TurnSteps.{counts, stops_turn, turned}
-use Rattle.rederivation.proofs.release_turn.turn.Goals as goal
+use Rattle.rederivation.proofs.release_turn.turn_in_part.Goals as goal
 
 pub returns-in_err-prepare-in-Ok-clause-steps : goal.returns-in_err-prepare-in-Ok-clause-steps
 returns-in_err-prepare-in-Ok-clause-steps g c = λ F ready.

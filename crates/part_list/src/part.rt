@@ -15,7 +15,7 @@ use crate::spanned::Spanned;
 use crate::version::Version;
 use std::alloc::Global;
 use std::marker::Model;
-use ucd_model::{ListOf, Memory};
+use ucd_points::{ListOf, Memory};
 
 /// How many entries a part is loaded with. A file of a release has up to 35,000 rows, so it has up to 140 parts.
 const LOADED: usize = 256;

@@ -18,7 +18,7 @@ use crate::spot::Spot;
 use crate::version::Version;
 use std::alloc::Global;
 use std::marker::Model;
-use ucd_model::Memory;
+use ucd_points::Memory;
 
 /// A list of items, each with the code points that it speaks of, twice: the list now, and the list next. Edits change
 /// what is next, `commit` makes it what is now, and `discard` drops it. Contracts see the parts in which it is kept.

@@ -26,7 +26,7 @@ pub struct Part<T: Copy> {
     kept: ListOf<Spanned<T>>,
     /// What is next, where it was edited since the last `commit` or `discard`.
     edit: Option<ListOf<Spanned<T>>>,
-    /// It bounds the entries now and next. It is widened, and never made narrow again.
+    /// It bounds the entries now and next. Edits widen it; `commit` and `discard` make it as narrow as the entries are.
     reach: Reach,
 }
 
@@ -238,20 +238,24 @@ impl<T: Copy> Part<T> {
         }
     }
 
-    /// Makes what is next what is now. It takes no memory.
+    /// Makes what is next what is now, with the bounds of that. It takes no memory. Bounds that were never made anew would
+    /// grow with each edit, and stay those of the whole if a part is cut in two.
     pub fn commit(&mut self)
         ensures { self.new ≡ committed self.old }
     {
         if let Some(edit) = self.edit.take() {
+            self.reach = Reach::NONE.with_all(edit.as_slice());
             self.kept = edit;
         }
     }
 
-    /// Makes what is now what is next. It takes no memory.
+    /// Makes what is now what is next, with the bounds of that. It takes no memory.
     pub fn discard(&mut self)
         ensures { self.new ≡ discarded self.old }
     {
-        self.edit = None;
+        if self.edit.take().is_some() {
+            self.reach = Reach::NONE.with_all(self.kept.as_slice());
+        }
     }
 
     /// The place of the first entry next that passes.

@@ -24,7 +24,8 @@ use ucd_points::Memory;
 /// what is next, `commit` makes it what is now, and `discard` drops it. Contracts see the parts in which it is kept.
 ///
 /// An edit takes time by one part. A search looks at the bounds of each part, and at the entries of the parts that may
-/// have what it looks for. `commit` and `discard` take time by the number of parts, and no memory.
+/// have what it looks for. `commit` and `discard` take time by the number of parts and by the entries of those that were
+/// edited, and no memory.
 #[derive(Debug, Drop)]
 pub struct PartList<T: Copy> {
     alloc: Global,

@@ -10,6 +10,7 @@
 -- stored_at file text e     the item of an entry
 -- IsStored file text e      the entry's stretch is an item, and the entry has the code points of its row
 -- IsWhole file text items   the items put together are the text
+-- AreWhole file text items  so are those now, and those next
 -- IsKeptFile file text added items   the entries now and next are stored; each list has fewer than 2^32 and those added since the
 --                           file was loaded, and these are fewer than 2^32
 -- row_or_none result        the row that was read; where there is a fault, a row that nothing rests on
@@ -70,6 +71,10 @@ pub record IsStored (file : SourceFile) (text : List ℕ) (e : Spanned Stretch) 
 
 abbrev pub IsWhole : SourceFile → List ℕ → List (Spanned Stretch) → Type 0
 IsWhole file text items = bytes_of (map (stored_at file text) items) ≡ text
+
+pub record AreWhole (file : SourceFile) (text : List ℕ) (items : PartLists (Spanned Stretch)) : Type 0 where
+  pub now : IsWhole file text (now_in items)
+  pub next : IsWhole file text (next_in items)
 
 pub record IsKeptFile (file : SourceFile) (text : List ℕ) (added : ℕ) (items : PartLists (Spanned Stretch)) : Type 0 where
   pub now : All (IsStored file text) (now_in items)

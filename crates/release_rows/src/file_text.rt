@@ -35,7 +35,7 @@ pub struct FileText {
     file: SourceFile,
     text: Text,
     items: PartList<Stretch>,
-    /// Whether the items now put together are the text, as they are until the first edit.
+    /// Whether the items put together are the text, now and next, as they are until the first edit.
     whole: bool,
     /// How many items were added since the file was loaded.
     added: u32,
@@ -45,13 +45,13 @@ impl Model for FileText {
     ghost use Rattle.std.specs.Prelude.{◌≡◌, true, map};
     ghost use Rattle.part_list.specs.Parts.{now_in, next_in};
     ghost use Rattle.release_rows.specs.FileItems.{FileLists};
-    ghost use Rattle.release_rows.specs.StoredItems.{stored_at, IsKeptFile, IsWhole};
+    ghost use Rattle.release_rows.specs.StoredItems.{stored_at, AreWhole, IsKeptFile};
 
     ghost Value = { FileLists };
 
     ghost view = { λ f. record { file = f.file; now = map (stored_at f.file f.text) (now_in f.items); next = map (stored_at f.file f.text) (next_in f.items) } };
 
-    ghost invariant = { λ f. IsKeptFile f.file f.text f.added f.items × (f.whole ≡ true → IsWhole f.file f.text (now_in f.items)) };
+    ghost invariant = { λ f. IsKeptFile f.file f.text f.added f.items × (f.whole ≡ true → AreWhole f.file f.text f.items) };
 }
 
 impl FileText {
@@ -94,7 +94,9 @@ impl FileText {
         ensures { IfOk result (λ text. text ≡ bytes_of self.now.now) }
     {
         if self.whole {
-            return self.text.copy(alloc);
+            let mut text = Text::new(alloc);
+            text.append(self.text.as_slice())?;
+            return Ok(text);
         }
         joined(alloc, self.file, self.text.as_slice(), self.items.entries())
     }
@@ -195,6 +197,7 @@ impl FileText {
         let spot = withdrawn_spot(&self.items, self.file, self.text.as_slice(), key)?;
         let old = self.items.get(spot);
         let spans = entry_spans(alloc, self.file, &old)?;
+        self.whole = false;
         self.items.remove(spot)?;
         Ok(spans)
     }
@@ -224,7 +227,6 @@ impl FileText {
     pub fn commit(&mut self)
         ensures { self.new ≡ committed self.old }
     {
-        self.whole = false;
         self.items.commit();
     }
 

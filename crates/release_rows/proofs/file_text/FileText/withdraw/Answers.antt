@@ -26,7 +26,7 @@ pub invariant_of-self-2 : goal.invariant_of-self-2
 invariant_of-self-2 c =
     let inside = c.self.inside in (
       kept_without inside.file inside.text inside.added (place inside.items.next c.in_ok-spot.spot) inside.items c.remove.new.self c.self.invariant.0 c.in_ok-remove.ensures.now c.in_ok-remove.ensures.ok,
-      λ e. rw c.in_ok-remove.ensures.now (c.self.invariant.1 e),
+      λ e. absurd cc,
     )
 
 pub returns-clause-answer : goal.returns-clause-answer

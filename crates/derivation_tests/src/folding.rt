@@ -112,9 +112,10 @@ fn ignored_points_are_dropped(rt: HostRuntime) -> Result<(), Fail> {
 }
 
 /// The capital sharp s, which CaseFolding.txt folds to two letters with status F, and to the small one with status S.
+const SHARP: FoldedRow<'static> = (0x1E9E, LETTER, 0, PLAIN, &[], &[0x0073, 0x0073]);
+
 fn put_sharp(alloc: Global, list: &mut FactList) -> Result<(), Fail> {
-    let row = (0x1E9E, LETTER, 0, PLAIN, &[], &[0x0073, 0x0073]);
-    let mut facts = facts_of(alloc, row)?;
+    let mut facts = facts_of(alloc, SHARP)?;
     facts.simple_fold = point(0x00DF)?;
     Ok(list.push((point(0x1E9E)?, facts))?)
 }

@@ -1,5 +1,7 @@
 //! How many code points depend on a group. No group raises the counter of steps by more: that is a clause of `Bench::apply`.
 
+ghost use Rattle.std.specs.Prelude.{◌≡◌};
+
 use asking_points::{Derived, derive_point};
 use code_facts::FactTables;
 use range_table::RunTable;

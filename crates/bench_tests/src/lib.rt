@@ -4,8 +4,6 @@
 #[cfg(test)]
 mod benches;
 #[cfg(test)]
-mod dependants;
-#[cfg(test)]
 mod groups;
 #[cfg(test)]
 mod turns;

@@ -22,7 +22,7 @@ use Rattle.ucd_model.specs.declared.query.Query.TheVariants.{Row, Second}
 use Rattle.asked_queries.specs.Answers.{same_query, is_asked, Each}
 use Rattle.asked_queries.specs.Laws.{PlainAskOwn}
 use Rattle.asked_queries.specs.ListProofs.{Each-both}
-use Rattle.asked_queries.specs.Questions.{tree, whole_tree, row_queries, asks, folding_asks, round_asks_at, last_round, rounds_ask, pair_queries, composite_asks, asked}
+use Rattle.asked_queries.specs.Questions.{tree, whole_tree, row_queries, asks, folding_asks, round_asks_at, last_round, rounds_ask, foldings_ask, pair_queries, composite_asks, asked}
 
 -- ---- questions of a point's own
 
@@ -153,14 +153,19 @@ module _ (F : ℕ → Facts) (c : ℕ) (p : IsPlain c (F c)) where
   no_composite : composite_asks F c ≡ []
   no_composite = ap (λ m. cond (primary F c) (pair_queries m) []) p.mapping ∙ either (primary F c) []
 
+  foldings_own : Each (IsOwn c) (foldings_ask F c)
+  foldings_own =
+      let simple : List Query = rounds_ask Simple F c (last_round Simple F c) in
+      Each-both (IsOwn c) (rounds_ask Full F c (last_round Full F c)) (simple ++ []) (rounds_own Full (last_round Full F c)) (Each-both (IsOwn c) simple [] (rounds_own Simple (last_round Simple F c)) tt)
+
   abbrev others : List Query
-  others = composite_asks F c ++ (asks F false (c ∷ []) ++ (asks F true (c ∷ []) ++ rounds_ask Full F c (last_round Full F c)))
+  others = composite_asks F c ++ (asks F false (c ∷ []) ++ (asks F true (c ∷ []) ++ foldings_ask F c))
 
   others_own : Each (IsOwn c) others
   others_own =
-      let compat : Each (IsOwn c) (asks F true (c ∷ []) ++ rounds_ask Full F c (last_round Full F c)) = Each-both (IsOwn c) (asks F true (c ∷ [])) (rounds_ask Full F c (last_round Full F c)) (asks_own true) (rounds_own Full (last_round Full F c)) in
-      let canonical : Each (IsOwn c) (asks F false (c ∷ []) ++ (asks F true (c ∷ []) ++ rounds_ask Full F c (last_round Full F c))) = Each-both (IsOwn c) (asks F false (c ∷ [])) (asks F true (c ∷ []) ++ rounds_ask Full F c (last_round Full F c)) (asks_own false) compat in
-      subst (λ t. Each (IsOwn c) (t ++ (asks F false (c ∷ []) ++ (asks F true (c ∷ []) ++ rounds_ask Full F c (last_round Full F c))))) (sym no_composite) canonical
+      let compat : Each (IsOwn c) (asks F true (c ∷ []) ++ foldings_ask F c) = Each-both (IsOwn c) (asks F true (c ∷ [])) (foldings_ask F c) (asks_own true) foldings_own in
+      let canonical : Each (IsOwn c) (asks F false (c ∷ []) ++ (asks F true (c ∷ []) ++ foldings_ask F c)) = Each-both (IsOwn c) (asks F false (c ∷ [])) (asks F true (c ∷ []) ++ foldings_ask F c) (asks_own false) compat in
+      subst (λ t. Each (IsOwn c) (t ++ (asks F false (c ∷ []) ++ (asks F true (c ∷ []) ++ foldings_ask F c)))) (sym no_composite) canonical
 
   pub plain_asks : (q : Query) → is_asked (asked F c) q ≡ is_asked (Row c ∷ Second c ∷ []) q
   unfolding asked

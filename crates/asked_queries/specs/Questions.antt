@@ -22,23 +22,24 @@
 --                                   it is
 -- rounds_ask folding F c last       what the rounds from c alone ask, from the first one to that after `last` rounds; of None
 --                                   nothing
+-- foldings_ask F c                  what the rounds from c alone by each of the foldings ask
 -- facts_ask F c                     Row(c), Second(c), and the rows of the members of all mappings of c
 -- pair_queries m                    the pair of a mapping of two members; of another mapping nothing
 -- composite_asks F c                where c is a primary composite, the pair of its mapping
--- asked F c                         what the derivation of c asks; its rounds are those of the full folding
+-- asked F c                         what the derivation of c asks
 use Rattle.std.specs.Prelude.{ℕ, zero, suc, Bool, true, false, List, [], ◌∷◌, ◌++◌, Option, Some, None, Result, Ok, Err, map, find, if◌then◌else◌}
 use Rattle.std.specs.List.{flat_map, range_with_len}
 use Rattle.ucd_model.specs.Casing.{folded}
 use Rattle.ucd_model.specs.CanonicalOrder.{class_of}
 use Rattle.ucd_model.specs.Composites.{pair_of, primary}
 use Rattle.ucd_model.specs.Composition.{Split, reached, composed_with, compose}
+use Rattle.ucd_model.specs.Enumerations.{foldings}
 use Rattle.ucd_model.specs.Expansion.{counted}
 use Rattle.ucd_model.specs.Facts.{Facts}
 use Rattle.ucd_model.specs.FoldRounds.{drop_ignorable, rounds, is_last}
 use Rattle.ucd_model.specs.Forms.{decomposed, nfkc}
 use Rattle.ucd_model.specs.Validity.{mappings}
 use Rattle.ucd_model.specs.declared.folding.Folding.{Folding}
-use Rattle.ucd_model.specs.declared.folding.Folding.TheVariants.{Full}
 use Rattle.ucd_model.specs.declared.form.Bad.{Bad as Rule}
 use Rattle.ucd_model.specs.declared.query.Query.{Query}
 use Rattle.ucd_model.specs.declared.query.Query.TheVariants.{Row, Pair, Second}
@@ -89,6 +90,9 @@ abbrev pub rounds_ask : Folding → (ℕ → Facts) → ℕ → Option ℕ → L
 rounds_ask folding F c (Some last) = flat_map (λ i. round_asks_at folding F (rounds folding F i (c ∷ []))) (range_with_len 0 (suc last))
 rounds_ask folding F c None = []
 
+abbrev pub foldings_ask : (ℕ → Facts) → ℕ → List Query
+foldings_ask F c = flat_map (λ folding. rounds_ask folding F c (last_round folding F c)) foldings
+
 abbrev pub facts_ask : (ℕ → Facts) → ℕ → List Query
 facts_ask F c = Row c ∷ Second c ∷ row_queries (flat_map (λ m. m) (mappings c (F c)))
 
@@ -100,4 +104,4 @@ abbrev pub composite_asks : (ℕ → Facts) → ℕ → List Query
 composite_asks F c = if primary F c then pair_queries (F c).mapping else []
 
 unfoldable pub asked : (ℕ → Facts) → ℕ → List Query
-asked F c = facts_ask F c ++ (composite_asks F c ++ (asks F false (c ∷ []) ++ (asks F true (c ∷ []) ++ rounds_ask Full F c (last_round Full F c))))
+asked F c = facts_ask F c ++ (composite_asks F c ++ (asks F false (c ∷ []) ++ (asks F true (c ∷ []) ++ foldings_ask F c)))

@@ -17,7 +17,8 @@ use Rattle.ucd_model.specs.QuickChecks.{excludes_mapping, full_exclusion, quick_
 use Rattle.ucd_model.specs.Records.{Record, core_at, changes_image, record_at, record_or_rule}
 use Rattle.ucd_model.specs.Validity.{mappings, lacks_row, lacks_a_row, is_none, is_endless, is_too_long, composite_of, is_other, is_hidden, is_unfolded, broken}
 use Rattle.ucd_model.specs.ValidityProofs.{KeepsRules, broken-none, broken-rules}
-use Rattle.ucd_model.specs.declared.folding.Folding.TheVariants.{Full}
+use Rattle.ucd_model.specs.declared.folding.Folding.{Folding}
+use Rattle.ucd_model.specs.declared.folding.Folding.TheVariants.{Full, Simple}
 use Rattle.ucd_model.specs.declared.form.Form.{Form}
 use Rattle.ucd_model.specs.declared.form.Form.TheVariants.{Nfd, Nfc, Nfkd, Nfkc}
 use Rattle.ucd_model.specs.declared.form.Quick.{Quick}
@@ -31,7 +32,7 @@ use Rattle.asked_queries.specs.ExpansionProofs.{SameRows, rows_same, full_same}
 use Rattle.asked_queries.specs.FormProofs.{form_same, tree_rows, decomposed_rows, composed_rows}
 use Rattle.asked_queries.specs.Laws.{SameForm, SameFolding, AskedIsLocal}
 use Rattle.asked_queries.specs.ListProofs.{Each-left, Each-right}
-use Rattle.asked_queries.specs.Questions.{whole_tree, row_queries, asks, last_round, rounds_ask, facts_ask, pair_queries, composite_asks, asked}
+use Rattle.asked_queries.specs.Questions.{whole_tree, row_queries, asks, last_round, rounds_ask, foldings_ask, facts_ask, pair_queries, composite_asks, asked}
 use Rattle.asked_queries.specs.RoundProofs.{fold_same, folding_same}
 use Rattle.asked_queries.specs.RowProofs.{where_same, lacks_same, zero_class_same, excludes_same, hidden_same, lower_same, upper_same, title_same, changed_same, casemaps_same, continues_same, starts_same}
 
@@ -41,17 +42,25 @@ unbroken : (F : ℕ → Facts) (c : ℕ) → KeepsRules F c → broken F c ≡ N
 unfolding broken
 unbroken F c k = rw (k.rows, k.chains, k.lengths, k.composites, k.folds) refl
 
-some_last : (F : ℕ → Facts) (c : ℕ) (r : Option ℕ) → is_none (option_and_then (λ i. rounds Full F i (c ∷ [])) r) ≡ false → (n : ℕ) × (r ≡ Some n)
-some_last F c (Some n) e = (n, refl)
-some_last F c None e = cc
+some_last : (folding : Folding) (F : ℕ → Facts) (c : ℕ) (r : Option ℕ) → is_none (option_and_then (λ i. rounds folding F i (c ∷ [])) r) ≡ false → (n : ℕ) × (r ≡ Some n)
+some_last folding F c (Some n) e = (n, refl)
+some_last folding F c None e = cc
 
-has_last : (F : ℕ → Facts) (c : ℕ) → is_unfolded F c ≡ false → (n : ℕ) × (last_round Full F c ≡ Some n)
-unfolding last_round
-has_last F c e = some_last F c (last_round Full F c) e
+neither : (a b : Bool) → (a || b) ≡ false → (a ≡ false) × (b ≡ false)
+neither true b e = cc
+neither false b e = (refl, e)
 
-casefold_at : (F : ℕ → Facts) (c n : ℕ) → last_round Full F c ≡ Some n → casefold Full F c ≡ rounds Full F n (c ∷ [])
+folds : (F : ℕ → Facts) (c : ℕ) → is_unfolded F c ≡ false → (folding : Folding) → is_none (casefold folding F c) ≡ false
+folds F c e Full = (neither (is_none (casefold Full F c)) (is_none (casefold Simple F c)) e).0
+folds F c e Simple = (neither (is_none (casefold Full F c)) (is_none (casefold Simple F c)) e).1
+
+has_last : (F : ℕ → Facts) (c : ℕ) → is_unfolded F c ≡ false → (folding : Folding) → (n : ℕ) × (last_round folding F c ≡ Some n)
 unfolding last_round
-casefold_at F c n e = ap (option_and_then (λ i. rounds Full F i (c ∷ []))) e
+has_last F c e folding = some_last folding F c (last_round folding F c) (folds F c e folding)
+
+casefold_at : (folding : Folding) (F : ℕ → Facts) (c n : ℕ) → last_round folding F c ≡ Some n → casefold folding F c ≡ rounds folding F n (c ∷ [])
+unfolding last_round
+casefold_at folding F c n e = ap (option_and_then (λ i. rounds folding F i (c ∷ []))) e
 
 -- ---- what the record is made of
 
@@ -60,24 +69,30 @@ record AskedParts (F G : ℕ → Facts) (c : ℕ) : Type 0 where
   composite : Each (SameAnswer F G) (composite_asks F c)
   canonical : Each (SameAnswer F G) (asks F false (c ∷ []))
   compat : Each (SameAnswer F G) (asks F true (c ∷ []))
-  folding : Each (SameAnswer F G) (rounds_ask Full F c (last_round Full F c))
+  folding : (folding : Folding) → Each (SameAnswer F G) (rounds_ask folding F c (last_round folding F c))
+
+folding_part : (F : ℕ → Facts) (c : ℕ) (P : Query → Type 0) → Each P (foldings_ask F c) → (folding : Folding) → Each P (rounds_ask folding F c (last_round folding F c))
+folding_part F c P a Full = Each-left P (rounds_ask Full F c (last_round Full F c)) (rounds_ask Simple F c (last_round Simple F c) ++ []) a
+folding_part F c P a Simple =
+    let simple : List Query = rounds_ask Simple F c (last_round Simple F c) in
+    Each-left P simple [] (Each-right P (rounds_ask Full F c (last_round Full F c)) (simple ++ []) a)
 
 asked_parts : (F G : ℕ → Facts) (c : ℕ) → Each (SameAnswer F G) (asked F c) → AskedParts F G c
 unfolding asked
 asked_parts F G c a =
     let P : Query → Type 0 = SameAnswer F G in
-    let r1 = Each-right P (facts_ask F c) (composite_asks F c ++ (asks F false (c ∷ []) ++ (asks F true (c ∷ []) ++ rounds_ask Full F c (last_round Full F c)))) a in
-    let r2 = Each-right P (composite_asks F c) (asks F false (c ∷ []) ++ (asks F true (c ∷ []) ++ rounds_ask Full F c (last_round Full F c))) r1 in
-    let r3 = Each-right P (asks F false (c ∷ [])) (asks F true (c ∷ []) ++ rounds_ask Full F c (last_round Full F c)) r2 in
+    let r1 = Each-right P (facts_ask F c) (composite_asks F c ++ (asks F false (c ∷ []) ++ (asks F true (c ∷ []) ++ foldings_ask F c))) a in
+    let r2 = Each-right P (composite_asks F c) (asks F false (c ∷ []) ++ (asks F true (c ∷ []) ++ foldings_ask F c)) r1 in
+    let r3 = Each-right P (asks F false (c ∷ [])) (asks F true (c ∷ []) ++ foldings_ask F c) r2 in
     record {
-      facts = Each-left P (facts_ask F c) (composite_asks F c ++ (asks F false (c ∷ []) ++ (asks F true (c ∷ []) ++ rounds_ask Full F c (last_round Full F c)))) a;
-      composite = Each-left P (composite_asks F c) (asks F false (c ∷ []) ++ (asks F true (c ∷ []) ++ rounds_ask Full F c (last_round Full F c))) r1;
-      canonical = Each-left P (asks F false (c ∷ [])) (asks F true (c ∷ []) ++ rounds_ask Full F c (last_round Full F c)) r2;
-      compat = Each-left P (asks F true (c ∷ [])) (rounds_ask Full F c (last_round Full F c)) r3;
-      folding = Each-right P (asks F true (c ∷ [])) (rounds_ask Full F c (last_round Full F c)) r3;
+      facts = Each-left P (facts_ask F c) (composite_asks F c ++ (asks F false (c ∷ []) ++ (asks F true (c ∷ []) ++ foldings_ask F c))) a;
+      composite = Each-left P (composite_asks F c) (asks F false (c ∷ []) ++ (asks F true (c ∷ []) ++ foldings_ask F c)) r1;
+      canonical = Each-left P (asks F false (c ∷ [])) (asks F true (c ∷ []) ++ foldings_ask F c) r2;
+      compat = Each-left P (asks F true (c ∷ [])) (foldings_ask F c) r3;
+      folding = folding_part F c P (Each-right P (asks F true (c ∷ [])) (foldings_ask F c) r3);
     }
 
-module _ (F G : ℕ → Facts) (c : ℕ) (a : AskedParts F G c) (n : ℕ) (last : last_round Full F c ≡ Some n) where
+module _ (F G : ℕ → Facts) (c : ℕ) (a : AskedParts F G c) (last : (folding : Folding) → (n : ℕ) × (last_round folding F c ≡ Some n)) where
   own : F c ≡ G c
   own = a.facts.0
 
@@ -96,8 +111,8 @@ module _ (F G : ℕ → Facts) (c : ℕ) (a : AskedParts F G c) (n : ℕ) (last 
   compat : SameForm F G true (c ∷ [])
   compat = form_same F G true (c ∷ []) a.compat
 
-  folding : SameFolding Full F G c n
-  folding = folding_same Full F G c n last (subst (λ r. Each (SameAnswer F G) (rounds_ask Full F c r)) last a.folding)
+  folded : (folding : Folding) → SameFolding folding F G c (last folding).0
+  folded folding = folding_same folding F G c (last folding).0 (last folding).1 (subst (λ r. Each (SameAnswer F G) (rounds_ask folding F c r)) (last folding).1 (a.folding folding))
 
   expansion_full : (kind : Bool) → Each (SameAnswer F G) (asks F kind (c ∷ [])) → full G kind c ≡ full F kind c
   expansion_full kind own = full_same F G kind c (Each-left (λ x. F x ≡ G x) (whole_tree F kind c) [] (tree_rows F G kind (c ∷ []) own))
@@ -124,8 +139,14 @@ module _ (F G : ℕ → Facts) (c : ℕ) (a : AskedParts F G c) (n : ℕ) (last 
       ∙ ap (λ (facts : Facts). primary F c && is_other c (composite_of G facts.mapping)) (sym own)
       ∙ hidden_same F G (primary F c) c (F c).mapping a.composite
 
-  casefold_same : casefold Full G c ≡ casefold Full F c
-  casefold_same = casefold_at G c n folding.last ∙ folding.lists n (omega arith) ∙ sym (casefold_at F c n last)
+  casefold_same : (folding : Folding) → casefold folding G c ≡ casefold folding F c
+  casefold_same folding =
+      let n : ℕ = (last folding).0 in
+      let same = folded folding in
+      casefold_at folding G c n same.last ∙ same.lists n (omega arith) ∙ sym (casefold_at folding F c n (last folding).1)
+
+  folds_kept : is_unfolded G c ≡ is_unfolded F c
+  folds_kept = rw (casefold_same Full, casefold_same Simple) refl
 
   rules_kept : KeepsRules F c → KeepsRules G c
   rules_kept k = record {
@@ -133,7 +154,7 @@ module _ (F G : ℕ → Facts) (c : ℕ) (a : AskedParts F G c) (n : ℕ) (last 
     chains = chains_kept ∙ k.chains;
     lengths = lengths_kept ∙ k.lengths;
     composites = composites_kept ∙ k.composites;
-    folds = ap is_none casefold_same ∙ k.folds;
+    folds = folds_kept ∙ k.folds;
   }
 
   -- ---- the record
@@ -185,8 +206,8 @@ module _ (F G : ℕ → Facts) (c : ℕ) (a : AskedParts F G c) (n : ℕ) (last 
   quick_same Nfc = ap (λ t. quick_where (composed_quick t) (nfc G (c ∷ []))) (sym second) ∙ ap (quick_where (quick_given F Nfc c)) canonical.composition
   quick_same Nfkc = ap (λ t. quick_where (composed_quick t) (nfkc G (c ∷ []))) (sym second) ∙ ap (quick_where (quick_given F Nfkc c)) compat.composition
 
-  image_same : image_or_same (casefold_image Full G c) ≡ image_or_same (casefold_image Full F c)
-  image_same = ap (λ r. image_or_same (image_or_rule c r)) casefold_same
+  image_same : (folding : Folding) → image_or_same (casefold_image folding G c) ≡ image_or_same (casefold_image folding F c)
+  image_same folding = ap (λ r. image_or_same (image_or_rule c r)) (casefold_same folding)
 
   record_same : record_at G c ≡ record_at F c
   record_same = λ i. record {
@@ -199,8 +220,9 @@ module _ (F G : ℕ → Facts) (c : ℕ) (a : AskedParts F G c) (n : ℕ) (last 
     nfc = quick_or_yes (quick_same Nfc i);
     nfkd = quick_or_yes (quick_same Nfkd i);
     nfkc = quick_or_yes (quick_same Nfkc i);
-    casefold = image_same i;
-    changes_casefold = changes_image c (image_same i);
+    casefold = image_same Full i;
+    simple_casefold = image_same Simple i;
+    changes_casefold = changes_image c (image_same Full i);
   }
 
   -- ---- what is asked
@@ -211,17 +233,22 @@ module _ (F G : ℕ → Facts) (c : ℕ) (a : AskedParts F G c) (n : ℕ) (last 
   composite_asked : composite_asks G c ≡ composite_asks F c
   composite_asked = ap (λ b. cond b (pair_queries (G c).mapping) []) primary_same ∙ ap (λ (facts : Facts). cond (primary F c) (pair_queries facts.mapping) []) (sym own)
 
-  folding_asked : rounds_ask Full G c (last_round Full G c) ≡ rounds_ask Full F c (last_round Full F c)
-  folding_asked = ap (rounds_ask Full G c) folding.last ∙ folding.asks ∙ ap (rounds_ask Full F c) (sym last)
+  folding_asked : (folding : Folding) → rounds_ask folding G c (last_round folding G c) ≡ rounds_ask folding F c (last_round folding F c)
+  folding_asked folding =
+      let same = folded folding in
+      ap (rounds_ask folding G c) same.last ∙ same.asks ∙ ap (rounds_ask folding F c) (sym (last folding).1)
+
+  foldings_asked : foldings_ask G c ≡ foldings_ask F c
+  foldings_asked = rw (folding_asked Full, folding_asked Simple) refl
 
   asked_same : asked G c ≡ asked F c
   unfolding asked
   asked_same =
-      ap (λ t. t ++ (composite_asks G c ++ (asks G false (c ∷ []) ++ (asks G true (c ∷ []) ++ rounds_ask Full G c (last_round Full G c))))) facts_asked
-      ∙ ap (λ t. facts_ask F c ++ (t ++ (asks G false (c ∷ []) ++ (asks G true (c ∷ []) ++ rounds_ask Full G c (last_round Full G c))))) composite_asked
-      ∙ ap (λ t. facts_ask F c ++ (composite_asks F c ++ (t ++ (asks G true (c ∷ []) ++ rounds_ask Full G c (last_round Full G c))))) canonical.asks
-      ∙ ap (λ t. facts_ask F c ++ (composite_asks F c ++ (asks F false (c ∷ []) ++ (t ++ rounds_ask Full G c (last_round Full G c))))) compat.asks
-      ∙ ap (λ t. facts_ask F c ++ (composite_asks F c ++ (asks F false (c ∷ []) ++ (asks F true (c ∷ []) ++ t)))) folding_asked
+      ap (λ t. t ++ (composite_asks G c ++ (asks G false (c ∷ []) ++ (asks G true (c ∷ []) ++ foldings_ask G c)))) facts_asked
+      ∙ ap (λ t. facts_ask F c ++ (t ++ (asks G false (c ∷ []) ++ (asks G true (c ∷ []) ++ foldings_ask G c)))) composite_asked
+      ∙ ap (λ t. facts_ask F c ++ (composite_asks F c ++ (t ++ (asks G true (c ∷ []) ++ foldings_ask G c)))) canonical.asks
+      ∙ ap (λ t. facts_ask F c ++ (composite_asks F c ++ (asks F false (c ∷ []) ++ (t ++ foldings_ask G c)))) compat.asks
+      ∙ ap (λ t. facts_ask F c ++ (composite_asks F c ++ (asks F false (c ∷ []) ++ (asks F true (c ∷ []) ++ t)))) foldings_asked
 
 pub asked_is_local : AskedIsLocal
 asked_is_local F G c R e a =
@@ -229,8 +256,8 @@ asked_is_local F G c R e a =
     let rules = broken-rules F c none in
     let last = has_last F c rules.folds in
     let parts = asked_parts F G c a in
-    let kept : broken G c ≡ None = unbroken G c (rules_kept F G c parts last.0 last.1 rules) in
-    let same : record_at G c ≡ record_at F c = record_same F G c parts last.0 last.1 in (
+    let kept : broken G c ≡ None = unbroken G c (rules_kept F G c parts last rules) in
+    let same : record_at G c ≡ record_at F c = record_same F G c parts last in (
       ap (record_or_rule (record_at G c)) kept ∙ ap (λ (r : Record). Ok r) same ∙ sym (ap (record_or_rule (record_at F c)) none) ∙ e,
-      asked_same F G c parts last.0 last.1,
+      asked_same F G c parts last,
     )

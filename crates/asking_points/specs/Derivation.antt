@@ -3,23 +3,25 @@
 -- DerivesAs r value        r is the record, or in its place the rule; want of memory says nothing
 -- plain_shown c G          the point c with the facts G has no mapping
 -- composite_shown F G      the pair of the mapping of a point with the facts G, where it is a primary composite
+-- foldings_put F c         what is put for the rounds of c by both foldings
 -- other_asks F c           what is put for c beside Row(c) and Second(c). What its NFKC asks is not repeated: it is among what the
 --                          folding rounds ask
 -- plain_asked              a point that is shown to have no mapping asks Row(c) and Second(c) alone
 -- asked_is                 of a point that has its record, Row(c), Second(c) and what is put beside these are what is asked
-use Rattle.std.proofs.Common.{◌≡◌, ℕ, Bool, true, false, cond, ◌&&◌, not, ◌==◌, List, [], ◌∷◌, ◌++◌, length, Option, Some, None, is_some, Result, Ok, Err, if◌then◌else◌, refl, sym, ap, ◌∙◌, ◌+◌, ◌||◌}
+use Rattle.std.proofs.Common.{◌≡◌, ℕ, Bool, true, false, cond, ◌&&◌, not, ◌==◌, List, [], ◌∷◌, ◌++◌, append_assoc, append-nil, length, Option, Some, None, is_some, Result, Ok, Err, if◌then◌else◌, refl, sym, ap, ◌∙◌, ◌+◌, ◌||◌}
 use Rattle.std.specs.Prelude.{⊤}
 use Rattle.std.specs.List.{flat_map, range_with_len}
 use Rattle.std.specs.Option.{option_and_then}
 use Rattle.ucd_model.specs.Composites.{is_canonical, first_has_class_zero}
 use Rattle.ucd_model.specs.Facts.{Facts}
-use Rattle.ucd_model.specs.FoldRounds.{rounds}
+use Rattle.ucd_model.specs.FoldRounds.{rounds, casefold}
 use Rattle.ucd_model.specs.Records.{Record, kept_record}
 use Rattle.ucd_model.specs.Uniform.{IsPlain}
-use Rattle.ucd_model.specs.Validity.{mappings, is_none}
+use Rattle.ucd_model.specs.Validity.{mappings, is_none, is_unfolded}
 use Rattle.ucd_model.specs.ValidityLaws.{HasRecord}
 use Rattle.ucd_model.specs.ValidityProofs.{broken-none, broken-rules}
-use Rattle.ucd_model.specs.declared.folding.Folding.TheVariants.{Full}
+use Rattle.ucd_model.specs.declared.folding.Folding.{Folding}
+use Rattle.ucd_model.specs.declared.folding.Folding.TheVariants.{Full, Simple}
 use Rattle.ucd_model.specs.declared.form.Bad.{Bad as Rule}
 use Rattle.ucd_model.specs.declared.form.FormStop.{FormStop}
 use Rattle.ucd_model.specs.declared.form.FormStop.TheVariants.{Bad, Memory}
@@ -36,7 +38,7 @@ use Rattle.ucd_model.specs.Shown.{shown_facts}
 use Rattle.ucd_model.specs.declared.view.FactsRef.{FactsRef}
 use Rattle.asked_queries.specs.PlainProofs.{plain_ask_own}
 use Rattle.asked_queries.specs.Turns.{SameQueries}
-use Rattle.asked_queries.specs.Questions.{row_queries, asks, last_round, rounds_ask, round_asks_at, folding_asks, facts_ask, pair_queries, composite_asks, asked}
+use Rattle.asked_queries.specs.Questions.{row_queries, asks, last_round, rounds_ask, foldings_ask, round_asks_at, folding_asks, facts_ask, pair_queries, composite_asks, asked}
 use Rattle.asking_points.specs.Compat.{canonical_asks, has_compat, forms_alike}
 use Rattle.asking_points.specs.KnownForms.{puts_from, puts_are}
 use Rattle.asking_points.specs.declared.derivation.Derived.{Derived}
@@ -65,18 +67,29 @@ plain_shown c G =
 abbrev pub composite_shown : (ℕ → Facts) → Facts → List Query
 composite_shown F G = if is_canonical G.kind && ((G.class == 0) && (first_has_class_zero F G.mapping && not G.excluded)) then pair_queries G.mapping else []
 
+abbrev pub foldings_put : (ℕ → Facts) → ℕ → List Query
+foldings_put F c = puts_from Full F 8 false (c ∷ []) ++ puts_from Simple F 8 false (c ∷ [])
+
 abbrev pub other_asks : (ℕ → Facts) → ℕ → List Query
 other_asks F c =
     row_queries (flat_map (λ m. m) (mappings c (F c)))
-    ++ (composite_asks F c ++ (canonical_asks F c ++ puts_from Full F 8 false (c ∷ [])))
+    ++ (composite_asks F c ++ (canonical_asks F c ++ foldings_put F c))
 
-some_last : (F : ℕ → Facts) (c : ℕ) (r : Option ℕ) → is_none (option_and_then (λ i. rounds Full F i (c ∷ [])) r) ≡ false → is_some r ≡ true
-some_last F c (Some n) e = refl
-some_last F c None e = absurd (true≢false e)
+some_last : (folding : Folding) (F : ℕ → Facts) (c : ℕ) (r : Option ℕ) → is_none (option_and_then (λ i. rounds folding F i (c ∷ [])) r) ≡ false → is_some r ≡ true
+some_last folding F c (Some n) e = refl
+some_last folding F c None e = absurd (true≢false e)
 
-has_last : (F : ℕ → Facts) (c : ℕ) → HasRecord F c → is_some (last_round Full F c) ≡ true
+neither : (a b : Bool) → (a || b) ≡ false → (a ≡ false) × (b ≡ false)
+neither true b e = absurd (true≢false e)
+neither false b e = (refl, e)
+
+folds : (F : ℕ → Facts) (c : ℕ) → is_unfolded F c ≡ false → (folding : Folding) → is_none (casefold folding F c) ≡ false
+folds F c e Full = (neither (is_none (casefold Full F c)) (is_none (casefold Simple F c)) e).0
+folds F c e Simple = (neither (is_none (casefold Full F c)) (is_none (casefold Simple F c)) e).1
+
+has_last : (folding : Folding) (F : ℕ → Facts) (c : ℕ) → HasRecord F c → is_some (last_round folding F c) ≡ true
 unfolding last_round
-has_last F c has = some_last F c (last_round Full F c) (broken-rules F c (broken-none F c has)).folds
+has_last folding F c has = some_last folding F c (last_round folding F c) (folds F c (broken-rules F c (broken-none F c has)).folds folding)
 
 -- ---- all questions
 
@@ -94,6 +107,17 @@ first_round F c q (Some n) e =
     list_any-append (same_query q) (form ++ folding) later ∙ ap (λ b. b || is_asked later q) (list_any-append (same_query q) form folding) in
     split ∙ repeated (is_asked form q) (is_asked folding q) (is_asked later q) ∙ ap (λ b. is_asked form q || b) (sym split) ∙ sym (list_any-append (same_query q) form (rounds_ask Full F c (Some n)))
 
+-- so of the rounds of both foldings
+first_rounds : (F : ℕ → Facts) (c : ℕ) (q : Query) → is_some (last_round Full F c) ≡ true → is_asked (foldings_ask F c) q ≡ is_asked (asks F true (c ∷ []) ++ foldings_ask F c) q
+first_rounds F c q e =
+    let form : List Query = asks F true (c ∷ []) in
+    let full : List Query = rounds_ask Full F c (last_round Full F c) in
+    let simple : List Query = rounds_ask Simple F c (last_round Simple F c) ++ [] in
+    list_any-append (same_query q) full simple
+    ∙ ap (λ b. b || is_asked simple q) (first_round F c q (last_round Full F c) e)
+    ∙ sym (list_any-append (same_query q) (form ++ full) simple)
+    ∙ ap (λ (Q : List Query). is_asked Q q) (append_assoc form full simple)
+
 behind : (xs ys zs : List Query) (q : Query) → is_asked ys q ≡ is_asked zs q → is_asked (xs ++ ys) q ≡ is_asked (xs ++ zs) q
 behind xs ys zs q e = list_any-append (same_query q) xs ys ∙ ap (λ b. is_asked xs q || b) e ∙ sym (list_any-append (same_query q) xs zs)
 
@@ -105,15 +129,25 @@ canonical_repeated F c q false rounds e last =
     last ∙ behind (asks F true (c ∷ [])) rounds (asks F true (c ∷ []) ++ rounds) q last
     ∙ ap (λ (Q : List Query). is_asked (Q ++ (asks F true (c ∷ []) ++ rounds)) q) (forms_alike F c e)
 
+-- what is put for the rounds of both foldings is what they ask
+foldings_are : (F : ℕ → Facts) (c : ℕ) → HasRecord F c → SameQueries (foldings_put F c) (foldings_ask F c)
+foldings_are F c has = λ q.
+    let full : List Query = rounds_ask Full F c (last_round Full F c) in
+    let simple : List Query = rounds_ask Simple F c (last_round Simple F c) in
+    list_any-append (same_query q) (puts_from Full F 8 false (c ∷ [])) (puts_from Simple F 8 false (c ∷ []))
+    ∙ ap (λ b. b || is_asked (puts_from Simple F 8 false (c ∷ [])) q) (puts_are Full F c (has_last Full F c has) q)
+    ∙ ap (λ b. is_asked full q || b) (puts_are Simple F c (has_last Simple F c has) q)
+    ∙ sym (list_any-append (same_query q) full simple)
+    ∙ ap (λ (Q : List Query). is_asked (full ++ Q) q) (sym (append-nil simple))
+
 pub asked_is : (F : ℕ → Facts) (c : ℕ) → HasRecord F c → SameQueries (Row c ∷ Second c ∷ other_asks F c) (asked F c)
 unfolding asked
 asked_is F c has = λ q.
-    let put = puts_from Full F 8 false (c ∷ []) in
-    let rounds = rounds_ask Full F c (last_round Full F c) in
+    let put = foldings_put F c in
+    let rounds = foldings_ask F c in
     let all = asks F true (c ∷ []) ++ rounds in
-    let some = has_last F c has in
-    let last = first_round F c q (last_round Full F c) some in
-    let canonical = behind (canonical_asks F c) put rounds q (puts_are Full F c some q) ∙ canonical_repeated F c q (has_compat F 8 c) rounds refl last in
+    let last = first_rounds F c q (has_last Full F c has) in
+    let canonical = behind (canonical_asks F c) put rounds q (foldings_are F c has q) ∙ canonical_repeated F c q (has_compat F 8 c) rounds refl last in
     let composite = behind (composite_asks F c) (canonical_asks F c ++ put) (asks F false (c ∷ []) ++ all) q canonical in
     behind (facts_ask F c) (composite_asks F c ++ (canonical_asks F c ++ put)) (composite_asks F c ++ (asks F false (c ∷ []) ++ all)) q composite
 

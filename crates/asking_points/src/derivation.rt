@@ -8,7 +8,7 @@ ghost use Rattle.ucd_model.specs.ValidityLaws.{HasRecord};
 ghost use Rattle.asked_queries.specs.Questions.{asked};
 ghost use Rattle.asked_queries.specs.Turns.{SameQueries};
 ghost use Rattle.asking_points.specs.Compat.{canonical_asks};
-ghost use Rattle.asking_points.specs.Derivation.{DerivesAs, plain_shown, composite_shown, other_asks};
+ghost use Rattle.asking_points.specs.Derivation.{DerivesAs, plain_shown, composite_shown, foldings_put, other_asks};
 
 use crate::forms::put_asks;
 use crate::query_list::query_set;
@@ -108,7 +108,21 @@ fn put_more<W: FactView>(
     put_members(c, facts, asked)?;
     put_composite(view, facts, asked)?;
     put_canonical(alloc, view, c, asked)?;
+    put_foldings(alloc, view, c, asked)?;
+    Ok(())
+}
+
+/// Puts what the rounds of a code point by both foldings ask at the end.
+fn put_foldings<W: FactView>(
+    alloc: Global,
+    view: &W,
+    c: Point,
+    asked: &mut Vec<Query>,
+) -> Result<(), Memory>
+    ensures { OnOk result (asked.new.items ≡ asked.old.items ++ foldings_put (W.facts_of view.now) c) }
+{
     put_rounds(alloc, view, Folding::Full, c, asked)?;
+    put_rounds(alloc, view, Folding::Simple, c, asked)?;
     Ok(())
 }
 

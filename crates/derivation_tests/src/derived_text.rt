@@ -165,6 +165,7 @@ const NORMALIZATION_TEXT: &[u8] =
       # NFKD_QC\n00A8 ; NFKD_QC ; N\n0340..0341 ; NFKD_QC ; N\n2000..200A ; NFKD_QC ; N\n# total 14\n\n\
       # NFKC_QC\n00A8 ; NFKC_QC ; N\n0300..0304 ; NFKC_QC ; M\n0340..0341 ; NFKC_QC ; N\n2000..200A ; NFKC_QC ; N\n# total 19\n\n\
       # NFKC_CF\n0041 ; NFKC_CF ; 0061\n0042 ; NFKC_CF ; 0062\n00A8 ; NFKC_CF ; 0020 0308\n00AD ; NFKC_CF ;\n0340 ; NFKC_CF ; 0300\n0341 ; NFKC_CF ; 0301\n2000..200A ; NFKC_CF ; 0020\n# total 17\n\n\
+      # NFKC_SCF\n0041 ; NFKC_SCF ; 0061\n0042 ; NFKC_SCF ; 0062\n00A8 ; NFKC_SCF ; 0020 0308\n00AD ; NFKC_SCF ;\n0340 ; NFKC_SCF ; 0300\n0341 ; NFKC_SCF ; 0301\n2000..200A ; NFKC_SCF ; 0020\n# total 17\n\n\
       # Changes_When_NFKC_Casefolded\n0041..0042 ; Changes_When_NFKC_Casefolded\n00A8 ; Changes_When_NFKC_Casefolded\n00AD ; Changes_When_NFKC_Casefolded\n0340..0341 ; Changes_When_NFKC_Casefolded\n2000..200A ; Changes_When_NFKC_Casefolded\n# total 17\n\n";
 
 /// Neighbours with different mappings are two spans, and with one mapping one span, though the records differ.

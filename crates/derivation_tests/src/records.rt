@@ -93,6 +93,7 @@ fn is_mark(record: &Record) -> bool {
     record.class == 230
         && record.nfc == Quick::Maybe
         && record.casefold.is_same(&Image::Same)
+        && record.simple_casefold.is_same(&Image::Same)
         && !record.changes_casefold
 }
 

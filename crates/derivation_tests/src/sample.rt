@@ -50,6 +50,7 @@ pub fn plain(category: Category) -> Record {
         nfkd: Quick::Yes,
         nfkc: Quick::Yes,
         casefold: Image::Same,
+        simple_casefold: Image::Same,
         changes_casefold: false,
     }
 }
@@ -81,13 +82,15 @@ pub fn with_more(mut record: Record, properties: &[Core]) -> Record {
     record
 }
 
-/// The record of a point that is folded into these.
+/// The record of a point that is folded into these, by either folding.
 ///
 /// - `Fail`: a number is no code point, or memory ran out.
 pub fn with_folding(alloc: Global, category: Category, numbers: &[u32]) -> Result<Record, Fail> {
-    let to = points(alloc, numbers)?;
+    let full = points(alloc, numbers)?;
+    let simple = points(alloc, numbers)?;
     let mut record = plain(category);
-    record.casefold = Image::To(to);
+    record.casefold = Image::To(full);
+    record.simple_casefold = Image::To(simple);
     record.changes_casefold = true;
     Ok(record)
 }

@@ -6,6 +6,6 @@ use Rattle.ucd_model.specs.RowTexts.{spaced}
 use Rattle.ucd_model.specs.RowTextLemmas.{mapping_text-is}
 use Rattle.ucd_model.specs.declared.image.Image.TheVariants.{To}
 
-pub casefold_is : (points : List ℕ) → casefold_label (To points) ≡ listed (codes "NFKC_CF ;" ++ spaced points)
-casefold_is [] = refl
-casefold_is (c ∷ cs) = ap (λ (xs : List ℕ). listed (codes "NFKC_CF ; " ++ xs)) (mapping_text-is c cs)
+pub casefold_is : (name points : List ℕ) → casefold_label name (To points) ≡ listed (name ++ codes " ;" ++ spaced points)
+casefold_is name [] = refl
+casefold_is name (c ∷ cs) = ap (λ (xs : List ℕ). listed (name ++ codes " ; " ++ xs)) (mapping_text-is c cs)

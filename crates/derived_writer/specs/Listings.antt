@@ -7,13 +7,13 @@
 use Rattle.std.specs.Prelude.{ℕ, List, Option, Some, None, codes}
 use Rattle.std.specs.Borrow.{Bor}
 use Rattle.ucd_model.specs.Labels.{Label}
-use Rattle.ucd_model.specs.DerivedFiles.{Section, core_listing, category_listing, class_listing, type_listing, exclusion_listing, quick_listing, casefold_listing, changes_listing}
+use Rattle.ucd_model.specs.DerivedFiles.{Section, core_listing, category_listing, class_listing, type_listing, exclusion_listing, quick_listing, casefold_listing, simple_casefold_listing, changes_listing}
 use Rattle.ucd_model.specs.Records.{Record}
 use Rattle.ucd_model.specs.declared.form.Form.{Form}
 use Rattle.ucd_model.specs.declared.form.Form.TheVariants.{Nfd, Nfc, Nfkd, Nfkc}
 use Rattle.ucd_model.specs.declared.form.Quick.{Quick as QuickValue}
 use Rattle.derived_writer.specs.declared.listing.Listing.{Listing}
-use Rattle.derived_writer.specs.declared.listing.Listing.TheVariants.{Core as CoreListing, Category, Class, Decomposition, Exclusion, Quick, Casefold, ChangesCasefold}
+use Rattle.derived_writer.specs.declared.listing.Listing.TheVariants.{Core as CoreListing, Category, Class, Decomposition, Exclusion, Quick, Casefold, SimpleCasefold, ChangesCasefold}
 
 abbrev pub check_name : Form → List ℕ
 check_name Nfd = codes "NFD_QC"
@@ -35,6 +35,7 @@ listing_section Decomposition = type_listing
 listing_section Exclusion = exclusion_listing
 listing_section (Quick form) = quick_listing (check_name form) (check_value form)
 listing_section Casefold = casefold_listing
+listing_section SimpleCasefold = simple_casefold_listing
 listing_section ChangesCasefold = changes_listing
 
 abbrev pub listing_labels : Listing → (ℕ → Record) → ℕ → Label

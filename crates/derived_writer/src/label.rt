@@ -1,6 +1,6 @@
 //! What stands behind a span.
 
-ghost use Rattle.std.specs.Prelude.{◌≡◌, ◌++◌, Some, None, OnOk};
+ghost use Rattle.std.specs.Prelude.{◌≡◌, ◌++◌, Some, None, OnOk, codes};
 ghost use Rattle.ucd_model.specs.Labels.{same_label};
 ghost use Rattle.ucd_model.specs.DerivedFiles.{listed};
 ghost use Rattle.ucd_model.specs.RowTexts.{spaced};
@@ -69,13 +69,13 @@ impl LabelText {
         self.text.append(back)
     }
 
-    /// Makes it the label of a value with code points behind it, each with a space before it.
+    /// Makes it the label of a name, ` ;` and code points behind it, each with a space before it.
     ///
     /// - `Memory`: memory ran out. Nothing is told of the label then.
-    pub fn list_points(&mut self, value: &[u8], points: &[Point]) -> Result<(), Memory>
-        ensures { OnOk result (self.new ≡ listed (value.now ++ spaced points.now)) }
+    pub fn list_points(&mut self, name: &[u8], points: &[Point]) -> Result<(), Memory>
+        ensures { OnOk result (self.new ≡ listed (name.now ++ codes " ;" ++ spaced points.now)) }
     {
-        self.list(value)?;
+        self.list_parts(name, b" ;")?;
         put_spaced(points, &mut self.text)
     }
 

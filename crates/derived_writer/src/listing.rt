@@ -28,6 +28,8 @@ pub enum Listing {
     Quick(Form),
     /// NFKC_Casefold.
     Casefold,
+    /// NFKC_Simple_Casefold.
+    SimpleCasefold,
     /// Changes_When_NFKC_Casefolded.
     ChangesCasefold,
 }
@@ -56,13 +58,14 @@ const CORE_LISTINGS: [Listing; 19] = [
 ];
 
 /// The sections of DerivedNormalizationProps.txt.
-const NORMALIZATION_LISTINGS: [Listing; 7] = [
+const NORMALIZATION_LISTINGS: [Listing; 8] = [
     Listing::Exclusion,
     Listing::Quick(Form::Nfd),
     Listing::Quick(Form::Nfc),
     Listing::Quick(Form::Nfkd),
     Listing::Quick(Form::Nfkc),
     Listing::Casefold,
+    Listing::SimpleCasefold,
     Listing::ChangesCasefold,
 ];
 
@@ -92,6 +95,7 @@ impl Listing {
             Listing::Exclusion => b"Full_Composition_Exclusion",
             Listing::Quick(form) => check_name(form),
             Listing::Casefold => b"NFKC_CF",
+            Listing::SimpleCasefold => b"NFKC_SCF",
             Listing::ChangesCasefold => b"Changes_When_NFKC_Casefolded",
         }
     }
@@ -114,7 +118,8 @@ impl Listing {
             Listing::Decomposition => set_kind(shown.kind, label),
             Listing::Exclusion => set_binary(self.name(), shown.exclusion, label),
             Listing::Quick(form) => set_quick(check_name(form), quick(form, shown), label),
-            Listing::Casefold => set_casefold(&shown.casefold, label),
+            Listing::Casefold => set_casefold(self.name(), &shown.casefold, label),
+            Listing::SimpleCasefold => set_casefold(self.name(), &shown.simple_casefold, label),
             Listing::ChangesCasefold => set_binary(self.name(), shown.changes_casefold, label),
         }
     }

@@ -82,19 +82,19 @@ pub fn set_quick(name: &[u8], quick: Quick, label: &mut LabelText) -> Result<(),
     }
 }
 
-/// A folding is listed by `NFKC_CF ;` and its code points, which may be none, unless it is the point itself.
+/// A folding is listed by its name, ` ;` and its code points, which may be none, unless it is the point itself.
 /// UAX #44, section 5.3.
 ///
 /// - `Memory`: memory ran out. Nothing is told of the label then.
 #[tactic(auto, using(crate::proofs::PointLemmas::casefold_is))]
-pub fn set_casefold(image: &Image, label: &mut LabelText) -> Result<(), Memory>
-    ensures { OnOk result (label.new ≡ casefold_label image.now) }
+pub fn set_casefold(name: &[u8], image: &Image, label: &mut LabelText) -> Result<(), Memory>
+    ensures { OnOk result (label.new ≡ casefold_label name.now image.now) }
 {
     match image {
         Image::Same => {
             label.clear();
             Ok(())
         }
-        Image::To(points) => label.list_points(b"NFKC_CF ;", points.as_slice()),
+        Image::To(points) => label.list_points(name, points.as_slice()),
     }
 }

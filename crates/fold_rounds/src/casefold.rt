@@ -1,11 +1,11 @@
-//! NFKC_Casefold of a code point.
+//! NFKC_Casefold and NFKC_Simple_Casefold of a code point.
 
 ghost use Rattle.std.specs.Prelude.{◌≡◌, Ok, [], ◌∷◌};
 ghost use Rattle.ucd_model.specs.Expansion.{FormAnswers};
 ghost use Rattle.ucd_model.specs.FoldRounds.{casefold_image};
 ghost use Rattle.ucd_model.specs.Forms.{nfkc};
 ghost use Rattle.ucd_model.specs.Shown.{shown_facts};
-ghost use Rattle.ucd_model.specs.declared.folding.Folding.TheVariants.{Full};
+ghost use Rattle.ucd_model.specs.declared.folding.Folding.TheVariants.{Full, Simple};
 
 use crate::ignorable::is_default_ignorable;
 use crate::rounds::{fixed, is_same};
@@ -24,23 +24,41 @@ use ucd_model::{Bad, FactView, FactsRef, Folding, FormStop, Image, Point, Points
 pub fn nfkc_casefold<W: FactView>(alloc: Global, view: &W, c: Point) -> Result<Image, FormStop>
     ensures { FormAnswers result (casefold_image Full (W.facts_of view.now) c) }
 {
+    casefold_by(alloc, view, Folding::Full, c)
+}
+
+/// NFKC_Simple_Casefold of a code point: the same by the simple folding. UAX #44, section 5.3.
+///
+/// - `Bad(V5)`: as for [`nfkc_casefold`], of that folding. No other rule comes.
+/// - `Memory`: memory ran out.
+pub fn nfkc_simple_casefold<W: FactView>(
+    alloc: Global,
+    view: &W,
+    c: Point,
+) -> Result<Image, FormStop>
+    ensures { FormAnswers result (casefold_image Simple (W.facts_of view.now) c) }
+{
+    casefold_by(alloc, view, Folding::Simple, c)
+}
+
+/// The image of a code point under the rounds by a folding.
+fn casefold_by<W: FactView>(
+    alloc: Global,
+    view: &W,
+    folding: Folding,
+    c: Point,
+) -> Result<Image, FormStop>
+    ensures { FormAnswers result (casefold_image folding (W.facts_of view.now) c) }
+{
     match nfkc(alloc, view, &[c]) {
-        Ok(form) => casefold_of(
-            alloc,
-            view,
-            Folding::Full,
-            c,
-            &view.facts(c),
-            form.as_slice(),
-        ),
+        Ok(form) => casefold_of(alloc, view, folding, c, &view.facts(c), form.as_slice()),
         Err(FormStop::Bad(_)) => Err(FormStop::Bad(Bad::V5)),
         Err(FormStop::Memory) => Err(FormStop::Memory),
     }
 }
 
-/// NFKC_Casefold of a code point with these facts, whose Normalisation Form KC is `form`; by the simple folding, where
-/// that is named, in place of the full one. It takes no memory where neither that form nor the folding changes the code
-/// point. The Unicode Standard, section 3.13, toNFKC_Casefold.
+/// NFKC_Casefold or NFKC_Simple_Casefold, by the folding that is named, of a code point with these facts, whose
+/// Normalisation Form KC is `form`. It takes no memory where neither that form nor the folding changes the code point. The Unicode Standard, section 3.13, toNFKC_Casefold.
 ///
 /// - `Bad(V5)`: as for [`nfkc_casefold`]. No other rule comes.
 /// - `Memory`: memory ran out.

@@ -1,4 +1,5 @@
-//! Code points that are ignored by default, and the case folding under compatibility composition, NFKC_Casefold.
+//! Code points that are ignored by default, and the case foldings under compatibility composition, NFKC_Casefold and
+//! NFKC_Simple_Casefold.
 #![tactic(auto)]
 
 mod casefold;
@@ -7,6 +8,6 @@ pub mod laws;
 mod rounds;
 mod settled;
 
-pub use casefold::{casefold_of, nfkc_casefold};
+pub use casefold::{casefold_of, nfkc_casefold, nfkc_simple_casefold};
 pub use ignorable::{default_ignorable, drop_ignorable, is_default_ignorable, is_visible_format};
 pub use rounds::{LISTS, MOST_POINTS};

@@ -1,6 +1,7 @@
 -- The record of a point from what is found of it.
 use Rattle.std.proofs.Common.{◌≡◌, ℕ, Bool, true, false, not, List, [], ◌∷◌, Option, Some, None, Result, Ok, Err, if◌then◌else◌, refl, sym, ap, ◌∙◌}
 use Rattle.std.specs.Str.{bytes_eq}
+use Rattle.std.proofs.lemmas.Bool.{or_left, or_right}
 use Rattle.std.proofs.lemmas.Slice.Eq.{bytes_eq-Decides}
 use Rattle.ucd_model.specs.Casing.{lowers, uppers, titles, folds, casemaps, where_form, changes_when}
 use Rattle.ucd_model.specs.Composites.{is_canonical}
@@ -16,7 +17,8 @@ use Rattle.ucd_model.specs.Shown.{shown_facts}
 use Rattle.ucd_model.specs.Validity.{lacks_a_row, is_unfolded, is_none}
 use Rattle.ucd_model.specs.declared.decomposition.Kind.{Kind}
 use Rattle.ucd_model.specs.declared.decomposition.Kind.TheVariants.{Plain, Canonical, Compat}
-use Rattle.ucd_model.specs.declared.folding.Folding.TheVariants.{Full}
+use Rattle.ucd_model.specs.declared.folding.Folding.{Folding}
+use Rattle.ucd_model.specs.declared.folding.Folding.TheVariants.{Full, Simple}
 use Rattle.ucd_model.specs.declared.form.Bad.{Bad as Rule}
 use Rattle.ucd_model.specs.declared.form.Bad.TheVariants.{V4, V5}
 use Rattle.ucd_model.specs.declared.form.FormStop.{FormStop}
@@ -32,7 +34,7 @@ use Rattle.ucd_model.specs.declared.records.Record.{Record as KeptRecord}
 use Rattle.ucd_model.specs.declared.view.FactsRef.{FactsRef}
 use Rattle.identifier_closure.specs.Composites.{hidden_of}
 use Rattle.identifier_closure.specs.CoreSets.{core_given}
-use Rattle.identifier_closure.specs.Derived.{RecordAnswers}
+use Rattle.identifier_closure.specs.Derived.{RecordAnswers, CasefoldsAnswer}
 use Rattle.quick_checks.specs.Checks.{quick_decomposed}
 use Rattle.identifier_closure.specs.PlainProofs.{folded_if}
 use Rattle.identifier_closure.specs.PointForms.{expansion_rule, HaveForms, FormsAnswer}
@@ -49,15 +51,25 @@ same_check F c s t e = ap (quick_composed F c) (sym ((bytes_eq-Decides s t).0 e)
 ok_same : (i j : Image) → ◌≡◌ {A = Result Image Rule} (Ok i) (Ok j) → i ≡ j
 ok_same i j e = cc
 
-pub folded : (F : ℕ → Facts) (c : ℕ) (i : Image) → casefold_image Full F c ≡ Ok i → is_unfolded F c ≡ false
-folded F c i e = folded_if c (casefold Full F c) i e
+pub folds : (F : ℕ → Facts) (c : ℕ) (i j : Image) → casefold_image Full F c ≡ Ok i → casefold_image Simple F c ≡ Ok j → is_unfolded F c ≡ false
+folds F c i j e d = rw (folded_if c (casefold Full F c) i e, folded_if c (casefold Simple F c) j d) refl
 
 unfolded_if : (c : ℕ) (r : Option (List ℕ)) (rule : Rule) → image_or_rule c r ≡ Err rule → is_none r ≡ true
 unfolded_if c (Some s) rule e = cc
 unfolded_if c None rule e = refl
 
-pub not_folded : (F : ℕ → Facts) (c : ℕ) (rule : Rule) → casefold_image Full F c ≡ Err rule → is_unfolded F c ≡ true
-not_folded F c rule e = unfolded_if c (casefold Full F c) rule e
+either : (folding : Folding) (F : ℕ → Facts) (c : ℕ) → is_none (casefold folding F c) ≡ true → is_unfolded F c ≡ true
+either Full F c e = or_left (is_none (casefold Full F c)) (is_none (casefold Simple F c)) e
+either Simple F c e = or_right (is_none (casefold Full F c)) (is_none (casefold Simple F c)) e
+
+only_V5 : (c : ℕ) (r : Option (List ℕ)) (rule : Rule) → image_or_rule c r ≡ Err rule → rule ≡ V5
+only_V5 c (Some s) rule e = cc
+only_V5 c None rule e = cc
+
+-- a rule that stands in the place of an image by either folding
+pub casefold_stop : (folding : Folding) (F : ℕ → Facts) (c : ℕ) (stop : FormStop) → FormAnswers {A = Image} (Err stop) (casefold_image folding F c) → CasefoldsAnswer F c (Err stop)
+casefold_stop folding F c (Bad rule) e = (only_V5 c (casefold folding F c) rule e, either folding F c (unfolded_if c (casefold folding F c) rule e))
+casefold_stop folding F c Memory e = tt
 
 -- ---- forms
 
@@ -156,15 +168,16 @@ pub record IsTold (F : ℕ → Facts) (c : ℕ) (d n k : List ℕ) (kept : KeptR
   pub changes : kept.changes_casefold ≡ is_other kept.casefold
 
 pub record_is : (F : ℕ → Facts) (c : ℕ) (r : FactsRef) (d n k : List ℕ) (kept : KeptRecord) (told : ToldByForms) → shown_facts r ≡ F c → HaveForms F c d n k
-    → casefold_image Full F c ≡ Ok kept.casefold → kept.category ≡ r.category → kept.class ≡ r.class → kept.kind ≡ r.kind
+    → casefold_image Full F c ≡ Ok kept.casefold → casefold_image Simple F c ≡ Ok kept.simple_casefold → kept.category ≡ r.category → kept.class ≡ r.class → kept.kind ≡ r.kind
     → ((core : Core) → has_core kept.core core ≡ core_given c (shown_facts r) told core) → IsTold F c d n k kept told → kept_record kept ≡ record_at F c
-record_is F c r d n k kept told shows forms fold category class kind cores found =
+record_is F c r d n k kept told shows forms fold simple category class kind cores found =
     let same_kind : kept.kind ≡ (F c).kind = kind ∙ ap (λ (G : Facts). G.kind) shows in
     let set : (core : Core) → has_core kept.core core ≡ core_at F c core = λ core.
     cores core ∙ ap (λ (G : Facts). core_given c G told core) shows
     ∙ cores_are F c told core (found.lowered ∙ changes_are F c d n k forms (lowers F)) (found.uppered ∙ changes_are F c d n k forms (uppers F)) (found.titled ∙ changes_are F c d n k forms (titles F))
     (found.folded ∙ changes_are F c d n k forms (folds F)) (found.mapped ∙ changes_are F c d n k forms (casemaps F)) found.xid_start found.xid_continue in
     let image : kept.casefold ≡ image_or_same (casefold_image Full F c) = ap image_or_same (sym fold) in
+    let simple_image : kept.simple_casefold ≡ image_or_same (casefold_image Simple F c) = ap image_or_same (sym simple) in
     let nfd : kept.nfd ≡ quick_or_yes (quick F Nfd c) = found.nfd ∙ ap (λ x. quick_decomposed x false) same_kind ∙ nfd_check F c d n k forms in
     let nfc : kept.nfc ≡ quick_or_yes (quick F Nfc c) = found.nfc ∙ nfc_check F c d n k forms in
     let nfkd : kept.nfkd ≡ quick_or_yes (quick F Nfkd c) = found.nfkd ∙ ap (λ x. quick_decomposed x true) same_kind ∙ nfkd_check F c d n k forms in
@@ -183,6 +196,7 @@ record_is F c r d n k kept told shows forms fold category class kind cores found
       nfkd = nfkd i;
       nfkc = nfkc i;
       casefold = image i;
+      simple_casefold = simple_image i;
       changes_casefold = changes i;
     }
 
@@ -191,17 +205,13 @@ record_is F c r d n k kept told shows forms fold category class kind cores found
 pub hidden_stop : (F : ℕ → Facts) (c : ℕ) (r : FactsRef) → shown_facts r ≡ F c → lacks_a_row F c ≡ false → expansion_rule F c ≡ None → hidden_of F c (shown_facts r) ≡ true → derived F c ≡ Err V4
 hidden_stop F c r shows lacks rule hidden = by_composite F c lacks rule (sym (ap (hidden_of F c) shows) ∙ hidden)
 
-only_V5 : (c : ℕ) (r : Option (List ℕ)) (rule : Rule) → image_or_rule c r ≡ Err rule → V5 ≡ rule
-only_V5 c (Some s) rule e = cc
-only_V5 c None rule e = cc
-
 pub folding_stop : (F : ℕ → Facts) (c : ℕ) (r : FactsRef) (stop : FormStop) → shown_facts r ≡ F c → lacks_a_row F c ≡ false → expansion_rule F c ≡ None → hidden_of F c (shown_facts r) ≡ false
-    → FormAnswers {A = Image} (Err stop) (casefold_image Full F c) → RecordAnswers (Err stop) (derived F c)
+    → CasefoldsAnswer F c (Err stop) → RecordAnswers (Err stop) (derived F c)
 folding_stop F c r (Bad rule) shows lacks none hidden e =
-    by_folding F c lacks none (sym (ap (hidden_of F c) shows) ∙ hidden) (not_folded F c rule e) ∙ ap (λ (k : Rule). Err k) (only_V5 c (casefold Full F c) rule e)
+    by_folding F c lacks none (sym (ap (hidden_of F c) shows) ∙ hidden) e.1 ∙ ap (λ (k : Rule). Err k) (sym e.0)
 folding_stop F c r Memory shows lacks none hidden e = tt
 
-pub valid : (F : ℕ → Facts) (c : ℕ) (r : FactsRef) (i : Image) (kept : KeptRecord) → shown_facts r ≡ F c → lacks_a_row F c ≡ false → expansion_rule F c ≡ None → hidden_of F c (shown_facts r) ≡ false
-    → casefold_image Full F c ≡ Ok i → kept_record kept ≡ record_at F c → derived F c ≡ Ok (kept_record kept)
-valid F c r i kept shows lacks none hidden fold same =
-    by_none F c lacks none (sym (ap (hidden_of F c) shows) ∙ hidden) (folded F c i fold) ∙ ap (λ (R : Record). Ok R) (sym same)
+pub valid : (F : ℕ → Facts) (c : ℕ) (r : FactsRef) (i j : Image) (kept : KeptRecord) → shown_facts r ≡ F c → lacks_a_row F c ≡ false → expansion_rule F c ≡ None → hidden_of F c (shown_facts r) ≡ false
+    → casefold_image Full F c ≡ Ok i → casefold_image Simple F c ≡ Ok j → kept_record kept ≡ record_at F c → derived F c ≡ Ok (kept_record kept)
+valid F c r i j kept shows lacks none hidden fold simple same =
+    by_none F c lacks none (sym (ap (hidden_of F c) shows) ∙ hidden) (folds F c i j fold simple) ∙ ap (λ (R : Record). Ok R) (sym same)

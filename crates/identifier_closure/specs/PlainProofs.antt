@@ -13,7 +13,7 @@ use Rattle.std.specs.List.{list_any}
 use Rattle.std.specs.Str.{bytes_eq}
 use Rattle.std.proofs.lemmas.Slice.Eq.{bytes_eq-Decides}
 use Rattle.ucd_model.specs.CanonicalOrder.{class_of, order}
-use Rattle.ucd_model.specs.Casing.{lowers, uppers, titles, folds, casemaps, changes_when, where_form}
+use Rattle.ucd_model.specs.Casing.{folded, lowers, uppers, titles, folds, casemaps, changes_when, where_form}
 use Rattle.ucd_model.specs.Composites.{primary, is_canonical, first_has_class_zero, second_of}
 use Rattle.ucd_model.specs.Expansion.{counts, counted, alone_or_joined, expand, full}
 use Rattle.ucd_model.specs.Facts.{Facts, image_points, is_plain}
@@ -24,9 +24,10 @@ use Rattle.ucd_model.specs.Predicates.{holds, cased, default_ignorable, id_start
 use Rattle.ucd_model.specs.QuickChecks.{excludes_mapping, full_exclusion, quick_composed, quick_given, quick_where, quick, quick_or_yes}
 use Rattle.ucd_model.specs.Records.{Record, core_at, changes_image, record_at, derived}
 use Rattle.ucd_model.specs.Uniform.{IsPlain}
-use Rattle.ucd_model.specs.Validity.{lacks_row, lacks_a_row, mappings, is_none, is_hidden, is_other, composite_of}
+use Rattle.ucd_model.specs.Validity.{lacks_row, lacks_a_row, mappings, is_none, is_unfolded, is_hidden, is_other, composite_of}
 use Rattle.ucd_model.specs.declared.decomposition.Kind.TheVariants.{Plain}
-use Rattle.ucd_model.specs.declared.folding.Folding.TheVariants.{Full}
+use Rattle.ucd_model.specs.declared.folding.Folding.{Folding}
+use Rattle.ucd_model.specs.declared.folding.Folding.TheVariants.{Full, Simple}
 use Rattle.ucd_model.specs.declared.form.Form.TheVariants.{Nfd, Nfc, Nfkd, Nfkc}
 use Rattle.ucd_model.specs.declared.form.Quick.TheVariants.{Yes, No, Maybe}
 use Rattle.ucd_model.specs.declared.image.Image.{Image}
@@ -106,9 +107,14 @@ not_hidden F c p =
 
 -- ---- the folding
 
-fold_by : (F : ℕ → Facts) (c : ℕ) → nfkc F (c ∷ []) ≡ Ok (c ∷ []) → (F c).fold ≡ Same → (b : Bool) → default_ignorable c (F c) ≡ b → casefold_image Full F c ≡ Ok (if b then To [] else Same)
-fold_by F c form folds true e = alone_ignored Full F c form (ap (λ i. image_points c i ++ []) folds) e
-fold_by F c form folds false e = alone_same Full F c form (ap (λ i. image_points c i ++ []) folds) e
+own_fold : (folding : Folding) (F : ℕ → Facts) (c : ℕ) → IsPlain c (F c) → folded folding F (c ∷ []) ≡ c ∷ []
+own_fold Full F c p = ap (λ i. image_points c i ++ []) p.fold
+own_fold Simple F c p = ap (λ (x : ℕ). x ∷ []) p.simple_fold
+
+fold_by : (folding : Folding) (F : ℕ → Facts) (c : ℕ) → nfkc F (c ∷ []) ≡ Ok (c ∷ []) → folded folding F (c ∷ []) ≡ c ∷ [] → (b : Bool) → default_ignorable c (F c) ≡ b
+    → casefold_image folding F c ≡ Ok (if b then To [] else Same)
+fold_by folding F c form folds true e = alone_ignored folding F c form folds e
+fold_by folding F c form folds false e = alone_same folding F c form folds e
 
 pub folded_if : (c : ℕ) (r : Option (List ℕ)) (i : Image) → image_or_rule c r ≡ Ok i → is_none r ≡ false
 folded_if c (Some s) i e = refl
@@ -138,6 +144,7 @@ plain_record c G second = record {
   nfkd = if is_plain G.kind then Yes else No;
   nfkc = if second then Maybe else Yes;
   casefold = if default_ignorable c G then To [] else Same;
+  simple_casefold = if default_ignorable c G then To [] else Same;
   changes_casefold = default_ignorable c G;
 }
 
@@ -222,8 +229,11 @@ module _ (F : ℕ → Facts) (c : ℕ) (p : IsPlain c (F c)) where
   nfkc_check : quick_or_yes (quick F Nfkc c) ≡ (if second_of F c then Maybe else Yes)
   nfkc_check = ap (λ r. quick_or_yes (quick_where (quick_given F Nfkc c) r)) nfkc_is ∙ composed_check
 
-  fold_is : casefold_image Full F c ≡ Ok (if default_ignorable c (F c) then To [] else Same)
-  fold_is = fold_by F c nfkc_is p.fold (default_ignorable c (F c)) refl
+  fold_is : (folding : Folding) → casefold_image folding F c ≡ Ok (if default_ignorable c (F c) then To [] else Same)
+  fold_is folding = fold_by folding F c nfkc_is (own_fold folding F c p) (default_ignorable c (F c)) refl
+
+  image_is : (folding : Folding) → image_or_same (casefold_image folding F c) ≡ (if default_ignorable c (F c) then To [] else Same)
+  image_is folding = ap image_or_same (fold_is folding)
 
   changes_if : (b : Bool) → changes_image c (if b then To [] else Same) ≡ b
   changes_if true = refl
@@ -231,8 +241,7 @@ module _ (F : ℕ → Facts) (c : ℕ) (p : IsPlain c (F c)) where
 
   record_is : record_at F c ≡ plain_record c (F c) (second_of F c)
   record_is =
-      let image : image_or_same (casefold_image Full F c) ≡ (if default_ignorable c (F c) then To [] else Same) = ap image_or_same fold_is in
-      let changes : changes_image c (image_or_same (casefold_image Full F c)) ≡ default_ignorable c (F c) = ap (changes_image c) image ∙ changes_if (default_ignorable c (F c)) in
+      let changes : changes_image c (image_or_same (casefold_image Full F c)) ≡ default_ignorable c (F c) = ap (changes_image c) (image_is Full) ∙ changes_if (default_ignorable c (F c)) in
       λ i. record {
         category = (F c).category;
         class = (F c).class;
@@ -243,12 +252,16 @@ module _ (F : ℕ → Facts) (c : ℕ) (p : IsPlain c (F c)) where
         nfc = nfc_check i;
         nfkd = nfkd_check i;
         nfkc = nfkc_check i;
-        casefold = image i;
+        casefold = image_is Full i;
+        simple_casefold = image_is Simple i;
         changes_casefold = changes i;
       }
 
-  folded : is_none (casefold Full F c) ≡ false
-  folded = folded_if c (casefold Full F c) (if default_ignorable c (F c) then To [] else Same) fold_is
+  has_fold : (folding : Folding) → is_none (casefold folding F c) ≡ false
+  has_fold folding = folded_if c (casefold folding F c) (if default_ignorable c (F c) then To [] else Same) (fold_is folding)
+
+  folds : is_unfolded F c ≡ false
+  folds = rw (has_fold Full, has_fold Simple) refl
 
   pub plain_derived : derived F c ≡ Ok (plain_record c (F c) (second_of F c))
-  plain_derived = by_none F c (lacks_none F c p) (no_rule F c u) (not_hidden F c p) folded ∙ ap (λ (R : Record). Ok R) record_is
+  plain_derived = by_none F c (lacks_none F c p) (no_rule F c u) (not_hidden F c p) folds ∙ ap (λ (R : Record). Ok R) record_is

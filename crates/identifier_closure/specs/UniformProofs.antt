@@ -49,6 +49,7 @@ record_alike c d G H s t a second v =
       nfkd = if is_plain (a.kind i) then Yes else No;
       nfkc = if second i then Maybe else Yes;
       casefold = if ignored i then To [] else Same;
+      simple_casefold = if ignored i then To [] else Same;
       changes_casefold = ignored i;
     }
 

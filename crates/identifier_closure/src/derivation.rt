@@ -5,10 +5,11 @@ ghost use Rattle.ucd_model.specs.FoldRounds.{casefold_image};
 ghost use Rattle.ucd_model.specs.Records.{kept_record, record_at, derived};
 ghost use Rattle.ucd_model.specs.Validity.{lacks_a_row};
 ghost use Rattle.ucd_model.specs.Shown.{shown_facts};
-ghost use Rattle.ucd_model.specs.declared.folding.Folding.TheVariants.{Full};
+ghost use Rattle.ucd_model.specs.declared.folding.Folding.TheVariants.{Full, Simple};
 ghost use Rattle.identifier_closure.specs.Derived.{RecordAnswers};
 ghost use Rattle.identifier_closure.specs.PointForms.{expansion_rule, HaveForms};
 
+use crate::casefolds::{Casefolds, casefolds_of};
 use crate::composed_checks::composed_checks;
 use crate::composites::is_hidden;
 use crate::core_set::core_set;
@@ -17,11 +18,10 @@ use crate::missing_rows::lacks_a_row;
 use crate::point_forms::{FormsRef, forms_of};
 use crate::predicates::ToldByForms;
 use case_derivation::changes_when;
-use fold_rounds::casefold_of;
 use quick_checks::{is_fully_excluded, quick_decomposed};
 use std::alloc::Global;
 use std::sync::ledger::Ledger;
-use ucd_model::{Bad, FactView, FactsRef, Folding, FormStop, Image, Kind, Point, Record, Steps};
+use ucd_model::{Bad, FactView, FactsRef, FormStop, Image, Kind, Point, Record, Steps};
 
 /// Derives a code point: its record alone, in one step, which is counted where an error comes too. UAX #44, section 5.3.
 ///
@@ -80,23 +80,24 @@ fn recorded<W: FactView>(
     if is_hidden(view, c, facts) {
         return Err(FormStop::Bad(Bad::V4));
     }
-    match casefold_of(alloc, view, Folding::Full, c, facts, forms.nfkc) {
-        Ok(casefold) => Ok(record_of(view, c, facts, forms, casefold)),
+    match casefolds_of(alloc, view, c, facts, forms.nfkc) {
+        Ok(found) => Ok(record_of(view, c, facts, forms, found)),
         Err(stop) => Err(stop),
     }
 }
 
-/// The record of a code point with its facts, its forms and its folding under NFKC.
+/// The record of a code point with its facts, its forms and its foldings under NFKC.
 fn record_of<W: FactView>(
     view: &W,
     c: Point,
     facts: &FactsRef<'_>,
     forms: FormsRef<'_>,
-    casefold: Image,
+    found: Casefolds,
 ) -> Record
     requires facts { shown_facts facts.now ≡ W.facts_of view.now c }
     requires forms { HaveForms (W.facts_of view.now) c forms.nfd.now forms.nfc.now forms.nfkc.now }
-    requires casefold { casefold_image Full (W.facts_of view.now) c ≡ Ok casefold }
+    requires full { casefold_image Full (W.facts_of view.now) c ≡ Ok found.full }
+    requires simple { casefold_image Simple (W.facts_of view.now) c ≡ Ok found.simple }
     ensures { kept_record result ≡ record_at (W.facts_of view.now) c }
 {
     let closed = closure_of(view, c, facts, forms.nfkc);
@@ -106,7 +107,7 @@ fn record_of<W: FactView>(
         xid_continue: closed.continues,
     };
     let checks = composed_checks(view, c, forms);
-    let changes_casefold = match casefold {
+    let changes_casefold = match &found.full {
         Image::Same => false,
         Image::To(_) => true,
     };
@@ -120,7 +121,8 @@ fn record_of<W: FactView>(
         nfc: checks.nfc,
         nfkd: quick_decomposed(facts.kind, true),
         nfkc: checks.nfkc,
-        casefold,
+        casefold: found.full,
+        simple_casefold: found.simple,
         changes_casefold,
     }
 }

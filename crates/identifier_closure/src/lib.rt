@@ -2,6 +2,7 @@
 //! section 5.3; UAX #31, section 5.1.
 #![tactic(auto)]
 
+mod casefolds;
 mod composed_checks;
 mod composites;
 mod core_set;

@@ -10,7 +10,7 @@ use ucd_model::Memory;
 /// The rule that a file breaks.
 #[derive(Clone, Copy, Debug, PartialEq, Eq, Drop, Error)]
 pub enum LoadRule {
-    /// The file has more than 16,777,216 bytes.
+    /// The file has more than 33,554,432 bytes.
     #[error("the file is longer than the limit")]
     G02,
     /// A line is no row of the file, by this rule.

@@ -172,9 +172,9 @@ fn an_absent_file_is_refused(rt: HostRuntime) -> Result<(), Fail> {
 
 /// How many bytes Scripts.txt has, and how a run ends then: its status, its line and the derived file.
 const LIMITS: [(usize, (Status, &[u8], &[u8])); 2] = [
-    (16_777_216, (Status::Clean, SUMMARY, LETTERS_CORE)),
+    (33_554_432, (Status::Clean, SUMMARY, LETTERS_CORE)),
     (
-        16_777_217,
+        33_554_433,
         (
             Status::LoadRefused,
             b"refused: d/Scripts.txt line 0 G02\n",

@@ -52,6 +52,7 @@ fn unassigned() -> OneRecord
             nfkd: Quick::Yes,
             nfkc: Quick::Yes,
             casefold: Image::Same,
+            simple_casefold: Image::Same,
             changes_casefold: false,
         },
     }

@@ -158,19 +158,20 @@ core_example : derived_text 3 CoreProperties (record_at sample) ≡
 unfolding derived_text section_text span_text hex_text digits full
 core_example = refl
 
--- four records: of 0 with No twice, of 1 with an empty folding, of 2 with Maybe, of 3 with a folding of two points
+-- four records: of 0 with No twice, of 1 with empty foldings, of 2 with Maybe, of 3 with a full folding of two points and a simple one of one
 abbrev plain_record : Record
-plain_record = record (record_at unassigned 0) { nfd = Yes; nfc = Yes; nfkd = Yes; nfkc = Yes; exclusion = false; casefold = Same; changes_casefold = false }
+plain_record = record (record_at unassigned 0) { nfd = Yes; nfc = Yes; nfkd = Yes; nfkc = Yes; exclusion = false; casefold = Same; simple_casefold = Same; changes_casefold = false }
 
 abbrev sample_records : ℕ → Record
 sample_records c = get_or (
-    record plain_record { nfd = No; nfkd = No; exclusion = true } ∷ record plain_record { casefold = To []; changes_casefold = true }
-    ∷ record plain_record { nfc = Maybe; nfkc = Maybe } ∷ record plain_record { nfkd = No; nfkc = No; casefold = To (0x41 ∷ 0x300 ∷ []); changes_casefold = true } ∷ []) c plain_record
+    record plain_record { nfd = No; nfkd = No; exclusion = true } ∷ record plain_record { casefold = To []; simple_casefold = To []; changes_casefold = true }
+    ∷ record plain_record { nfc = Maybe; nfkc = Maybe } ∷ record plain_record { nfkd = No; nfkc = No; casefold = To (0x41 ∷ 0x300 ∷ []); simple_casefold = To (0x41 ∷ []); changes_casefold = true } ∷ []) c plain_record
 
 normalization_example : derived_text 5 NormalizationProps sample_records ≡
     codes "# Full_Composition_Exclusion\n0000 ; Full_Composition_Exclusion\n# total 1\n\n# NFD_QC\n0000 ; NFD_QC ; N\n# total 1\n\n# NFC_QC\n0002 ; NFC_QC ; M\n# total 1\n\n"
     ++ codes "# NFKD_QC\n0000 ; NFKD_QC ; N\n0003 ; NFKD_QC ; N\n# total 2\n\n# NFKC_QC\n0002 ; NFKC_QC ; M\n0003 ; NFKC_QC ; N\n# total 2\n\n"
     ++ codes "# NFKC_CF\n0001 ; NFKC_CF ;\n0003 ; NFKC_CF ; 0041 0300\n# total 2\n\n"
+    ++ codes "# NFKC_SCF\n0001 ; NFKC_SCF ;\n0003 ; NFKC_SCF ; 0041\n# total 2\n\n"
     ++ codes "# Changes_When_NFKC_Casefolded\n0001 ; Changes_When_NFKC_Casefolded\n0003 ; Changes_When_NFKC_Casefolded\n# total 2\n\n"
 unfolding derived_text section_text span_text hex_text digits mapping_text
 normalization_example = refl

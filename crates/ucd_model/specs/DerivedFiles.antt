@@ -14,11 +14,13 @@
 -- exclusion_listing          the points with Full_Composition_Exclusion
 -- quick_label name value     the name with N or M; None for Yes
 -- quick_listing name value   the points whose quick check is No or Maybe, with the name and N or M; default Yes
--- casefold_label i           NFKC_CF and the mapping, nothing behind the last `;` where it is empty; None for Same
+-- image_text points          a `;` and the mapping behind it; nothing behind it where the mapping is empty
+-- casefold_label name i      the name and the mapping; None for Same
 -- casefold_listing           NFKC_CF, with the name and the mapping, which may be empty; default the point itself
+-- simple_casefold_listing    NFKC_SCF, in the same way
 -- changes_listing            the points with Changes_When_NFKC_Casefolded
 -- normalization_listings     the sections of DerivedNormalizationProps.txt: exclusion, the checks of NFD, NFC, NFKD and NFKC,
---                            NFKC_CF, changes
+--                            NFKC_CF, NFKC_SCF, changes
 -- file_sections file         the sections of a file, in order
 -- derived_files              the files that are written, in order
 -- section_of n R s           the text of a section, over the records R of the points below n
@@ -88,13 +90,19 @@ quick_label name Maybe = listed (name ++ codes " ; M")
 abbrev pub quick_listing : List ℕ → (Record → Quick) → Section
 quick_listing name value = record { name = name; label = λ R. quick_label name (value R) }
 
-abbrev pub casefold_label : Image → Label
-casefold_label Same = None
-casefold_label (To []) = listed (codes "NFKC_CF ;")
-casefold_label (To (c ∷ points)) = listed (codes "NFKC_CF ; " ++ mapping_text (c ∷ points))
+abbrev pub image_text : List ℕ → List ℕ
+image_text [] = codes " ;"
+image_text (c ∷ points) = codes " ; " ++ mapping_text (c ∷ points)
+
+abbrev pub casefold_label : List ℕ → Image → Label
+casefold_label name Same = None
+casefold_label name (To points) = listed (name ++ image_text points)
 
 abbrev pub casefold_listing : Section
-casefold_listing = record { name = codes "NFKC_CF"; label = λ R. casefold_label R.casefold }
+casefold_listing = record { name = codes "NFKC_CF"; label = λ R. casefold_label (codes "NFKC_CF") R.casefold }
+
+abbrev pub simple_casefold_listing : Section
+simple_casefold_listing = record { name = codes "NFKC_SCF"; label = λ R. casefold_label (codes "NFKC_SCF") R.simple_casefold }
 
 abbrev pub changes_listing : Section
 changes_listing = record { name = codes "Changes_When_NFKC_Casefolded"; label = λ R. binary_label (codes "Changes_When_NFKC_Casefolded") R.changes_casefold }
@@ -104,7 +112,7 @@ normalization_listings =
     exclusion_listing
     ∷ quick_listing (codes "NFD_QC") (λ R. R.nfd) ∷ quick_listing (codes "NFC_QC") (λ R. R.nfc)
     ∷ quick_listing (codes "NFKD_QC") (λ R. R.nfkd) ∷ quick_listing (codes "NFKC_QC") (λ R. R.nfkc)
-    ∷ casefold_listing ∷ changes_listing ∷ []
+    ∷ casefold_listing ∷ simple_casefold_listing ∷ changes_listing ∷ []
 
 abbrev pub file_sections : DerivedFile → List Section
 file_sections CoreProperties = map core_listing core_properties

@@ -54,5 +54,5 @@ pub record LabelsTellValues : Type 0 where
   pub class : (m n : ℕ) → m ≤ 254 → n ≤ 254 → class_label m ≡ class_label n → m ≡ n
   pub kind : (a b : Kind) → kind_label a ≡ kind_label b → a ≡ b
   pub quick : (name : List ℕ) (a b : Quick) → quick_label name a ≡ quick_label name b → a ≡ b
-  pub image : (i j : Image) → HasPoints i → HasPoints j → casefold_label i ≡ casefold_label j → i ≡ j
+  pub image : (name : List ℕ) (i j : Image) → HasPoints i → HasPoints j → casefold_label name i ≡ casefold_label name j → i ≡ j
   pub binary : (name : List ℕ) (a b : Bool) → binary_label name a ≡ binary_label name b → a ≡ b

@@ -18,7 +18,7 @@ use Rattle.ucd_model.specs.Names.{category_of, category_code, status_of, status_
 use Rattle.ucd_points.specs.SourceFiles.{source_path}
 use Rattle.ucd_model.specs.Labels.{Label}
 use Rattle.ucd_points.specs.HexText.{hex_text}
-use Rattle.ucd_model.specs.DerivedFiles.{listed, binary_label, category_label, class_label, kind_label, quick_label, casefold_label, derived_files}
+use Rattle.ucd_model.specs.DerivedFiles.{listed, binary_label, category_label, class_label, kind_label, quick_label, image_text, casefold_label, derived_files}
 use Rattle.ucd_points.specs.HexTextLaws.{IsUpperHex}
 use Rattle.ucd_points.specs.HexTextProofs.{hex_text_is_upper_case, hex_text_spells_its_point}
 use Rattle.ucd_model.specs.RowTexts.{mapping_text}
@@ -234,24 +234,28 @@ unfolding mapping_text
 mapping_text-injective c d cs ds p q e =
     same_points (c ∷ cs) (d ∷ ds) p q (sym (split_points c cs) ∙ ap (slice_split (λ b. b == 32)) e ∙ split_points d ds)
 
-no_points : (d : ℕ) (ds : List ℕ) → casefold_label (To []) ≡ casefold_label (To (d ∷ ds)) → ⊥
+-- the value of a label of a property
+value_told : (name value other : List ℕ) → ◌≡◌ {A = Label} (listed (name ++ value)) (listed (name ++ other)) → value ≡ other
+value_told name value other e =
+    append_cancel_left name value other
+    (append_cancel_left (codes " ; ") (name ++ value) (name ++ other) (some_same (codes " ; " ++ name ++ value) (codes " ; " ++ name ++ other) e))
+
+no_points : (d : ℕ) (ds : List ℕ) → image_text [] ≡ image_text (d ∷ ds) → ⊥
 no_points d ds e =
-    let behind = append_cancel_left (codes " ; NFKC_CF ;") [] (32 ∷ mapping_text (d ∷ ds)) (some_same (codes " ; NFKC_CF ;") (codes " ; NFKC_CF ; " ++ mapping_text (d ∷ ds)) e) in
+    let behind = append_cancel_left (codes " ;") [] (32 ∷ mapping_text (d ∷ ds)) e in
     cc
 
-image_told : (i j : Image) → HasPoints i → HasPoints j → casefold_label i ≡ casefold_label j → i ≡ j
-image_told Same Same p q e = refl
-image_told Same (To []) p q e = cc
-image_told Same (To (d ∷ ds)) p q e = cc
-image_told (To []) Same p q e = cc
-image_told (To []) (To []) p q e = refl
-image_told (To []) (To (d ∷ ds)) p q e = absurd (no_points d ds e)
-image_told (To (c ∷ cs)) Same p q e = cc
-image_told (To (c ∷ cs)) (To []) p q e = absurd (no_points c cs (sym e))
-image_told (To (c ∷ cs)) (To (d ∷ ds)) p q e =
-    ap (λ (xs : List ℕ). To xs) (mapping_text-injective c d cs ds p q
-    (append_cancel_left (codes " ; NFKC_CF ; ") (mapping_text (c ∷ cs)) (mapping_text (d ∷ ds))
-    (some_same (codes " ; NFKC_CF ; " ++ mapping_text (c ∷ cs)) (codes " ; NFKC_CF ; " ++ mapping_text (d ∷ ds)) e)))
+texts_told : (cs ds : List ℕ) → All IsPoint cs → All IsPoint ds → image_text cs ≡ image_text ds → cs ≡ ds
+texts_told [] [] p q e = refl
+texts_told [] (d ∷ ds) p q e = absurd (no_points d ds e)
+texts_told (c ∷ cs) [] p q e = absurd (no_points c cs (sym e))
+texts_told (c ∷ cs) (d ∷ ds) p q e = mapping_text-injective c d cs ds p q (append_cancel_left (codes " ; ") (mapping_text (c ∷ cs)) (mapping_text (d ∷ ds)) e)
+
+image_told : (name : List ℕ) (i j : Image) → HasPoints i → HasPoints j → casefold_label name i ≡ casefold_label name j → i ≡ j
+image_told name Same Same p q e = refl
+image_told name Same (To ds) p q e = cc
+image_told name (To cs) Same p q e = cc
+image_told name (To cs) (To ds) p q e = ap (λ (xs : List ℕ). To xs) (texts_told cs ds p q (value_told name (image_text cs) (image_text ds) e))
 
 pub labels_tell_values : LabelsTellValues
 labels_tell_values = record {

@@ -22,7 +22,7 @@ use Rattle.ucd_model.specs.declared.decomposition.Kind.{Kind}
 use Rattle.ucd_model.specs.declared.form.Quick.{Quick}
 use Rattle.ucd_model.specs.Validity.{broken}
 use Rattle.ucd_model.specs.declared.form.Bad.{Bad as Rule}
-use Rattle.ucd_model.specs.declared.folding.Folding.TheVariants.{Full}
+use Rattle.ucd_model.specs.declared.folding.Folding.TheVariants.{Full, Simple}
 use Rattle.ucd_model.specs.declared.form.Form.TheVariants.{Nfd, Nfc, Nfkd, Nfkc}
 use Rattle.ucd_model.specs.declared.image.Image.{Image}
 use Rattle.ucd_model.specs.declared.property.Core.{Core}
@@ -40,6 +40,7 @@ pub record Record : Type 0 where
   pub nfkd : Quick
   pub nfkc : Quick
   pub casefold : Image
+  pub simple_casefold : Image
   pub changes_casefold : Bool
 
 abbrev pub kept_record : KeptRecord → Record
@@ -54,6 +55,7 @@ kept_record k = record {
   nfkd = k.nfkd;
   nfkc = k.nfkc;
   casefold = k.casefold;
+  simple_casefold = k.simple_casefold;
   changes_casefold = k.changes_casefold;
 }
 
@@ -93,6 +95,7 @@ record_at F c = record {
   nfkd = quick_or_yes (quick F Nfkd c);
   nfkc = quick_or_yes (quick F Nfkc c);
   casefold = image_or_same (casefold_image Full F c);
+  simple_casefold = image_or_same (casefold_image Simple F c);
   changes_casefold = changes_image c (image_or_same (casefold_image Full F c));
 }
 

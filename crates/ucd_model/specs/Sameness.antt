@@ -58,7 +58,8 @@ same_record R S =
     && ((place_of_quick R.nfkd == place_of_quick S.nfkd)
     && ((place_of_quick R.nfkc == place_of_quick S.nfkc)
     && (same_image R.casefold S.casefold
-    && beq R.changes_casefold S.changes_casefold)))))))))
+    && (same_image R.simple_casefold S.simple_casefold
+    && beq R.changes_casefold S.changes_casefold))))))))))
 
 abbrev pub same_row : Facts → Facts → Bool
 same_row F G =

@@ -95,14 +95,14 @@ both_decide {x = x} {y = y} d e = Decides-and x y d e
 
 abbrev SameFields : Record → Record → Type 0
 SameFields R S =
-    (R.category ≡ S.category) × ((R.class ≡ S.class) × ((R.kind ≡ S.kind) × ((R.core ≡ S.core) × ((R.exclusion ≡ S.exclusion) × ((R.nfd ≡ S.nfd) × ((R.nfc ≡ S.nfc) × ((R.nfkd ≡ S.nfkd) × ((R.nfkc ≡ S.nfkc) × ((R.casefold ≡ S.casefold) × ((R.changes_casefold ≡ S.changes_casefold)))))))))))
+    (R.category ≡ S.category) × ((R.class ≡ S.class) × ((R.kind ≡ S.kind) × ((R.core ≡ S.core) × ((R.exclusion ≡ S.exclusion) × ((R.nfd ≡ S.nfd) × ((R.nfc ≡ S.nfc) × ((R.nfkd ≡ S.nfkd) × ((R.nfkc ≡ S.nfkc) × ((R.casefold ≡ S.casefold) × ((R.simple_casefold ≡ S.simple_casefold) × (R.changes_casefold ≡ S.changes_casefold)))))))))))
 
 record_from : (R S : Record) → SameFields R S → R ≡ S
-record_from R S p = λ i. record { category = p.0 i; class = p.1.0 i; kind = p.1.1.0 i; core = p.1.1.1.0 i; exclusion = p.1.1.1.1.0 i; nfd = p.1.1.1.1.1.0 i; nfc = p.1.1.1.1.1.1.0 i; nfkd = p.1.1.1.1.1.1.1.0 i; nfkc = p.1.1.1.1.1.1.1.1.0 i; casefold = p.1.1.1.1.1.1.1.1.1.0 i; changes_casefold = p.1.1.1.1.1.1.1.1.1.1 i }
+record_from R S p = λ i. record { category = p.0 i; class = p.1.0 i; kind = p.1.1.0 i; core = p.1.1.1.0 i; exclusion = p.1.1.1.1.0 i; nfd = p.1.1.1.1.1.0 i; nfc = p.1.1.1.1.1.1.0 i; nfkd = p.1.1.1.1.1.1.1.0 i; nfkc = p.1.1.1.1.1.1.1.1.0 i; casefold = p.1.1.1.1.1.1.1.1.1.0 i; simple_casefold = p.1.1.1.1.1.1.1.1.1.1.0 i; changes_casefold = p.1.1.1.1.1.1.1.1.1.1.1 i }
 
 record_fields : (R S : Record) → R ≡ S → SameFields R S
 record_fields R S e =
-    (ap (λ (T : Record). T.category) e, (ap (λ (T : Record). T.class) e, (ap (λ (T : Record). T.kind) e, (ap (λ (T : Record). T.core) e, (ap (λ (T : Record). T.exclusion) e, (ap (λ (T : Record). T.nfd) e, (ap (λ (T : Record). T.nfc) e, (ap (λ (T : Record). T.nfkd) e, (ap (λ (T : Record). T.nfkc) e, (ap (λ (T : Record). T.casefold) e, ap (λ (T : Record). T.changes_casefold) e))))))))))
+    (ap (λ (T : Record). T.category) e, (ap (λ (T : Record). T.class) e, (ap (λ (T : Record). T.kind) e, (ap (λ (T : Record). T.core) e, (ap (λ (T : Record). T.exclusion) e, (ap (λ (T : Record). T.nfd) e, (ap (λ (T : Record). T.nfc) e, (ap (λ (T : Record). T.nfkd) e, (ap (λ (T : Record). T.nfkc) e, (ap (λ (T : Record). T.casefold) e, (ap (λ (T : Record). T.simple_casefold) e, ap (λ (T : Record). T.changes_casefold) e)))))))))))
 
 pub records_are_told : RecordsAreTold
 records_are_told R S =
@@ -110,7 +110,7 @@ records_are_told R S =
     (both_decide (category_decides R.category S.category) (both_decide (nat_decides R.class S.class) (both_decide (same_kind-decides R.kind S.kind)
     (both_decide (same_cores-decides R.core S.core) (both_decide (booleans_Decides R.exclusion S.exclusion)
     (both_decide (quick_decides R.nfd S.nfd) (both_decide (quick_decides R.nfc S.nfc) (both_decide (quick_decides R.nfkd S.nfkd) (both_decide (quick_decides R.nfkc S.nfkc)
-    (both_decide (same_image-decides R.casefold S.casefold) (booleans_Decides R.changes_casefold S.changes_casefold)))))))))))
+    (both_decide (same_image-decides R.casefold S.casefold) (both_decide (same_image-decides R.simple_casefold S.simple_casefold) (booleans_Decides R.changes_casefold S.changes_casefold))))))))))))
     (record_from R S) (record_fields R S)
 
 -- ---- facts
@@ -191,5 +191,6 @@ kept_records_are_told a b small below e = λ i. record {
   nfkd = ap (λ (R : Record). R.nfkd) e i;
   nfkc = ap (λ (R : Record). R.nfkc) e i;
   casefold = ap (λ (R : Record). R.casefold) e i;
+  simple_casefold = ap (λ (R : Record). R.simple_casefold) e i;
   changes_casefold = ap (λ (R : Record). R.changes_casefold) e i;
 }

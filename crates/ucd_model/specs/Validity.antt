@@ -12,7 +12,7 @@
 -- composite_of F m         the primary composite of a mapping of two members; None of every other mapping
 -- is_other c o             there is a composite o, and it is not c
 -- is_hidden F c            V4: c is a primary composite, and a lesser primary composite has the same mapping
--- is_unfolded F c          V5: the folding rounds from c reach no last one
+-- is_unfolded F c          V5: the rounds from c by the full or by the simple folding reach no last one
 -- broken F c               the first of these rules that c breaks; None where it breaks none
 -- broken_at F c            c with the first rule that it breaks; None where there is no c, and where it breaks none
 -- first_broken_below n F   the least point below n that breaks a rule, with its first rule
@@ -26,7 +26,7 @@ use Rattle.ucd_model.specs.Expansion.{full}
 use Rattle.ucd_points.specs.Limits.{point_count}
 use Rattle.ucd_model.specs.Facts.{Facts, image_points}
 use Rattle.ucd_model.specs.FoldRounds.{casefold}
-use Rattle.ucd_model.specs.declared.folding.Folding.TheVariants.{Full}
+use Rattle.ucd_model.specs.declared.folding.Folding.TheVariants.{Full, Simple}
 use Rattle.ucd_model.specs.declared.form.Bad.{Bad as Rule}
 use Rattle.ucd_model.specs.declared.form.Bad.TheVariants.{V1, V2, V3, V4, V5}
 use Rattle.ucd_model.specs.declared.form.Broken.{Broken}
@@ -68,7 +68,7 @@ abbrev pub is_hidden : (ℕ → Facts) → ℕ → Bool
 is_hidden F c = primary F c && is_other c (composite_of F (F c).mapping)
 
 abbrev pub is_unfolded : (ℕ → Facts) → ℕ → Bool
-is_unfolded F c = is_none (casefold Full F c)
+is_unfolded F c = is_none (casefold Full F c) || is_none (casefold Simple F c)
 
 unfoldable pub broken : (ℕ → Facts) → ℕ → Option Rule
 broken F c =

@@ -42,7 +42,8 @@ pub enum Bad {
     V3,
     /// It is a primary composite, and a lesser primary composite has the same mapping.
     V4,
-    /// None of the lists after 0 to 7 folding rounds, of up to 255 code points each, stays as it is in one more round.
+    /// By one of the two foldings none of the lists after 0 to 7 rounds, of up to 255 code points each, stays as it is in
+    /// one more round.
     V5,
 }
 

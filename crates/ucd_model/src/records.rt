@@ -34,6 +34,8 @@ pub struct Record {
     pub nfkc: Quick,
     /// NFKC_Casefold; `Same` where it is the point itself alone.
     pub casefold: Image,
+    /// NFKC_Simple_Casefold; `Same` where it is the point itself alone.
+    pub simple_casefold: Image,
     /// Changes_When_NFKC_Casefolded.
     pub changes_casefold: bool,
 }
@@ -87,13 +89,16 @@ fn has_same_checks(a: &Record, b: &Record) -> bool
         && a.nfkc == b.nfkc
 }
 
-/// Whether two records are equal in the case folding under NFKC.
+/// Whether two records are equal in the case foldings under NFKC.
 fn has_same_folding(a: &Record, b: &Record) -> bool
     ensures casefold { IsTrue result → a.now.casefold ≡ b.now.casefold }
+    ensures simple { IsTrue result → a.now.simple_casefold ≡ b.now.simple_casefold }
     ensures changes { IsTrue result → a.now.changes_casefold ≡ b.now.changes_casefold }
     ensures same { kept_record a.now ≡ kept_record b.now → IsTrue result }
 {
-    a.changes_casefold == b.changes_casefold && a.casefold.is_same(&b.casefold)
+    a.changes_casefold == b.changes_casefold
+        && a.casefold.is_same(&b.casefold)
+        && a.simple_casefold.is_same(&b.simple_casefold)
 }
 
 /// The records of all code points, as they are now. No call takes memory.

@@ -8,4 +8,4 @@ unfoldable pub point_count : ℕ
 point_count = 1114112
 
 unfoldable pub file_limit : ℕ
-file_limit = 16777216
+file_limit = 33554432

@@ -84,8 +84,8 @@ impl SourceFile {
     }
 }
 
-/// The greatest number of bytes of a source file: 16 MiB.
-pub const FILE_LIMIT: usize = 16_777_216;
+/// The greatest number of bytes of a source file: 32 MiB.
+pub const FILE_LIMIT: usize = 33_554_432;
 
 /// [`FILE_LIMIT`], as clauses name it.
 #[tactic(auto, unfolding(crate::specs::Limits::file_limit))]

@@ -1,7 +1,8 @@
 -- Pieces of equal records, as tests read them.
 --
--- values_record v          the record with these values, and with each code point itself for its NFKC_Casefold
--- unfolded R               the record R, but so: no test asks for an NFKC_Casefold
+-- values_record v          the record with these values, and with each code point itself for its NFKC_Casefold and
+--                          NFKC_Simple_Casefold
+-- unfolded R               the record R, but so: no test asks for one of these
 -- PieceValue               where a piece begins, and the record of its code points
 -- piece_value p            a piece that the code holds
 -- piece_at R s             the piece of the span s, throughout which R is the same
@@ -40,11 +41,12 @@ values_record v = record {
   nfkd = v.nfkd;
   nfkc = v.nfkc;
   casefold = Same;
+  simple_casefold = Same;
   changes_casefold = v.changes_casefold;
 }
 
 abbrev pub unfolded : Record → Record
-unfolded R = record R { casefold = Same }
+unfolded R = record R { casefold = Same; simple_casefold = Same }
 
 pub record PieceValue : Type 0 where
   pub first : ℕ

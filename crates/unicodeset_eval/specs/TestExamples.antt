@@ -51,6 +51,7 @@ values k = record {
   nfkd = No;
   nfkc = Maybe;
   casefold = Same;
+  simple_casefold = Same;
   changes_casefold = false;
 }
 

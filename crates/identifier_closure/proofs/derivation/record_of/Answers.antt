@@ -20,10 +20,11 @@ returns g c =
       nfc = c.composed_checks-checks.result.nfc;
       nfkd = c.quick_decomposed-2.result;
       nfkc = c.composed_checks-checks.result.nfkc;
-      casefold = c.args.casefold;
-      changes_casefold = c.match-casefold.changes_casefold;
+      casefold = c.args.found.full;
+      simple_casefold = c.args.found.simple;
+      changes_casefold = c.match-full.changes_casefold;
     } in
-    let changes : c.match-casefold.changes_casefold ≡ is_other c.args.casefold = elim c.match-casefold.branch [
+    let changes : c.match-full.changes_casefold ≡ is_other c.args.found.full = elim c.match-full.branch [
       | in-Same w ↦ w.changes_casefold-is ∙ sym (ap is_other w.in-Same.is)
       | in-To w ↦ w.changes_casefold-is ∙ sym (ap is_other w.in-To.is)
     ] in
@@ -42,4 +43,4 @@ returns g c =
       nfkc = c.composed_checks-checks.ensures.nfkc;
       changes = changes;
     } in
-    record_is F c.args.c c.args.facts.now c.args.forms.nfd.now c.args.forms.nfc.now c.args.forms.nfkc.now kept told c.requires.facts c.requires.forms c.requires.casefold refl refl refl c.core_set.ensures found
+    record_is F c.args.c c.args.facts.now c.args.forms.nfd.now c.args.forms.nfc.now c.args.forms.nfkc.now kept told c.requires.facts c.requires.forms c.requires.full c.requires.simple refl refl refl c.core_set.ensures found

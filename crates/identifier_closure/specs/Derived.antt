@@ -4,6 +4,8 @@
 -- CasefoldsAnswer F c r    r is the images of c by the full and by the simple folding, or in their place V5, where one of them is
 --                          not there; want of memory says nothing
 use Rattle.std.specs.Prelude.{◌≡◌, ℕ, true, Result, Ok, Err, ⊤}
+use Rattle.ucd_points.specs.Answers.{AnswersBy}
+use Rattle.ucd_model.specs.Expansion.{rule_of}
 use Rattle.ucd_model.specs.Facts.{Facts}
 use Rattle.ucd_model.specs.FoldRounds.{casefold_image}
 use Rattle.ucd_model.specs.Records.{Record, kept_record}
@@ -17,9 +19,7 @@ use Rattle.ucd_model.specs.declared.records.Record.{Record as KeptRecord}
 use Rattle.identifier_closure.specs.declared.casefolds.Casefolds.{Casefolds}
 
 abbrev pub RecordAnswers : Result KeptRecord FormStop → Result Record Rule → Type 0
-RecordAnswers (Ok kept) value = value ≡ Ok (kept_record kept)
-RecordAnswers (Err (Bad rule)) value = value ≡ Err rule
-RecordAnswers (Err Memory) value = ⊤
+RecordAnswers result value = AnswersBy kept_record rule_of result value
 
 abbrev pub CasefoldsAnswer : (ℕ → Facts) → ℕ → Result Casefolds FormStop → Type 0
 CasefoldsAnswer F c (Ok found) = (casefold_image Full F c ≡ Ok found.full) × (casefold_image Simple F c ≡ Ok found.simple)

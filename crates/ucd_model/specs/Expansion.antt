@@ -12,8 +12,10 @@
 -- full F compat c         the expansion with 8 levels, so along chains of at most 7 mappings (real releases need 3)
 -- judged expansion        V2 where there is none; V3 where it has more than 64 points (NFKD of FDFA has 18)
 -- expansion F compat c    the full expansion of c, or the rule that c breaks
+-- rule_of stop            the rule that a code point breaks; None for want of memory
 -- FormAnswers r value     r is the value, or the rule in its place; want of memory says nothing
-use Rattle.std.specs.Prelude.{◌≡◌, ℕ, zero, suc, Bool, true, false, List, [], ◌∷◌, ◌++◌, length, nat_lt, Option, Some, None, Result, Ok, Err, if◌then◌else◌, ⊤}
+use Rattle.std.specs.Prelude.{◌≡◌, ℕ, zero, suc, Bool, true, false, List, [], ◌∷◌, ◌++◌, length, nat_lt, Option, Some, None, Result, Ok, Err, if◌then◌else◌}
+use Rattle.ucd_points.specs.Answers.{AnswersBy}
 use Rattle.ucd_model.specs.Facts.{Facts}
 use Rattle.ucd_model.specs.declared.decomposition.Kind.{Kind}
 use Rattle.ucd_model.specs.declared.decomposition.Kind.TheVariants.{Plain, Canonical, Compat}
@@ -60,7 +62,9 @@ judged (Some points) = if nat_lt 64 (length points) then Err V3 else Ok points
 abbrev pub expansion : (ℕ → Facts) → Bool → ℕ → Result (List ℕ) Rule
 expansion F compat c = judged (full F compat c)
 
+abbrev pub rule_of : FormStop → Option Rule
+rule_of (Bad rule) = Some rule
+rule_of Memory = None
+
 abbrev pub FormAnswers : {A : Type 0} → Result A FormStop → Result A Rule → Type 0
-FormAnswers (Ok a) value = value ≡ Ok a
-FormAnswers (Err (Bad rule)) value = value ≡ Err rule
-FormAnswers (Err Memory) value = ⊤
+FormAnswers result value = AnswersBy (λ kept. kept) rule_of result value

@@ -7,3 +7,4 @@ pub mod HexText
 pub mod HexTextLaws
 pub mod HexTextProofs
 pub mod Stretches
+pub mod Answers

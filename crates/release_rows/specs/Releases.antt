@@ -8,6 +8,8 @@
 -- ReleaseItems                    the items now, and the items that are prepared to be the next ones
 -- items_now, items_next           the items of one file, now and next
 -- loaded release file items       the release whose file has these items, now and next
+-- rows_of_items files file        the rows of one file, where these are the items of the files
+-- rows_now release file           the rows of one file now
 -- onto_numbered line row rows     the row with the number of its line before the others; the others alone where there is no row
 -- numbered_rows line items        the rows in order, each with the number of its first line; the first item's line is given
 -- rows_at items                   the same, with lines counted from 1
@@ -67,6 +69,12 @@ abbrev pub loaded : ReleaseItems → SourceFile → List FileItem → ReleaseIte
 loaded release file items = record { current = with_items release.current file items; prepared = with_items release.prepared file items }
 
 -- ---- rows
+
+abbrev pub rows_of_items : List (List FileItem) → SourceFile → List Row
+rows_of_items files file = rows_in (items_at files file)
+
+abbrev pub rows_now : ReleaseItems → SourceFile → List Row
+rows_now release file = rows_of_items release.current file
 
 abbrev pub onto_numbered : ℕ → Option Row → List (ℕ × Row) → List (ℕ × Row)
 onto_numbered line None rows = rows

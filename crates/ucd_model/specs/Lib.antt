@@ -40,6 +40,7 @@ pub mod NameLaws
 pub mod NameProofs
 pub mod FactsLaws
 pub mod FactsLemmas
+pub mod RowSpans
 pub mod RowTexts
 pub mod RowTextLemmas
 pub mod RowValues

@@ -2,6 +2,7 @@
 
 ghost use Rattle.std.specs.Prelude.{◌≡◌};
 ghost use Rattle.ucd_model.specs.Names.{status_code};
+ghost use Rattle.ucd_model.specs.RowSpans.{span_in};
 
 use crate::category::Category;
 use crate::decomposition::Kind;
@@ -147,4 +148,20 @@ pub enum Row {
     Casing(CasingRow),
     /// Of PropertyAliases.txt or PropertyValueAliases.txt.
     Alias(AliasRow),
+}
+
+impl Row {
+    /// The code points that the row speaks of; `None` of a row of names.
+    pub fn span(&self) -> Option<Span>
+        ensures { result ≡ span_in self.now }
+    {
+        match self {
+            Row::Unit(row) => Some(row.span),
+            Row::Value(row) => Some(row.span),
+            Row::Exclusion(row) => Some(row.span),
+            Row::Fold(row) => Some(Span::one(row.code)),
+            Row::Casing(row) => Some(Span::one(row.code)),
+            Row::Alias(_) => None,
+        }
+    }
 }

@@ -3,7 +3,6 @@
 ghost use Rattle.std.specs.Prelude.{◌≡◌, Some, None, IfOk};
 ghost use Rattle.std.specs.Option.{option_copied};
 
-use crate::points::copied;
 use std::alloc::Global;
 use std::marker::Model;
 use ucd_model::{Memory, Point, Points};
@@ -49,7 +48,7 @@ impl GivenPoints {
     {
         let form = match points {
             [only] => PointsForm::Single([*only]),
-            _ => PointsForm::Listed(Box::new(alloc, copied(alloc, points)?)?),
+            _ => PointsForm::Listed(Box::new(alloc, Points::of(alloc, points)?)?),
         };
         Ok(GivenPoints { form })
     }

@@ -93,7 +93,7 @@ impl<T: Table<u64>> FactTables<T> {
             → tables_next T.now self.new c ≡ with_spans (tables_next T.now self.old) spans.now (made_facts made.now) c) }
         ensures err { OnErr result (tables_next T.now self.new ≡ tables_next T.now self.old) }
     {
-        let touched = copied(alloc, spans)?;
+        let touched = Spans::of(alloc, spans)?;
         let done = put_spans(
             alloc,
             &mut self.words,
@@ -163,15 +163,6 @@ fn touching_tables(alloc: Global, release: &Release, spans: &[Span]) -> Result<R
     let rows = RowLists::touching(alloc, release, spans)?;
     let made = RowTables::of(alloc, &rows)?;
     Ok(made)
-}
-
-/// A list of copies of the spans.
-///
-/// - `Memory`: memory ran out.
-fn copied(alloc: Global, spans: &[Span]) -> Result<Spans, Memory>
-    ensures { IfOk result (λ copy. copy ≡ spans.now) }
-{
-    Ok(Spans::from_vec(Vec::from_slice(alloc, spans)?))
 }
 
 /// Makes what is now and next that of tables of rows throughout, and lists their code points. Room that no value takes up

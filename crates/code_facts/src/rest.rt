@@ -6,10 +6,9 @@ ghost use Rattle.code_facts.specs.Rest.{no_rest, bare_rest, cases_of, rest_of_al
 
 use crate::cases::Cases;
 use crate::mappings::Mappings;
-use crate::points::copied;
 use std::alloc::Global;
 use std::marker::Model;
-use ucd_model::{Memory, Point};
+use ucd_model::{Memory, Point, Points};
 
 /// The mappings of a code point. Of most that have any it is a decomposition mapping of one or two members alone, which
 /// takes no memory of its own.
@@ -60,7 +59,7 @@ impl Rest {
             [] => RestForm::Empty,
             [only] => RestForm::One([*only]),
             [first, second] => RestForm::Two([*first, *second]),
-            _ => RestForm::All(Box::new(alloc, Mappings::bare(copied(alloc, mapping)?))?),
+            _ => RestForm::All(Box::new(alloc, Mappings::bare(Points::of(alloc, mapping)?))?),
         };
         Ok(Rest { form })
     }

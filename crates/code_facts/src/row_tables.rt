@@ -20,12 +20,12 @@ use crate::data_tables::DataTables;
 use crate::mappings::Mappings;
 use crate::marks::marks;
 use crate::painting::summed;
-use crate::points::{copied, lesser, point};
+use crate::points::{lesser, point};
 use crate::rest::Rest;
 use crate::row_lists::RowLists;
 use range_table::{RunTable, Table};
 use std::alloc::Global;
-use ucd_model::{Memory, Point};
+use ucd_model::{Memory, Point, Points};
 
 /// The facts of all code points that rows give, in run tables and maps.
 #[derive(Drop)]
@@ -93,7 +93,7 @@ impl RowTables {
             return bare_rest(alloc, mapping);
         }
         let mappings = Mappings {
-            mapping: copied(alloc, mapping)?,
+            mapping: Points::of(alloc, mapping)?,
             upper: first_of(self.lists.uppers.get(c)),
             lower: first_of(self.lists.lowers.get(c)),
             title: first_of(self.lists.titles.get(c)),

@@ -19,7 +19,7 @@ use crate::row_iter::Rows;
 use crate::row_text::RowText;
 use std::alloc::Global;
 use std::marker::Model;
-use ucd_model::{ListOf, Memory, SourceFile, Span, Spans, Text, file_limit};
+use ucd_model::{Memory, SourceFile, Span, Spans, Text, file_limit};
 
 /// The answer to a file above the limit.
 const TOO_LONG: LoadStop = LoadStop::Fault {
@@ -77,7 +77,7 @@ impl Release {
         if bytes.len() > file_limit() {
             return Err(TOO_LONG);
         }
-        let text = text_of(self.alloc, bytes)?;
+        let text = Text::of(self.alloc, bytes)?;
         self.load_text(file, text)
     }
 
@@ -174,11 +174,4 @@ impl Release {
     {
         discard_all(&mut self.files);
     }
-}
-
-/// A copy of these bytes.
-fn text_of(alloc: Global, bytes: &[u8]) -> Result<Text, Memory>
-    ensures { IfOk result (λ text. text ≡ bytes.now) }
-{
-    Ok(ListOf::from_vec(Vec::from_slice(alloc, bytes)?))
 }

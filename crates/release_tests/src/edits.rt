@@ -8,7 +8,7 @@ use release_rows::{KeyRule, Op, OpStop, Release};
 use source_rows::{RowStop, read_key, read_row};
 use std::alloc::Global;
 use std::test::Fail;
-use ucd_model::{ListOf, Memory, SourceFile, Text};
+use ucd_model::{Memory, SourceFile, Text};
 
 /// An operation, as a script writes it.
 #[derive(Clone, Copy)]
@@ -21,25 +21,18 @@ enum Edit<'a> {
     Withdraw(&'a [u8]),
 }
 
-/// The text of the bytes.
-fn text_of(alloc: Global, bytes: &[u8]) -> Result<Text, Memory>
-    ensures { IfOk result (λ text. text ≡ bytes.now) }
-{
-    Ok(ListOf::from_vec(Vec::from_slice(alloc, bytes)?))
-}
-
 /// The operation on the file.
 fn op_of(alloc: Global, file: SourceFile, edit: &Edit<'_>) -> Result<Op, RowStop>
     ensures { IfOk result (λ op. IsOp op) }
 {
     match edit {
         Edit::Add(text) => {
-            let bytes = text_of(alloc, text)?;
+            let bytes = Text::of(alloc, text)?;
             let row = read_row(alloc, file, text)?;
             Ok(Op::Add { file, row, bytes })
         }
         Edit::Change(text) => {
-            let bytes = text_of(alloc, text)?;
+            let bytes = Text::of(alloc, text)?;
             let row = read_row(alloc, file, text)?;
             Ok(Op::Change { file, row, bytes })
         }

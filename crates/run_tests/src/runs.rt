@@ -55,18 +55,9 @@ pub const CORE_PATH: &[u8] = b"o/DerivedCoreProperties.txt";
 pub fn words_of(alloc: Global, words: &[&[u8]]) -> Result<Texts, Memory> {
     let mut texts = Texts::new(alloc);
     for word in words {
-        texts.push(text_of(alloc, word)?)?;
+        texts.push(Text::of(alloc, word)?)?;
     }
     Ok(texts)
-}
-
-/// The text of these bytes.
-///
-/// - `Memory`: memory ran out.
-fn text_of(alloc: Global, bytes: &[u8]) -> Result<Text, Memory> {
-    let mut text = Text::new(alloc);
-    text.append(bytes)?;
-    Ok(text)
 }
 
 /// A shelf with the nine source files in `d`, seven of them empty, and an older derived file and a stranger in `o`.

@@ -35,17 +35,6 @@ impl Model for MemoryFiles {
     ghost view = { λ a. record { files = a.files.items; spare = vec_capacity a.files - vec_len a.files } };
 }
 
-/// A text of these bytes.
-///
-/// - `Memory`: memory ran out.
-pub fn text_of(alloc: Global, bytes: &[u8]) -> Result<Text, Memory>
-    ensures { IfOk result (λ text. text ≡ bytes.now) }
-{
-    let mut text = Text::new(alloc);
-    text.append(bytes)?;
-    Ok(text)
-}
-
 /// The place of the first file of this path, or None where there is none.
 fn place_of(files: &[File], path: &[u8]) -> Option<usize>
     ensures { result ≡ position (λ file. bytes_eq file.path path.now) files.now }
@@ -130,8 +119,8 @@ impl MemoryFiles {
         ensures spare_for_one { self.old.spare ≤ self.new.spare + 1 }
         ensures err { OnErr result (self.new ≡ self.old) }
     {
-        let path = text_of(self.alloc, path)?;
-        let bytes = text_of(self.alloc, bytes)?;
+        let path = Text::of(self.alloc, path)?;
+        let bytes = Text::of(self.alloc, bytes)?;
         self.room(1)?;
         self.put(path, bytes);
         Ok(())

@@ -7,7 +7,7 @@ ghost use Rattle.shelf_io.specs.Answers.{Reads, OnFound, OnAbsent, FailsExactly}
 ghost use Rattle.shelf_io.specs.Folders.{new_view, after_read, held_in};
 
 use crate::calls::CallPlan;
-use crate::memory_files::{MemoryFiles, text_of};
+use crate::memory_files::MemoryFiles;
 use crate::shelf::{Failed, Found, ReadStop, Shelf};
 use std::alloc::Global;
 use std::marker::Model;
@@ -114,7 +114,7 @@ impl Shelf for MemoryShelf {
         ensures read_faults_never_fall { self.old.reads.faults ≤ self.new.reads.faults }
     {
         if self.reads.fails_next() {
-            let Ok(failed) = text_of(self.alloc, path) else {
+            let Ok(failed) = Text::of(self.alloc, path) else {
                 return Err(ReadStop::Memory);
             };
             self.last_failed = failed;

@@ -3,12 +3,11 @@
 ghost use Rattle.std.specs.Prelude.{◌≡◌, IfOk, drop, map, string_bytes};
 ghost use Rattle.std.specs.Vec.Iter.{into_iter_items};
 
-use crate::memory_files::text_of;
 use std::alloc::{Allocator, Global};
 use std::env::{self, Args};
 use std::io;
 use std::rt::Env;
-use ucd_points::{Memory, Texts};
+use ucd_points::{Memory, Text, Texts};
 
 /// These words, as texts.
 ///
@@ -18,7 +17,7 @@ fn texts_of<A: Allocator>(alloc: Global, mut args: Args<A>) -> Result<Texts, Mem
 {
     let mut words = Texts::new(alloc);
     'words: while let Some(arg) = args.next() {
-        words.push(text_of(alloc, arg.as_bytes())?)?;
+        words.push(Text::of(alloc, arg.as_bytes())?)?;
     }
     Ok(words)
 }

@@ -10,11 +10,11 @@ ghost use Rattle.source_rows.specs.OtherFaults.{alias_or_fault};
 
 use crate::code_point::is_name;
 use crate::fault::RowFault;
-use crate::fields::{field_count, first_field, text_of, without_comment};
+use crate::fields::{field_count, first_field, without_comment};
 use crate::row_ref::RowRef;
 use std::alloc::Global;
 use ucd_lines::{Fields, fields};
-use ucd_model::{Memory, SourceFile, Texts};
+use ucd_model::{Memory, SourceFile, Text, Texts};
 
 /// Whether a field is a name or empty.
 fn is_name_or_empty(field: &[u8]) -> bool
@@ -62,7 +62,7 @@ pub fn copied(alloc: Global, names: Fields<'_>) -> Result<Texts, Memory>
 {
     let mut copy = Texts::new(alloc);
     'names: for name in names {
-        copy.push(text_of(alloc, name)?)?;
+        copy.push(Text::of(alloc, name)?)?;
     }
     Ok(copy)
 }

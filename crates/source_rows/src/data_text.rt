@@ -6,7 +6,6 @@ ghost use Rattle.source_rows.specs.Fields.{fields_in};
 ghost use Rattle.source_rows.specs.DataFaults.{with_kept, text_row};
 
 use crate::data_values::Values;
-use crate::fields::text_of;
 use crate::fifteen::DataFields;
 use std::alloc::Global;
 use ucd_model::{DataRow, Kept, Memory, Span, Text};
@@ -32,7 +31,7 @@ pub struct DataText<'a> {
 pub fn data_row(alloc: Global, text: DataText<'_>) -> Result<DataRow, Memory>
     ensures { IfOk result (λ row. row ≡ text_row text.entry) }
 {
-    let name = text_of(alloc, text.name)?;
+    let name = Text::of(alloc, text.name)?;
     let kept = kept_of(alloc, text.line)?;
     let values = text.values;
     Ok(DataRow {

@@ -1,22 +1,11 @@
 //! Cuts a line into its fields, each a part of the line. UAX #44, section 4.2.
 
-ghost use Rattle.std.specs.Prelude.{◌≡◌, ℕ, ◌+◌, ◌-◌, ◌<◌, ◌≤◌, ◌∷◌, [], length, count_by, IfOk};
+ghost use Rattle.std.specs.Prelude.{◌≡◌, ℕ, ◌+◌, ◌-◌, ◌<◌, ◌≤◌, ◌∷◌, [], length, count_by};
 ghost use Rattle.ucd_points.specs.Fields.{field, trim, is_hash, is_semicolon};
 ghost use Rattle.std.specs.List.{after_first, before_first, position_or_len};
 ghost use Rattle.source_rows.specs.Fields.{fields_of};
 
-use std::alloc::{AllocError, Global};
 use ucd_lines::{cut, trim};
-use ucd_model::{ListOf, Text};
-
-/// The text of the bytes.
-///
-/// - `AllocError`: memory ran out.
-pub fn text_of(alloc: Global, bytes: &[u8]) -> Result<Text, AllocError>
-    ensures { IfOk result (λ text. text ≡ bytes.now) }
-{
-    Ok(ListOf::from_vec(Vec::from_slice(alloc, bytes)?))
-}
 
 /// What stands before the first `#`.
 pub fn without_comment(content: &[u8]) -> &[u8]

@@ -13,7 +13,7 @@ use crate::case_folding::status_of;
 use crate::code_point::is_name;
 use crate::conditions::conditions_of;
 use crate::fault::{RowFault, RowStop};
-use crate::fields::{field_count, text_of, two_fields, without_comment};
+use crate::fields::{field_count, two_fields, without_comment};
 use crate::key::Key;
 use crate::lines::holds_line_feed;
 use std::alloc::Global;
@@ -33,7 +33,7 @@ fn one_text(alloc: Global, text: Text) -> Result<Texts, Memory>
 pub fn one_name(alloc: Global, name: &[u8]) -> Result<Texts, Memory>
     ensures { IfOk result (λ names. names ≡ name.now ∷ []) }
 {
-    one_text(alloc, text_of(alloc, name)?)
+    one_text(alloc, Text::of(alloc, name)?)
 }
 
 /// The letter of a status as the one name of a key.

@@ -6,12 +6,11 @@ ghost use Rattle.source_rows.specs.RowRefs.{casing_in, fold_in, row_in, value_in
 use crate::aliases::copied;
 use crate::case_folding::FoldText;
 use crate::data_text::{DataText, data_row};
-use crate::fields::text_of;
 use crate::special_casing::CasingText;
 use crate::values::ValueText;
 use std::alloc::Global;
 use ucd_lines::Fields;
-use ucd_model::{AliasRow, CasingRow, ExclusionRow, FoldRow, Memory, Row, ValueRow};
+use ucd_model::{AliasRow, CasingRow, ExclusionRow, FoldRow, Memory, Row, Text, ValueRow};
 
 /// A row as it stands in its line, or in the two lines of a range. Nothing is copied.
 #[derive(Drop)]
@@ -36,7 +35,7 @@ fn value_row(alloc: Global, text: ValueText<'_>) -> Result<ValueRow, Memory>
 {
     Ok(ValueRow {
         span: text.span,
-        value: text_of(alloc, text.value)?,
+        value: Text::of(alloc, text.value)?,
     })
 }
 

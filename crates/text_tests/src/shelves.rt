@@ -1,21 +1,12 @@
 //! Shelves and sinks in memory at work. Each is owned by a function that makes one call on it.
 
-ghost use Rattle.std.specs.Prelude.{◌≡◌, ◌≢◌, ◌++◌, [], List, Some, IfOk, IsTrue, take, ℕ};
+ghost use Rattle.std.specs.Prelude.{◌≡◌, ◌≢◌, ◌++◌, [], List, Some, IsTrue, take, ℕ};
 ghost use Rattle.shelf_io.specs.Counts.{Rose};
 ghost use Rattle.shelf_io.specs.Contents.{ReplacedAt};
 
 use shelf_io::{Failed, Found, MemoryShelf, MemorySink, PerfectShelf, ReadStop, Shelf, Sink};
 use std::alloc::Global;
 use ucd_model::{Memory, Text};
-
-/// A text of these bytes.
-fn text_of(alloc: Global, bytes: &[u8]) -> Result<Text, Memory>
-    ensures { IfOk result (λ text. text ≡ bytes.now) }
-{
-    let mut text = Text::new(alloc);
-    text.append(bytes)?;
-    Ok(text)
-}
 
 /// What became of two files that were to be joined.
 #[derive(Clone, Copy, Debug, PartialEq, Eq)]
@@ -69,7 +60,7 @@ fn write_joined<S: Shelf>(alloc: Global, shelf: &mut S, to: &[u8], bytes: Vec<u8
         → ReplacedAt to.now bytes.items (S.holds shelf.old) (S.holds shelf.new) }
     ensures read_faults_stay { S.read_faults shelf.new ≡ S.read_faults shelf.old }
 {
-    let Ok(path) = text_of(alloc, to) else {
+    let Ok(path) = Text::of(alloc, to) else {
         return Joined::Memory;
     };
     let Ok(()) = shelf.room(1) else {
@@ -163,8 +154,8 @@ pub fn write_once<S: Shelf>(
     bytes: &[u8],
 ) -> Result<Result<(), Failed>, Memory> {
     shelf.room(1)?;
-    let path = text_of(alloc, path)?;
-    let bytes = text_of(alloc, bytes)?;
+    let path = Text::of(alloc, path)?;
+    let bytes = Text::of(alloc, bytes)?;
     Ok(shelf.write(path, bytes))
 }
 
@@ -195,7 +186,7 @@ fn joins_and_moves(alloc: Global, shelf: &mut PerfectShelf) -> Result<bool, Memo
     shelf.place(b"d/a", b"front")?;
     let joined = join_files(alloc, shelf, b"d/a", b"d/a", 9, b"d/a");
     let is_joined = are_bytes(shelf.held(b"d/a"), b"frontfront") && shelf.held(b"d/b").is_none();
-    let to = text_of(alloc, b"d/b")?;
+    let to = Text::of(alloc, b"d/b")?;
     let moved = move_perfectly(alloc, shelf, b"d/a", to)?;
     Ok(
         joined == Joined::Joined

@@ -82,6 +82,19 @@ impl<T> ListOf<T> {
         ListOf { items }
     }
 
+    /// The list of these items.
+    ///
+    /// - `Memory`: memory ran out.
+    pub fn of(alloc: Global, items: &[T]) -> Result<ListOf<T>, Memory>
+    where
+        T: Copy,
+        ensures { IfOk result (λ list. list ≡ items.now) }
+    {
+        Ok(ListOf {
+            items: Vec::from_slice(alloc, items)?,
+        })
+    }
+
     /// How many items there are.
     pub fn len(&self) -> usize
         ensures { result ≡ length self.now }

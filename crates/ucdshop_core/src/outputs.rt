@@ -21,7 +21,7 @@ use crate::carried::Carried;
 use crate::command::Command;
 use crate::given::Given;
 use crate::printed::write_failed;
-use crate::source_path::{path_in, text_of};
+use crate::source_path::path_in;
 use crate::writing::Output;
 use derived_writer::text_over;
 use edit_session::Bench;
@@ -293,6 +293,6 @@ fn text_output(alloc: Global, folder: &[u8], name: &[u8], text: &[u8]) -> Result
     ensures line { IfOk result (λ output. output.fault_line ≡ write_failed output.path) }
 {
     let path = path_in(alloc, folder, name)?;
-    let bytes = text_of(alloc, text)?;
+    let bytes = Text::of(alloc, text)?;
     output_of(alloc, path, bytes)
 }

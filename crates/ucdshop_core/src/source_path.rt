@@ -46,7 +46,7 @@ fn paths_with(alloc: Global, folder: &[u8], script: &[u8]) -> Result<Texts, Memo
     ensures { IfOk result (λ paths. paths ≡ sources_in folder.now ++ script.now ∷ []) }
 {
     let mut paths = source_paths(alloc, folder)?;
-    paths.push(text_of(alloc, script)?)?;
+    paths.push(Text::of(alloc, script)?)?;
     Ok(paths)
 }
 
@@ -67,20 +67,9 @@ pub fn script_path(alloc: Global, command: Command<'_>) -> Result<Text, Memory>
 {
     match command {
         Command::Derive { .. } => Ok(Text::new(alloc)),
-        Command::Apply { script, .. } | Command::Compare { script, .. } => text_of(alloc, script),
+        Command::Apply { script, .. } | Command::Compare { script, .. } => Text::of(alloc, script),
         Command::Make { output, .. } => path_in(alloc, output, b"script.txt"),
     }
-}
-
-/// A text of these bytes.
-///
-/// - `Memory`: memory ran out.
-pub fn text_of(alloc: Global, bytes: &[u8]) -> Result<Text, Memory>
-    ensures { IfOk result (λ text. text ≡ bytes.now) }
-{
-    let mut text = Text::new(alloc);
-    text.append(bytes)?;
-    Ok(text)
 }
 
 /// The paths of the source files of a folder, in their order.

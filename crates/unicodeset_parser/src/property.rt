@@ -18,15 +18,6 @@ use ucd_points::{Memory, Text};
 /// The bytes of 2260, the not-equal sign.
 const NOT_EQUAL: &[u8] = b"\xe2\x89\xa0";
 
-/// A copy of the bytes.
-fn copied(alloc: Global, bytes: &[u8]) -> Result<Text, Memory>
-    ensures { IfOk result (λ text. text ≡ bytes.now) }
-{
-    let mut text = Text::new(alloc);
-    text.append(bytes)?;
-    Ok(text)
-}
-
 /// The set, or its complement.
 pub(crate) fn negated_by(alloc: Global, negated: bool, expr: Expr) -> Result<Expr, Memory>
     ensures { IfOk result (λ made. tree_view made ≡ negated_by negated (tree_view expr)) }
@@ -43,7 +34,7 @@ fn named(alloc: Global, negated: bool, name: &[u8], at: usize) -> Result<Token, 
     ensures { IfOk result
         (λ token. sign_view token ≡ property (negated_by negated (named name.now at))) }
 {
-    let name = copied(alloc, name)?;
+    let name = Text::of(alloc, name)?;
     Ok(Token::Property(negated_by(alloc, negated, Expr::Named { name, at })?))
 }
 
@@ -56,8 +47,8 @@ fn parted(alloc: Global, negated: bool, name: &[u8], at: usize) -> Result<Token,
     if begins_with(value, b'/') {
         return Ok(Token::Wrong(Wrong::RefusedName));
     }
-    let property = copied(alloc, property)?;
-    let value = copied(alloc, value)?;
+    let property = Text::of(alloc, property)?;
+    let value = Text::of(alloc, value)?;
     Ok(Token::Property(negated_by(
         alloc,
         negated,

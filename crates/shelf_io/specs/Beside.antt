@@ -20,7 +20,7 @@ abbrev pub IsName : List ℕ → Type 0
 IsName path = IsUtf8 path × (is_beside path ≡ false)
 
 abbrev pub IsShort : List ℕ → Type 0
-IsShort path = length (beside path) ≤ 4096
+IsShort path = length (beside path) ≤ 4095
 
 abbrev pub shown_of : (List ℕ → Entry) → List ℕ → Option (List ℕ)
 shown_of at path = if is_beside path then None else file_of (at path)

@@ -5,8 +5,8 @@ ghost use Rattle.shelf_io.specs.Beside.{beside, is_beside};
 
 use std::str::from_utf8;
 
-/// How many bytes the longest name has that a system takes, with the zero behind it (PATH_MAX of Linux).
-pub const LONGEST: usize = 4096;
+/// How many bytes the longest name has that a system takes: PATH_MAX of Linux without the zero behind it.
+pub const LONGEST: usize = 4095;
 
 /// What the name beside a path has behind the path.
 fn ending() -> &'static [u8]

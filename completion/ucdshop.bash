@@ -1,0 +1,23 @@
+# Completion in bash for ucdshop, installed or in its checkout: commands, then the folders and files that each of them takes.
+
+_ucdshop() {
+    local word=${COMP_WORDS[COMP_CWORD]} place=$COMP_CWORD commands='derive apply make' kind
+    # only the launcher, beside which the crates lie, has more
+    if [ "$place" -eq 1 ] && [ -e "${COMP_WORDS[0]%/*}/crates.txt" ]; then
+        commands+=' --help --version --build --unproved explain'
+    fi
+    # after --unproved stands a command with its arguments
+    if [ "$place" -gt 1 ] && [ "${COMP_WORDS[1]}" = --unproved ]; then
+        place=$((place - 1))
+    fi
+    case ${COMP_WORDS[COMP_CWORD - place + 1]}:$place in
+        *:1) mapfile -t COMPREPLY < <(compgen -W "$commands" -- "$word"); return ;;
+        derive:[23] | apply:[245] | make:3 | explain:3) kind=-d ;;
+        apply:3 | explain:4) kind=-f ;;
+        *) COMPREPLY=(); return ;;
+    esac
+    # readline quotes names and puts slashes; outside of a completion there is no readline
+    compopt -o filenames 2>/dev/null
+    mapfile -t COMPREPLY < <(compgen "$kind" -- "$word")
+}
+complete -F _ucdshop ucdshop

@@ -1,10 +1,12 @@
 -- Locality of the derivation: facts that answer what it asks alike derive the same record, and ask the same.
 --
+-- has_last         the rounds of a point whose foldings have values have a last one, by each folding
 -- asked_is_local   the law of the same name
 use Rattle.std.proofs.Common.{◌≡◌, ℕ, Bool, true, false, cond, ◌&&◌, ◌||◌, not, ◌==◌, List, [], ◌∷◌, ◌++◌, Option, Some, None, Ok, if◌then◌else◌, refl, sym, ap, ◌∙◌, subst, arith}
 use Rattle.std.specs.List.{flat_map, list_any}
 use Rattle.std.specs.Option.{option_and_then}
 use Rattle.std.specs.Str.{bytes_eq}
+use Rattle.std.proofs.lemmas.Bool.{or_parts}
 use Rattle.ucd_model.specs.Casing.{lower, upper, fold, title, lowers, uppers, titles, folds, casemaps, where_form, changes_when}
 use Rattle.ucd_model.specs.Composites.{is_canonical, first_has_class_zero, primary, second_of}
 use Rattle.ucd_model.specs.Expansion.{full}
@@ -46,17 +48,13 @@ some_last : (folding : Folding) (F : ℕ → Facts) (c : ℕ) (r : Option ℕ) �
 some_last folding F c (Some n) e = (n, refl)
 some_last folding F c None e = cc
 
-neither : (a b : Bool) → (a || b) ≡ false → (a ≡ false) × (b ≡ false)
-neither true b e = cc
-neither false b e = (refl, e)
+reaches : (F : ℕ → Facts) (c : ℕ) → is_unfolded F c ≡ false → (folding : Folding) → is_none (casefold folding F c) ≡ false
+reaches F c e Full = (or_parts (is_none (casefold Full F c)) (is_none (casefold Simple F c)) e).0
+reaches F c e Simple = (or_parts (is_none (casefold Full F c)) (is_none (casefold Simple F c)) e).1
 
-folds : (F : ℕ → Facts) (c : ℕ) → is_unfolded F c ≡ false → (folding : Folding) → is_none (casefold folding F c) ≡ false
-folds F c e Full = (neither (is_none (casefold Full F c)) (is_none (casefold Simple F c)) e).0
-folds F c e Simple = (neither (is_none (casefold Full F c)) (is_none (casefold Simple F c)) e).1
-
-has_last : (F : ℕ → Facts) (c : ℕ) → is_unfolded F c ≡ false → (folding : Folding) → (n : ℕ) × (last_round folding F c ≡ Some n)
+pub has_last : (F : ℕ → Facts) (c : ℕ) → is_unfolded F c ≡ false → (folding : Folding) → (n : ℕ) × (last_round folding F c ≡ Some n)
 unfolding last_round
-has_last F c e folding = some_last folding F c (last_round folding F c) (folds F c e folding)
+has_last F c e folding = some_last folding F c (last_round folding F c) (reaches F c e folding)
 
 casefold_at : (folding : Folding) (F : ℕ → Facts) (c n : ℕ) → last_round folding F c ≡ Some n → casefold folding F c ≡ rounds folding F n (c ∷ [])
 unfolding last_round

@@ -11,13 +11,12 @@
 use Rattle.std.proofs.Common.{◌≡◌, ℕ, Bool, true, false, cond, ◌&&◌, not, ◌==◌, List, [], ◌∷◌, ◌++◌, append_assoc, append-nil, length, Option, Some, None, is_some, Result, Ok, Err, if◌then◌else◌, refl, sym, ap, ◌∙◌, ◌+◌, ◌||◌}
 use Rattle.std.specs.Prelude.{⊤}
 use Rattle.std.specs.List.{flat_map, range_with_len}
-use Rattle.std.specs.Option.{option_and_then}
 use Rattle.ucd_model.specs.Composites.{is_canonical, first_has_class_zero}
 use Rattle.ucd_model.specs.Facts.{Facts}
-use Rattle.ucd_model.specs.FoldRounds.{rounds, casefold}
+use Rattle.ucd_model.specs.FoldRounds.{rounds}
 use Rattle.ucd_model.specs.Records.{Record, kept_record}
 use Rattle.ucd_model.specs.Uniform.{IsPlain}
-use Rattle.ucd_model.specs.Validity.{mappings, is_none, is_unfolded}
+use Rattle.ucd_model.specs.Validity.{mappings}
 use Rattle.ucd_model.specs.ValidityLaws.{HasRecord}
 use Rattle.ucd_model.specs.ValidityProofs.{broken-none, broken-rules}
 use Rattle.ucd_model.specs.declared.folding.Folding.{Folding}
@@ -37,6 +36,7 @@ use Rattle.asked_queries.specs.Answers.{same_query, is_asked}
 use Rattle.ucd_model.specs.Shown.{shown_facts}
 use Rattle.ucd_model.specs.declared.view.FactsRef.{FactsRef}
 use Rattle.asked_queries.specs.PlainProofs.{plain_ask_own}
+use Rattle.asked_queries.specs.RecordProofs.{has_last}
 use Rattle.asked_queries.specs.Turns.{SameQueries}
 use Rattle.asked_queries.specs.Questions.{row_queries, asks, last_round, rounds_ask, foldings_ask, round_asks_at, folding_asks, facts_ask, pair_queries, composite_asks, asked}
 use Rattle.asking_points.specs.Compat.{canonical_asks, has_compat, forms_alike}
@@ -75,21 +75,8 @@ other_asks F c =
     row_queries (flat_map (λ m. m) (mappings c (F c)))
     ++ (composite_asks F c ++ (canonical_asks F c ++ foldings_put F c))
 
-some_last : (folding : Folding) (F : ℕ → Facts) (c : ℕ) (r : Option ℕ) → is_none (option_and_then (λ i. rounds folding F i (c ∷ [])) r) ≡ false → is_some r ≡ true
-some_last folding F c (Some n) e = refl
-some_last folding F c None e = absurd (true≢false e)
-
-neither : (a b : Bool) → (a || b) ≡ false → (a ≡ false) × (b ≡ false)
-neither true b e = absurd (true≢false e)
-neither false b e = (refl, e)
-
-folds : (F : ℕ → Facts) (c : ℕ) → is_unfolded F c ≡ false → (folding : Folding) → is_none (casefold folding F c) ≡ false
-folds F c e Full = (neither (is_none (casefold Full F c)) (is_none (casefold Simple F c)) e).0
-folds F c e Simple = (neither (is_none (casefold Full F c)) (is_none (casefold Simple F c)) e).1
-
-has_last : (folding : Folding) (F : ℕ → Facts) (c : ℕ) → HasRecord F c → is_some (last_round folding F c) ≡ true
-unfolding last_round
-has_last folding F c has = some_last folding F c (last_round folding F c) (folds F c (broken-rules F c (broken-none F c has)).folds folding)
+last_is_some : (folding : Folding) (F : ℕ → Facts) (c : ℕ) → HasRecord F c → is_some (last_round folding F c) ≡ true
+last_is_some folding F c has = ap is_some (has_last F c (broken-rules F c (broken-none F c has)).folds folding).1
 
 -- ---- all questions
 
@@ -135,8 +122,8 @@ foldings_are F c has = λ q.
     let full : List Query = rounds_ask Full F c (last_round Full F c) in
     let simple : List Query = rounds_ask Simple F c (last_round Simple F c) in
     list_any-append (same_query q) (puts_from Full F 8 false (c ∷ [])) (puts_from Simple F 8 false (c ∷ []))
-    ∙ ap (λ b. b || is_asked (puts_from Simple F 8 false (c ∷ [])) q) (puts_are Full F c (has_last Full F c has) q)
-    ∙ ap (λ b. is_asked full q || b) (puts_are Simple F c (has_last Simple F c has) q)
+    ∙ ap (λ b. b || is_asked (puts_from Simple F 8 false (c ∷ [])) q) (puts_are Full F c (last_is_some Full F c has) q)
+    ∙ ap (λ b. is_asked full q || b) (puts_are Simple F c (last_is_some Simple F c has) q)
     ∙ sym (list_any-append (same_query q) full simple)
     ∙ ap (λ (Q : List Query). is_asked (full ++ Q) q) (sym (append-nil simple))
 
@@ -146,7 +133,7 @@ asked_is F c has = λ q.
     let put = foldings_put F c in
     let rounds = foldings_ask F c in
     let all = asks F true (c ∷ []) ++ rounds in
-    let last = first_rounds F c q (has_last Full F c has) in
+    let last = first_rounds F c q (last_is_some Full F c has) in
     let canonical = behind (canonical_asks F c) put rounds q (foldings_are F c has q) ∙ canonical_repeated F c q (has_compat F 8 c) rounds refl last in
     let composite = behind (composite_asks F c) (canonical_asks F c ++ put) (asks F false (c ∷ []) ++ all) q canonical in
     behind (facts_ask F c) (composite_asks F c ++ (canonical_asks F c ++ put)) (composite_asks F c ++ (asks F false (c ∷ []) ++ all)) q composite

@@ -1,12 +1,11 @@
 //! Worked case foldings, over a view that lists a few code points.
 
 use crate::facts::{
-    CANONICAL, FoldedRow, PLAIN, facts_of, listed_folded, point, points, put_flagged, put_folded,
-    repeated, rule_of,
+    CANONICAL, FoldedRow, PLAIN, listed_folded, point, points, put_flagged, put_folded, repeated,
+    rule_of,
 };
 use fold_rounds::{
     casefold_of, default_ignorable, is_default_ignorable, is_visible_format, nfkc_casefold,
-    nfkc_simple_casefold,
 };
 use normalisation::nfkc;
 use std::alloc::Global;
@@ -109,42 +108,6 @@ fn ignored_are_dropped(alloc: Global, list: &FactList) -> Result<bool, Fail> {
 fn ignored_points_are_dropped(rt: HostRuntime) -> Result<(), Fail> {
     let list = listed_folded(rt.alloc(), &IGNORED)?;
     assert!(rt; ignored_are_dropped(rt.alloc(), &list)?);
-    Ok(())
-}
-
-/// The capital sharp s, which CaseFolding.txt folds to two letters with status F, and to the small one with status S.
-const SHARP: FoldedRow<'static> = (0x1E9E, LETTER, 0, PLAIN, &[], &[0x0073, 0x0073]);
-
-fn put_sharp(alloc: Global, list: &mut FactList) -> Result<(), Fail> {
-    let mut facts = facts_of(alloc, SHARP)?;
-    facts.simple_fold = point(0x00DF)?;
-    Ok(list.push((point(0x1E9E)?, facts))?)
-}
-
-/// Whether NFKC_Casefold and NFKC_Simple_Casefold of the capital sharp s are exactly these code points.
-fn sharp_folds_to(
-    alloc: Global,
-    list: &FactList,
-    full: &[u32],
-    simple: &[u32],
-) -> Result<bool, Fail> {
-    let c = point(0x1E9E)?;
-    let found = [
-        nfkc_casefold(alloc, list, c)?,
-        nfkc_simple_casefold(alloc, list, c)?,
-    ];
-    let wanted = [
-        Image::To(points(alloc, full)?),
-        Image::To(points(alloc, simple)?),
-    ];
-    Ok(found[0].is_same(&wanted[0]) && found[1].is_same(&wanted[1]))
-}
-
-#[test]
-fn each_folding_has_its_own_list(rt: HostRuntime) -> Result<(), Fail> {
-    let mut list = FactList::new(rt.alloc());
-    put_sharp(rt.alloc(), &mut list)?;
-    assert!(rt; sharp_folds_to(rt.alloc(), &list, &[0x0073, 0x0073], &[0x00DF])?);
     Ok(())
 }
 

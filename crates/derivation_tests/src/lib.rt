@@ -23,3 +23,5 @@ mod records;
 mod sample;
 #[cfg(test)]
 mod sample_text;
+#[cfg(test)]
+mod simple_folding;

@@ -51,8 +51,8 @@ same_check F c s t e = ap (quick_composed F c) (sym ((bytes_eq-Decides s t).0 e)
 ok_same : (i j : Image) → ◌≡◌ {A = Result Image Rule} (Ok i) (Ok j) → i ≡ j
 ok_same i j e = cc
 
-pub folds : (F : ℕ → Facts) (c : ℕ) (i j : Image) → casefold_image Full F c ≡ Ok i → casefold_image Simple F c ≡ Ok j → is_unfolded F c ≡ false
-folds F c i j e d = rw (folded_if c (casefold Full F c) i e, folded_if c (casefold Simple F c) j d) refl
+pub both_fold : (F : ℕ → Facts) (c : ℕ) (i j : Image) → casefold_image Full F c ≡ Ok i → casefold_image Simple F c ≡ Ok j → is_unfolded F c ≡ false
+both_fold F c i j e d = rw (folded_if c (casefold Full F c) i e, folded_if c (casefold Simple F c) j d) refl
 
 unfolded_if : (c : ℕ) (r : Option (List ℕ)) (rule : Rule) → image_or_rule c r ≡ Err rule → is_none r ≡ true
 unfolded_if c (Some s) rule e = cc
@@ -214,4 +214,4 @@ folding_stop F c r Memory shows lacks none hidden e = tt
 pub valid : (F : ℕ → Facts) (c : ℕ) (r : FactsRef) (i j : Image) (kept : KeptRecord) → shown_facts r ≡ F c → lacks_a_row F c ≡ false → expansion_rule F c ≡ None → hidden_of F c (shown_facts r) ≡ false
     → casefold_image Full F c ≡ Ok i → casefold_image Simple F c ≡ Ok j → kept_record kept ≡ record_at F c → derived F c ≡ Ok (kept_record kept)
 valid F c r i j kept shows lacks none hidden fold simple same =
-    by_none F c lacks none (sym (ap (hidden_of F c) shows) ∙ hidden) (folds F c i j fold simple) ∙ ap (λ (R : Record). Ok R) (sym same)
+    by_none F c lacks none (sym (ap (hidden_of F c) shows) ∙ hidden) (both_fold F c i j fold simple) ∙ ap (λ (R : Record). Ok R) (sym same)

@@ -260,8 +260,8 @@ module _ (F : ℕ → Facts) (c : ℕ) (p : IsPlain c (F c)) where
   has_fold : (folding : Folding) → is_none (casefold folding F c) ≡ false
   has_fold folding = folded_if c (casefold folding F c) (if default_ignorable c (F c) then To [] else Same) (fold_is folding)
 
-  folds : is_unfolded F c ≡ false
-  folds = rw (has_fold Full, has_fold Simple) refl
+  reaches : is_unfolded F c ≡ false
+  reaches = rw (has_fold Full, has_fold Simple) refl
 
   pub plain_derived : derived F c ≡ Ok (plain_record c (F c) (second_of F c))
-  plain_derived = by_none F c (lacks_none F c p) (no_rule F c u) (not_hidden F c p) folds ∙ ap (λ (R : Record). Ok R) record_is
+  plain_derived = by_none F c (lacks_none F c p) (no_rule F c u) (not_hidden F c p) reaches ∙ ap (λ (R : Record). Ok R) record_is

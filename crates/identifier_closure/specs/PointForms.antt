@@ -10,7 +10,7 @@
 --                              nothing
 -- StopsBy F c stop             the stop is the first rule that the expansions of c break; want of memory says nothing
 -- FormsAnswer F c r            r is the forms of c alone, or in their place that rule; want of memory says nothing
-use Rattle.std.specs.Prelude.{◌≡◌, ℕ, Bool, true, false, List, [], ◌∷◌, Option, Some, None, unwrap_or, Result, Ok, Err, if◌then◌else◌, ⊤}
+use Rattle.std.specs.Prelude.{◌≡◌, ℕ, true, false, List, [], ◌∷◌, Option, Some, None, unwrap_or, Result, Ok, Err, if◌then◌else◌, ⊤}
 use Rattle.ucd_model.specs.CanonicalOrder.{class_of, order}
 use Rattle.ucd_model.specs.Composites.{pair_of}
 use Rattle.ucd_model.specs.Composition.{compose}

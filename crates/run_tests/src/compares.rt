@@ -292,7 +292,7 @@ fn the_first_fault_is_told(rt: HostRuntime) -> Result<(), Fail> {
 
 /// Whether a file above the limit is refused, and not one behind it.
 fn refuses_a_long_file(alloc: Global, shelf: &mut MemoryShelf) -> Result<bool, Memory> {
-    let long = vec![in alloc; b'#'; 16_777_217]?;
+    let long = vec![in alloc; b'#'; 33_554_433]?;
     shelf.place(b"p/Scripts.txt", long.as_slice())?;
     shelf.place(b"p/PropertyAliases.txt", b"x\n")?;
     let line = b"refused: p/Scripts.txt line 0 G02\n".as_slice();

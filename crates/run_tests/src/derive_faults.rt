@@ -118,7 +118,7 @@ fn a_mapping_of_65_members_is_refused(rt: HostRuntime) -> Result<(), Fail> {
 #[test]
 fn a_line_of_semicolons_alone_is_refused(rt: HostRuntime) -> Result<(), Fail> {
     let line = b"refused: d/PropList.txt line 1 G03\n";
-    let properties = vec![in rt.alloc(); b';'; 16_777_216]?;
+    let properties = vec![in rt.alloc(); b';'; 33_554_432]?;
     assert!(rt; is_refused(rt.alloc(), b"", properties.as_slice(), line)?);
     Ok(())
 }

@@ -83,7 +83,7 @@ fn scripts_are_refused_by_their_first_fault(rt: HostRuntime) -> Result<(), Fail>
 
 /// Whether a script above the limit is refused.
 fn refuses_long_script(alloc: Global) -> Result<bool, Memory> {
-    let long = vec![in alloc; b'#'; 16_777_217]?;
+    let long = vec![in alloc; b'#'; 33_554_433]?;
     let line = b"refused: s line 0 G02\n";
     is_refused(alloc, LETTERS, Some(long.as_slice()), line)
 }

@@ -22,9 +22,9 @@ returns g c =
       nfkc = c.composed_checks-checks.result.nfkc;
       casefold = c.args.found.full;
       simple_casefold = c.args.found.simple;
-      changes_casefold = c.match-full.changes_casefold;
+      changes_casefold = c.match-found.changes_casefold;
     } in
-    let changes : c.match-full.changes_casefold ≡ is_other c.args.found.full = elim c.match-full.branch [
+    let changes : c.match-found.changes_casefold ≡ is_other c.args.found.full = elim c.match-found.branch [
       | in-Same w ↦ w.changes_casefold-is ∙ sym (ap is_other w.in-Same.is)
       | in-To w ↦ w.changes_casefold-is ∙ sym (ap is_other w.in-To.is)
     ] in

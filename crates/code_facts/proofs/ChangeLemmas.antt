@@ -22,7 +22,7 @@ use Rattle.code_facts.specs.KeptFacts.{all_kept}
 use Rattle.code_facts.specs.Rest.{RestOf}
 use Rattle.code_facts.specs.declared.pair_index.PairIndex.{PairIndex}
 use Rattle.code_facts.specs.declared.reached.Reached.{Reached}
-use Rattle.code_facts.proofs.IndexLemmas.{low_of, high_of, pair_members, pair_kind}
+use Rattle.code_facts.proofs.IndexLemmas.{low_of, high_of, pair_members, pair_candidate}
 use Rattle.code_facts.proofs.TableLemmas.{pair_inside}
 
 -- ---- tests
@@ -179,7 +179,7 @@ zero_same a b same = (booleans_Decides a b).0 (by_not (beq a b) same) where
   by_not false e = absurd (true≢false e)
 
 composes_listed : (F : ℕ → Facts) (index : PairIndex) (s y q : ℕ) → Lists index F → composes F s y q ≡ true → is_listed index s y q ≡ true
-composes_listed F index s y q lists is = lists s y q (pair_kind F s y q is) (pair_members s y (F q).mapping ((and_parts (primary F q) (is_pair s y (F q).mapping) is).1))
+composes_listed F index s y q lists is = lists s y q (pair_candidate F s y q is) (pair_members s y (F q).mapping ((and_parts (primary F q) (is_pair s y (F q).mapping) is).1))
 
 pub reached_all : (index : PairIndex) (F G : ℕ → Facts) (spans : List Bounds) (reached : Reached) → Lists index F → Lists index G → StaysOutside spans F G
     → ((c : ℕ) → list_any (within c) spans ≡ true → IsSeen index F G reached c) → AreReached F G reached.pairs.items

@@ -16,13 +16,13 @@ use Rattle.ucd_model.specs.Facts.{Facts, within}
 use Rattle.ucd_points.specs.Limits.{point_count}
 use Rattle.ucd_model.specs.declared.query.Query.{Query}
 use Rattle.ucd_model.specs.declared.query.Query.TheVariants.{Row, Pair, Second}
-use Rattle.code_facts.specs.Changes.{StaysOutside, is_among, is_pair_of, is_reached, first_differs, composes_either, IsTold, IsOnlyChanged, Gathers, Grows, ReachesOwn, IsSeen, AreReached}
+use Rattle.code_facts.specs.Changes.{StaysOutside, is_among, is_pair_of, is_reached, first_differs, composes_either, IsTold, IsOnlyChanged, Gathers, Grows, ReachesOwn, IsSeen, IsDone, AreReached}
 use Rattle.code_facts.specs.Index.{Lists, is_listed, pair_key, first_key}
 use Rattle.code_facts.specs.KeptFacts.{all_kept}
 use Rattle.code_facts.specs.Rest.{RestOf}
 use Rattle.code_facts.specs.declared.pair_index.PairIndex.{PairIndex}
 use Rattle.code_facts.specs.declared.reached.Reached.{Reached}
-use Rattle.code_facts.proofs.IndexLemmas.{low_of, high_of, pair_members, pair_kind}
+use Rattle.code_facts.proofs.IndexLemmas.{low_of, high_of, pair_members, pair_candidate}
 use Rattle.code_facts.proofs.TableLemmas.{pair_inside}
 
 -- ---- tests
@@ -114,7 +114,7 @@ seconds_more pairs i d s y old new lt is before put =
 pub reaches_grows : (F G : ℕ → Facts) (old new : List (ℕ × ℕ)) (q : ℕ) → Grows old new → ReachesOwn F G old q → ReachesOwn F G new q
 reaches_grows F G old new q grows reaches s y is = grows s y (reaches s y is)
 
-pub seen_grows : (index : PairIndex) (F G : ℕ → Facts) (old new : Reached) (c : ℕ) → Gathers F G old.queries.items new.queries.items → Grows old.pairs.items new.pairs.items
+seen_grows : (index : PairIndex) (F G : ℕ → Facts) (old new : Reached) (c : ℕ) → Gathers F G old.queries.items new.queries.items → Grows old.pairs.items new.pairs.items
     → IsSeen index F G old c → IsSeen index F G new c
 seen_grows index F G old new c more grows seen = record {
   row = told_grows F G old.queries.items new.queries.items (Row c) more seen.row;
@@ -122,18 +122,23 @@ seen_grows index F G old new c more grows seen = record {
   first = λ differs y q is. reaches_grows F G old.pairs.items new.pairs.items q grows (seen.first differs y q is);
 }
 
-seen_by : (index : PairIndex) (F G : ℕ → Facts) (old new : Reached) (c : ℕ) (was one : Bool) → (was || one) ≡ true → Gathers F G old.queries.items new.queries.items → Grows old.pairs.items new.pairs.items
-    → (was ≡ true → IsSeen index F G old c) → (one ≡ true → IsSeen index F G new c) → IsSeen index F G new c
-seen_by index F G old new c true one either more grows before here = seen_grows index F G old new c more grows (before refl)
-seen_by index F G old new c false one either more grows before here = here either
+pub done_grows : (index : PairIndex) (F G : ℕ → Facts) (old new : Reached) (c : ℕ) → Gathers F G old.queries.items new.queries.items → Grows old.pairs.items new.pairs.items
+    → IsDone index F G old c → IsDone index F G new c
+done_grows index F G old new c more grows (inl same) = inl same
+done_grows index F G old new c more grows (inr seen) = inr (seen_grows index F G old new c more grows seen)
+
+done_by : (index : PairIndex) (F G : ℕ → Facts) (old new : Reached) (c : ℕ) (was one : Bool) → (was || one) ≡ true → Gathers F G old.queries.items new.queries.items → Grows old.pairs.items new.pairs.items
+    → (was ≡ true → IsDone index F G old c) → (one ≡ true → IsDone index F G new c) → IsDone index F G new c
+done_by index F G old new c true one either more grows before here = done_grows index F G old new c more grows (before refl)
+done_by index F G old new c false one either more grows before here = here either
 
 -- one more span is gone through
-pub seen_more : (spans : List Bounds) (i : ℕ) (d : Bounds) (c : ℕ) (index : PairIndex) (F G : ℕ → Facts) (old new : Reached) → i < length spans → list_any (within c) (take (i + 1) spans) ≡ true
+pub done_more : (spans : List Bounds) (i : ℕ) (d : Bounds) (c : ℕ) (index : PairIndex) (F G : ℕ → Facts) (old new : Reached) → i < length spans → list_any (within c) (take (i + 1) spans) ≡ true
     → Gathers F G old.queries.items new.queries.items → Grows old.pairs.items new.pairs.items
-    → (list_any (within c) (take i spans) ≡ true → IsSeen index F G old c)
-    → ((get_or spans i d).lo ≤ c → c ≤ (get_or spans i d).hi → IsSeen index F G new c) → IsSeen index F G new c
-seen_more spans i d c index F G old new lt is more grows before here =
-    seen_by index F G old new c (list_any (within c) (take i spans)) (within c (get_or spans i d)) (sym (list_any_more (within c) spans i d lt) ∙ is) more grows before
+    → (list_any (within c) (take i spans) ≡ true → IsDone index F G old c)
+    → ((get_or spans i d).lo ≤ c → c ≤ (get_or spans i d).hi → IsDone index F G new c) → IsDone index F G new c
+done_more spans i d c index F G old new lt is more grows before here =
+    done_by index F G old new c (list_any (within c) (take i spans)) (within c (get_or spans i d)) (sym (list_any_more (within c) spans i d lt) ∙ is) more grows before
     (λ inside. here (low_of c (get_or spans i d) inside) (high_of c (get_or spans i d) inside))
 
 -- ---- composites that stay
@@ -179,11 +184,11 @@ zero_same a b same = (booleans_Decides a b).0 (by_not (beq a b) same) where
   by_not false e = absurd (true≢false e)
 
 composes_listed : (F : ℕ → Facts) (index : PairIndex) (s y q : ℕ) → Lists index F → composes F s y q ≡ true → is_listed index s y q ≡ true
-composes_listed F index s y q lists is = lists s y q (pair_kind F s y q is) (pair_members s y (F q).mapping ((and_parts (primary F q) (is_pair s y (F q).mapping) is).1))
+composes_listed F index s y q lists is = lists s y q (pair_candidate F s y q is) (pair_members s y (F q).mapping ((and_parts (primary F q) (is_pair s y (F q).mapping) is).1))
 
 pub reached_all : (index : PairIndex) (F G : ℕ → Facts) (spans : List Bounds) (reached : Reached) → Lists index F → Lists index G → StaysOutside spans F G
-    → ((c : ℕ) → list_any (within c) spans ≡ true → IsSeen index F G reached c) → AreReached F G reached.pairs.items
-reached_all index F G spans reached now next stays seen s y q none = by_point (list_any (within q) spans) refl where
+    → ((c : ℕ) → list_any (within c) spans ≡ true → IsDone index F G reached c) → AreReached F G reached.pairs.items
+reached_all index F G spans reached now next stays done s y q none = by_point (list_any (within q) spans) refl where
   listed : composes_either F G s y q ≡ true → is_listed index s y q ≡ true
   listed is = elim (or_cases (composes F s y q) (composes G s y q) is) [ inl f ↦ composes_listed F index s y q now f | inr g ↦ composes_listed G index s y q next g ]
 
@@ -195,12 +200,20 @@ reached_all index F G spans reached now next stays seen s y q none = by_point (l
   by_class e see true differs = by_either differs see (composes_either F G s y q) refl
   by_class e see false same = composes_alike F G s y q e (zero_same ((F s).class == 0) ((G s).class == 0) same)
 
+  by_done : F q ≡ G q → IsDone index F G reached s → composes F s y q ≡ composes G s y q
+  by_done e (inl same) = composes_alike F G s y q e (ap (λ (H : Facts). H.class == 0) same)
+  by_done e (inr see) = by_class e see (first_differs F G s) refl
+
   by_first : F q ≡ G q → (t : Bool) → list_any (within s) spans ≡ t → composes F s y q ≡ composes G s y q
-  by_first e true inside = by_class e (seen s inside) (first_differs F G s) refl
+  by_first e true inside = by_done e (done s inside)
   by_first e false outside = composes_alike F G s y q e (ap (λ (H : Facts). H.class == 0) (stays s outside))
 
+  by_own : IsDone index F G reached q → composes F s y q ≡ composes G s y q
+  by_own (inl same) = by_first same (list_any (within s) spans) refl
+  by_own (inr see) = not_reached F G reached.pairs.items s y q see.own none
+
   by_point : (t : Bool) → list_any (within q) spans ≡ t → composes F s y q ≡ composes G s y q
-  by_point true inside = not_reached F G reached.pairs.items s y q (seen q inside).own none
+  by_point true inside = by_own (done q inside)
   by_point false outside = by_first (stays q outside) (list_any (within s) spans) refl
 
 -- ---- the answers that stay
@@ -258,15 +271,19 @@ with_pair s y (p ∷ pairs) is =
     ]
 
 pub tells_all : (index : PairIndex) (F G : ℕ → Facts) (spans : List Bounds) (reached : Reached) (Q R : List Query) → Lists index F → Lists index G → StaysOutside spans F G
-    → IsOnlyChanged F G reached.queries.items → ((c : ℕ) → list_any (within c) spans ≡ true → IsSeen index F G reached c) → Gathers F G reached.queries.items Q
+    → IsOnlyChanged F G reached.queries.items → ((c : ℕ) → list_any (within c) spans ≡ true → IsDone index F G reached c) → Gathers F G reached.queries.items Q
     → ((s y : ℕ) → is_reached reached.pairs.items s y ≡ true → IsTold F G Q (Pair s y)) → ((s y : ℕ) → is_reached reached.pairs.items s y ≡ true → IsTold F G Q (Second y))
     → ((q : Query) → is_asked R q ≡ is_asked Q q) → TellsChanges F G R
-tells_all index F G spans reached Q R now next stays only seen more pairs seconds same = record { changed = λ q is. more.only only q (sym (same q) ∙ is); unchanged = λ q none. unchanged q (sym (same q) ∙ none) } where
+tells_all index F G spans reached Q R now next stays only done more pairs seconds same = record { changed = λ q is. more.only only q (sym (same q) ∙ is); unchanged = λ q none. unchanged q (sym (same q) ∙ none) } where
   all : AreReached F G reached.pairs.items
-  all = reached_all index F G spans reached now next stays seen
+  all = reached_all index F G spans reached now next stays done
+
+  by_row : (x : ℕ) → IsDone index F G reached x → is_asked Q (Row x) ≡ false → F x ≡ G x
+  by_row x (inl same) none = same
+  by_row x (inr see) none = told_grows F G reached.queries.items Q (Row x) more see.row none
 
   row : (x : ℕ) (t : Bool) → list_any (within x) spans ≡ t → is_asked Q (Row x) ≡ false → F x ≡ G x
-  row x true inside none = told_grows F G reached.queries.items Q (Row x) more (seen x inside).row none
+  row x true inside none = by_row x (done x inside) none
   row x false outside none = stays x outside
 
   pair : (s y : ℕ) (t : Bool) → is_reached reached.pairs.items s y ≡ t → is_asked Q (Pair s y) ≡ false → pair_of F s y ≡ pair_of G s y

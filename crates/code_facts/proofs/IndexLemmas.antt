@@ -8,7 +8,7 @@ use Rattle.ucd_points.specs.Limits.{point_count}
 use Rattle.ucd_model.specs.Facts.{Facts}
 use Rattle.ucd_model.specs.Composites.{is_canonical, first_has_class_zero, primary, is_pair, is_second, composes, ends_with, pair_of, second_of}
 use Rattle.ucd_model.specs.CompositeProofs.{pair_of_first, pair_of_none, second_of_some, second_of_none}
-use Rattle.code_facts.specs.Index.{Lists, is_gathered, pair_key, second_key, NoneBelow, is_that, ends_that, two_of, may_compose, picked}
+use Rattle.code_facts.specs.Index.{Lists, is_gathered, pair_key, second_key, NoneBelow, is_candidate, is_that, ends_that, two_of, may_compose, picked}
 use Rattle.std.specs.List.{list_any}
 use Rattle.std.proofs.lemmas.List.Folds.{list_any_more}
 use Rattle.ucd_points.specs.Bounds.{Bounds}
@@ -82,21 +82,27 @@ next_of p start (Some key) next = (next.0, next.2)
 
 -- ---- a composite is listed where its mapping is
 
-primary_kind : (F : ℕ → Facts) (q : ℕ) → primary F q ≡ true → is_canonical (F q).kind ≡ true
-primary_kind F q is = and_first (is_canonical (F q).kind) _ is
+candidate_by : (kind class first kept : Bool) → (kind && (class && (first && kept))) ≡ true → (kind && (class && kept)) ≡ true
+candidate_by true true true kept is = is
+candidate_by true true false kept is = absurd cc
+candidate_by true false first kept is = absurd cc
+candidate_by false class first kept is = absurd cc
 
-pub pair_kind : (F : ℕ → Facts) (s y q : ℕ) → composes F s y q ≡ true → is_canonical (F q).kind ≡ true
-pair_kind F s y q is = primary_kind F q (and_first (primary F q) (is_pair s y (F q).mapping) is)
+primary_candidate : (F : ℕ → Facts) (q : ℕ) → primary F q ≡ true → is_candidate (F q) ≡ true
+primary_candidate F q is = candidate_by (is_canonical (F q).kind) ((F q).class == 0) (first_has_class_zero F (F q).mapping) (not (F q).excluded) is
 
-pub second_kind : (F : ℕ → Facts) (y q : ℕ) → ends_with F y q ≡ true → is_canonical (F q).kind ≡ true
-second_kind F y q is = primary_kind F q (and_first (primary F q) (is_second y (F q).mapping) is)
+pub pair_candidate : (F : ℕ → Facts) (s y q : ℕ) → composes F s y q ≡ true → is_candidate (F q) ≡ true
+pair_candidate F s y q is = primary_candidate F q (and_first (primary F q) (is_pair s y (F q).mapping) is)
+
+pub second_candidate : (F : ℕ → Facts) (y q : ℕ) → ends_with F y q ≡ true → is_candidate (F q) ≡ true
+second_candidate F y q is = primary_candidate F q (and_first (primary F q) (is_second y (F q).mapping) is)
 
 pub pair_listed : (F : ℕ → Facts) (index : PairIndex) (s y q : ℕ) → Lists index F → composes F s y q ≡ true → has index.pairs (pair_key s y + q) ≡ true
 pair_listed F index s y q lists is =
     let members = pair_members s y (F q).mapping (and_second (primary F q) (is_pair s y (F q).mapping) is) in
-    and_first (has index.pairs (pair_key s y + q)) _ (and_second (nat_lt y 2097152) _ (lists s y q (primary_kind F q (and_first (primary F q) (is_pair s y (F q).mapping) is)) members))
+    and_first (has index.pairs (pair_key s y + q)) _ (and_second (nat_lt y 2097152) _ (lists s y q (primary_candidate F q (and_first (primary F q) (is_pair s y (F q).mapping) is)) members))
 
-second_members : (F : ℕ → Facts) (index : PairIndex) (y q : ℕ) (m : List ℕ) → m ≡ (F q).mapping → is_second y m ≡ true → is_canonical (F q).kind ≡ true → Lists index F → has index.seconds (second_key y + q) ≡ true
+second_members : (F : ℕ → Facts) (index : PairIndex) (y q : ℕ) (m : List ℕ) → m ≡ (F q).mapping → is_second y m ≡ true → is_candidate (F q) ≡ true → Lists index F → has index.seconds (second_key y + q) ≡ true
 second_members F index y q [] e is kind lists = absurd cc
 second_members F index y q (a ∷ []) e is kind lists = absurd cc
 second_members F index y q (a ∷ b ∷ []) e is kind lists =
@@ -106,7 +112,7 @@ second_members F index y q (a ∷ b ∷ d ∷ m) e is kind lists = absurd cc
 
 pub second_listed : (F : ℕ → Facts) (index : PairIndex) (y q : ℕ) → Lists index F → ends_with F y q ≡ true → has index.seconds (second_key y + q) ≡ true
 second_listed F index y q lists is =
-    second_members F index y q (F q).mapping refl (and_second (primary F q) (is_second y (F q).mapping) is) (primary_kind F q (and_first (primary F q) (is_second y (F q).mapping) is)) lists
+    second_members F index y q (F q).mapping refl (and_second (primary F q) (is_second y (F q).mapping) is) (primary_candidate F q (and_first (primary F q) (is_second y (F q).mapping) is)) lists
 
 -- what is not listed is no composite
 pub pair_unlisted : (F : ℕ → Facts) (index : PairIndex) (s y q : ℕ) → Lists index F → has index.pairs (pair_key s y + q) ≡ false → composes F s y q ≡ false
@@ -139,6 +145,19 @@ pair_found F s y q lt none is = sym (pair_of_first F s y q (below_count q lt) is
 
 pub pair_none : (F : ℕ → Facts) (s y : ℕ) → NoneBelow (composes F s y) 1114112 → None ≡ pair_of F s y
 pair_none F s y none = sym (pair_of_none F s y (none_count (composes F s y) none))
+
+-- nothing composes a first member with another class than 0
+first_by : (F : ℕ → Facts) (s y : ℕ) (m : List ℕ) → m ≡ s ∷ y ∷ [] → first_has_class_zero F m ≡ true → ((F s).class == 0) ≡ true
+first_by F s y m members is = sym (ap (first_has_class_zero F) members) ∙ is
+
+first_zero : (F : ℕ → Facts) (s y q : ℕ) → composes F s y q ≡ true → ((F s).class == 0) ≡ true
+first_zero F s y q is =
+    let primary_is : primary F q ≡ true = and_first (primary F q) (is_pair s y (F q).mapping) is in
+    first_by F s y (F q).mapping (pair_members s y (F q).mapping (and_second (primary F q) (is_pair s y (F q).mapping) is))
+    (and_first (first_has_class_zero F (F q).mapping) _ (and_second ((F q).class == 0) _ (and_second (is_canonical (F q).kind) _ primary_is)))
+
+pub pair_of_mark : (F : ℕ → Facts) (s y : ℕ) → ((F s).class == 0) ≡ false → None ≡ pair_of F s y
+pair_of_mark F s y other = pair_none F s y (λ q lt. false_by (composes F s y q) (λ is. true≢false (sym (first_zero F s y q is) ∙ other)))
 
 pub second_found : (F : ℕ → Facts) (y q : ℕ) → q < 1114112 → ends_with F y q ≡ true → true ≡ second_of F y
 second_found F y q lt is = sym (second_of_some F y q (below_count q lt) is)

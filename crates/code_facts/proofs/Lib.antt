@@ -12,3 +12,5 @@ mod PlainLemmas
 pub mod TableLemmas
 pub mod ChangeLemmas
 pub mod BareLemmas
+mod RestLemmas
+mod JoinedLemmas

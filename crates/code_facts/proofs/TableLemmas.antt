@@ -7,17 +7,17 @@ use Rattle.ucd_points.specs.Limits.{point_count}
 use Rattle.ucd_points.specs.Bounds.{Bounds}
 use Rattle.ucd_model.specs.Facts.{Facts, Sources, facts, unassigned, within}
 use Rattle.ucd_model.specs.FactsLemmas.{facts_inside}
-use Rattle.ucd_model.specs.Composites.{is_canonical, composes, ends_with}
+use Rattle.ucd_model.specs.Composites.{composes, ends_with}
 use Rattle.release_rows.specs.Touching.{meets, RowsMeet}
 use Rattle.range_table.specs.declared.table.Table.{Ghosts}
 use Rattle.code_facts.specs.FactTables.{words_at, rests_at, facts_at}
 use Rattle.code_facts.specs.declared.fact_tables.FactTables.{FactTables}
 use Rattle.code_facts.specs.declared.version.Version.{Version}
 use Rattle.code_facts.specs.declared.version.Version.TheVariants.{Now, Next}
-use Rattle.code_facts.proofs.IndexLemmas.{pair_kind, second_kind}
+use Rattle.code_facts.proofs.IndexLemmas.{pair_candidate, second_candidate}
 use Rattle.code_facts.specs.Changes.{StaysOutside}
 use Rattle.code_facts.specs.Copying.{with_spans, IsListed}
-use Rattle.code_facts.specs.Index.{Lists, is_listed}
+use Rattle.code_facts.specs.Index.{Lists, is_candidate, is_listed}
 use Rattle.code_facts.specs.KeptFacts.{kept_at, all_kept, Packs}
 use Rattle.code_facts.specs.Rest.{RestOf}
 use Rattle.code_facts.specs.Locality.{rows_within}
@@ -65,11 +65,11 @@ packs_by true w' w wm F' F G word is made was = word ∙ made ∙ sym (ap packed
 packs_by false w' w wm F' F G word is made was = word ∙ was ∙ sym (ap packed is)
 
 listed_by : (b : Bool) (index : PairIndex) (s y q : ℕ) (F' F G : Facts) → F' ≡ cond b G F
-    → (b ≡ true → is_canonical G.kind ≡ true → G.mapping ≡ s ∷ y ∷ [] → is_listed index s y q ≡ true)
-    → (is_canonical F.kind ≡ true → F.mapping ≡ s ∷ y ∷ [] → is_listed index s y q ≡ true)
-    → is_canonical F'.kind ≡ true → F'.mapping ≡ s ∷ y ∷ [] → is_listed index s y q ≡ true
-listed_by true index s y q F' F G e made was kind is = made refl (ap (λ (H : Facts). is_canonical H.kind) (sym e) ∙ kind) (ap (λ (H : Facts). H.mapping) (sym e) ∙ is)
-listed_by false index s y q F' F G e made was kind is = was (ap (λ (H : Facts). is_canonical H.kind) (sym e) ∙ kind) (ap (λ (H : Facts). H.mapping) (sym e) ∙ is)
+    → (b ≡ true → is_candidate G ≡ true → G.mapping ≡ s ∷ y ∷ [] → is_listed index s y q ≡ true)
+    → (is_candidate F ≡ true → F.mapping ≡ s ∷ y ∷ [] → is_listed index s y q ≡ true)
+    → is_candidate F' ≡ true → F'.mapping ≡ s ∷ y ∷ [] → is_listed index s y q ≡ true
+listed_by true index s y q F' F G e made was kind is = made refl (ap is_candidate (sym e) ∙ kind) (ap (λ (H : Facts). H.mapping) (sym e) ∙ is)
+listed_by false index s y q F' F G e made was kind is = was (ap is_candidate (sym e) ∙ kind) (ap (λ (H : Facts). H.mapping) (sym e) ∙ is)
 
 -- what is next stays outside of the spans that were copied
 pub stays_copied : (touched spans : List Bounds) → touched ≡ spans → (F old made : ℕ → Facts) (now words : ℕ → ℕ) (rests rests' : ℕ → RestOf)
@@ -81,9 +81,9 @@ stays_copied touched spans e F old made now words rests rests' same ready point 
   | inr le ↦ kept_outside now rests c le ∙ sym (kept_outside words rests' c le)
 ]
 
--- past the code points there is no mapping
-none_outside : (F : Facts) (c : ℕ) → F ≡ unassigned c → is_canonical F.kind ≡ true → ⊥
-none_outside F c e kind = true≢false (sym kind ∙ ap (λ (G : Facts). is_canonical G.kind) e)
+-- past the code points there is no candidate
+none_outside : (F : Facts) (c : ℕ) → F ≡ unassigned c → is_candidate F ≡ true → ⊥
+none_outside F c e kind = true≢false (sym kind ∙ ap is_candidate e)
 
 pub sound_put : (index more : PairIndex) (t : RowTables) (spans : List Bounds) (words words' : ℕ → ℕ) (rests rests' : ℕ → RestOf)
     → SameValues words' (with_spans words spans (word_in t)) → SameValues rests' (with_spans rests spans (rest_in t))
@@ -131,7 +131,7 @@ pub sound_made : (index : PairIndex) (t : RowTables) (words : ℕ → ℕ) (rest
 sound_made index t words rests word rest made packs = record {
   listed = λ s y q kind is. elim (cases_lt q point_count) [
     | inl lt ↦ let e = made_point t words rests word rest q (below_point q lt) in
-        made q (below_point q lt) s y (ap (λ (H : Facts). is_canonical H.kind) (sym e) ∙ kind) (ap (λ (H : Facts). H.mapping) (sym e) ∙ is)
+        made q (below_point q lt) s y (ap is_candidate (sym e) ∙ kind) (ap (λ (H : Facts). H.mapping) (sym e) ∙ is)
     | inr le ↦ absurd (none_outside (all_kept words rests q) q (kept_outside words rests q le) kind)
   ];
   packs = λ c lt. word c lt ∙ packs c lt ∙ sym (ap packed (made_point t words rests word rest c lt));
@@ -141,13 +141,13 @@ sound_made index t words rests word rest made packs = record {
 pub pair_inside : (words : ℕ → ℕ) (rests : ℕ → RestOf) (s y q : ℕ) → composes (all_kept words rests) s y q ≡ true → q < 1114112
 pair_inside words rests s y q is = elim (cases_lt q point_count) [
   | inl lt ↦ below_point q lt
-  | inr le ↦ absurd (none_outside (all_kept words rests q) q (kept_outside words rests q le) (pair_kind (all_kept words rests) s y q is))
+  | inr le ↦ absurd (none_outside (all_kept words rests q) q (kept_outside words rests q le) (pair_candidate (all_kept words rests) s y q is))
 ]
 
 pub second_inside : (words : ℕ → ℕ) (rests : ℕ → RestOf) (y q : ℕ) → ends_with (all_kept words rests) y q ≡ true → q < 1114112
 second_inside words rests y q is = elim (cases_lt q point_count) [
   | inl lt ↦ below_point q lt
-  | inr le ↦ absurd (none_outside (all_kept words rests q) q (kept_outside words rests q le) (second_kind (all_kept words rests) y q is))
+  | inr le ↦ absurd (none_outside (all_kept words rests q) q (kept_outside words rests q le) (second_candidate (all_kept words rests) y q is))
 ]
 
 -- what tables keep, now and next

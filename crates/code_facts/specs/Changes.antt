@@ -14,8 +14,9 @@
 -- ReachesOwn F G pairs q    each pair that q composes, by F or by G, is reached
 -- IsSeen index F G reached c   the question on the facts of c is told, the pairs of c are reached, and if whether c has class 0
 --                          is not the same, those of each code point that is listed under c as the first member
+-- IsDone index F G reached c   the facts of c are the same by F and by G, or c is seen
 -- AreReached F G pairs     pairs that are not reached are composed by the same code points
-use Rattle.std.specs.Prelude.{◌≡◌, ℕ, Bool, true, false, ◌&&◌, ◌||◌, not, ◌==◌, List}
+use Rattle.std.specs.Prelude.{◌≡◌, ◌⊎◌, ℕ, Bool, true, false, ◌&&◌, ◌||◌, not, ◌==◌, List}
 use Rattle.std.specs.Bool.{beq}
 use Rattle.std.specs.List.{list_any}
 use Rattle.asked_queries.specs.Answers.{SameAnswer, is_asked}
@@ -66,6 +67,9 @@ pub record IsSeen (index : PairIndex) (F G : ℕ → Facts) (reached : Reached) 
   pub row : IsTold F G reached.queries.items (Row c)
   pub own : ReachesOwn F G reached.pairs.items c
   pub first : first_differs F G c ≡ true → (y q : ℕ) → is_listed index c y q ≡ true → ReachesOwn F G reached.pairs.items q
+
+abbrev pub IsDone : PairIndex → (ℕ → Facts) → (ℕ → Facts) → Reached → ℕ → Type 0
+IsDone index F G reached c = (F c ≡ G c) ⊎ IsSeen index F G reached c
 
 abbrev pub AreReached : (ℕ → Facts) → (ℕ → Facts) → List (ℕ × ℕ) → Type 0
 AreReached F G pairs = (s y q : ℕ) → is_reached pairs s y ≡ false → composes F s y q ≡ composes G s y q

@@ -3,14 +3,13 @@
 -- with_values f lo hi g c   g from lo to hi, both of them in it, and f elsewhere
 -- with_spans f spans g c    g where some span covers c, and f elsewhere
 -- HasKeys listed m q        where the mapping m has two members, q is listed under them
--- IsListed listed t q       where the tables t keep a canonical mapping of two members for q, it is listed under them
+-- IsListed listed t q       where the tables t let q compose the two members of its mapping, q is listed under them
 use Rattle.std.specs.Prelude.{◌≡◌, ℕ, Bool, true, ◌&&◌, List, [], ◌∷◌, nat_le, if◌then◌else◌}
 use Rattle.std.specs.List.{list_any}
 use Rattle.ucd_points.specs.Bounds.{Bounds}
-use Rattle.ucd_model.specs.Composites.{is_canonical}
 use Rattle.ucd_model.specs.Facts.{within}
+use Rattle.code_facts.specs.Index.{is_candidate_word}
 use Rattle.code_facts.specs.RowTables.{word_in, rest_in}
-use Rattle.code_facts.specs.Word.{kind_of_word}
 use Rattle.code_facts.specs.declared.row_tables.RowTables.{RowTables}
 
 abbrev pub with_values : {V : Type 0} → (ℕ → V) → ℕ → ℕ → (ℕ → V) → ℕ → V
@@ -23,4 +22,4 @@ abbrev pub HasKeys : (ℕ → ℕ → ℕ → Bool) → List ℕ → ℕ → Typ
 HasKeys listed mapping q = (s y : ℕ) → mapping ≡ s ∷ y ∷ [] → listed s y q ≡ true
 
 abbrev pub IsListed : (ℕ → ℕ → ℕ → Bool) → RowTables → ℕ → Type 0
-IsListed listed t q = (s y : ℕ) → is_canonical (kind_of_word (word_in t q)) ≡ true → (rest_in t q).mapping ≡ s ∷ y ∷ [] → listed s y q ≡ true
+IsListed listed t q = (s y : ℕ) → is_candidate_word (word_in t q) ≡ true → (rest_in t q).mapping ≡ s ∷ y ∷ [] → listed s y q ≡ true

@@ -1,14 +1,14 @@
--- The index of the code points whose mapping has two members.
+-- The index of the code points that compose two members by their own facts.
 --
 -- pair_key s y           where the keys of the pair s, y begin: bits 42 to 62 are s, bits 21 to 41 are y
 -- second_key y           where the keys of the second member y begin: bits 21 to 41 are y
 -- first_key s            where the keys of all pairs begin that have s as the first member
 -- is_gathered keys s y q   q is among the keys of the pair s, y, and of the second member y, and y has no more than 21 bits
 -- is_listed index s y q  q is listed under the pair s, y, and under the second member y, and y has no more than 21 bits
--- Lists index F          each code point whose mapping is canonical and has two members is listed; others may be too
+-- Lists index F          each candidate whose mapping has two members is listed; other code points may be too
 -- is_that s y pair       the pair, where there is one, is s and y; ends_that y pair: its second member is y
 -- two_of m               the two members of a mapping; None where it has not two
--- is_candidate F q      q may be a primary composite by its kind, its class and its exclusion
+-- is_candidate facts     a code point with these facts may be a primary composite: by its kind, its class and its exclusion
 -- is_candidate_word word   the same, by its word
 -- may_compose F q s      q may be a primary composite whose mapping begins with s: by its kind, its class and its exclusion, and the
 --                        class of s
@@ -37,8 +37,11 @@ is_gathered keys s y q = nat_lt y 2097152 && (is_in keys.pairs.items (pair_key s
 abbrev pub is_listed : PairIndex → ℕ → ℕ → ℕ → Bool
 is_listed index s y q = nat_lt y 2097152 && (has index.pairs (pair_key s y + q) && has index.seconds (second_key y + q))
 
+abbrev pub is_candidate : Facts → Bool
+is_candidate facts = is_canonical facts.kind && ((facts.class == 0) && not facts.excluded)
+
 abbrev pub Lists : PairIndex → (ℕ → Facts) → Type 0
-Lists index F = (s y q : ℕ) → is_canonical (F q).kind ≡ true → (F q).mapping ≡ s ∷ y ∷ [] → is_listed index s y q ≡ true
+Lists index F = (s y q : ℕ) → is_candidate (F q) ≡ true → (F q).mapping ≡ s ∷ y ∷ [] → is_listed index s y q ≡ true
 
 abbrev pub is_that : ℕ → ℕ → Option (ℕ × ℕ) → Bool
 is_that s y (Some pair) = (pair.0 == s) && (pair.1 == y)
@@ -57,9 +60,6 @@ NoneFrom p m n = (k : ℕ) → m ≤ k → k < n → p k ≡ false
 abbrev pub two_of : List ℕ → Option (ℕ × ℕ)
 two_of (a ∷ b ∷ []) = Some (a, b)
 two_of _ = None
-
-abbrev pub is_candidate : (ℕ → Facts) → ℕ → Bool
-is_candidate F q = is_canonical (F q).kind && (((F q).class == 0) && not (F q).excluded)
 
 abbrev pub is_candidate_word : ℕ → Bool
 is_candidate_word word = is_canonical (kind_of_word word) && ((class_of_word word == 0) && not (excluded_of_word word))

@@ -22,3 +22,4 @@ pub mod FactTables
 pub mod NowView
 pub mod NextView
 pub mod Plain
+pub mod JoinedSpans

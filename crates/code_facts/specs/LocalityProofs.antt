@@ -1,6 +1,6 @@
 -- Proofs that the facts of a code point are those of the rows that speak of it.
 --
--- facts_are_local, facts_stay   the laws of the same names
+-- facts_are_local, facts_stay, others_give_none   the laws of the same names
 use Rattle.std.proofs.Common.{◌≡◌, ℕ, Bool, true, false, cond, ◌&&◌, ◌==◌, List, [], ◌∷◌, Option, Some, find, filter, is_some, refl, sym, ap, subst, ◌∙◌, nat_lt, nat_le, arith}
 use mathlib.Core.Path.{fun_ext}
 use Rattle.std.specs.List.{list_any}
@@ -21,7 +21,7 @@ use Rattle.ucd_model.specs.declared.row.FoldStatus.TheVariants as status
 use Rattle.ucd_model.specs.declared.row.Row.{Row}
 use Rattle.ucd_model.specs.declared.row.Row.TheVariants.{Unit as DataLine, Value as ValueLine, Exclusion as ExclusionLine, Fold as FoldLine, Casing as CasingLine, Alias as AliasLine}
 use Rattle.release_rows.specs.OperationLaws.{speaks_of}
-use Rattle.code_facts.specs.Locality.{rows_within, FactsAreLocal, FactsStay}
+use Rattle.code_facts.specs.Locality.{rows_within, gives_facts, FactsAreLocal, FactsStay, OthersGiveNone}
 
 -- ---- what passes p among what passes t
 
@@ -149,3 +149,13 @@ facts_stay rows next c same =
     facts_are_local (speaks_of c) next c (λ row is. is)
     ∙ ap (λ (sources : Sources). facts sources c) (fun_ext same)
     ∙ sym (facts_are_local (speaks_of c) rows c (λ row is. is))
+
+-- ---- files that give none
+
+given_same : (rows next : Sources) (c : ℕ) → ((file : SourceFile) → gives_facts file ≡ true → next file ≡ rows file) → given next c ≡ given rows c
+given_same rows next c same = λ i. made c (data_row (same UnicodeData refl i) c) (casing_row (same SpecialCasing refl i) c) (simple_folding (same CaseFolding refl i) c) (full_folding (same CaseFolding refl i) c)
+    (λ flag. list_any (gives_value (flag_name flag) c) (same PropList refl i)) (mid_word_at (same WordBreakProperty refl i) c) (excluded_at (same CompositionExclusions refl i) c)
+
+pub others_give_none : OthersGiveNone
+unfolding facts
+others_give_none rows next same = fun_ext (λ c. ap (λ (F : Facts). cond (nat_lt c point_count) F (unassigned c)) (given_same rows next c same))

@@ -13,11 +13,11 @@ use crate::fact_tables::FactTables;
 use crate::reached::Reached;
 use crate::reaching::put_unless;
 use crate::version::Version;
-use range_table::Table;
+use range_table::{Stretches, Table};
 use std::alloc::Global;
 use ucd_model::{Memory, Point, Queries, Query};
 
-impl<T: Table<u64>> FactTables<T> {
+impl<T: Stretches<u64>> FactTables<T> {
     /// The questions that the facts now and next do not answer alike: which facts a code point has, which primary
     /// composite a pair has, and whether a code point is the second member of one's mapping. They ascend, each once. The
     /// Unicode Standard, section 3.11, D114.
@@ -33,7 +33,9 @@ impl<T: Table<u64>> FactTables<T> {
         let queries = self.all_changed(alloc, reached)?;
         Ok(in_order(queries))
     }
+}
 
+impl<T: Table<u64>> FactTables<T> {
     /// The questions that were found, and those on the pairs that were reached.
     fn all_changed(&self, alloc: Global, reached: Reached) -> Result<Vec<Query>, Memory>
         ensures gathers { IfOk result (λ queries. Gathers (tables_facts T.now self.now) (tables_next T.now self.now) reached.queries.items queries.items) }

@@ -12,11 +12,14 @@ use range_table::Table;
 use ucd_model::{Kind, Point};
 
 impl<T: Table<u64>> FactTables<T> {
-    /// The least primary composite of a pair: the first that is listed under the pair and composes by the facts. The
-    /// Unicode Standard, section 3.11, D114.
+    /// The least primary composite of a pair: the first that is listed under the pair and composes by the facts. Nothing
+    /// composes a first member with another class than 0. The Unicode Standard, section 3.11, D114.
     pub(crate) fn composite(&self, version: Version, s: Point, y: Point) -> Option<Point>
         ensures { result ≡ pair_of (facts_at version self.now) s y }
     {
+        if self.class_in(version, s) != 0 {
+            return None;
+        }
         let mut from = 0;
         'listed: while let Some(q) = self.index.next_of_pair(s, y, from) {
             if is_pair(self.members(version, q), s, y) {
@@ -84,7 +87,7 @@ impl<T: Table<u64>> FactTables<T> {
 
     /// Whether a code point may be a primary composite by its kind, its class and its exclusion.
     fn is_candidate(&self, version: Version, q: Point) -> bool
-        ensures { result ≡ is_candidate (facts_at version self.now) q }
+        ensures { result ≡ is_candidate (facts_at version self.now q) }
     {
         let _number = q.number();
         is_candidate_word(self.word(version, q))
@@ -92,7 +95,7 @@ impl<T: Table<u64>> FactTables<T> {
 }
 
 /// The same, by the packed word of the code point.
-fn is_candidate_word(word: u64) -> bool
+pub fn is_candidate_word(word: u64) -> bool
     ensures { result ≡ is_candidate_word word }
 {
     let canonical = is_canonical(kind_of(word));

@@ -6,24 +6,22 @@ ghost use Rattle.range_table.specs.RunTable.{values_now};
 ghost use Rattle.ucd_model.specs.Facts.{within};
 ghost use Rattle.range_table.specs.Values.{SameValues};
 ghost use Rattle.code_facts.specs.Copying.{with_spans, with_values, HasKeys, IsListed};
-ghost use Rattle.code_facts.specs.Index.{is_gathered, is_listed};
+ghost use Rattle.code_facts.specs.Index.{is_candidate_word, is_gathered, is_listed};
 ghost use Rattle.code_facts.specs.PointLists.{lists_now};
 ghost use Rattle.code_facts.specs.Rest.{no_rest};
 ghost use Rattle.code_facts.specs.RowTables.{AreBare, word_in, rest_in};
-ghost use Rattle.code_facts.specs.Word.{kind_of_word};
-ghost use Rattle.ucd_model.specs.Composites.{is_canonical};
 
+use crate::composing::is_candidate_word;
 use crate::pair_index::PairIndex;
 use crate::pair_keys::PairKeys;
 use crate::point_lists::PointLists;
 use crate::points::{lesser, point};
 use crate::rest::Rest;
 use crate::row_tables::RowTables;
-use crate::word::kind_of;
 use kept_values::Store;
 use range_table::{RunTable, Table};
 use std::alloc::Global;
-use ucd_model::{Kind, Memory, Point, Span};
+use ucd_model::{Memory, Point, Span};
 
 /// Makes what is next in spans that of the tables of rows, and lists their code points.
 ///
@@ -48,7 +46,7 @@ pub fn put_spans<T: Table<u64>, S: Store<Rest>>(
     index.add(&keys)
 }
 
-/// Makes what is next in spans that of the tables of rows, and gathers the keys of their canonical mappings of two members.
+/// Makes what is next in spans that of the tables of rows, and gathers the keys of the code points that may compose two members.
 ///
 /// - `Memory`: memory ran out. Nothing is told of what is next then.
 pub fn copy_spans<T: Table<u64>, S: Store<Rest>>(
@@ -177,7 +175,7 @@ fn put_rest<S: Store<Rest>>(
     }
 }
 
-/// Gathers the keys of the code points of a span that have a canonical mapping of two members.
+/// Gathers the keys of the code points of a span that may compose the two members of their mapping.
 ///
 /// - `Memory`: memory ran out.
 pub fn gather_pairs(keys: &mut PairKeys, from: &RowTables, span: Span) -> Result<(), Memory>
@@ -202,7 +200,7 @@ pub fn gather_pairs(keys: &mut PairKeys, from: &RowTables, span: Span) -> Result
     Ok(())
 }
 
-/// Gathers the keys of the code points of a span that have a mapping of two members, if the kind in their word is canonical.
+/// Gathers the keys of the code points of a span that have a mapping of two members, if their word lets them compose these.
 fn gather_part(
     keys: &mut PairKeys,
     mappings: &PointLists,
@@ -210,12 +208,13 @@ fn gather_part(
     word: u64,
 ) -> Result<(), Memory>
     ensures grows { (s y q : ℕ) → is_gathered keys.old s y q ≡ true → is_gathered keys.new s y q ≡ true }
-    ensures listed { OnOk result ((q : ℕ) → part.lo ≤ q → q ≤ part.hi → is_canonical (kind_of_word word) ≡ true
+    ensures listed { OnOk result ((q : ℕ) → part.lo ≤ q → q ≤ part.hi → is_candidate_word word ≡ true
         → HasKeys (is_gathered keys.new) (lists_now mappings.now q) q) }
 {
-    match kind_of(word) {
-        Kind::Canonical => gather_twos(keys, mappings, part),
-        _ => Ok(()),
+    if is_candidate_word(word) {
+        gather_twos(keys, mappings, part)
+    } else {
+        Ok(())
     }
 }
 

@@ -21,7 +21,7 @@ pub struct FactTables<T: Table<u64>> {
     pub(crate) words: T,
     // what is kept beside them
     pub(crate) rests: Kept<T, Rest>,
-    // the code points whose mapping now or next is canonical and has two members; others may be in it too
+    // the code points whose word now or next lets them compose the two members of their mapping; others may be in it too
     pub(crate) index: PairIndex,
     // the code points outside of which next is now
     pub(crate) touched: Spans,

@@ -12,8 +12,10 @@ mod data_lists;
 mod data_tables;
 mod fact_tables;
 mod given_points;
+mod giving_files;
 mod hangul;
 mod images;
+mod joined_spans;
 pub mod laws;
 mod list_calls;
 mod list_run;
@@ -43,5 +45,6 @@ mod view;
 mod word;
 
 pub use fact_tables::FactTables;
+pub use giving_files::gives_facts;
 pub use next_view::NextView;
 pub use view::NowView;

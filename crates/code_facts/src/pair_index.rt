@@ -1,4 +1,4 @@
-//! The index of the code points whose mapping has two members.
+//! The index of the code points that may compose the two members of their mapping.
 
 ghost use Rattle.std.specs.Prelude.{◌≡◌, ℕ, ◌+◌, ◌%◌, ◌<◌, ◌≤◌, true, false, OnOk, MatchOption};
 ghost use Rattle.key_set.specs.Keys.{has, is_in};

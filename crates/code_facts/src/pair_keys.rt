@@ -1,4 +1,4 @@
-//! The keys of the code points whose mapping has two members.
+//! The keys of the code points that may compose the two members of their mapping.
 //!
 //! | bits of a key | what they say |
 //! |---|---|

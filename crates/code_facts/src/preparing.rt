@@ -16,6 +16,7 @@ ghost use Rattle.code_facts.specs.Word.{packed};
 
 use crate::copying::{copy_spans, put_spans};
 use crate::fact_tables::FactTables;
+use crate::joined_spans::joined;
 use crate::pair_index::PairIndex;
 use crate::pair_keys::PairKeys;
 use crate::points::point;
@@ -65,7 +66,8 @@ impl<T: Table<u64>> FactTables<T> {
 
     /// Makes what is next the facts of the rows of a release next. Outside of the touched spans those are the facts now.
     /// Where none is touched, nothing is done. Else the rows that speak of a touched code point are read; of every other
-    /// row only the bounds are compared.
+    /// row only the bounds are compared. Spans that overlap or touch are put together first, so each code point is gone
+    /// through once.
     ///
     /// - `Memory`: memory ran out. What is next stays.
     pub fn prepare(&mut self, alloc: Global, after: &Release, touched: &Spans) -> Result<(), Memory>
@@ -80,8 +82,9 @@ impl<T: Table<u64>> FactTables<T> {
             return Ok(());
         }
         rows_meet();
-        let made = touching_tables(alloc, after, touched.as_slice())?;
-        self.put(alloc, &made, touched.as_slice())
+        let spans = joined(alloc, touched.as_slice())?;
+        let made = touching_tables(alloc, after, spans.as_slice())?;
+        self.put(alloc, &made, spans.as_slice())
     }
 
     /// Makes the facts next of the points of spans those of tables of rows.

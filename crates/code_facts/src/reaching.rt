@@ -1,29 +1,30 @@
 //! What an edit reaches: the questions about facts that it answers otherwise, and the pairs whose composite may differ.
 
-ghost use Rattle.std.specs.Prelude.{◌≡◌, ℕ, ◌%◌, ◌≤◌, true, ◌++◌, [], ◌∷◌, IfOk, OnOk, if◌then◌else◌};
+ghost use Rattle.std.specs.Prelude.{◌≡◌, ℕ, ◌%◌, ◌≤◌, true, ◌++◌, [], ◌∷◌, IfOk, IfSome, OnOk, if◌then◌else◌};
 ghost use Rattle.std.specs.Bool.{Decides};
 ghost use Rattle.std.specs.List.{list_any};
 ghost use Rattle.ucd_model.specs.Facts.{within};
 ghost use Rattle.ucd_model.specs.Composites.{composes};
-ghost use Rattle.code_facts.specs.Changes.{Gathers, Grows, IsOnlyChanged, IsSeen, IsTold, ReachesOwn, first_differs, is_reached};
-ghost use Rattle.code_facts.specs.FactTables.{facts_at, tables_facts, tables_next};
+ghost use Rattle.code_facts.specs.Changes.{Gathers, Grows, IsDone, IsOnlyChanged, IsSeen, IsTold, ReachesOwn, first_differs, is_reached};
+ghost use Rattle.code_facts.specs.FactTables.{facts_at, rests_at, tables_facts, tables_next, words_at};
 ghost use Rattle.code_facts.specs.Index.{is_listed};
+ghost use Rattle.ucd_points.specs.Stretches.{HoldsTo};
 
 use crate::fact_tables::FactTables;
 use crate::pair_index::{first_key, listed_point};
-use crate::points::point;
+use crate::points::{lesser, point};
 use crate::reached::Reached;
 use crate::version::Version;
-use range_table::Table;
+use range_table::{Stretches, Table};
 use std::alloc::Global;
 use ucd_model::{Memory, Point, Query, Span, same_facts};
 
-impl<T: Table<u64>> FactTables<T> {
+impl<T: Stretches<u64>> FactTables<T> {
     /// What the points of spans give.
     pub(crate) fn reached(&self, alloc: Global, spans: &[Span]) -> Result<Reached, Memory>
         ensures queries { IfOk result (λ reached. IsOnlyChanged (tables_facts T.now self.now) (tables_next T.now self.now) reached.queries.items) }
-        ensures seen { IfOk result (λ reached. (c : ℕ) → list_any (within c) spans.now ≡ true
-            → IsSeen self.now.index (tables_facts T.now self.now) (tables_next T.now self.now) reached c) }
+        ensures done { IfOk result (λ reached. (c : ℕ) → list_any (within c) spans.now ≡ true
+            → IsDone self.now.index (tables_facts T.now self.now) (tables_next T.now self.now) reached c) }
     {
         let mut reached = Reached {
             queries: Vec::new(alloc),
@@ -35,19 +36,77 @@ impl<T: Table<u64>> FactTables<T> {
         Ok(reached)
     }
 
-    /// Adds what the points of a span give.
+    /// Adds what the points of a span give, stretch by stretch.
     fn reach_span(&self, reached: &mut Reached, span: Span) -> Result<(), Memory>
         ensures queries { OnOk result (Gathers (tables_facts T.now self.now) (tables_next T.now self.now) reached.old.queries.items reached.new.queries.items) }
         ensures pairs { OnOk result (Grows reached.old.pairs.items reached.new.pairs.items) }
-        ensures seen { OnOk result ((c : ℕ) → span.lo ≤ c → c ≤ span.hi
-            → IsSeen self.now.index (tables_facts T.now self.now) (tables_next T.now self.now) reached.new c) }
+        ensures done { OnOk result ((c : ℕ) → span.lo ≤ c → c ≤ span.hi
+            → IsDone self.now.index (tables_facts T.now self.now) (tables_next T.now self.now) reached.new c) }
     {
-        'points: for number in span.first()..span.last() + 1 {
-            self.reach(reached, point(number))?;
+        let end = span.last();
+        let mut at = span.first();
+        'stretches: while at <= end {
+            let last = self.reach_from(reached, point(at))?;
+            at = last.number() + 1;
         }
         Ok(())
     }
 
+    /// Adds what a code point gives, unless its facts stay. The answer is the last code point up to which all are done.
+    fn reach_from(&self, reached: &mut Reached, c: Point) -> Result<Point, Memory>
+        ensures queries { OnOk result (Gathers (tables_facts T.now self.now) (tables_next T.now self.now) reached.old.queries.items reached.new.queries.items) }
+        ensures pairs { OnOk result (Grows reached.old.pairs.items reached.new.pairs.items) }
+        ensures done { IfOk result (HoldsTo (λ d. IsDone self.now.index (tables_facts T.now self.now) (tables_next T.now self.now) reached.new d) c) }
+    {
+        if let Some(last) = self.last_same(c) {
+            return Ok(last);
+        }
+        self.reach(reached, c)?;
+        Ok(c)
+    }
+
+    /// A code point up to which the facts of all from `c` on are the same now and next; `None` if what is kept of `c` is
+    /// not. It is found by a few look-ups, and need not be the last such code point.
+    fn last_same(&self, c: Point) -> Option<Point>
+        ensures { IfSome result (HoldsTo (λ d. tables_facts T.now self.now d ≡ tables_next T.now self.now d) c) }
+    {
+        let words = self.last_same_word(c)?;
+        let rests = self.last_same_rest(c)?;
+        let last = lesser(words, rests);
+        let _last = last.number();
+        Some(last)
+    }
+
+    /// The same of the words.
+    fn last_same_word(&self, c: Point) -> Option<Point>
+        ensures { IfSome result (HoldsTo (λ d. words_at Version.Now self.now d ≡ words_at Version.Next self.now d) c) }
+    {
+        let word = self.word(Version::Now, c);
+        let word_next = self.word(Version::Next, c);
+        if word != word_next {
+            return None;
+        }
+        let now = self.words.last_of_stretch(c);
+        let next = self.words.last_of_stretch_next(c);
+        Some(lesser(now, next))
+    }
+
+    /// The same of what is kept beside the words.
+    fn last_same_rest(&self, c: Point) -> Option<Point>
+        ensures { IfSome result (HoldsTo (λ d. rests_at Version.Now self.now d ≡ rests_at Version.Next self.now d) c) }
+    {
+        let rest = self.rest(Version::Now, c);
+        let rest_next = self.rest(Version::Next, c);
+        if !rest.is_same(rest_next) {
+            return None;
+        }
+        let now = self.rests.last_of_stretch(c);
+        let next = self.rests.last_of_stretch_next(c);
+        Some(lesser(now, next))
+    }
+}
+
+impl<T: Table<u64>> FactTables<T> {
     /// Adds what a code point gives: the question on its facts, the pairs that it composes, and, if its class was or
     /// becomes 0, those that it begins.
     fn reach(&self, reached: &mut Reached, c: Point) -> Result<(), Memory>

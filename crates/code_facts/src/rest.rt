@@ -187,10 +187,73 @@ impl Rest {
         }
     }
 
+    /// Whether the mappings are those of another one.
+    #[tactic(auto, using(crate::proofs::RestLemmas::rests_alike))]
+    pub fn is_same(&self, other: &Rest) -> bool
+        ensures { IsTrue result → self.now ≡ other.now }
+    {
+        has_same_lists(self, other)
+            && has_same_foldings(self, other)
+            && has_same_casings(self, other)
+    }
+
     /// Whether there is no mapping at all.
     pub fn is_none(&self) -> bool
         ensures { IsTrue result → self.now ≡ no_rest }
     {
         matches!(&self.form, RestForm::Empty)
     }
+}
+
+/// Whether two have the same decomposition mapping and the same simple mappings to other cases.
+fn has_same_lists(a: &Rest, b: &Rest) -> bool
+    ensures mapping { IsTrue result → a.now.mapping ≡ b.now.mapping }
+    ensures upper { IsTrue result → a.now.upper ≡ b.now.upper }
+    ensures lower { IsTrue result → a.now.lower ≡ b.now.lower }
+    ensures title { IsTrue result → a.now.title ≡ b.now.title }
+{
+    is_same_list(a.mapping(), b.mapping())
+        && is_same_list(a.upper(), b.upper())
+        && is_same_list(a.lower(), b.lower())
+        && is_same_list(a.title(), b.title())
+}
+
+/// Whether two have the same foldings.
+fn has_same_foldings(a: &Rest, b: &Rest) -> bool
+    ensures common { IsTrue result → a.now.cases.common ≡ b.now.cases.common }
+    ensures full { IsTrue result → a.now.cases.full ≡ b.now.cases.full }
+    ensures simple { IsTrue result → a.now.cases.simple ≡ b.now.cases.simple }
+{
+    is_same_image(a.common_folding(), b.common_folding())
+        && is_same_image(a.full_folding(), b.full_folding())
+        && is_same_image(a.simple_folding(), b.simple_folding())
+}
+
+/// Whether two have the same full mappings to other cases.
+fn has_same_casings(a: &Rest, b: &Rest) -> bool
+    ensures lower { IsTrue result → a.now.cases.lower ≡ b.now.cases.lower }
+    ensures title { IsTrue result → a.now.cases.title ≡ b.now.cases.title }
+    ensures upper { IsTrue result → a.now.cases.upper ≡ b.now.cases.upper }
+{
+    is_same_image(a.full_lower(), b.full_lower())
+        && is_same_image(a.full_title(), b.full_title())
+        && is_same_image(a.full_upper(), b.full_upper())
+}
+
+/// Whether two images are the same, or there is none of either.
+fn is_same_image(a: Option<&[Point]>, b: Option<&[Point]>) -> bool
+    ensures { IsTrue result → option_copied a.entry ≡ option_copied b.entry }
+{
+    match (a, b) {
+        (None, None) => true,
+        (Some(a), Some(b)) => is_same_list(a, b),
+        _ => false,
+    }
+}
+
+/// Whether two lists are the same.
+fn is_same_list(a: &[Point], b: &[Point]) -> bool
+    ensures { IsTrue result → a.now ≡ b.now }
+{
+    a == b
 }

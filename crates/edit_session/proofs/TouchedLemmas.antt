@@ -1,19 +1,20 @@
 -- The code points that operations touch.
-use Rattle.std.proofs.Common.{◌≡◌, ℕ, Bool, true, false, true≢false, ◌||◌, List, [], ◌++◌, length, set, get_or, filter, Result, Ok, Err, refl, sym, ap, subst, ◌∙◌, inl, inr}
+use Rattle.std.proofs.Common.{◌≡◌, ℕ, Bool, true, false, cond, true≢false, ◌||◌, List, [], ◌++◌, length, set, get_or, filter, Result, Ok, Err, refl, sym, ap, subst, ◌∙◌, inl, inr}
 use Rattle.std.specs.List.{list_any}
 use Rattle.std.proofs.lemmas.Bool.{cases_eq, cases_lt}
 use Rattle.std.proofs.lemmas.List.{get_or-set_other, get_or-set_same, set_past}
 use Rattle.std.proofs.lemmas.List.Folds.{list_any-append}
 use Rattle.ucd_points.specs.Bounds.{Bounds}
-use Rattle.ucd_model.specs.Facts.{within}
-use Rattle.ucd_points.specs.SourceFiles.{file_place}
+use Rattle.ucd_model.specs.Facts.{Facts, within}
+use Rattle.ucd_points.specs.SourceFiles.{file_at, file_at-place, file_place}
+use Rattle.ucd_points.specs.declared.files.SourceFile.{SourceFile}
 use Rattle.release_rows.specs.FileItems.{FileItem, rows_in}
 use Rattle.release_rows.specs.OperationLaws.{RowsStay, speaks_of}
 use Rattle.release_rows.specs.Operations.{AnswersOp, edited, op_file, op_or_rule, touched, with_edited}
 use Rattle.release_rows.specs.Releases.{items_at, with_items}
 use Rattle.release_rows.specs.declared.key_rule.KeyRule.{KeyRule}
 use Rattle.release_rows.specs.declared.operation.Op.{Op}
-use Rattle.code_facts.specs.Locality.{FactsStay}
+use Rattle.code_facts.specs.Locality.{FactsStay, OthersGiveNone, gives_facts}
 use Rattle.edit_session.specs.Groups.{HasTouched, files_facts}
 
 abbrev Files : Type 0
@@ -62,10 +63,36 @@ by_edit rows_stay facts_stay op files next before spans after (Ok items) e h is 
 }
 by_edit rows_stay facts_stay op files next before spans after (Err rule) e h is = absurd h
 
-pub touched_by : RowsStay → FactsStay → (op : Op) (files next : Files) (before spans after : List Bounds)
+touched_spans : RowsStay → FactsStay → (op : Op) (files next : Files) (before spans after : List Bounds)
     → AnswersOp {A = Files} (Ok spans) (op_or_rule files op) (touched (items_at files (op_file op)) op) files next → after ≡ before ++ spans → HasTouched files next before after
-touched_by rows_stay facts_stay op files next before spans after h is =
+touched_spans rows_stay facts_stay op files next before spans after h is =
     by_edit rows_stay facts_stay op files next before spans after (edited (items_at files (op_file op)) op) refl h is
+
+-- ---- an operation on a file that gives no facts
+
+other_items : (files : Files) (op : Op) (items : List FileItem) → gives_facts (op_file op) ≡ false → (file : SourceFile) → gives_facts file ≡ true → items_at (with_items files (op_file op) items) file ≡ items_at files file
+other_items files op items none file some =
+    elim (cases_eq (file_place file) (file_place (op_file op))) [
+      | inl is ↦ absurd (true≢false (sym some ∙ ap gives_facts (sym (file_at-place file) ∙ ap file_at is ∙ file_at-place (op_file op)) ∙ none))
+      | inr other ↦ get_or-set_other files (file_place (op_file op)) (file_place file) items [] other
+    ]
+
+none_by : OthersGiveNone → (op : Op) (files next : Files) (before spans all : List Bounds) (r : Result (List FileItem) KeyRule) → gives_facts (op_file op) ≡ false
+    → AnswersOp {A = Files} (Ok spans) (with_edited files (op_file op) r) all files next → HasTouched files next before before
+none_by others op files next before spans all (Ok items) none h = record {
+  stays = λ c out.
+      ap (λ (fs : Files). files_facts fs c) h.0
+      ∙ ap (λ (F : ℕ → Facts). F c) (others (λ file. rows_in (items_at files file)) (λ file. rows_in (items_at (with_items files (op_file op) items) file)) (λ file some. ap rows_in (other_items files op items none file some)));
+  grows = λ c out. out;
+}
+none_by others op files next before spans all (Err rule) none h = absurd h
+
+-- what an operation touches is put behind the others where its file gives facts
+pub touched_by : RowsStay → FactsStay → OthersGiveNone → (op : Op) (files next : Files) (before spans after : List Bounds) (gives : Bool) → gives_facts (op_file op) ≡ gives
+    → AnswersOp {A = Files} (Ok spans) (op_or_rule files op) (touched (items_at files (op_file op)) op) files next → after ≡ cond gives (before ++ spans) before → HasTouched files next before after
+touched_by rows_stay facts_stay others op files next before spans after true gives h is = touched_spans rows_stay facts_stay op files next before spans after h is
+touched_by rows_stay facts_stay others op files next before spans after false gives h is =
+    subst (HasTouched files next before) (sym is) (none_by others op files next before spans (touched (items_at files (op_file op)) op) (edited (items_at files (op_file op)) op) gives h)
 
 -- ---- operations
 

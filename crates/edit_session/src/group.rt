@@ -1,8 +1,9 @@
 //! A group of operations, up to where nothing can fail any more.
 
-ghost use Rattle.std.specs.Prelude.{◌≡◌, ℕ, ◌≤◌, length, IfOk, OnOk};
+ghost use Rattle.std.specs.Prelude.{◌≡◌, ℕ, ◌≤◌, ◌++◌, length, IfOk, OnOk, if◌then◌else◌};
 ghost use Rattle.std.specs.List.{All};
-ghost use Rattle.release_rows.specs.Operations.{IsOp};
+ghost use Rattle.code_facts.specs.Locality.{gives_facts};
+ghost use Rattle.release_rows.specs.Operations.{IsOp, op_file};
 ghost use Rattle.ucd_model.specs.Facts.{Facts};
 ghost use Rattle.edit_session.specs.Benches.{HasNothingPrepared, bench_facts};
 ghost use Rattle.edit_session.specs.Derivations.{IsNext, IsNow, IsStill};
@@ -12,11 +13,12 @@ ghost use Rattle.edit_session.specs.Groups.{AnswersAs, AppliesAs, CountsAs, HasT
 use crate::accepted::Accepted;
 use crate::apply_stop::{ApplyStop, Refused};
 use crate::derivation::Derivation;
-use code_facts::laws::facts_stay;
+use code_facts::gives_facts;
+use code_facts::laws::{facts_stay, others_give_none};
 use release_rows::{Op, OpStop, Release, rows_stay};
 use std::alloc::Global;
 use std::sync::ledger::Ledger;
-use ucd_model::{Points, Spans, Steps};
+use ucd_model::{Memory, Points, Spans, Steps};
 
 /// Carries the operations out on a release and on what is derived of it, or leaves both as they are.
 ///
@@ -98,7 +100,7 @@ fn prepare_rows(release: &mut Release, group: &[Op], touched: &mut Spans) -> Res
 }
 
 /// Carries an operation of this number out on what is prepared. The code points that it touches are put behind the
-/// others.
+/// others, if rows of its file give facts.
 fn prepare_op(
     release: &mut Release,
     op: &Op,
@@ -112,12 +114,24 @@ fn prepare_op(
 {
     rows_stay();
     facts_stay();
+    others_give_none();
     match release.prepare(op) {
         Ok(spans) => {
-            touched.append(spans.as_slice())?;
+            put_touched(touched, op, &spans)?;
             Ok(())
         }
         Err(OpStop::Key(rule)) => Err(ApplyStop::Refused(Refused::Key { rule, op: number })),
         Err(OpStop::Memory) => Err(ApplyStop::Memory),
+    }
+}
+
+/// Puts spans of an operation behind the others, if rows of its file give facts.
+fn put_touched(touched: &mut Spans, op: &Op, spans: &Spans) -> Result<(), Memory>
+    ensures { OnOk result (touched.new ≡ (if gives_facts (op_file op.now) then touched.old ++ spans.now else touched.old)) }
+{
+    if gives_facts(op.file()) {
+        touched.append(spans.as_slice())
+    } else {
+        Ok(())
     }
 }

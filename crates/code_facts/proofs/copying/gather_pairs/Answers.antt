@@ -1,10 +1,8 @@
-use Rattle.std.proofs.Common.{ℕ, sym, ap, subst, ◌∙◌, arith, inl, inr}
+use Rattle.std.proofs.Common.{sym, ap, subst, ◌∙◌, arith, inl, inr}
 use Rattle.std.proofs.lemmas.Bool.{cases_lt}
-use Rattle.ucd_model.specs.Composites.{is_canonical}
 use Rattle.code_facts.specs.Copying.{HasKeys}
-use Rattle.code_facts.specs.Index.{is_gathered}
+use Rattle.code_facts.specs.Index.{is_candidate_word, is_gathered}
 use Rattle.code_facts.specs.PointLists.{lists_now}
-use Rattle.code_facts.specs.Word.{kind_of_word}
 use Rattle.code_facts.specs.declared.data_lists.DataLists.{DataLists}
 use Rattle.code_facts.proofs.copying.gather_pairs.Goals as goal
 
@@ -18,6 +16,6 @@ stretches-preserved c = record {
     | inr from ↦
         let word = c.run-run.ensures.same q (omega arith) (omega arith) ∙ sym c.run-run.ensures.value in
         subst (λ (lists : DataLists). HasKeys (is_gathered c.gather_part.new.keys) (lists_now lists.mappings q) q) c.deref.ensures
-        (c.in_ok-gather_part.ensures.listed q (omega arith) (omega arith) (ap (λ (w : ℕ). is_canonical (kind_of_word w)) (sym word) ∙ kind)) s y is
+        (c.in_ok-gather_part.ensures.listed q (omega arith) (omega arith) (ap is_candidate_word (sym word) ∙ kind)) s y is
   ];
 }

@@ -1,10 +1,16 @@
 use Rattle.std.proofs.Common.{◌≡◌, ℕ, ◌<◌, false, true, sym, ◌∙◌, arith}
+use Rattle.std.proofs.lemmas.Bool.Decides.{nat_tests}
 use Rattle.ucd_model.specs.Facts.{Facts}
 use Rattle.ucd_model.specs.Composites.{composes}
 use Rattle.code_facts.specs.FactTables.{words_at, rests_at, facts_at}
-use Rattle.code_facts.proofs.IndexLemmas.{pair_unlisted, pair_found, pair_none, none_more, none_next}
+use Rattle.code_facts.proofs.IndexLemmas.{pair_of_mark, pair_unlisted, pair_found, pair_none, none_more, none_next}
 use Rattle.code_facts.proofs.TableLemmas.{listed_at, pair_inside}
 use Rattle.code_facts.proofs.fact_tables.FactTables.composite.Goals as goal
+
+-- nothing composes a mark
+pub returns-then-class_in-ne0 : goal.returns-then-class_in-ne0
+returns-then-class_in-ne0 g c =
+    pair_of_mark (facts_at c.args.version c.args.self.now) c.args.s c.args.y (grind (arith, nat_tests, c.class_in.ensures))
 
 pub returns-then-is_pair : goal.returns-then-is_pair
 returns-then-is_pair g c =

@@ -25,14 +25,14 @@ returns-then-is_empty-clause-ok g c =
     (λ k lt. c.requires.touched k lt (subst (λ (spans : List Bounds). list_any (within k) spans ≡ false) (sym none) refl))
 
 pub put-requires-clause-words : goal.put-requires-clause-words
-put-requires-clause-words g c = shown_packs c.in_ok-made.made (rows_within (meets c.as_slice-2.result.now) (next_sources c.args.after.now)) c.in_ok-made.ensures
+put-requires-clause-words g c = shown_packs c.in_ok-made.made (rows_within (meets c.as_slice-3.result.now) (next_sources c.args.after.now)) c.in_ok-made.ensures
 
 pub returns-clause-ok : goal.returns-clause-ok
 returns-clause-ok g c =
     let t = c.args.self.now in
     let rows = next_sources c.args.after.now in
     on_ok_map c.put.result _ _
-    (λ point. put_facts c.in_ok-made.made rows c.as_slice-3.result.now (words_at Next c.put.new.self) (rests_at Next c.put.new.self) (facts_at Next t) point (subst (λ (spans : List Bounds). (k : ℕ) → k < 1114112 → ShowsRows c.in_ok-made.made (rows_within (meets spans) rows) k) (c.as_slice-2.ensures ∙ sym c.as_slice-3.ensures) c.in_ok-made.ensures) c.rows_meet.ensures
+    (λ point. put_facts c.in_ok-made.made rows c.as_slice-4.result.now (words_at Next c.put.new.self) (rests_at Next c.put.new.self) (facts_at Next t) point (subst (λ (spans : List Bounds). (k : ℕ) → k < 1114112 → ShowsRows c.in_ok-made.made (rows_within (meets spans) rows) k) (c.as_slice-3.ensures ∙ sym c.as_slice-4.ensures) c.in_ok-made.ensures) c.rows_meet.ensures
     (λ k lt none. ap (λ (F : ℕ → Facts). F k) c.requires.ready
-    ∙ c.requires.touched k lt (subst (λ (spans : List Bounds). list_any (within k) spans ≡ false) c.as_slice-3.ensures none)))
+    ∙ c.requires.touched k lt (ap (list_any (within k)) (sym c.as_slice-2.ensures) ∙ sym (c.in_ok-spans.ensures k) ∙ ap (list_any (within k)) (sym c.as_slice-4.ensures) ∙ none)))
     c.put.ensures.ok

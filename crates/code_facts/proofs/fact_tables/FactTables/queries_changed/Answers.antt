@@ -14,4 +14,4 @@ returns-clause-tells g c =
     let all = c.in_ok-queries.ensures in
     tells_all t.index (facts_at Now t) (facts_at Next t) c.as_slice.result.now c.in_ok-reached.reached c.in_ok-queries.queries.items c.in_order.result (listed_at Now t) (listed_at Next t)
     (subst (λ (spans : List Bounds). StaysOutside spans (facts_at Now t) (facts_at Next t)) (sym c.as_slice.ensures) t.stays)
-    found.queries found.seen all.gathers all.pairs all.seconds c.in_order.ensures.asked
+    found.queries found.done all.gathers all.pairs all.seconds c.in_order.ensures.asked

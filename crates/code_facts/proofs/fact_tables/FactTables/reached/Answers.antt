@@ -5,13 +5,13 @@ use Rattle.asked_queries.specs.Answers.{is_asked}
 use Rattle.ucd_model.specs.declared.query.Query.{Query}
 use Rattle.code_facts.specs.FactTables.{facts_at}
 use Rattle.code_facts.specs.declared.version.Version.TheVariants.{Now, Next}
-use Rattle.code_facts.proofs.ChangeLemmas.{seen_more}
+use Rattle.code_facts.proofs.ChangeLemmas.{done_more}
 use Rattle.code_facts.proofs.fact_tables.FactTables.reached.Goals as goal
 
 pub spans-init : goal.spans-init
 spans-init g c = record {
   only = λ q is. absurd (true≢false (sym is ∙ ap (λ (Q : List Query). is_asked Q q) c.new.ensures.items));
-  seen = λ k is. absurd (true≢false (sym is));
+  done = λ k is. absurd (true≢false (sym is));
 }
 
 pub spans-preserved : goal.spans-preserved
@@ -22,11 +22,11 @@ spans-preserved g c =
     let inside : i < length c.args.spans.now = omega arith in
     record {
       only = step.queries.only c.spans.invariant.only;
-      seen = λ k is. seen_more c.args.spans.now i c.span-item.result k t.index (facts_at Now t) (facts_at Next t) c.spans.reached c.reach_span.new.reached inside is step.queries step.pairs (c.spans.invariant.seen k)
-          (rw (sym c.span-item.is) (λ low high. step.seen k low high));
+      done = λ k is. done_more c.args.spans.now i c.span-item.result k t.index (facts_at Now t) (facts_at Next t) c.spans.reached c.reach_span.new.reached inside is step.queries step.pairs (c.spans.invariant.done k)
+          (rw (sym c.span-item.is) (λ low high. step.done k low high));
     }
 
-pub returns-clause-seen : goal.returns-clause-seen
-returns-clause-seen g c k is =
+pub returns-clause-done : goal.returns-clause-done
+returns-clause-done g c k is =
     let all : take c.spans.span-index c.args.spans.now ≡ c.args.spans.now = take_all c.spans.span-index c.args.spans.now (omega arith) in
-    c.spans.invariant.seen k (rw all is)
+    c.spans.invariant.done k (rw all is)

@@ -1,14 +1,14 @@
 use Rattle.std.proofs.Common.{◌≡◌, ℕ, true, take}
 use Rattle.std.specs.List.{list_any}
 use Rattle.ucd_model.specs.Facts.{within}
-use Rattle.code_facts.specs.Changes.{IsOnlyChanged, IsSeen}
+use Rattle.code_facts.specs.Changes.{IsDone, IsOnlyChanged}
 use Rattle.code_facts.specs.FactTables.{facts_at}
 use Rattle.code_facts.specs.declared.version.Version.TheVariants.{Now, Next}
 use Rattle.code_facts.proofs.fact_tables.FactTables.reached.Given as goal
 
--- the points of the spans before this one are seen
+-- the points of the spans before this one are done
 abbrev pub invariant-spans : goal.invariant-spans
 invariant-spans g l = record {
   only : IsOnlyChanged (facts_at Now l.self) (facts_at Next l.self) l.reached.queries.items;
-  seen : (c : ℕ) → list_any (within c) (take l.span-index l.spans) ≡ true → IsSeen l.self.index (facts_at Now l.self) (facts_at Next l.self) l.reached c;
+  done : (c : ℕ) → list_any (within c) (take l.span-index l.spans) ≡ true → IsDone l.self.index (facts_at Now l.self) (facts_at Next l.self) l.reached c;
 }

@@ -12,8 +12,8 @@ use ucd_model::Queries;
 /// `prepare` changes what is next, `commit` makes it what is now, and `discard` drops it.
 ///
 /// A code point is plain until questions are prepared for it: then it asks for its own row, and whether it is a second
-/// member, and takes no room. The questions of the others lie in a store of type `S`. Those of earlier states are not let go
-/// before the map is.
+/// member, and takes no room. The questions of the others lie in a store of type `S`. Those of earlier states stay
+/// until [`DependencyMap::sweep`] lets them go.
 #[derive(Drop)]
 pub struct DependencyMap<S: Store<Option<Queries>>> {
     pub(crate) alloc: Global,

@@ -21,6 +21,10 @@ pub struct DependencyMap<S: Store<Option<Queries>>> {
     pub(crate) lists: Option<S>,
     // the code points under the questions that they ask now or next, but for their own ones; they may be under others too
     pub(crate) askers: KeySet,
+    // how many questions were prepared since the code points were listed under all
+    pub(crate) prepared: usize,
+    // how many of these are few
+    pub(crate) few: usize,
     ghost now_listed: { Lists (has askers) (kept_at S.now lists) },
     ghost next_listed: { Lists (has askers) (kept_at S.next lists) },
 }

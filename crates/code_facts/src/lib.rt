@@ -39,6 +39,7 @@ mod rest;
 mod row_lists;
 mod row_tables;
 mod shown;
+mod sweeping;
 mod uniform;
 mod version;
 mod view;

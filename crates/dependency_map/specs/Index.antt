@@ -11,6 +11,7 @@
 -- NoneFrom p m n      no number from m up to n passes p (n does not count)
 -- Lists has kept      each code point is listed under the questions that are kept for it and are not its own ones; others may be
 --                     listed too
+-- ListsFrom has kept m n   so is each from m up to n (n does not count)
 use Rattle.std.specs.Prelude.{◌≡◌, ℕ, ◌+◌, ◌*◌, ◌<◌, ◌≤◌, Bool, true, false, ◌==◌, ◌||◌, nat_le, if◌then◌else◌, List, Option, Some, None}
 use Rattle.ucd_model.specs.declared.query.Query.{Query}
 use Rattle.ucd_model.specs.declared.query.Query.TheVariants.{Row, Pair, Second}
@@ -53,3 +54,6 @@ NoneFrom p m n = (k : ℕ) → m ≤ k → k < n → p k ≡ false
 
 abbrev pub Lists : (ℕ → Bool) → (ℕ → Option (List Query)) → Type 0
 Lists has kept = (c : ℕ) → c < 1114112 → (q : Query) → keeps (kept c) q ≡ true → may_ask has q c ≡ true
+
+abbrev pub ListsFrom : (ℕ → Bool) → (ℕ → Option (List Query)) → ℕ → ℕ → Type 0
+ListsFrom has kept m n = (c : ℕ) → m ≤ c → c < n → (q : Query) → keeps (kept c) q ≡ true → may_ask has q c ≡ true

@@ -12,8 +12,8 @@ use ucd_model::Queries;
 /// `prepare` changes what is next, `commit` makes it what is now, and `discard` drops it.
 ///
 /// A code point is plain until questions are prepared for it: then it asks for its own row, and whether it is a second
-/// member, and takes no room. The questions of the others lie in a store of type `S`. Those of earlier states are not let go
-/// before the map is.
+/// member, and takes no room. The questions of the others lie in a store of type `S`. Those of earlier states stay
+/// until [`DependencyMap::sweep`] lets them go.
 #[derive(Drop)]
 pub struct DependencyMap<S: Store<Option<Queries>>> {
     pub(crate) alloc: Global,
@@ -21,6 +21,10 @@ pub struct DependencyMap<S: Store<Option<Queries>>> {
     pub(crate) lists: Option<S>,
     // the code points under the questions that they ask now or next, but for their own ones; they may be under others too
     pub(crate) askers: KeySet,
+    // how many questions were prepared since the code points were listed under all
+    pub(crate) prepared: usize,
+    // how many of these are few
+    pub(crate) few: usize,
     ghost now_listed: { Lists (has askers) (kept_at S.now lists) },
     ghost next_listed: { Lists (has askers) (kept_at S.next lists) },
 }

@@ -10,6 +10,8 @@ pub mod laws;
 mod listing;
 mod number_set;
 mod preparing;
+mod relisting;
+mod sweeping;
 
 pub use asker_iter::Askers;
 pub use dependencies::{DependencyMap, Listing};

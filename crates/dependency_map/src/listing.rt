@@ -8,6 +8,7 @@ ghost use Rattle.dependency_map.specs.Maps.{asked_at, put_at};
 use crate::asker_index::push_keys;
 use crate::dependencies::{DependencyMap, Listing};
 use crate::preparing::put_list;
+use crate::relisting::few_beside;
 use kept_values::Store;
 use key_set::KeySet;
 use std::alloc::Global;
@@ -50,10 +51,13 @@ impl<S: Store<Option<Queries>>> Listing<S> {
         if let Some(lists) = &mut lists {
             lists.commit();
         }
+        let few = few_beside(&keys);
         DependencyMap {
             alloc,
             lists,
             askers: KeySet::of(alloc, keys),
+            prepared: 0,
+            few,
         }
     }
 }

@@ -8,6 +8,7 @@ ghost use Rattle.dependency_map.specs.Maps.{asked_at};
 
 use crate::asker_index::list;
 use crate::dependencies::DependencyMap;
+use crate::relisting::FEW;
 use kept_values::Store;
 use key_set::KeySet;
 use std::alloc::Global;
@@ -23,6 +24,8 @@ impl<S: Store<Option<Queries>>> DependencyMap<S> {
             alloc,
             lists: None,
             askers: KeySet::new(alloc),
+            prepared: 0,
+            few: FEW,
         }
     }
 
@@ -35,6 +38,7 @@ impl<S: Store<Option<Queries>>> DependencyMap<S> {
         ensures err { OnErr result (SameValues (asked_at S.next self.new) (asked_at S.next self.old)) }
     {
         let copy = asked.copy(self.alloc)?;
+        self.prepared = self.prepared.saturating_add(asked.len());
         list(&mut self.askers, c, asked)?;
         put_list(self.alloc, &mut self.lists, c, copy)
     }

@@ -123,6 +123,16 @@ impl Derivation {
         }
     }
 
+    /// Lets go of mappings, records and questions of earlier states, as far as the `sweep` of each does.
+    pub fn sweep(&mut self)
+        ensures now { (F : ℕ → Facts) → IsNow F self.old → IsNow F self.new }
+        ensures still { IsStill self.old → IsStill self.new }
+    {
+        self.tables.sweep();
+        self.records.sweep();
+        self.questions.sweep();
+    }
+
     /// What is next becomes now, and stays next. It takes no memory.
     pub fn commit(&mut self)
         ensures committed { (F : ℕ → Facts) → IsNext F self.old → IsNow F self.new }

@@ -38,6 +38,7 @@ pub fn apply_group<L: Ledger>(
     ensures answer { AppliesAs result (group_answer release.old.current group.now) release.old release.new }
     ensures counted { CountsAs (after_ops release.old.current 0 group.now) (bench_facts release.old) steps.old steps.new }
 {
+    derivation.sweep();
     match prepare_group(alloc, release, derivation, group, steps) {
         Ok(changed) => {
             release.commit();

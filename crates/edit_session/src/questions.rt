@@ -66,6 +66,14 @@ impl Questions {
         Ok(())
     }
 
+    /// Lets go of questions of earlier states, as far as `DependencyMap::sweep` does.
+    pub fn sweep(&mut self)
+        ensures now { (F : ℕ → Facts) → KeepsNow F self.old → KeepsNow F self.new }
+        ensures still { AreStill self.old → AreStill self.new }
+    {
+        self.map.sweep();
+    }
+
     /// What is next becomes now, and stays next. It takes no memory.
     pub fn commit(&mut self)
         ensures committed { (F : ℕ → Facts) → KeepsNext F self.old → KeepsNow F self.new }

@@ -1,39 +1,28 @@
 //! Stores over a table of places.
 
-ghost use Rattle.std.specs.Prelude.{◌≡◌, ◌≢◌, ℕ, ◌+◌, ◌%◌, ◌<◌, ◌≤◌, length, vec_len};
-ghost use Rattle.kept_values.specs.Pool.{Lie, value_at};
+ghost use Rattle.std.specs.Prelude.{◌≡◌, ◌≢◌, ℕ, ◌+◌, ◌%◌, ◌<◌, ◌≤◌};
+ghost use Rattle.range_table.specs.Values.{SameValues};
+ghost use Rattle.kept_values.specs.Slots.{AreHeld};
 
+use crate::slots::Slots;
 use crate::store::Store;
+use crate::used::{spare_next, spare_now};
 use range_table::{Stretches, Table};
 use std::alloc::Global;
 use ucd_points::{Memory, Point, Span};
 
 /// A store that keeps its values one after another, and the place of each code point's value in a table of type `T`.
 ///
-/// To look a value up is one look-up in the table. The values are never let go before the store is: also those that
-/// were prepared and discarded.
+/// To look a value up is one look-up in the table. Values that no code point has any more, also those that were prepared
+/// and discarded, stay until [`Kept::sweep`] lets them go.
 #[derive(Drop)]
 pub struct Kept<T: Table<u64>, V: Drop> {
     // the place of each code point's value
     places: T,
-    // the value at place 0
-    first: V,
-    // the values at the places from 1 on
-    more: Vec<V>,
-    ghost now_lie: { Lie (vec_len more) (T.now places) },
-    ghost next_lie: { Lie (vec_len more) (T.next places) },
-}
-
-/// The value at a place.
-fn value_in<'a, V: Drop>(first: &'a V, more: &'a [V], place: u64) -> &'a V
-    requires { place ≤ length more.now }
-    ensures { result.now ≡ value_at first.now more.now place }
-{
-    if place == 0 {
-        first
-    } else {
-        &more[place as usize - 1]
-    }
+    // the values at their places
+    slots: Slots<V>,
+    ghost now_held: { AreHeld slots (T.now places) },
+    ghost next_held: { AreHeld slots (T.next places) },
 }
 
 impl<T: Table<u64>, V: Drop> Store<V> for Kept<T, V> {
@@ -52,32 +41,34 @@ impl<T: Table<u64>, V: Drop> Store<V> for Kept<T, V> {
     fn filled(alloc: Global, value: V) -> Result<Kept<T, V>, Memory> {
         Ok(Kept {
             places: T::filled(alloc, 0)?,
-            first: value,
-            more: Vec::new(alloc),
+            slots: Slots::new(alloc, value),
         })
     }
 
     fn get(&self, c: Point) -> &V {
-        value_in(&self.first, &self.more, self.places.get(c))
+        self.slots.get(self.places.get(c))
     }
 
     fn get_next(&self, c: Point) -> &V {
-        value_in(&self.first, &self.more, self.places.get_next(c))
+        self.slots.get(self.places.get_next(c))
     }
 
+    #[tactic(auto, using(crate::proofs::SlotSteps::some_of))]
     fn place(&self, c: Point) -> u64 {
         self.places.get(c)
     }
 
+    #[tactic(auto, using(crate::proofs::SlotSteps::some_of))]
     fn place_next(&self, c: Point) -> u64 {
         self.places.get_next(c)
     }
 
+    #[tactic(auto, using(crate::proofs::SlotSteps::held_same, crate::proofs::SlotSteps::values_same))]
     fn hold(&mut self, value: V) -> Result<u64, Memory> {
-        self.more.push(value)?;
-        Ok(self.more.len() as u64)
+        self.slots.hold(value)
     }
 
+    #[tactic(auto, using(crate::proofs::SlotSteps::held_span))]
     fn prepare_held(&mut self, span: Span, place: u64) -> Result<(), Memory> {
         self.places.prepare(span, place)
     }
@@ -97,11 +88,30 @@ impl<T: Table<u64>, V: Drop> Store<V> for Kept<T, V> {
 
     fn shrink_to_fit(&mut self) {
         self.places.shrink_to_fit();
-        self.more.shrink_to_fit();
+        self.slots.shrink_to_fit();
     }
 }
 
 impl<T: Stretches<u64>, V: Drop> Kept<T, V> {
+    /// Lets go of the values that no code point has, now or next, once many were held since that was done last; as far as
+    /// there is memory to look for them. It takes steps by the stretches of the table and the values. What is now and next
+    /// stays.
+    #[tactic(auto, using(crate::proofs::SlotSteps::held_same, crate::proofs::SlotSteps::values_same))]
+    pub fn sweep(&mut self)
+        ensures now { SameValues (⟦<Kept<T, V> as Store<V>>⟧.now self.new) (⟦<Kept<T, V> as Store<V>>⟧.now self.old) }
+        ensures next { SameValues (⟦<Kept<T, V> as Store<V>>⟧.next self.new) (⟦<Kept<T, V> as Store<V>>⟧.next self.old) }
+    {
+        if self.slots.are_few() {
+            return;
+        }
+        if let Ok(mut all) = self.slots.all_unused() {
+            let unused = all.as_mut_slice();
+            spare_now(&self.places, unused);
+            spare_next(&self.places, unused);
+            self.slots.let_go(unused);
+        }
+    }
+
     /// The last code point of a stretch from a code point on in which all values now stand at one place.
     /// It ends at the end of a block of 256 code points, or where the place changes.
     pub fn last_of_stretch(&self, c: Point) -> Point

@@ -2,7 +2,9 @@
 #![tactic(auto)]
 
 mod kept;
+mod slots;
 mod store;
+mod used;
 
 pub use kept::Kept;
 pub use store::Store;

@@ -9,8 +9,8 @@ use ucd_points::{Memory, Point, Span};
 /// A value of any type for each code point, twice: the values now, and the values next.
 /// `prepare` changes what is next, `commit` makes it what is now, and `discard` drops it.
 ///
-/// A store holds each value at a place. A value that is held stays at its place as long as the store lives, so spans
-/// with one value can share it, and values at one place are the same.
+/// A store holds each value at a place. A value that is held stays at its place under every call here, so spans with one
+/// value can share it, and values at one place are the same.
 pub trait Store<V: Drop>: Sized + Drop {
     // the values now, and next; numbers above the last code point do not count
     ghost now: { Self → ℕ → V };

@@ -14,8 +14,8 @@ use ucd_model::{Memory, Point, Record, Records, Span};
 /// The records of all code points, twice: those now, and those next. `prepare` and `prepare_span` change what is next,
 /// `commit` makes it what is now, and `discard` drops it.
 ///
-/// A record is held once for neighbours that have it, if they got it one after another. Records are not let go before the
-/// table is.
+/// A record is held once for neighbours that have it, if they got it one after another. Records that no code point has any
+/// more stay until [`RecordTable::sweep`] lets them go.
 #[derive(Drop)]
 pub struct RecordTable {
     records: HeldRecords,
@@ -115,6 +115,15 @@ impl RecordTable {
         ensures next { SameValues (record_next self.new) (record_next self.old) }
     {
         self.records.commit();
+    }
+
+    /// Lets go of records that no code point has any more, now or next, once many were prepared since that was done last, as
+    /// far as there is memory to look for them. What is now and next stays.
+    pub fn sweep(&mut self)
+        ensures now { SameValues (record_now self.new) (record_now self.old) }
+        ensures next { SameValues (record_next self.new) (record_next self.old) }
+    {
+        self.records.sweep();
     }
 
     /// What is now becomes next. It takes no memory.

@@ -6,6 +6,12 @@ use Rattle.edit_session.specs.Groups.{files_facts, group_answer}
 use Rattle.edit_session.proofs.GroupLemmas.{applied, bench_after}
 use Rattle.edit_session.proofs.group.apply_group.Goals as goal
 
+pub prepare_group-requires-clause-now : goal.prepare_group-requires-clause-now
+prepare_group-requires-clause-now g c = c.sweep.ensures.now (bench_facts c.args.release.now) c.requires.before.now
+
+pub prepare_group-requires-clause-next : goal.prepare_group-requires-clause-next
+prepare_group-requires-clause-next g c = c.sweep.ensures.still c.requires.before.next
+
 pub returns-in-Ok-clause-after : goal.returns-in-Ok-clause-after
 returns-in-Ok-clause-after g c =
     bench_after c.commit.new.self c.prepare_group.new.release.prepared c.commit-in-Ok.new.self c.commit.ensures
@@ -13,7 +19,7 @@ returns-in-Ok-clause-after g c =
 
 pub returns-in-Err-clause-after : goal.returns-in-Err-clause-after
 returns-in-Err-clause-after g c =
-    let kept = c.discard-in-Err.ensures.now (bench_facts c.args.release.now) (c.prepare_group.ensures.kept (bench_facts c.args.release.now) c.requires.before.now) in
+    let kept = c.discard-in-Err.ensures.now (bench_facts c.args.release.now) (c.prepare_group.ensures.kept (bench_facts c.args.release.now) (c.sweep.ensures.now (bench_facts c.args.release.now) c.requires.before.now)) in
     bench_after c.discard.new.self c.prepare_group.new.release.current c.discard-in-Err.new.self c.discard.ensures
     (subst (λ (fs : List (List FileItem)). IsNow (files_facts fs) c.discard-in-Err.new.self) (sym c.prepare_group.ensures.now) kept) c.discard-in-Err.ensures.still
 

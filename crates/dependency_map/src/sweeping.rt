@@ -1,0 +1,40 @@
+//! Questions of earlier states, which are let go.
+
+ghost use Rattle.dependency_map.specs.Maps.{asked_at};
+ghost use Rattle.kept_values.specs.Kept.{values};
+ghost use Rattle.range_table.specs.Values.{SameValues};
+
+use crate::dependencies::DependencyMap;
+use crate::relisting::{few_beside, keys_of};
+use kept_values::Kept;
+use key_set::KeySet;
+use range_table::Stretches;
+use ucd_model::Queries;
+
+impl<T: Stretches<u64>> DependencyMap<Kept<T, Option<Queries>>> {
+    /// Lets go of questions that no code point asks any more, now or next, once many were prepared since that was done last,
+    /// as far as there is memory to look for them. What is now and next stays.
+    pub fn sweep(&mut self)
+        ensures now { SameValues (asked_at (values T.now) self.new) (asked_at (values T.now) self.old) }
+        ensures next { SameValues (asked_at (values T.next) self.new) (asked_at (values T.next) self.old) }
+    {
+        if let Some(lists) = &mut self.lists {
+            lists.sweep();
+        }
+        if self.prepared > self.few {
+            self.list_anew();
+        }
+    }
+
+    /// Lists the code points under the questions that they ask now or next, and under no others, if there is memory.
+    fn list_anew(&mut self)
+        ensures now { SameValues (asked_at (values T.now) self.new) (asked_at (values T.now) self.old) }
+        ensures next { SameValues (asked_at (values T.next) self.new) (asked_at (values T.next) self.old) }
+    {
+        if let Ok(keys) = keys_of(self.alloc, &self.lists) {
+            self.prepared = 0;
+            self.few = few_beside(&keys);
+            self.askers = KeySet::of(self.alloc, keys);
+        }
+    }
+}

@@ -22,13 +22,11 @@ pub struct Script {
     pub group: Option<OpenGroup>,
 }
 
-/// The list of one operation.
+/// The list of one operation, which has room for no more.
 fn one_op(alloc: Global, op: Op) -> Result<Ops, Memory>
     ensures { IfOk result (λ ops. ops ≡ op ∷ []) }
 {
-    let mut ops = Ops::new(alloc);
-    ops.push(op)?;
-    Ok(ops)
+    Ok(Ops::from_vec(vec![in alloc; op]?))
 }
 
 /// The command that asks a question.

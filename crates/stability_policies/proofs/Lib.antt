@@ -6,6 +6,7 @@ pub mod StretchLemmas
 pub mod PointLemmas
 pub mod ReportLemmas
 pub mod NameLemmas
+pub mod PlaceLemmas
 pub mod LeftRows
 pub mod OrderedRows
 pub mod SameOrder

@@ -3,6 +3,7 @@ pub mod Examples
 pub mod CaselessLists
 pub mod Views
 pub mod Reports
+pub mod NamePlaces
 pub mod ReportTexts
 pub mod CommonForms
 pub mod BrokenStretches

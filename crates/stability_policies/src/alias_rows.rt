@@ -1,15 +1,17 @@
 //! P17: the names of rows of alias files. UAX #44, section 5.8.
 
-ghost use Rattle.std.specs.Prelude.{◌≡◌, ◌++◌, cond, ◌∷◌, [], is_some, map, not, IfOk, OnOk};
-ghost use Rattle.std.specs.List.{list_all, list_any, position};
-ghost use Rattle.std.specs.Str.{bytes_eq};
+ghost use Rattle.std.specs.Prelude.{◌≡◌, ◌++◌, ◌∷◌, [], cond, map, not, true, IfOk, IsTrue, OnOk};
+ghost use Rattle.std.specs.List.{list_any};
 ghost use Rattle.release_rows.specs.Releases.{items_now, rows_at};
+ghost use Rattle.ucd_points.specs.declared.files.SourceFile.{SourceFile};
 ghost use Rattle.stability_policies.specs.Reports.{keeps_first, keeps_names, lost_in, names_in, same_first};
 ghost use Rattle.stability_policies.specs.declared.breaks.Break.TheVariants.{Alias};
 
 use crate::breaks::{Break, Breaks};
+use crate::name_places::NamePlaces;
 use release_rows::{Release, RowText};
 use std::alloc::Global;
+use std::marker::Model;
 use ucd_model::{ListOf, Memory, Row, SourceFile, Text, Texts};
 
 /// Puts the breaks of P17 by the rows of a file, by line.
@@ -24,17 +26,16 @@ pub fn put_lost(
 ) -> Result<(), Memory>
     ensures { OnOk result (into.new ≡ into.old ++ lost_in file old.now new.now) }
 {
-    let kept = all_names(alloc, file, new)?;
+    let names = all_names(alloc, file, new)?;
+    let mut kept = KeptRows::of(names.as_slice());
     let mut rows = old.rows(file);
-    let mut likely = 0;
     'rows: while let Some((line, row)) = rows.next() {
-        likely = put_if_lost(alloc, file, line, &row, kept.as_slice(), likely, into)?;
+        put_if_lost(alloc, file, line, &row, &mut kept, into)?;
     }
     Ok(())
 }
 
-/// Puts a break by a row, if none of the rows with these names keeps its names. The one at `likely` is tried first.
-/// The answer is where the one that keeps those of the row behind it is likely to be.
+/// Puts a break by a row, if none of the rows of the new file keeps its names.
 ///
 /// - `Memory`: memory ran out.
 fn put_if_lost(
@@ -42,21 +43,18 @@ fn put_if_lost(
     file: SourceFile,
     line: u64,
     row: &RowText<'_>,
-    kept: &[Texts],
-    likely: usize,
+    kept: &mut KeptRows<'_>,
     into: &mut Breaks,
-) -> Result<usize, Memory>
-    ensures { OnOk result (into.new ≡ into.old
-        ++ cond (not (list_any (keeps_names file (names_in row.now)) kept.now)) ((Alias file line) ∷ []) []) }
+) -> Result<(), Memory>
+    ensures lost { OnOk result (into.new ≡ into.old
+        ++ cond (not (list_any (keeps_names file (names_in row.now)) kept.old)) ((Alias file line) ∷ []) []) }
+    ensures same { kept.new ≡ kept.old }
 {
     let names = names_of(alloc, row)?;
-    match kept_at(file, &names, kept, likely) {
-        Some(place) => Ok(place.saturating_add(1)),
-        None => {
-            into.push(Break::Alias { file, line })?;
-            Ok(likely)
-        }
+    if !kept.keep(alloc, file, names.as_slice())? {
+        into.push(Break::Alias { file, line })?;
     }
+    Ok(())
 }
 
 /// The names of the rows of a file, row by row.
@@ -85,49 +83,86 @@ fn names_of(alloc: Global, row: &RowText<'_>) -> Result<Texts, Memory>
     }
 }
 
-/// The place of a row that keeps the names: `likely`, if that one does, and else the first such place; `None` where no row
-/// keeps them.
-fn kept_at(file: SourceFile, names: &Texts, rows: &[Texts], likely: usize) -> Option<usize>
-    ensures { is_some result ≡ list_any (keeps_names file names.now) rows.now }
-{
-    if likely < rows.len() && keeps_names(file, names, &rows[likely]) {
-        return Some(likely);
+/// The rows of the new file, of which some may keep the names of a row. Contracts see the names of each.
+#[derive(Drop)]
+struct KeptRows<'a> {
+    rows: &'a [Texts],
+    // the place behind the row that was found last
+    likely: usize,
+    // made when a row is not found there
+    places: Option<NamePlaces<'a>>,
+}
+
+impl<'a> Model for KeptRows<'a> {
+    ghost use Rattle.std.specs.Prelude.{◌≡◌, ℕ, List, IfSome};
+
+    ghost Value = { List (List (List ℕ)) };
+
+    ghost view = { λ k. k.rows.now };
+
+    ghost invariant = { λ k. IfSome k.places (λ places. places ≡ k.rows.now) };
+}
+
+impl<'a> KeptRows<'a> {
+    /// Rows with these names.
+    fn of(rows: &'a [Texts]) -> KeptRows<'a>
+        ensures { result ≡ rows.now }
+    {
+        KeptRows {
+            rows,
+            likely: 0,
+            places: None,
+        }
     }
-    first_kept(file, names, rows)
+
+    /// Whether the row at the likely place has the same names, in the same order.
+    fn is_likely(&self, names: &[Text]) -> bool
+        ensures { IsTrue result → (file : SourceFile) → list_any (keeps_names file names.now) self.now ≡ true }
+    {
+        self.likely < self.rows.len() && are_same(names, self.rows[self.likely].as_slice())
+    }
+
+    /// Whether a row keeps these names.
+    ///
+    /// - `Memory`: memory ran out.
+    fn keep(&mut self, alloc: Global, file: SourceFile, names: &[Text]) -> Result<bool, Memory>
+        ensures found { IfOk result (λ kept. kept ≡ list_any (keeps_names file names.now) self.old) }
+        ensures same { self.new ≡ self.old }
+    {
+        if self.is_likely(names) {
+            self.likely = self.likely.saturating_add(1);
+            return Ok(true);
+        }
+        let places = match self.places.take() {
+            Some(places) => places,
+            None => NamePlaces::of(alloc, self.rows)?,
+        };
+        let found = places.kept_at(file, names);
+        self.places = Some(places);
+        if let Some(place) = found {
+            self.likely = place.saturating_add(1);
+        }
+        Ok(found.is_some())
+    }
 }
 
-/// The first place of a row that keeps the names; `None` where no row keeps them.
-fn first_kept(file: SourceFile, names: &Texts, rows: &[Texts]) -> Option<usize>
-    ensures { result ≡ position (keeps_names file names.now) rows.now }
+/// Whether the names of two rows are the same, in the same order.
+fn are_same(a: &[Text], b: &[Text]) -> bool
+    ensures { IsTrue result → a.now ≡ b.now }
 {
-    rows.iter().position(|row| keeps_names(file, names, row))
-}
-
-/// Whether a row with the names `b` keeps those of a row with the names `a`.
-fn keeps_names(file: SourceFile, a: &Texts, b: &Texts) -> bool
-    ensures { result ≡ keeps_names file a.now b.now }
-{
-    keeps_first(file, a.as_slice(), b.as_slice()) && are_among(a.as_slice(), b.as_slice())
-}
-
-/// Whether all of these names are among those.
-fn are_among(names: &[Text], others: &[Text]) -> bool
-    ensures { result ≡ list_all (λ name. list_any (bytes_eq name) others.now) names.now }
-{
-    names.iter().all(|name| is_among(name, others))
-}
-
-/// Whether a name is among these.
-fn is_among(name: &Text, names: &[Text]) -> bool
-    ensures { result ≡ list_any (bytes_eq name.now) names.now }
-{
-    names
-        .iter()
-        .any(|other| name.as_slice() == other.as_slice())
+    if a.len() != b.len() {
+        return false;
+    }
+    for at in 0..a.len() {
+        if a[at].as_slice() != b[at].as_slice() {
+            return false;
+        }
+    }
+    true
 }
 
 /// Whether the first names are the same, if the first name of a row of this file names a property.
-fn keeps_first(file: SourceFile, a: &[Text], b: &[Text]) -> bool
+pub fn keeps_first(file: SourceFile, a: &[Text], b: &[Text]) -> bool
     ensures { result ≡ keeps_first file a.now b.now }
 {
     match file {

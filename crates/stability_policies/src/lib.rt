@@ -12,6 +12,7 @@ mod differing;
 mod form_tests;
 mod laws;
 mod mapping_tests;
+mod name_places;
 mod named_row;
 mod names;
 mod point_breaks;

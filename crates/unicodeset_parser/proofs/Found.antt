@@ -59,7 +59,7 @@ found_by word b bs true e r h = (record { low = omega arith; high = omega arith;
 found_by word b bs false e None h = λ k le lt. nowhere_later word b bs (length bs + 1) e h k (omega arith)
 found_by word b bs false e (Some i) h = (record { low = omega arith; high = omega (arith, h.0.high); before = λ k le lt. nowhere_later word b bs i e h.0.before k lt }, later_occurs b bs word i h.1)
 
-found_finds : (word hay : List ℕ) → 0 < length word → FindsNeedle hay word 0 (found_at word hay)
+pub found_finds : (word hay : List ℕ) → 0 < length word → FindsNeedle hay word 0 (found_at word hay)
 found_finds word [] some = λ k le lt h. omega (arith, h.fits)
 found_finds word (b ∷ bs) some = found_by word b bs (begins word (b ∷ bs)) refl (found_at word bs) (found_finds word bs some)
 

@@ -9,6 +9,8 @@ pub mod Stops
 pub mod FaultNames
 pub mod FaultPlaces
 pub mod Lexemes
+pub mod TextParts
+pub mod TreeTexts
 pub mod ReadBack
 pub mod Closings
 pub mod Written

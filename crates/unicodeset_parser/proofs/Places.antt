@@ -215,6 +215,6 @@ rises_strictly low (x ∷ y ∷ xs) h (suc k) lt =
 pub places_ascend : PlacesAscend
 places_ascend text t h =
     let ps = tokens 0 0 text in
-    let are : token_names ps ≡ tree_names t = set_names (sound (length text) ps t (read_is text t h)) ∙ append-nil (tree_names t) in
+    let are : token_names ps ≡ tree_names t = set_names (sound (length text) ps t (read_is text t h).1) ∙ append-nil (tree_names t) in
     let P : List Name → Type 0 = λ ns. Rise 0 (map name_place ns) in
     rises_strictly 0 (map name_place (tree_names t)) (subst P are (tokens_rise 0 0 text))

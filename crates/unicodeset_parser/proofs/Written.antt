@@ -1,4 +1,4 @@
--- Each tree that is read can be written.
+-- Each tree that is read can be written, and its text is UTF-8.
 use Rattle.std.proofs.Common.{◌≡◌, ℕ, zero, suc, ◌+◌, ◌-◌, ◌<◌, ◌≤◌, Bool, true, false, cond, List, [], ◌∷◌, ◌++◌, length, take, drop, get_or, Option, Some, None, Ok, Err, refl, sym, ap, subst, ◌∙◌, arith}
 use Rattle.std.proofs.lemmas.Bool.Decides.{nat_tests}
 use Rattle.std.proofs.lemmas.List.Sums.{split_at_first, passes_at_first}
@@ -7,7 +7,8 @@ use Rattle.std.proofs.Common.{inl, inr}
 use lib.Utf8.{scalar_cases}
 use Rattle.std.specs.List.{position_or_len, before_first, after_first}
 use Rattle.std.specs.Option.{is_some}
-use Rattle.std.specs.Str.{is_utf8}
+use Rattle.std.proofs.lemmas.Str.{IsUtf8-from_is_utf8}
+use Rattle.std.specs.Str.{IsUtf8, is_utf8}
 use Rattle.bstr.specs.Utf8.{decoded}
 use Rattle.bstr.proofs.lemmas.SoundLemmas.{SpellsChar-decoded}
 use Rattle.ucd_points.specs.Bounds.{Bounds}
@@ -21,18 +22,21 @@ use Rattle.unicodeset_parser.specs.Lexing.{tokens, tokens_by, lexed, lexed_by, o
 use Rattle.unicodeset_parser.specs.Machine.{Fault, before, run}
 use Rattle.unicodeset_parser.specs.Parsed.{parsed}
 use Rattle.unicodeset_parser.specs.Properties.{not_equal, is_equals, property_at, closed_at, property_sign, parted, braces}
-use Rattle.unicodeset_parser.specs.Spelling.{holds_brace, joined_name, closing_of, IsProperty, IsSetTree, a_name, a_value, no_name, no_value, a_bracket, no_bracket, AreSteps, none, united, met, taken, spelled, ReadTreesCanBeWritten}
+use Rattle.unicodeset_parser.specs.Spelling.{holds_brace, joined_name, closing_of, IsProperty, IsSetTree, a_name, a_value, no_name, no_value, a_bracket, no_bracket, AreSteps, none, united, met, taken, spelled, ReadTreesCanBeWritten, ReadTreesAreText, ReadTreesReadBack}
 use Rattle.unicodeset_parser.specs.Tokens.{Sign, Token, placed, Lexed, sized, dash, letter, property, wrong}
-use Rattle.unicodeset_parser.specs.Trees.{Tree, named, valued, Step, steps_of, negated_by, bracket_of}
+use Rattle.unicodeset_parser.specs.Trees.{Tree, named, valued, bracket, Step, steps_of, negated_by, bracket_of}
 use Rattle.unicodeset_parser.specs.declared.token.Wrong.TheVariants.{RefusedName}
 use Rattle.unicodeset_parser.proofs.Closings.{brace_behind_name, no_brace_before, colon_front, front_plain}
+use Rattle.unicodeset_parser.proofs.ReadBack.{texts_read_back}
 use Rattle.unicodeset_parser.proofs.Sound.{sound}
+use Rattle.unicodeset_parser.proofs.TextParts.{EndsText, ends_step, ends_drop, behind_first, before_word}
+use Rattle.unicodeset_parser.proofs.TreeTexts.{HasTexts, HaveTexts, negated_texts, text_is_utf8}
 
--- ---- signs whose letters are code points, and whose properties can be written
+-- ---- signs whose letters are code points, and whose properties can be written as texts
 
 abbrev IsGood : Sign → Type 0
 IsGood (letter c) = c < 1114112
-IsGood (property t) = (n : ℕ) → IsSetTree n t
+IsGood (property t) = (n : ℕ) → IsSetTree n t × HasTexts t
 IsGood _ = Unit
 
 record Good (x : Lexed) : Type 0 where
@@ -49,6 +53,10 @@ good_if : (b : Bool) {x y : Lexed} → Good x → Good y → Good (cond b x y)
 good_if true h k = h
 good_if false h k = k
 
+good_when : (b : Bool) {x y : Lexed} → (b ≡ true → Good x) → Good y → Good (cond b x y)
+good_when true h k = h refl
+good_when false h k = k
+
 good_wrong : (w : _) → Good (sized 1 (wrong w))
 good_wrong w = record { sign = tt }
 
@@ -57,6 +65,7 @@ good_wrong w = record { sign = tt }
 record IsName (negated : Bool) (name : List ℕ) : Type 0 where
   closed : (rest : List ℕ) → found_at (closing_of name) (name ++ (closing_of name ++ rest)) ≡ Some (length name)
   plain : holds_brace name ≡ true → negated ≡ false → begins_with 94 (name ++ 58 ∷ []) ≡ false
+  text : IsUtf8 name
 
 named_tree : (negated : Bool) (name : List ℕ) (at n : ℕ) → IsProperty negated name (named name) → IsSetTree n (negated_by negated (named name at))
 named_tree true name at n h = no_name h
@@ -97,13 +106,14 @@ sign_by negated name at true b c h k l is = good_as (property_sign negated name 
 sign_by negated name at false true true h k l is = good_as (property_sign negated name at) (wrong RefusedName) (value_refused negated name at h k l) tt
 sign_by negated name at false false c h k l is =
     good_as (property_sign negated name at) (property (negated_by negated (named name at))) (is_alone negated name at h k)
-    (λ n. named_tree negated name at n (record { closed = is.closed; spelled = λ at'. is_alone negated name at' h k; plain = is.plain }))
+    (λ n. (named_tree negated name at n (record { closed = is.closed; spelled = λ at'. is_alone negated name at' h k; plain = is.plain }), negated_texts negated (named name at) is.text))
 sign_by negated name at false true false h k l is =
     let p = before_first is_equals name in
     let v = after_first is_equals name in
     let P : List ℕ → Type 0 = λ x. IsProperty negated x (valued p v) in
+    let Q : List ℕ → Type 0 = λ x. IsUtf8 x in
     good_as (property_sign negated name at) (property (negated_by negated (valued p v at))) (is_parted negated name at h k l)
-    (λ n. valued_tree negated p v at n (subst P (joins name k) (record { closed = is.closed; spelled = λ at'. is_parted negated name at' h k l; plain = is.plain })))
+    (λ n. (valued_tree negated p v at n (subst P (joins name k) (record { closed = is.closed; spelled = λ at'. is_parted negated name at' h k l; plain = is.plain })), negated_texts negated (valued p v at) (subst Q (joins name k) is.text)))
 
 sign_good : (negated : Bool) (name : List ℕ) (at : ℕ) → IsName negated name → IsGood (property_sign negated name at)
 sign_good negated name at is = sign_by negated name at (is_some (found_at not_equal name)) (nat_lt (position_or_len is_equals name) (length name)) (begins_with 47 (after_first is_equals name)) refl refl refl is
@@ -122,34 +132,34 @@ closed_by name b e h =
     let P : Bool → Type 0 = λ b. (rest : List ℕ) → found_at (cond b (58 ∷ 93 ∷ []) (125 ∷ [])) (name ++ (cond b (58 ∷ 93 ∷ []) (125 ∷ []) ++ rest)) ≡ Some (length name) in
     subst P (sym e) h
 
-braced_name : (negated : Bool) (bs : List ℕ) (k : ℕ) → found_at (125 ∷ []) bs ≡ Some k → IsName negated (take k bs)
-braced_name negated bs k h =
+braced_name : (negated : Bool) (bs : List ℕ) → IsUtf8 bs → (k : ℕ) → found_at (125 ∷ []) bs ≡ Some k → IsName negated (take k bs)
+braced_name negated bs text k h =
     let no = no_brace_before bs k h in
-    record { closed = closed_by (take k bs) false no (λ rest. brace_behind_name (take k bs) rest no); plain = λ e f. absurd (cc) }
+    record { closed = closed_by (take k bs) false no (λ rest. brace_behind_name (take k bs) rest no); plain = λ e f. absurd (cc); text = before_word 125 [] bs k (omega arith) h text }
 
 colon_closed : (bs : List ℕ) (k : ℕ) (b : Bool) → holds_brace (take k bs) ≡ b → found_at (58 ∷ 93 ∷ []) bs ≡ Some k → (rest : List ℕ) → found_at (closing_of (take k bs)) (take k bs ++ (closing_of (take k bs) ++ rest)) ≡ Some (length (take k bs))
 colon_closed bs k true e h = closed_by (take k bs) true e (λ rest. colon_front bs rest k h)
 colon_closed bs k false e h = closed_by (take k bs) false e (λ rest. brace_behind_name (take k bs) rest e)
 
-colon_name : (negated : Bool) (bs : List ℕ) (k : ℕ) → (negated ≡ false → begins_with 94 bs ≡ false) → found_at (58 ∷ 93 ∷ []) bs ≡ Some k → IsName negated (take k bs)
-colon_name negated bs k free h = record { closed = colon_closed bs k (holds_brace (take k bs)) refl h; plain = λ e f. front_plain bs k (free f) }
+colon_name : (negated : Bool) (bs : List ℕ) → IsUtf8 bs → (k : ℕ) → (negated ≡ false → begins_with 94 bs ≡ false) → found_at (58 ∷ 93 ∷ []) bs ≡ Some k → IsName negated (take k bs)
+colon_name negated bs text k free h = record { closed = colon_closed bs k (holds_brace (take k bs)) refl h; plain = λ e f. front_plain bs k (free f); text = before_word 58 (93 ∷ []) bs k (omega arith) h text }
 
 -- ---- tokens
 
 good_escape : Good bad_escape
 good_escape = record { sign = tt }
 
-braces_good : (at : ℕ) (negated : Bool) (bs : List ℕ) → Good (braces at negated bs)
-braces_good at negated [] = record { sign = tt }
-braces_good at negated (b ∷ bs) = good_if (b == 123) (property_good at negated 3 (125 ∷ []) bs (braced_name negated bs)) good_escape
+braces_good : (at : ℕ) (negated : Bool) (bs : List ℕ) → EndsText bs → Good (braces at negated bs)
+braces_good at negated [] text = record { sign = tt }
+braces_good at negated (b ∷ bs) text = good_when (b == 123) (λ e. property_good at negated 3 (125 ∷ []) bs (braced_name negated bs (behind_first 123 (b ∷ bs) (omega arith) e text))) good_escape
 
-colon_by : (at : ℕ) (bs : List ℕ) (b : Bool) → begins_with 94 bs ≡ b → Good (cond b (property_at at true 3 (58 ∷ 93 ∷ []) (drop 1 bs)) (property_at at false 2 (58 ∷ 93 ∷ []) bs))
-colon_by at bs true e = property_good at true 3 (58 ∷ 93 ∷ []) (drop 1 bs) (λ k. colon_name true (drop 1 bs) k (λ f. absurd (cc)))
-colon_by at bs false e = property_good at false 2 (58 ∷ 93 ∷ []) bs (λ k. colon_name false bs k (λ f. e))
+colon_by : (at : ℕ) (bs : List ℕ) (b : Bool) → begins_with 94 bs ≡ b → IsUtf8 bs → Good (cond b (property_at at true 3 (58 ∷ 93 ∷ []) (drop 1 bs)) (property_at at false 2 (58 ∷ 93 ∷ []) bs))
+colon_by at bs true e text = property_good at true 3 (58 ∷ 93 ∷ []) (drop 1 bs) (λ k. colon_name true (drop 1 bs) (behind_first 94 bs (omega arith) e ([], text)) k (λ f. absurd (cc)))
+colon_by at bs false e text = property_good at false 2 (58 ∷ 93 ∷ []) bs (λ k. colon_name false bs text k (λ f. e))
 
-opening_good : (at : ℕ) (bs : List ℕ) → Good (opening at bs)
+opening_good : (at : ℕ) (bs : List ℕ) → EndsText bs → Good (opening at bs)
 unfolding opening
-opening_good at bs = good_if (begins_with 58 bs) (colon_by at (drop 1 bs) (begins_with 94 (drop 1 bs)) refl) (good_if (begins_with 94 bs) (record { sign = tt }) (record { sign = tt }))
+opening_good at bs text = good_when (begins_with 58 bs) (λ e. colon_by at (drop 1 bs) (begins_with 94 (drop 1 bs)) refl (behind_first 58 bs (omega arith) e text)) (good_if (begins_with 94 bs) (record { sign = tt }) (record { sign = tt }))
 
 spelled_by : (size n : ℕ) (b : Bool) → nat_lt n 1114112 ≡ b → Good (spelled_letter size (cond b (Some n) None))
 spelled_by size n false e = good_escape
@@ -197,47 +207,47 @@ scalar_below c (inr h) = h.1
 char_below : (bs : List ℕ) (c : ℕ) → (decoded bs).char ≡ Some c → c < 1114112
 char_below bs c h = scalar_below c (scalar_cases c (SpellsChar-decoded bs c h).scalar)
 
-escape_by_good : (at : ℕ) (r : Option ℕ) (size : ℕ) (bs : List ℕ) → ((c : ℕ) → r ≡ Some c → c < 1114112) → Good (escape_by at r size bs)
-escape_by_good at None size bs h = record { sign = tt }
-escape_by_good at (Some c) size bs h =
-    good_if (c == 112) (braces_good at false bs)
-    (good_if (c == 80) (braces_good at true bs)
+escape_by_good : (at : ℕ) (r : Option ℕ) (size : ℕ) (bs : List ℕ) → EndsText bs → ((c : ℕ) → r ≡ Some c → c < 1114112) → Good (escape_by at r size bs)
+escape_by_good at None size bs text h = record { sign = tt }
+escape_by_good at (Some c) size bs text h =
+    good_if (c == 112) (braces_good at false bs text)
+    (good_if (c == 80) (braces_good at true bs text)
     (good_if (c == 78) (record { sign = tt })
     (good_if (c == 117) (any_good 4 bs)
     (good_if (c == 120) (any_good 2 bs)
     (good_if (c == 85) (fixed_good 8 bs) (plain_good c size (h c refl)))))))
 
-escape_good : (at : ℕ) (bs : List ℕ) → Good (escape at bs)
+escape_good : (at : ℕ) (bs : List ℕ) → EndsText bs → Good (escape at bs)
 unfolding escape
-escape_good at bs = escape_by_good at (decoded bs).char (decoded bs).size (drop 1 bs) (char_below bs)
+escape_good at bs text = escape_by_good at (decoded bs).char (decoded bs).size (drop 1 bs) (ends_drop bs text) (char_below bs)
 
 hyphen_good : (b : Bool) → Good (sized 1 (cond b (letter 45) dash))
 hyphen_good true = record { sign = omega arith }
 hyphen_good false = record { sign = tt }
 
-lexed_by_good : (at : ℕ) (r : Option ℕ) (size : ℕ) (bs : List ℕ) → ((c : ℕ) → r ≡ Some c → c < 1114112) → Good (lexed_by at r size bs)
-lexed_by_good at None size bs h = record { sign = tt }
-lexed_by_good at (Some c) size bs h =
-    good_if (c == 91) (opening_good at bs)
+lexed_by_good : (at : ℕ) (r : Option ℕ) (size : ℕ) (bs : List ℕ) → EndsText bs → ((c : ℕ) → r ≡ Some c → c < 1114112) → Good (lexed_by at r size bs)
+lexed_by_good at None size bs text h = record { sign = tt }
+lexed_by_good at (Some c) size bs text h =
+    good_if (c == 91) (opening_good at bs text)
     (good_if (c == 93) (record { sign = tt })
     (good_if (c == 38) (record { sign = tt })
     (good_if (c == 45) (hyphen_good (closes 0 bs))
-    (good_if (c == 92) (escape_good at bs)
+    (good_if (c == 92) (escape_good at bs text)
     (good_if ((c == 123) || (c == 36)) (record { sign = tt })
     (good_if ((c == 125) || (c == 94)) (record { sign = tt }) (record { sign = h c refl })))))))
 
-lexed_good : (at : ℕ) (bs : List ℕ) → Good (lexed at bs)
+lexed_good : (at : ℕ) (bs : List ℕ) → EndsText bs → Good (lexed at bs)
 unfolding lexed
-lexed_good at bs = lexed_by_good at (decoded bs).char (decoded bs).size (drop 1 bs) (char_below bs)
+lexed_good at bs text = lexed_by_good at (decoded bs).char (decoded bs).size (drop 1 bs) (ends_drop bs text) (char_below bs)
 
 tokens_by_good : (n at : ℕ) (x : Lexed) (behind : ℕ → List Token) → Good x → ((m : ℕ) → AllGood (behind m)) → AllGood (tokens_by n at x behind)
 tokens_by_good zero at x behind h k = (h.sign, k (x.size - 1))
 tokens_by_good (suc n) at x behind h k = k n
 
-tokens_good : (k at : ℕ) (bs : List ℕ) → AllGood (tokens k at bs)
-tokens_good k at [] = tt
-tokens_good zero at (b ∷ bs) = tokens_by_good (blank_size (b ∷ bs)) at (lexed at (b ∷ bs)) (λ n. tokens n (suc at) bs) (lexed_good at (b ∷ bs)) (λ m. tokens_good m (suc at) bs)
-tokens_good (suc k) at (b ∷ bs) = tokens_good k (suc at) bs
+tokens_good : (k at : ℕ) (bs : List ℕ) → EndsText bs → AllGood (tokens k at bs)
+tokens_good k at [] text = tt
+tokens_good zero at (b ∷ bs) text = tokens_by_good (blank_size (b ∷ bs)) at (lexed at (b ∷ bs)) (λ n. tokens n (suc at) bs) (lexed_good at (b ∷ bs) text) (λ m. tokens_good m (suc at) bs (ends_step b bs text))
+tokens_good (suc k) at (b ∷ bs) text = tokens_good k (suc at) bs (ends_step b bs text)
 
 -- ---- trees
 
@@ -259,24 +269,35 @@ chars_good (one l) h = record { ascends = omega arith; below = letter_below l h.
 chars_good (up_to l le) h = record { ascends = le; below = h.1.1.0; good = h.1.1.1 }
 
 mutual
-  set_written : {n : ℕ} {ps : List Token} {t : Tree} {rest : List Token} → IsSet n ps t rest → AllGood ps → IsSetTree n t × AllGood rest
+  set_written : {n : ℕ} {ps : List Token} {t : Tree} {rest : List Token} → IsSet n ps t rest → AllGood ps → (IsSetTree n t × HasTexts t) × AllGood rest
   set_written (a_property {n} {at} {t} {ps}) h = (h.0 n, h.1)
-  set_written (g.a_bracket {n} {at} {negated} {ps} {rest} {steps} body) h = let b = body_written body h.1 in (bracket_tree negated n steps b.0, b.1)
+  set_written (g.a_bracket {n} {at} {negated} {ps} {rest} {steps} body) h = let b = body_written body h.1 in ((bracket_tree negated n steps b.0.0, negated_texts negated (bracket (steps_of steps)) b.0.1), b.1)
 
-  body_written : {n : ℕ} {s : Stand} {ps : List Token} {steps : List Step} {rest : List Token} → IsBody n s ps steps rest → AllGood ps → AreSteps n s (steps_of steps) × AllGood rest
-  body_written closed h = (none, h.1)
-  body_written (joined set body) h = let a = set_written set h in let b = body_written body a.1 in (united a.0 b.0, b.1)
-  body_written (g.met set body) h = let a = set_written set h.1 in let b = body_written body a.1 in (met a.0 b.0, b.1)
-  body_written (g.taken set body) h = let a = set_written set h.1 in let b = body_written body a.1 in (taken a.0 b.0, b.1)
-  body_written (g.spelled cs body) h = let a = chars_good cs h in let b = body_written body a.good in (spelled a.ascends a.below b.0, b.1)
+  body_written : {n : ℕ} {s : Stand} {ps : List Token} {steps : List Step} {rest : List Token} → IsBody n s ps steps rest → AllGood ps → (AreSteps n s (steps_of steps) × HaveTexts (steps_of steps)) × AllGood rest
+  body_written closed h = ((none, tt), h.1)
+  body_written (joined set body) h = let a = set_written set h in let b = body_written body a.1 in ((united a.0.0 b.0.0, (a.0.1, b.0.1)), b.1)
+  body_written (g.met set body) h = let a = set_written set h.1 in let b = body_written body a.1 in ((met a.0.0 b.0.0, (a.0.1, b.0.1)), b.1)
+  body_written (g.taken set body) h = let a = set_written set h.1 in let b = body_written body a.1 in ((taken a.0.0 b.0.0, (a.0.1, b.0.1)), b.1)
+  body_written (g.spelled cs body) h = let a = chars_good cs h in let b = body_written body a.good in ((spelled a.ascends a.below b.0.0, (tt, b.0.1)), b.1)
 
-read_by : (text : List ℕ) (t : Tree) (b : Bool) (at : Fault) → cond b (run (length text) before (tokens 0 0 text)) (Err at) ≡ Ok t → run (length text) before (tokens 0 0 text) ≡ Ok t
-read_by text t true at h = h
+read_by : (text : List ℕ) (t : Tree) (b : Bool) (at : Fault) → cond b (run (length text) before (tokens 0 0 text)) (Err at) ≡ Ok t → (b ≡ true) × (run (length text) before (tokens 0 0 text) ≡ Ok t)
+read_by text t true at h = (refl, h)
 read_by text t false at h = absurd (cc)
 
-pub read_is : (text : List ℕ) (t : Tree) → parsed text ≡ Ok t → run (length text) before (tokens 0 0 text) ≡ Ok t
+pub read_is : (text : List ℕ) (t : Tree) → parsed text ≡ Ok t → (is_utf8 text ≡ true) × (run (length text) before (tokens 0 0 text) ≡ Ok t)
 unfolding parsed
 read_is text t h = read_by text t (is_utf8 text) _ h
 
+written : (text : List ℕ) (t : Tree) → parsed text ≡ Ok t → IsSetTree 64 t × HasTexts t
+written text t h =
+    let read = read_is text t h in
+    (set_written (sound (length text) (tokens 0 0 text) t read.1) (tokens_good 0 0 text ([], IsUtf8-from_is_utf8 text read.0))).0
+
 pub read_trees_can_be_written : ReadTreesCanBeWritten
-read_trees_can_be_written text t h = (set_written (sound (length text) (tokens 0 0 text) t (read_is text t h)) (tokens_good 0 0 text)).0
+read_trees_can_be_written text t h = (written text t h).0
+
+pub read_trees_are_text : ReadTreesAreText
+read_trees_are_text text t h = text_is_utf8 t (written text t h).1
+
+pub read_trees_read_back : ReadTreesReadBack
+read_trees_read_back text t h = texts_read_back t (read_trees_can_be_written text t h) (read_trees_are_text text t h)

@@ -21,6 +21,8 @@
 -- TextsReadBack                the text of a tree that can be written, where it is UTF-8, is read as that tree, the places of its properties
 --                              aside
 -- ReadTreesCanBeWritten        each tree that a text is read as can be written
+-- ReadTreesAreText             the text of such a tree is UTF-8
+-- ReadTreesReadBack            so the text of such a tree is read as that tree again, the places of its properties aside
 use Rattle.std.specs.Prelude.{◌≡◌, ℕ, suc, ◌<◌, ◌≤◌, Bool, true, false, List, [], ◌∷◌, ◌++◌, length, Some, Ok, if◌then◌else◌}
 use Rattle.std.specs.Option.{is_some}
 use Rattle.std.specs.Str.{IsUtf8}
@@ -133,3 +135,9 @@ TextsReadBack = (t : Tree) → CanBeWritten t → IsUtf8 (text_of t) → ReadsAs
 
 abbrev pub ReadTreesCanBeWritten : Type 0
 ReadTreesCanBeWritten = (text : List ℕ) (t : Tree) → parsed text ≡ Ok t → CanBeWritten t
+
+abbrev pub ReadTreesAreText : Type 0
+ReadTreesAreText = (text : List ℕ) (t : Tree) → parsed text ≡ Ok t → IsUtf8 (text_of t)
+
+abbrev pub ReadTreesReadBack : Type 0
+ReadTreesReadBack = (text : List ℕ) (t : Tree) → parsed text ≡ Ok t → ReadsAs (text_of t) t

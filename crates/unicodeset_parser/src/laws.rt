@@ -2,7 +2,7 @@
 
 ghost use Rattle.unicodeset_parser.specs.FaultNames.{FaultsAreNamed};
 ghost use Rattle.unicodeset_parser.specs.Laws.{ReadsExactly, OneTree, FaultsAreFirst};
-ghost use Rattle.unicodeset_parser.specs.Spelling.{TextsReadBack, ReadTreesCanBeWritten};
+ghost use Rattle.unicodeset_parser.specs.Spelling.{TextsReadBack, ReadTreesCanBeWritten, ReadTreesAreText, ReadTreesReadBack};
 ghost use Rattle.unicodeset_parser.specs.TreeNames.{PlacesAscend};
 
 /// Tokens are read as a tree exactly where the grammar spells that tree.
@@ -27,7 +27,7 @@ pub fn faults_are_named()
     ensures { FaultsAreNamed }
 {}
 
-/// The text of a tree that can be written is read as that tree, the places of its properties aside.
+/// The text of a tree that can be written, if it is UTF-8, is read as that tree, the places of its properties aside.
 pub fn texts_read_back()
     ensures { TextsReadBack }
 {}
@@ -35,6 +35,16 @@ pub fn texts_read_back()
 /// Each tree that a text is read as can be written.
 pub fn read_trees_can_be_written()
     ensures { ReadTreesCanBeWritten }
+{}
+
+/// The text of each tree that a text is read as is UTF-8.
+pub fn read_trees_are_text()
+    ensures { ReadTreesAreText }
+{}
+
+/// What was read, written and read again is the same tree, the places of its properties aside.
+pub fn read_trees_read_back()
+    ensures { ReadTreesReadBack }
 {}
 
 /// The names in the tree of a text stand in the order of their places: each begins behind the one before it.

@@ -18,8 +18,8 @@ mod token;
 
 pub use expr::{Expr, Join, Part, Parts};
 pub use laws::{
-    faults_are_first, faults_are_named, one_tree, places_ascend, read_trees_can_be_written,
-    reads_exactly, texts_read_back,
+    faults_are_first, faults_are_named, one_tree, places_ascend, read_trees_are_text,
+    read_trees_can_be_written, read_trees_read_back, reads_exactly, texts_read_back,
 };
 pub use parsing::parse;
 pub use stop::{SetRule, SetStop};

@@ -156,6 +156,36 @@ fn look_at_stretches(rt: &impl Abort, store: &mut Names) {
     }
 }
 
+/// Whether a code point that got many values, of which each second one was dropped before it was now, has the last one, at no high
+/// place; and its neighbour the one that it had at first.
+fn takes_places_again(store: &mut Names) -> Result<bool, Memory> {
+    let c = Point::at(0x41);
+    store.prepare(Span::one(Point::at(0x42)), named(7))?;
+    store.commit();
+    for number in 0..20_000 {
+        store.prepare(Span::one(c), named(number))?;
+        if number % 2 == 1 {
+            store.commit();
+        } else {
+            store.discard();
+        }
+        store.sweep();
+    }
+    Ok(
+        store.get(c).number == 19_999
+            && store.place(c) < 5_000
+            && values(store, 0x42) == Some((7, 7)),
+    )
+}
+
+#[test]
+fn places_of_values_that_went_are_taken_again(rt: HostRuntime) -> Result<(), Memory> {
+    let mut store: Names = Kept::filled(rt.alloc(), named(0))?;
+    let taken = takes_places_again(&mut store);
+    assert!(rt; taken?);
+    Ok(())
+}
+
 /// How many code points are looked at.
 const SHOWN: u32 = 0x180;
 

@@ -1,4 +1,5 @@
 pub mod Lookups
 pub mod NumbersAt
+pub mod NumberedRows
 pub mod PropertyLaws
 pub mod RowsNumbers

@@ -2,8 +2,12 @@
 --
 -- lookup_insert    what is found after an insertion
 -- add_name_is      a name put last, unless it is there
+-- placed_at        the name at a place of a set
 use Rattle.std.proofs.Common.{◌≡◌, ℕ, Bool, true, false, cond, if◌then◌else◌, ◌||◌, List, [], ◌∷◌, ◌++◌, map, Some, refl, sym, ap, ◌∙◌}
 use Rattle.std.specs.Map.{lookup}
+use Rattle.std.specs.Option.{option_map}
+use Rattle.std.specs.Prelude.{slice_get}
+use Rattle.std.proofs.lemmas.Option.{slice_get-map}
 use Rattle.std.specs.Str.{bytes_eq}
 use Rattle.std.proofs.lemmas.Slice.Eq.{bytes_eq-Decides}
 use Rattle.std.specs.List.{list_any}
@@ -43,3 +47,7 @@ add_name_is {K} bytes ks k = rw (any_is ks) (go (list_any (bytes_eq (bytes k)) (
     go : (b : Bool) → map bytes (if b then ks else ks ++ k ∷ []) ≡ (if b then map bytes ks else map bytes ks ++ bytes k ∷ [])
     go true = refl
     go false = map-append bytes ks (k ∷ [])
+
+-- the key that stands at a place has the bytes of the name that was looked for
+pub placed_at : {K : Type 0} (bytes : K → List ℕ) (ks : List K) (n : ℕ) (k : K) (name : List ℕ) → slice_get ks n ≡ Some k → bytes_eq name (bytes k) ≡ true → slice_get (map bytes ks) n ≡ Some name
+placed_at bytes ks n k name at same = slice_get-map bytes ks n ∙ ap (option_map bytes) at ∙ ap Some (sym ((bytes_eq-Decides name (bytes k)).0 same))

@@ -12,10 +12,11 @@
 -- scripts_in a           the scripts by their numbers
 -- breaks_in a            the word breaks by their numbers
 -- AreAliasesOf a s       the answers are those that the rows give
-use Rattle.std.specs.Prelude.{◌≡◌, ℕ, List, Option, None, map}
+use Rattle.std.specs.Prelude.{◌≡◌, ℕ, List, Option, None}
 use Rattle.std.specs.Option.{option_map, option_map_or}
 use Rattle.property_aliases.specs.Kinds.{kind_of, number_at}
 use Rattle.property_aliases.specs.NumberMaps.{index_in_names}
+use Rattle.property_aliases.specs.Numbers.{names_in}
 use Rattle.property_aliases.specs.Properties.{property_by, property_of}
 use Rattle.property_aliases.specs.Resolving.{or_else, or_is}
 use Rattle.property_aliases.specs.ResolvingLaws.{least}
@@ -53,13 +54,13 @@ abbrev pub lone_in : Aliases → List ℕ → Option Test
 lone_in a name = or_is (lone_key_in a) name
 
 abbrev pub listed_in : Aliases → List (List ℕ)
-listed_in a = map (λ k. k.items) a.numbers.listed.keys
+listed_in a = names_in a.numbers.listed.names
 
 abbrev pub scripts_in : Aliases → List (List ℕ)
-scripts_in a = map (λ k. k.items) a.numbers.scripts.keys
+scripts_in a = names_in a.numbers.scripts.names
 
 abbrev pub breaks_in : Aliases → List (List ℕ)
-breaks_in a = map (λ k. k.items) a.numbers.breaks.keys
+breaks_in a = names_in a.numbers.breaks.names
 
 pub record AreAliasesOf (a : Aliases) (s : Sources) : Type 0 where
   pub property : (name : List ℕ) → property_in a name ≡ property_of s name

@@ -7,4 +7,5 @@ pub mod ResolvingLaws
 pub mod Values
 pub mod NumberMaps
 pub mod Kinds
+pub mod Numbers
 pub mod Found

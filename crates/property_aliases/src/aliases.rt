@@ -3,15 +3,17 @@
 ghost use Rattle.std.specs.Prelude.{◌≡◌, map, slice_get, IfOk};
 ghost use Rattle.std.specs.Option.{option_map};
 ghost use Rattle.property_aliases.specs.Found.{AreAliasesOf, breaks_in, listed_in, lone_in, lone_key_in, property_in, property_key_in, scripts_in, value_in, value_key_in};
+ghost use Rattle.property_aliases.specs.Numbers.{AreNumbersOf};
 ghost use Rattle.property_aliases.specs.Sources.{sources_of};
 ghost use Rattle.property_aliases.specs.Values.{binary};
+ghost use Rattle.release_rows.specs.Releases.{rows_now};
 
 use crate::indexing::{index_in, property_by};
 use crate::loose::{loose, without_is};
 use crate::meaning::{binary, other, test_at};
-use crate::numbers::Numbers;
 use crate::places::Places;
 use crate::property::{Property, Test};
+use crate::value_numbers::ValueNumbers;
 use release_rows::Release;
 use std::alloc::Global;
 use ucd_model::Memory;
@@ -19,7 +21,7 @@ use ucd_model::Memory;
 /// What the names of properties and of their values mean by the rows of a release.
 #[derive(Drop)]
 pub struct Aliases {
-    pub(crate) numbers: Numbers,
+    pub(crate) numbers: ValueNumbers,
     pub(crate) places: Places,
 }
 
@@ -28,11 +30,19 @@ impl Aliases {
     ///
     /// - `Memory`: memory ran out.
     pub fn of(alloc: Global, release: &Release) -> Result<Aliases, Memory>
-        ensures { IfOk result (λ aliases. AreAliasesOf aliases (sources_of release.now)) }
+        ensures aliases { IfOk result (λ aliases. AreAliasesOf aliases (sources_of release.now)) }
+        ensures numbers { IfOk result (λ aliases. AreNumbersOf aliases.numbers (rows_now release.now)) }
     {
-        let numbers = Numbers::of(alloc, release)?;
+        let numbers = ValueNumbers::of(alloc, release)?;
         let places = Places::of(alloc, release, &numbers)?;
         Ok(Aliases { numbers, places })
+    }
+
+    /// The values that rows give, by the numbers that the tests have.
+    pub fn numbers(&self) -> &ValueNumbers
+        ensures { result.now ≡ self.now.numbers }
+    {
+        &self.numbers
     }
 
     /// The property of which this names what counts.
@@ -136,21 +146,21 @@ impl Aliases {
     pub fn listed_name(&self, number: u64) -> Option<&[u8]>
         ensures { option_map (λ n. n.now) result ≡ slice_get (listed_in self.now) number }
     {
-        name_at(self.numbers.listed.as_slice(), number)
+        name_at(self.numbers.listed.names.as_slice(), number)
     }
 
     /// The script with this number; 0 is Unknown. `None` where the number is not used.
     pub fn script_name(&self, number: u64) -> Option<&[u8]>
         ensures { option_map (λ n. n.now) result ≡ slice_get (scripts_in self.now) number }
     {
-        name_at(self.numbers.scripts.as_slice(), number)
+        name_at(self.numbers.scripts.names.as_slice(), number)
     }
 
     /// The word break with this number; 0 is Other. `None` where the number is not used.
     pub fn break_name(&self, number: u64) -> Option<&[u8]>
         ensures { option_map (λ n. n.now) result ≡ slice_get (breaks_in self.now) number }
     {
-        name_at(self.numbers.breaks.as_slice(), number)
+        name_at(self.numbers.breaks.names.as_slice(), number)
     }
 }
 

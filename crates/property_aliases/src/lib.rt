@@ -2,20 +2,22 @@
 #![tactic(auto)]
 
 mod aliases;
-mod in_order;
+mod file_values;
 mod indexing;
 mod kinds;
 mod loose;
 mod meaning;
 mod naming;
 mod number_map;
-mod numbers;
 mod places;
 mod property;
 mod rows;
 mod tables;
+mod value_numbers;
 mod value_rows;
 mod values;
 
 pub use aliases::Aliases;
+pub use file_values::{FileValues, NumberedRow};
 pub use property::{Group, Property, Test};
+pub use value_numbers::ValueNumbers;

@@ -1,23 +1,24 @@
 //! The values of properties by their names.
 
-ghost use Rattle.std.specs.Prelude.{◌≡◌, ◌+◌, ◌^◌, ◌≤◌, ℕ, List, length, map, IfOk, MatchOption};
+ghost use Rattle.std.specs.Prelude.{◌≡◌, ◌+◌, ◌^◌, ◌≤◌, ℕ, List, length, IfOk, MatchOption};
 ghost use Rattle.std.specs.List.{flat_map};
 ghost use Rattle.property_aliases.specs.Found.{place_in};
 ghost use Rattle.property_aliases.specs.Kinds.{kind_names, kind_of, number_at};
+ghost use Rattle.property_aliases.specs.Numbers.{names_in};
 ghost use Rattle.property_aliases.specs.NumberMaps.{index_in_names};
 ghost use Rattle.property_aliases.specs.Resolving.{number_of};
 ghost use Rattle.property_aliases.specs.Sources.{alias_rows};
 ghost use Rattle.property_aliases.specs.Values.{behind, index_of};
 ghost use Rattle.property_aliases.specs.declared.property.Property.{Property};
-ghost use Rattle.release_rows.specs.Releases.{items_now, rows_at};
+ghost use Rattle.release_rows.specs.Releases.{rows_now};
 ghost use Rattle.ucd_points.specs.declared.files.SourceFile.TheVariants.{PropertyValueAliases};
 
 use crate::kinds::{kind_of, kinds_of};
 use crate::naming::{Names, less};
 use crate::number_map::NumberMap;
-use crate::numbers::Numbers;
 use crate::property::Property;
 use crate::rows::alias_rows;
+use crate::value_numbers::ValueNumbers;
 use crate::value_rows::rows_by_property;
 use release_rows::Release;
 use std::alloc::Global;
@@ -39,14 +40,18 @@ impl ValueNames {
         alloc: Global,
         release: &Release,
         properties: &Names,
-        numbers: &Numbers,
+        numbers: &ValueNumbers,
     ) -> Result<ValueNames, Memory>
         ensures { IfOk result (λ values. (p : Property) (key : List ℕ) → place_in values p key
-            ≡ number_of (kind_names (map (λ k. k.items) numbers.now.scripts.keys) (map (λ k. k.items) numbers.now.breaks.keys) (kind_of p))
-            (flat_map (behind (index_in_names properties.now) (index_of p)) (alias_rows (rows_at (items_now release.now PropertyValueAliases)))) key) }
+            ≡ number_of (kind_names (names_in numbers.now.scripts.names) (names_in numbers.now.breaks.names) (kind_of p))
+            (flat_map (behind (index_in_names properties.now) (index_of p)) (alias_rows (rows_now release.now PropertyValueAliases))) key) }
     {
-        let kinds = kinds_of(alloc, numbers.scripts.as_slice(), numbers.breaks.as_slice())?;
-        let all = alias_rows(alloc, release.rows(SourceFile::PropertyValueAliases))?;
+        let kinds = kinds_of(
+            alloc,
+            numbers.scripts.names.as_slice(),
+            numbers.breaks.names.as_slice(),
+        )?;
+        let all = alias_rows(alloc, release, SourceFile::PropertyValueAliases)?;
         let rows = rows_by_property(alloc, properties, kinds.as_slice(), all.as_slice())?;
         Ok(ValueNames { kinds, rows })
     }

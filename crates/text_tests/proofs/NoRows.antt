@@ -6,8 +6,7 @@ use Rattle.ucd_points.specs.Limits.{point_count}
 use Rattle.ucd_model.specs.declared.category.Category.TheVariants.{Cn}
 use Rattle.ucd_points.specs.declared.files.SourceFile.TheVariants.{UnicodeData}
 use Rattle.release_rows.specs.FileItems.{FileItem, rows_in}
-use Rattle.release_rows.specs.Releases.{ReleaseItems, items_now}
-use Rattle.unicodeset_eval.specs.Tests.{rows_of}
+use Rattle.release_rows.specs.Releases.{ReleaseItems, items_now, rows_now}
 
-pub unassigned : (release : ReleaseItems) → items_now release UnicodeData ≡ [] → (c : ℕ) → c < point_count → (facts (rows_of release) c).category ≡ Cn
-unassigned release none c below = ap (λ (F : Facts). F.category) (facts_inside (rows_of release) c below) ∙ ap (λ (items : List FileItem). category_in (data_row (rows_in items) c)) none
+pub unassigned : (release : ReleaseItems) → items_now release UnicodeData ≡ [] → (c : ℕ) → c < point_count → (facts (rows_now release) c).category ≡ Cn
+unassigned release none c below = ap (λ (F : Facts). F.category) (facts_inside (rows_now release) c below) ∙ ap (λ (items : List FileItem). category_in (data_row (rows_in items) c)) none

@@ -9,7 +9,7 @@ ghost use Rattle.ucd_model.specs.declared.category.Category.TheVariants.{Cn};
 ghost use Rattle.ucd_points.specs.declared.files.SourceFile.TheVariants.{UnicodeData};
 
 use crate::members::{are, has_spans};
-use property_aliases::{Aliases, Test};
+use property_aliases::{Aliases, Test, ValueNumbers};
 use release_rows::Release;
 use std::alloc::Global;
 use std::process::Abort;
@@ -108,7 +108,8 @@ fn sets_are_made(rt: &impl Abort, alloc: Global, release: &Release) -> Result<()
 {
     let bench = unassigned();
     let pieces = equal_pieces(alloc, &bench)?;
-    let index = SetIndex::of(alloc, &bench, pieces.as_slice(), release)?;
+    let numbers = ValueNumbers::of(alloc, release)?;
+    let index = SetIndex::of(alloc, &bench, pieces.as_slice(), release, &numbers)?;
     sets_are_found(rt, alloc, &index)
 }
 

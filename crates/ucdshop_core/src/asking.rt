@@ -2,6 +2,8 @@
 
 ghost use Rattle.std.specs.Prelude.{◌≡◌, ◌≤◌, IfOk};
 ghost use Rattle.edit_session.specs.Benches.{bench_record};
+ghost use Rattle.property_aliases.specs.Numbers.{AreNumbersOf};
+ghost use Rattle.release_rows.specs.Releases.{rows_now};
 ghost use Rattle.ucd_model.specs.Cuts.{IsCut};
 ghost use Rattle.ucd_points.specs.Limits.{point_count};
 ghost use Rattle.ucdshop_core.specs.Asking.{IsUnnamed, IsUnread};
@@ -12,7 +14,7 @@ ghost use Rattle.unicodeset_parser.specs.Views.{tree_view};
 
 use crate::ask_stop::{AskFault, AskRule, AskStop};
 use edit_session::Bench;
-use property_aliases::Aliases;
+use property_aliases::{Aliases, ValueNumbers};
 use std::alloc::Global;
 use std::marker::Model;
 use ucd_model::{Memory, Span, Spans};
@@ -49,11 +51,13 @@ fn index_of<'b>(
     alloc: Global,
     bench: &'b Bench,
     pieces: &[Span],
+    numbers: &ValueNumbers,
 ) -> Result<SetIndex<'b, Bench>, Memory>
-    requires { IsCut (bench_record bench.now) 0 point_count pieces.now }
+    requires pieces { IsCut (bench_record bench.now) 0 point_count pieces.now }
+    requires numbers { AreNumbersOf numbers.now (rows_now bench.now) }
     ensures { IfOk result (λ index. index_holds bench_record index ≡ files_hold bench.now.current) }
 {
-    let index = SetIndex::of(alloc, bench, pieces, bench.release())?;
+    let index = SetIndex::of(alloc, bench, pieces, bench.release(), numbers)?;
     Ok(index)
 }
 
@@ -92,7 +96,7 @@ impl<'b> Asking<'b> {
         ensures { IfOk result (λ asking. asking ≡ bench.now.current) }
     {
         let aliases = Aliases::of(alloc, bench.release())?;
-        let index = index_of(alloc, bench, pieces)?;
+        let index = index_of(alloc, bench, pieces, aliases.numbers())?;
         Ok(Asking {
             bench,
             aliases,

@@ -13,10 +13,11 @@ use Rattle.ucd_model.specs.Records.{Record}
 use Rattle.ucd_model.specs.Values.{script_at, word_break_at}
 use Rattle.ucd_model.specs.declared.category.Category.TheVariants.{Cn}
 use Rattle.ucd_points.specs.declared.files.SourceFile.TheVariants.{PropList, Scripts, WordBreakProperty}
+use Rattle.property_aliases.specs.Sources.{break_names, script_names}
 use Rattle.property_aliases.specs.declared.property.Test.{Test}
 use Rattle.property_aliases.specs.declared.property.Test.TheVariants as test
 use Rattle.unicodeset_eval.specs.Edges.{Edges, has}
-use Rattle.unicodeset_eval.specs.Tests.{passes, same_truth, script_names, break_names, is_numbered, is_listed}
+use Rattle.unicodeset_eval.specs.Tests.{passes, same_truth, is_numbered, is_listed}
 use Rattle.unicodeset_eval.specs.declared.row_sets.RowSets.{RowSets}
 
 abbrev pub tells : Test → Record → Bool

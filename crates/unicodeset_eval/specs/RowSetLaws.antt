@@ -2,38 +2,44 @@
 --
 -- numbered_is   of a file where no two rows cover a code point: the rows that give a name, and what no row covers for the default
 -- listed_is     of PropList.txt: the rows that give a name
-use Rattle.std.proofs.Common.{◌≡◌, ℕ, Bool, true, false, not, ◌&&◌, ◌||◌, List, ◌∷◌, Option, Some, None, refl, ap, ◌∙◌}
+-- some_names    values behind a default are some
+use Rattle.std.proofs.Common.{◌≡◌, ℕ, ◌<◌, Bool, false, not, ◌&&◌, ◌||◌, List, length, Option, Some, None, refl, ap, ◌∙◌, arith}
 use Rattle.std.specs.Prelude.{slice_get}
 use Rattle.std.specs.List.{list_any}
 use Rattle.std.specs.Option.{option_map_or}
 use Rattle.std.specs.Str.{bytes_eq}
 use Rattle.ucd_model.specs.Facts.{gives_value}
 use Rattle.ucd_model.specs.Values.{value_at}
-use Rattle.ucd_points.specs.declared.files.SourceFile.{SourceFile}
-use Rattle.property_aliases.specs.Sources.{in_order, value_names}
-use Rattle.release_rows.specs.FileItems.{FileItem, rows_in}
-use Rattle.release_rows.specs.Keys.{has_spans}
-use Rattle.release_rows.specs.Releases.{AreKept, rows_at}
-use Rattle.unicodeset_eval.specs.Given.{given, given_or_default}
-use Rattle.unicodeset_eval.specs.Tests.{is_listed, is_numbered, listed_names, numbered}
-use Rattle.unicodeset_eval.specs.ValueRows.{IsNameless, covers, covers_is, file_rows, gives, gives_is, kept_apart, names_are, value_is}
+use Rattle.ucd_model.specs.declared.row.Row.{Row}
+use Rattle.std.proofs.lemmas.Option.{slice_get_within}
+use Rattle.property_aliases.specs.Numbers.{AreValues, names_in}
+use Rattle.property_aliases.specs.Sources.{listed_names, numbered, value_names, value_rows}
+use Rattle.property_aliases.specs.declared.file_values.FileValues.{FileValues}
+use Rattle.unicodeset_eval.specs.Given.{given, given_or_default, length_map}
+use Rattle.unicodeset_eval.specs.Numbers.{default_is_first}
+use Rattle.unicodeset_eval.specs.Tests.{is_listed, is_numbered}
+use Rattle.unicodeset_eval.specs.ValueRows.{IsApart, covers, covers_is, gives, gives_is, value_is}
 
 same_at : (f g : List ℕ → Bool) (o : Option (List ℕ)) → ((name : List ℕ) → f name ≡ g name) → option_map_or f o false ≡ option_map_or g o false
 same_at f g None h = refl
 same_at f g (Some name) h = h name
 
-pub numbered_is : (file : SourceFile) → IsNameless file → has_spans file ≡ true → (items : List FileItem) → AreKept file items → (default : List ℕ) (i c : ℕ) →
-    given_or_default default (in_order (default ∷ value_names (rows_at items))) (file_rows items) i c ≡ is_numbered (numbered default (rows_in items)) i (value_at (rows_in items) default c)
-numbered_is file nameless spans items kept default i c =
-    ap (λ vs. given_or_default default (in_order (default ∷ vs)) (file_rows items) i c) (names_are items)
-    ∙ same_at (λ name. list_any (gives name c) (file_rows items) || (not (list_any (covers c) (file_rows items)) && bytes_eq default name)) (λ name. bytes_eq (value_at (rows_in items) default c) name)
-    (slice_get (numbered default (rows_in items)) i)
+pub numbered_is : (rows : List Row) (default : List ℕ) (i c : ℕ) → IsApart c rows → given_or_default default (numbered default rows) (value_rows rows) i c ≡ is_numbered (numbered default rows) i (value_at rows default c)
+numbered_is rows default i c apart =
+    same_at (λ name. list_any (gives name c) (value_rows rows) || (not (list_any (covers c) (value_rows rows)) && bytes_eq default name)) (λ name. bytes_eq (value_at rows default c) name)
+    (slice_get (numbered default rows) i)
     (λ name.
-    ap (λ b. b || (not (list_any (covers c) (file_rows items)) && bytes_eq default name)) (gives_is name c items)
-    ∙ ap (λ b. list_any (gives_value name c) (rows_in items) || (not b && bytes_eq default name)) (covers_is c items)
-    ∙ value_is c default name (rows_in items) (kept_apart file nameless spans c items kept))
+    ap (λ b. b || (not (list_any (covers c) (value_rows rows)) && bytes_eq default name)) (gives_is name c rows)
+    ∙ ap (λ b. list_any (gives_value name c) rows || (not b && bytes_eq default name)) (covers_is c rows)
+    ∙ value_is c default name rows apart)
 
-pub listed_is : (items : List FileItem) (i c : ℕ) → given (in_order (value_names (rows_at items))) (file_rows items) i c ≡ is_listed (rows_in items) i c
-listed_is items i c =
-    ap (λ vs. given (in_order vs) (file_rows items) i c) (names_are items)
-    ∙ same_at (λ name. list_any (gives name c) (file_rows items)) (λ name. list_any (gives_value name c) (rows_in items)) (slice_get (listed_names (rows_in items)) i) (λ name. gives_is name c items)
+pub listed_is : (rows : List Row) (i c : ℕ) → given (listed_names rows) (value_rows rows) i c ≡ is_listed rows i c
+listed_is rows i c = same_at (λ name. list_any (gives name c) (value_rows rows)) (λ name. list_any (gives_value name c) rows) (slice_get (listed_names rows) i) (λ name. gives_is name c rows)
+
+pub some_names : (values : FileValues) (default : List ℕ) (rows : List Row) → AreValues values (numbered default rows) rows → 0 < length values.names.keys
+some_names values default rows are =
+    let names = names_in values.names in
+    let first : slice_get names 0 ≡ Some default = ap (λ (ns : List (List ℕ)). slice_get ns 0) are.names_are ∙ default_is_first default (value_names rows) in
+    let some : 0 < length names = slice_get_within names 0 default first in
+    let long = length_map (λ k. k.items) values.names.keys in
+    omega (arith, some, long)

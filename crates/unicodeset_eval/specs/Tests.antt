@@ -1,21 +1,15 @@
 -- What a test says of a code point, by the rows of a release and by what is derived of each code point. UAX #44, section 5;
 -- UTS #35, "Unicode Sets".
 --
--- rows_of release           the rows of each file of a release now
 -- group_categories g        the categories of a group. UAX #44, section 5.7.1, table 12
 -- check_of form R           the value of the quick check of a form
 -- same_truth a b            both hold, or neither
--- default_script            Unknown, the Script where no row of Scripts.txt covers a code point. UAX #24
--- default_break             Other, the Word_Break where no row of WordBreakProperty.txt covers it. UAX #29
--- numbered d rows           the values of rows by their numbers: d is number 0, the others follow in order of first appearance
--- script_names rows         the scripts by their numbers; break_names: the word breaks; listed_names: the names of PropList.txt, of
---                           which the first is number 0
 -- is_numbered names k v     v is the name with number k; never where the number is not used
 -- is_listed rows k c        a row of PropList.txt with the name of number k covers c; never where the number is not used
 -- passes test R             what a test of derived properties says of a code point with the record R; false for the other tests
 -- test_holds R rows test c  what the test says of the code point c, where R gives the record of each code point
-use Rattle.std.specs.Prelude.{ℕ, Bool, true, false, not, nat_lt, ◌==◌, List, [], ◌∷◌, is_some, slice_get, codes}
-use Rattle.std.specs.List.{flat_map, list_any}
+use Rattle.std.specs.Prelude.{ℕ, Bool, true, false, not, nat_lt, ◌==◌, List, [], ◌∷◌, is_some, slice_get}
+use Rattle.std.specs.List.{list_any}
 use Rattle.std.specs.Option.{option_map_or}
 use Rattle.std.specs.Str.{bytes_eq}
 use Rattle.ucd_model.specs.Enumerations.{place_of_kind, place_of_quick}
@@ -30,16 +24,11 @@ use Rattle.ucd_model.specs.declared.form.Form.{Form}
 use Rattle.ucd_model.specs.declared.form.Form.TheVariants.{Nfd, Nfc, Nfkd, Nfkc}
 use Rattle.ucd_model.specs.declared.form.Quick.{Quick as QuickValue}
 use Rattle.ucd_model.specs.declared.row.Row.{Row}
-use Rattle.property_aliases.specs.Sources.{in_order, value_of}
+use Rattle.property_aliases.specs.Sources.{break_names, listed_names, script_names}
 use Rattle.property_aliases.specs.declared.property.Group.{Group as GroupValue}
 use Rattle.property_aliases.specs.declared.property.Group.TheVariants.{L, LC, M, N, P, S, Z, C}
 use Rattle.property_aliases.specs.declared.property.Test.{Test}
 use Rattle.property_aliases.specs.declared.property.Test.TheVariants as test
-use Rattle.release_rows.specs.FileItems.{rows_in}
-use Rattle.release_rows.specs.Releases.{ReleaseItems, items_now}
-
-abbrev pub rows_of : ReleaseItems → Sources
-rows_of release file = rows_in (items_now release file)
 
 -- ---- of derived properties
 
@@ -75,24 +64,6 @@ passes (test.ChangesCasefold wanted) R = same_truth wanted R.changes_casefold
 passes _ R = false
 
 -- ---- of values that rows give
-
-abbrev pub default_script : List ℕ
-default_script = codes "Unknown"
-
-abbrev pub default_break : List ℕ
-default_break = codes "Other"
-
-abbrev pub numbered : List ℕ → List Row → List (List ℕ)
-numbered default rows = in_order (default ∷ flat_map value_of rows)
-
-abbrev pub script_names : List Row → List (List ℕ)
-script_names rows = numbered default_script rows
-
-abbrev pub break_names : List Row → List (List ℕ)
-break_names rows = numbered default_break rows
-
-abbrev pub listed_names : List Row → List (List ℕ)
-listed_names rows = in_order (flat_map value_of rows)
 
 abbrev pub is_numbered : List (List ℕ) → ℕ → List ℕ → Bool
 is_numbered names number value = option_map_or (λ name. bytes_eq value name) (slice_get names number) false

@@ -1,18 +1,14 @@
--- The rows of a span and a value, and the rows of a file as they are gone over.
+-- What rows of a span and a value say.
 --
--- value_row_of row     the row of a span and a value, as the one item of a list; no item for other rows
--- value_rows rows      those of rows with the numbers of their lines
 -- gives v c row        the row has this value and covers c
 -- covers c row         the row covers c
--- names_are            the values with the numbers of their lines are the values
--- rows_are             the rows with their numbers are the rows
 -- gives_is, covers_is  of all rows the same is said
 -- IsApart c rows       no two rows with a value cover c
 -- kept_apart           rows that are kept are apart in a file whose keys have no names
 -- value_is             where rows are apart, the value of the row that covers c is v, or there is no row and v is the default
 use Rattle.std.proofs.Common.{◌≡◌, ℕ, ◌+◌, Bool, true, false, cond, not, ◌&&◌, ◌||◌, List, [], ◌∷◌, ◌++◌, Option, Some, None, refl, sym, ap, subst, ◌∙◌, arith}
 use Rattle.std.specs.Prelude.{nat_le}
-use Rattle.std.specs.List.{flat_map, list_any}
+use Rattle.std.specs.List.{list_any}
 use Rattle.std.specs.Str.{bytes_eq}
 use Rattle.std.proofs.lemmas.Bool.{true≢false, and_parts, and_from, or_parts, or_from}
 use Rattle.std.proofs.lemmas.Bool.Decides.{nat_tests}
@@ -24,19 +20,12 @@ use Rattle.ucd_points.specs.declared.files.SourceFile.{SourceFile}
 use Rattle.ucd_model.specs.declared.row.ValueRow.{ValueRow}
 use Rattle.ucd_model.specs.declared.row.Row.{Row}
 use Rattle.ucd_model.specs.declared.row.Row.TheVariants.{Unit as DataLine, Value as ValueLine, Exclusion as ExclusionLine, Fold as FoldLine, Casing as CasingLine, Alias as AliasLine}
-use Rattle.property_aliases.specs.Sources.{value_names, value_of}
+use Rattle.property_aliases.specs.Sources.{value_rows}
 use Rattle.source_rows.specs.Keys.{value_names as key_value_names}
 use Rattle.release_rows.specs.FileItems.{FileItem, rows_in, onto_rows}
 use Rattle.release_rows.specs.Keys.{has_spans, overlaps, same_key}
-use Rattle.release_rows.specs.Releases.{AreKept, AreKeptBelow, IsKept, numbered_rows, onto_numbered, rows_at}
+use Rattle.release_rows.specs.Releases.{AreKept, AreKeptBelow, IsKept}
 use Rattle.release_rows.specs.declared.conflict.Conflict.TheVariants.{K1, K4}
-
-abbrev pub value_row_of : Row → List ValueRow
-value_row_of (ValueLine row) = row ∷ []
-value_row_of _ = []
-
-abbrev pub value_rows : List (ℕ × Row) → List ValueRow
-value_rows rows = flat_map (λ p. value_row_of p.1) rows
 
 abbrev pub gives : List ℕ → ℕ → ValueRow → Bool
 gives value c row = bytes_eq row.value value && within c row.span
@@ -44,48 +33,25 @@ gives value c row = bytes_eq row.value value && within c row.span
 abbrev pub covers : ℕ → ValueRow → Bool
 covers c row = within c row.span
 
--- ---- the rows of a file, with their numbers and without
+-- ---- of all rows
 
-abbrev pub file_rows : List FileItem → List ValueRow
-file_rows items = value_rows (rows_at items)
+pub gives_is : (value : List ℕ) (c : ℕ) (rows : List Row) → list_any (gives value c) (value_rows rows) ≡ list_any (gives_value value c) rows
+gives_is value c [] = refl
+gives_is value c (ValueLine row ∷ rows) = ap (λ b. (bytes_eq row.value value && within c row.span) || b) (gives_is value c rows)
+gives_is value c (DataLine row ∷ rows) = gives_is value c rows
+gives_is value c (ExclusionLine row ∷ rows) = gives_is value c rows
+gives_is value c (FoldLine row ∷ rows) = gives_is value c rows
+gives_is value c (CasingLine row ∷ rows) = gives_is value c rows
+gives_is value c (AliasLine row ∷ rows) = gives_is value c rows
 
-numbers_aside : {A : Type 0} (f : Row → List A) (line : ℕ) (items : List FileItem) → flat_map (λ p. f p.1) (numbered_rows line items) ≡ flat_map f (rows_in items)
-numbers_aside f line [] = refl
-numbers_aside f line (item ∷ items) = by item.row (numbers_aside f (line + item.lines) items)
-  where
-    by : (row : Option Row) → flat_map (λ p. f p.1) (numbered_rows (line + item.lines) items) ≡ flat_map f (rows_in items) → flat_map (λ p. f p.1) (onto_numbered line row (numbered_rows (line + item.lines) items)) ≡ flat_map f (onto_rows row (rows_in items))
-    by None e = e
-    by (Some row) e = ap (λ xs. f row ++ xs) e
-
-pub rows_are : (items : List FileItem) → file_rows items ≡ flat_map value_row_of (rows_in items)
-rows_are items = numbers_aside value_row_of 1 items
-
-pub names_are : (items : List FileItem) → value_names (rows_at items) ≡ flat_map value_of (rows_in items)
-names_are items = numbers_aside value_of 1 items
-
-any_gives : (value : List ℕ) (c : ℕ) (rows : List Row) → list_any (gives value c) (flat_map value_row_of rows) ≡ list_any (gives_value value c) rows
-any_gives value c [] = refl
-any_gives value c (ValueLine row ∷ rows) = ap (λ b. (bytes_eq row.value value && within c row.span) || b) (any_gives value c rows)
-any_gives value c (DataLine row ∷ rows) = any_gives value c rows
-any_gives value c (ExclusionLine row ∷ rows) = any_gives value c rows
-any_gives value c (FoldLine row ∷ rows) = any_gives value c rows
-any_gives value c (CasingLine row ∷ rows) = any_gives value c rows
-any_gives value c (AliasLine row ∷ rows) = any_gives value c rows
-
-pub gives_is : (value : List ℕ) (c : ℕ) (items : List FileItem) → list_any (gives value c) (file_rows items) ≡ list_any (gives_value value c) (rows_in items)
-gives_is value c items = ap (list_any (gives value c)) (rows_are items) ∙ any_gives value c (rows_in items)
-
-any_covers : (c : ℕ) (rows : List Row) → list_any (covers c) (flat_map value_row_of rows) ≡ list_any (gives_some c) rows
-any_covers c [] = refl
-any_covers c (ValueLine row ∷ rows) = ap (λ b. within c row.span || b) (any_covers c rows)
-any_covers c (DataLine row ∷ rows) = any_covers c rows
-any_covers c (ExclusionLine row ∷ rows) = any_covers c rows
-any_covers c (FoldLine row ∷ rows) = any_covers c rows
-any_covers c (CasingLine row ∷ rows) = any_covers c rows
-any_covers c (AliasLine row ∷ rows) = any_covers c rows
-
-pub covers_is : (c : ℕ) (items : List FileItem) → list_any (covers c) (file_rows items) ≡ list_any (gives_some c) (rows_in items)
-covers_is c items = ap (list_any (covers c)) (rows_are items) ∙ any_covers c (rows_in items)
+pub covers_is : (c : ℕ) (rows : List Row) → list_any (covers c) (value_rows rows) ≡ list_any (gives_some c) rows
+covers_is c [] = refl
+covers_is c (ValueLine row ∷ rows) = ap (λ b. within c row.span || b) (covers_is c rows)
+covers_is c (DataLine row ∷ rows) = covers_is c rows
+covers_is c (ExclusionLine row ∷ rows) = covers_is c rows
+covers_is c (FoldLine row ∷ rows) = covers_is c rows
+covers_is c (CasingLine row ∷ rows) = covers_is c rows
+covers_is c (AliasLine row ∷ rows) = covers_is c rows
 
 -- ---- rows apart
 

@@ -1,7 +1,7 @@
 //! Which code points are assigned.
 
+ghost use Rattle.release_rows.specs.Releases.{rows_now};
 ghost use Rattle.unicodeset_eval.specs.Assigned.{AssignedHaveCategories};
-ghost use Rattle.unicodeset_eval.specs.Tests.{rows_of};
 
 use release_rows::Release;
 use source_rows::{rows_are_ok, rows_are_read};
@@ -9,7 +9,7 @@ use ucd_model::SourceFile;
 
 /// A row of UnicodeData.txt covers a code point exactly where its category is not Cn.
 pub(crate) fn assigned_have_categories(release: &Release)
-    ensures { AssignedHaveCategories (rows_of release.now) }
+    ensures { AssignedHaveCategories (rows_now release.now) }
 {
     rows_are_read();
     rows_are_ok();

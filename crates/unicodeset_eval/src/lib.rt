@@ -2,6 +2,7 @@
 //! "Unicode Sets".
 #![tactic(auto)]
 
+mod apart;
 mod asking;
 mod assigned;
 mod changes;

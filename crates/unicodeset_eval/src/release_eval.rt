@@ -5,16 +5,16 @@ ghost use Rattle.property_aliases.specs.Found.{AreAliasesOf};
 ghost use Rattle.property_aliases.specs.Sources.{sources_of};
 ghost use Rattle.ucd_model.specs.Facts.{facts};
 ghost use Rattle.ucd_points.specs.Limits.{point_count};
+ghost use Rattle.release_rows.specs.Releases.{rows_now};
 ghost use Rattle.unicodeset_eval.specs.Answers.{Gives};
 ghost use Rattle.unicodeset_eval.specs.Questions.{answer};
 ghost use Rattle.unicodeset_eval.specs.ReleaseTests.{release_tests};
-ghost use Rattle.unicodeset_eval.specs.Tests.{rows_of};
 ghost use Rattle.unicodeset_parser.specs.Views.{tree_view};
 
 use crate::evaluation::eval_over;
 use crate::index::SetIndex;
 use crate::stop::EvalStop;
-use property_aliases::Aliases;
+use property_aliases::{Aliases, ValueNumbers};
 use release_rows::Release;
 use std::alloc::Global;
 use ucd_model::{Records, Spans, equal_pieces};
@@ -34,11 +34,12 @@ pub fn eval<B: Records>(
     expr: &Expr,
 ) -> Result<Spans, EvalStop>
     requires aliases { AreAliasesOf aliases.now (sources_of release.now) }
-    requires categories { (c : ℕ) → c < point_count → (B.record_of bench.now c).category ≡ (facts (rows_of release.now) c).category }
+    requires categories { (c : ℕ) → c < point_count → (B.record_of bench.now c).category ≡ (facts (rows_now release.now) c).category }
     ensures { Gives (λ spans. spans) result
-        (answer (sources_of release.now) (release_tests (B.record_of bench.now) (rows_of release.now)) point_count (tree_view expr.now)) }
+        (answer (sources_of release.now) (release_tests (B.record_of bench.now) (rows_now release.now)) point_count (tree_view expr.now)) }
 {
     let pieces = equal_pieces(alloc, bench)?;
-    let index = SetIndex::of(alloc, bench, pieces.as_slice(), release)?;
+    let numbers = ValueNumbers::of(alloc, release)?;
+    let index = SetIndex::of(alloc, bench, pieces.as_slice(), release, &numbers)?;
     eval_over(alloc, &index, aliases, expr)
 }

@@ -1,34 +1,35 @@
 //! The sets of code points to which rows give values.
 
-ghost use Rattle.std.specs.Prelude.{◌≡◌, ◌<◌, ℕ, Some, nat_eq, not, true, ◌&&◌, ◌||◌, ◌∷◌, length, IfOk, IfSome, OnOk};
+ghost use Rattle.std.specs.Prelude.{◌≡◌, ◌<◌, ℕ, List, nat_eq, not, ◌&&◌, ◌||◌, length, IfOk, OnOk};
 ghost use Rattle.std.specs.List.{IsDistinct, list_any};
-ghost use Rattle.std.specs.Option.{option_eq};
 ghost use Rattle.std.specs.Str.{bytes_eq};
 ghost use Rattle.ucd_model.specs.Facts.{within};
-ghost use Rattle.property_aliases.specs.Sources.{in_order, value_names};
-ghost use Rattle.release_rows.specs.Keys.{has_spans};
-ghost use Rattle.release_rows.specs.Releases.{items_now};
 ghost use Rattle.ucd_model.specs.Values.{value_at};
-ghost use Rattle.ucd_points.specs.declared.files.SourceFile.TheVariants.{PropList};
+ghost use Rattle.ucd_model.specs.declared.row.Row.{Row};
+ghost use Rattle.ucd_model.specs.declared.row.ValueRow.{ValueRow};
+ghost use Rattle.property_aliases.specs.Numbers.{AreNumbered, AreNumbersOf, AreValues, names_in};
+ghost use Rattle.property_aliases.specs.Sources.{listed_names, numbered};
+ghost use Rattle.release_rows.specs.Releases.{rows_now};
 ghost use Rattle.unicodeset_eval.specs.Edges.{has};
 ghost use Rattle.unicodeset_eval.specs.Found.{AreRowSets, has_at};
-ghost use Rattle.unicodeset_eval.specs.Given.{given, given_or_default};
-ghost use Rattle.unicodeset_eval.specs.Numbers.{bucket, names_in};
-ghost use Rattle.unicodeset_eval.specs.Tests.{is_listed, is_numbered, numbered, rows_of};
-ghost use Rattle.unicodeset_eval.specs.ValueRows.{IsNameless, covers, file_rows, value_rows};
+ghost use Rattle.unicodeset_eval.specs.Given.{given};
+ghost use Rattle.unicodeset_eval.specs.Numbers.{bucket};
+ghost use Rattle.unicodeset_eval.specs.Tests.{is_listed, is_numbered};
+ghost use Rattle.unicodeset_eval.specs.ValueRows.{IsApart, covers};
 
-use crate::numbers::{add_name, add_values, number_of, row_spans, spans_by_number};
+use crate::apart::rows_are_apart;
+use crate::numbers::{row_spans, spans_by_number};
 use crate::point_set::PointSet;
 use crate::unions::union_of;
-use indexmap::IndexSet;
-use release_rows::{Release, Rows};
+use property_aliases::{FileValues, NumberedRow, ValueNumbers};
+use release_rows::Release;
 use std::alloc::Global;
 use ucd_model::{Memory, SourceFile, Spans};
 use unicodeset_parser::Join;
 
 /// The sets of code points to which rows give values, by the numbers of the values.
 #[derive(Drop)]
-pub(crate) struct RowSets {
+pub struct RowSets {
     pub(crate) scripts: Vec<PointSet>,
     pub(crate) breaks: Vec<PointSet>,
     pub(crate) listed: Vec<PointSet>,
@@ -51,16 +52,13 @@ fn unions(alloc: Global, buckets: &[Spans]) -> Result<Vec<PointSet>, Memory>
 /// The sets of the values of rows, by their numbers.
 ///
 /// - `Memory`: memory ran out.
-fn sets_by_number(
-    alloc: Global,
-    names: &IndexSet<Vec<u8>>,
-    rows: Rows<'_>,
-) -> Result<Vec<PointSet>, Memory>
-    ensures unique { OnOk result (IsDistinct (λ x y. bytes_eq x.items y.items) names.now.keys) }
-    ensures len { IfOk result (λ sets. length sets.items ≡ length names.now.keys) }
-    ensures has { IfOk result (λ sets. (i c : ℕ) → has_at sets.items i c ≡ given (names_in names.now) (value_rows rows.entry) i c) }
+fn sets_by_number(alloc: Global, values: &FileValues) -> Result<Vec<PointSet>, Memory>
+    ensures distinct { OnOk result (IsDistinct (λ x y. bytes_eq x.items y.items) values.now.names.keys) }
+    ensures len { IfOk result (λ sets. length sets.items ≡ length values.now.names.keys) }
+    ensures has { IfOk result (λ sets. (rows : List ValueRow) → AreNumbered (names_in values.now.names) values.now.rows.items rows
+        → (i c : ℕ) → has_at sets.items i c ≡ given (names_in values.now.names) rows i c) }
 {
-    let buckets = spans_by_number(alloc, names, rows)?;
+    let buckets = spans_by_number(alloc, values)?;
     let sets = unions(alloc, buckets.as_slice())?;
     Ok(sets)
 }
@@ -68,8 +66,9 @@ fn sets_by_number(
 /// The numbers that no row covers.
 ///
 /// - `Memory`: memory ran out.
-fn uncovered(alloc: Global, rows: Rows<'_>) -> Result<PointSet, Memory>
-    ensures { IfOk result (λ set. (c : ℕ) → has set c ≡ not (list_any (covers c) (value_rows rows.entry))) }
+fn uncovered(alloc: Global, rows: &[NumberedRow]) -> Result<PointSet, Memory>
+    ensures { IfOk result (λ set. (names : List (List ℕ)) (given : List ValueRow) → AreNumbered names rows.now given
+        → (c : ℕ) → has set c ≡ not (list_any (covers c) given)) }
 {
     let spans = row_spans(alloc, rows)?;
     let covered = union_of(alloc, spans.as_slice())?;
@@ -94,115 +93,49 @@ fn add_at(
     Ok(())
 }
 
-/// The values of rows by their numbers, behind a default.
+/// The sets of the values of a file, of which number 0, the default, has besides what no row covers.
 ///
 /// - `Memory`: memory ran out.
-fn numbered(alloc: Global, default: &[u8], rows: Rows<'_>) -> Result<IndexSet<Vec<u8>>, Memory>
-    ensures { IfOk result (λ names. names_in names ≡ in_order (default.now ∷ value_names rows.entry)) }
+fn sets_behind(alloc: Global, values: &FileValues) -> Result<Vec<PointSet>, Memory>
+    requires some { 0 < length values.now.names.keys }
+    ensures { IfOk result (λ sets. (default : List ℕ) (rows : List Row) → AreValues values.now (numbered default rows) rows
+        → ((c : ℕ) → IsApart c rows)
+        → (i c : ℕ) → has_at sets.items i c ≡ is_numbered (numbered default rows) i (value_at rows default c)) }
 {
-    let mut names = IndexSet::new(alloc);
-    add_name(alloc, &mut names, default)?;
-    add_values(alloc, &mut names, rows)?;
-    Ok(names)
-}
-
-/// The values of rows by their numbers.
-///
-/// - `Memory`: memory ran out.
-fn listed(alloc: Global, rows: Rows<'_>) -> Result<IndexSet<Vec<u8>>, Memory>
-    ensures { IfOk result (λ names. names_in names ≡ in_order (value_names rows.entry)) }
-{
-    let mut names = IndexSet::new(alloc);
-    add_values(alloc, &mut names, rows)?;
-    Ok(names)
-}
-
-/// Puts what no row covers into the set with this number, where there is one.
-///
-/// - `Memory`: memory ran out.
-fn add_rest(
-    alloc: Global,
-    sets: &mut Vec<PointSet>,
-    number: Option<usize>,
-    rows: Rows<'_>,
-) -> Result<(), Memory>
-    requires { IfSome number (λ n. n < length sets.old.items) }
-    ensures { OnOk result ((i c : ℕ) → has_at sets.new.items i c
-        ≡ (has_at sets.old.items i c || (option_eq nat_eq number (Some i) && not (list_any (covers c) (value_rows rows.entry))))) }
-{
-    match number {
-        Some(number) => {
-            let rest = uncovered(alloc, rows)?;
-            add_at(alloc, sets, number, &rest)
-        }
-        None => Ok(()),
-    }
-}
-
-/// The sets of the values of a file, where the default has besides what no row covers.
-///
-/// - `Memory`: memory ran out.
-fn sets_behind(
-    alloc: Global,
-    default: &[u8],
-    names: &IndexSet<Vec<u8>>,
-    release: &Release,
-    file: SourceFile,
-) -> Result<Vec<PointSet>, Memory>
-    ensures { IfOk result (λ sets. (i c : ℕ) → has_at sets.items i c
-        ≡ given_or_default default.now (names_in names.now) (file_rows (items_now release.now file)) i c) }
-{
-    let mut sets = sets_by_number(alloc, names, release.rows(file))?;
-    add_rest(
-        alloc,
-        &mut sets,
-        number_of(names, default),
-        release.rows(file),
-    )?;
-    Ok(sets)
-}
-
-/// The sets of the values of a file, where the default has besides what no row covers.
-///
-/// - `Memory`: memory ran out.
-fn sets_of(
-    alloc: Global,
-    default: &[u8],
-    release: &Release,
-    file: SourceFile,
-) -> Result<Vec<PointSet>, Memory>
-    requires nameless { IsNameless file }
-    requires spans { has_spans file ≡ true }
-    ensures { IfOk result (λ sets. (i c : ℕ) → has_at sets.items i c
-        ≡ is_numbered (numbered default.now (rows_of release.now file)) i (value_at (rows_of release.now file) default.now c)) }
-{
-    let rows = release.rows(file);
-    let names = numbered(alloc, default, rows)?;
-    let sets = sets_behind(alloc, default, &names, release, file)?;
+    let mut sets = sets_by_number(alloc, values)?;
+    let rest = uncovered(alloc, values.rows())?;
+    add_at(alloc, &mut sets, 0, &rest)?;
     Ok(sets)
 }
 
 /// The sets of the values of PropList.txt.
 ///
 /// - `Memory`: memory ran out.
-fn listed_sets(alloc: Global, release: &Release) -> Result<Vec<PointSet>, Memory>
-    ensures { IfOk result (λ sets. (i c : ℕ) → has_at sets.items i c ≡ is_listed (rows_of release.now PropList) i c) }
+fn listed_sets(alloc: Global, values: &FileValues) -> Result<Vec<PointSet>, Memory>
+    ensures { IfOk result (λ sets. (rows : List Row) → AreValues values.now (listed_names rows) rows
+        → (i c : ℕ) → has_at sets.items i c ≡ is_listed rows i c) }
 {
-    let names = listed(alloc, release.rows(SourceFile::PropList))?;
-    let sets = sets_by_number(alloc, &names, release.rows(SourceFile::PropList))?;
+    let sets = sets_by_number(alloc, values)?;
     Ok(sets)
 }
 
 impl RowSets {
-    /// The sets by the rows of a release now.
+    /// The sets by the rows of a release now, which have these numbers.
     ///
     /// - `Memory`: memory ran out.
-    pub(crate) fn of(alloc: Global, release: &Release) -> Result<RowSets, Memory>
-        ensures { IfOk result (λ sets. AreRowSets sets (rows_of release.now)) }
+    pub(crate) fn of(
+        alloc: Global,
+        release: &Release,
+        numbers: &ValueNumbers,
+    ) -> Result<RowSets, Memory>
+        requires { AreNumbersOf numbers.now (rows_now release.now) }
+        ensures { IfOk result (λ sets. AreRowSets sets (rows_now release.now)) }
     {
-        let scripts = sets_of(alloc, b"Unknown", release, SourceFile::Scripts)?;
-        let breaks = sets_of(alloc, b"Other", release, SourceFile::WordBreakProperty)?;
-        let listed = listed_sets(alloc, release)?;
+        rows_are_apart(release, SourceFile::Scripts);
+        rows_are_apart(release, SourceFile::WordBreakProperty);
+        let scripts = sets_behind(alloc, numbers.scripts())?;
+        let breaks = sets_behind(alloc, numbers.breaks())?;
+        let listed = listed_sets(alloc, numbers.listed())?;
         Ok(RowSets {
             scripts,
             breaks,

@@ -1,14 +1,14 @@
 use Rattle.std.proofs.Common.{ap, ◌∙◌}
 use Rattle.std.specs.Prelude.{◌&&◌, nat_lt}
 use Rattle.edit_session.specs.Benches.{bench_record}
-use Rattle.release_rows.specs.Releases.{ReleaseItems}
+use Rattle.release_rows.specs.Releases.{ReleaseItems, rows_now}
 use Rattle.ucd_points.specs.Limits.{point_count}
 use Rattle.unicodeset_eval.specs.Indexes.{index_holds}
-use Rattle.unicodeset_eval.specs.Tests.{rows_of, test_holds}
+use Rattle.unicodeset_eval.specs.Tests.{test_holds}
 use Rattle.ucdshop_core.proofs.CarryingLemmas.{holds_are}
 use Rattle.ucdshop_core.proofs.asking.index_of.Goals as goal
 
 pub returns : goal.returns
 returns c =
     holds_are c.args.bench.now.current (index_holds bench_record c.in_ok-index.index)
-    (λ test k. c.in_ok-index.ensures test k ∙ ap (λ (r : ReleaseItems). nat_lt k point_count && test_holds (bench_record c.args.bench.now) (rows_of r) test k) c.release.ensures.same)
+    (λ test k. c.in_ok-index.ensures test k ∙ ap (λ (r : ReleaseItems). nat_lt k point_count && test_holds (bench_record c.args.bench.now) (rows_now r) test k) c.release.ensures.same)

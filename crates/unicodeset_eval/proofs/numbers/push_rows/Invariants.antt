@@ -1,15 +1,11 @@
-use Rattle.std.proofs.Common.{◌≡◌, ◌<◌, ◌||◌, ℕ, length}
+use Rattle.std.proofs.Common.{◌≡◌, ◌<◌, ◌||◌, ℕ, length, drop}
 use Rattle.std.specs.List.{list_any}
 use Rattle.ucd_model.specs.Facts.{within}
-use Rattle.unicodeset_eval.specs.Numbers.{bucket, is_of, names_in}
-use Rattle.unicodeset_eval.specs.ValueRows.{value_rows}
+use Rattle.unicodeset_eval.specs.Numbers.{bucket, is_of}
 use Rattle.unicodeset_eval.proofs.numbers.push_rows.Given as goal
 
 -- the spans so far, and those of the rows that are left
 abbrev pub invariant-rows : goal.invariant-rows
 invariant-rows l =
     (length l.buckets.items ≡ length l.initial.buckets.items)
-    × ((i c : ℕ) → i < length l.initial.buckets.items → (list_any (within c) (bucket l.buckets.items i) || list_any (is_of (names_in l.names) i c) (value_rows l.rows)) ≡ (list_any (within c) (bucket l.initial.buckets.items i) || list_any (is_of (names_in l.names) i c) (value_rows l.initial.rows)))
-
-abbrev pub decreases-rows : goal.decreases-rows
-decreases-rows l = length l.rows
+    × ((i c : ℕ) → i < length l.initial.buckets.items → (list_any (within c) (bucket l.buckets.items i) || list_any (is_of i c) (drop l.row-index l.rows)) ≡ (list_any (within c) (bucket l.initial.buckets.items i) || list_any (is_of i c) l.rows))

@@ -1,21 +1,27 @@
-use Rattle.std.proofs.Common.{◌&&◌, ◌||◌, ℕ, not, List, Some, ap, ◌∙◌}
-use Rattle.std.specs.Prelude.{nat_eq}
-use Rattle.std.specs.List.{list_any}
-use Rattle.std.specs.Option.{option_eq}
-use Rattle.release_rows.specs.Releases.{items_now}
-use Rattle.unicodeset_eval.specs.Given.{defaults_are, given}
-use Rattle.unicodeset_eval.specs.Numbers.{names_in}
-use Rattle.unicodeset_eval.specs.ValueRows.{covers, file_rows, value_rows}
+use Rattle.std.proofs.Common.{◌≡◌, ◌&&◌, ◌||◌, ℕ, List, Some, sym, ap, subst, ◌∙◌, arith}
+use Rattle.std.specs.Prelude.{nat_eq, slice_get}
+use Rattle.property_aliases.specs.Numbers.{AreNumbered, names_in}
+use Rattle.property_aliases.specs.Sources.{value_names, value_rows}
+use Rattle.property_aliases.specs.declared.file_values.NumberedRow.{NumberedRow}
+use Rattle.unicodeset_eval.specs.Edges.{has}
+use Rattle.unicodeset_eval.specs.Given.{defaults_are, given, given_or_default}
+use Rattle.unicodeset_eval.specs.Numbers.{default_is_first}
+use Rattle.unicodeset_eval.specs.RowSetLaws.{numbered_is}
 use Rattle.unicodeset_eval.proofs.row_sets.sets_behind.Goals as goal
 
+pub add_at-requires : goal.add_at-requires
+add_at-requires c = let len = c.in_ok-sets.ensures.len in let some = c.requires.some in omega (arith, len, some)
+
 pub returns : goal.returns
-returns c = λ i x.
-    let names : List (List ℕ) = names_in c.args.names.now in
-    defaults_are (λ k. k.items) c.args.names.now.keys c.in_ok-sets.ensures.unique c.add_rest.new.sets.items (file_rows (items_now c.args.release.now c.args.file)) c.args.default.now
-    c.number_of.result c.number_of.ensures.number c.number_of.ensures.within x
+returns c = λ default rows are apart i x.
+    let names : List (List ℕ) = names_in c.args.values.now.names in
+    let numbered : AreNumbered names c.rows.result.now (value_rows rows) = subst (λ (rs : List NumberedRow). AreNumbered names rs (value_rows rows)) (sym c.rows.ensures) are.rows_are in
+    let first : slice_get names 0 ≡ Some default = ap (λ (ns : List (List ℕ)). slice_get ns 0) are.names_are ∙ default_is_first default (value_names rows) in
+    defaults_are (λ k. k.items) c.args.values.now.names.keys c.in_ok-sets.ensures.distinct c.add_at.new.sets.items (value_rows rows) default first x
     (λ j.
-    c.in_ok-add_rest.ensures j x
-    ∙ ap (λ b. b || (option_eq nat_eq c.number_of.result (Some j) && not (list_any (covers x) (value_rows c.rows-2.result)))) (c.in_ok-sets.ensures.has j x)
-    ∙ ap (λ rows. given names (value_rows rows) j x || (option_eq nat_eq c.number_of.result (Some j) && not (list_any (covers x) (value_rows c.rows-2.result)))) c.rows.ensures.rows
-    ∙ ap (λ rows. given names (file_rows (items_now c.args.release.now c.args.file)) j x || (option_eq nat_eq c.number_of.result (Some j) && not (list_any (covers x) (value_rows rows)))) c.rows-2.ensures.rows)
+    c.in_ok-add_at.ensures j x
+    ∙ ap (λ b. b || (nat_eq 0 j && has c.in_ok-rest.rest x)) (c.in_ok-sets.ensures.has (value_rows rows) are.rows_are j x)
+    ∙ ap (λ b. given names (value_rows rows) j x || (nat_eq 0 j && b)) (c.in_ok-rest.ensures names (value_rows rows) numbered x))
     i
+    ∙ ap (λ (ns : List (List ℕ)). given_or_default default ns (value_rows rows) i x) are.names_are
+    ∙ numbered_is rows default i x (apart x)

@@ -3,16 +3,15 @@ use Rattle.std.specs.List.{flat_map}
 use Rattle.std.specs.Option.{option_map, option_map_or}
 use Rattle.property_aliases.specs.Found.{breaks_in, index_in, lone_in, lone_key_in, place_in, property_in, property_key_in, scripts_in, value_in, value_key_in}
 use Rattle.property_aliases.specs.Kinds.{kind_names, kind_of}
-use Rattle.property_aliases.specs.NumberMaps.{found_in, index_in_names}
-use Rattle.property_aliases.specs.Properties.{index_at, index_named, property_by, property_key, property_names, property_of}
-use Rattle.property_aliases.specs.Resolving.{number_of, or_else, or_is}
+use Rattle.property_aliases.specs.NumberMaps.{index_in_names}
+use Rattle.property_aliases.specs.Properties.{index_at, index_named, property_by, property_key, property_of}
+use Rattle.property_aliases.specs.Resolving.{number_of, or_is}
 use Rattle.property_aliases.specs.Sources.{Sources, sources_of}
 use Rattle.property_aliases.specs.Tables.{built_in_names}
-use Rattle.property_aliases.specs.Values.{behind, binary, index_of, lone_key, lone_of, other_key, rows_for, test_at, value_key, names_for, value_of}
+use Rattle.property_aliases.specs.Values.{behind, index_of, lone_key, lone_of, rows_for, test_at, value_key, names_for, value_of}
 use Rattle.property_aliases.specs.declared.aliases.Aliases.{Aliases}
 use Rattle.property_aliases.specs.declared.property.Property.{Property}
 use Rattle.property_aliases.specs.declared.property.Property.TheVariants.{Category, Script}
-use Rattle.property_aliases.specs.declared.property.Test.{Test}
 use Rattle.property_aliases.proofs.PropertyLaws.{kind_names_are}
 use Rattle.property_aliases.proofs.aliases.Aliases.of.Goals as goal
 
@@ -46,17 +45,17 @@ module _ (a : Aliases) (s : Sources) (named : (key : List ℕ) → index_in a ke
     lone_is : (name : List ℕ) → lone_in a name ≡ lone_of s name
     lone_is name = ap (λ f. or_is f name) (λ i key. lone_key_is key i)
 
-pub returns : goal.returns
-returns c =
+pub returns-clause-aliases : goal.returns-clause-aliases
+returns-clause-aliases c =
     let s = sources_of c.args.release.now in
     let a : Aliases = record { numbers = c.in_ok-numbers.numbers; places = c.in_ok-places.places } in
     let named : (key : List ℕ) → index_in a key ≡ index_named s key = λ key.
-    ap (option_map index_at) (c.in_ok-places.ensures.properties key ∙ ap (λ (names : List (List ℕ)). number_of (built_in_names ++ names) s.properties key) c.in_ok-numbers.ensures.listed) in
+    ap (option_map index_at) (c.in_ok-places.ensures.properties key ∙ ap (λ (names : List (List ℕ)). number_of (built_in_names ++ names) s.properties key) c.in_ok-numbers.ensures.listed.names_are) in
     record {
       property = property_is a s named;
-      value = value_is a s named c.in_ok-numbers.ensures.scripts c.in_ok-numbers.ensures.breaks c.in_ok-places.ensures.values;
-      lone = lone_is a s named c.in_ok-numbers.ensures.scripts c.in_ok-numbers.ensures.breaks c.in_ok-places.ensures.values;
-      listed = c.in_ok-numbers.ensures.listed;
-      scripts = c.in_ok-numbers.ensures.scripts;
-      breaks = c.in_ok-numbers.ensures.breaks;
+      value = value_is a s named c.in_ok-numbers.ensures.scripts.names_are c.in_ok-numbers.ensures.breaks.names_are c.in_ok-places.ensures.values;
+      lone = lone_is a s named c.in_ok-numbers.ensures.scripts.names_are c.in_ok-numbers.ensures.breaks.names_are c.in_ok-places.ensures.values;
+      listed = c.in_ok-numbers.ensures.listed.names_are;
+      scripts = c.in_ok-numbers.ensures.scripts.names_are;
+      breaks = c.in_ok-numbers.ensures.breaks.names_are;
     }

@@ -1,8 +1,9 @@
-use Rattle.std.proofs.Common.{◌≡◌, ◌<◌, ℕ, List, Option, map, ap, ◌∙◌}
+use Rattle.std.proofs.Common.{◌≡◌, ◌<◌, ℕ, List, map, ap, ◌∙◌}
 use Rattle.std.specs.List.{flat_map}
 use Rattle.property_aliases.specs.Found.{place_in}
 use Rattle.property_aliases.specs.Kinds.{kind_names, kind_of, number_at}
 use Rattle.property_aliases.specs.NumberMaps.{index_in_names}
+use Rattle.property_aliases.specs.Numbers.{names_in}
 use Rattle.property_aliases.specs.Properties.{property_by}
 use Rattle.property_aliases.specs.Resolving.{number_of}
 use Rattle.property_aliases.specs.ResolvingLaws.{direct, rows_number}
@@ -13,7 +14,7 @@ use Rattle.property_aliases.specs.declared.property.Property.{Property}
 use Rattle.property_aliases.specs.declared.values.ValueNames.{ValueNames}
 use Rattle.property_aliases.proofs.PropertyLaws.{kind_below, property_by_index}
 use Rattle.property_aliases.proofs.RowsNumbers.{resolved}
-use Rattle.release_rows.specs.Releases.{items_now, rows_at}
+use Rattle.release_rows.specs.Releases.{rows_now}
 use Rattle.ucd_points.specs.declared.files.SourceFile.TheVariants.{PropertyValueAliases}
 use Rattle.property_aliases.proofs.values.ValueNames.of.Goals as goal
 
@@ -32,13 +33,13 @@ pub returns : goal.returns
 returns c =
     let v : ValueNames = record { kinds = c.in_ok-kinds.kinds; rows = c.in_ok-rows.rows } in
     let index = index_in_names c.args.properties.now in
-    let scripts = map (λ k. k.items) c.args.numbers.now.scripts.keys in
-    let breaks = map (λ k. k.items) c.args.numbers.now.breaks.keys in
-    let rows = alias_rows (rows_at (items_now c.args.release.now PropertyValueAliases)) in
+    let scripts = names_in c.args.numbers.now.scripts.names in
+    let breaks = names_in c.args.numbers.now.breaks.names in
+    let rows = alias_rows (rows_now c.args.release.now PropertyValueAliases) in
     placed v (kind_names scripts breaks) (λ i. flat_map (behind index i) rows)
     (λ k key lt. c.in_ok-kinds.ensures.places k key lt
     ∙ ap (λ (names : List (List ℕ)). direct (kind_names names (map (λ k. k.items) c.as_slice-2.result.now) k) key) (ap (map (λ k. k.items)) c.as_slice.ensures.keys)
     ∙ ap (λ (names : List (List ℕ)). direct (kind_names scripts names k) key) (ap (map (λ k. k.items)) c.as_slice-2.ensures.keys))
     (λ i key. c.in_ok-rows.ensures i key
     ∙ ap (λ (maps : List NumberMap). rows_number (number_at maps (kind_of (property_by i))) (flat_map (behind index i) c.as_slice-4.result.now) key) c.as_slice-3.ensures.value
-    ∙ ap (λ (all : List (List (List ℕ))). rows_number (number_at v.kinds.items (kind_of (property_by i))) (flat_map (behind index i) all) key) (c.as_slice-4.ensures ∙ c.in_ok-all.ensures ∙ ap alias_rows c.rows.ensures.rows))
+    ∙ ap (λ (all : List (List (List ℕ))). rows_number (number_at v.kinds.items (kind_of (property_by i))) (flat_map (behind index i) all) key) (c.as_slice-4.ensures ∙ c.in_ok-all.ensures))

@@ -1,0 +1,74 @@
+-- Rows by the numbers of their values.
+--
+-- known            a name that has a number is there
+-- shown            a row of a span and a value is the one that it shows
+-- numbered_more    one row more, with a name that is there or goes last
+use Rattle.std.proofs.Common.{◌≡◌, ℕ, zero, suc, Bool, true, false, if◌then◌else◌, ◌||◌, List, [], ◌∷◌, ◌++◌, Option, Some, None, refl, sym, ap, arith}
+use Rattle.std.specs.Prelude.{slice_get}
+use Rattle.std.specs.List.{list_any}
+use Rattle.std.specs.Str.{bytes_eq}
+use Rattle.std.proofs.lemmas.Option.{slice_get_within}
+use Rattle.std.proofs.lemmas.Slice.Eq.{bytes_eq-Decides}
+use Rattle.indexmap.proofs.SetLemmas.{AllZip-push}
+use Rattle.release_rows.specs.StoredItems.{ShowsValue}
+use Rattle.source_rows.specs.RowRefs.{value_in}
+use Rattle.source_rows.specs.declared.values.ValueText.{ValueText}
+use Rattle.ucd_model.specs.declared.row.Row.{Row}
+use Rattle.ucd_model.specs.declared.row.Row.TheVariants.{Unit as DataLine, Value as ValueLine, Exclusion as ExclusionLine, Fold as FoldLine, Casing as CasingLine, Alias as AliasLine}
+use Rattle.ucd_model.specs.declared.row.ValueRow.{ValueRow}
+use Rattle.property_aliases.specs.Numbers.{AreNumbered, IsNumbered}
+use Rattle.property_aliases.specs.Sources.{add_name, value_row_of}
+use Rattle.property_aliases.specs.declared.file_values.NumberedRow.{NumberedRow}
+
+-- ---- names
+
+some_is : {A : Type 0} (a b : A) → Some a ≡ Some b → a ≡ b
+some_is {A} a b e = ap from e
+  where
+    from : Option A → A
+    from (Some x) = x
+    from None = a
+
+any_at : (names : List (List ℕ)) (k : ℕ) (value : List ℕ) → slice_get names k ≡ Some value → list_any (bytes_eq value) names ≡ true
+any_at [] k value e = absurd (let lt = slice_get_within [] k value e in omega (arith, lt))
+any_at (x ∷ xs) zero value e = rw ((bytes_eq-Decides value x).1 (sym (some_is x value e))) refl
+any_at (x ∷ xs) (suc k) value e = by (bytes_eq value x) (any_at xs k value e)
+  where
+    by : (b : Bool) → list_any (bytes_eq value) xs ≡ true → b || list_any (bytes_eq value) xs ≡ true
+    by true e = refl
+    by false e = e
+
+pub known : (names : List (List ℕ)) (k : ℕ) (value : List ℕ) → slice_get names k ≡ Some value → add_name names value ≡ names
+known names k value e = rw (any_at names k value e) refl
+
+get_more : (names more : List (List ℕ)) (k : ℕ) (value : List ℕ) → slice_get names k ≡ Some value → slice_get (names ++ more) k ≡ Some value
+get_more [] more k value e = absurd (let lt = slice_get_within [] k value e in omega (arith, lt))
+get_more (x ∷ xs) more zero value e = e
+get_more (x ∷ xs) more (suc k) value e = get_more xs more k value e
+
+stays : (names : List (List ℕ)) (name : List ℕ) (k : ℕ) (value : List ℕ) → slice_get names k ≡ Some value → slice_get (add_name names name) k ≡ Some value
+stays names name k value e = by (list_any (bytes_eq name) names)
+  where
+    by : (b : Bool) → slice_get (if b then names else names ++ name ∷ []) k ≡ Some value
+    by true = e
+    by false = get_more names (name ∷ []) k value e
+
+-- ---- rows
+
+pub shown : (row : Row) (text : ValueText) → ShowsValue (Some text) row → value_row_of row ≡ value_in text ∷ []
+shown (ValueLine row) text e = ap (λ r. r ∷ []) e
+shown (DataLine row) text e = absurd e
+shown (ExclusionLine row) text e = absurd e
+shown (FoldLine row) text e = absurd e
+shown (CasingLine row) text e = absurd e
+shown (AliasLine row) text e = absurd e
+
+all_stay : (names : List (List ℕ)) (name : List ℕ) (rs : List NumberedRow) (rows : List ValueRow) → AreNumbered names rs rows → AreNumbered (add_name names name) rs rows
+all_stay names name [] [] h = h
+all_stay names name [] (row ∷ rows) h = absurd h
+all_stay names name (r ∷ rs) [] h = absurd h
+all_stay names name (r ∷ rs) (row ∷ rows) h = (record { number = stays names name r.number row.value h.0.number; span = h.0.span }, all_stay names name rs rows h.1)
+
+pub numbered_more : (names : List (List ℕ)) (rs : List NumberedRow) (above : List ValueRow) (r : NumberedRow) (row : ValueRow) → AreNumbered names rs above → IsNumbered (add_name names row.value) r row
+    → AreNumbered (add_name names row.value) (rs ++ r ∷ []) (above ++ row ∷ [])
+numbered_more names rs above r row h is = AllZip-push (IsNumbered (add_name names row.value)) rs above r row (all_stay names row.value rs above h) is

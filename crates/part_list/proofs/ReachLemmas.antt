@@ -15,7 +15,11 @@ within_wider old new w entry h =
     let from = h.least in
     let code = h.code in
     let last = h.last in
-    record { least = omega arith; code = omega arith; last = omega arith }
+    let least_tag = w.least_tag in
+    let most_tag = w.most_tag in
+    let from_tag = h.least_tag in
+    let to_tag = h.most_tag in
+    record { least = omega arith; code = omega arith; last = omega arith; least_tag = omega arith; most_tag = omega arith }
 
 pub all_wider : {A : Type 0} (old new : Reach) → IsWider old new → (xs : List (Spanned A)) → All (IsWithin old) xs → All (IsWithin new) xs
 all_wider old new w xs = All-weaker (IsWithin old) (IsWithin new) (within_wider old new w) xs
@@ -26,7 +30,11 @@ wider_on a b c p q =
     let second = q.least in
     let third = p.most in
     let fourth = q.most in
-    record { least = omega arith; most = omega arith }
+    let fifth = p.least_tag in
+    let sixth = q.least_tag in
+    let seventh = p.most_tag in
+    let eighth = q.most_tag in
+    record { least = omega arith; most = omega arith; least_tag = omega arith; most_tag = omega arith }
 
 pub within_spliced : {A : Type 0} (reach : Reach) (xs : List (Spanned A)) (at n : ℕ) (ys : List (Spanned A)) → All (IsWithin reach) xs → All (IsWithin reach) ys → All (IsWithin reach) (spliced xs at n ys)
 within_spliced reach xs at n ys old new =

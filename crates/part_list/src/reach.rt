@@ -1,4 +1,4 @@
-//! How far the code points of a part reach.
+//! How far the code points and the tags of a part reach.
 
 ghost use Rattle.std.specs.List.{All};
 ghost use Rattle.std.specs.Option.{option_to_list};
@@ -6,13 +6,18 @@ ghost use Rattle.part_list.specs.Reaches.{IsWithin, IsWider};
 
 use crate::spanned::Spanned;
 
-/// Bounds of the code points that some entries speak of, as numbers. They may be wider than the entries need.
+/// Bounds of the code points that some entries speak of, as numbers, and of their tags. They may be wider than the entries
+/// need.
 #[derive(Clone, Copy, Debug)]
 pub struct Reach {
     /// No first code point is less.
     pub least: u32,
     /// No first and no last code point is greater.
     pub most: u32,
+    /// No tag is less.
+    pub least_tag: u32,
+    /// No tag is greater.
+    pub most_tag: u32,
 }
 
 impl Reach {
@@ -20,6 +25,8 @@ impl Reach {
     pub const NONE: Reach = Reach {
         least: u32::MAX,
         most: 0,
+        least_tag: u32::MAX,
+        most_tag: 0,
     };
 
     /// The reach with one more entry.
@@ -30,6 +37,8 @@ impl Reach {
         Reach {
             least: self.least.min(entry.code),
             most: self.most.max(entry.code).max(entry.last),
+            least_tag: self.least_tag.min(entry.tag),
+            most_tag: self.most_tag.max(entry.tag),
         }
     }
 

@@ -24,6 +24,7 @@ still_stored file text more e h =
     record {
       item = record { fits = omega arith; some = h.item.some; few = h.item.few; is_read = rw same h.item.is_read; brief = rw same h.item.brief };
       span = rw same h.span;
+      tag = rw same h.tag;
     }
 
 pub all_still_stored : (file : SourceFile) (text more : List ℕ) (items : List (Spanned Stretch)) → All (IsStored file text) items → All (IsStored file (text ++ more)) items

@@ -24,7 +24,7 @@ use Rattle.release_rows.proofs.Moved.{any_moved, first_moved, last_moved}
 use Rattle.release_rows.proofs.Seeking.{alike_found, behind_found}
 
 pub nothing : Spanned Stretch
-nothing = record { code = 0; last = 0; item = record { start = 0; len = 0; ending = Lf; lines = 1; brief = no_brief } }
+nothing = record { code = 0; last = 0; tag = 0; item = record { start = 0; len = 0; ending = Lf; lines = 1; brief = no_brief } }
 
 last_some : {A : Type 0} (p : A → Bool) (parts : List (List A)) (spot : Spot) (d : A) → LastAt (Some spot) p parts → list_any p (flat parts) ≡ true
 last_some p parts spot d h =

@@ -18,6 +18,7 @@ pub mod SpanOrder
 pub mod Unchanged
 pub mod Order
 pub mod Loads
+pub mod Tagging
 pub mod Seeking
 pub mod Skipping
 pub mod Moved

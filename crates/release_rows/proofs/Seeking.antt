@@ -9,7 +9,7 @@ use Rattle.ucd_model.specs.declared.row.Row.{Row}
 use Rattle.ucd_model.specs.declared.row.Row.TheVariants.{Unit as DataLine, Value as ValueLine, Exclusion as ExclusionLine, Fold as FoldLine, Casing as CasingLine, Alias as AliasLine}
 use Rattle.source_rows.specs.Faults.{row_or_fault}
 use Rattle.source_rows.specs.Keys.{row_span, key_names, key_code, code_number, same_texts}
-use Rattle.source_rows.specs.KeyNames.{ContentsHaveKeys, content_names, group_of, names_cmp}
+use Rattle.source_rows.specs.KeyNames.{ContentsHaveKeys, content_group, content_names, group_of, names_cmp}
 use Rattle.source_rows.specs.declared.fault.RowFault.{RowFault}
 use Rattle.part_list.specs.declared.spanned.Spanned.{Spanned}
 use Rattle.release_rows.specs.Keys.{has_spans, row_end, same_key}
@@ -17,7 +17,9 @@ use Rattle.release_rows.specs.Loading.{content_row, row_read}
 use Rattle.release_rows.specs.Operations.{follows, overlaps_another, row_passes, same_group}
 use Rattle.release_rows.specs.Searches.{Sought, IsSoughtRow, comes_behind, has_names, is_alike, is_of_group, meets_another, starts_alike}
 use Rattle.release_rows.specs.StoredItems.{HasSpan, IsStored, content_at, item_at, stored_at}
+use Rattle.release_rows.specs.Tags.{HasTag, tag_fits, tag_rises, tells_group, tells_key, tells_order}
 use Rattle.release_rows.specs.declared.stretch.Stretch.{Stretch}
+use Rattle.release_rows.proofs.Tagging.{group_fits, guarded, key_fits, order_rises, tag_of}
 use Rattle.release_rows.proofs.Texts.{is_eq-then}
 
 -- ---- what is stored is trivia, or reads as its row
@@ -72,6 +74,33 @@ code_is (FoldLine row) = refl
 code_is (CasingLine row) = refl
 code_is (AliasLine row) = refl
 
+-- ---- tags rule no row out
+
+-- the tag that is looked for, and that of an entry
+sought_tag : (file : SourceFile) (row : Row) (text : List ℕ) (s : Sought) → IsSoughtRow file row text s → HasTag s.file s.tag s.names s.group
+sought_tag file row text s i = rw (i.file_is, i.names, i.group) i.tag
+
+pub stored_tag : (file : SourceFile) (text : List ℕ) (s : Sought) (e : Spanned Stretch) → s.file ≡ file → s.text ≡ text → IsStored file text e → HasTag s.file e.tag (content_names s.file (content_at s.text e.item)) (content_group s.file (content_at s.text e.item))
+stored_tag file text s e file_is text_is h = rw (file_is, text_is, h.tag) (tag_of file (content_at text e.item))
+
+names_told : (s : Sought) (file : SourceFile) (row : Row) (text : List ℕ) (e : Spanned Stretch) → IsSoughtRow file row text s → IsStored file text e → (tag_fits (tells_key s.file) s.tag e.tag && has_names s.file s.names (content_at s.text e.item)) ≡ has_names s.file s.names (content_at s.text e.item)
+names_told s file row text e i h =
+    guarded (tag_fits (tells_key s.file) s.tag e.tag) (has_names s.file s.names (content_at s.text e.item))
+    (key_fits s.file s.tag e.tag s.names (content_at s.text e.item) (sought_tag file row text s i).by_key (stored_tag file text s e i.file_is i.text_is h))
+
+group_told : (s : Sought) (file : SourceFile) (row : Row) (text : List ℕ) (e : Spanned Stretch) → IsSoughtRow file row text s → IsStored file text e → is_alike s e ≡ is_of_group s.file s.group (content_at s.text e.item)
+group_told s file row text e i h =
+    guarded (tag_fits (tells_group s.file) s.tag e.tag) (is_of_group s.file s.group (content_at s.text e.item))
+    (group_fits s.file s.tag e.tag s.names s.group (content_at s.text e.item) (sought_tag file row text s i) (stored_tag file text s e i.file_is i.text_is h))
+
+order_told : (s : Sought) (file : SourceFile) (row : Row) (text : List ℕ) (e : Spanned Stretch) → IsSoughtRow file row text s → IsStored file text e → comes_behind s e ≡ (is_of_group s.file s.group (content_at s.text e.item) && is_lt (ordering_then (nat_cmp s.code e.code) (names_cmp s.names (content_names s.file (content_at s.text e.item)))))
+order_told s file row text e i h =
+    let c = content_at s.text e.item in
+    let lt = is_lt (ordering_then (nat_cmp s.code e.code) (names_cmp s.names (content_names s.file c))) in
+    ap (λ (b : Bool). tag_rises (tells_order s.file) s.code e.code s.tag e.tag && (b && lt)) (group_told s file row text e i h)
+    ∙ guarded (tag_rises (tells_order s.file) s.code e.code s.tag e.tag) (is_of_group s.file s.group c && lt)
+    (order_rises s.file s.code e.code s.tag e.tag s.names s.group c (sought_tag file row text s i) (stored_tag file text s e i.file_is i.text_is h))
+
 -- ---- the same key
 
 key_by : (file : SourceFile) (text : List ℕ) (e : Spanned Stretch) (row : Row) (o : Option Row) → ContentsHaveKeys → (item_at file text e.item).row ≡ o → StoredAs file (content_at text e.item) o → HasSpan file o e.code e.last → (eqb (row_span row).lo e.code && has_names file (key_names file row) (content_at text e.item)) ≡ row_passes (same_key file row) (stored_at file text e)
@@ -81,7 +110,8 @@ key_by file text e row (Some r) law is st span =
 
 pub key_found : (file : SourceFile) (text : List ℕ) (e : Spanned Stretch) (row : Row) (s : Sought) → ContentsHaveKeys → IsSoughtRow file row text s → IsStored file text e → starts_alike s e ≡ row_passes (same_key file row) (stored_at file text e)
 key_found file text e row s law i h =
-    rw (i.file_is, i.text_is, i.code, i.names) (key_by file text e row (item_at file text e.item).row law refl (stored_as file text e h) h.span)
+    ap (λ (b : Bool). eqb s.code e.code && b) (names_told s file row text e i h)
+    ∙ rw (i.file_is, i.text_is, i.code, i.names) (key_by file text e row (item_at file text e.item).row law refl (stored_as file text e h) h.span)
 
 -- ---- an overlap with another row
 
@@ -113,7 +143,8 @@ another_by file text e row false (Some r) law sp is st span = rw (is, sp) (sym (
 
 pub another_found : (file : SourceFile) (text : List ℕ) (e : Spanned Stretch) (row : Row) (s : Sought) → ContentsHaveKeys → IsSoughtRow file row text s → IsStored file text e → meets_another s e ≡ row_passes (overlaps_another file row) (stored_at file text e)
 another_found file text e row s law i h =
-    rw (i.file_is, i.text_is, i.code, i.last, i.names) (another_by file text e row (has_spans file) (item_at file text e.item).row law refl refl (stored_as file text e h) h.span)
+    ap (λ (b : Bool). has_spans s.file && (not (eqb s.code e.code) && ((leb s.code e.last && leb e.code s.last) && b))) (names_told s file row text e i h)
+    ∙ rw (i.file_is, i.text_is, i.code, i.last, i.names) (another_by file text e row (has_spans file) (item_at file text e.item).row law refl refl (stored_as file text e h) h.span)
 
 -- ---- the group
 
@@ -123,7 +154,8 @@ alike_by file text e row (Some r) law is st = rw is (group_alike file (content_a
 
 pub alike_found : (file : SourceFile) (text : List ℕ) (e : Spanned Stretch) (row : Row) (s : Sought) → ContentsHaveKeys → IsSoughtRow file row text s → IsStored file text e → is_alike s e ≡ row_passes (same_group file row) (stored_at file text e)
 alike_found file text e row s law i h =
-    rw (i.file_is, i.text_is, i.group) (alike_by file text e row (item_at file text e.item).row law refl (stored_as file text e h))
+    group_told s file row text e i h
+    ∙ rw (i.file_is, i.text_is, i.group) (alike_by file text e row (item_at file text e.item).row law refl (stored_as file text e h))
 
 behind_by : (file : SourceFile) (text : List ℕ) (e : Spanned Stretch) (row : Row) (o : Option Row) → ContentsHaveKeys → (item_at file text e.item).row ≡ o → StoredAs file (content_at text e.item) o → HasSpan file o e.code e.last → (is_of_group file (group_of file row) (content_at text e.item) && is_lt (ordering_then (nat_cmp (row_span row).lo e.code) (names_cmp (key_names file row) (content_names file (content_at text e.item))))) ≡ row_passes (follows file row) (stored_at file text e)
 behind_by file text e row None law is st span = rw (is, st) refl
@@ -132,4 +164,5 @@ behind_by file text e row (Some r) law is st span =
 
 pub behind_found : (file : SourceFile) (text : List ℕ) (e : Spanned Stretch) (row : Row) (s : Sought) → ContentsHaveKeys → IsSoughtRow file row text s → IsStored file text e → comes_behind s e ≡ row_passes (follows file row) (stored_at file text e)
 behind_found file text e row s law i h =
-    rw (i.file_is, i.text_is, i.code, i.names, i.group) (behind_by file text e row (item_at file text e.item).row law refl (stored_as file text e h) h.span)
+    order_told s file row text e i h
+    ∙ rw (i.file_is, i.text_is, i.code, i.names, i.group) (behind_by file text e row (item_at file text e.item).row law refl (stored_as file text e h) h.span)

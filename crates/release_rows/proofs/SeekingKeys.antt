@@ -1,5 +1,5 @@
 -- An entry with a key that is looked for has the row with that key.
-use Rattle.std.proofs.Common.{◌≡◌, ℕ, Bool, true, false, not, eqb, ◌&&◌, List, [], ◌∷◌, Option, Some, None, is_some, refl, sym, ◌∙◌}
+use Rattle.std.proofs.Common.{◌≡◌, ℕ, Bool, true, false, not, eqb, ◌&&◌, List, [], ◌∷◌, Option, Some, None, is_some, refl, sym, ap, ◌∙◌}
 use mathlib.Core.Bool.{beq}
 use Rattle.std.specs.List.{All, list_any}
 use Rattle.std.proofs.lemmas.List.Elements.{All-weaker}
@@ -16,12 +16,14 @@ use Rattle.release_rows.specs.Finding.{IsFirst, items_of}
 use Rattle.release_rows.specs.Operations.{has_key, holds_row, row_passes}
 use Rattle.release_rows.specs.Searches.{Sought, has_names, starts_alike}
 use Rattle.release_rows.specs.StoredItems.{HasSpan, IsStored, content_at, item_at, stored_at}
+use Rattle.release_rows.specs.Tags.{key_tag, tag_fits, tells_key}
 use Rattle.release_rows.specs.declared.search.Test.TheVariants.{SameKey}
 use Rattle.release_rows.specs.declared.stretch.Stretch.{Stretch}
 use Rattle.release_rows.proofs.FoundRows.{found_any}
 use Rattle.release_rows.proofs.Moved.{any_moved, first_moved}
 use Rattle.release_rows.proofs.RowsApart.{numbers_swap, texts_swap}
-use Rattle.release_rows.proofs.Seeking.{StoredAs, and_false, and_swap, code_is, names_equal, stored_as}
+use Rattle.release_rows.proofs.Seeking.{StoredAs, and_false, and_swap, code_is, names_equal, stored_as, stored_tag}
+use Rattle.release_rows.proofs.Tagging.{guarded, key_fits}
 
 -- what is looked for is the key
 pub record IsSoughtKey (file : SourceFile) (key : Key) (text : List ℕ) (s : Sought) : Type 0 where
@@ -30,6 +32,7 @@ pub record IsSoughtKey (file : SourceFile) (key : Key) (text : List ℕ) (s : So
   pub text_is : s.text ≡ text
   pub code : s.code ≡ code_number key.code
   pub names : s.names ≡ key.names
+  pub tag : s.tag ≡ key_tag file key.names
 
 -- ---- the test of the code
 
@@ -67,7 +70,11 @@ found_by file text e key (Some r) law code is st span =
 
 stored_found : (file : SourceFile) (text : List ℕ) (e : Spanned Stretch) (key : Key) (s : Sought) → ContentsHaveKeys → is_some key.code ≡ has_code file → IsSoughtKey file key text s → IsStored file text e → starts_alike s e ≡ row_passes (has_key file key) (stored_at file text e)
 stored_found file text e key s law code i h =
-    rw (i.file_is, i.text_is, i.code, i.names) (found_by file text e key (item_at file text e.item).row law code refl (stored_as file text e h) h.span)
+    let c = content_at s.text e.item in
+    let sought : s.tag ≡ key_tag s.file s.names = rw (i.file_is, i.names) i.tag in
+    let told = guarded (tag_fits (tells_key s.file) s.tag e.tag) (has_names s.file s.names c) (key_fits s.file s.tag e.tag s.names c (λ t. sought) (stored_tag file text s e i.file_is i.text_is h)) in
+    ap (λ (b : Bool). eqb s.code e.code && b) told
+    ∙ rw (i.file_is, i.text_is, i.code, i.names) (found_by file text e key (item_at file text e.item).row law code refl (stored_as file text e h) h.span)
 
 apart_by : (file : SourceFile) (text : List ℕ) (e : Spanned Stretch) (key : Key) (o : Option Row) → ContentsHaveKeys → (is_some key.code ≡ has_code file → false ≡ true) → (item_at file text e.item).row ≡ o → StoredAs file (content_at text e.item) o → false ≡ row_passes (has_key file key) (stored_at file text e)
 apart_by file text e key None law code is st = rw is refl

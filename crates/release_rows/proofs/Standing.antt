@@ -18,6 +18,7 @@ use Rattle.release_rows.specs.FileItems.{FileItem, bytes_of, file_item_bytes}
 use Rattle.release_rows.specs.Loading.{content_row, file_item, piece_fault}
 use Rattle.release_rows.specs.Progress.{Stands, IsLoading, IsProgress, BreaksNoRule, entry_extents, start_of_entry}
 use Rattle.release_rows.specs.StoredItems.{content_at, item_at, stored_at, IsItem, IsStored, HasSpan}
+use Rattle.release_rows.specs.Tags.{content_tag}
 use Rattle.release_rows.specs.declared.entry.Entry.{Entry}
 use Rattle.release_rows.specs.declared.stretch.Stretch.{Stretch}
 use Rattle.release_rows.proofs.Growing.{grows}
@@ -45,16 +46,16 @@ item_length : (file : SourceFile) (text : List ℕ) (s : Stretch) → s.start + 
 item_length file text s fits = length-append (content_at text s) (ending_bytes (ending_of s.ending)) ∙ ap (λ (n : ℕ). n + length (ending_bytes (ending_of s.ending))) (length_content text s fits)
 
 -- one more item behind those that are loaded
-pub loads : (file : SourceFile) (text : List ℕ) (old all : PartLists (Spanned Stretch)) (e : Spanned Stretch) (s : Stretch) (kept kept' : List Extent) (start : Option ℕ) (count end : ℕ) (entry : Option Entry) → IsLoading file text old kept start count end → e.item ≡ s → now_in all ≡ now_in old ++ e ∷ [] → next_in all ≡ next_in old ++ e ∷ [] → IsItem file text s → HasSpan file (item_at file text s).row e.code e.last → EntersSome file entry (item_at file text s).row → ((p : Extent → Bool) → list_any p kept' ≡ (list_any p (entry_extents entry) || list_any p kept)) → IsLoading file text all kept' (start_of_entry start entry) (count + s.lines) (end + (s.len + length (ending_bytes (ending_of s.ending))))
-loads file text old all e s kept kept' start count end entry h is now next item span enters more =
+pub loads : (file : SourceFile) (text : List ℕ) (old all : PartLists (Spanned Stretch)) (e : Spanned Stretch) (s : Stretch) (kept kept' : List Extent) (start : Option ℕ) (count end : ℕ) (entry : Option Entry) → IsLoading file text old kept start count end → e.item ≡ s → now_in all ≡ now_in old ++ e ∷ [] → next_in all ≡ next_in old ++ e ∷ [] → IsItem file text s → HasSpan file (item_at file text s).row e.code e.last → e.tag ≡ content_tag file (content_at text s) → EntersSome file entry (item_at file text s).row → ((p : Extent → Bool) → list_any p kept' ≡ (list_any p (entry_extents entry) || list_any p kept)) → IsLoading file text all kept' (start_of_entry start entry) (count + s.lines) (end + (s.len + length (ending_bytes (ending_of s.ending))))
+loads file text old all e s kept kept' start count end entry h is now next item span tag enters more =
     let items = map (stored_at file text) (now_in old) in
     let new = item_at file text s in
     let by : Stretch → FileItem = λ x. item_at file text x in
     let pushed : map (stored_at file text) (now_in all) ≡ items ++ new ∷ [] =
     ap (map (stored_at file text)) now ∙ map-append (stored_at file text) (now_in old) (e ∷ []) ∙ ap (λ (i : FileItem). items ++ i ∷ []) (ap by is) in
-    let S : Stretch → Type 0 = λ x. IsItem file text x × HasSpan file (item_at file text x).row e.code e.last in
-    let both : S e.item = subst S (sym is) (item, span) in
-    let stored : IsStored file text e = record { item = both.0; span = both.1 } in
+    let S : Stretch → Type 0 = λ x. IsItem file text x × HasSpan file (item_at file text x).row e.code e.last × (e.tag ≡ content_tag file (content_at text x)) in
+    let stands : S e.item = subst S (sym is) (item, span, tag) in
+    let stored : IsStored file text e = record { item = stands.0; span = stands.1; tag = stands.2 } in
     let count_old = h.few in
     let one = item.some in
     let longer : length (now_in all) ≡ length (now_in old) + 1 = ap length now ∙ length_push (now_in old) e in

@@ -10,6 +10,7 @@ pub mod Pieces
 pub mod FileItems
 pub mod Cuts
 pub mod Loading
+pub mod Tags
 pub mod StoredItems
 pub mod Given
 pub mod Progress

@@ -5,13 +5,13 @@
 -- is_of_group file group content         it is that of a row of the group of this name
 -- starts_alike, meets_another, comes_behind, is_alike   the entry has the key of these names and this code point; it has another
 --                                        one and overlaps the code points from this one to the last; it is of the group and has a
---                                        greater key; it is of the group
--- Sought                                 what is looked for: the test, the file and its text, the first code point and the last one, and
---                                        the names of the key and of the group
+--                                        greater key; it is of the group. In each its tag does not tell that it is not so
+-- Sought                                 what is looked for: the test, the file and its text, the first code point and the last one,
+--                                        the names of the key and of the group, and the tag
 -- with_test sought test                  the same with another test
 -- entry_passes sought e                  the entry passes the test
 -- row_test test file row                 the test of rows that the test of entries stands for; none passes where each entry does
--- IsSoughtRow file row text s            what is looked for are the code points, the key and the group of this row
+-- IsSoughtRow file row text s            what is looked for are the code points, the key and the group of this row, and a tag of theirs
 use Rattle.std.specs.Prelude.{◌≡◌, ℕ, Bool, true, false, ◌&&◌, not, List, ◌==◌, nat_le}
 use Rattle.std.specs.Ordering.{ordering_then, nat_cmp, is_eq, is_lt}
 use Rattle.std.specs.Str.{bytes_eq}
@@ -24,6 +24,7 @@ use Rattle.part_list.specs.declared.spanned.Spanned.{Spanned}
 use Rattle.release_rows.specs.Keys.{has_spans, row_end, same_key}
 use Rattle.release_rows.specs.Operations.{follows, overlaps_another, same_group}
 use Rattle.release_rows.specs.StoredItems.{content_at}
+use Rattle.release_rows.specs.Tags.{HasTag, tag_fits, tag_rises, tells_group, tells_key, tells_order}
 use Rattle.release_rows.specs.declared.search.Test.{Test}
 use Rattle.release_rows.specs.declared.search.Test.TheVariants.{SameKey, OverlapsAnother, Follows, SameGroup, Any}
 use Rattle.release_rows.specs.declared.stretch.Stretch.{Stretch}
@@ -45,21 +46,24 @@ pub record Sought : Type 0 where
   pub last : ℕ
   pub names : List (List ℕ)
   pub group : List ℕ
+  pub tag : ℕ
 
 abbrev pub with_test : Sought → Test → Sought
-with_test s test = record { test = test; file = s.file; text = s.text; code = s.code; last = s.last; names = s.names; group = s.group }
+with_test s test = record { test = test; file = s.file; text = s.text; code = s.code; last = s.last; names = s.names; group = s.group; tag = s.tag }
 
 abbrev pub starts_alike : Sought → Spanned Stretch → Bool
-starts_alike s e = (s.code == e.code) && has_names s.file s.names (content_at s.text e.item)
+starts_alike s e = (s.code == e.code) && (tag_fits (tells_key s.file) s.tag e.tag && has_names s.file s.names (content_at s.text e.item))
 
 abbrev pub meets_another : Sought → Spanned Stretch → Bool
-meets_another s e = has_spans s.file && (not (s.code == e.code) && ((nat_le s.code e.last && nat_le e.code s.last) && has_names s.file s.names (content_at s.text e.item)))
+meets_another s e = has_spans s.file && (not (s.code == e.code) && ((nat_le s.code e.last && nat_le e.code s.last) && (tag_fits (tells_key s.file) s.tag e.tag && has_names s.file s.names (content_at s.text e.item))))
 
 abbrev pub is_alike : Sought → Spanned Stretch → Bool
-is_alike s e = is_of_group s.file s.group (content_at s.text e.item)
+is_alike s e = tag_fits (tells_group s.file) s.tag e.tag && is_of_group s.file s.group (content_at s.text e.item)
 
 abbrev pub comes_behind : Sought → Spanned Stretch → Bool
-comes_behind s e = is_alike s e && is_lt (ordering_then (nat_cmp s.code e.code) (names_cmp s.names (content_names s.file (content_at s.text e.item))))
+comes_behind s e =
+    tag_rises (tells_order s.file) s.code e.code s.tag e.tag
+    && (is_alike s e && is_lt (ordering_then (nat_cmp s.code e.code) (names_cmp s.names (content_names s.file (content_at s.text e.item)))))
 
 abbrev passes_by : Test → Sought → Spanned Stretch → Bool
 passes_by SameKey s e = starts_alike s e
@@ -85,3 +89,4 @@ pub record IsSoughtRow (file : SourceFile) (row : Row) (text : List ℕ) (s : So
   pub last : s.last ≡ row_end file row
   pub names : s.names ≡ key_names file row
   pub group : s.group ≡ group_of file row
+  pub tag : HasTag file s.tag (key_names file row) (group_of file row)

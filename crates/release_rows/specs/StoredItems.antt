@@ -8,7 +8,7 @@
 -- HasSpan file row code last   they are the first code point of the row and the last one that no other row may have; nothing of
 --                           trivia
 -- stored_at file text e     the item of an entry
--- IsStored file text e      the entry's stretch is an item, and the entry has the code points of its row
+-- IsStored file text e      the entry's stretch is an item, and the entry has the code points of its row and the tag of its content
 -- IsWhole file text items   the items put together are the text
 -- AreWhole file text items  so are those now, and those next
 -- IsKeptFile file text added items   the entries now and next are stored; each list has fewer than 2^32 and those added since the
@@ -38,6 +38,7 @@ use Rattle.release_rows.specs.Keys.{row_end}
 use Rattle.release_rows.specs.Pieces.{Lines}
 use Rattle.release_rows.specs.FileItems.{FileItem, bytes_of}
 use Rattle.release_rows.specs.Loading.{content_row, row_read}
+use Rattle.release_rows.specs.Tags.{content_tag}
 use Rattle.release_rows.specs.declared.brief.Brief.{Brief}
 use Rattle.release_rows.specs.declared.piece.Piece.{Piece}
 use Rattle.release_rows.specs.declared.stretch.Stretch.{Stretch}
@@ -68,6 +69,7 @@ stored_at file text e = item_at file text e.item
 pub record IsStored (file : SourceFile) (text : List ℕ) (e : Spanned Stretch) : Type 0 where
   pub item : IsItem file text e.item
   pub span : HasSpan file (item_at file text e.item).row e.code e.last
+  pub tag : e.tag ≡ content_tag file (content_at text e.item)
 
 abbrev pub IsWhole : SourceFile → List ℕ → List (Spanned Stretch) → Type 0
 IsWhole file text items = bytes_of (map (stored_at file text) items) ≡ text

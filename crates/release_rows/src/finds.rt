@@ -17,6 +17,7 @@ use crate::op_spans::{code_of, has_code};
 use crate::row_key::row_end;
 use crate::search::{Search, Test};
 use crate::stretch::Stretch;
+use crate::tag::{content_tag, key_tag};
 use part_list::{PartList, Spot};
 use source_rows::{Key, content_group, contents_have_keys};
 use ucd_model::{Row, SourceFile};
@@ -42,6 +43,7 @@ pub fn search_row<'a>(
         last: row_end(file, row),
         names: key.names.as_slice(),
         group: content_group(file, bytes),
+        tag: content_tag(file, bytes),
     }
 }
 
@@ -98,14 +100,16 @@ pub fn withdrawn_spot(
         return Err(KeyRule::K2);
     }
     let code = code_of(key);
+    let names = key.names.as_slice();
     let search = Search {
         test: Test::SameKey,
         file,
         text,
         code,
         last: code,
-        names: key.names.as_slice(),
+        names,
         group: &[],
+        tag: key_tag(file, names),
     };
     match items.first(&search) {
         Some(spot) => Ok(spot),

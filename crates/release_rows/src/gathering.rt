@@ -16,7 +16,8 @@ use crate::loading::{spanned, start_with, with_brief};
 use crate::piece::{Piece, content_of, ending_len, stretch_of};
 use crate::placed::{Placed, are_apart};
 use crate::read_piece::read_piece;
-use crate::stretch::Stretch;
+use crate::stretch::{Stretch, content_in};
+use crate::tag::content_tag;
 use part_list::PartList;
 use std::alloc::Global;
 use ucd_model::{Memory, SourceFile};
@@ -91,7 +92,8 @@ impl<'a> Gathering<'a> {
         ensures sound { OnOk result (IsGathering self.new) }
         ensures progress { OnOk result (gathered_progress self.new ≡ with_item (gathered_progress self.old) (item_at self.old.file self.old.text.now stretch)) }
     {
-        let item = spanned(stretch, &entry, self.before);
+        let tag = content_tag(self.file, content_in(self.text, stretch));
+        let item = spanned(stretch, tag, &entry, self.before);
         self.before = start_with(self.before, &entry);
         self.end += stretch.len + ending_len(stretch.ending);
         self.lines += u32::from(stretch.lines);

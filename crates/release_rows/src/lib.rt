@@ -34,6 +34,7 @@ mod search;
 mod span_order;
 mod stored_row;
 mod stretch;
+mod tag;
 mod touching;
 
 pub use key_rule::KeyRule;

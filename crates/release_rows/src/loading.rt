@@ -22,7 +22,8 @@ use crate::key_set::KeySet;
 use crate::load_stop::{LoadRule, LoadStop};
 use crate::piece::{Piece, content_of, ending_len, stretch_of};
 use crate::read_piece::read_piece;
-use crate::stretch::Stretch;
+use crate::stretch::{Stretch, content_in};
+use crate::tag::content_tag;
 use part_list::{PartList, Spanned};
 use std::alloc::Global;
 use ucd_model::{Memory, SourceFile};
@@ -65,9 +66,15 @@ pub fn start_with(before: Option<u32>, entry: &Option<Entry>) -> Option<u32>
     }
 }
 
-/// A stretch with the code points of its row. Trivia has the first code point of the last row.
-pub fn spanned(stretch: Stretch, entry: &Option<Entry>, before: Option<u32>) -> Spanned<Stretch>
+/// A stretch with the code points of its row, and with a tag. Trivia has the first code point of the last row.
+pub fn spanned(
+    stretch: Stretch,
+    tag: u32,
+    entry: &Option<Entry>,
+    before: Option<u32>,
+) -> Spanned<Stretch>
     ensures item { result.item ≡ stretch }
+    ensures tag { result.tag ≡ tag }
     ensures span { (file : FileValue) (row : Option RowValue) → EntersSome file entry.now row → HasSpan file row result.code result.last }
 {
     let (code, last) = match entry {
@@ -77,6 +84,7 @@ pub fn spanned(stretch: Stretch, entry: &Option<Entry>, before: Option<u32>) -> 
     Spanned {
         code,
         last,
+        tag,
         item: stretch,
     }
 }
@@ -182,7 +190,8 @@ impl<'a> Loading<'a> {
         ensures sound { OnOk result (IsSound self.new) }
         ensures progress { OnOk result (progress_of self.new ≡ with_item (progress_of self.old) (item_at self.old.file self.old.text.now stretch)) }
     {
-        let item = spanned(stretch, &entry, self.before);
+        let tag = content_tag(self.file, content_in(self.text, stretch));
+        let item = spanned(stretch, tag, &entry, self.before);
         self.before = start_with(self.before, &entry);
         self.end += stretch.len + ending_len(stretch.ending);
         self.lines += u32::from(stretch.lines);

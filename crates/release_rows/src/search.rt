@@ -2,9 +2,11 @@
 
 ghost use Rattle.std.specs.Prelude.{◌≡◌};
 ghost use Rattle.release_rows.specs.Searches.{comes_behind, has_names, is_alike, meets_another, starts_alike, with_test};
+ghost use Rattle.release_rows.specs.Tags.{falls_short, misses_tag, tag_fits, tag_rises, tells_order};
 
 use crate::row_key::has_spans;
 use crate::stretch::{Stretch, content_in};
+use crate::tag::{tells_group, tells_key, tells_order};
 use part_list::{Reach, Seek, Spanned};
 use source_rows::{compare_names, content_group};
 use std::marker::Model;
@@ -26,6 +28,27 @@ pub enum Test {
     Any,
 }
 
+/// Whether tags are the same, where they tell.
+fn tag_fits(told: bool, tag: u32, other: u32) -> bool
+    ensures { result ≡ tag_fits told tag other }
+{
+    !told || tag == other
+}
+
+/// Whether no tag within the bounds is this one, where tags tell.
+fn misses_tag(told: bool, tag: u32, reach: Reach) -> bool
+    ensures { result ≡ misses_tag told tag reach }
+{
+    told && (tag < reach.least_tag || reach.most_tag < tag)
+}
+
+/// Whether no code point within the bounds is greater than this one, and each tag is less, where tags tell.
+fn falls_short(told: bool, code: u32, tag: u32, reach: Reach) -> bool
+    ensures { result ≡ falls_short told code tag reach }
+{
+    told && reach.most <= code && reach.most_tag < tag
+}
+
 /// What is looked for in the text of a file. Contracts see its parts.
 #[derive(Drop)]
 pub struct Search<'a> {
@@ -43,6 +66,8 @@ pub struct Search<'a> {
     pub names: &'a [Text],
     /// The name of the group.
     pub group: &'a [u8],
+    /// The tag, as far as the key or the group tells it.
+    pub tag: u32,
 }
 
 impl<'a> Model for Search<'a> {
@@ -50,7 +75,7 @@ impl<'a> Model for Search<'a> {
 
     ghost Value = { Sought };
 
-    ghost view = { λ s. record { test = s.test; file = s.file; text = s.text.now; code = s.code; last = s.last; names = s.names.now; group = s.group.now } };
+    ghost view = { λ s. record { test = s.test; file = s.file; text = s.text.now; code = s.code; last = s.last; names = s.names.now; group = s.group.now; tag = s.tag } };
 }
 
 impl<'a> Search<'a> {
@@ -66,6 +91,7 @@ impl<'a> Search<'a> {
             last: self.last,
             names: self.names,
             group: self.group,
+            tag: self.tag,
         }
     }
 
@@ -80,7 +106,9 @@ impl<'a> Search<'a> {
     fn starts_alike(&self, entry: &Spanned<Stretch>) -> bool
         ensures { result ≡ starts_alike self.now entry.now }
     {
-        self.code == entry.code && self.has_names(content_in(self.text, entry.item))
+        self.code == entry.code
+            && tag_fits(tells_key(self.file), self.tag, entry.tag)
+            && self.has_names(content_in(self.text, entry.item))
     }
 
     /// Whether the entry has another key, and overlaps what is looked for where the file forbids it.
@@ -91,6 +119,7 @@ impl<'a> Search<'a> {
             && self.code != entry.code
             && self.code <= entry.last
             && entry.code <= self.last
+            && tag_fits(tells_key(self.file), self.tag, entry.tag)
             && self.has_names(content_in(self.text, entry.item))
     }
 
@@ -98,15 +127,25 @@ impl<'a> Search<'a> {
     fn is_alike(&self, entry: &Spanned<Stretch>) -> bool
         ensures { result ≡ is_alike self.now entry.now }
     {
+        if !tag_fits(tells_group(self.file), self.tag, entry.tag) {
+            return false;
+        }
         let content = content_in(self.text, entry.item);
         !is_trivia(content) && self.group == content_group(self.file, content)
+    }
+
+    /// Whether the tag of the entry leaves open that it has a greater key.
+    fn tag_rises(&self, entry: &Spanned<Stretch>) -> bool
+        ensures { result ≡ tag_rises (tells_order self.now.file) self.now.code entry.now.code self.now.tag entry.now.tag }
+    {
+        !tells_order(self.file) || self.code < entry.code || self.tag <= entry.tag
     }
 
     /// Whether the entry is of the group that is looked for, and has a greater key.
     fn comes_behind(&self, entry: &Spanned<Stretch>) -> bool
         ensures { result ≡ comes_behind self.now entry.now }
     {
-        if entry.code < self.code || !self.is_alike(entry) {
+        if entry.code < self.code || !self.tag_rises(entry) || !self.is_alike(entry) {
             return false;
         }
         let content = content_in(self.text, entry.item);
@@ -131,11 +170,26 @@ impl<'a> Seek<Stretch> for Search<'a> {
     }
 
     fn skips(&self, reach: Reach) -> bool {
+        let tag = self.tag;
         match self.test {
-            Test::SameKey => self.code < reach.least || reach.most < self.code,
-            Test::OverlapsAnother => self.last < reach.least || reach.most < self.code,
-            Test::Follows => reach.most < self.code,
-            Test::SameGroup | Test::Any => false,
+            Test::SameKey => {
+                self.code < reach.least
+                    || reach.most < self.code
+                    || misses_tag(tells_key(self.file), tag, reach)
+            }
+            Test::OverlapsAnother => {
+                !has_spans(self.file)
+                    || self.last < reach.least
+                    || reach.most < self.code
+                    || misses_tag(tells_key(self.file), tag, reach)
+            }
+            Test::Follows => {
+                reach.most < self.code
+                    || misses_tag(tells_group(self.file), tag, reach)
+                    || falls_short(tells_order(self.file), self.code, tag, reach)
+            }
+            Test::SameGroup => misses_tag(tells_group(self.file), tag, reach),
+            Test::Any => false,
         }
     }
 }

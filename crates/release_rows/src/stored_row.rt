@@ -10,6 +10,7 @@ ghost use Rattle.release_rows.specs.StoredItems.{stored_at, IsStored};
 use crate::brief::Brief;
 use crate::row_key::{row_end, row_start};
 use crate::stretch::Stretch;
+use crate::tag::content_tag;
 use part_list::Spanned;
 use source_rows::{rows_are_no_trivia, rows_are_read};
 use ucd_lines::Ending;
@@ -67,6 +68,7 @@ pub fn store_row(
     Ok(Spanned {
         code: row_start(row),
         last: row_end(file, row),
+        tag: content_tag(file, bytes),
         item,
     })
 }

@@ -32,6 +32,7 @@ fn entry(code: u32) -> Spanned<u32> {
     Spanned {
         code,
         last: code + 2,
+        tag: code,
         item: code,
     }
 }

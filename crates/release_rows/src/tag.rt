@@ -1,0 +1,163 @@
+//! Tags of rows: numbers that tell rows of different keys or groups apart before their texts are compared.
+
+ghost use Rattle.std.specs.Prelude.{◌≡◌, ◌≤◌};
+ghost use Rattle.ucd_points.specs.Fields.{field};
+ghost use Rattle.release_rows.specs.Tags.{behind_first, content_tag, digit, end_of, first_digit, key_tag, number, tells_group, tells_key, tells_order};
+
+use source_rows::content_group;
+use ucd_lines::{Fields, fields};
+use ucd_model::{SourceFile, Text};
+
+/// What a byte is worth: 1 to 75 from `0` to `z`, 0 below them and 76 above.
+fn digit(byte: u8) -> u32
+    ensures { result ≡ digit byte }
+{
+    match byte {
+        ..b'0' => 0,
+        b'0'..=b'z' => u32::from(byte - b'/'),
+        _ => 76,
+    }
+}
+
+/// What the first byte is worth; 0 where there is none.
+fn first_digit(text: &[u8]) -> u32
+    ensures digit { result ≡ first_digit text.now }
+    ensures few { result ≤ 76 }
+{
+    match text {
+        [] => 0,
+        [byte, ..] => digit(*byte),
+    }
+}
+
+/// The bytes behind the first one, if that is from `0` to `z`; else nothing.
+fn behind_first(text: &[u8]) -> &[u8]
+    ensures { result.now ≡ behind_first text.now }
+{
+    match text {
+        [b'0'..=b'z', rest @ ..] => rest,
+        _ => &[],
+    }
+}
+
+/// A number for the first five bytes of a text. Of two texts, the one that comes behind the other has no lesser number.
+fn number(text: &[u8]) -> u32
+    ensures { result ≡ number text.now }
+{
+    let second = behind_first(text);
+    let third = behind_first(second);
+    let fourth = behind_first(third);
+    let fifth = behind_first(fourth);
+    first_digit(text) * 35_153_041
+        + first_digit(second) * 456_533
+        + first_digit(third) * 5_929
+        + first_digit(fourth) * 77
+        + first_digit(fifth)
+}
+
+/// The last five bytes of a text; all where there are no more.
+fn end_of(text: &[u8]) -> &[u8]
+    ensures { result.now ≡ end_of text.now }
+{
+    if text.len() <= 5 {
+        return text;
+    }
+    &text[text.len() - 5..]
+}
+
+/// The first name of a list; nothing where there is none.
+fn first_text(names: &[Text]) -> &[u8]
+    ensures { result.now ≡ field names.now 0 }
+{
+    match names {
+        [] => &[],
+        [first, ..] => first.as_slice(),
+    }
+}
+
+/// The second name of a list; nothing where there is none.
+fn second_text(names: &[Text]) -> &[u8]
+    ensures { result.now ≡ field names.now 1 }
+{
+    match names {
+        [_, others @ ..] => first_text(others),
+        [] => &[],
+    }
+}
+
+/// The first one of the fields; nothing where there is none.
+fn first_field(mut fields: Fields<'_>) -> &[u8]
+    ensures { result.now ≡ field fields.entry 0 }
+{
+    match fields.next() {
+        Some(first) => first,
+        None => &[],
+    }
+}
+
+/// The second one of the fields; nothing where there is none.
+fn second_field(mut fields: Fields<'_>) -> &[u8]
+    ensures { result.now ≡ field fields.entry 1 }
+{
+    match fields.next() {
+        Some(_) => first_field(fields),
+        None => &[],
+    }
+}
+
+/// The tag of a row that stands in this content of the file.
+#[tactic(auto, unfolding(crate::specs::Tags::content_tag))]
+pub fn content_tag(file: SourceFile, content: &[u8]) -> u32
+    ensures { result ≡ content_tag file content.now }
+{
+    match file {
+        SourceFile::PropList | SourceFile::Scripts | SourceFile::WordBreakProperty => {
+            number(end_of(content_group(file, content)))
+        }
+        SourceFile::PropertyAliases => number(first_field(fields(file, content))),
+        SourceFile::PropertyValueAliases => number(second_field(fields(file, content))),
+        _ => 0,
+    }
+}
+
+/// The tag of the rows whose key has these names, in a file where that tells it; else 0.
+pub fn key_tag(file: SourceFile, names: &[Text]) -> u32
+    ensures { result ≡ key_tag file names.now }
+{
+    match file {
+        SourceFile::PropList => number(end_of(first_text(names))),
+        SourceFile::PropertyAliases => number(first_text(names)),
+        SourceFile::PropertyValueAliases => number(second_text(names)),
+        _ => 0,
+    }
+}
+
+/// Whether rows of one key have one tag.
+pub fn tells_key(file: SourceFile) -> bool
+    ensures { result ≡ tells_key file }
+{
+    matches!(
+        file,
+        SourceFile::PropList | SourceFile::PropertyAliases | SourceFile::PropertyValueAliases
+    )
+}
+
+/// Whether rows of one group have one tag.
+pub fn tells_group(file: SourceFile) -> bool
+    ensures { result ≡ tells_group file }
+{
+    matches!(
+        file,
+        SourceFile::PropList | SourceFile::Scripts | SourceFile::WordBreakProperty
+    )
+}
+
+/// Whether tags ascend with the keys of a group.
+pub fn tells_order(file: SourceFile) -> bool
+    ensures { result ≡ tells_order file }
+{
+    matches!(
+        file,
+        SourceFile::PropertyAliases | SourceFile::PropertyValueAliases
+    )
+}

@@ -195,6 +195,7 @@ second_taken n [] = refl
 second_taken n (f ∷ fs) = first_taken n fs
 
 pub tag_of : (file : SourceFile) (c : List ℕ) → HasTag file (content_tag file c) (content_names file c) (content_group file c)
+unfolding content_tag
 tag_of UnicodeData c = record { by_key = λ h. absurd cc; by_group = λ h. absurd cc; name = tt }
 tag_of PropList c = record { by_key = λ h. refl; by_group = λ h. refl; name = tt }
 tag_of Scripts c = record { by_key = λ h. absurd cc; by_group = λ h. refl; name = tt }

@@ -49,7 +49,7 @@ end_of bs = drop (length bs - 5) bs
 
 -- ---- tags
 
-abbrev pub content_tag : SourceFile → List ℕ → ℕ
+unfoldable pub content_tag : SourceFile → List ℕ → ℕ
 content_tag PropList content = number (end_of (content_group PropList content))
 content_tag Scripts content = number (end_of (content_group Scripts content))
 content_tag WordBreakProperty content = number (end_of (content_group WordBreakProperty content))

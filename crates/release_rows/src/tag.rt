@@ -106,6 +106,7 @@ fn second_field(mut fields: Fields<'_>) -> &[u8]
 }
 
 /// The tag of a row that stands in this content of the file.
+#[tactic(auto, unfolding(crate::specs::Tags::content_tag))]
 pub fn content_tag(file: SourceFile, content: &[u8]) -> u32
     ensures { result ≡ content_tag file content.now }
 {

@@ -1,4 +1,4 @@
-use Rattle.std.proofs.Common.{◌≡◌, ℕ, arith}
+use Rattle.std.proofs.Common.{◌≡◌, ◌<◌, ℕ, subst, arith}
 use Rattle.code_facts.specs.FactTables.{tables_facts}
 use Rattle.paged_table.specs.Paged.{values_now}
 use Rattle.ucd_model.specs.Facts.{Facts}
@@ -6,6 +6,9 @@ use Rattle.ucd_points.specs.Limits.{point_count}
 use Rattle.record_list.specs.Records.{record_next, record_now}
 use Rattle.edit_session.proofs.FirstSteps.{all_records, all_valid}
 use Rattle.edit_session.proofs.first_points.derive_all.Goals as goal
+
+pub derive_run-requires : goal.derive_run-requires
+derive_run-requires g c = λ d lt. c.runs.invariant.records d (subst (λ (n : ℕ). d < n) c.at-c.ensures lt)
 
 pub returns-clause-valid : goal.returns-clause-valid
 returns-clause-valid g c =

@@ -1,12 +1,16 @@
-use Rattle.std.proofs.Common.{ap, ◌∙◌}
+use Rattle.std.proofs.Common.{sym, ap, ◌∙◌}
 use Rattle.std.specs.Prelude.{◌&&◌, nat_lt}
 use Rattle.edit_session.specs.Benches.{bench_record}
 use Rattle.release_rows.specs.Releases.{ReleaseItems, rows_now}
+use Rattle.ucd_model.specs.Facts.{facts}
 use Rattle.ucd_points.specs.Limits.{point_count}
 use Rattle.unicodeset_eval.specs.Indexes.{index_holds}
 use Rattle.unicodeset_eval.specs.Tests.{test_holds}
 use Rattle.ucdshop_core.proofs.CarryingLemmas.{holds_are}
 use Rattle.ucdshop_core.proofs.asking.index_of.Goals as goal
+
+pub of-requires-clause-categories : goal.of-requires-clause-categories
+of-requires-clause-categories c = λ k lt. ap (λ (r : ReleaseItems). (facts (rows_now r) k).category) (sym c.release.ensures.same)
 
 pub returns : goal.returns
 returns c =

@@ -57,7 +57,11 @@ fn answer_over<'c>(
     ensures { IfOk result (λ rest. AnswersFront bench.now.current (step_by (session_on bench.now.current carried.old) line (Question text.now)) (counted carried.old + 1) behind.now carried.new rest.now) }
 {
     match Asking::of(alloc, bench, pieces) {
-        Ok(asking) => answer_first(alloc, &asking, line, text, behind, carried),
+        Ok(asking) => {
+            let answered = answer_first(alloc, &asking, line, text, behind, carried);
+            drop(asking);
+            answered
+        }
         Err(stop) => Err(stop),
     }
 }

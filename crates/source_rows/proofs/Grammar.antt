@@ -1,27 +1,55 @@
 -- Rows are given exactly where the grammar reads them.
-use Rattle.std.proofs.Common.{◌≡◌, ℕ, Bool, true, false, cond, List, ◌∷◌, ◌++◌, get_or, Ok, refl, ap, ◌∙◌, inl, inr}
+use Rattle.std.proofs.Common.{◌≡◌, ℕ, Bool, true, false, cond, List, ◌∷◌, ◌++◌, get_or, Ok, refl, ap, subst, ◌∙◌, inl, inr}
 use Rattle.std.specs.List.{position_or_len, before_first, after_first}
 use Rattle.std.proofs.lemmas.Bool.{eqb-true, or_right}
 use Rattle.std.proofs.lemmas.List.Folds.{list_any-append}
 use Rattle.std.proofs.lemmas.List.Sums.{split_at_first, passes_at_first}
 use Rattle.ucd_points.specs.Lines.{is_lf, holds_line_feed, without_return}
 use Rattle.ucd_points.specs.Fields.{fields}
+use Rattle.ucd_points.specs.MissingLines.{missing_rest, is_missing}
 use Rattle.ucd_model.specs.Grammar.{ReadsLine, ReadsRange, IsRange, Reads}
 use Rattle.ucd_points.specs.declared.files.SourceFile.{SourceFile}
 use Rattle.ucd_points.specs.declared.files.SourceFile.TheVariants.{UnicodeData, PropList, Scripts, WordBreakProperty, CompositionExclusions, CaseFolding, SpecialCasing, PropertyAliases, PropertyValueAliases}
+use Rattle.ucd_model.specs.OtherLines.{ReadsValue}
 use Rattle.ucd_model.specs.declared.row.DataRow.{DataRow}
+use Rattle.ucd_model.specs.declared.row.ValueRow.{ValueRow}
 use Rattle.ucd_model.specs.declared.row.Row.{Row}
-use Rattle.ucd_model.specs.declared.row.Row.TheVariants.{Unit as DataLine, Value as ValueLine, Exclusion as ExclusionLine, Fold as FoldLine, Casing as CasingLine, Alias as AliasLine}
-use Rattle.source_rows.specs.Faults.{line_or_fault, lines_or_fault, row_or_fault}
+use Rattle.ucd_model.specs.declared.row.Row.TheVariants.{Unit as DataLine, Value as ValueLine, Exclusion as ExclusionLine, Fold as FoldLine, Casing as CasingLine, Alias as AliasLine, Missing as MissingLine}
+use Rattle.source_rows.specs.Faults.{value_line, line_or_fault, lines_or_fault, row_or_fault}
 use Rattle.source_rows.specs.DataFaults.{pair_or_fault}
+use Rattle.source_rows.specs.OtherFaults.{value_or_fault}
+use Rattle.source_rows.specs.Steps.{and_then}
 use Rattle.source_rows.specs.Laws.{RowsAreRead}
 use Rattle.source_rows.specs.declared.fault.RowFault.TheVariants.{G03}
 use Rattle.source_rows.proofs.Seams.{before_seam, after_seam, first_within, lacks_before}
-use Rattle.source_rows.proofs.OtherGrammar.{IsValueOf, value_read, value_given, IsExclusionOf, exclusion_read, exclusion_given, IsFoldOf, fold_read, fold_given, IsCasingOf, casing_read, casing_given, IsAliasOf, alias_read, alias_given}
+use Rattle.source_rows.proofs.OtherGrammar.{value_read, value_given, IsExclusionOf, exclusion_read, exclusion_given, IsFoldOf, fold_read, fold_given, IsCasingOf, casing_read, casing_given, IsAliasOf, alias_read, alias_given}
 use Rattle.source_rows.proofs.LineGrammar.{IsSingleOf, single_read, single_given, IsPairOf, pair_read, pair_given}
-use Rattle.source_rows.proofs.Found.{failed}
+use Rattle.source_rows.proofs.Found.{failed, after}
 
 -- ---- one line
+
+-- the values of a line, whatever row is made of them
+valued : (fs : List (List ℕ)) (line : ValueRow → Row) (row : Row) → and_then (value_or_fault fs) (λ v. Ok (line v)) ≡ Ok row → (v : ValueRow) × ReadsValue fs v × (line v ≡ row)
+valued fs line row h =
+    let a = after (value_or_fault fs) (λ v. Ok (line v)) row h in
+    let same : line a.0 ≡ row = cc in
+    (a.0, value_read fs a.0 a.1, same)
+
+property_read : (bytes : List ℕ) (row : Row) → line_or_fault PropList bytes ≡ Ok row → ReadsLine PropList bytes row
+unfolding missing_rest
+property_read bytes row h = let v = valued (fields PropList bytes) ValueLine row h in subst (ReadsLine PropList bytes) v.2 v.1
+
+property_given : (bytes : List ℕ) (row : ValueRow) → ReadsValue (fields PropList bytes) row → line_or_fault PropList bytes ≡ Ok (ValueLine row)
+unfolding missing_rest
+property_given bytes row r = rw (value_given (fields PropList bytes) row r) refl
+
+script_read : (bytes : List ℕ) (v : ValueRow) (missing : Bool) → is_missing Scripts bytes ≡ missing → ReadsValue (fields Scripts bytes) v → ReadsLine Scripts bytes (cond missing (MissingLine v) (ValueLine v))
+script_read bytes v true e r = (e, r)
+script_read bytes v false e r = (e, r)
+
+word_break_read : (bytes : List ℕ) (v : ValueRow) (missing : Bool) → is_missing WordBreakProperty bytes ≡ missing → ReadsValue (fields WordBreakProperty bytes) v → ReadsLine WordBreakProperty bytes (cond missing (MissingLine v) (ValueLine v))
+word_break_read bytes v true e r = (e, r)
+word_break_read bytes v false e r = (e, r)
 
 line_read : (file : SourceFile) (bytes : List ℕ) (row : Row) → line_or_fault file bytes ≡ Ok row → ReadsLine file bytes row
 line_read UnicodeData bytes row h = its bytes row (single_read (fields UnicodeData bytes) row h)
@@ -29,21 +57,13 @@ line_read UnicodeData bytes row h = its bytes row (single_read (fields UnicodeDa
     its : (bytes : List ℕ) (row : Row) → IsSingleOf (fields UnicodeData bytes) row → ReadsLine UnicodeData bytes row
     its bytes (DataLine row) r = r
     its bytes _ r = absurd r
-line_read PropList bytes row h = its bytes row (value_read (fields PropList bytes) row h)
-  where
-    its : (bytes : List ℕ) (row : Row) → IsValueOf (fields PropList bytes) row → ReadsLine PropList bytes row
-    its bytes (ValueLine row) r = r
-    its bytes _ r = absurd r
-line_read Scripts bytes row h = its bytes row (value_read (fields Scripts bytes) row h)
-  where
-    its : (bytes : List ℕ) (row : Row) → IsValueOf (fields Scripts bytes) row → ReadsLine Scripts bytes row
-    its bytes (ValueLine row) r = r
-    its bytes _ r = absurd r
-line_read WordBreakProperty bytes row h = its bytes row (value_read (fields WordBreakProperty bytes) row h)
-  where
-    its : (bytes : List ℕ) (row : Row) → IsValueOf (fields WordBreakProperty bytes) row → ReadsLine WordBreakProperty bytes row
-    its bytes (ValueLine row) r = r
-    its bytes _ r = absurd r
+line_read PropList bytes row h = property_read bytes row h
+line_read Scripts bytes row h =
+    let v = valued (fields Scripts bytes) (value_line Scripts bytes) row h in
+    subst (ReadsLine Scripts bytes) v.2 (script_read bytes v.0 (is_missing Scripts bytes) refl v.1)
+line_read WordBreakProperty bytes row h =
+    let v = valued (fields WordBreakProperty bytes) (value_line WordBreakProperty bytes) row h in
+    subst (ReadsLine WordBreakProperty bytes) v.2 (word_break_read bytes v.0 (is_missing WordBreakProperty bytes) refl v.1)
 line_read CompositionExclusions bytes row h = its bytes row (exclusion_read (fields CompositionExclusions bytes) row h)
   where
     its : (bytes : List ℕ) (row : Row) → IsExclusionOf (fields CompositionExclusions bytes) row → ReadsLine CompositionExclusions bytes row
@@ -73,11 +93,13 @@ line_read PropertyValueAliases bytes row h = its bytes row (alias_read 3 (fields
 line_given : (file : SourceFile) (bytes : List ℕ) (row : Row) → ReadsLine file bytes row → line_or_fault file bytes ≡ Ok row
 line_given UnicodeData bytes (DataLine row) r = single_given (fields UnicodeData bytes) row r
 line_given UnicodeData bytes _ r = absurd r
-line_given PropList bytes (ValueLine row) r = value_given (fields PropList bytes) row r
+line_given PropList bytes (ValueLine row) r = property_given bytes row r
 line_given PropList bytes _ r = absurd r
-line_given Scripts bytes (ValueLine row) r = value_given (fields Scripts bytes) row r
+line_given Scripts bytes (ValueLine row) r = rw (value_given (fields Scripts bytes) row r.1, r.0) refl
+line_given Scripts bytes (MissingLine row) r = rw (value_given (fields Scripts bytes) row r.1, r.0) refl
 line_given Scripts bytes _ r = absurd r
-line_given WordBreakProperty bytes (ValueLine row) r = value_given (fields WordBreakProperty bytes) row r
+line_given WordBreakProperty bytes (ValueLine row) r = rw (value_given (fields WordBreakProperty bytes) row r.1, r.0) refl
+line_given WordBreakProperty bytes (MissingLine row) r = rw (value_given (fields WordBreakProperty bytes) row r.1, r.0) refl
 line_given WordBreakProperty bytes _ r = absurd r
 line_given CompositionExclusions bytes (ExclusionLine row) r = exclusion_given (fields CompositionExclusions bytes) row r
 line_given CompositionExclusions bytes _ r = absurd r

@@ -3,7 +3,9 @@ use Rattle.std.proofs.Common.{◌≡◌, ℕ, Bool, true, false, cond, eqb, leb,
 use Rattle.std.specs.List.{list_all}
 use Rattle.std.proofs.lemmas.Bool.{eqb-true, eq-eqb, leb-true, le-leb}
 use Rattle.ucd_points.specs.Lines.{holds_line_feed}
-use Rattle.ucd_points.specs.Fields.{fields, field, point_of, is_name}
+use Rattle.ucd_points.specs.Bounds.{Bounds}
+use Rattle.ucd_points.specs.Fields.{fields, field, point_of, span_of, is_name}
+use Rattle.ucd_points.specs.MissingLines.{is_missing}
 use Rattle.ucd_model.specs.Mappings.{conditions_of}
 use Rattle.ucd_model.specs.Names.{status_of, status_code}
 use Rattle.ucd_model.specs.OtherLines.{is_name_or_empty}
@@ -11,13 +13,14 @@ use Rattle.ucd_points.specs.declared.files.SourceFile.{SourceFile}
 use Rattle.ucd_points.specs.declared.files.SourceFile.TheVariants.{UnicodeData, PropList, Scripts, WordBreakProperty, CompositionExclusions, CaseFolding, SpecialCasing, PropertyAliases, PropertyValueAliases}
 use Rattle.ucd_model.specs.declared.row.FoldStatus.{FoldStatus}
 use Rattle.source_rows.specs.Steps.{or_fault}
-use Rattle.source_rows.specs.Keys.{condition_names}
+use Rattle.source_rows.specs.Keys.{condition_names, missing_names}
 use Rattle.source_rows.specs.OtherFaults.{names_of}
-use Rattle.source_rows.specs.KeyGrammar.{ReadsCodeKey, ReadsPropertyKey, ReadsFoldKey, ReadsCasingKey, ReadsAliasKey, ReadsKeyLine, ReadsKey, KeysAreRead, key_at, code_key, property_key, fold_key, casing_key, alias_key, key_line_or_fault, key_or_fault}
+use Rattle.source_rows.specs.KeyGrammar.{ReadsCodeKey, ReadsMissingKey, ReadsValueKey, ReadsPropertyKey, ReadsFoldKey, ReadsCasingKey, ReadsAliasKey, ReadsKeyLine, ReadsKey, KeysAreRead, key_at, code_key, missing_key, value_key, property_key, fold_key, casing_key, alias_key, key_line_or_fault, key_or_fault}
 use Rattle.source_rows.specs.declared.fault.RowFault.{RowFault}
 use Rattle.source_rows.specs.declared.fault.RowFault.TheVariants.{G03, G04, G08, G11}
 use Rattle.source_rows.specs.declared.key.Key.{Key}
 use Rattle.source_rows.proofs.Found.{passed, failed, found}
+use Rattle.source_rows.proofs.Spans.{spelled, given}
 
 -- a key by its parts
 abbrev keyed : Option ℕ → List (List ℕ) → Result Key RowFault
@@ -42,6 +45,23 @@ code_read fs key h =
 code_given : (fs : List (List ℕ)) (key : Key) → ReadsCodeKey fs key → code_key fs ≡ Ok key
 unfolding code_key
 code_given fs key r = rw (r.count, r.spelled) (is_key key (Some r.point) [] r.code r.names)
+
+-- ---- a span
+
+abbrev spanned : Bounds → Result Key RowFault
+spanned s = Ok (key_at s.lo (missing_names s.hi))
+
+missing_read : (fs : List (List ℕ)) (key : Key) → missing_key fs ≡ Ok key → ReadsMissingKey fs key
+unfolding missing_key
+missing_read fs key h =
+    let a = passed (eqb (length fs) 1) (or_fault G04 (span_of (field fs 0)) spanned) G03 key h in
+    let b = found G04 (span_of (field fs 0)) spanned key a.1 in
+    let same : key_at b.0.lo (missing_names b.0.hi) ≡ key = cc in
+    subst (λ (k : Key). ReadsMissingKey fs k) same (record { count = eqb-true _ _ a.0; span = b.0; spelled = spelled (field fs 0) b.0 b.1; code = refl; names = refl })
+
+missing_given : (fs : List (List ℕ)) (key : Key) → ReadsMissingKey fs key → missing_key fs ≡ Ok key
+unfolding missing_key
+missing_given fs key r = rw (r.count, given (field fs 0) r.span r.spelled) (is_key key (Some r.span.lo) (missing_names r.span.hi) r.code r.names)
 
 -- ---- a code point and a name
 
@@ -128,37 +148,45 @@ alias_given count fs key r = rw (eq-eqb (length fs) count r.as_many, r.first, r.
 
 -- ---- by the file
 
-line_read : (file : SourceFile) (fs : List (List ℕ)) (key : Key) → key_line_or_fault file fs ≡ Ok key → ReadsKeyLine file fs key
-line_read UnicodeData fs key h = code_read fs key h
-line_read PropList fs key h = property_read fs key h
-line_read Scripts fs key h = code_read fs key h
-line_read WordBreakProperty fs key h = code_read fs key h
-line_read CompositionExclusions fs key h = code_read fs key h
-line_read CaseFolding fs key h = fold_read fs key h
-line_read SpecialCasing fs key h = casing_read fs key h
-line_read PropertyAliases fs key h = alias_read 2 fs key h
-line_read PropertyValueAliases fs key h = alias_read 3 fs key h
+value_key_read : (missing : Bool) (fs : List (List ℕ)) (key : Key) → value_key missing fs ≡ Ok key → ReadsValueKey missing fs key
+value_key_read true fs key h = missing_read fs key h
+value_key_read false fs key h = code_read fs key h
 
-line_given : (file : SourceFile) (fs : List (List ℕ)) (key : Key) → ReadsKeyLine file fs key → key_line_or_fault file fs ≡ Ok key
-line_given UnicodeData fs key r = code_given fs key r
-line_given PropList fs key r = property_given fs key r
-line_given Scripts fs key r = code_given fs key r
-line_given WordBreakProperty fs key r = code_given fs key r
-line_given CompositionExclusions fs key r = code_given fs key r
-line_given CaseFolding fs key r = fold_given fs key r
-line_given SpecialCasing fs key r = casing_given fs key r
-line_given PropertyAliases fs key r = alias_given 2 fs key r
-line_given PropertyValueAliases fs key r = alias_given 3 fs key r
+value_key_given : (missing : Bool) (fs : List (List ℕ)) (key : Key) → ReadsValueKey missing fs key → value_key missing fs ≡ Ok key
+value_key_given true fs key r = missing_given fs key r
+value_key_given false fs key r = code_given fs key r
+
+line_read : (file : SourceFile) (bytes : List ℕ) (key : Key) → key_line_or_fault file bytes ≡ Ok key → ReadsKeyLine file bytes key
+line_read UnicodeData bytes key h = code_read (fields UnicodeData bytes) key h
+line_read PropList bytes key h = property_read (fields PropList bytes) key h
+line_read Scripts bytes key h = value_key_read (is_missing Scripts bytes) (fields Scripts bytes) key h
+line_read WordBreakProperty bytes key h = value_key_read (is_missing WordBreakProperty bytes) (fields WordBreakProperty bytes) key h
+line_read CompositionExclusions bytes key h = code_read (fields CompositionExclusions bytes) key h
+line_read CaseFolding bytes key h = fold_read (fields CaseFolding bytes) key h
+line_read SpecialCasing bytes key h = casing_read (fields SpecialCasing bytes) key h
+line_read PropertyAliases bytes key h = alias_read 2 (fields PropertyAliases bytes) key h
+line_read PropertyValueAliases bytes key h = alias_read 3 (fields PropertyValueAliases bytes) key h
+
+line_given : (file : SourceFile) (bytes : List ℕ) (key : Key) → ReadsKeyLine file bytes key → key_line_or_fault file bytes ≡ Ok key
+line_given UnicodeData bytes key r = code_given (fields UnicodeData bytes) key r
+line_given PropList bytes key r = property_given (fields PropList bytes) key r
+line_given Scripts bytes key r = value_key_given (is_missing Scripts bytes) (fields Scripts bytes) key r
+line_given WordBreakProperty bytes key r = value_key_given (is_missing WordBreakProperty bytes) (fields WordBreakProperty bytes) key r
+line_given CompositionExclusions bytes key r = code_given (fields CompositionExclusions bytes) key r
+line_given CaseFolding bytes key r = fold_given (fields CaseFolding bytes) key r
+line_given SpecialCasing bytes key r = casing_given (fields SpecialCasing bytes) key r
+line_given PropertyAliases bytes key r = alias_given 2 (fields PropertyAliases bytes) key r
+line_given PropertyValueAliases bytes key r = alias_given 3 (fields PropertyValueAliases bytes) key r
 
 key_read : (file : SourceFile) (bytes : List ℕ) (key : Key) → key_or_fault file bytes ≡ Ok key → ReadsKey file bytes key
 unfolding key_or_fault
 key_read file bytes key h =
-    let a = failed (holds_line_feed bytes) (key_line_or_fault file (fields file bytes)) G03 key h in
-    (a.0, line_read file (fields file bytes) key a.1)
+    let a = failed (holds_line_feed bytes) (key_line_or_fault file bytes) G03 key h in
+    (a.0, line_read file bytes key a.1)
 
 key_given : (file : SourceFile) (bytes : List ℕ) (key : Key) → ReadsKey file bytes key → key_or_fault file bytes ≡ Ok key
 unfolding key_or_fault
-key_given file bytes key r = rw r.0 (line_given file (fields file bytes) key r.1)
+key_given file bytes key r = rw r.0 (line_given file bytes key r.1)
 
 pub keys_are_read : KeysAreRead
 keys_are_read file bytes key = (key_read file bytes key, key_given file bytes key)

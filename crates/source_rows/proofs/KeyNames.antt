@@ -6,17 +6,20 @@ use Rattle.ucd_model.specs.NameProofs.{statuses_are_spelled}
 use Rattle.ucd_points.specs.declared.files.SourceFile.{SourceFile}
 use Rattle.ucd_points.specs.declared.files.SourceFile.TheVariants.{UnicodeData, PropList, Scripts, WordBreakProperty, CompositionExclusions, CaseFolding, SpecialCasing, PropertyAliases, PropertyValueAliases}
 use Rattle.ucd_model.specs.declared.row.Row.{Row}
-use Rattle.ucd_model.specs.declared.row.Row.TheVariants.{Unit as DataLine, Value as ValueLine, Exclusion as ExclusionLine, Fold as FoldLine, Casing as CasingLine, Alias as AliasLine}
+use Rattle.ucd_model.specs.declared.row.Row.TheVariants.{Unit as DataLine, Value as ValueLine, Exclusion as ExclusionLine, Fold as FoldLine, Casing as CasingLine, Alias as AliasLine, Missing as MissingLine}
 use Rattle.source_rows.specs.Keys.{condition_names}
 use Rattle.source_rows.specs.KeyNames.{AnswersContent, ContentsHaveKeys}
 use Rattle.source_rows.proofs.Grammar.{rows_are_read}
+use Rattle.source_rows.proofs.Spans.{given}
 use Rattle.source_rows.proofs.WordTexts.{conditions_are}
 
 line_answers : (file : SourceFile) (content : List ℕ) (row : Row) → ReadsLine file content row → AnswersContent file content row
 line_answers UnicodeData content (DataLine row) r = record { names = refl; group = refl; code = refl }
 line_answers PropList content (ValueLine row) r = record { names = ap (λ (v : List ℕ). v ∷ []) r.value; group = r.value; code = refl }
-line_answers Scripts content (ValueLine row) r = record { names = refl; group = r.value; code = refl }
-line_answers WordBreakProperty content (ValueLine row) r = record { names = refl; group = r.value; code = refl }
+line_answers Scripts content (ValueLine row) r = record { names = rw r.0 refl; group = rw r.0 r.1.value; code = refl }
+line_answers Scripts content (MissingLine row) r = record { names = rw (r.0, given (field (fields Scripts content) 0) row.span r.1.span) refl; group = rw r.0 refl; code = refl }
+line_answers WordBreakProperty content (ValueLine row) r = record { names = rw r.0 refl; group = rw r.0 r.1.value; code = refl }
+line_answers WordBreakProperty content (MissingLine row) r = record { names = rw (r.0, given (field (fields WordBreakProperty content) 0) row.span r.1.span) refl; group = rw r.0 refl; code = refl }
 line_answers CompositionExclusions content (ExclusionLine row) r = record { names = refl; group = refl; code = refl }
 line_answers CaseFolding content (FoldLine row) r = record { names = ap (λ (v : List ℕ). v ∷ []) (sym ((statuses_are_spelled (field (fields CaseFolding content) 1) row.status).0 r.status)); group = refl; code = refl }
 line_answers SpecialCasing content (CasingLine row) r = record { names = ap condition_names (sym (conditions_are (field (fields SpecialCasing content) 4) row.conditions r.conditions).1); group = refl; code = refl }

@@ -1,16 +1,22 @@
 -- The text of the key of a row that the file can have is read as that key.
-use Rattle.std.proofs.Common.{◌≡◌, ℕ, zero, suc, ◌<◌, true, false, List, [], ◌∷◌, ◌++◌, length, take, Some, None, refl, sym, ap, subst, ◌∙◌, append_assoc, arith}
+use Rattle.std.proofs.Common.{◌≡◌, ℕ, zero, suc, ◌<◌, true, false, List, [], ◌∷◌, ◌++◌, length, take, Some, None, refl, sym, ap, subst, ◌∙◌, append_assoc, arith, inl, inr}
 use Rattle.std.specs.Prelude.{codes}
 use Rattle.std.specs.List.{All}
+use Rattle.std.specs.Str.{bytes_eq}
+use Rattle.std.proofs.lemmas.Bool.{cases_eq, eq-eqb, ne_eqb, false_from_ne_true}
+use Rattle.std.proofs.lemmas.Option.{same_Some}
+use Rattle.std.proofs.lemmas.Slice.Eq.{bytes_eq-Decides}
 use Rattle.std.proofs.lemmas.List.{append-nil, length-take-le}
 use Rattle.std.proofs.lemmas.List.Elements.{All-nil, All-cons, All-take}
 use Rattle.ucd_points.specs.Lines.{holds_line_feed}
 use Rattle.ucd_model.specs.Names.{status_code}
-use Rattle.ucd_points.specs.Fields.{fields, field, trim, is_hash, is_name}
+use Rattle.ucd_points.specs.Bounds.{Bounds}
+use Rattle.ucd_points.specs.Fields.{fields, field, trim, is_hash, is_name, point_of}
+use Rattle.ucd_points.specs.MissingLines.{takes_missing, missing_rest, is_missing}
 use Rattle.ucd_model.specs.Mappings.{conditions_of}
-use Rattle.ucd_points.specs.HexText.{hex_text}
+use Rattle.ucd_points.specs.HexText.{hex_text, span_text}
 use Rattle.ucd_model.specs.RowTexts.{names_text}
-use Rattle.ucd_model.specs.RowValues.{RowOk, IsTrimmed, IsAliasName, AliasOk}
+use Rattle.ucd_model.specs.RowValues.{RowOk, IsSpan, IsTrimmed, IsAliasName, AliasOk}
 use Rattle.ucd_points.specs.HexTextProofs.{hex_text_spells_its_point}
 use Rattle.ucd_points.specs.declared.files.SourceFile.{SourceFile}
 use Rattle.ucd_points.specs.declared.files.SourceFile.TheVariants.{UnicodeData, PropList, Scripts, WordBreakProperty, CompositionExclusions, CaseFolding, SpecialCasing, PropertyAliases, PropertyValueAliases}
@@ -18,15 +24,17 @@ use Rattle.ucd_model.specs.declared.row.AliasRow.{AliasRow}
 use Rattle.ucd_model.specs.declared.row.FoldStatus.{FoldStatus}
 use Rattle.ucd_model.specs.declared.row.FoldStatus.TheVariants.{C, F, S, T}
 use Rattle.ucd_model.specs.declared.row.Row.{Row}
-use Rattle.ucd_model.specs.declared.row.Row.TheVariants.{Unit as DataLine, Value as ValueLine, Exclusion as ExclusionLine, Fold as FoldLine, Casing as CasingLine, Alias as AliasLine}
-use Rattle.source_rows.specs.Fields.{fields_of}
-use Rattle.source_rows.specs.Keys.{key_of, condition_names}
-use Rattle.source_rows.specs.KeyGrammar.{ReadsKey, ReadsCodeKey, ReadsPropertyKey, ReadsFoldKey, ReadsCasingKey, ReadsAliasKey}
-use Rattle.source_rows.specs.KeyTexts.{behind_name, key_text, KeyTextsReadBack}
+use Rattle.ucd_model.specs.declared.row.Row.TheVariants.{Unit as DataLine, Value as ValueLine, Exclusion as ExclusionLine, Fold as FoldLine, Casing as CasingLine, Alias as AliasLine, Missing as MissingLine}
+use Rattle.source_rows.specs.Fields.{fields_of, row_fields}
+use Rattle.source_rows.specs.Keys.{key_of, condition_names, missing_names}
+use Rattle.source_rows.specs.KeyGrammar.{ReadsKey, ReadsCodeKey, ReadsMissingKey, ReadsValueKey, ReadsPropertyKey, ReadsFoldKey, ReadsCasingKey, ReadsAliasKey}
+use Rattle.source_rows.specs.KeyTexts.{behind_name, joined_span, key_text, KeyTextsReadBack}
+use Rattle.source_rows.specs.declared.key.Key.{Key}
 use Rattle.source_rows.proofs.KeyGrammar.{keys_are_read}
-use Rattle.source_rows.proofs.OtherTexts.{Piece, IsLine, line_is, hex_piece, piece, piece_both, none, spaced, spaced_trimmed, value_piece, alias_line, all_names, cut_fields}
+use Rattle.source_rows.proofs.MissingLines.{no_rest, written}
+use Rattle.source_rows.proofs.OtherTexts.{Piece, IsLine, line_is, hex_piece, span_piece, span_trimmed, piece, piece_both, none, spaced, spaced_trimmed, value_piece, alias_line, all_names, cut_fields}
 use Rattle.source_rows.proofs.Seams.{before_no_seam}
-use Rattle.source_rows.proofs.TextValues.{hex_firm, status_reads, status_lacks}
+use Rattle.source_rows.proofs.TextValues.{hex_firm, span_spelled, status_reads, status_lacks}
 use Rattle.source_rows.proofs.Trims.{trim_firm, space_behind}
 use Rattle.source_rows.proofs.WordTexts.{spaced_trimmed as words_trimmed, conditions_are, conditions_no_feed, no_conditions}
 
@@ -57,6 +65,44 @@ data_fields c = ap fields_of (sym (before_no_seam is_hash (hex_text c) (hex_piec
 
 coded : (c : ℕ) → c < 1114112 → (holds_line_feed (hex_text c) ≡ false) × ReadsCodeKey (cut_fields (hex_text c)) (record { code = Some c; names = [] })
 coded c small = ((code_line c).no_feed, code_key_reads c (cut_fields (hex_text c)) small (code_line c).cut)
+
+-- a code point alone, where a span behind a mark may stand too
+plain_coded : (file : SourceFile) (c : ℕ) → c < 1114112 → (holds_line_feed (hex_text c) ≡ false) × ReadsValueKey (is_missing file (hex_text c)) (row_fields file (hex_text c)) (record { code = Some c; names = [] })
+plain_coded file c small =
+    let key = coded c small in
+    let none = no_rest file (hex_text c) (hex_piece c).no_hash in
+    (key.0, rw none key.1)
+
+-- ---- the span of a missing row
+
+-- two points have the same digits where they are the same
+joined_is : (s : Bounds) → IsSpan s → joined_span (hex_text s.lo) (hex_text s.hi) ≡ span_text s
+unfolding span_text
+joined_is s ok =
+    elim (cases_eq s.lo s.hi) [
+      | inl same ↦ rw (same, (bytes_eq-Decides (hex_text s.hi) (hex_text s.hi)).1 refl, eq-eqb s.hi s.hi refl) refl
+      | inr apart ↦ rw (false_from_ne_true (bytes_eq (hex_text s.lo) (hex_text s.hi)) (λ e. apart (one_point s ok ((bytes_eq-Decides (hex_text s.lo) (hex_text s.hi)).0 e))), ne_eqb s.lo s.hi apart) refl
+    ]
+  where
+    one_point : (s : Bounds) → IsSpan s → hex_text s.lo ≡ hex_text s.hi → s.lo ≡ s.hi
+    one_point s ok e =
+        let lo = hex_text_spells_its_point s.lo (omega (arith, ok.0, ok.1)) in
+        let hi = hex_text_spells_its_point s.hi ok.1 in
+        same_Some s.lo s.hi (sym lo ∙ ap point_of e ∙ hi)
+
+abbrev marked : List ℕ → List ℕ
+marked text = codes "# @missing: " ++ text
+
+marked_span : (file : SourceFile) (s : Bounds) → takes_missing file ≡ true → IsSpan s → (holds_line_feed (marked (span_text s)) ≡ false) × ReadsValueKey (is_missing file (marked (span_text s))) (row_fields file (marked (span_text s))) (record { code = Some s.lo; names = missing_names s.hi })
+marked_span file s takes ok =
+    let key : Key = record { code = Some s.lo; names = missing_names s.hi } in
+    let some = written file (span_text s) takes in
+    let line = line_is (32 ∷ span_text s) (32 ∷ span_text s) [] (span_text s ∷ []) refl (All-cons Piece (32 ∷ span_text s) [] (spaced (span_text s) (span_piece s)) (All-nil Piece)) (rw (spaced_trimmed (span_text s) (span_trimmed s)) refl) in
+    let reads : ReadsMissingKey (span_text s ∷ []) key = record { count = refl; span = s; spelled = span_spelled s ok; code = refl; names = refl } in
+    (line.no_feed, rw some (subst (λ (fs : List (List ℕ)). ReadsMissingKey fs key) (sym line.cut) reads))
+
+missing_key_reads : (file : SourceFile) (s : Bounds) → takes_missing file ≡ true → IsSpan s → (holds_line_feed (marked (joined_span (hex_text s.lo) (hex_text s.hi))) ≡ false) × ReadsValueKey (is_missing file (marked (joined_span (hex_text s.lo) (hex_text s.hi)))) (row_fields file (marked (joined_span (hex_text s.lo) (hex_text s.hi)))) (record { code = Some s.lo; names = missing_names s.hi })
+missing_key_reads file s takes ok = rw (joined_is s ok) (marked_span file s takes ok)
 
 -- ---- a code point and a name
 
@@ -114,7 +160,7 @@ alias_key_reads count row some ok =
 -- ---- by the file
 
 text_reads : (file : SourceFile) (row : Row) → RowOk file row → ReadsKey file (key_text file (key_of file row)) (key_of file row)
-unfolding fields
+unfolding fields missing_rest
 text_reads UnicodeData (DataLine row) ok = let c = row.span.lo in ((code_line c).no_feed, code_key_reads c (fields_of (hex_text c)) (omega (arith, ok.span.0, ok.span.1)) (data_fields c))
 text_reads UnicodeData _ ok = absurd ok
 text_reads PropList (ValueLine row) ok =
@@ -122,9 +168,11 @@ text_reads PropList (ValueLine row) ok =
     let line = three_line c row.value (value_piece row.value ok.value) ok.value.trimmed in
     (line.no_feed, property_key_reads c row.value (cut_fields (hex_text c ++ 32 ∷ 59 ∷ 32 ∷ row.value)) (omega (arith, ok.span.0, ok.span.1)) ok.value.name line.cut)
 text_reads PropList _ ok = absurd ok
-text_reads Scripts (ValueLine row) ok = coded row.span.lo (omega (arith, ok.span.0, ok.span.1))
+text_reads Scripts (ValueLine row) ok = plain_coded Scripts row.span.lo (omega (arith, ok.span.0, ok.span.1))
+text_reads Scripts (MissingLine row) ok = missing_key_reads Scripts row.span refl ok.span
 text_reads Scripts _ ok = absurd ok
-text_reads WordBreakProperty (ValueLine row) ok = coded row.span.lo (omega (arith, ok.span.0, ok.span.1))
+text_reads WordBreakProperty (ValueLine row) ok = plain_coded WordBreakProperty row.span.lo (omega (arith, ok.span.0, ok.span.1))
+text_reads WordBreakProperty (MissingLine row) ok = missing_key_reads WordBreakProperty row.span refl ok.span
 text_reads WordBreakProperty _ ok = absurd ok
 text_reads CompositionExclusions (ExclusionLine row) ok = coded row.span.lo (omega (arith, ok.0, ok.1))
 text_reads CompositionExclusions _ ok = absurd ok

@@ -27,6 +27,7 @@ pub mod WordTexts
 pub mod OtherTexts
 pub mod RoundTrips
 pub mod FieldValues
+pub mod MissingLines
 pub mod ReadValues
 pub mod RowsOk
 pub mod FirstLines

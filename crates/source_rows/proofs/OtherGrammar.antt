@@ -16,7 +16,7 @@ use Rattle.ucd_model.specs.declared.row.FoldRow.{FoldRow}
 use Rattle.ucd_model.specs.declared.row.CasingRow.{CasingRow}
 use Rattle.ucd_model.specs.declared.row.AliasRow.{AliasRow}
 use Rattle.ucd_model.specs.declared.row.Row.{Row}
-use Rattle.ucd_model.specs.declared.row.Row.TheVariants.{Value as ValueLine, Exclusion as ExclusionLine, Fold as FoldLine, Casing as CasingLine, Alias as AliasLine}
+use Rattle.ucd_model.specs.declared.row.Row.TheVariants.{Exclusion as ExclusionLine, Fold as FoldLine, Casing as CasingLine, Alias as AliasLine}
 use Rattle.source_rows.specs.Steps.{or_fault}
 use Rattle.source_rows.specs.OtherFaults.{is_empty, value_or_fault, exclusion_or_fault, has_fold_fields, folds_to, of_status, fold_or_fault, has_casing_fields, casing_or_fault, names_of, alias_or_fault}
 use Rattle.source_rows.specs.declared.fault.RowFault.{RowFault}
@@ -27,26 +27,22 @@ use Rattle.source_rows.proofs.Found.{passed, found}
 
 -- ---- a span and a value
 
-abbrev pub IsValueOf : List (List ℕ) → Row → Type 0
-IsValueOf fs (ValueLine row) = ReadsValue fs row
-IsValueOf fs _ = ⊥
+abbrev with_span : List (List ℕ) → Bounds → Result ValueRow RowFault
+with_span fs s = cond (is_name (field fs 1)) (Ok (record { span = s; value = field fs 1 })) (Err G11)
 
-abbrev with_span : List (List ℕ) → Bounds → Result Row RowFault
-with_span fs s = cond (is_name (field fs 1)) (Ok (ValueLine (record { span = s; value = field fs 1 }))) (Err G11)
-
-pub value_read : (fs : List (List ℕ)) (row : Row) → value_or_fault fs ≡ Ok row → IsValueOf fs row
+pub value_read : (fs : List (List ℕ)) (row : ValueRow) → value_or_fault fs ≡ Ok row → ReadsValue fs row
 unfolding value_or_fault
 value_read fs row h =
     let a = passed (eqb (length fs) 2) (or_fault G04 (span_of (field fs 0)) (with_span fs)) G03 row h in
     let b = found G04 (span_of (field fs 0)) (with_span fs) row a.1 in
-    let c = passed (is_name (field fs 1)) (Ok (ValueLine (record { span = b.0; value = field fs 1 }))) G11 row b.2 in
-    let same : ValueLine (record { span = b.0; value = field fs 1 }) ≡ row = cc in
-    subst (λ (r : Row). IsValueOf fs r) same (record { count = eqb-true _ _ a.0; span = spelled (field fs 0) b.0 b.1; name = c.0; value = refl })
+    let c = passed (is_name (field fs 1)) (Ok (record { span = b.0; value = field fs 1 })) G11 row b.2 in
+    let same : record { span = b.0; value = field fs 1 } ≡ row = cc in
+    subst (λ (r : ValueRow). ReadsValue fs r) same (record { count = eqb-true _ _ a.0; span = spelled (field fs 0) b.0 b.1; name = c.0; value = refl })
 
-pub value_given : (fs : List (List ℕ)) (row : ValueRow) → ReadsValue fs row → value_or_fault fs ≡ Ok (ValueLine row)
+pub value_given : (fs : List (List ℕ)) (row : ValueRow) → ReadsValue fs row → value_or_fault fs ≡ Ok row
 unfolding value_or_fault
 value_given fs row r =
-    rw (r.count, given (field fs 0) row.span r.span, r.name) (ap (λ (v : List ℕ). Ok (ValueLine (record { span = row.span; value = v }))) (sym r.value))
+    rw (r.count, given (field fs 0) row.span r.span, r.name) (ap (λ (v : List ℕ). Ok (record { span = row.span; value = v })) (sym r.value))
 
 -- ---- a span
 

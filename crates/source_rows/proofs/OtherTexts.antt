@@ -4,13 +4,14 @@ use Rattle.std.specs.Prelude.{codes}
 use Rattle.std.specs.List.{All, list_any, list_all, join_with_byte, before_first}
 use Rattle.std.proofs.lemmas.Bool.{and_from}
 use Rattle.std.proofs.lemmas.List.Elements.{All-nil, All-cons, All-head, All-tail}
+use Rattle.ucd_points.specs.Bounds.{Bounds}
 use Rattle.ucd_points.specs.Lines.{is_lf, holds_line_feed}
 use Rattle.ucd_model.specs.Names.{status_code}
 use Rattle.ucd_points.specs.Fields.{trim, is_semicolon, is_hash, is_name}
 use Rattle.ucd_model.specs.Mappings.{conditions_of}
 use Rattle.ucd_model.specs.OtherLines.{ReadsValue, ReadsExclusion, ReadsFold, ReadsCasing, ReadsAlias, is_name_or_empty}
 use Rattle.ucd_points.specs.HexText.{hex_text, span_text}
-use Rattle.ucd_model.specs.RowTexts.{mapping_text, value_text, exclusion_text, fold_text, conditions_text, casing_text, names_text, alias_text}
+use Rattle.ucd_model.specs.RowTexts.{mapping_text, value_text, missing_text, exclusion_text, fold_text, conditions_text, casing_text, names_text, alias_text}
 use Rattle.ucd_model.specs.RowValues.{IsTrimmed, IsValueName, ValueOk, ExclusionOk, FoldOk, CasingOk, IsAliasName, AliasOk}
 use Rattle.ucd_model.specs.declared.row.FoldStatus.{FoldStatus}
 use Rattle.ucd_model.specs.declared.row.FoldStatus.TheVariants.{C, F, S, T}
@@ -68,6 +69,7 @@ abbrev pub cut_fields : List ℕ → List (List ℕ)
 cut_fields text = fields_of (before_first is_hash text)
 
 pub record IsLine (text : List ℕ) (fs : List (List ℕ)) : Type 0 where
+  pub no_hash : Lacks is_hash text
   pub no_feed : holds_line_feed text ≡ false
   pub cut : cut_fields text ≡ fs
 
@@ -77,12 +79,19 @@ line_is text f fs gs e pieces trimmed =
     let uncommented : before_first is_hash text ≡ join_with_byte 59 (f ∷ fs) = before_no_seam is_hash text no_hash ∙ e in
     let split = split_join is_semicolon 59 f fs refl (semicolons (f ∷ fs) pieces) in
     record {
+      no_hash = no_hash;
       no_feed = ap holds_line_feed e ∙ lacks_join is_lf 59 (f ∷ fs) refl (feeds (f ∷ fs) pieces);
       cut = ap (λ (bs : List ℕ). fields_of bs) uncommented ∙ ap (λ (parts : List (List ℕ)). map trim parts) split ∙ trimmed;
     }
 
 pub hex_piece : (c : ℕ) → Piece (hex_text c)
 hex_piece c = piece (hex_text c) (λ p s. hex_lacks p s.digit c)
+
+pub span_piece : (s : Bounds) → Piece (span_text s)
+span_piece s = piece (span_text s) (λ p sep. span_lacks p sep.digit sep.dot s)
+
+pub span_trimmed : (s : Bounds) → trim (span_text s) ≡ span_text s
+span_trimmed s = trim_firm (span_text s) (span_firm s)
 
 mapping_piece : (cs : List ℕ) → Piece (mapping_text cs)
 mapping_piece cs = piece (mapping_text cs) (λ p s. mapping_lacks p s.digit s.space cs)
@@ -104,15 +113,32 @@ value_joined : (row : ValueRow) → value_text row ≡ join_with_byte 59 ((span_
 value_joined row = append_assoc (span_text row.span) (codes " ; ") row.value ∙ sym (append_assoc (span_text row.span) (32 ∷ []) (59 ∷ 32 ∷ row.value))
 
 pub record ValueLine (row : ValueRow) : Type 0 where
+  pub no_hash : Lacks is_hash (value_text row)
   pub no_feed : holds_line_feed (value_text row) ≡ false
   pub reads : ReadsValue (cut_fields (value_text row)) row
 
 pub value_reads : (row : ValueRow) → ValueOk row → ValueLine row
 value_reads row ok =
-    let span_piece : Piece (span_text row.span) = piece (span_text row.span) (λ p s. span_lacks p s.digit s.dot row.span) in
-    let pieces : All Piece ((span_text row.span ++ 32 ∷ []) ∷ (32 ∷ row.value) ∷ []) = All-cons Piece (span_text row.span ++ 32 ∷ []) ((32 ∷ row.value) ∷ []) (piece_both (span_text row.span) (32 ∷ []) span_piece (spaced [] none)) (All-cons Piece (32 ∷ row.value) [] (spaced row.value (value_piece row.value ok.value)) (All-nil Piece)) in
-    let trimmed : map trim ((span_text row.span ++ 32 ∷ []) ∷ (32 ∷ row.value) ∷ []) ≡ span_text row.span ∷ row.value ∷ [] = rw (space_behind (span_text row.span), trim_firm (span_text row.span) (span_firm row.span), spaced_trimmed row.value ok.value.trimmed) refl in
+    let pieces : All Piece ((span_text row.span ++ 32 ∷ []) ∷ (32 ∷ row.value) ∷ []) = All-cons Piece (span_text row.span ++ 32 ∷ []) ((32 ∷ row.value) ∷ []) (piece_both (span_text row.span) (32 ∷ []) (span_piece row.span) (spaced [] none)) (All-cons Piece (32 ∷ row.value) [] (spaced row.value (value_piece row.value ok.value)) (All-nil Piece)) in
+    let trimmed : map trim ((span_text row.span ++ 32 ∷ []) ∷ (32 ∷ row.value) ∷ []) ≡ span_text row.span ∷ row.value ∷ [] = rw (space_behind (span_text row.span), span_trimmed row.span, spaced_trimmed row.value ok.value.trimmed) refl in
     let line = line_is (value_text row) (span_text row.span ++ 32 ∷ []) ((32 ∷ row.value) ∷ []) (span_text row.span ∷ row.value ∷ []) (value_joined row) pieces trimmed in
+    record { no_hash = line.no_hash; no_feed = line.no_feed; reads = subst (λ (fs : List (List ℕ)). ReadsValue fs row) (sym line.cut) (record { count = refl; span = span_spelled row.span ok.span; name = ok.value.name; value = refl }) }
+
+-- ---- the same behind the mark of a missing line
+
+abbrev pub missing_behind : ValueRow → List ℕ
+missing_behind row = span_text row.span ++ codes "; " ++ row.value
+
+pub record MissingLine (row : ValueRow) : Type 0 where
+  pub no_feed : holds_line_feed (missing_text row) ≡ false
+  pub reads : ReadsValue (cut_fields (32 ∷ missing_behind row)) row
+
+pub missing_reads : (row : ValueRow) → ValueOk row → MissingLine row
+missing_reads row ok =
+    let joined : 32 ∷ missing_behind row ≡ join_with_byte 59 ((32 ∷ span_text row.span) ∷ (32 ∷ row.value) ∷ []) = ap (λ (bs : List ℕ). 32 ∷ bs) (append_assoc (span_text row.span) (codes "; ") row.value) in
+    let pieces : All Piece ((32 ∷ span_text row.span) ∷ (32 ∷ row.value) ∷ []) = All-cons Piece (32 ∷ span_text row.span) ((32 ∷ row.value) ∷ []) (spaced (span_text row.span) (span_piece row.span)) (All-cons Piece (32 ∷ row.value) [] (spaced row.value (value_piece row.value ok.value)) (All-nil Piece)) in
+    let trimmed : map trim ((32 ∷ span_text row.span) ∷ (32 ∷ row.value) ∷ []) ≡ span_text row.span ∷ row.value ∷ [] = rw (spaced_trimmed (span_text row.span) (span_trimmed row.span), spaced_trimmed row.value ok.value.trimmed) refl in
+    let line = line_is (32 ∷ missing_behind row) (32 ∷ span_text row.span) ((32 ∷ row.value) ∷ []) (span_text row.span ∷ row.value ∷ []) joined pieces trimmed in
     record { no_feed = line.no_feed; reads = subst (λ (fs : List (List ℕ)). ReadsValue fs row) (sym line.cut) (record { count = refl; span = span_spelled row.span ok.span; name = ok.value.name; value = refl }) }
 
 -- ---- a span
@@ -123,8 +149,8 @@ pub record ExclusionLine (row : ExclusionRow) : Type 0 where
 
 pub exclusion_reads : (row : ExclusionRow) → ExclusionOk row → ExclusionLine row
 exclusion_reads row ok =
-    let pieces : All Piece (span_text row.span ∷ []) = All-cons Piece (span_text row.span) [] (piece (span_text row.span) (λ p s. span_lacks p s.digit s.dot row.span)) (All-nil Piece) in
-    let trimmed : map trim (span_text row.span ∷ []) ≡ span_text row.span ∷ [] = rw (trim_firm (span_text row.span) (span_firm row.span)) refl in
+    let pieces : All Piece (span_text row.span ∷ []) = All-cons Piece (span_text row.span) [] (span_piece row.span) (All-nil Piece) in
+    let trimmed : map trim (span_text row.span ∷ []) ≡ span_text row.span ∷ [] = rw (span_trimmed row.span) refl in
     let line = line_is (exclusion_text row) (span_text row.span) [] (span_text row.span ∷ []) refl pieces trimmed in
     record { no_feed = line.no_feed; reads = subst (λ (fs : List (List ℕ)). ReadsExclusion fs row) (sym line.cut) (record { count = refl; span = span_spelled row.span ok }) }
 

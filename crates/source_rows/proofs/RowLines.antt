@@ -1,8 +1,9 @@
 -- A row has one line that begins no range, or the two lines of a range.
 use Rattle.std.proofs.Common.{◌≡◌, ℕ, true, false, List, [], ◌∷◌, ◌++◌, Ok, Err, refl, sym, ◌∙◌, inl, inr}
-use Rattle.std.proofs.lemmas.Bool.{false_from_ne_true, false≢true}
+use Rattle.std.proofs.lemmas.Bool.{false_from_ne_true, false≢true, and_parts}
 use Rattle.ucd_model.specs.Grammar.{Reads}
-use Rattle.ucd_points.specs.Lines.{is_lf, is_trivia, holds_line_feed, without_return}
+use Rattle.ucd_points.specs.Lines.{is_lf, is_comment, holds_line_feed, without_return}
+use Rattle.ucd_points.specs.MissingLines.{is_trivia}
 use Rattle.ucd_points.specs.Fields.{fields, field, point_of}
 use Rattle.ucd_points.specs.declared.files.SourceFile.{SourceFile}
 use Rattle.ucd_points.specs.declared.files.SourceFile.TheVariants.{UnicodeData, PropList, Scripts, WordBreakProperty, CompositionExclusions, CaseFolding, SpecialCasing, PropertyAliases, PropertyValueAliases}
@@ -61,7 +62,7 @@ two_lines UnicodeData bytes (DataLine row) h (inr two) feed =
       lines = two.lines;
       one_line = two.one_line;
       other_line = two.other_line;
-      no_trivia = false_from_ne_true (is_trivia (without_return two.front)) (λ t. no_pair fs (fields UnicodeData two.last) (DataLine row) (no_code (without_return two.front) t) given);
+      no_trivia = false_from_ne_true (is_trivia UnicodeData (without_return two.front)) (λ t. no_pair fs (fields UnicodeData two.last) (DataLine row) (no_code (without_return two.front) (and_parts (is_comment (without_return two.front)) _ t).0) given);
       begins = begins fs (fields UnicodeData two.last) (DataLine row) given;
       some = λ none. no_end fs two.last (DataLine row) none given;
     }

@@ -1,10 +1,11 @@
 -- The row values that a file can have are those that some bytes are read as.
-use Rattle.std.proofs.Common.{◌≡◌, ℕ, ◌≤◌, Bool, true, false, List, [], ◌∷◌, length, refl, sym, ap, subst, ◌∙◌, arith, inl, inr, Ok}
+use Rattle.std.proofs.Common.{◌≡◌, ℕ, ◌≤◌, Bool, true, false, List, [], ◌∷◌, length, unwrap_or, refl, sym, ap, subst, ◌∙◌, arith, inl, inr, Ok}
 use Rattle.std.specs.List.{All, list_all, before_first}
 use Rattle.std.proofs.lemmas.Bool.{and_parts}
 use Rattle.std.proofs.lemmas.List.Elements.{All-nil, All-cons, All-head, All-tail}
 use Rattle.ucd_points.specs.Lines.{is_lf, holds_line_feed, without_return}
 use Rattle.ucd_points.specs.Fields.{fields, field, is_semicolon, is_hash, is_name, is_range_name}
+use Rattle.ucd_points.specs.MissingLines.{missing_rest}
 use Rattle.ucd_model.specs.DataLines.{ReadsValues, ReadsSingle, ReadsPair}
 use Rattle.ucd_model.specs.OtherLines.{ReadsValue, ReadsExclusion, ReadsFold, ReadsCasing, ReadsAlias, is_name_or_empty}
 use Rattle.ucd_model.specs.Grammar.{ReadsLine, ReadsRange, IsRange, Reads}
@@ -20,12 +21,13 @@ use Rattle.ucd_model.specs.declared.row.FoldRow.{FoldRow}
 use Rattle.ucd_model.specs.declared.row.CasingRow.{CasingRow}
 use Rattle.ucd_model.specs.declared.row.AliasRow.{AliasRow}
 use Rattle.ucd_model.specs.declared.row.Row.{Row}
-use Rattle.ucd_model.specs.declared.row.Row.TheVariants.{Unit as DataLine, Value as ValueLine, Exclusion as ExclusionLine, Fold as FoldLine, Casing as CasingLine, Alias as AliasLine}
-use Rattle.source_rows.specs.Fields.{fields_of}
+use Rattle.ucd_model.specs.declared.row.Row.TheVariants.{Unit as DataLine, Value as ValueLine, Exclusion as ExclusionLine, Fold as FoldLine, Casing as CasingLine, Alias as AliasLine, Missing as MissingLine}
+use Rattle.source_rows.specs.Fields.{fields_of, row_fields}
 use Rattle.source_rows.specs.Laws.{RowsAreOk}
 use Rattle.source_rows.proofs.Lacks.{Lacks}
 use Rattle.source_rows.proofs.Seams.{lacks_before}
 use Rattle.source_rows.proofs.FieldValues.{fields_kept, fields_lack, at_field, empty_kept, lacks_take, lacks_return}
+use Rattle.source_rows.proofs.MissingLines.{rest_lacks}
 use Rattle.source_rows.proofs.ReadValues.{is_point, is_span, is_mapping, decomposition_ok, case_ok, class_ok, not_unassigned, spaced_lacks, conditions_again}
 use Rattle.source_rows.proofs.WordTexts.{conditions_are}
 use Rattle.source_rows.specs.Faults.{row_or_fault}
@@ -126,15 +128,21 @@ alias_ok least text row h r =
 
 -- ---- all files
 
+-- of a missing line the text is what stands behind its mark
+values_ok : (file : SourceFile) (bytes : List ℕ) (row : ValueRow) → Lacks is_lf bytes → ReadsValue (row_fields file bytes) row → ValueOk row
+values_ok file bytes row h r = value_ok (unwrap_or (missing_rest file bytes) bytes) row (rest_lacks is_lf file bytes h) r
+
 line_ok : (file : SourceFile) (bytes : List ℕ) (row : Row) → holds_line_feed bytes ≡ false → ReadsLine file bytes row → RowOk file row
-unfolding fields
+unfolding fields missing_rest
 line_ok UnicodeData bytes (DataLine row) h r = single_ok bytes row h r
 line_ok UnicodeData bytes _ h r = absurd r
 line_ok PropList bytes (ValueLine row) h r = value_ok bytes row h r
 line_ok PropList bytes _ h r = absurd r
-line_ok Scripts bytes (ValueLine row) h r = value_ok bytes row h r
+line_ok Scripts bytes (ValueLine row) h r = values_ok Scripts bytes row h r.1
+line_ok Scripts bytes (MissingLine row) h r = values_ok Scripts bytes row h r.1
 line_ok Scripts bytes _ h r = absurd r
-line_ok WordBreakProperty bytes (ValueLine row) h r = value_ok bytes row h r
+line_ok WordBreakProperty bytes (ValueLine row) h r = values_ok WordBreakProperty bytes row h r.1
+line_ok WordBreakProperty bytes (MissingLine row) h r = values_ok WordBreakProperty bytes row h r.1
 line_ok WordBreakProperty bytes _ h r = absurd r
 line_ok CompositionExclusions bytes (ExclusionLine row) h r = exclusion_ok bytes row r
 line_ok CompositionExclusions bytes _ h r = absurd r

@@ -6,8 +6,10 @@
 -- value_names file value    the value as one name in PropList.txt; no name in every other file
 -- alias_count file          how many names of an alias row its key has: two in PropertyAliases.txt, three in
 --                           PropertyValueAliases.txt
+-- missing_names c           the names in the key of a missing row whose span ends with c: `@missing`, and the digits of c
 -- key_names file row        the names in the row's key: the property of PropList.txt, the status of a folding, the conditions
---                           of a casing where there are any, and the first two or three names of an alias row
+--                           of a casing where there are any, the first two or three names of an alias row, and those of a missing
+--                           row, so that its key is its whole span
 -- key_code row              the first code point of the row; None of a row of names
 -- key_of file row           the key: that code point, and those names
 -- same_texts a b            the same texts, byte by byte
@@ -17,17 +19,18 @@
 -- key_cmp a b               by the code point, and then by the names, one after the other, each by its bytes. So a name is
 --                           before each longer one that begins with it
 -- is_before a b             a comes before b in this order
-use Rattle.std.specs.Prelude.{ℕ, Bool, true, false, ◌&&◌, List, [], ◌∷◌, take, Option, Some, None, ◌==◌}
+use Rattle.std.specs.Prelude.{ℕ, Bool, true, false, ◌&&◌, List, [], ◌∷◌, take, Option, Some, None, ◌==◌, codes}
 use Rattle.std.specs.Cmp.Lexicographic.{pointwise, slice_cmp}
 use Rattle.std.specs.Ordering.{ordering_then, nat_cmp, is_lt}
 use Rattle.std.specs.Str.{bytes_eq}
 use Rattle.std.specs.declared.cmp.Ordering.{Ordering}
 use Rattle.ucd_points.specs.Bounds.{Bounds}
+use Rattle.ucd_points.specs.HexText.{hex_text}
 use Rattle.ucd_model.specs.Names.{status_code}
 use Rattle.ucd_points.specs.declared.files.SourceFile.{SourceFile}
 use Rattle.ucd_points.specs.declared.files.SourceFile.TheVariants.{PropList, PropertyAliases}
 use Rattle.ucd_model.specs.declared.row.Row.{Row}
-use Rattle.ucd_model.specs.declared.row.Row.TheVariants.{Unit as DataLine, Value as ValueLine, Exclusion as ExclusionLine, Fold as FoldLine, Casing as CasingLine, Alias as AliasLine}
+use Rattle.ucd_model.specs.declared.row.Row.TheVariants.{Unit as DataLine, Value as ValueLine, Exclusion as ExclusionLine, Fold as FoldLine, Casing as CasingLine, Alias as AliasLine, Missing as MissingLine}
 use Rattle.source_rows.specs.declared.key.Key.{Key}
 
 abbrev one_point : ℕ → Bounds
@@ -40,6 +43,7 @@ row_span (ExclusionLine row) = row.span
 row_span (FoldLine row) = one_point row.code
 row_span (CasingLine row) = one_point row.code
 row_span (AliasLine row) = one_point 0
+row_span (MissingLine row) = row.span
 
 abbrev pub condition_names : List ℕ → List (List ℕ)
 condition_names [] = []
@@ -53,6 +57,9 @@ abbrev pub alias_count : SourceFile → ℕ
 alias_count PropertyAliases = 2
 alias_count _ = 3
 
+abbrev pub missing_names : ℕ → List (List ℕ)
+missing_names c = codes "@missing" ∷ hex_text c ∷ []
+
 abbrev pub key_names : SourceFile → Row → List (List ℕ)
 key_names file (ValueLine row) = value_names file row.value
 key_names file (FoldLine row) = (status_code row.status ∷ []) ∷ []
@@ -60,6 +67,7 @@ key_names file (CasingLine row) = condition_names row.conditions
 key_names file (AliasLine row) = take (alias_count file) row.names
 key_names file (DataLine row) = []
 key_names file (ExclusionLine row) = []
+key_names file (MissingLine row) = missing_names row.span.hi
 
 abbrev pub key_code : Row → Option ℕ
 key_code (DataLine row) = Some row.span.lo
@@ -68,6 +76,7 @@ key_code (ExclusionLine row) = Some row.span.lo
 key_code (FoldLine row) = Some row.code
 key_code (CasingLine row) = Some row.code
 key_code (AliasLine row) = None
+key_code (MissingLine row) = Some row.span.lo
 
 abbrev pub key_of : SourceFile → Row → Key
 key_of file row = record { code = key_code row; names = key_names file row }

@@ -22,8 +22,9 @@ use Rattle.ucd_model.specs.Mappings.{mapping_of, conditions_of}
 use Rattle.ucd_model.specs.OtherLines.{is_name_or_empty}
 use Rattle.ucd_model.specs.declared.row.FoldStatus.{FoldStatus}
 use Rattle.ucd_model.specs.declared.row.FoldStatus.TheVariants.{C, F, S, T}
+use Rattle.ucd_model.specs.declared.row.ValueRow.{ValueRow}
 use Rattle.ucd_model.specs.declared.row.Row.{Row}
-use Rattle.ucd_model.specs.declared.row.Row.TheVariants.{Value as ValueLine, Exclusion as ExclusionLine, Fold as FoldLine, Casing as CasingLine, Alias as AliasLine}
+use Rattle.ucd_model.specs.declared.row.Row.TheVariants.{Exclusion as ExclusionLine, Fold as FoldLine, Casing as CasingLine, Alias as AliasLine}
 use Rattle.source_rows.specs.Steps.{or_fault}
 use Rattle.source_rows.specs.declared.fault.RowFault.{RowFault}
 use Rattle.source_rows.specs.declared.fault.RowFault.TheVariants.{G03, G04, G07, G08, G11}
@@ -32,10 +33,10 @@ abbrev pub is_empty : List ℕ → Bool
 is_empty [] = true
 is_empty (b ∷ bs) = false
 
-unfoldable pub value_or_fault : List (List ℕ) → Result Row RowFault
+unfoldable pub value_or_fault : List (List ℕ) → Result ValueRow RowFault
 value_or_fault fs =
     if length fs == 2
-    then or_fault G04 (span_of (field fs 0)) (λ s. if is_name (field fs 1) then Ok (ValueLine (record { span = s; value = field fs 1 })) else Err G11)
+    then or_fault G04 (span_of (field fs 0)) (λ s. if is_name (field fs 1) then Ok (record { span = s; value = field fs 1 }) else Err G11)
     else Err G03
 
 unfoldable pub exclusion_or_fault : List (List ℕ) → Result Row RowFault

@@ -5,7 +5,8 @@
 -- HasLines file bytes   bytes with a LF are two such lines; a line without one begins no range
 -- RowsHaveLines         so it is of all bytes that are read as a row
 use Rattle.std.specs.Prelude.{◌≡◌, ◌≢◌, ℕ, true, false, List, [], ◌∷◌, ◌++◌, Ok}
-use Rattle.ucd_points.specs.Lines.{is_trivia, holds_line_feed, without_return}
+use Rattle.ucd_points.specs.Lines.{holds_line_feed, without_return}
+use Rattle.ucd_points.specs.MissingLines.{is_trivia}
 use Rattle.ucd_points.specs.declared.files.SourceFile.{SourceFile}
 use Rattle.ucd_points.specs.declared.files.SourceFile.TheVariants.{UnicodeData}
 use Rattle.ucd_model.specs.declared.row.Row.{Row}
@@ -19,7 +20,7 @@ pub record TwoLines (file : SourceFile) (bytes : List ℕ) : Type 0 where
   pub lines : bytes ≡ front ++ 10 ∷ last
   pub one_line : holds_line_feed front ≡ false
   pub other_line : holds_line_feed last ≡ false
-  pub no_trivia : is_trivia (without_return front) ≡ false
+  pub no_trivia : is_trivia file (without_return front) ≡ false
   pub begins : is_first_line (without_return front) ≡ true
   pub some : last ≢ []
 

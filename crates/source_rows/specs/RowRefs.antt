@@ -2,19 +2,20 @@
 --
 -- value_in text, fold_in text, casing_in text   the row that stands in the text
 -- row_in row                 the row that stands in a line of any file
+-- ValueAs result expected    the value that stands there, or the fault, is what was expected
 -- RefAs result expected      the row that stands there, or the fault, is what was expected
 -- NamesAs result expected    the names, or the fault, are what was expected, of a line of names
 use Rattle.std.specs.Prelude.{◌≡◌, ℕ, List, Result, Ok, Err}
 use Rattle.ucd_model.specs.declared.row.CasingRow.{CasingRow}
 use Rattle.ucd_model.specs.declared.row.FoldRow.{FoldRow}
 use Rattle.ucd_model.specs.declared.row.Row.{Row}
-use Rattle.ucd_model.specs.declared.row.Row.TheVariants.{Unit as DataLine, Value as ValueLine, Exclusion as ExclusionLine, Fold as FoldLine, Casing as CasingLine, Alias as AliasLine}
+use Rattle.ucd_model.specs.declared.row.Row.TheVariants.{Unit as DataLine, Value as ValueLine, Exclusion as ExclusionLine, Fold as FoldLine, Casing as CasingLine, Alias as AliasLine, Missing as MissingLine}
 use Rattle.ucd_model.specs.declared.row.ValueRow.{ValueRow}
 use Rattle.source_rows.specs.DataFaults.{text_row}
 use Rattle.source_rows.specs.declared.case_folding.FoldText.{FoldText}
 use Rattle.source_rows.specs.declared.fault.RowFault.{RowFault}
 use Rattle.source_rows.specs.declared.row_ref.RowRef.{RowRef}
-use Rattle.source_rows.specs.declared.row_ref.RowRef.TheVariants.{Unit as DataRef, Value as ValueRef, Exclusion as ExclusionRef, Fold as FoldRef, Casing as CasingRef, Alias as AliasRef}
+use Rattle.source_rows.specs.declared.row_ref.RowRef.TheVariants.{Unit as DataRef, Value as ValueRef, Exclusion as ExclusionRef, Fold as FoldRef, Casing as CasingRef, Alias as AliasRef, Missing as MissingRef}
 use Rattle.source_rows.specs.declared.special_casing.CasingText.{CasingText}
 use Rattle.source_rows.specs.declared.values.ValueText.{ValueText}
 
@@ -34,6 +35,11 @@ row_in (ExclusionRef row) = ExclusionLine row
 row_in (FoldRef text) = FoldLine (fold_in text)
 row_in (CasingRef text) = CasingLine (casing_in text)
 row_in (AliasRef names) = AliasLine (record { names = names })
+row_in (MissingRef text) = MissingLine (value_in text)
+
+abbrev pub ValueAs : Result ValueText RowFault → Result ValueRow RowFault → Type 0
+ValueAs (Ok text) expected = expected ≡ Ok (value_in text)
+ValueAs (Err fault) expected = expected ≡ Err fault
 
 abbrev pub RefAs : Result RowRef RowFault → Result Row RowFault → Type 0
 RefAs (Ok row) expected = expected ≡ Ok (row_in row)

@@ -24,7 +24,7 @@ fn is_name_or_empty(field: &[u8]) -> bool
 }
 
 /// The fields of a line, in order and without a copy. Both files cut off a comment.
-#[tactic(auto, unfolding(ucd_points::specs::Fields::fields))]
+#[tactic(auto, unfolding(ucd_points::specs::Fields::fields, ucd_points::specs::MissingLines::missing_rest))]
 fn names_in(content: &[u8]) -> Fields<'_>
     ensures { result ≡ fields_of (before_first is_hash content.now) }
 {

@@ -1,21 +1,24 @@
 //! Compares the names in the key of a row with others, in the content of the row and without a copy.
 
-ghost use Rattle.std.specs.Prelude.{◌≡◌, List, ℕ, [], ◌∷◌, take, drop, length};
+ghost use Rattle.std.specs.Prelude.{◌≡◌, List, ℕ, [], ◌∷◌, take, drop, length, if◌then◌else◌};
 ghost use Rattle.std.specs.Cmp.Lexicographic.{slice_cmp};
 ghost use Rattle.std.specs.List.{before_first};
 ghost use Rattle.std.specs.Ordering.{nat_cmp, ordering_then};
-ghost use Rattle.ucd_points.specs.Fields.{fields, field, is_hash};
+ghost use Rattle.ucd_points.specs.Fields.{fields, field, is_hash, span_of};
+ghost use Rattle.ucd_points.specs.HexText.{hex_text};
+ghost use Rattle.ucd_points.specs.MissingLines.{is_missing};
 ghost use Rattle.ucd_model.specs.Mappings.{spaced_words};
-ghost use Rattle.source_rows.specs.Fields.{fields_of};
-ghost use Rattle.source_rows.specs.Keys.{condition_names};
-ghost use Rattle.source_rows.specs.KeyNames.{content_group, content_names, names_cmp};
+ghost use Rattle.source_rows.specs.Fields.{fields_of, row_fields};
+ghost use Rattle.source_rows.specs.Keys.{condition_names, missing_names};
+ghost use Rattle.source_rows.specs.KeyNames.{content_group, content_names, names_cmp, no_value, span_names};
 
+use crate::code_point::span_of;
 use crate::fields::{first_field, two_fields, without_comment};
 use crate::mapping::first_word;
 use crate::special_casing::conditions_field;
 use std::cmp::Ordering;
-use ucd_lines::Fields;
-use ucd_model::{SourceFile, Text};
+use ucd_lines::{Fields, compare_hex, missing_rest};
+use ucd_model::{Point, SourceFile, Text};
 
 /// How as many first bytes of a text as a part has compare with the part, and the bytes behind them.
 fn compare_part<'a>(text: &'a [u8], part: &[u8]) -> (Ordering, &'a [u8])
@@ -86,6 +89,38 @@ fn compare_one(names: &[Text], name: &[u8]) -> Ordering
     order.then(compare_none(others))
 }
 
+/// How names compare with the digits of a code point as one name.
+fn compare_point(names: &[Text], c: Point) -> Ordering
+    ensures { result ≡ names_cmp names.now (hex_text c ∷ []) }
+{
+    match names {
+        [] => Ordering::Less,
+        [first, others @ ..] => compare_hex(first.as_slice(), c).then(compare_none(others)),
+    }
+}
+
+/// How names compare with those in the key of a missing row whose span ends with this code point.
+fn compare_missing(names: &[Text], last: Point) -> Ordering
+    ensures { result ≡ names_cmp names.now (missing_names last) }
+{
+    let (order, others) = compare_first(names, b"@missing");
+    order.then(compare_point(others, last))
+}
+
+/// How names compare with those in the key of a row of Scripts.txt or WordBreakProperty.txt, which has none but of a
+/// missing row.
+fn compare_value(file: SourceFile, names: &[Text], content: &[u8]) -> Ordering
+    ensures { result ≡ names_cmp names.now (if is_missing file content.now then span_names (span_of (field (row_fields file content.now) 0)) else []) }
+{
+    let Some(rest) = missing_rest(file, content) else {
+        return compare_none(names);
+    };
+    match span_of(first_field(without_comment(rest)).0) {
+        Some(span) => compare_missing(names, span.hi),
+        None => compare_none(names),
+    }
+}
+
 /// How names compare with conditions as one name, or with no name where there are no conditions.
 fn compare_conditions(names: &[Text], text: &[u8]) -> Ordering
     ensures { result ≡ names_cmp names.now (condition_names (spaced_words text.now)) }
@@ -133,12 +168,13 @@ fn second_field(content: &[u8]) -> &[u8]
 /// How names compare with those in the key of a row that stands in this content of the file. It takes no memory.
 ///
 /// Names are compared one after the other, each by its bytes.
-#[tactic(auto, unfolding(ucd_points::specs::Fields::fields))]
+#[tactic(auto, unfolding(ucd_points::specs::Fields::fields, ucd_points::specs::MissingLines::missing_rest))]
 pub fn compare_names(file: SourceFile, names: &[Text], content: &[u8]) -> Ordering
     ensures { result ≡ names_cmp names.now (content_names file content.now) }
 {
     match file {
         SourceFile::PropList | SourceFile::CaseFolding => compare_one(names, second_field(content)),
+        SourceFile::Scripts | SourceFile::WordBreakProperty => compare_value(file, names, content),
         SourceFile::SpecialCasing => {
             compare_conditions(names, conditions_field(without_comment(content)))
         }
@@ -160,16 +196,25 @@ pub fn compare_names(file: SourceFile, names: &[Text], content: &[u8]) -> Orderi
     }
 }
 
+/// The value of a row of Scripts.txt or WordBreakProperty.txt; of a missing row `#`, which is in no value.
+fn value_group(file: SourceFile, content: &[u8]) -> &[u8]
+    ensures { result.now ≡ (if is_missing file content.now then no_value else field (row_fields file content.now) 1) }
+{
+    match missing_rest(file, content) {
+        Some(_) => b"#",
+        None => second_field(content),
+    }
+}
+
 /// The name of the group of a row that stands in this content of the file: the value in PropList.txt, Scripts.txt and
-/// WordBreakProperty.txt, the property in PropertyValueAliases.txt; nothing in the other files. It takes no memory.
-#[tactic(auto, unfolding(ucd_points::specs::Fields::fields))]
+/// WordBreakProperty.txt, but `#` of a missing row, the property in PropertyValueAliases.txt; nothing in the other files. It takes no memory.
+#[tactic(auto, unfolding(ucd_points::specs::Fields::fields, ucd_points::specs::MissingLines::missing_rest))]
 pub fn content_group(file: SourceFile, content: &[u8]) -> &[u8]
     ensures { result.now ≡ content_group file content.now }
 {
     match file {
-        SourceFile::PropList | SourceFile::Scripts | SourceFile::WordBreakProperty => {
-            second_field(content)
-        }
+        SourceFile::PropList => second_field(content),
+        SourceFile::Scripts | SourceFile::WordBreakProperty => value_group(file, content),
         SourceFile::PropertyValueAliases => first_field(without_comment(content)).0,
         _ => &[],
     }

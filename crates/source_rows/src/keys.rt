@@ -4,20 +4,21 @@ ghost use Rattle.std.specs.Prelude.{◌≡◌, ◌∷◌, [], IfOk, Some};
 ghost use Rattle.std.specs.List.{before_first};
 ghost use Rattle.ucd_points.specs.Fields.{is_hash};
 ghost use Rattle.ucd_model.specs.Names.{status_code};
-ghost use Rattle.source_rows.specs.Fields.{fields_of};
-ghost use Rattle.source_rows.specs.Keys.{condition_names};
-ghost use Rattle.source_rows.specs.KeyGrammar.{ReadsKeyAs, alias_key, casing_key, code_key, fold_key, key_or_fault, property_key};
+ghost use Rattle.ucd_points.specs.MissingLines.{is_missing};
+ghost use Rattle.source_rows.specs.Fields.{fields_of, row_fields};
+ghost use Rattle.source_rows.specs.Keys.{condition_names, missing_names};
+ghost use Rattle.source_rows.specs.KeyGrammar.{ReadsKeyAs, alias_key, casing_key, code_key, fold_key, key_or_fault, missing_key, property_key, value_key};
 
 use crate::aliases::{copied, names_or_fault};
 use crate::case_folding::status_of;
-use crate::code_point::is_name;
+use crate::code_point::{is_name, span_of};
 use crate::conditions::conditions_of;
 use crate::fault::{RowFault, RowStop};
 use crate::fields::{field_count, two_fields, without_comment};
 use crate::key::Key;
 use crate::lines::holds_line_feed;
 use std::alloc::Global;
-use ucd_lines::hex;
+use ucd_lines::{hex, missing_rest, put_hex};
 use ucd_model::{FoldStatus, Memory, Point, SourceFile, Text, Texts};
 
 /// The list of one text.
@@ -41,6 +42,17 @@ pub fn letter_name(alloc: Global, status: FoldStatus) -> Result<Texts, Memory>
     ensures { IfOk result (λ names. names ≡ (status_code status ∷ []) ∷ []) }
 {
     one_name(alloc, &[status.letter()])
+}
+
+/// The names in the key of a missing row whose span ends with this code point: `@missing`, and the digits of the code point.
+pub fn missing_names(alloc: Global, last: Point) -> Result<Texts, Memory>
+    ensures { IfOk result (λ names. names ≡ missing_names last) }
+{
+    let mut digits = Text::new(alloc);
+    put_hex(last, &mut digits)?;
+    let mut names = one_name(alloc, b"@missing")?;
+    names.push(digits)?;
+    Ok(names)
 }
 
 /// The conditions as a name of a key, and no name where there are none.
@@ -79,6 +91,38 @@ fn read_code_key(alloc: Global, text: &[u8]) -> Result<Key, RowStop>
         return Err(RowStop::Fault(RowFault::G04));
     };
     Ok(key_at(code, Texts::new(alloc)))
+}
+
+/// A span, which is the key of a missing row.
+///
+/// - `Fault(G03)`: there is more than one field.
+/// - `Fault(G04)`: it is no code point and no span.
+/// - `Memory`: memory ran out.
+#[tactic(auto, unfolding(crate::specs::KeyGrammar::missing_key))]
+fn read_missing_key(alloc: Global, text: &[u8]) -> Result<Key, RowStop>
+    ensures { ReadsKeyAs result (missing_key (fields_of text.now)) }
+{
+    if field_count(text) != 1 {
+        return Err(RowStop::Fault(RowFault::G03));
+    }
+    let Some(span) = span_of(two_fields(text).0) else {
+        return Err(RowStop::Fault(RowFault::G04));
+    };
+    Ok(key_at(span.lo, missing_names(alloc, span.hi)?))
+}
+
+/// A code point; a span behind `# @missing:`.
+///
+/// - `Fault(G03)`: there is more than one field.
+/// - `Fault(G04)`: it is no code point, or no span.
+/// - `Memory`: memory ran out.
+fn read_value_key(alloc: Global, file: SourceFile, content: &[u8]) -> Result<Key, RowStop>
+    ensures { ReadsKeyAs result (value_key (is_missing file content.now) (row_fields file content.now)) }
+{
+    match missing_rest(file, content) {
+        Some(rest) => read_missing_key(alloc, without_comment(rest)),
+        None => read_code_key(alloc, without_comment(content)),
+    }
 }
 
 /// A code point and the name of a property.
@@ -170,7 +214,8 @@ fn read_alias_key(alloc: Global, count: usize, content: &[u8]) -> Result<Key, Ro
 /// The key that a text stands for, as a row of the file has it. The fields are cut and trimmed as those of a row are.
 /// UAX #44, section 4.2.
 ///
-/// UnicodeData.txt, Scripts.txt, WordBreakProperty.txt and CompositionExclusions.txt: `XXXX`, the first code point.
+/// UnicodeData.txt, Scripts.txt, WordBreakProperty.txt and CompositionExclusions.txt: `XXXX`, the first code point. Of a missing
+/// row `# @missing: XXXX..YYYY`, its span.
 /// PropList.txt: `XXXX ; Name`. CaseFolding.txt: `XXXX; S`. SpecialCasing.txt: `XXXX`, or `XXXX; conditions`.
 /// PropertyAliases.txt and PropertyValueAliases.txt: the first two names and the first three, with `;` between them.
 ///
@@ -179,7 +224,7 @@ fn read_alias_key(alloc: Global, count: usize, content: &[u8]) -> Result<Key, Ro
 /// - `Fault(G08)`: the status of a folding is unknown.
 /// - `Fault(G11)`: no name stands where one is due, or the conditions have a byte that they may not have.
 /// - `Memory`: memory ran out.
-#[tactic(auto, unfolding(crate::specs::KeyGrammar::key_or_fault, ucd_points::specs::Fields::fields))]
+#[tactic(auto, unfolding(crate::specs::KeyGrammar::key_or_fault, ucd_points::specs::Fields::fields, ucd_points::specs::MissingLines::missing_rest))]
 pub fn read_key(alloc: Global, file: SourceFile, bytes: &[u8]) -> Result<Key, RowStop>
     ensures { ReadsKeyAs result (key_or_fault file bytes.now) }
 {
@@ -189,9 +234,8 @@ pub fn read_key(alloc: Global, file: SourceFile, bytes: &[u8]) -> Result<Key, Ro
     match file {
         SourceFile::UnicodeData => read_code_key(alloc, bytes),
         SourceFile::PropList => read_property_key(alloc, without_comment(bytes)),
-        SourceFile::Scripts | SourceFile::WordBreakProperty | SourceFile::CompositionExclusions => {
-            read_code_key(alloc, without_comment(bytes))
-        }
+        SourceFile::Scripts | SourceFile::WordBreakProperty => read_value_key(alloc, file, bytes),
+        SourceFile::CompositionExclusions => read_code_key(alloc, without_comment(bytes)),
         SourceFile::CaseFolding => read_fold_key(alloc, without_comment(bytes)),
         SourceFile::SpecialCasing => read_casing_key(alloc, without_comment(bytes)),
         SourceFile::PropertyAliases => read_alias_key(alloc, 2, bytes),

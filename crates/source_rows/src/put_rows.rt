@@ -1,7 +1,7 @@
 //! Writes rows of the files beside UnicodeData.txt.
 
 ghost use Rattle.std.specs.Prelude.{◌≡◌, ◌++◌, OnOk};
-ghost use Rattle.ucd_model.specs.RowTexts.{value_text, exclusion_text, fold_text, casing_text, conditions_text, names_text, alias_text};
+ghost use Rattle.ucd_model.specs.RowTexts.{value_text, missing_text, exclusion_text, fold_text, casing_text, conditions_text, names_text, alias_text};
 ghost use Rattle.source_rows.specs.Texts.{named};
 
 use crate::put_points::put_mapping;
@@ -16,6 +16,18 @@ pub fn put_value(row: &ValueRow, into: &mut Text) -> Result<(), Memory>
 {
     put_span(row.span, into)?;
     into.append(b" ; ")?;
+    into.append(row.value.as_slice())
+}
+
+/// Appends the mark of a missing row, its span and its value.
+///
+/// - `Memory`: memory ran out. A part may stand at the end of the text then.
+pub fn put_missing(row: &ValueRow, into: &mut Text) -> Result<(), Memory>
+    ensures { OnOk result (into.new ≡ into.old ++ missing_text row.now) }
+{
+    into.append(b"# @missing: ")?;
+    put_span(row.span, into)?;
+    into.append(b"; ")?;
     into.append(row.value.as_slice())
 }
 

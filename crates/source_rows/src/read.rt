@@ -13,7 +13,7 @@ use crate::lines::holds_line_feed;
 use crate::row_ref::RowRef;
 use crate::special_casing::read_casing;
 use crate::unicode_data::read_unit;
-use crate::values::read_value;
+use crate::values::{read_value, read_value_or_missing};
 use std::alloc::Global;
 use ucd_model::{Row, SourceFile};
 
@@ -24,7 +24,7 @@ use ucd_model::{Row, SourceFile};
 /// between them; all other bytes that hold a LF are `G03`.
 ///
 /// A fault says that the bytes are no row, and is the first rule that they break.
-#[tactic(auto, unfolding(crate::specs::Faults::row_or_fault, ucd_points::specs::Fields::fields))]
+#[tactic(auto, unfolding(crate::specs::Faults::row_or_fault, ucd_points::specs::Fields::fields, ucd_points::specs::MissingLines::missing_rest))]
 pub fn read_row_ref(file: SourceFile, bytes: &[u8]) -> Result<RowRef<'_>, RowFault>
     ensures { RefAs result (row_or_fault file bytes.now) }
 {
@@ -33,8 +33,10 @@ pub fn read_row_ref(file: SourceFile, bytes: &[u8]) -> Result<RowRef<'_>, RowFau
     }
     match file {
         SourceFile::UnicodeData => read_unit(bytes),
-        SourceFile::PropList | SourceFile::Scripts | SourceFile::WordBreakProperty => {
-            read_value(bytes)
+        SourceFile::PropList => read_value(bytes),
+        SourceFile::Scripts => read_value_or_missing(SourceFile::Scripts, bytes),
+        SourceFile::WordBreakProperty => {
+            read_value_or_missing(SourceFile::WordBreakProperty, bytes)
         }
         SourceFile::CompositionExclusions => read_exclusion(bytes),
         SourceFile::CaseFolding => read_fold(bytes),

@@ -4,7 +4,7 @@ ghost use Rattle.std.specs.Prelude.{◌≡◌, take, IfOk};
 ghost use Rattle.source_rows.specs.Keys.{alias_count, key_code, key_names, key_of, value_names};
 
 use crate::key::Key;
-use crate::keys::{condition_names, letter_name, one_name};
+use crate::keys::{condition_names, letter_name, missing_names, one_name};
 use std::alloc::Global;
 use ucd_model::{Memory, Point, Row, SourceFile, Texts};
 
@@ -19,6 +19,7 @@ fn key_code(row: &Row) -> Option<Point>
         Row::Fold(row) => Some(row.code),
         Row::Casing(row) => Some(row.code),
         Row::Alias(_) => None,
+        Row::Missing(row) => Some(row.span.lo),
     }
 }
 
@@ -60,6 +61,7 @@ fn key_names(alloc: Global, file: SourceFile, row: &Row) -> Result<Texts, Memory
         Row::Fold(row) => letter_name(alloc, row.status),
         Row::Casing(row) => condition_names(alloc, row.conditions.copy(alloc)?),
         Row::Alias(row) => alias_names(alloc, file, &row.names),
+        Row::Missing(row) => missing_names(alloc, row.span.hi),
         Row::Unit(_) | Row::Exclusion(_) => Ok(Texts::new(alloc)),
     }
 }

@@ -27,6 +27,8 @@ pub enum RowRef<'a> {
     Casing(CasingText<'a>),
     /// The names of a row of PropertyAliases.txt or PropertyValueAliases.txt, in order.
     Alias(Fields<'a>),
+    /// A missing row of Scripts.txt or WordBreakProperty.txt.
+    Missing(ValueText<'a>),
 }
 
 /// A row of a span and a value, with a copy of the value.
@@ -79,6 +81,7 @@ impl<'a> RowRef<'a> {
             RowRef::Alias(names) => Ok(Row::Alias(AliasRow {
                 names: copied(alloc, names)?,
             })),
+            RowRef::Missing(text) => Ok(Row::Missing(value_row(alloc, text)?)),
         }
     }
 }

@@ -5,7 +5,7 @@ ghost use Rattle.ucd_model.specs.RowTexts.{row_text};
 ghost use Rattle.ucd_model.specs.RowValues.{RowOk};
 
 use crate::put_data::put_data;
-use crate::put_rows::{put_casing, put_fold, put_names, put_value};
+use crate::put_rows::{put_casing, put_fold, put_missing, put_names, put_value};
 use std::alloc::Global;
 use ucd_lines::put_span;
 use ucd_model::{Memory, Row, SourceFile, Text};
@@ -27,6 +27,7 @@ pub fn row_text(alloc: Global, file: SourceFile, row: &Row) -> Result<Text, Memo
         Row::Fold(row) => put_fold(row, &mut text)?,
         Row::Casing(row) => put_casing(row, &mut text)?,
         Row::Alias(row) => put_names(row.names.as_slice(), &mut text)?,
+        Row::Missing(row) => put_missing(row, &mut text)?,
     }
     Ok(text)
 }

@@ -1,21 +1,27 @@
-//! Lines of a span and a value: PropList.txt, Scripts.txt and WordBreakProperty.txt. UAX #44, section 4.2.
+//! Lines of a span and a value: PropList.txt, Scripts.txt and WordBreakProperty.txt. UAX #44, sections 4.2 and 4.2.10.
 
-ghost use Rattle.ucd_points.specs.Fields.{is_hash};
+ghost use Rattle.std.specs.Prelude.{Ok};
 ghost use Rattle.std.specs.List.{before_first};
-ghost use Rattle.source_rows.specs.RowRefs.{RefAs};
-ghost use Rattle.source_rows.specs.Fields.{fields_of};
+ghost use Rattle.ucd_points.specs.Fields.{is_hash};
+ghost use Rattle.ucd_model.specs.declared.row.Row.TheVariants.{Value as ValueLine};
+ghost use Rattle.source_rows.specs.Faults.{value_line};
+ghost use Rattle.source_rows.specs.Fields.{fields_of, row_fields};
+ghost use Rattle.source_rows.specs.RowRefs.{RefAs, ValueAs};
+ghost use Rattle.source_rows.specs.Steps.{and_then};
 ghost use Rattle.source_rows.specs.OtherFaults.{value_or_fault};
 
 use crate::code_point::{is_name, span_of};
 use crate::fault::RowFault;
 use crate::fields::{field_count, two_fields, without_comment};
 use crate::row_ref::RowRef;
-use ucd_model::Span;
+use ucd_lines::missing_rest;
+use ucd_model::{SourceFile, Span};
 
 /// The number of fields of a line.
 const FIELDS: usize = 2;
 
-/// A row of PropList.txt, Scripts.txt or WordBreakProperty.txt as it stands in its line. UAX #44, section 4.2.
+/// A row of PropList.txt, Scripts.txt or WordBreakProperty.txt as it stands in its line, and what stands behind
+/// `# @missing:`. UAX #44, sections 4.2 and 4.2.10.
 #[derive(Clone, Copy, Debug)]
 pub struct ValueText<'a> {
     /// The code points.
@@ -24,16 +30,15 @@ pub struct ValueText<'a> {
     pub value: &'a [u8],
 }
 
-/// The row of a line.
+/// The span and the value of a text without comment.
 ///
 /// - `G03`: there are not two fields.
 /// - `G04`: the first is no code point and no span.
 /// - `G11`: the second is no name.
 #[tactic(auto, unfolding(crate::specs::OtherFaults::value_or_fault))]
-pub fn read_value(content: &[u8]) -> Result<RowRef<'_>, RowFault>
-    ensures { RefAs result (value_or_fault (fields_of (before_first is_hash content.now))) }
+fn value_text(text: &[u8]) -> Result<ValueText<'_>, RowFault>
+    ensures { ValueAs result (value_or_fault (fields_of text.now)) }
 {
-    let text = without_comment(content);
     if field_count(text) != FIELDS {
         return Err(RowFault::G03);
     }
@@ -44,5 +49,36 @@ pub fn read_value(content: &[u8]) -> Result<RowRef<'_>, RowFault>
     if !is_name(value) {
         return Err(RowFault::G11);
     }
-    Ok(RowRef::Value(ValueText { span, value }))
+    Ok(ValueText { span, value })
+}
+
+/// The row of a line that is no missing line.
+///
+/// - `G03`: there are not two fields.
+/// - `G04`: the first is no code point and no span.
+/// - `G11`: the second is no name.
+pub fn read_value(content: &[u8]) -> Result<RowRef<'_>, RowFault>
+    ensures { RefAs result (and_then (value_or_fault (fields_of (before_first is_hash content.now))) (λ row. Ok (ValueLine row))) }
+{
+    match value_text(without_comment(content)) {
+        Ok(text) => Ok(RowRef::Value(text)),
+        Err(fault) => Err(fault),
+    }
+}
+
+/// The row of a line of Scripts.txt or WordBreakProperty.txt: a missing row where the line begins with the mark of one.
+///
+/// - `G03`: there are not two fields.
+/// - `G04`: the first is no code point and no span.
+/// - `G11`: the second is no name.
+pub fn read_value_or_missing(file: SourceFile, content: &[u8]) -> Result<RowRef<'_>, RowFault>
+    ensures { RefAs result (and_then (value_or_fault (row_fields file content.now)) (λ row. Ok (value_line file content.now row))) }
+{
+    let Some(rest) = missing_rest(file, content) else {
+        return read_value(content);
+    };
+    match value_text(without_comment(rest)) {
+        Ok(text) => Ok(RowRef::Missing(text)),
+        Err(fault) => Err(fault),
+    }
 }

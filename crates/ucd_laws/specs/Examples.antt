@@ -14,7 +14,8 @@ use Rattle.std.specs.Fmt.{digits}
 use Rattle.ucd_points.specs.Bounds.{Bounds}
 use Rattle.ucd_points.specs.Limits.{point_count}
 use Rattle.ucd_model.specs.Names.{category_of, category_code}
-use Rattle.ucd_points.specs.Lines.{contents, is_trivia}
+use Rattle.ucd_points.specs.Lines.{contents}
+use Rattle.ucd_points.specs.MissingLines.{missing_rest, is_trivia}
 use Rattle.ucd_points.specs.Fields.{fields, digit_of, point_of, span_of, is_name, is_label_closed_by, is_range_name}
 use Rattle.ucd_model.specs.declared.row.DataRow.{DataRow}
 use Rattle.ucd_model.specs.declared.decomposition.Kind.TheVariants.{Plain}
@@ -29,7 +30,7 @@ use Rattle.ucd_model.specs.declared.property.Flag.{Flag}
 use Rattle.ucd_model.specs.declared.property.Flag.TheVariants.{OtherMath, OtherLowercase, OtherUppercase, OtherAlphabetic}
 use Rattle.ucd_model.specs.declared.property.Core.{Core}
 use Rattle.ucd_model.specs.declared.property.Core.TheVariants.{Math, Alphabetic, Lowercase, Uppercase}
-use Rattle.ucd_points.specs.declared.files.SourceFile.TheVariants.{UnicodeData, PropList}
+use Rattle.ucd_points.specs.declared.files.SourceFile.TheVariants.{UnicodeData, PropList, Scripts, WordBreakProperty}
 use Rattle.ucd_model.specs.declared.row.Row.TheVariants.{Unit as DataLine, Value as ValueLine}
 
 abbrev between : ℕ → ℕ → Bounds
@@ -44,18 +45,29 @@ contents_examples : (contents (codes "a\r\nb\rc\n\nd") ≡ codes "a" ∷ codes "
 unfolding contents
 contents_examples = (refl, refl, refl, refl)
 
-trivia_examples : (is_trivia [] ≡ true)
-    × (is_trivia (codes "  # x") ≡ true)
-    × (is_trivia (codes "\t ") ≡ true)
-    × (is_trivia (codes "x #") ≡ false)
+trivia_examples : (is_trivia Scripts [] ≡ true)
+    × (is_trivia Scripts (codes "  # x") ≡ true)
+    × (is_trivia Scripts (codes "\t ") ≡ true)
+    × (is_trivia Scripts (codes "x #") ≡ false)
+unfolding missing_rest
 trivia_examples = (refl, refl, refl, refl)
+
+-- the mark of a missing line is `@missing:` to the letter, behind one `#`, and counts in two files alone
+missing_examples : (is_trivia Scripts (codes "# @missing: 0000..10FFFF; Unknown") ≡ false)
+    × (is_trivia WordBreakProperty (codes " #@missing:0041;MidLetter") ≡ false)
+    × (is_trivia PropList (codes "# @missing: 0000..10FFFF; Unknown") ≡ true)
+    × (is_trivia Scripts (codes "## @missing: 0000..10FFFF; Unknown") ≡ true)
+    × (is_trivia Scripts (codes "# @Missing: 0000..10FFFF; Unknown") ≡ true)
+    × (fields Scripts (codes "# @missing: 0400..04FF ; Cyrillic # x") ≡ codes "0400..04FF" ∷ codes "Cyrillic" ∷ [])
+unfolding missing_rest fields
+missing_examples = (refl, refl, refl, refl, refl, refl)
 
 -- ---- fields
 
 fields_examples : (fields PropList (codes "005E          ; Other_Math # Sk       CIRCUMFLEX ACCENT") ≡ codes "005E" ∷ codes "Other_Math" ∷ [])
     × (fields UnicodeData (codes "0023;a # b; Po ;0") ≡ codes "0023" ∷ codes "a # b" ∷ codes "Po" ∷ codes "0" ∷ [])
     × (fields UnicodeData (codes ";") ≡ [] ∷ [] ∷ [])
-unfolding fields
+unfolding fields missing_rest
 fields_examples = (refl, refl, refl)
 
 digit_examples : map digit_of (codes "/09:@AFG`afg") ≡ None ∷ Some 0 ∷ Some 9 ∷ None ∷ None ∷ Some 10 ∷ Some 15 ∷ None ∷ None ∷ Some 10 ∷ Some 15 ∷ None ∷ []

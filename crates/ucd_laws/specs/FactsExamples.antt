@@ -1,7 +1,7 @@
 -- The facts of some code points. The rows are lines of the Unicode Character Database, but for the kept fields.
 --
 -- 0049 00C0 01C6 0130 0958 1E9E AC00..D7A3   rows of UnicodeData.txt
--- 0027 003A                                  Single_Quote and MidLetter; 0958 is excluded from composition
+-- 0027 003A 0041..0049                        Single_Quote and MidLetter, and three missing rows; 0958 is excluded from composition
 -- 0130                                       a casing row for Turkish, and one without conditions
 -- 0049 0130 1E9E                             foldings of each status
 use Rattle.std.proofs.Common.{◌≡◌, ℕ, true, false, [], ◌∷◌, Some, None, refl, codes}
@@ -17,7 +17,7 @@ use Rattle.ucd_model.specs.declared.decomposition.Tag.TheVariants.{Compat as Com
 use Rattle.ucd_model.specs.declared.image.Image.TheVariants.{Same, To}
 use Rattle.ucd_points.specs.declared.files.SourceFile.TheVariants.{UnicodeData, WordBreakProperty, CompositionExclusions, CaseFolding, SpecialCasing}
 use Rattle.ucd_model.specs.declared.row.DataRow.{DataRow}
-use Rattle.ucd_model.specs.declared.row.Row.TheVariants.{Unit as DataLine, Value as ValueLine, Exclusion as ExclusionLine, Fold as FoldLine, Casing as CasingLine}
+use Rattle.ucd_model.specs.declared.row.Row.TheVariants.{Unit as DataLine, Value as ValueLine, Exclusion as ExclusionLine, Fold as FoldLine, Casing as CasingLine, Missing as MissingLine}
 use Rattle.ucd_model.specs.declared.row.FoldStatus.TheVariants as status
 
 abbrev one : ℕ → Bounds
@@ -38,7 +38,8 @@ sample UnicodeData =
     ∷ DataLine (plain (one 0x1E9E) Lu)
     ∷ DataLine (record (plain (record { lo = 0xAC00; hi = 0xD7A3 }) Lo) { range = true; name = codes "Hangul Syllable" })
     ∷ []
-sample WordBreakProperty = ValueLine (record { span = one 0x27; value = codes "Single_Quote" }) ∷ ValueLine (record { span = one 0x3A; value = codes "MidLetter" }) ∷ ValueLine (record { span = one 0x49; value = codes "ALetter" }) ∷ []
+sample WordBreakProperty = ValueLine (record { span = one 0x27; value = codes "Single_Quote" }) ∷ ValueLine (record { span = one 0x3A; value = codes "MidLetter" }) ∷ ValueLine (record { span = one 0x49; value = codes "ALetter" }) ∷ MissingLine (record { span = record { lo = 0x41; hi = 0x49 }; value = codes "MidLetter" }) ∷ MissingLine (record { span = record { lo = 0x42; hi = 0x49 }; value = codes "ALetter" })
+    ∷ MissingLine (record { span = one 0x49; value = codes "MidNumLet" }) ∷ []
 sample CompositionExclusions = ExclusionLine (record { span = one 0x958 }) ∷ []
 sample CaseFolding =
     FoldLine (record { code = 0x49; status = status.T; mapping = 0x131 ∷ [] })
@@ -106,6 +107,14 @@ folding_examples : ((F 0x49).fold ≡ To (0x69 ∷ []))
     × ((F 0xC0).fold ≡ Same)
 unfolding facts point_count
 folding_examples = (refl, refl, refl, refl, refl, refl, refl)
+
+-- the last missing row that covers a code point counts, and none where another row covers it
+missing_examples : ((F 0x41).mid_word ≡ true)
+    × ((F 0x42).mid_word ≡ false)
+    × ((F 0x49).mid_word ≡ false)
+    × ((F 0x4A).mid_word ≡ false)
+unfolding facts point_count
+missing_examples = (refl, refl, refl, refl)
 
 other_examples : ((F 0x27).mid_word ≡ true)
     × ((F 0x3A).mid_word ≡ true)

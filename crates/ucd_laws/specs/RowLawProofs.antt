@@ -1,25 +1,21 @@
 -- Proofs of the laws of the facts of rows.
 --
--- kinds_are_mapped, mid_word_is_value   the laws of the same names
-use Rattle.std.proofs.Common.{◌≡◌, ◌≢◌, ℕ, ◌+◌, ◌-◌, ◌/◌, ◌%◌, ◌≤◌, Bool, true, false, cond, ◌&&◌, ◌||◌, ◌==◌, if◌then◌else◌, List, [], ◌∷◌, length, Option, Some, None, find, refl, sym, ap, subst, ◌∙◌, arith, inl, inr, codes}
-use Rattle.std.specs.List.{All, list_any, count_by}
-use Rattle.std.specs.Str.{bytes_eq}
+-- kinds_are_mapped   the law of the same name
+use Rattle.std.proofs.Common.{◌≡◌, ◌≢◌, ℕ, ◌+◌, ◌-◌, ◌/◌, ◌%◌, Bool, true, false, cond, ◌==◌, if◌then◌else◌, List, [], ◌∷◌, length, Option, Some, None, find, refl, sym, ap, subst, ◌∙◌, arith, inl, inr}
+use Rattle.std.specs.List.{All}
 use Rattle.std.proofs.lemmas.Bool.{true≢false, cases_lt}
 use Rattle.std.proofs.lemmas.List.Elements.{All-head, All-tail}
-use Rattle.std.proofs.lemmas.List.Sums.{sum_by-cons}
 use Rattle.ucd_points.specs.Limits.{point_count}
-use Rattle.ucd_model.specs.Facts.{within, is_data_of, data_in, data_row, maps_by_rule, kind_in, mapping_in, hangul_mapping, is_plain, gives_value}
+use Rattle.ucd_model.specs.Facts.{is_data_of, data_in, data_row, maps_by_rule, kind_in, mapping_in, hangul_mapping, is_plain}
 use Rattle.ucd_model.specs.FactsLemmas.{facts_inside, facts_outside}
 use Rattle.ucd_model.specs.RowValues.{RowOk, DataOk, DecompositionOk}
-use Rattle.ucd_laws.specs.RowLaws.{KindsAreMapped, MidWordIsValue}
-use Rattle.ucd_model.specs.Values.{gives_some, value_in, value_at, word_break_at}
+use Rattle.ucd_laws.specs.RowLaws.{KindsAreMapped}
 use Rattle.ucd_model.specs.declared.decomposition.Kind.{Kind}
 use Rattle.ucd_model.specs.declared.decomposition.Kind.TheVariants.{Plain, Canonical, Compat}
 use Rattle.ucd_points.specs.declared.files.SourceFile.TheVariants.{UnicodeData}
 use Rattle.ucd_model.specs.declared.row.DataRow.{DataRow}
-use Rattle.ucd_model.specs.declared.row.ValueRow.{ValueRow}
 use Rattle.ucd_model.specs.declared.row.Row.{Row}
-use Rattle.ucd_model.specs.declared.row.Row.TheVariants.{Unit as DataLine, Value as ValueLine, Exclusion as ExclusionLine, Fold as FoldLine, Casing as CasingLine, Alias as AliasLine}
+use Rattle.ucd_model.specs.declared.row.Row.TheVariants.{Unit as DataLine, Value as ValueLine, Exclusion as ExclusionLine, Fold as FoldLine, Casing as CasingLine, Alias as AliasLine, Missing as MissingLine}
 
 -- ---- kinds and mappings
 
@@ -33,6 +29,7 @@ row_ok (ExclusionLine y) row ok e = cc
 row_ok (FoldLine y) row ok e = cc
 row_ok (CasingLine y) row ok e = cc
 row_ok (AliasLine y) row ok e = cc
+row_ok (MissingLine y) row ok e = cc
 
 row_step : (x : Row) (rest : Option Row) (row : DataRow) (t : Bool) → RowOk UnicodeData x → (data_in rest ≡ Some row → DataOk row) → data_in (cond t (Some x) rest) ≡ Some row → DataOk row
 row_step x rest row true ok later e = row_ok x row ok e
@@ -69,66 +66,3 @@ kinds_are_mapped rows ok c e =
           (sym (ap (λ G. is_plain G.kind) (facts_inside rows c lt)) ∙ e) (sym (ap (λ G. G.mapping) (facts_inside rows c lt)) ∙ none)
       | inr le ↦ absurd (true≢false (sym (ap (λ G. is_plain G.kind) (facts_outside rows c le)) ∙ e))
     ]
-
--- ---- values in the middle of a word
-
-module _ (c : ℕ) (value : List ℕ) where
-  count_first : (row : Row) (rows : List Row) → count_by (gives_some c) (row ∷ rows) ≡ cond (gives_some c row) 1 0 + count_by (gives_some c) rows
-  count_first row rows = sum_by-cons (λ x. cond (gives_some c x) 1 0) row rows
-
-  count_here : (t : Bool) (n : ℕ) → cond t 1 0 + n ≡ 0 → (t ≡ false) × (n ≡ 0)
-  count_here true n e = absurd (omega (arith, e))
-  count_here false n e = (refl, omega (arith, e))
-
-  none_here : (t b : Bool) (rest : Bool) → t ≡ false → rest ≡ false → (b && t) || rest ≡ false
-  none_here true b rest t h = absurd (true≢false t)
-  none_here false true rest t h = h
-  none_here false false rest t h = h
-
-  none_gives : (rows : List Row) → count_by (gives_some c) rows ≡ 0 → list_any (gives_value value c) rows ≡ false
-  none_gives [] e = refl
-  none_gives (ValueLine row ∷ rows) e =
-      let parts = count_here (within c row.span) (count_by (gives_some c) rows) (sym (count_first (ValueLine row) rows) ∙ e) in
-      none_here (within c row.span) (bytes_eq row.value value) (list_any (gives_value value c) rows) parts.0 (none_gives rows parts.1)
-  none_gives (DataLine row ∷ rows) e = none_gives rows (omega (arith, e))
-  none_gives (ExclusionLine row ∷ rows) e = none_gives rows (omega (arith, e))
-  none_gives (FoldLine row ∷ rows) e = none_gives rows (omega (arith, e))
-  none_gives (CasingLine row ∷ rows) e = none_gives rows (omega (arith, e))
-  none_gives (AliasLine row ∷ rows) e = none_gives rows (omega (arith, e))
-
-  count_rest : (t : Bool) (n : ℕ) → cond t 1 0 + n ≤ 1 → (t ≡ true → n ≡ 0) × (n ≤ 1)
-  count_rest true n le = (λ yes. omega (arith, le), omega (arith, le))
-  count_rest false n le = (λ yes. absurd (true≢false (sym yes)), omega (arith, le))
-
-  value_step : (default : List ℕ) (row : ValueRow) (rest : Option Row) (any t b : Bool) → bytes_eq row.value value ≡ b → (t ≡ true → any ≡ false)
-      → (t ≡ false → any ≡ bytes_eq (value_in default rest) value) → (b && t) || any ≡ bytes_eq (value_in default (cond t (Some (ValueLine row)) rest)) value
-  value_step default row rest any true true e none later = sym e
-  value_step default row rest any true false e none later = none refl ∙ sym e
-  value_step default row rest any false true e none later = later refl
-  value_step default row rest any false false e none later = later refl
-
-  -- among rows of which at most one covers c, one with this value does where the value of c is this value
-  some_gives : (default : List ℕ) (rows : List Row) → bytes_eq default value ≡ false → count_by (gives_some c) rows ≤ 1
-      → list_any (gives_value value c) rows ≡ bytes_eq (value_at rows default c) value
-  some_gives default [] other le = sym other
-  some_gives default (ValueLine row ∷ rows) other le =
-      let parts = count_rest (within c row.span) (count_by (gives_some c) rows) (subst (λ n. n ≤ 1) (count_first (ValueLine row) rows) le) in
-      value_step default row (find (gives_some c) rows) (list_any (gives_value value c) rows) (within c row.span) (bytes_eq row.value value) refl
-      (λ yes. none_gives rows (parts.0 yes)) (λ no. some_gives default rows other parts.1)
-  some_gives default (DataLine row ∷ rows) other le = some_gives default rows other (omega (arith, le))
-  some_gives default (ExclusionLine row ∷ rows) other le = some_gives default rows other (omega (arith, le))
-  some_gives default (FoldLine row ∷ rows) other le = some_gives default rows other (omega (arith, le))
-  some_gives default (CasingLine row ∷ rows) other le = some_gives default rows other (omega (arith, le))
-  some_gives default (AliasLine row ∷ rows) other le = some_gives default rows other (omega (arith, le))
-
-three : (a b c x y z : Bool) → a ≡ x → b ≡ y → c ≡ z → a || (b || (c || false)) ≡ x || (y || (z || false))
-three a b c x y z p q r = ap (λ t. t || (b || (c || false))) p ∙ ap (λ t. x || (t || (c || false))) q ∙ ap (λ t. x || (y || (t || false))) r
-
-pub mid_word_is_value : MidWordIsValue
-mid_word_is_value rows c le =
-    let letter = some_gives c (codes "MidLetter") (codes "Other") rows refl le in
-    let number = some_gives c (codes "MidNumLet") (codes "Other") rows refl le in
-    let quote = some_gives c (codes "Single_Quote") (codes "Other") rows refl le in
-    three (list_any (gives_value (codes "MidLetter") c) rows) (list_any (gives_value (codes "MidNumLet") c) rows) (list_any (gives_value (codes "Single_Quote") c) rows)
-    (bytes_eq (word_break_at rows c) (codes "MidLetter")) (bytes_eq (word_break_at rows c) (codes "MidNumLet")) (bytes_eq (word_break_at rows c) (codes "Single_Quote"))
-    letter number quote

@@ -1,15 +1,9 @@
 //! The laws of the facts of rows that files can have: each function here does nothing, and its contract is a law.
 
-ghost use Rattle.ucd_laws.specs.RowLaws.{KindsAreMapped, MidWordIsValue};
+ghost use Rattle.ucd_laws.specs.RowLaws.{KindsAreMapped};
 
 /// A code point with a kind of mapping has one, where each row is one that UnicodeData.txt can have. UAX #44,
 /// section 5.7.3.
 pub fn kinds_are_mapped()
     ensures { KindsAreMapped }
-{}
-
-/// A mid-word point is one whose Word_Break is MidLetter, MidNumLet or Single_Quote, where rows do not overlap. UAX #29,
-/// section 4.1.
-pub fn mid_word_is_value()
-    ensures { MidWordIsValue }
 {}

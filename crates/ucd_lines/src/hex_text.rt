@@ -1,9 +1,12 @@
-//! Writes code points in hexadecimal digits, and spans of them.
+//! Writes code points in hexadecimal digits, and spans of them, and compares texts with these digits.
 
 ghost use Rattle.std.specs.Prelude.{◌≡◌, ◌≤◌, ◌<◌, ◌++◌, drop, OnOk, OnErr};
+ghost use Rattle.std.specs.Cmp.Lexicographic.{slice_cmp};
+ghost use Rattle.std.specs.Ordering.{nat_cmp};
 ghost use Rattle.ucd_points.specs.HexText.{hex_digit, hex_text, span_text};
 ghost use Rattle.ucd_lines.specs.Digits.{six_digits};
 
+use std::cmp::Ordering;
 use ucd_points::{Memory, Point, Span, Text};
 
 /// Appends the hexadecimal digits of a code point in upper case: at least four, and no more than it needs.
@@ -16,6 +19,14 @@ pub fn put_hex(c: Point, into: &mut Text) -> Result<(), Memory>
 {
     let digits = six_digits(c.number());
     into.append(&digits[spare_digits(c.number())..])
+}
+
+/// How a text compares with the hexadecimal digits that [`put_hex`] writes, byte by byte. It takes no memory.
+pub fn compare_hex(text: &[u8], c: Point) -> Ordering
+    ensures { result ≡ slice_cmp nat_cmp text.now (hex_text c) }
+{
+    let digits = six_digits(c.number());
+    text.cmp(&digits[spare_digits(c.number())..])
 }
 
 /// Appends a code point, or the first and the last one joined by `..`. UAX #44, section 4.2.

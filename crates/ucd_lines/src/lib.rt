@@ -18,7 +18,7 @@ pub use blank::{is_blank, trim};
 pub use code_point::{hex, hex_number};
 pub use decimal_text::{put_decimal, put_total};
 pub use field_iter::Fields;
-pub use hex_text::{put_hex, put_span};
+pub use hex_text::{compare_hex, put_hex, put_span};
 pub use item::{Ending, Item, join};
 pub use item_iter::Items;
 pub use laws::{
@@ -27,4 +27,4 @@ pub use laws::{
 };
 pub use search::{cut, first_at};
 pub use split::{fields, items};
-pub use trivia::is_trivia;
+pub use trivia::{is_trivia, missing_rest, takes_missing};

@@ -7,6 +7,7 @@ ghost use Rattle.ucd_points.specs.Fields.{fields, uncommented};
 use crate::field_iter::Fields;
 use crate::item_iter::Items;
 use crate::search::cut;
+use crate::trivia::missing_rest;
 use ucd_points::SourceFile;
 
 /// The lines of a text, in order and without a copy. A line ends after LF; its ending is LF, CR LF, or none at the
@@ -23,7 +24,8 @@ pub fn items(bytes: &[u8]) -> Items<'_>
 }
 
 /// The fields of a line, in order and without a copy: what stands between the `;`, each without white space (space and
-/// tab) around it. In all files but UnicodeData.txt a comment, from the first `#` on, is cut off before.
+/// tab) around it. In all files but UnicodeData.txt a comment, from the first `#` on, is cut off before; of a line
+/// `# @missing:` of Scripts.txt or WordBreakProperty.txt what stands behind that is read.
 /// There is always at least one field. UAX #44, section 4.2.
 #[tactic(auto, using(crate::proofs::FieldCuts::few_fields), unfolding(ucd_points::specs::Fields::fields))]
 pub fn fields(file: SourceFile, content: &[u8]) -> Fields<'_>
@@ -33,13 +35,16 @@ pub fn fields(file: SourceFile, content: &[u8]) -> Fields<'_>
     Fields::new(uncommented(file, content))
 }
 
-/// The line without its comment. UnicodeData.txt has no comments.
+/// The line without its comment; of a line `# @missing:` the same of what stands behind that. UnicodeData.txt has no comments.
 fn uncommented(file: SourceFile, content: &[u8]) -> &[u8]
     ensures text { result.now ≡ uncommented file content.now }
     ensures shorter { length result.now ≤ length content.now }
 {
     match file {
         SourceFile::UnicodeData => content,
-        _ => cut(content, b'#').0,
+        _ => match missing_rest(file, content) {
+            Some(rest) => cut(rest, b'#').0,
+            None => cut(content, b'#').0,
+        },
     }
 }

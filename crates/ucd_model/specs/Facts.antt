@@ -9,7 +9,6 @@
 -- given_by c row casing rows       the same, from the row of UnicodeData.txt and that of SpecialCasing.txt that were found, None
 --                                  where there is none, with the rows of the other files
 -- unassigned c                     no row: Cn, class 0, no mapping, no property, and every image the point itself
--- within c s                       c lies in the span s: not below its first code point, and not above its last
 --
 -- UnicodeData.txt
 -- is_data_of c row                 a row of UnicodeData.txt that covers c; no row of another file does
@@ -57,16 +56,16 @@
 -- gives_value value c row          a row with exactly this value that covers c: of PropList.txt, Scripts.txt or
 --                                  WordBreakProperty.txt
 -- flag_at rows f c                 whether some row of PropList.txt with exactly the name of f covers c
--- mid_word_values                  the values of Word_Break in the middle of a word: MidLetter, MidNumLet and Single_Quote
--- mid_word_at rows c               whether the Word_Break value of c is one of them: some row with such a value covers c
 -- excludes c row                   a row of CompositionExclusions.txt that covers c
 -- excluded_at rows c               whether some row of CompositionExclusions.txt covers c
 use Rattle.std.specs.Prelude.{ℕ, ◌+◌, ◌-◌, ◌/◌, ◌%◌, Bool, true, false, ◌&&◌, List, [], ◌∷◌, Option, Some, None, is_some, unwrap_or, nat_lt, nat_le, ◌==◌, if◌then◌else◌, find, codes}
 use Rattle.std.specs.List.{list_any}
 use Rattle.std.specs.Str.{bytes_eq}
+pub use Rattle.ucd_points.specs.Bounds.{within}
 use Rattle.ucd_points.specs.Bounds.{Bounds}
 use Rattle.ucd_points.specs.Limits.{point_count}
 use Rattle.ucd_model.specs.Names.{flag_name}
+use Rattle.ucd_model.specs.Values.{mid_word_at}
 use Rattle.ucd_model.specs.declared.category.Category.{Category}
 use Rattle.ucd_model.specs.declared.category.Category.TheVariants.{Cn}
 use Rattle.ucd_model.specs.declared.decomposition.Kind.{Kind}
@@ -103,9 +102,6 @@ pub record Facts : Type 0 where
   pub flag : Flag → Bool
   pub mid_word : Bool
   pub excluded : Bool
-
-abbrev pub within : ℕ → Bounds → Bool
-within c s = nat_le s.lo c && nat_le c s.hi
 
 -- ---- UnicodeData.txt
 
@@ -254,12 +250,6 @@ gives_value value c _ = false
 
 abbrev pub flag_at : List Row → Flag → ℕ → Bool
 flag_at rows flag c = list_any (gives_value (flag_name flag) c) rows
-
-abbrev pub mid_word_values : List (List ℕ)
-mid_word_values = codes "MidLetter" ∷ codes "MidNumLet" ∷ codes "Single_Quote" ∷ []
-
-abbrev pub mid_word_at : List Row → ℕ → Bool
-mid_word_at rows c = list_any (λ value. list_any (gives_value value c) rows) mid_word_values
 
 abbrev pub excludes : ℕ → Row → Bool
 excludes c (ExclusionLine row) = within c row.span

@@ -3,8 +3,8 @@ pub mod Mappings
 pub mod DataLines
 pub mod OtherLines
 pub mod Grammar
-pub mod Facts
 pub mod Values
+pub mod Facts
 pub mod Sets
 pub mod Predicates
 pub mod Records

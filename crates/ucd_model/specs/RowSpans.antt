@@ -5,7 +5,7 @@
 use Rattle.std.specs.Prelude.{ℕ, Option, Some, None}
 use Rattle.ucd_points.specs.Bounds.{Bounds}
 use Rattle.ucd_model.specs.declared.row.Row.{Row}
-use Rattle.ucd_model.specs.declared.row.Row.TheVariants.{Unit as DataLine, Value as ValueLine, Exclusion as ExclusionLine, Fold as FoldLine, Casing as CasingLine, Alias as AliasLine}
+use Rattle.ucd_model.specs.declared.row.Row.TheVariants.{Unit as DataLine, Value as ValueLine, Exclusion as ExclusionLine, Fold as FoldLine, Casing as CasingLine, Alias as AliasLine, Missing as MissingLine}
 
 abbrev pub one_point : ℕ → Bounds
 one_point c = record { lo = c; hi = c }
@@ -17,3 +17,4 @@ span_in (ExclusionLine row) = Some row.span
 span_in (FoldLine row) = Some (one_point row.code)
 span_in (CasingLine row) = Some (one_point row.code)
 span_in (AliasLine row) = None
+span_in (MissingLine row) = Some row.span

@@ -13,6 +13,8 @@
 --                              lines
 -- value_text row               a row of PropList.txt, Scripts.txt or WordBreakProperty.txt: the span and the value, with ` ; `
 --                              between
+-- missing_text row             a missing row of Scripts.txt or WordBreakProperty.txt: `# @missing: `, the span and the value, with
+--                              `; ` between
 -- exclusion_text row           a row of CompositionExclusions.txt: the span
 -- fold_text row                a row of CaseFolding.txt: the code point, the status and the mapping, with `; ` between and `;` at
 --                              the end
@@ -37,7 +39,7 @@ use Rattle.ucd_model.specs.declared.row.FoldRow.{FoldRow}
 use Rattle.ucd_model.specs.declared.row.CasingRow.{CasingRow}
 use Rattle.ucd_model.specs.declared.row.AliasRow.{AliasRow}
 use Rattle.ucd_model.specs.declared.row.Row.{Row}
-use Rattle.ucd_model.specs.declared.row.Row.TheVariants.{Unit as DataLine, Value as ValueLine, Exclusion as ExclusionLine, Fold as FoldLine, Casing as CasingLine, Alias as AliasLine}
+use Rattle.ucd_model.specs.declared.row.Row.TheVariants.{Unit as DataLine, Value as ValueLine, Exclusion as ExclusionLine, Fold as FoldLine, Casing as CasingLine, Alias as AliasLine, Missing as MissingLine}
 
 unfoldable pub mapping_text : List ℕ → List ℕ
 mapping_text cs = join_with_byte 32 (map hex_text cs)
@@ -79,6 +81,9 @@ data_text row = if row.range then range_text row else data_line row row.span.lo 
 abbrev pub value_text : ValueRow → List ℕ
 value_text row = span_text row.span ++ codes " ; " ++ row.value
 
+abbrev pub missing_text : ValueRow → List ℕ
+missing_text row = codes "# @missing: " ++ span_text row.span ++ codes "; " ++ row.value
+
 abbrev pub exclusion_text : ExclusionRow → List ℕ
 exclusion_text row = span_text row.span
 
@@ -107,3 +112,4 @@ row_text file (ExclusionLine row) = exclusion_text row
 row_text file (FoldLine row) = fold_text row
 row_text file (CasingLine row) = casing_text row
 row_text file (AliasLine row) = alias_text row
+row_text file (MissingLine row) = missing_text row

@@ -45,7 +45,7 @@ use Rattle.ucd_model.specs.declared.row.FoldRow.{FoldRow}
 use Rattle.ucd_model.specs.declared.row.CasingRow.{CasingRow}
 use Rattle.ucd_model.specs.declared.row.AliasRow.{AliasRow}
 use Rattle.ucd_model.specs.declared.row.Row.{Row}
-use Rattle.ucd_model.specs.declared.row.Row.TheVariants.{Unit as DataLine, Value as ValueLine, Exclusion as ExclusionLine, Fold as FoldLine, Casing as CasingLine, Alias as AliasLine}
+use Rattle.ucd_model.specs.declared.row.Row.TheVariants.{Unit as DataLine, Value as ValueLine, Exclusion as ExclusionLine, Fold as FoldLine, Casing as CasingLine, Alias as AliasLine, Missing as MissingLine}
 
 abbrev pub IsPoint : ℕ → Type 0
 IsPoint c = c < 1114112
@@ -145,6 +145,8 @@ RowOk UnicodeData (DataLine row) = DataOk row
 RowOk PropList (ValueLine row) = ValueOk row
 RowOk Scripts (ValueLine row) = ValueOk row
 RowOk WordBreakProperty (ValueLine row) = ValueOk row
+RowOk Scripts (MissingLine row) = ValueOk row
+RowOk WordBreakProperty (MissingLine row) = ValueOk row
 RowOk CompositionExclusions (ExclusionLine row) = ExclusionOk row
 RowOk CaseFolding (FoldLine row) = FoldOk row
 RowOk SpecialCasing (CasingLine row) = CasingOk row

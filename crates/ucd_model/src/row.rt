@@ -148,6 +148,9 @@ pub enum Row {
     Casing(CasingRow),
     /// Of PropertyAliases.txt or PropertyValueAliases.txt.
     Alias(AliasRow),
+    /// A line `# @missing:` of Scripts.txt or WordBreakProperty.txt: the value of the code points that no other row covers.
+    /// Of several that cover a code point the last one counts. UAX #44, section 4.2.10.
+    Missing(ValueRow),
 }
 
 impl Row {
@@ -162,6 +165,7 @@ impl Row {
             Row::Fold(row) => Some(Span::one(row.code)),
             Row::Casing(row) => Some(Span::one(row.code)),
             Row::Alias(_) => None,
+            Row::Missing(row) => Some(row.span),
         }
     }
 }

@@ -4,7 +4,8 @@
 -- trim_end bs                 the bytes without the white space at their end
 -- trim bs                     the bytes without white space at either end
 -- is_semicolon b, is_hash b   the byte is `;`, or `#`
--- uncommented file content    what stands before the first `#`, all where there is none; of UnicodeData.txt the whole content
+-- uncommented file content    what stands before the first `#`, all where there is none; of a missing line the same of what stands
+--                             behind its mark; of UnicodeData.txt the whole content
 -- fields file content         the fields of a line, cut at each `;`, each without white space around it; outside of
 --                             UnicodeData.txt a comment, from the first `#` on, is no part of them. No bytes have one empty field
 -- field fs n                  the field at a place, counted from 0; no bytes past the last
@@ -43,18 +44,19 @@
 -- class_of bs                 the decimal number from 0 to 254 that one to three digits write; None for all other bytes
 -- some_point c                a mapping to c, where bytes spell it; None where they spell no code point
 -- case_of bs                  no bytes: there is none; a code point: that one; None for all other bytes
-use Rattle.std.specs.Prelude.{◌≡◌, ◌⊎◌, ℕ, ◌+◌, ◌-◌, ◌*◌, ◌≤◌, Bool, false, ◌&&◌, ◌||◌, not, List, [], ◌∷◌, ◌++◌, length, take, drop, map, Option, Some, None, ◌==◌, nat_lt, nat_le, if◌then◌else◌, codes, fold}
+use Rattle.std.specs.Prelude.{◌≡◌, ◌⊎◌, ℕ, ◌+◌, ◌-◌, ◌*◌, ◌≤◌, Bool, false, ◌&&◌, ◌||◌, not, List, [], ◌∷◌, ◌++◌, length, take, drop, map, Option, Some, None, ◌==◌, nat_lt, nat_le, if◌then◌else◌, unwrap_or, codes, fold}
 use Rattle.std.specs.List.{slice_split, prefix_len, suffix_len, before_first, after_first, position_or_len, list_all}
 use Rattle.std.specs.Str.{bytes_eq}
 use Rattle.ucd_points.specs.Bounds.{Bounds}
-use Rattle.ucd_points.specs.Lines.{is_blank}
+use Rattle.ucd_points.specs.Lines.{is_blank, unindented}
+use Rattle.ucd_points.specs.MissingLines.{missing_rest}
 use Rattle.ucd_points.specs.declared.files.SourceFile.{SourceFile}
 use Rattle.ucd_points.specs.declared.files.SourceFile.TheVariants.{UnicodeData}
 
 -- ---- fields
 
 abbrev pub trim_start : List ℕ → List ℕ
-trim_start bs = drop (prefix_len is_blank bs) bs
+trim_start bs = unindented bs
 
 abbrev pub trim_end : List ℕ → List ℕ
 trim_end bs = take (length bs - suffix_len is_blank bs) bs
@@ -70,7 +72,7 @@ is_hash b = b == 35
 
 abbrev pub uncommented : SourceFile → List ℕ → List ℕ
 uncommented UnicodeData content = content
-uncommented _ content = before_first is_hash content
+uncommented file content = before_first is_hash (unwrap_or (missing_rest file content) content)
 
 unfoldable pub fields : SourceFile → List ℕ → List (List ℕ)
 fields file content = map trim (slice_split is_semicolon (uncommented file content))

@@ -2,6 +2,7 @@ pub mod Limits
 pub mod Bounds
 pub mod SourceFiles
 pub mod Lines
+pub mod MissingLines
 pub mod Fields
 pub mod HexText
 pub mod HexTextLaws

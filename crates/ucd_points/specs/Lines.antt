@@ -18,7 +18,8 @@
 -- ending_bytes ending     the bytes of an ending: none, LF, or CR LF
 -- item_bytes item         a line's content and the bytes of its ending
 -- joined items            contents and endings put together again
--- is_trivia content       the line is blank, or its first byte other than white space is `#`
+-- unindented bs           the bytes behind the white space at their beginning
+-- is_comment content      the line is blank, or its first byte other than white space is `#`
 use Rattle.std.specs.Prelude.{ℕ, ◌-◌, Bool, true, List, [], ◌∷◌, ◌++◌, length, take, drop, ◌==◌, if◌then◌else◌, slice_get, Some, nat_eq, ◌||◌}
 use Rattle.std.specs.Option.{option_eq}
 use Rattle.std.specs.List.{slice_split, prefix_len, list_any, flat_map}
@@ -83,5 +84,8 @@ abbrev begins_comment : List ℕ → Bool
 begins_comment [] = true
 begins_comment (b ∷ bs) = b == 35
 
-abbrev pub is_trivia : List ℕ → Bool
-is_trivia content = begins_comment (drop (prefix_len is_blank content) content)
+abbrev pub unindented : List ℕ → List ℕ
+unindented bs = drop (prefix_len is_blank bs) bs
+
+abbrev pub is_comment : List ℕ → Bool
+is_comment content = begins_comment (unindented content)

@@ -1,10 +1,11 @@
 -- The items of a file are cut as its lines are, and stay so.
-use Rattle.std.proofs.Common.{◌≡◌, ◌≢◌, ℕ, zero, suc, ◌+◌, Bool, true, false, cond, not, List, [], ◌∷◌, ◌++◌, map, filter, drop, None, refl, sym, ap, subst, ◌∙◌, append_assoc, one-add}
+use Rattle.std.proofs.Common.{◌≡◌, ◌≢◌, ℕ, zero, suc, ◌+◌, Bool, true, false, cond, not, ◌&&◌, List, [], ◌∷◌, ◌++◌, map, filter, drop, None, refl, sym, ap, subst, ◌∙◌, append_assoc, one-add}
 use Rattle.std.specs.List.{count_by, prefix_len}
 use Rattle.std.proofs.lemmas.Bool.{and_parts, or_from}
 use Rattle.std.proofs.lemmas.List.Folds.{list_any-append}
 use Rattle.ucd_lines.specs.Laws.{IsLine, AreLines}
-use Rattle.ucd_points.specs.Lines.{LineItem, LineEnding, unended, lf, cr_lf, ending_bytes, item_bytes, is_blank, is_lf, is_trivia, holds_line_feed}
+use Rattle.ucd_points.specs.Lines.{LineItem, LineEnding, unended, lf, cr_lf, ending_bytes, item_bytes, is_blank, is_lf, is_comment, unindented, holds_line_feed}
+use Rattle.ucd_points.specs.MissingLines.{takes_missing, behind_hash, missing_rest, is_missing, is_trivia}
 use Rattle.ucd_points.specs.declared.files.SourceFile.{SourceFile}
 use Rattle.ucd_points.specs.declared.files.SourceFile.TheVariants.{UnicodeData}
 use Rattle.ucd_model.specs.declared.row.Row.{Row}
@@ -37,16 +38,25 @@ ended_cut item rest more h = record { lines = h.lines; trivia = h.trivia; last =
 other_rest : (item next : FileItem) (rest more : List FileItem) → IsCut item (next ∷ rest) → IsCut item more
 other_rest item next rest more h = record { lines = h.lines; trivia = h.trivia; last = λ e. absurd (let none : next ∷ rest ≡ [] = (h.last e).0 in cc) }
 
-some_bytes : (bytes : List ℕ) → is_trivia bytes ≡ false → bytes ≢ []
-some_bytes [] h e = absurd cc
-some_bytes (b ∷ bs) h e = cc
+-- no bytes are no missing line, but trivia
+none_missing : (file : SourceFile) → missing_rest file [] ≡ None
+unfolding missing_rest
+none_missing file = by (takes_missing file)
+  where
+    by : (takes : Bool) → cond takes (behind_hash (unindented [])) None ≡ None
+    by true = refl
+    by false = refl
 
-row_cut : (row : Row) (bytes : List ℕ) (ending : LineEnding) (rest : List FileItem) → is_trivia bytes ≡ false → (ending ≡ unended → rest ≡ []) → IsCut (item_of_row row bytes ending) rest
-row_cut row bytes ending rest some last = record { lines = refl; trivia = λ e. absurd cc; last = λ e. (last e, some_bytes bytes some) }
+some_bytes : (file : SourceFile) (bytes : List ℕ) → is_trivia file bytes ≡ false → bytes ≢ []
+some_bytes file [] h e = absurd (let t = (rw (none_missing file) at h) in cc)
+some_bytes file (b ∷ bs) h e = cc
+
+row_cut : (row : Row) (bytes : List ℕ) (ending : LineEnding) (rest : List FileItem) → bytes ≢ [] → (ending ≡ unended → rest ≡ []) → IsCut (item_of_row row bytes ending) rest
+row_cut row bytes ending rest some last = record { lines = refl; trivia = λ e. absurd cc; last = λ e. (last e, some) }
 
 -- ---- an item that is put in
 
-put_cut : (items : List FileItem) (n : ℕ) (row : Row) (bytes : List ℕ) → is_trivia bytes ≡ false → AreCut items → AreCut (put_in items n (added_item row bytes))
+put_cut : (items : List FileItem) (n : ℕ) (row : Row) (bytes : List ℕ) → bytes ≢ [] → AreCut items → AreCut (put_in items n (added_item row bytes))
 put_cut items zero row bytes some h = (row_cut row bytes lf items some (λ e. absurd cc), h)
 put_cut [] (suc n) row bytes some h = (row_cut row bytes lf [] some (λ e. absurd cc), tt)
 put_cut (x ∷ []) (suc zero) row bytes some h = (ended_cut x [] _ h.0, (row_cut row bytes lf [] some (λ e. absurd cc), tt))
@@ -59,7 +69,7 @@ put_cut (x ∷ y ∷ xs) (suc (suc n)) row bytes some h = (other_rest x y xs _ h
 map_none : {A : Type 0} {B : Type 0} (f : A → B) (xs : List A) → xs ≡ [] → map f xs ≡ []
 map_none f xs e = ap (map f) e
 
-changed_cut : (file : SourceFile) (row : Row) (bytes : List ℕ) (items : List FileItem) → is_trivia bytes ≡ false → AreCut items → AreCut (map (changed_item file row bytes) items)
+changed_cut : (file : SourceFile) (row : Row) (bytes : List ℕ) (items : List FileItem) → bytes ≢ [] → AreCut items → AreCut (map (changed_item file row bytes) items)
 changed_cut file row bytes [] some h = tt
 changed_cut file row bytes (x ∷ xs) some h = (by (row_passes (same_key file row) x) refl, changed_cut file row bytes xs some h.1)
   where
@@ -82,11 +92,11 @@ unfolding edited
 operations_keep_cuts law (Add file row bytes) items next op cut h =
     let a = failed (holds_row (same_key file row) items) _ K1 next h in
     let b = failed (holds_row (overlaps file row) items) _ K4 next a.1 in
-    subst AreCut (items_are _ next b.1) (put_cut items (place_in file row items) row bytes (law file bytes row op.1) cut)
+    subst AreCut (items_are _ next b.1) (put_cut items (place_in file row items) row bytes (some_bytes file bytes (law file bytes row op.1)) cut)
 operations_keep_cuts law (Change file row bytes) items next op cut h =
     let a = passed (holds_row (same_key file row) items) _ K2 next h in
     let b = failed (holds_row (overlaps_another file row) items) _ K4 next a.1 in
-    subst AreCut (items_are _ next b.1) (changed_cut file row bytes items (law file bytes row op.1) cut)
+    subst AreCut (items_are _ next b.1) (changed_cut file row bytes items (some_bytes file bytes (law file bytes row op.1)) cut)
 operations_keep_cuts law (Withdraw file key) items next op cut h =
     let a = passed (holds_row (has_key file key) items) _ K2 next h in
     subst AreCut (items_are _ next a.1) (filter_cut (λ item. not (row_passes (has_key file key) item)) items cut)
@@ -96,12 +106,12 @@ operations_keep_cuts law (Withdraw file key) items next op cut h =
 drop_one : (n b : ℕ) (bs : List ℕ) → drop (1 + n) (b ∷ bs) ≡ drop n bs
 drop_one n b bs = rw one-add refl
 
--- what trivia begins with is trivia
-trivia_front : (xs ys : List ℕ) → is_trivia (xs ++ ys) ≡ true → is_trivia xs ≡ true
-trivia_front [] ys h = refl
-trivia_front (x ∷ xs) ys h = by (is_blank x) refl h (trivia_front xs ys)
+-- what a comment begins with is one
+comment_front : (xs ys : List ℕ) → is_comment (xs ++ ys) ≡ true → is_comment xs ≡ true
+comment_front [] ys h = refl
+comment_front (x ∷ xs) ys h = by (is_blank x) refl h (comment_front xs ys)
   where
-    by : (b : Bool) → is_blank x ≡ b → is_trivia (x ∷ (xs ++ ys)) ≡ true → (is_trivia (xs ++ ys) ≡ true → is_trivia xs ≡ true) → is_trivia (x ∷ xs) ≡ true
+    by : (b : Bool) → is_blank x ≡ b → is_comment (x ∷ (xs ++ ys)) ≡ true → (is_comment (xs ++ ys) ≡ true → is_comment xs ≡ true) → is_comment (x ∷ xs) ≡ true
     by true e k f = rw (e, drop_one (prefix_len is_blank xs) x xs) (f (rw (e, drop_one (prefix_len is_blank (xs ++ ys)) x (xs ++ ys)) at k))
     by false e k f = rw e (rw e at k)
 
@@ -117,14 +127,15 @@ one_line_feed a b rest h k = by a.ending refl
     by lf e = rw (e, append_assoc a.content (10 ∷ []) b.content) (one_feed a.content b.content h.no_line_feed k)
     by cr_lf e = rw (e, append_assoc a.content (13 ∷ 10 ∷ []) b.content, sym (append_assoc a.content (13 ∷ []) (10 ∷ b.content))) (one_feed (a.content ++ 13 ∷ []) b.content (lacks_both a.content (13 ∷ []) h.no_line_feed refl) k)
 
--- what opens a range is no trivia
-opens_no_trivia : (file : SourceFile) (content : List ℕ) → opens_range file content ≡ true → is_trivia content ≡ false
-opens_no_trivia UnicodeData content h = not_true (is_trivia content) (and_parts (not (is_trivia content)) (is_first_line content) h).0
+-- what opens a range is no comment
+opens_no_comment : (file : SourceFile) (content : List ℕ) → opens_range file content ≡ true → is_comment content ≡ false
+unfolding missing_rest
+opens_no_comment UnicodeData content h = not_both (is_comment content) (and_parts (not (is_comment content && true)) (is_first_line content) h).0
   where
-    not_true : (b : Bool) → not b ≡ true → b ≡ false
-    not_true true h = absurd cc
-    not_true false h = refl
-opens_no_trivia _ content h = absurd cc
+    not_both : (b : Bool) → not (b && true) ≡ true → b ≡ false
+    not_both true h = absurd cc
+    not_both false h = refl
+opens_no_comment _ content h = absurd cc
 
 some_behind : (xs ys : List ℕ) → ys ≢ [] → xs ++ ys ≢ []
 some_behind [] ys h e = h e
@@ -135,7 +146,7 @@ two_cut file a b rest items opens first last behind read =
     let item = file_item file (two_lines a b) in
     record {
       lines = rw (one_line_feed a b rest first last.no_line_feed) refl;
-      trivia = λ none. absurd (let stored = content_stored file item.content item.row read in let trivia : is_trivia item.content ≡ true = (rw none at stored) in let front : is_trivia a.content ≡ true = trivia_front a.content (ending_bytes a.ending ++ b.content) (rw (← append_assoc a.content (ending_bytes a.ending) b.content) trivia) in let e : true ≡ false = sym front ∙ opens_no_trivia file a.content opens in cc);
+      trivia = λ none. absurd (let stored = content_stored file item.content item.row read in let trivia : is_trivia file item.content ≡ true = (rw none at stored) in let comment = (and_parts (is_comment item.content) (not (is_missing file item.content)) trivia).0 in let front : is_comment a.content ≡ true = comment_front a.content (ending_bytes a.ending ++ b.content) (rw (← append_assoc a.content (ending_bytes a.ending) b.content) comment) in let e : true ≡ false = sym front ∙ opens_no_comment file a.content opens in cc);
       last = λ e. (behind (last.last e).0, some_behind (item_bytes a) b.content (last.last e).1);
     }
 

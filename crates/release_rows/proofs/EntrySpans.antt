@@ -5,12 +5,11 @@ use Rattle.ucd_model.specs.RowValues.{RowOk}
 use Rattle.ucd_points.specs.declared.files.SourceFile.{SourceFile}
 use Rattle.ucd_points.specs.declared.files.SourceFile.TheVariants.{UnicodeData, PropList, Scripts, WordBreakProperty, CompositionExclusions, CaseFolding, SpecialCasing, PropertyAliases, PropertyValueAliases}
 use Rattle.ucd_model.specs.declared.row.Row.{Row}
-use Rattle.ucd_model.specs.declared.row.Row.TheVariants.{Unit as DataLine, Value as ValueLine, Exclusion as ExclusionLine, Fold as FoldLine, Casing as CasingLine, Alias as AliasLine}
+use Rattle.ucd_model.specs.declared.row.Row.TheVariants.{Unit as DataLine, Value as ValueLine, Exclusion as ExclusionLine, Fold as FoldLine, Casing as CasingLine, Alias as AliasLine, Missing as MissingLine}
 use Rattle.source_rows.specs.KeyNames.{has_code}
 use Rattle.source_rows.specs.Keys.{row_span}
 use Rattle.source_rows.specs.Laws.{RowsAreOk, RowsAreRead}
 use Rattle.part_list.specs.declared.spanned.Spanned.{Spanned}
-use Rattle.release_rows.specs.Keys.{row_end}
 use Rattle.release_rows.specs.Operations.{row_passes, row_spans, spans_of}
 use Rattle.release_rows.specs.FileItems.{FileItem}
 use Rattle.release_rows.specs.StoredItems.{HasSpan, IsStored, content_at, item_at}
@@ -20,63 +19,31 @@ use Rattle.release_rows.proofs.Seeking.{StoredAs, stored_as}
 abbrev Spans : ℕ → ℕ → List Bounds → Type 0
 Spans lo hi spans = (lo ≤ hi) × (hi < 1114112) × (spans ≡ record { lo = lo; hi = hi } ∷ [])
 
-code_spans : (file : SourceFile) (row : Row) → RowOk file row → has_code file ≡ true → Spans (row_span row).lo (row_end file row) (row_spans row)
+code_spans : (file : SourceFile) (row : Row) → RowOk file row → has_code file ≡ true → Spans (row_span row).lo (row_span row).hi (row_spans row)
 code_spans UnicodeData (DataLine row) ok h = (ok.span.0, ok.span.1, refl)
-code_spans UnicodeData (ValueLine row) ok h = absurd ok
-code_spans UnicodeData (ExclusionLine row) ok h = absurd ok
-code_spans UnicodeData (FoldLine row) ok h = absurd ok
-code_spans UnicodeData (CasingLine row) ok h = absurd ok
-code_spans UnicodeData (AliasLine row) ok h = absurd ok
-code_spans PropList (DataLine row) ok h = absurd ok
+code_spans UnicodeData _ ok h = absurd ok
 code_spans PropList (ValueLine row) ok h = (ok.span.0, ok.span.1, refl)
-code_spans PropList (ExclusionLine row) ok h = absurd ok
-code_spans PropList (FoldLine row) ok h = absurd ok
-code_spans PropList (CasingLine row) ok h = absurd ok
-code_spans PropList (AliasLine row) ok h = absurd ok
-code_spans Scripts (DataLine row) ok h = absurd ok
+code_spans PropList _ ok h = absurd ok
 code_spans Scripts (ValueLine row) ok h = (ok.span.0, ok.span.1, refl)
-code_spans Scripts (ExclusionLine row) ok h = absurd ok
-code_spans Scripts (FoldLine row) ok h = absurd ok
-code_spans Scripts (CasingLine row) ok h = absurd ok
-code_spans Scripts (AliasLine row) ok h = absurd ok
-code_spans WordBreakProperty (DataLine row) ok h = absurd ok
+code_spans Scripts (MissingLine row) ok h = (ok.span.0, ok.span.1, refl)
+code_spans Scripts _ ok h = absurd ok
 code_spans WordBreakProperty (ValueLine row) ok h = (ok.span.0, ok.span.1, refl)
-code_spans WordBreakProperty (ExclusionLine row) ok h = absurd ok
-code_spans WordBreakProperty (FoldLine row) ok h = absurd ok
-code_spans WordBreakProperty (CasingLine row) ok h = absurd ok
-code_spans WordBreakProperty (AliasLine row) ok h = absurd ok
-code_spans CompositionExclusions (DataLine row) ok h = absurd ok
-code_spans CompositionExclusions (ValueLine row) ok h = absurd ok
+code_spans WordBreakProperty (MissingLine row) ok h = (ok.span.0, ok.span.1, refl)
+code_spans WordBreakProperty _ ok h = absurd ok
 code_spans CompositionExclusions (ExclusionLine row) ok h = (ok.0, ok.1, refl)
-code_spans CompositionExclusions (FoldLine row) ok h = absurd ok
-code_spans CompositionExclusions (CasingLine row) ok h = absurd ok
-code_spans CompositionExclusions (AliasLine row) ok h = absurd ok
-code_spans CaseFolding (DataLine row) ok h = absurd ok
-code_spans CaseFolding (ValueLine row) ok h = absurd ok
-code_spans CaseFolding (ExclusionLine row) ok h = absurd ok
+code_spans CompositionExclusions _ ok h = absurd ok
 code_spans CaseFolding (FoldLine row) ok h = (omega arith, ok.code, refl)
-code_spans CaseFolding (CasingLine row) ok h = absurd ok
-code_spans CaseFolding (AliasLine row) ok h = absurd ok
-code_spans SpecialCasing (DataLine row) ok h = absurd ok
-code_spans SpecialCasing (ValueLine row) ok h = absurd ok
-code_spans SpecialCasing (ExclusionLine row) ok h = absurd ok
-code_spans SpecialCasing (FoldLine row) ok h = absurd ok
+code_spans CaseFolding _ ok h = absurd ok
 code_spans SpecialCasing (CasingLine row) ok h = (omega arith, ok.code, refl)
-code_spans SpecialCasing (AliasLine row) ok h = absurd ok
-code_spans PropertyAliases (DataLine row) ok h = absurd ok
-code_spans PropertyAliases (ValueLine row) ok h = absurd ok
-code_spans PropertyAliases (ExclusionLine row) ok h = absurd ok
-code_spans PropertyAliases (FoldLine row) ok h = absurd ok
-code_spans PropertyAliases (CasingLine row) ok h = absurd ok
-code_spans PropertyAliases (AliasLine row) ok h = absurd cc
-code_spans PropertyValueAliases (DataLine row) ok h = absurd ok
-code_spans PropertyValueAliases (ValueLine row) ok h = absurd ok
-code_spans PropertyValueAliases (ExclusionLine row) ok h = absurd ok
-code_spans PropertyValueAliases (FoldLine row) ok h = absurd ok
-code_spans PropertyValueAliases (CasingLine row) ok h = absurd ok
-code_spans PropertyValueAliases (AliasLine row) ok h = absurd cc
+code_spans SpecialCasing _ ok h = absurd ok
+code_spans PropertyAliases row ok h = absurd cc
+code_spans PropertyValueAliases row ok h = absurd cc
 
 no_spans : (file : SourceFile) (row : Row) → RowOk file row → has_code file ≡ false → row_spans row ≡ []
+no_spans PropertyAliases (AliasLine row) ok h = refl
+no_spans PropertyAliases _ ok h = absurd ok
+no_spans PropertyValueAliases (AliasLine row) ok h = refl
+no_spans PropertyValueAliases _ ok h = absurd ok
 no_spans UnicodeData row ok h = absurd cc
 no_spans PropList row ok h = absurd cc
 no_spans Scripts row ok h = absurd cc
@@ -84,23 +51,11 @@ no_spans WordBreakProperty row ok h = absurd cc
 no_spans CompositionExclusions row ok h = absurd cc
 no_spans CaseFolding row ok h = absurd cc
 no_spans SpecialCasing row ok h = absurd cc
-no_spans PropertyAliases (DataLine row) ok h = absurd ok
-no_spans PropertyAliases (ValueLine row) ok h = absurd ok
-no_spans PropertyAliases (ExclusionLine row) ok h = absurd ok
-no_spans PropertyAliases (FoldLine row) ok h = absurd ok
-no_spans PropertyAliases (CasingLine row) ok h = absurd ok
-no_spans PropertyAliases (AliasLine row) ok h = refl
-no_spans PropertyValueAliases (DataLine row) ok h = absurd ok
-no_spans PropertyValueAliases (ValueLine row) ok h = absurd ok
-no_spans PropertyValueAliases (ExclusionLine row) ok h = absurd ok
-no_spans PropertyValueAliases (FoldLine row) ok h = absurd ok
-no_spans PropertyValueAliases (CasingLine row) ok h = absurd ok
-no_spans PropertyValueAliases (AliasLine row) ok h = refl
 
 row_ok : (file : SourceFile) (content : List ℕ) (row : Row) → RowsAreRead → RowsAreOk → StoredAs file content (Some row) → RowOk file row
 row_ok file content row read ok st = (ok file row).1 (content, (read file content row).0 st.1)
 
-spans_by : (file : SourceFile) (content : List ℕ) (code last : ℕ) (o : Option Row) → RowsAreRead → RowsAreOk → StoredAs file content o → HasSpan file o code last → is_some o ≡ true → has_code file ≡ true → Spans code last (spans_of o)
+spans_by : (file : SourceFile) (content : List ℕ) (code last : ℕ) (o : Option Row) → RowsAreRead → RowsAreOk → StoredAs file content o → HasSpan o code last → is_some o ≡ true → has_code file ≡ true → Spans code last (spans_of o)
 spans_by file content code last None read ok st span some h = absurd cc
 spans_by file content code last (Some row) read ok st span some h = rw (span.0, span.1) (code_spans file row (row_ok file content row read ok st) h)
 

@@ -1,6 +1,6 @@
 -- The gap of an added row is that of its place.
 use Rattle.std.proofs.Common.{◌≡◌, ◌-◌, Bool, true, false, not, List, [], ◌∷◌, length, map, reverse, get_or, Some, None, refl, sym, subst, ◌∙◌, arith}
-use Rattle.std.specs.List.{All, list_any, prefix_len, suffix_len}
+use Rattle.std.specs.List.{All, list_any, position_or_len, prefix_len, suffix_len}
 use Rattle.std.proofs.lemmas.List.{length-map, length-reverse, get_or-reverse, get_or_default}
 use Rattle.std.proofs.lemmas.List.Elements.{All-weaker}
 use Rattle.std.proofs.lemmas.List.Folds.{list_any-from_Any, list_any_none}
@@ -14,6 +14,7 @@ use Rattle.part_list.specs.Parts.{flat, place}
 use Rattle.part_list.specs.Finds.{FirstAt, IsBefore, LastAt}
 use Rattle.part_list.specs.SpotLaws.{place-lt, first_some, first_none, last_passes}
 use Rattle.release_rows.specs.Gaps.{IsGapAt}
+use Rattle.release_rows.specs.Keys.{is_missing_in}
 use Rattle.release_rows.specs.Operations.{follows, place_in, row_passes, same_group}
 use Rattle.release_rows.specs.Searches.{Sought, IsSoughtRow, comes_behind, is_alike}
 use Rattle.release_rows.specs.StoredItems.{IsStored, stored_at}
@@ -61,40 +62,69 @@ module _ (s : Sought) (row : Row) (parts : List (List (Spanned Stretch))) (law :
   alike_any : list_any (is_alike s) (flat parts) ≡ list_any (row_passes (same_group s.file row)) (map (stored_at s.file s.text) (flat parts))
   alike_any = any_moved (is_alike s) (row_passes (same_group s.file row)) (stored_at s.file s.text) (flat parts) all_alike
 
-  place_following : (spot : Spot) → FirstAt (Some spot) (comes_behind s) parts → place_in s.file row (map (stored_at s.file s.text) (flat parts)) ≡ place parts spot
-  place_following spot h =
+  place_following : is_missing_in s.file row ≡ false → (spot : Spot) → FirstAt (Some spot) (comes_behind s) parts → place_in s.file row (map (stored_at s.file s.text) (flat parts)) ≡ place parts spot
+  place_following plain spot h =
       let some = sym follow_any ∙ first_some (comes_behind s) parts spot nothing h in
-      rw some (sym (first_moved (comes_behind s) (row_passes (follows s.file row)) (stored_at s.file s.text) (flat parts) all_follow) ∙ h.1)
+      rw (plain, some) (sym (first_moved (comes_behind s) (row_passes (follows s.file row)) (stored_at s.file s.text) (flat parts) all_follow) ∙ h.1)
 
-  pub gap_behind : (spot before : Spot) → FirstAt (Some spot) (comes_behind s) parts → IsBefore (Some before) spot parts → IsGapAt (Behind before) (place_in s.file row (map (stored_at s.file s.text) (flat parts))) parts
-  gap_behind spot before h b = (b.0, b.1 ∙ sym (place_following spot h))
+  pub gap_behind : is_missing_in s.file row ≡ false → (spot before : Spot) → FirstAt (Some spot) (comes_behind s) parts → IsBefore (Some before) spot parts → IsGapAt (Behind before) (place_in s.file row (map (stored_at s.file s.text) (flat parts))) parts
+  gap_behind plain spot before h b = (b.0, b.1 ∙ sym (place_following plain spot h))
 
-  pub gap_front : (spot : Spot) → FirstAt (Some spot) (comes_behind s) parts → IsBefore None spot parts → IsGapAt (Front spot) (place_in s.file row (map (stored_at s.file s.text) (flat parts))) parts
-  gap_front spot h b = (h.0, b, place_following spot h ∙ b)
+  pub gap_front : is_missing_in s.file row ≡ false → (spot : Spot) → FirstAt (Some spot) (comes_behind s) parts → IsBefore None spot parts → IsGapAt (Front spot) (place_in s.file row (map (stored_at s.file s.text) (flat parts))) parts
+  gap_front plain spot h b = (h.0, b, place_following plain spot h ∙ b)
 
-  pub gap_group : (spot : Spot) → FirstAt None (comes_behind s) parts → LastAt (Some spot) (is_alike s) parts → IsGapAt (Behind spot) (place_in s.file row (map (stored_at s.file s.text) (flat parts))) parts
-  gap_group spot none h =
+  pub gap_group : is_missing_in s.file row ≡ false → (spot : Spot) → FirstAt None (comes_behind s) parts → LastAt (Some spot) (is_alike s) parts → IsGapAt (Behind spot) (place_in s.file row (map (stored_at s.file s.text) (flat parts))) parts
+  gap_group plain spot none h =
       let no = sym follow_any ∙ first_none (comes_behind s) parts none in
       let some = sym alike_any ∙ last_some (is_alike s) parts spot nothing h in
       let behind = last_moved (is_alike s) (row_passes (same_group s.file row)) (stored_at s.file s.text) (flat parts) all_alike in
       let long = length-map (flat parts) (stored_at s.file s.text) in
       let ends = h.1 in
-      (h.0, rw (no, some) (omega arith))
+      (h.0, rw (plain, no, some) (omega arith))
 
-  place_last : FirstAt None (comes_behind s) parts → LastAt None (is_alike s) parts → place_in s.file row (map (stored_at s.file s.text) (flat parts)) ≡ length (flat parts)
-  place_last none other =
+  place_last : is_missing_in s.file row ≡ false → FirstAt None (comes_behind s) parts → LastAt None (is_alike s) parts → place_in s.file row (map (stored_at s.file s.text) (flat parts)) ≡ length (flat parts)
+  place_last plain none other =
       let no = sym follow_any ∙ first_none (comes_behind s) parts none in
       let apart = sym alike_any ∙ last_none (is_alike s) (flat parts) other in
-      rw (no, apart) (length-map (flat parts) (stored_at s.file s.text))
+      rw (plain, no, apart) (length-map (flat parts) (stored_at s.file s.text))
 
-  pub gap_end : (spot : Spot) → FirstAt None (comes_behind s) parts → LastAt None (is_alike s) parts → LastAt (Some spot) (λ e. true) parts → IsGapAt (Behind spot) (place_in s.file row (map (stored_at s.file s.text) (flat parts))) parts
-  gap_end spot none other h =
-      let whole = place_last none other in
+  pub gap_end : is_missing_in s.file row ≡ false → (spot : Spot) → FirstAt None (comes_behind s) parts → LastAt None (is_alike s) parts → LastAt (Some spot) (λ e. true) parts → IsGapAt (Behind spot) (place_in s.file row (map (stored_at s.file s.text) (flat parts))) parts
+  gap_end plain spot none other h =
+      let whole = place_last plain none other in
       let all_pass = no_front (reverse (flat parts)) in
       let ends = h.1 in
       (h.0, rw whole (omega arith))
 
-  pub gap_only : FirstAt None (comes_behind s) parts → LastAt None (is_alike s) parts → LastAt None (λ e. true) parts → IsGapAt Only (place_in s.file row (map (stored_at s.file s.text) (flat parts))) parts
-  gap_only none other h =
+  pub gap_only : is_missing_in s.file row ≡ false → FirstAt None (comes_behind s) parts → LastAt None (is_alike s) parts → LastAt None (λ e. true) parts → IsGapAt Only (place_in s.file row (map (stored_at s.file s.text) (flat parts))) parts
+  gap_only plain none other h =
       let empty : length (flat parts) ≡ 0 = sym h ∙ no_front (reverse (flat parts)) in
-      (empty, place_last none other ∙ empty)
+      (empty, place_last plain none other ∙ empty)
+
+  -- ---- a missing row
+
+  pub missing_group : is_missing_in s.file row ≡ true → (spot : Spot) → LastAt (Some spot) (is_alike s) parts → IsGapAt (Behind spot) (place_in s.file row (map (stored_at s.file s.text) (flat parts))) parts
+  missing_group missing spot h =
+      let some = sym alike_any ∙ last_some (is_alike s) parts spot nothing h in
+      let behind = last_moved (is_alike s) (row_passes (same_group s.file row)) (stored_at s.file s.text) (flat parts) all_alike in
+      let long = length-map (flat parts) (stored_at s.file s.text) in
+      let ends = h.1 in
+      (h.0, rw (missing, some) (omega arith))
+
+  place_first : is_missing_in s.file row ≡ true → LastAt None (is_alike s) parts → place_in s.file row (map (stored_at s.file s.text) (flat parts)) ≡ 0
+  place_first missing other =
+      let apart = sym alike_any ∙ last_none (is_alike s) (flat parts) other in
+      rw (missing, apart) refl
+
+  pub missing_front : is_missing_in s.file row ≡ true → (spot : Spot) → LastAt None (is_alike s) parts → FirstAt (Some spot) (λ e. true) parts → IsGapAt (Front spot) (place_in s.file row (map (stored_at s.file s.text) (flat parts))) parts
+  missing_front missing spot other h = (h.0, sym h.1 ∙ at_start (flat parts), place_first missing other)
+    where
+      at_start : {A : Type 0} (xs : List A) → position_or_len (λ x. true) xs ≡ 0
+      at_start [] = refl
+      at_start (x ∷ xs) = refl
+
+  pub missing_only : is_missing_in s.file row ≡ true → LastAt None (is_alike s) parts → FirstAt None (λ e. true) parts → IsGapAt Only (place_in s.file row (map (stored_at s.file s.text) (flat parts))) parts
+  missing_only missing other h = (empty (flat parts) (first_none (λ e. true) parts h), place_first missing other)
+    where
+      empty : (xs : List (Spanned Stretch)) → list_any (λ x. true) xs ≡ false → length xs ≡ 0
+      empty [] e = refl
+      empty (x ∷ xs) e = absurd cc

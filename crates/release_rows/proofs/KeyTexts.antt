@@ -1,12 +1,16 @@
 -- The texts of the names of keys.
-use Rattle.std.proofs.Common.{◌≡◌, ℕ, zero, suc, ◌-◌, ◌<◌, ◌≤◌, Bool, true, false, not, ◌&&◌, ◌||◌, leb, eqb, List, [], ◌∷◌, ◌++◌, take, Result, Ok, Err, refl, ap, ◌∙◌, arith, append_assoc, lit≤, sym}
+use Rattle.std.proofs.Common.{◌≡◌, ℕ, zero, suc, ◌-◌, ◌<◌, ◌≤◌, Bool, true, false, not, ◌&&◌, ◌||◌, leb, eqb, List, [], ◌∷◌, ◌++◌, take, Result, Ok, Err, refl, ap, ◌∙◌, arith, append_assoc, lit≤, sym, inl, inr}
+use Rattle.std.specs.Prelude.{codes}
 use Rattle.std.specs.List.{All, list_all, list_any, slice_split, flat_map, join_with_byte}
 use Rattle.std.specs.Result.{IfOk}
-use Rattle.std.proofs.lemmas.Bool.{and_parts}
+use Rattle.std.proofs.lemmas.Bool.{and_parts, ne_eqb}
 use Rattle.std.proofs.lemmas.List.{append-nil}
-use Rattle.std.proofs.lemmas.List.Elements.{All-nil, All-cons, All-head, All-tail, All-take}
+use Rattle.std.proofs.lemmas.List.Elements.{All-nil, All-cons, All-head, All-tail, All-take, All-weaker}
 use Rattle.std.proofs.lemmas.List.Splits.{slice_split_none, slice_split_at}
 use Rattle.ucd_points.specs.Fields.{field, is_semicolon, is_name, is_name_byte}
+use Rattle.ucd_points.specs.HexText.{hex_text}
+use Rattle.ucd_points.specs.HexTextLaws.{IsUpperHex}
+use Rattle.ucd_points.specs.HexTextProofs.{hex_text_is_upper_case}
 use Rattle.ucd_model.specs.OtherLines.{is_name_or_empty}
 use Rattle.ucd_model.specs.RowValues.{IsAliasName, AliasOk, ValueOk, RowOk}
 use Rattle.ucd_points.specs.declared.files.SourceFile.{SourceFile}
@@ -15,7 +19,7 @@ use Rattle.ucd_model.specs.declared.row.AliasRow.{AliasRow}
 use Rattle.ucd_model.specs.declared.row.CasingRow.{CasingRow}
 use Rattle.ucd_model.specs.declared.row.ValueRow.{ValueRow}
 use Rattle.ucd_model.specs.declared.row.Row.TheVariants.{Value as ValueLine, Casing as CasingLine, Alias as AliasLine}
-use Rattle.source_rows.specs.Keys.{condition_names, alias_count, key_names}
+use Rattle.source_rows.specs.Keys.{condition_names, alias_count, missing_names, key_names}
 use Rattle.release_rows.specs.Names.{first_names}
 use Rattle.release_rows.specs.Places.{names_of}
 
@@ -112,6 +116,19 @@ casing_text CompositionExclusions row ok = absurd ok
 casing_text CaseFolding row ok = absurd ok
 casing_text PropertyAliases row ok = absurd ok
 casing_text PropertyValueAliases row ok = absurd ok
+
+-- the names of a missing row's key
+plain_digits : (c : ℕ) → Plain (hex_text c)
+plain_digits c = All-weaker IsUpperHex (λ b. is_semicolon b ≡ false) plain_digit (hex_text c) (hex_text_is_upper_case c)
+  where
+    plain_digit : (b : ℕ) → IsUpperHex b → is_semicolon b ≡ false
+    plain_digit b (inl low) = ne_eqb b 59 (λ e. omega (arith, low.1, e))
+    plain_digit b (inr high) = ne_eqb b 59 (λ e. omega (arith, high.0, e))
+
+pub missing_text : (c : ℕ) → names_of (codes "@missing;" ++ hex_text c) ≡ missing_names c
+missing_text c =
+    slice_split_at is_semicolon (codes "@missing") 59 (hex_text c) (plain_from (codes "@missing") refl) refl
+    ∙ ap (λ (rest : List (List ℕ)). codes "@missing" ∷ rest) (slice_split_none is_semicolon (hex_text c) (plain_digits c))
 
 -- ---- rows of names
 

@@ -19,6 +19,7 @@ pub mod Unchanged
 pub mod Order
 pub mod Loads
 pub mod Tagging
+pub mod SharedSpans
 pub mod Seeking
 pub mod Skipping
 pub mod Moved

@@ -11,7 +11,8 @@ use Rattle.std.proofs.lemmas.List.Folds.{list_any-append}
 use Rattle.std.proofs.lemmas.Option.{get_or_from_slice_get, slice_get_within}
 use Rattle.ucd_lines.specs.Laws.{IsLine, AreLines, LinesAreUnique}
 use Rattle.ucd_points.specs.Limits.{file_limit}
-use Rattle.ucd_points.specs.Lines.{LineItem, lf, ended_item, ends_in_return, item_bytes, items_of, is_lf, is_trivia, holds_line_feed, joined}
+use Rattle.ucd_points.specs.Lines.{LineItem, lf, ended_item, ends_in_return, item_bytes, items_of, is_lf, holds_line_feed, joined}
+use Rattle.ucd_points.specs.MissingLines.{is_trivia}
 use Rattle.ucd_points.specs.declared.files.SourceFile.{SourceFile}
 use Rattle.ucd_points.specs.declared.files.SourceFile.TheVariants.{UnicodeData}
 use Rattle.ucd_model.specs.declared.row.Row.{Row}
@@ -115,8 +116,8 @@ ends_behind (x ∷ []) [] some = absurd (some refl)
 ends_behind (x ∷ []) (y ∷ ys) some = ends_cons x y ys
 ends_behind (x ∷ z ∷ xs) ys some = ends_cons x z (xs ++ ys) ∙ ends_behind (z ∷ xs) ys some
 
-opens_by : (file : SourceFile) (content : List ℕ) → file ≡ UnicodeData → is_trivia content ≡ false → is_first_line content ≡ true → opens_range file content ≡ true
-opens_by file content same no_trivia begins = rw (same, no_trivia, begins) refl
+opens_by : (file : SourceFile) (content : List ℕ) → file ≡ UnicodeData → is_trivia file content ≡ false → is_first_line content ≡ true → opens_range file content ≡ true
+opens_by file content same no_trivia begins = let here : is_trivia UnicodeData content ≡ false = (rw same at no_trivia) in rw (same, here, begins) refl
 
 two_item : (file : SourceFile) (item : FileItem) (a b : LineItem) → is_read file item → item.lines ≡ 2 → item_bytes a ++ b.content ≡ item.content → b.ending ≡ item.ending → file_item file (two_lines a b) ≡ item
 two_item file item a b read lines content ending = rw (content, ending, read, ← lines) refl

@@ -7,7 +7,7 @@ use Rattle.std.proofs.lemmas.List.Folds.{list_any-append}
 use Rattle.ucd_points.specs.declared.files.SourceFile.{SourceFile}
 use Rattle.ucd_model.specs.declared.row.Row.{Row}
 use Rattle.source_rows.specs.Keys.{row_span, key_names, same_texts}
-use Rattle.release_rows.specs.Keys.{same_key, overlaps, key_rule}
+use Rattle.release_rows.specs.Keys.{own_end, same_key, overlaps, key_rule}
 use Rattle.release_rows.specs.Operations.{overlaps_another}
 use Rattle.release_rows.specs.declared.conflict.Conflict.TheVariants.{K1, K4}
 use Rattle.release_rows.proofs.Texts.{texts_same, texts_itself, both_or_none}
@@ -35,8 +35,8 @@ spans_swap a b c d = grind (arith, nat_tests)
 pub keys_swap : (file : SourceFile) (a b : Row) → same_key file a b ≡ same_key file b a
 keys_swap file a b = rw (texts_swap (key_names file a) (key_names file b), numbers_swap (row_span a).lo (row_span b).lo) refl
 
-overlaps_swap : (file : SourceFile) (a b : Row) → overlaps file a b ≡ overlaps file b a
-overlaps_swap file a b = rw (texts_swap (key_names file a) (key_names file b), spans_swap (row_span a).lo (row_span a).hi (row_span b).lo (row_span b).hi) refl
+pub overlaps_swap : (file : SourceFile) (a b : Row) → overlaps file a b ≡ overlaps file b a
+overlaps_swap file a b = rw (texts_swap (key_names file a) (key_names file b), spans_swap (row_span a).lo (own_end a) (row_span b).lo (own_end b)) refl
 
 clashes_swap : (file : SourceFile) (a b : Row) → clashes file a b ≡ clashes file b a
 clashes_swap file a b = rw (keys_swap file a b, overlaps_swap file a b) refl

@@ -60,7 +60,7 @@ code_apart (Some a) None h = refl
 code_apart None (Some b) h = refl
 code_apart None None h = absurd (let k = h refl in cc)
 
-found_by : (file : SourceFile) (text : List ℕ) (e : Spanned Stretch) (key : Key) (o : Option Row) → ContentsHaveKeys → is_some key.code ≡ has_code file → (item_at file text e.item).row ≡ o → StoredAs file (content_at text e.item) o → HasSpan file o e.code e.last → (eqb (code_number key.code) e.code && has_names file key.names (content_at text e.item)) ≡ row_passes (has_key file key) (stored_at file text e)
+found_by : (file : SourceFile) (text : List ℕ) (e : Spanned Stretch) (key : Key) (o : Option Row) → ContentsHaveKeys → is_some key.code ≡ has_code file → (item_at file text e.item).row ≡ o → StoredAs file (content_at text e.item) o → HasSpan o e.code e.last → (eqb (code_number key.code) e.code && has_names file key.names (content_at text e.item)) ≡ row_passes (has_key file key) (stored_at file text e)
 found_by file text e key None law code is st span = rw (is, st) (and_false (eqb (code_number key.code) e.code))
 found_by file text e key (Some r) law code is st span =
     let answers = law file (content_at text e.item) r st.1 in

@@ -9,8 +9,7 @@ use Rattle.std.proofs.lemmas.Bool.Decides.{nat_tests}
 use Rattle.part_list.specs.Reaches.{IsWithin}
 use Rattle.part_list.specs.declared.reach.Reach.{Reach}
 use Rattle.part_list.specs.declared.spanned.Spanned.{Spanned}
-use Rattle.release_rows.specs.Keys.{has_spans}
-use Rattle.release_rows.specs.Searches.{Sought, comes_behind, has_names, is_alike, meets_another, starts_alike}
+use Rattle.release_rows.specs.Searches.{Sought, comes_behind, forbids, has_names, is_alike, meets_another, starts_alike}
 use Rattle.release_rows.specs.StoredItems.{content_at}
 use Rattle.release_rows.specs.Tags.{falls_short, misses_tag, tag_fits, tag_rises, tells_group, tells_key, tells_order}
 use Rattle.release_rows.specs.declared.stretch.Stretch.{Stretch}
@@ -65,18 +64,18 @@ no_meeting false code names a b h = refl
 no_names : (spans code meets names : Bool) → names ≡ false → (spans && (code && (meets && names))) ≡ false
 no_names spans code meets names h = second_fails spans _ (second_fails code _ (second_fails meets names h))
 
-pub another_skips : (s : Sought) (reach : Reach) → (((not (has_spans s.file) || ltb s.last reach.least) || ltb reach.most s.code) || misses_tag (tells_key s.file) s.tag reach) ≡ true → (e : Spanned Stretch) → IsWithin reach e → meets_another s e ≡ false
+pub another_skips : (s : Sought) (reach : Reach) → (((not (forbids s) || ltb s.last reach.least) || ltb reach.most s.code) || misses_tag (tells_key s.file) s.tag reach) ≡ true → (e : Spanned Stretch) → IsWithin reach e → meets_another s e ≡ false
 another_skips s reach h e w =
     let least = w.least in
     let last = w.last in
     let names = tag_fits (tells_key s.file) s.tag e.tag && has_names s.file s.names (content_at s.text e.item) in
-    elim (or_cases ((not (has_spans s.file) || ltb s.last reach.least) || ltb reach.most s.code) (misses_tag (tells_key s.file) s.tag reach) h) [
-      | inr tags ↦ no_names (has_spans s.file) (not (eqb s.code e.code)) (leb s.code e.last && leb e.code s.last) names (both_fail (tag_fits (tells_key s.file) s.tag e.tag) _ (other_tag (tells_key s.file) s.tag reach tags e w))
-      | inl points ↦ elim (or_cases (not (has_spans s.file) || ltb s.last reach.least) (ltb reach.most s.code) points) [
-        | inr above ↦ no_meeting (has_spans s.file) (not (eqb s.code e.code)) names (leb s.code e.last) (leb e.code s.last) (both_fail (leb s.code e.last) (leb e.code s.last) (lt-leb s.code e.last (omega (arith, ltb-true reach.most s.code above))))
-        | inl more ↦ elim (or_cases (not (has_spans s.file)) (ltb s.last reach.least) more) [
-          | inl none ↦ both_fail (has_spans s.file) _ (is_false (has_spans s.file) none)
-          | inr below ↦ no_meeting (has_spans s.file) (not (eqb s.code e.code)) names (leb s.code e.last) (leb e.code s.last) (second_fails (leb s.code e.last) (leb e.code s.last) (lt-leb e.code s.last (omega (arith, ltb-true s.last reach.least below))))
+    elim (or_cases ((not (forbids s) || ltb s.last reach.least) || ltb reach.most s.code) (misses_tag (tells_key s.file) s.tag reach) h) [
+      | inr tags ↦ no_names (forbids s) (not (eqb s.code e.code)) (leb s.code e.last && leb e.code s.last) names (both_fail (tag_fits (tells_key s.file) s.tag e.tag) _ (other_tag (tells_key s.file) s.tag reach tags e w))
+      | inl points ↦ elim (or_cases (not (forbids s) || ltb s.last reach.least) (ltb reach.most s.code) points) [
+        | inr above ↦ no_meeting (forbids s) (not (eqb s.code e.code)) names (leb s.code e.last) (leb e.code s.last) (both_fail (leb s.code e.last) (leb e.code s.last) (lt-leb s.code e.last (omega (arith, ltb-true reach.most s.code above))))
+        | inl more ↦ elim (or_cases (not (forbids s)) (ltb s.last reach.least) more) [
+          | inl none ↦ both_fail (forbids s) _ (is_false (forbids s) none)
+          | inr below ↦ no_meeting (forbids s) (not (eqb s.code e.code)) names (leb s.code e.last) (leb e.code s.last) (second_fails (leb s.code e.last) (leb e.code s.last) (lt-leb e.code s.last (omega (arith, ltb-true s.last reach.least below))))
         ]
       ]
     ]

@@ -46,14 +46,14 @@ item_length : (file : SourceFile) (text : List ℕ) (s : Stretch) → s.start + 
 item_length file text s fits = length-append (content_at text s) (ending_bytes (ending_of s.ending)) ∙ ap (λ (n : ℕ). n + length (ending_bytes (ending_of s.ending))) (length_content text s fits)
 
 -- one more item behind those that are loaded
-pub loads : (file : SourceFile) (text : List ℕ) (old all : PartLists (Spanned Stretch)) (e : Spanned Stretch) (s : Stretch) (kept kept' : List Extent) (start : Option ℕ) (count end : ℕ) (entry : Option Entry) → IsLoading file text old kept start count end → e.item ≡ s → now_in all ≡ now_in old ++ e ∷ [] → next_in all ≡ next_in old ++ e ∷ [] → IsItem file text s → HasSpan file (item_at file text s).row e.code e.last → e.tag ≡ content_tag file (content_at text s) → EntersSome file entry (item_at file text s).row → ((p : Extent → Bool) → list_any p kept' ≡ (list_any p (entry_extents entry) || list_any p kept)) → IsLoading file text all kept' (start_of_entry start entry) (count + s.lines) (end + (s.len + length (ending_bytes (ending_of s.ending))))
+pub loads : (file : SourceFile) (text : List ℕ) (old all : PartLists (Spanned Stretch)) (e : Spanned Stretch) (s : Stretch) (kept kept' : List Extent) (start : Option ℕ) (count end : ℕ) (entry : Option Entry) → IsLoading file text old kept start count end → e.item ≡ s → now_in all ≡ now_in old ++ e ∷ [] → next_in all ≡ next_in old ++ e ∷ [] → IsItem file text s → HasSpan (item_at file text s).row e.code e.last → e.tag ≡ content_tag file (content_at text s) → EntersSome file entry (item_at file text s).row → ((p : Extent → Bool) → list_any p kept' ≡ (list_any p (entry_extents entry) || list_any p kept)) → IsLoading file text all kept' (start_of_entry start entry) (count + s.lines) (end + (s.len + length (ending_bytes (ending_of s.ending))))
 loads file text old all e s kept kept' start count end entry h is now next item span tag enters more =
     let items = map (stored_at file text) (now_in old) in
     let new = item_at file text s in
     let by : Stretch → FileItem = λ x. item_at file text x in
     let pushed : map (stored_at file text) (now_in all) ≡ items ++ new ∷ [] =
     ap (map (stored_at file text)) now ∙ map-append (stored_at file text) (now_in old) (e ∷ []) ∙ ap (λ (i : FileItem). items ++ i ∷ []) (ap by is) in
-    let S : Stretch → Type 0 = λ x. IsItem file text x × HasSpan file (item_at file text x).row e.code e.last × (e.tag ≡ content_tag file (content_at text x)) in
+    let S : Stretch → Type 0 = λ x. IsItem file text x × HasSpan (item_at file text x).row e.code e.last × (e.tag ≡ content_tag file (content_at text x)) in
     let stands : S e.item = subst S (sym is) (item, span, tag) in
     let stored : IsStored file text e = record { item = stands.0; span = stands.1; tag = stands.2 } in
     let count_old = h.few in

@@ -46,11 +46,7 @@ range_lines bytes front last is h k = rw (is, with_feed front last, one_feed fro
 lines_are : (file : SourceFile) (bytes : List ℕ) (row : Row) → Reads file bytes row → cond (holds_line_feed bytes) 2 1 ≡ count_by is_lf bytes + 1
 lines_are file bytes row (inl one) = rw (one.0, no_feeds bytes one.0) refl
 lines_are UnicodeData bytes (DataLine row) (inr two) = range_lines bytes two.front two.last two.lines two.one_line two.other_line
-lines_are UnicodeData bytes (ValueLine row) (inr two) = absurd two
-lines_are UnicodeData bytes (ExclusionLine row) (inr two) = absurd two
-lines_are UnicodeData bytes (FoldLine row) (inr two) = absurd two
-lines_are UnicodeData bytes (CasingLine row) (inr two) = absurd two
-lines_are UnicodeData bytes (AliasLine row) (inr two) = absurd two
+lines_are UnicodeData bytes _ (inr two) = absurd two
 lines_are PropList bytes row (inr two) = absurd two
 lines_are Scripts bytes row (inr two) = absurd two
 lines_are WordBreakProperty bytes row (inr two) = absurd two

@@ -235,13 +235,13 @@ names_same (x ∷ a) (y ∷ b) h =
 -- a row that has the names has the tag
 pub key_fits : (file : SourceFile) (a b : ℕ) (names : List (List ℕ)) (c : List ℕ) → (tells_key file ≡ true → a ≡ key_tag file names) → HasTag file b (content_names file c) (content_group file c) → has_names file names c ≡ true → tag_fits (tells_key file) a b ≡ true
 key_fits file a b names c sought stored h =
-    let same = names_same names (content_names file c) (and_parts (is_row c) (is_eq (names_cmp names (content_names file c))) h).1 in
+    let same = names_same names (content_names file c) (and_parts (is_row file c) (is_eq (names_cmp names (content_names file c))) h).1 in
     fits_by (tells_key file) a b (λ told. sought told ∙ ap (key_tag file) same ∙ sym (stored.by_key told))
 
 -- so has a row of the group
 pub group_fits : (file : SourceFile) (a b : ℕ) (names : List (List ℕ)) (group c : List ℕ) → HasTag file a names group → HasTag file b (content_names file c) (content_group file c) → is_of_group file group c ≡ true → tag_fits (tells_group file) a b ≡ true
 group_fits file a b names group c sought stored h =
-    let same = same_text group (content_group file c) (and_parts (is_row c) (bytes_eq group (content_group file c)) h).1 in
+    let same = same_text group (content_group file c) (and_parts (is_row file c) (bytes_eq group (content_group file c)) h).1 in
     fits_by (tells_group file) a b (λ told. sought.by_group told ∙ ap (λ (x : List ℕ). number (end_of x)) same ∙ sym (stored.by_group told))
 
 -- ---- and in order
@@ -287,5 +287,5 @@ rises PropertyValueAliases x y a b names others group s e h =
 pub order_rises : (file : SourceFile) (x y a b : ℕ) (names : List (List ℕ)) (group c : List ℕ) → HasTag file a names group → HasTag file b (content_names file c) (content_group file c) → (is_of_group file group c && is_lt (ordering_then (nat_cmp x y) (names_cmp names (content_names file c)))) ≡ true → tag_rises (tells_order file) x y a b ≡ true
 order_rises file x y a b names group c s e h =
     let both = and_parts (is_of_group file group c) (is_lt (ordering_then (nat_cmp x y) (names_cmp names (content_names file c)))) h in
-    let same = same_text group (content_group file c) (and_parts (is_row c) (bytes_eq group (content_group file c)) both.0).1 in
+    let same = same_text group (content_group file c) (and_parts (is_row file c) (bytes_eq group (content_group file c)) both.0).1 in
     rises file x y a b names (content_names file c) group s (subst (λ (g : List ℕ). HasTag file b (content_names file c) g) (sym same) e) both.1

@@ -1,16 +1,18 @@
 -- Items that are gone over one by one.
-use Rattle.std.proofs.Common.{◌≡◌, ℕ, ◌+◌, true, List, ◌∷◌, ◌++◌, length, map, ap, subst, ◌∙◌, append_assoc, arith}
+use Rattle.std.proofs.Common.{◌≡◌, ℕ, ◌+◌, true, false, List, ◌∷◌, ◌++◌, length, map, Option, Some, None, refl, sym, ap, subst, ◌∙◌, append_assoc, arith}
 use Rattle.std.specs.List.{All}
+use Rattle.std.proofs.lemmas.Bool.{true≢false}
 use Rattle.std.proofs.lemmas.List.Elements.{All-head, All-rest}
-use Rattle.ucd_points.specs.Lines.{is_trivia}
+use Rattle.ucd_points.specs.MissingLines.{is_trivia}
 use Rattle.ucd_points.specs.declared.files.SourceFile.{SourceFile}
 use Rattle.ucd_model.specs.declared.row.Row.{Row}
 use Rattle.part_list.specs.declared.spanned.Spanned.{Spanned}
 use Rattle.release_rows.specs.FileItems.{bytes_of, file_item_bytes}
-use Rattle.release_rows.specs.Releases.{numbered_rows}
-use Rattle.release_rows.specs.StoredItems.{content_at, stored_at, IsStored}
+use Rattle.release_rows.specs.Releases.{numbered_rows, onto_numbered}
+use Rattle.release_rows.specs.StoredItems.{content_at, item_at, read_as, stored_at, IsStored}
 use Rattle.release_rows.specs.Walking.{IsWalk}
 use Rattle.release_rows.specs.declared.stretch.Stretch.{Stretch}
+use Rattle.release_rows.proofs.Seeking.{StoredAs, stored_as}
 
 pub first_of : {A : Type 0} (P : A → Type 0) (items : List A) (e : A) (rest : List A) → items ≡ e ∷ rest → All P items → P e
 first_of P items e rest split all = All-head P e rest (subst (All P) split all)
@@ -24,11 +26,23 @@ walks_on file text items e rest line split walk =
     record { each = All-rest (IsStored file text) e rest items split walk.each; fits = omega arith }
 
 -- behind trivia stand the same rows
-pub rows_behind : (file : SourceFile) (text : List ℕ) (items : List (Spanned Stretch)) (e : Spanned Stretch) (rest : List (Spanned Stretch)) (line : ℕ) (whole : List (ℕ × Row)) → items ≡ e ∷ rest → is_trivia (content_at text e.item) ≡ true → numbered_rows line (map (stored_at file text) items) ≡ whole → numbered_rows (line + e.item.lines) (map (stored_at file text) rest) ≡ whole
+pub rows_behind : (file : SourceFile) (text : List ℕ) (items : List (Spanned Stretch)) (e : Spanned Stretch) (rest : List (Spanned Stretch)) (line : ℕ) (whole : List (ℕ × Row)) → items ≡ e ∷ rest → is_trivia file (content_at text e.item) ≡ true → numbered_rows line (map (stored_at file text) items) ≡ whole → numbered_rows (line + e.item.lines) (map (stored_at file text) rest) ≡ whole
 rows_behind file text items e rest line whole split trivia h =
     let P : List (Spanned Stretch) → Type 0 = λ xs. numbered_rows line (map (stored_at file text) xs) ≡ whole in
     let first = subst P split h in
     rw trivia at first
+
+-- what is no trivia is a row
+row_is : (file : SourceFile) (content : List ℕ) (row : Option Row) → StoredAs file content row → is_trivia file content ≡ false → row ≡ Some (read_as file content)
+row_is file content None stored some = absurd (true≢false (sym stored ∙ some))
+row_is file content (Some row) stored some = rw stored.1 refl
+
+-- a row stands in front of those behind it
+pub row_first : (file : SourceFile) (text : List ℕ) (items : List (Spanned Stretch)) (e : Spanned Stretch) (rest : List (Spanned Stretch)) (line : ℕ) (whole : List (ℕ × Row)) → items ≡ e ∷ rest → All (IsStored file text) items → is_trivia file (content_at text e.item) ≡ false → numbered_rows line (map (stored_at file text) items) ≡ whole → whole ≡ (line, read_as file (content_at text e.item)) ∷ numbered_rows (line + e.item.lines) (map (stored_at file text) rest)
+row_first file text items e rest line whole split each some h =
+    let P : List (Spanned Stretch) → Type 0 = λ xs. numbered_rows line (map (stored_at file text) xs) ≡ whole in
+    let stored = stored_as file text e (first_of (IsStored file text) items e rest split each) in
+    sym (subst P split h) ∙ ap (λ (row : Option Row). onto_numbered line row (numbered_rows (line + e.item.lines) (map (stored_at file text) rest))) (row_is file (content_at text e.item) (item_at file text e.item).row stored some)
 
 -- one more item is put behind those so far
 pub put_behind : (file : SourceFile) (text : List ℕ) (items : List (Spanned Stretch)) (e : Spanned Stretch) (rest : List (Spanned Stretch)) (old new whole : List ℕ) → items ≡ e ∷ rest → new ≡ old ++ file_item_bytes (stored_at file text e) → old ++ bytes_of (map (stored_at file text) items) ≡ whole → new ++ bytes_of (map (stored_at file text) rest) ≡ whole

@@ -2,8 +2,8 @@
 -- the row gives.
 --
 -- IsFree result place rule     the place is handed back where there is no rule, else the result is the rule
--- IsEntry file row e           e has the names of the row's key, its first code point, the last one that may not be shared, and what
---                              is kept of what the row gives
+-- IsEntry file row e           e has the names of the row's key, its first code point, the last one that may not be shared, the last one
+--                              of all, and what is kept of what the row gives
 -- EntersAs file result row     the result is what is kept of the row, or the fault; want of memory says nothing
 -- EntersSome file o row        o is what is kept of the row, where there is one; None where there is none
 use Rattle.std.specs.Prelude.{◌≡◌, ◌≤◌, Option, Some, None, Result, Ok, Err}
@@ -29,6 +29,7 @@ pub record IsEntry (file : SourceFile) (row : Row) (e : Entry) : Type 0 where
   pub code : e.place.code ≡ (row_span row).lo
   pub last : e.last ≡ row_end file row
   pub ordered : e.place.code ≤ e.last
+  pub reach : e.reach ≡ (row_span row).hi
   pub brief : e.brief ≡ brief_of (Some row)
 
 abbrev pub EntersAs : SourceFile → Result Entry RowStop → Result Row RowFault → Type 0

@@ -30,3 +30,5 @@ pub mod TouchingProofs
 pub mod Unchanged
 pub mod Laws
 pub mod FileLemmas
+pub mod ValuesApart
+pub mod ValuesApartProofs

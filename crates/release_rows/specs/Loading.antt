@@ -26,7 +26,8 @@
 -- load_or_fault file bytes           the same; bytes above the limit have G02, on line 0
 use Rattle.std.specs.Prelude.{ℕ, ◌+◌, Bool, true, false, ◌&&◌, List, [], ◌∷◌, ◌++◌, map, length, Option, Some, None, Result, Ok, Err, is_some, nat_lt, if◌then◌else◌}
 use Rattle.ucd_points.specs.Limits.{file_limit}
-use Rattle.ucd_points.specs.Lines.{is_trivia, items_of}
+use Rattle.ucd_points.specs.Lines.{items_of}
+use Rattle.ucd_points.specs.MissingLines.{is_trivia}
 use Rattle.ucd_points.specs.declared.files.SourceFile.{SourceFile}
 use Rattle.ucd_model.specs.declared.row.Row.{Row}
 use Rattle.source_rows.specs.Faults.{row_or_fault}
@@ -51,7 +52,7 @@ some_row (Ok row) = Ok (Some row)
 some_row (Err fault) = Err fault
 
 abbrev pub content_row : SourceFile → List ℕ → Result (Option Row) RowFault
-content_row file content = if is_trivia content then Ok None else some_row (row_or_fault file content)
+content_row file content = if is_trivia file content then Ok None else some_row (row_or_fault file content)
 
 abbrev pub row_read : Result (Option Row) RowFault → Option Row
 row_read (Ok row) = row

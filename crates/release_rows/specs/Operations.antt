@@ -6,8 +6,10 @@
 -- overlaps_another file row other   the other row has another key, and the row overlaps it
 -- same_group file row other    the rows are of one group: what the rows of a group share is the same
 -- follows file row other       the other row is of the row's group and has a greater key
+-- behind_group file row items none   how many items stand up to the last row of the row's group; where its group has no row, none
 -- place_in file row items      how many items stand before an added row: those before the first row that follows it; if none
---                              follows, those up to the last row of its group; if its group has no row, all
+--                              follows, those up to the last row of its group; if its group has no row, all. Before a missing
+--                              row, whose group are the missing rows: those up to the last of these; if there is none, no item
 -- or_line_feed ending          LF where there is no line end, else the line end
 -- with_end item                the item, with a LF where it has no line end
 -- ended items                  the same of the last item
@@ -41,7 +43,7 @@ use Rattle.source_rows.specs.Keys.{row_span, key_of, equal_keys, is_before}
 use Rattle.source_rows.specs.KeyNames.{group_of}
 use Rattle.source_rows.specs.declared.key.Key.{Key}
 use Rattle.release_rows.specs.FileItems.{FileItem}
-use Rattle.release_rows.specs.Keys.{same_key, overlaps}
+use Rattle.release_rows.specs.Keys.{is_missing_in, same_key, overlaps}
 use Rattle.release_rows.specs.Releases.{items_at, with_items}
 use Rattle.release_rows.specs.declared.key_rule.KeyRule.{KeyRule}
 use Rattle.release_rows.specs.declared.key_rule.KeyRule.TheVariants.{K1, K2, K4}
@@ -76,11 +78,15 @@ same_group file row other = bytes_eq (group_of file row) (group_of file other)
 abbrev pub follows : SourceFile → Row → Row → Bool
 follows file row other = same_group file row other && is_before (key_of file row) (key_of file other)
 
+abbrev pub behind_group : SourceFile → Row → List FileItem → ℕ → ℕ
+behind_group file row items none =
+    if holds_row (same_group file row) items then length items - suffix_len (λ item. not (row_passes (same_group file row) item)) items else none
+
 abbrev pub place_in : SourceFile → Row → List FileItem → ℕ
 place_in file row items =
-    if holds_row (follows file row) items
-    then position_or_len (row_passes (follows file row)) items
-    else (if holds_row (same_group file row) items then length items - suffix_len (λ item. not (row_passes (same_group file row) item)) items else length items)
+    if is_missing_in file row
+    then behind_group file row items 0
+    else (if holds_row (follows file row) items then position_or_len (row_passes (follows file row)) items else behind_group file row items (length items))
 
 -- ---- an item that is put in, changed or taken out
 

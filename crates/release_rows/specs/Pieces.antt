@@ -13,7 +13,8 @@
 -- lines_by                   piece_lines, by the second line, where there is one
 -- piece_bytes p              its content and the bytes of its ending
 use Rattle.std.specs.Prelude.{ℕ, Bool, false, ◌&&◌, not, List, [], ◌∷◌, ◌++◌, Option, Some, None, if◌then◌else◌}
-use Rattle.ucd_points.specs.Lines.{LineItem, LineEnding, item_bytes, ending_bytes, is_trivia}
+use Rattle.ucd_points.specs.Lines.{LineItem, LineEnding, item_bytes, ending_bytes}
+use Rattle.ucd_points.specs.MissingLines.{is_trivia}
 use Rattle.ucd_points.specs.declared.files.SourceFile.{SourceFile}
 use Rattle.ucd_points.specs.declared.files.SourceFile.TheVariants.{UnicodeData}
 use Rattle.source_rows.specs.Lines.{is_first_line}
@@ -23,7 +24,7 @@ pub record Lines : Type 0 where
   pub last : Option LineItem
 
 abbrev pub opens_range : SourceFile → List ℕ → Bool
-opens_range UnicodeData content = not (is_trivia content) && is_first_line content
+opens_range UnicodeData content = not (is_trivia UnicodeData content) && is_first_line content
 opens_range _ content = false
 
 abbrev pub one_line : LineItem → Lines

@@ -5,7 +5,7 @@
 -- item_at file text s       the item that stands there: the row is read from the content
 -- IsItem file text s        the stretch lies within the text, has one line or two, and its content is trivia or reads as a row; what
 --                           is kept of what the row gives is that of the row
--- HasSpan file row code last   they are the first code point of the row and the last one that no other row may have; nothing of
+-- HasSpan row code last      they are the first and the last code point of the row; nothing of
 --                           trivia
 -- stored_at file text e     the item of an entry
 -- IsStored file text e      the entry's stretch is an item, and the entry has the code points of its row and the tag of its content
@@ -18,13 +18,14 @@
 -- HasRow file content e      the content reads as a row, and the entry has its code points and what is kept of what it gives
 -- IsBriefOf b file row first   the row has one code point, and this is kept of what it gives
 -- IsRowText file content b first   the content reads as a row, and what is kept, if anything is, is kept of a row of one code point
--- ShowsValue value row      the value is that of a row of a span and a value; None of other rows
+-- ShowsValue value row      the value is that of a row of a span and a value; None of other rows, missing rows among them
+-- ShowsMissing value row    the value is that of a missing row; None of other rows
 use Rattle.std.specs.Prelude.{◌≡◌, ◌≢◌, ℕ, ◌+◌, ◌<◌, ◌≤◌, ◌^◌, List, map, length, take, drop, Option, Some, None, Result, Ok, Err}
 use Rattle.std.specs.List.{All}
 use Rattle.std.specs.Option.{option_map}
 use Rattle.ucd_points.specs.declared.files.SourceFile.{SourceFile}
 use Rattle.ucd_model.specs.declared.row.Row.{Row}
-use Rattle.ucd_model.specs.declared.row.Row.TheVariants.{Value as ValueLine, Exclusion as ExclusionLine}
+use Rattle.ucd_model.specs.declared.row.Row.TheVariants.{Value as ValueLine, Exclusion as ExclusionLine, Missing as MissingLine}
 use Rattle.ucd_lines.specs.Items.{item_of, ending_of}
 use Rattle.source_rows.specs.Faults.{row_or_fault}
 use Rattle.source_rows.specs.RowRefs.{value_in}
@@ -34,7 +35,6 @@ use Rattle.part_list.specs.Parts.{PartLists, now_in, next_in}
 use Rattle.part_list.specs.declared.spanned.Spanned.{Spanned}
 use Rattle.source_rows.specs.Keys.{row_span}
 use Rattle.release_rows.specs.Briefs.{brief_of, no_brief}
-use Rattle.release_rows.specs.Keys.{row_end}
 use Rattle.release_rows.specs.Pieces.{Lines}
 use Rattle.release_rows.specs.FileItems.{FileItem, bytes_of}
 use Rattle.release_rows.specs.Loading.{content_row, row_read}
@@ -59,16 +59,16 @@ pub record IsItem (file : SourceFile) (text : List ℕ) (s : Stretch) : Type 0 w
   pub is_read : content_row file (content_at text s) ≡ Ok (row_read (content_row file (content_at text s)))
   pub brief : s.brief ≡ brief_of (row_read (content_row file (content_at text s)))
 
-abbrev pub HasSpan : SourceFile → Option Row → ℕ → ℕ → Type 0
-HasSpan file None code last = Unit {0}
-HasSpan file (Some row) code last = (code ≡ (row_span row).lo) × (last ≡ row_end file row)
+abbrev pub HasSpan : Option Row → ℕ → ℕ → Type 0
+HasSpan None code last = Unit {0}
+HasSpan (Some row) code last = (code ≡ (row_span row).lo) × (last ≡ (row_span row).hi)
 
 abbrev pub stored_at : SourceFile → List ℕ → Spanned Stretch → FileItem
 stored_at file text e = item_at file text e.item
 
 pub record IsStored (file : SourceFile) (text : List ℕ) (e : Spanned Stretch) : Type 0 where
   pub item : IsItem file text e.item
-  pub span : HasSpan file (item_at file text e.item).row e.code e.last
+  pub span : HasSpan (item_at file text e.item).row e.code e.last
   pub tag : e.tag ≡ content_tag file (content_at text e.item)
 
 abbrev pub IsWhole : SourceFile → List ℕ → List (Spanned Stretch) → Type 0
@@ -95,10 +95,10 @@ read_as file content = row_or_none (row_or_fault file content)
 pub record HasRow (file : SourceFile) (content : List ℕ) (e : Spanned Stretch) : Type 0 where
   pub read : row_or_fault file content ≡ Ok (read_as file content)
   pub brief : e.item.brief ≡ brief_of (Some (read_as file content))
-  pub span : HasSpan file (Some (read_as file content)) e.code e.last
+  pub span : HasSpan (Some (read_as file content)) e.code e.last
 
 abbrev pub IsBriefOf : Brief → SourceFile → Row → ℕ → Type 0
-IsBriefOf b file row first = (b ≡ brief_of (Some row)) × HasSpan file (Some row) first first
+IsBriefOf b file row first = (b ≡ brief_of (Some row)) × HasSpan (Some row) first first
 
 pub record IsRowText (file : SourceFile) (content : List ℕ) (b : Brief) (first : ℕ) : Type 0 where
   pub read : row_or_fault file content ≡ Ok (read_as file content)
@@ -109,3 +109,9 @@ ShowsValue (Some v) (ValueLine row) = row ≡ value_in v
 ShowsValue None (ValueLine row) = ⊥
 ShowsValue (Some v) _ = ⊥
 ShowsValue None _ = Unit {0}
+
+abbrev pub ShowsMissing : Option ValueText → Row → Type 0
+ShowsMissing (Some v) (MissingLine row) = row ≡ value_in v
+ShowsMissing None (MissingLine row) = ⊥
+ShowsMissing (Some v) _ = ⊥
+ShowsMissing None _ = Unit {0}

@@ -1,11 +1,12 @@
 //! Edits of the entries of a file, next.
 
-ghost use Rattle.std.specs.Prelude.{◌≡◌, ℕ, ◌+◌, List, length, map, OnOk, OnErr};
+ghost use Rattle.std.specs.Prelude.{◌≡◌, ℕ, ◌+◌, true, false, List, length, map, OnOk, OnErr};
 ghost use Rattle.std.specs.List.{All};
 ghost use Rattle.ucd_points.specs.declared.files.SourceFile.{SourceFile as FileValue};
 ghost use Rattle.ucd_model.specs.declared.row.Row.{Row as RowValue};
 ghost use Rattle.part_list.specs.Parts.{next_in, now_in};
 ghost use Rattle.release_rows.specs.Gaps.{IsGapAt};
+ghost use Rattle.release_rows.specs.Keys.{is_missing_in};
 ghost use Rattle.release_rows.specs.Operations.{place_in, put_in, with_end};
 ghost use Rattle.release_rows.specs.Searches.{IsSoughtRow};
 ghost use Rattle.release_rows.specs.StoredItems.{stored_at, IsStored};
@@ -28,11 +29,11 @@ pub enum Gap {
     Only,
 }
 
-/// Where a row that is added has its place: before the first one of its group that has a greater key; if none has, behind
-/// the last one of its group; if there is none, behind all.
-pub fn gap_for(items: &PartList<Stretch>, search: &Search<'_>) -> Gap
+/// Where a row other than a missing row has its place: before the first one of its group that has a greater key; if none
+/// has, behind the last one of its group; if there is none, behind all.
+fn ordinary_gap(items: &PartList<Stretch>, search: &Search<'_>) -> Gap
     requires each { All (IsStored search.now.file search.now.text) (next_in items.now) }
-    ensures { (row : RowValue) → IsSoughtRow search.now.file row search.now.text search.now → IsGapAt result (place_in search.now.file row (map (stored_at search.now.file search.now.text) (next_in items.now))) items.now.next }
+    ensures { (row : RowValue) → IsSoughtRow search.now.file row search.now.text search.now → is_missing_in search.now.file row ≡ false → IsGapAt result (place_in search.now.file row (map (stored_at search.now.file search.now.text) (next_in items.now))) items.now.next }
 {
     contents_have_keys();
     if let Some(spot) = items.first(&search.with(Test::Follows)) {
@@ -47,6 +48,33 @@ pub fn gap_for(items: &PartList<Stretch>, search: &Search<'_>) -> Gap
     match items.last(&search.with(Test::Any)) {
         Some(spot) => Gap::Behind(spot),
         None => Gap::Only,
+    }
+}
+
+/// Where a missing row has its place: behind the last missing row; if there is none, before all.
+fn missing_gap(items: &PartList<Stretch>, search: &Search<'_>) -> Gap
+    requires each { All (IsStored search.now.file search.now.text) (next_in items.now) }
+    ensures { (row : RowValue) → IsSoughtRow search.now.file row search.now.text search.now → is_missing_in search.now.file row ≡ true → IsGapAt result (place_in search.now.file row (map (stored_at search.now.file search.now.text) (next_in items.now))) items.now.next }
+{
+    contents_have_keys();
+    if let Some(spot) = items.last(&search.with(Test::SameGroup)) {
+        return Gap::Behind(spot);
+    }
+    match items.first(&search.with(Test::Any)) {
+        Some(spot) => Gap::Front(spot),
+        None => Gap::Only,
+    }
+}
+
+/// Where a row that is added has its place.
+pub fn gap_for(items: &PartList<Stretch>, search: &Search<'_>) -> Gap
+    requires each { All (IsStored search.now.file search.now.text) (next_in items.now) }
+    ensures { (row : RowValue) → IsSoughtRow search.now.file row search.now.text search.now → IsGapAt result (place_in search.now.file row (map (stored_at search.now.file search.now.text) (next_in items.now))) items.now.next }
+{
+    if search.is_missing() {
+        missing_gap(items, search)
+    } else {
+        ordinary_gap(items, search)
     }
 }
 

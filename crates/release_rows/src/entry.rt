@@ -3,13 +3,15 @@
 use crate::brief::Brief;
 use crate::place::Place;
 
-/// The key of a row, the last code point that no other row may have, and what is kept of what the row gives.
+/// The key of a row, its last code points, and what is kept of what the row gives.
 #[derive(Debug, Drop)]
 pub struct Entry {
     /// The key.
     pub place: Place,
-    /// The last code point, not less than the first.
+    /// The last code point that no other row may have, not less than the first.
     pub last: u32,
+    /// The last code point that the row speaks of.
+    pub reach: u32,
     /// What is kept of what the row gives.
     pub brief: Brief,
 }

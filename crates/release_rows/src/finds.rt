@@ -7,6 +7,7 @@ ghost use Rattle.source_rows.specs.Faults.{row_or_fault};
 ghost use Rattle.source_rows.specs.Keys.{key_of};
 ghost use Rattle.part_list.specs.Parts.{next_in};
 ghost use Rattle.release_rows.specs.Finding.{FindsGap, FindsRow, FindsSpot, items_of};
+ghost use Rattle.release_rows.specs.Keys.{is_missing_row};
 ghost use Rattle.release_rows.specs.Operations.{has_key};
 ghost use Rattle.release_rows.specs.Searches.{IsSoughtRow};
 ghost use Rattle.release_rows.specs.StoredItems.{IsStored};
@@ -21,6 +22,13 @@ use crate::tag::{content_tag, key_tag};
 use part_list::{PartList, Spot};
 use source_rows::{Key, content_group, contents_have_keys};
 use ucd_model::{Row, SourceFile};
+
+/// Whether a row is a missing row.
+fn is_missing(row: &Row) -> bool
+    ensures { result ≡ is_missing_row row.now }
+{
+    matches!(row, Row::Missing(_))
+}
 
 /// What is looked for of an operation's row, with its key and the bytes that it is read from.
 pub fn search_row<'a>(
@@ -44,6 +52,7 @@ pub fn search_row<'a>(
         names: key.names.as_slice(),
         group: content_group(file, bytes),
         tag: content_tag(file, bytes),
+        missing: is_missing(row),
     }
 }
 
@@ -110,6 +119,7 @@ pub fn withdrawn_spot(
         names,
         group: &[],
         tag: key_tag(file, names),
+        missing: false,
     };
     match items.first(&search) {
         Some(spot) => Ok(spot),

@@ -1,8 +1,9 @@
 //! Laws of loaded files.
 
-ghost use Rattle.release_rows.specs.OperationLaws.{OperationsKeepCuts, OperationsKeepOrder, OperationsKeepRows, RowsStay};
+ghost use Rattle.release_rows.specs.OperationLaws.{MissingRowsOverlapNothing, OperationsKeepCuts, OperationsKeepOrder, OperationsKeepRows, RowsStay};
 ghost use Rattle.release_rows.specs.Touching.{RowsMeet};
 ghost use Rattle.release_rows.specs.Unchanged.{EverythingElseStays};
+ghost use Rattle.release_rows.specs.ValuesApart.{ValuesAreApart};
 ghost use Rattle.release_rows.specs.Laws.{FaultsAreFirst, LoadsExactly, BytesAreKept, LoadedFilesAreSound, ReloadsTheSame};
 
 use source_rows::{rows_are_no_trivia, rows_have_lines};
@@ -66,6 +67,11 @@ pub fn operations_keep_cuts()
     rows_are_no_trivia();
 }
 
+/// A missing row overlaps no row of another key, nor does such a row overlap it.
+pub fn missing_rows_overlap_nothing()
+    ensures { MissingRowsOverlapNothing }
+{}
+
 /// A code point outside of what an operation touches has the same rows that speak of it, in the same order.
 pub fn rows_stay()
     ensures { RowsStay }
@@ -81,4 +87,10 @@ pub fn rows_meet()
 /// and each other file keeps its items.
 pub fn everything_else_stays()
     ensures { EverythingElseStays }
+{}
+
+/// No code point is covered by two of the rows that are kept of Scripts.txt, and none by two of WordBreakProperty.txt; by
+/// missing rows it may be.
+pub fn values_are_apart()
+    ensures { ValuesAreApart }
 {}

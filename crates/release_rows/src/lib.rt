@@ -40,8 +40,8 @@ mod touching;
 pub use key_rule::KeyRule;
 pub use laws::{
     bytes_are_kept, everything_else_stays, faults_are_first, loaded_files_are_sound, loads_exactly,
-    operations_keep_cuts, operations_keep_order, operations_keep_rows, reloads_the_same, rows_meet,
-    rows_stay,
+    missing_rows_overlap_nothing, operations_keep_cuts, operations_keep_order,
+    operations_keep_rows, reloads_the_same, rows_meet, rows_stay, values_are_apart,
 };
 pub use load_stop::{LoadRule, LoadStop};
 pub use operation::{Op, OpStop, Ops};

@@ -75,10 +75,10 @@ pub fn spanned(
 ) -> Spanned<Stretch>
     ensures item { result.item ≡ stretch }
     ensures tag { result.tag ≡ tag }
-    ensures span { (file : FileValue) (row : Option RowValue) → EntersSome file entry.now row → HasSpan file row result.code result.last }
+    ensures span { (file : FileValue) (row : Option RowValue) → EntersSome file entry.now row → HasSpan row result.code result.last }
 {
     let (code, last) = match entry {
-        Some(entry) => (entry.place.code, entry.last),
+        Some(entry) => (entry.place.code, entry.reach),
         None => (before.unwrap_or(0), before.unwrap_or(0)),
     };
     Spanned {
@@ -152,7 +152,12 @@ impl<'a> Loading<'a> {
         requires ordered { entry.place.code ≤ entry.last }
         ensures { (row : RowValue) → IsEntry self.now.file row entry → IsFreeOf result entry (row_rule self.now.file (rows_in (items_above self.now)) row) }
     {
-        let Entry { place, last, brief } = entry;
+        let Entry {
+            place,
+            last,
+            reach,
+            brief,
+        } = entry;
         let place = match self.keys.checked_place(place, last) {
             Ok(place) => place,
             Err(Conflict::K1) => return Err(LoadRule::K1),
@@ -161,7 +166,12 @@ impl<'a> Loading<'a> {
         if is_back(self.file, self.before, place.code) {
             return Err(LoadRule::K5);
         }
-        Ok(Entry { place, last, brief })
+        Ok(Entry {
+            place,
+            last,
+            reach,
+            brief,
+        })
     }
 
     /// The same of a row that may not be there.

@@ -44,6 +44,7 @@ fn span_of(row: &Row) -> Option<Span>
         Row::Fold(row) => Some(Span::one(row.code)),
         Row::Casing(row) => Some(Span::one(row.code)),
         Row::Alias(_) => None,
+        Row::Missing(row) => Some(row.span),
     }
 }
 

@@ -28,7 +28,7 @@ fn opens_range(file: SourceFile, content: &[u8]) -> bool
     ensures { result ≡ opens_range file content.now }
 {
     match file {
-        SourceFile::UnicodeData => begins_range(content) && !is_trivia(content),
+        SourceFile::UnicodeData => begins_range(content) && !is_trivia(file, content),
         _ => false,
     }
 }

@@ -29,17 +29,18 @@ fn row_points(row: &RowRef<'_>) -> (u32, u32)
         RowRef::Fold(text) => (text.code.number(), text.code.number()),
         RowRef::Casing(text) => (text.code.number(), text.code.number()),
         RowRef::Alias(_) => (0, 0),
+        RowRef::Missing(text) => (text.span.first(), text.span.last()),
     }
 }
 
-/// The first code point of a row, and the last one that no other row may have.
+/// The first code point of a row, and the last one that no other row may have: of a missing row the first.
 fn row_extent(file: SourceFile, row: &RowRef<'_>) -> (u32, u32)
     ensures first { result.0 ≡ (row_span (row_in row.now)).lo }
     ensures last { result.1 ≡ row_end file (row_in row.now) }
     ensures ordered { result.0 ≤ result.1 }
 {
     let (first, last) = row_points(row);
-    if has_spans(file) {
+    if has_spans(file) && !matches!(row, RowRef::Missing(_)) {
         (first, last)
     } else {
         (first, first)
@@ -52,11 +53,13 @@ fn entry_of(alloc: Global, file: SourceFile, row: RowRef<'_>) -> Result<Entry, R
     ensures { EntersAs file result (Ok (row_in row.entry)) }
 {
     let (code, last) = row_extent(file, &row);
+    let (_, reach) = row_points(&row);
     let brief = Brief::of_row_ref(&row);
     let names = key_text(alloc, file, row)?;
     Ok(Entry {
         place: Place { names, code },
         last,
+        reach,
         brief,
     })
 }
@@ -84,6 +87,7 @@ fn data_entry(alloc: Global, content: &[u8]) -> Result<Entry, RowStop>
             code: given.span.first(),
         },
         last: given.span.last(),
+        reach: given.span.last(),
         brief: Brief::of_values(&given.values),
     })
 }

@@ -56,7 +56,7 @@ pub fn read_piece(
     requires content { content.now ≡ piece_content (piece_of piece) }
     ensures { ReadsPiece file line (piece_of piece.entry) result }
 {
-    if is_trivia(content) {
+    if is_trivia(file, content) {
         return Ok(None);
     }
     match read_entry(alloc, file, content) {

@@ -67,7 +67,7 @@ impl<'a> Iterator for Rows<'a> {
             let line = self.line;
             let content = content_in(self.text, item);
             self.line += u64::from(item.lines);
-            if !is_trivia(content) {
+            if !is_trivia(self.file, content) {
                 return Some((line, RowText::new(self.file, content, &entry)));
             }
         }

@@ -3,16 +3,16 @@
 ghost use Rattle.std.specs.Prelude.{◌≡◌, ◌≤◌, true, IfOk};
 ghost use Rattle.ucd_points.specs.Fields.{is_name};
 ghost use Rattle.ucd_model.specs.RowValues.{RowOk};
-ghost use Rattle.source_rows.specs.Keys.{row_span, alias_count, key_names, value_names};
-ghost use Rattle.release_rows.specs.Keys.{row_end, has_spans};
+ghost use Rattle.source_rows.specs.Keys.{row_span, alias_count, key_names, missing_names, value_names};
+ghost use Rattle.release_rows.specs.Keys.{own_end, row_end, has_spans};
 ghost use Rattle.source_rows.specs.RowRefs.{row_in};
 ghost use Rattle.release_rows.specs.Names.{first_names};
 ghost use Rattle.release_rows.specs.Places.{names_of};
 
 use source_rows::{Conditions, RowRef};
 use std::alloc::{AllocError, Global};
-use ucd_lines::Fields;
-use ucd_model::{Memory, Row, SourceFile};
+use ucd_lines::{Fields, put_hex};
+use ucd_model::{Memory, Point, Row, SourceFile, Text};
 
 /// The first code point of a row. A row of names has none, which 0 stands for.
 pub fn row_start(row: &Row) -> u32
@@ -25,11 +25,12 @@ pub fn row_start(row: &Row) -> u32
         Row::Fold(row) => row.code.number(),
         Row::Casing(row) => row.code.number(),
         Row::Alias(_) => 0,
+        Row::Missing(row) => row.span.first(),
     }
 }
 
 /// The last code point of a row.
-fn row_last(row: &Row) -> u32
+pub fn row_last(row: &Row) -> u32
     ensures last { result ≡ (row_span row.now).hi }
     ensures ordered { (row_span row.now).lo ≤ result }
 {
@@ -40,6 +41,18 @@ fn row_last(row: &Row) -> u32
         Row::Fold(row) => row.code.number(),
         Row::Casing(row) => row.code.number(),
         Row::Alias(_) => 0,
+        Row::Missing(row) => row.span.last(),
+    }
+}
+
+/// The last code point of a row that is its own: a missing row shares its span, and has its first code point alone.
+fn own_end(row: &Row) -> u32
+    ensures end { result ≡ own_end row.now }
+    ensures ordered { (row_span row.now).lo ≤ result }
+{
+    match row {
+        Row::Missing(row) => row.span.first(),
+        _ => row_last(row),
     }
 }
 
@@ -57,13 +70,13 @@ pub fn has_spans(file: SourceFile) -> bool
     }
 }
 
-/// The last code point that no other row may have: of a row whose span may not overlap the span's end, else the first.
+/// The last code point that no other row may have: of a row whose span may not overlap its own last one, else the first.
 pub fn row_end(file: SourceFile, row: &Row) -> u32
     ensures end { result ≡ row_end file row.now }
     ensures ordered { (row_span row.now).lo ≤ result }
 {
     if has_spans(file) {
-        row_last(row)
+        own_end(row)
     } else {
         row_start(row)
     }
@@ -113,8 +126,20 @@ pub fn key_text(alloc: Global, file: SourceFile, row: RowRef<'_>) -> Result<Vec<
         RowRef::Fold(text) => Ok(Vec::from_slice(alloc, &[text.status.letter()])?),
         RowRef::Casing(text) => conditions_text(alloc, text.conditions),
         RowRef::Alias(names) => Ok(first_names(alloc, names, alias_count(file))?),
+        RowRef::Missing(text) => missing_text(alloc, text.span.hi),
         RowRef::Unit(_) | RowRef::Exclusion(_) => Ok(Vec::new(alloc)),
     }
+}
+
+/// The names in the key of a missing row whose span ends with this code point, with `;` between them.
+fn missing_text(alloc: Global, last: Point) -> Result<Vec<u8>, Memory>
+    ensures { IfOk result (λ text. names_of text.items ≡ missing_names last) }
+{
+    let mut digits = Text::new(alloc);
+    put_hex(last, &mut digits)?;
+    let mut text = Vec::from_slice(alloc, b"@missing;")?;
+    text.extend_from_slice(digits.as_slice())?;
+    Ok(text)
 }
 
 /// The bytes of conditions.

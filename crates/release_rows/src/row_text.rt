@@ -4,7 +4,7 @@ ghost use Rattle.std.specs.Prelude.{◌≡◌, Some, IfOk, IsTrue};
 ghost use Rattle.std.specs.Option.{IfSome};
 ghost use Rattle.source_rows.specs.RowRefs.{row_in};
 ghost use Rattle.release_rows.specs.Given.{ShowsGiven};
-ghost use Rattle.release_rows.specs.StoredItems.{HasRow, ShowsValue, read_as};
+ghost use Rattle.release_rows.specs.StoredItems.{HasRow, ShowsMissing, ShowsValue, read_as};
 
 use crate::brief::Brief;
 use crate::stretch::Stretch;
@@ -115,12 +115,23 @@ impl<'a> RowText<'a> {
     }
 
     /// The code points and the value of a row of PropList.txt, Scripts.txt or WordBreakProperty.txt, as they stand there;
-    /// `None` of the rows of the other files.
+    /// `None` of missing rows, and of the rows of the other files.
     pub fn value(&self) -> Option<ValueText<'a>>
         ensures { ShowsValue result self.now }
     {
         match self.row() {
             RowRef::Value(text) => Some(text),
+            _ => None,
+        }
+    }
+
+    /// The code points and the value of a missing row of Scripts.txt or WordBreakProperty.txt, as they stand there; `None` of
+    /// every other row.
+    pub fn missing(&self) -> Option<ValueText<'a>>
+        ensures { ShowsMissing result self.now }
+    {
+        match self.row() {
+            RowRef::Missing(text) => Some(text),
             _ => None,
         }
     }

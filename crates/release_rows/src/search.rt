@@ -1,7 +1,8 @@
 //! Looks for rows among the entries of a file.
 
-ghost use Rattle.std.specs.Prelude.{◌≡◌};
-ghost use Rattle.release_rows.specs.Searches.{comes_behind, has_names, is_alike, meets_another, starts_alike, with_test};
+ghost use Rattle.std.specs.Prelude.{◌≡◌, ◌&&◌};
+ghost use Rattle.ucd_points.specs.MissingLines.{takes_missing};
+ghost use Rattle.release_rows.specs.Searches.{comes_behind, forbids, has_names, is_alike, meets_another, starts_alike, with_test};
 ghost use Rattle.release_rows.specs.Tags.{falls_short, misses_tag, tag_fits, tag_rises, tells_order};
 
 use crate::row_key::has_spans;
@@ -10,7 +11,7 @@ use crate::tag::{tells_group, tells_key, tells_order};
 use part_list::{Reach, Seek, Spanned};
 use source_rows::{compare_names, content_group};
 use std::marker::Model;
-use ucd_lines::is_trivia;
+use ucd_lines::{is_trivia, takes_missing};
 use ucd_model::{SourceFile, Text};
 
 /// What an entry is tested for.
@@ -68,6 +69,8 @@ pub struct Search<'a> {
     pub group: &'a [u8],
     /// The tag, as far as the key or the group tells it.
     pub tag: u32,
+    /// Whether it is a missing row.
+    pub missing: bool,
 }
 
 impl<'a> Model for Search<'a> {
@@ -75,7 +78,7 @@ impl<'a> Model for Search<'a> {
 
     ghost Value = { Sought };
 
-    ghost view = { λ s. record { test = s.test; file = s.file; text = s.text.now; code = s.code; last = s.last; names = s.names.now; group = s.group.now; tag = s.tag } };
+    ghost view = { λ s. record { test = s.test; file = s.file; text = s.text.now; code = s.code; last = s.last; names = s.names.now; group = s.group.now; tag = s.tag; missing = s.missing } };
 }
 
 impl<'a> Search<'a> {
@@ -92,6 +95,7 @@ impl<'a> Search<'a> {
             names: self.names,
             group: self.group,
             tag: self.tag,
+            missing: self.missing,
         }
     }
 
@@ -99,7 +103,7 @@ impl<'a> Search<'a> {
     fn has_names(&self, content: &[u8]) -> bool
         ensures { result ≡ has_names self.now.file self.now.names content.now }
     {
-        !is_trivia(content) && compare_names(self.file, self.names, content).is_eq()
+        !is_trivia(self.file, content) && compare_names(self.file, self.names, content).is_eq()
     }
 
     /// Whether the entry has the key that is looked for.
@@ -111,11 +115,25 @@ impl<'a> Search<'a> {
             && self.has_names(content_in(self.text, entry.item))
     }
 
+    /// Whether it is a missing row, in a file that has such rows.
+    pub fn is_missing(&self) -> bool
+        ensures { result ≡ (takes_missing self.now.file && self.now.missing) }
+    {
+        takes_missing(self.file) && self.missing
+    }
+
+    /// Whether no other row may have the code points that are looked for. A missing row shares its span.
+    fn forbids(&self) -> bool
+        ensures { result ≡ forbids self.now }
+    {
+        has_spans(self.file) && !self.missing
+    }
+
     /// Whether the entry has another key, and overlaps what is looked for where the file forbids it.
     fn meets_another(&self, entry: &Spanned<Stretch>) -> bool
         ensures { result ≡ meets_another self.now entry.now }
     {
-        has_spans(self.file)
+        self.forbids()
             && self.code != entry.code
             && self.code <= entry.last
             && entry.code <= self.last
@@ -131,7 +149,7 @@ impl<'a> Search<'a> {
             return false;
         }
         let content = content_in(self.text, entry.item);
-        !is_trivia(content) && self.group == content_group(self.file, content)
+        !is_trivia(self.file, content) && self.group == content_group(self.file, content)
     }
 
     /// Whether the tag of the entry leaves open that it has a greater key.
@@ -178,7 +196,7 @@ impl<'a> Seek<Stretch> for Search<'a> {
                     || misses_tag(tells_key(self.file), tag, reach)
             }
             Test::OverlapsAnother => {
-                !has_spans(self.file)
+                !self.forbids()
                     || self.last < reach.least
                     || reach.most < self.code
                     || misses_tag(tells_key(self.file), tag, reach)

@@ -8,7 +8,7 @@ ghost use Rattle.release_rows.specs.Operations.{item_of_row};
 ghost use Rattle.release_rows.specs.StoredItems.{stored_at, IsStored};
 
 use crate::brief::Brief;
-use crate::row_key::{row_end, row_start};
+use crate::row_key::{row_last, row_start};
 use crate::stretch::Stretch;
 use crate::tag::content_tag;
 use part_list::Spanned;
@@ -67,7 +67,7 @@ pub fn store_row(
     };
     Ok(Spanned {
         code: row_start(row),
-        last: row_end(file, row),
+        last: row_last(row),
         tag: content_tag(file, bytes),
         item,
     })

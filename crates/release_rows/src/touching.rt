@@ -31,7 +31,7 @@ fn put_row<'a>(
     ensures { OnOk result (rows.new.items ≡ rows.old.items ++ onto_rows (stored_at file text.now entry.now).row []) }
 {
     let content = content_in(text, entry.item);
-    if is_trivia(content) {
+    if is_trivia(file, content) {
         return Ok(());
     }
     rows.push(RowText::new(file, content, entry))?;

@@ -12,7 +12,7 @@ use ucd_model::{Memory, SourceFile, Text};
 
 /// An operation, as a script writes it.
 #[derive(Clone, Copy)]
-enum Edit<'a> {
+pub enum Edit<'a> {
     /// The row of these bytes is added.
     Add(&'a [u8]),
     /// The row of these bytes takes the place of the one that has its key.
@@ -44,7 +44,7 @@ fn op_of(alloc: Global, file: SourceFile, edit: &Edit<'_>) -> Result<Op, RowStop
 }
 
 /// An edit, and what it is answered.
-type Case<'a> = (Edit<'a>, Result<(), OpStop>);
+pub type Case<'a> = (Edit<'a>, Result<(), OpStop>);
 
 /// Whether an edit of a file is answered so. A call lets the operation go: its many parts would else fill this function's
 /// proof.
@@ -85,7 +85,7 @@ fn are_answered(
 }
 
 /// Whether edits of a file are answered so, one after the other, and leave these bytes once they are committed.
-fn leaves(
+pub fn leaves(
     alloc: Global,
     file: SourceFile,
     bytes: &[u8],

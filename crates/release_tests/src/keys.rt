@@ -5,7 +5,7 @@ use std::alloc::Global;
 use ucd_model::{Point, SourceFile, Text};
 
 /// Whether a text is a key with this code point and these names.
-fn is_key(
+pub fn is_key(
     alloc: Global,
     file: SourceFile,
     text: &[u8],
@@ -31,7 +31,7 @@ fn are_names(found: &[Text], names: &[&[u8]]) -> bool {
 }
 
 /// The rule that a text breaks.
-fn key_fault(alloc: Global, file: SourceFile, text: &[u8]) -> Option<RowFault> {
+pub fn key_fault(alloc: Global, file: SourceFile, text: &[u8]) -> Option<RowFault> {
     match read_key(alloc, file, text) {
         Err(RowStop::Fault(fault)) => Some(fault),
         _ => None,

@@ -10,6 +10,8 @@ mod files;
 #[cfg(test)]
 mod keys;
 #[cfg(test)]
+mod missing_rows;
+#[cfg(test)]
 mod row_lines;
 #[cfg(test)]
 mod rows;

@@ -8,7 +8,7 @@ use std::test::Fail;
 use ucd_model::{Point, Row, SourceFile, Text};
 
 /// Whether the row of a line is written so, or why the line has none.
-fn is_written(
+pub fn is_written(
     alloc: Global,
     file: SourceFile,
     bytes: &[u8],
@@ -28,7 +28,7 @@ fn has_text(alloc: Global, file: SourceFile, row: &Row, expected: &[u8]) -> bool
 }
 
 /// Whether a line has this fault, or none.
-fn has_fault(alloc: Global, file: SourceFile, bytes: &[u8], fault: Option<RowFault>) -> bool {
+pub fn has_fault(alloc: Global, file: SourceFile, bytes: &[u8], fault: Option<RowFault>) -> bool {
     match is_written(alloc, file, bytes, b"") {
         Ok(_) => fault.is_none(),
         Err(stop) => is_stop(&stop, fault),

@@ -16,4 +16,5 @@ returns c =
       names = c.as_slice.ensures ∙ ap (λ (k : Key). k.names) c.requires.key;
       group = c.content_group.ensures ∙ sym law.group;
       tag = rw (c.content_tag.ensures, law.names, law.group) (tag_of c.args.file c.args.bytes.now);
+      missing = c.is_missing.ensures;
     }

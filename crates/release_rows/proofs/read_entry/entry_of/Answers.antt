@@ -6,5 +6,6 @@ returns c = record {
   code = c.row_extent-code.ensures.first;
   last = c.row_extent-code.ensures.last;
   ordered = c.row_extent-code.ensures.ordered;
+  reach = c.row_points-reach.ensures.last;
   brief = c.of_row_ref-brief.ensures;
 }

@@ -37,5 +37,5 @@ returns c = λ row is.
     let told = rule_told l.file row above l.keys c.args.entry.place c.args.entry.last c.requires.sound.rows.keys is.names is.code is.last in
     let free = c.in-Ok.ensures in
     let back = back_is l.file row above l.before c.in-Ok.place.code false (sym c.if-is_back.false ∙ c.is_back.ensures) c.requires.sound.rows.before (ap (λ (p : Place). p.code) free.0 ∙ is.code) in
-    let same : Place → Entry = λ p. record { place = p; last = c.args.entry.last; brief = c.args.entry.brief } in
+    let same : Place → Entry = λ p. record { place = p; last = c.args.entry.last; reach = c.args.entry.reach; brief = c.args.entry.brief } in
     (ap same free.0, sym (back_from l.file row above false (sym free.1 ∙ told) back))

@@ -6,7 +6,7 @@ use Rattle.ucd_points.specs.declared.files.SourceFile.{SourceFile}
 use Rattle.ucd_points.specs.declared.files.SourceFile.TheVariants.{UnicodeData, PropList, Scripts, WordBreakProperty, CompositionExclusions, CaseFolding, SpecialCasing, PropertyAliases, PropertyValueAliases}
 use Rattle.ucd_model.specs.declared.row.DataRow.{DataRow}
 use Rattle.ucd_model.specs.declared.row.Row.{Row}
-use Rattle.ucd_model.specs.declared.row.Row.TheVariants.{Unit as DataLine, Value as ValueLine, Exclusion as ExclusionLine, Fold as FoldLine, Casing as CasingLine, Alias as AliasLine}
+use Rattle.ucd_model.specs.declared.row.Row.TheVariants.{Unit as DataLine, Value as ValueLine, Exclusion as ExclusionLine, Fold as FoldLine, Casing as CasingLine, Alias as AliasLine, Missing as MissingLine}
 use Rattle.source_rows.specs.PointValues.{Gives}
 use Rattle.source_rows.specs.declared.point_values.PointValues.{PointValues}
 use Rattle.release_rows.specs.Briefs.{brief_of, no_brief}
@@ -19,7 +19,7 @@ span_is : (s : Bounds) (a : ℕ) → a ≡ s.lo → a ≡ s.hi → s ≡ record 
 span_is s a lo hi = sym (ap (λ (n : ℕ). record { lo = n; hi = a }) lo ∙ ap (λ (n : ℕ). record { lo = s.lo; hi = n }) hi)
 
 -- the span of a row of one code point
-one_point : (file : SourceFile) (row : DataRow) (first : ℕ) → RowOk file (DataLine row) → HasSpan file (Some (DataLine row)) first first → row.span ≡ record { lo = first; hi = first }
+one_point : (file : SourceFile) (row : DataRow) (first : ℕ) → RowOk file (DataLine row) → HasSpan (Some (DataLine row)) first first → row.span ≡ record { lo = first; hi = first }
 one_point UnicodeData row first ok has = span_is row.span first has.0 has.1
 one_point PropList row first ok has = absurd ok
 one_point Scripts row first ok has = absurd ok
@@ -38,6 +38,7 @@ kept_by given file (ExclusionLine row) b first some gives kept ok = absurd (some
 kept_by given file (FoldLine row) b first some gives kept ok = absurd (some kept.0)
 kept_by given file (CasingLine row) b first some gives kept ok = absurd (some kept.0)
 kept_by given file (AliasLine row) b first some gives kept ok = absurd (some kept.0)
+kept_by given file (MissingLine row) b first some gives kept ok = absurd (some kept.0)
 
 if_kept : (r : Option PointValues) (file : SourceFile) (row : Row) (b : Brief) (first : ℕ) → IfSome r (λ given. b ≢ no_brief) → IfSome r (λ given. (d : DataRow) → b ≡ brief_of (Some (DataLine d)) → d.span ≡ record { lo = first; hi = first } → Gives given d) → (b ≢ no_brief → IsBriefOf b file row first) → RowOk file row → IfSome r (λ given. ShowsGiven (Some given) row)
 if_kept None file row b first some gives kept ok = tt

@@ -3,7 +3,7 @@ use Rattle.ucd_model.specs.RowValues.{RowOk}
 use Rattle.ucd_points.specs.declared.files.SourceFile.{SourceFile}
 use Rattle.ucd_points.specs.declared.files.SourceFile.TheVariants.{UnicodeData, PropList, Scripts, WordBreakProperty, CompositionExclusions, CaseFolding, SpecialCasing, PropertyAliases, PropertyValueAliases}
 use Rattle.ucd_model.specs.declared.row.Row.{Row}
-use Rattle.ucd_model.specs.declared.row.Row.TheVariants.{Unit as DataLine, Value as ValueLine, Exclusion as ExclusionLine, Fold as FoldLine, Casing as CasingLine, Alias as AliasLine}
+use Rattle.ucd_model.specs.declared.row.Row.TheVariants.{Unit as DataLine, Value as ValueLine, Exclusion as ExclusionLine, Fold as FoldLine, Casing as CasingLine, Alias as AliasLine, Missing as MissingLine}
 use Rattle.release_rows.specs.Given.{ShowsGiven}
 use Rattle.release_rows.specs.StoredItems.{read_as}
 use Rattle.release_rows.proofs.row_text.RowText.point_values.Goals as goal
@@ -15,6 +15,7 @@ no_given file (ExclusionLine row) a ok = tt
 no_given file (FoldLine row) a ok = tt
 no_given file (CasingLine row) a ok = tt
 no_given file (AliasLine row) a ok = tt
+no_given file (MissingLine row) a ok = tt
 no_given UnicodeData (DataLine row) a ok = absurd (a refl)
 no_given PropList (DataLine row) a ok = absurd ok
 no_given Scripts (DataLine row) a ok = absurd ok

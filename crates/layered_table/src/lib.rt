@@ -1,0 +1,8 @@
+//! Words for spans of code points, one layer over another: the last layer that covers a code point counts.
+#![tactic(auto)]
+
+mod cutting;
+mod painting;
+
+pub use cutting::pieces;
+pub use painting::{Layer, layered};

@@ -3,21 +3,24 @@
 -- known            a name that has a number is there
 -- shown            a row of a span and a value is the one that it shows
 -- numbered_more    one row more, with a name that is there or goes last
-use Rattle.std.proofs.Common.{◌≡◌, ℕ, zero, suc, Bool, true, false, if◌then◌else◌, ◌||◌, List, [], ◌∷◌, ◌++◌, Option, Some, None, refl, sym, ap, arith}
+-- numbered_still   no row more, but such a name
+-- on_ok_then       what follows where a call answers
+use Rattle.std.proofs.Common.{◌≡◌, ℕ, zero, suc, Bool, true, false, if◌then◌else◌, ◌||◌, List, [], ◌∷◌, ◌++◌, Option, Some, None, Result, Ok, Err, OnOk, refl, sym, ap, subst, arith}
 use Rattle.std.specs.Prelude.{slice_get}
 use Rattle.std.specs.List.{list_any}
 use Rattle.std.specs.Str.{bytes_eq}
+use Rattle.std.proofs.lemmas.List.{append-nil}
 use Rattle.std.proofs.lemmas.Option.{slice_get_within}
 use Rattle.std.proofs.lemmas.Slice.Eq.{bytes_eq-Decides}
 use Rattle.indexmap.proofs.SetLemmas.{AllZip-push}
-use Rattle.release_rows.specs.StoredItems.{ShowsValue}
+use Rattle.release_rows.specs.StoredItems.{ShowsMissing, ShowsValue}
 use Rattle.source_rows.specs.RowRefs.{value_in}
 use Rattle.source_rows.specs.declared.values.ValueText.{ValueText}
 use Rattle.ucd_model.specs.declared.row.Row.{Row}
-use Rattle.ucd_model.specs.declared.row.Row.TheVariants.{Unit as DataLine, Value as ValueLine, Exclusion as ExclusionLine, Fold as FoldLine, Casing as CasingLine, Alias as AliasLine}
+use Rattle.ucd_model.specs.declared.row.Row.TheVariants.{Unit as DataLine, Value as ValueLine, Exclusion as ExclusionLine, Fold as FoldLine, Casing as CasingLine, Alias as AliasLine, Missing as MissingLine}
 use Rattle.ucd_model.specs.declared.row.ValueRow.{ValueRow}
 use Rattle.property_aliases.specs.Numbers.{AreNumbered, IsNumbered}
-use Rattle.property_aliases.specs.Sources.{add_name, value_row_of}
+use Rattle.property_aliases.specs.Sources.{add_name, missing_row_of, value_row_of, valued_row_of}
 use Rattle.property_aliases.specs.declared.file_values.NumberedRow.{NumberedRow}
 
 -- ---- names
@@ -62,8 +65,57 @@ shown (ExclusionLine row) text e = absurd e
 shown (FoldLine row) text e = absurd e
 shown (CasingLine row) text e = absurd e
 shown (AliasLine row) text e = absurd e
+shown (MissingLine row) text e = absurd e
 
-all_stay : (names : List (List ℕ)) (name : List ℕ) (rs : List NumberedRow) (rows : List ValueRow) → AreNumbered names rs rows → AreNumbered (add_name names name) rs rows
+-- of such a row nothing is missing
+pub shown_plain : (row : Row) (text : ValueText) → ShowsValue (Some text) row → missing_row_of row ≡ []
+shown_plain (ValueLine row) text e = refl
+shown_plain (DataLine row) text e = absurd e
+shown_plain (ExclusionLine row) text e = absurd e
+shown_plain (FoldLine row) text e = absurd e
+shown_plain (CasingLine row) text e = absurd e
+shown_plain (AliasLine row) text e = absurd e
+shown_plain (MissingLine row) text e = absurd e
+
+pub not_shown : (row : Row) → ShowsValue None row → value_row_of row ≡ []
+not_shown (ValueLine row) e = absurd e
+not_shown (DataLine row) e = refl
+not_shown (ExclusionLine row) e = refl
+not_shown (FoldLine row) e = refl
+not_shown (CasingLine row) e = refl
+not_shown (AliasLine row) e = refl
+not_shown (MissingLine row) e = refl
+
+pub shown_missing : (row : Row) (text : ValueText) → ShowsMissing (Some text) row → missing_row_of row ≡ value_in text ∷ []
+shown_missing (MissingLine row) text e = ap (λ r. r ∷ []) e
+shown_missing (ValueLine row) text e = absurd e
+shown_missing (DataLine row) text e = absurd e
+shown_missing (ExclusionLine row) text e = absurd e
+shown_missing (FoldLine row) text e = absurd e
+shown_missing (CasingLine row) text e = absurd e
+shown_missing (AliasLine row) text e = absurd e
+
+pub not_missing : (row : Row) → ShowsMissing None row → missing_row_of row ≡ []
+not_missing (MissingLine row) e = absurd e
+not_missing (ValueLine row) e = refl
+not_missing (DataLine row) e = refl
+not_missing (ExclusionLine row) e = refl
+not_missing (FoldLine row) e = refl
+not_missing (CasingLine row) e = refl
+not_missing (AliasLine row) e = refl
+
+-- both kinds of rows with a value
+pub valued_is : (row : Row) → valued_row_of row ≡ value_row_of row ++ missing_row_of row
+valued_is (ValueLine row) = refl
+valued_is (DataLine row) = refl
+valued_is (ExclusionLine row) = refl
+valued_is (FoldLine row) = refl
+valued_is (CasingLine row) = refl
+valued_is (AliasLine row) = refl
+valued_is (MissingLine row) = refl
+
+-- rows keep their numbers with one name more
+pub all_stay : (names : List (List ℕ)) (name : List ℕ) (rs : List NumberedRow) (rows : List ValueRow) → AreNumbered names rs rows → AreNumbered (add_name names name) rs rows
 all_stay names name [] [] h = h
 all_stay names name [] (row ∷ rows) h = absurd h
 all_stay names name (r ∷ rs) [] h = absurd h
@@ -72,3 +124,14 @@ all_stay names name (r ∷ rs) (row ∷ rows) h = (record { number = stays names
 pub numbered_more : (names : List (List ℕ)) (rs : List NumberedRow) (above : List ValueRow) (r : NumberedRow) (row : ValueRow) → AreNumbered names rs above → IsNumbered (add_name names row.value) r row
     → AreNumbered (add_name names row.value) (rs ++ r ∷ []) (above ++ row ∷ [])
 numbered_more names rs above r row h is = AllZip-push (IsNumbered (add_name names row.value)) rs above r row (all_stay names row.value rs above h) is
+
+pub numbered_still : (names : List (List ℕ)) (name : List ℕ) (rs : List NumberedRow) (above more : List ValueRow) → more ≡ [] → AreNumbered names rs above → AreNumbered (add_name names name) rs (above ++ more)
+numbered_still names name rs above more none h =
+    subst (λ (rows : List ValueRow). AreNumbered (add_name names name) rs (above ++ rows)) (sym none)
+    (subst (AreNumbered (add_name names name) rs) (sym (append-nil above)) (all_stay names name rs above h))
+
+-- ---- answers
+
+pub on_ok_then : {T E P Q : Type 0} (r : Result T E) → OnOk r P → (P → Q) → OnOk r Q
+on_ok_then (Ok x) h f = f h
+on_ok_then (Err e) h f = h

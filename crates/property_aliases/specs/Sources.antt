@@ -6,8 +6,11 @@
 -- value_row_of row      a row of PropList.txt, Scripts.txt or WordBreakProperty.txt, as the one item of a list; no item for
 --                       other rows
 -- alias_rows rows       the rows of an alias file, each as its list of names
--- value_rows rows       the rows of a span and a value, in order
--- value_names rows      their values
+-- missing_row_of row    a missing row of Scripts.txt or WordBreakProperty.txt, as the one item of a list; no item for other rows
+-- valued_row_of row     either of both
+-- value_rows rows       the rows of a span and a value that are no missing rows, in order
+-- missing_rows rows     the missing rows, in order
+-- value_names rows      the values of both, in the order of the file
 -- numbered d rows       the values of rows by their numbers: d is number 0, the others follow in order of first appearance
 -- script_names rows     the scripts by their numbers; break_names: the word breaks; listed_names: the names of PropList.txt, of
 --                       which the first is number 0
@@ -21,7 +24,7 @@ use Rattle.std.specs.Str.{bytes_eq}
 use Rattle.ucd_model.specs.Values.{default_script, default_word_break}
 use Rattle.ucd_points.specs.declared.files.SourceFile.TheVariants.{PropList, Scripts, WordBreakProperty, PropertyAliases, PropertyValueAliases}
 use Rattle.ucd_model.specs.declared.row.Row.{Row}
-use Rattle.ucd_model.specs.declared.row.Row.TheVariants.{Value as ValueLine, Alias as AliasLine}
+use Rattle.ucd_model.specs.declared.row.Row.TheVariants.{Value as ValueLine, Alias as AliasLine, Missing as MissingLine}
 use Rattle.ucd_model.specs.declared.row.ValueRow.{ValueRow}
 use Rattle.release_rows.specs.Releases.{ReleaseItems, rows_now}
 
@@ -39,14 +42,29 @@ abbrev pub value_row_of : Row → List ValueRow
 value_row_of (ValueLine row) = row ∷ []
 value_row_of _ = []
 
+abbrev pub missing_row_of : Row → List ValueRow
+missing_row_of (MissingLine row) = row ∷ []
+missing_row_of _ = []
+
+abbrev pub valued_row_of : Row → List ValueRow
+valued_row_of (ValueLine row) = row ∷ []
+valued_row_of (MissingLine row) = row ∷ []
+valued_row_of _ = []
+
 abbrev pub alias_rows : List Row → List (List (List ℕ))
 alias_rows rows = flat_map alias_of rows
 
 abbrev pub value_rows : List Row → List ValueRow
 value_rows rows = flat_map value_row_of rows
 
+abbrev pub missing_rows : List Row → List ValueRow
+missing_rows rows = flat_map missing_row_of rows
+
+abbrev pub valued_rows : List Row → List ValueRow
+valued_rows rows = flat_map valued_row_of rows
+
 abbrev pub value_names : List Row → List (List ℕ)
-value_names rows = map (λ r. r.value) (value_rows rows)
+value_names rows = map (λ r. r.value) (valued_rows rows)
 
 abbrev pub numbered : List ℕ → List Row → List (List ℕ)
 numbered default rows = in_order (default ∷ value_names rows)

@@ -1,10 +1,10 @@
 //! The values of the rows of a file, numbered in order of first appearance.
 
-ghost use Rattle.std.specs.Prelude.{◌≡◌, ◌++◌, List, Some, fold, length, map, slice_get, IfOk, OnOk, IsTrue};
+ghost use Rattle.std.specs.Prelude.{◌≡◌, ◌++◌, ◌∷◌, [], List, Some, fold, length, map, slice_get, IfOk, OnOk, IsTrue};
 ghost use Rattle.std.specs.List.{IsDistinct};
 ghost use Rattle.std.specs.Str.{bytes_eq};
 ghost use Rattle.property_aliases.specs.Numbers.{AreNumbered, AreValues, names_in};
-ghost use Rattle.property_aliases.specs.Sources.{add_name, listed_names, numbered, unnumbered, value_row_of, value_rows};
+ghost use Rattle.property_aliases.specs.Sources.{add_name, listed_names, missing_row_of, numbered, unnumbered, value_row_of, valued_row_of, valued_rows};
 ghost use Rattle.release_rows.specs.Releases.{rows_now};
 ghost use Rattle.ucd_model.specs.declared.row.ValueRow.{ValueRow};
 
@@ -22,12 +22,13 @@ pub struct NumberedRow {
     pub span: Span,
 }
 
-/// The values of the rows of a file, each once, and the rows by the numbers of their values: a value has the number of the
-/// values that are named before it.
+/// The values of the rows of a file, each once, and the rows by the numbers of their values, missing rows by themselves: a
+/// value has the number of the values that are named before it.
 #[derive(Drop)]
 pub struct FileValues {
     pub(crate) names: IndexSet<Vec<u8>>,
     pub(crate) rows: Vec<NumberedRow>,
+    pub(crate) missing: Vec<NumberedRow>,
 }
 
 impl FileValues {
@@ -39,11 +40,18 @@ impl FileValues {
         self.names.len()
     }
 
-    /// The rows in the order of the file.
+    /// The rows that are no missing rows, in the order of the file.
     pub fn rows(&self) -> &[NumberedRow]
         ensures { result.now ≡ self.now.rows.items }
     {
         self.rows.as_slice()
+    }
+
+    /// The missing rows, in the order of the file.
+    pub fn missing(&self) -> &[NumberedRow]
+        ensures { result.now ≡ self.now.missing.items }
+    {
+        self.missing.as_slice()
     }
 }
 
@@ -94,23 +102,47 @@ fn last_number(rows: &[NumberedRow]) -> usize {
     }
 }
 
-/// Puts a row behind the others, and its value behind theirs unless it is there. Other rows give nothing.
+/// Puts a row behind the others, and its value behind theirs unless it is there.
+///
+/// - `Memory`: memory ran out.
+fn put_row(
+    alloc: Global,
+    names: &mut IndexSet<Vec<u8>>,
+    rows: &mut Vec<NumberedRow>,
+    span: Span,
+    value: &[u8],
+) -> Result<(), Memory>
+    ensures names { OnOk result (names_in names.new ≡ add_name (names_in names.old) value.now) }
+    ensures rows { OnOk result ((above : List ValueRow) → AreNumbered (names_in names.old) rows.old.items above
+        → AreNumbered (names_in names.new) rows.new.items (above ++ record { span = span; value = value.now } ∷ [])) }
+{
+    let number = number_behind(alloc, names, last_number(rows.as_slice()), value)?;
+    rows.push(NumberedRow { number, span })?;
+    Ok(())
+}
+
+/// Puts a row behind the others, a missing row behind the missing rows, and its value behind the values unless it is there.
+/// Rows without a value give nothing.
 ///
 /// - `Memory`: memory ran out.
 fn add_row(
     alloc: Global,
     names: &mut IndexSet<Vec<u8>>,
     rows: &mut Vec<NumberedRow>,
+    missing: &mut Vec<NumberedRow>,
     row: &RowText<'_>,
 ) -> Result<(), Memory>
-    ensures names { OnOk result (names_in names.new ≡ fold add_name (names_in names.old) (map (λ r. r.value) (value_row_of row.now))) }
+    ensures names { OnOk result (names_in names.new ≡ fold add_name (names_in names.old) (map (λ r. r.value) (valued_row_of row.now))) }
     ensures rows { OnOk result ((above : List ValueRow) → AreNumbered (names_in names.old) rows.old.items above
         → AreNumbered (names_in names.new) rows.new.items (above ++ value_row_of row.now)) }
+    ensures missing { OnOk result ((above : List ValueRow) → AreNumbered (names_in names.old) missing.old.items above
+        → AreNumbered (names_in names.new) missing.new.items (above ++ missing_row_of row.now)) }
 {
     if let Some(text) = row.value() {
-        let number = number_behind(alloc, names, last_number(rows.as_slice()), text.value)?;
-        let span = text.span;
-        rows.push(NumberedRow { number, span })?;
+        return put_row(alloc, names, rows, text.span, text.value);
+    }
+    if let Some(text) = row.missing() {
+        return put_row(alloc, names, missing, text.span, text.value);
     }
     Ok(())
 }
@@ -120,17 +152,19 @@ fn add_row(
 /// - `Memory`: memory ran out.
 fn with_rows(alloc: Global, names: IndexSet<Vec<u8>>, rows: Rows<'_>) -> Result<FileValues, Memory>
     ensures { IfOk result (λ values. AreValues values
-        (fold add_name (names_in names) (map (λ r. r.value) (value_rows (unnumbered rows.entry)))) (unnumbered rows.entry)) }
+        (fold add_name (names_in names) (map (λ r. r.value) (valued_rows (unnumbered rows.entry)))) (unnumbered rows.entry)) }
 {
     let mut left = rows;
     let mut names = names;
     let mut numbered = Vec::new(alloc);
+    let mut missing = Vec::new(alloc);
     'rows: while let Some((_line, row)) = left.next() {
-        add_row(alloc, &mut names, &mut numbered, &row)?;
+        add_row(alloc, &mut names, &mut numbered, &mut missing, &row)?;
     }
     Ok(FileValues {
         names,
         rows: numbered,
+        missing,
     })
 }
 

@@ -78,10 +78,16 @@ fn release(alloc: Global) -> Result<Release, Fail>
     Ok(release)
 }
 
+/// A test, and the spans of its set.
+pub(crate) type SetRow = (Test, &'static [(u32, u32)]);
+
+/// A text, and the spans of its answer.
+pub(crate) type AnswerRow = (&'static [u8], &'static [(u32, u32)]);
+
 /// Tests with their sets, by `release`. Number 0 of the scripts is the default, which has what no row covers too; a number
 /// that is not used has no code points. A code point may have two listed properties; those that have not one of them end
 /// with 10FFFF.
-const SETS: [(Test, &[(u32, u32)]); 9] = [
+const SETS: [SetRow; 9] = [
     (
         Test::Script(0),
         &[(0, 0x40), (0x5B, 0x60), (0x7B, 0x36F), (0x374, 0x10_FFFF)],
@@ -99,22 +105,32 @@ const SETS: [(Test, &[(u32, u32)]); 9] = [
 #[test]
 fn tests_have_sets(rt: HostRuntime) -> Result<(), Fail> {
     let release = release(rt.alloc())?;
-    sets_are_made(&rt, rt.alloc(), &release)
+    sets_are_made(&rt, rt.alloc(), &release, &SETS)
 }
 
 #[tactic(auto, using(crate::proofs::NoRows::unassigned))]
-fn sets_are_made(rt: &impl Abort, alloc: Global, release: &Release) -> Result<(), Fail>
+pub(crate) fn sets_are_made(
+    rt: &impl Abort,
+    alloc: Global,
+    release: &Release,
+    sets: &[SetRow],
+) -> Result<(), Fail>
     requires { items_now release.now UnicodeData ≡ [] }
 {
     let bench = unassigned();
     let pieces = equal_pieces(alloc, &bench)?;
     let numbers = ValueNumbers::of(alloc, release)?;
     let index = SetIndex::of(alloc, &bench, pieces.as_slice(), release, &numbers)?;
-    sets_are_found(rt, alloc, &index)
+    sets_are_found(rt, alloc, &index, sets)
 }
 
-fn sets_are_found<T: TestSets>(rt: &impl Abort, alloc: Global, index: &T) -> Result<(), Fail> {
-    for (test, expected) in &SETS {
+fn sets_are_found<T: TestSets>(
+    rt: &impl Abort,
+    alloc: Global,
+    index: &T,
+    sets: &[SetRow],
+) -> Result<(), Fail> {
+    for (test, expected) in sets {
         assert!(rt; has_set(alloc, index, *test, expected)?);
     }
     Ok(())
@@ -132,7 +148,7 @@ fn has_set<T: TestSets>(
 }
 
 /// Texts with their answers, by `release`.
-const ANSWERS: [(&[u8], &[(u32, u32)]); 3] = [
+const ANSWERS: [AnswerRow; 3] = [
     (
         b"[\\p{sc=Greek}\\p{White_Space}]",
         &[(0x9, 0xD), (0x20, 0x20), (0x370, 0x373)],
@@ -147,15 +163,20 @@ const ANSWERS: [(&[u8], &[(u32, u32)]); 3] = [
 #[test]
 fn texts_have_answers(rt: HostRuntime) -> Result<(), Fail> {
     let release = release(rt.alloc())?;
-    texts_are_answered(&rt, rt.alloc(), &release)
+    texts_are_answered(&rt, rt.alloc(), &release, &ANSWERS)
 }
 
 /// A call lets the names go: their many parts would else fill this function's proof.
-fn texts_are_answered(rt: &impl Abort, alloc: Global, release: &Release) -> Result<(), Fail>
+pub(crate) fn texts_are_answered(
+    rt: &impl Abort,
+    alloc: Global,
+    release: &Release,
+    answers: &[AnswerRow],
+) -> Result<(), Fail>
     requires { items_now release.now UnicodeData ≡ [] }
 {
     let aliases = Aliases::of(alloc, release)?;
-    let answered = are_answers(rt, alloc, release, &aliases);
+    let answered = are_answers(rt, alloc, release, &aliases, answers);
     drop(aliases);
     answered
 }
@@ -165,11 +186,12 @@ fn are_answers(
     alloc: Global,
     release: &Release,
     aliases: &Aliases,
+    answers: &[AnswerRow],
 ) -> Result<(), Fail>
     requires unassigned { items_now release.now UnicodeData ≡ [] }
     requires aliases { AreAliasesOf aliases.now (sources_of release.now) }
 {
-    'answers: for (text, expected) in &ANSWERS {
+    'answers: for (text, expected) in answers {
         assert!(rt; is_answer(alloc, release, aliases, text, expected)?);
     }
     Ok(())

@@ -11,6 +11,8 @@ mod made;
 #[cfg(test)]
 mod members;
 #[cfg(test)]
+mod missing_values;
+#[cfg(test)]
 mod names;
 #[cfg(test)]
 mod replacing;

@@ -95,7 +95,7 @@ fn contents_of_lines(rt: HostRuntime) {
     assert!(rt; are_texts(texts.as_slice(), &[b"a", b"", b"# c"]));
 }
 
-/// Lines, and whether each is passed over.
+/// Lines, and whether each is passed over in all files but Scripts.txt and WordBreakProperty.txt.
 const TRIVIA: [(&[u8], bool); 9] = [
     (b"", true),
     (b" \t", true),
@@ -111,7 +111,40 @@ const TRIVIA: [(&[u8], bool); 9] = [
 #[test]
 fn blank_lines_and_comments(rt: HostRuntime) {
     for (content, trivia) in &TRIVIA {
-        assert!(rt; is_trivia(content) == *trivia, "{content:?}");
+        assert!(rt;
+            is_trivia(SourceFile::PropList, content) == *trivia,
+            "{content:?}"
+        );
+    }
+}
+
+/// Lines, and whether each is a missing line in Scripts.txt.
+const MISSING: [(&[u8], bool); 8] = [
+    (b"# @missing: 0000..10FFFF; Unknown", true),
+    (b"#@missing:", true),
+    (b" \t# \t@missing:0041;A", true),
+    (b"## @missing: 0041; A", false),
+    (b"# @Missing: 0041; A", false),
+    (b"# @missing 0041; A", false),
+    (b"# x @missing: 0041; A", false),
+    (b"0041; A # @missing: 0041; A", false),
+];
+
+#[test]
+fn missing_lines(rt: HostRuntime) {
+    for (content, missing) in &MISSING {
+        assert!(rt;
+            missing_rest(SourceFile::Scripts, content).is_some() == *missing,
+            "{content:?}"
+        );
+        assert!(rt;
+            missing_rest(SourceFile::WordBreakProperty, content).is_some() == *missing,
+            "{content:?}"
+        );
+        assert!(rt;
+            missing_rest(SourceFile::PropList, content).is_none(),
+            "{content:?}"
+        );
     }
 }
 

@@ -19,8 +19,8 @@ use Rattle.ucd_model.specs.declared.category.Category.TheVariants.{Cn}
 use Rattle.ucd_points.specs.declared.files.SourceFile.TheVariants.{UnicodeData}
 use Rattle.ucd_model.specs.declared.row.DataRow.{DataRow}
 use Rattle.ucd_model.specs.declared.row.Row.{Row}
-use Rattle.ucd_model.specs.declared.row.Row.TheVariants.{Unit as DataLine, Value as ValueLine, Exclusion as ExclusionLine, Fold as FoldLine, Casing as CasingLine, Alias as AliasLine}
-use Rattle.ucd_points.specs.Lines.{is_trivia}
+use Rattle.ucd_model.specs.declared.row.Row.TheVariants.{Unit as DataLine, Value as ValueLine, Exclusion as ExclusionLine, Fold as FoldLine, Casing as CasingLine, Alias as AliasLine, Missing as MissingLine}
+use Rattle.ucd_points.specs.MissingLines.{is_trivia}
 use Rattle.source_rows.specs.Faults.{row_or_fault}
 use Rattle.source_rows.specs.Laws.{RowsAreOk, RowsAreRead}
 use Rattle.source_rows.specs.declared.fault.RowFault.{RowFault}
@@ -35,12 +35,12 @@ AssignedHaveCategories rows = (c : ℕ) → c < point_count → is_some (data_ro
 
 module _ (read : RowsAreRead) (ok : RowsAreOk) where
   read_row : (content : List ℕ) (row : Row) → content_row UnicodeData content ≡ Ok (Some row) → row_or_fault UnicodeData content ≡ Ok row
-  read_row content row h = by (is_trivia content) (row_or_fault UnicodeData content) refl refl
+  read_row content row h = by (is_trivia UnicodeData content) (row_or_fault UnicodeData content) refl refl
     where
       same_row : (a b : Row) → (let x : Result (Option Row) RowFault = Ok (Some a) in x ≡ Ok (Some b)) → a ≡ b
       same_row a b e = cc
 
-      by : (b : Bool) (r : Result Row RowFault) → is_trivia content ≡ b → row_or_fault UnicodeData content ≡ r → row_or_fault UnicodeData content ≡ Ok row
+      by : (b : Bool) (r : Result Row RowFault) → is_trivia UnicodeData content ≡ b → row_or_fault UnicodeData content ≡ r → row_or_fault UnicodeData content ≡ Ok row
       by true r e f = absurd (let k = (rw e at h) in cc)
       by false (Ok other) e f = f ∙ ap Ok (same_row other row (rw (e, f) at h))
       by false (Err fault) e f = absurd (let k = (rw (e, f) at h) in cc)
@@ -83,6 +83,7 @@ assigned_in c (ExclusionLine row ∷ rows) ok = assigned_in c rows (All-tail (Ro
 assigned_in c (FoldLine row ∷ rows) ok = assigned_in c rows (All-tail (RowOk UnicodeData) (FoldLine row) rows ok)
 assigned_in c (CasingLine row ∷ rows) ok = assigned_in c rows (All-tail (RowOk UnicodeData) (CasingLine row) rows ok)
 assigned_in c (AliasLine row ∷ rows) ok = assigned_in c rows (All-tail (RowOk UnicodeData) (AliasLine row) rows ok)
+assigned_in c (MissingLine row ∷ rows) ok = assigned_in c rows (All-tail (RowOk UnicodeData) (MissingLine row) rows ok)
 
 pub assigned_have_categories : (rows : Sources) (items : List FileItem) → rows UnicodeData ≡ rows_in items → RowsAreRead → RowsAreOk → AreKept UnicodeData items → AssignedHaveCategories rows
 assigned_have_categories rows items same read ok kept c lt =

@@ -4,9 +4,9 @@
 --                             derived properties are `passes`; false for the others
 -- no_points                   the set without members
 -- has_at sets k c             whether the set with number k has c; never where the number is not used
--- AreRowSets sets rows        the sets of scripts, of word breaks and of listed properties are those that the rows give
+-- AreRowSets sets rows        the sets of scripts, of word breaks and of listed properties have the code points that the rows give
 -- says R sets test c          what the records and these sets say of c
-use Rattle.std.specs.Prelude.{◌≡◌, ℕ, Bool, true, false, not, ◌==◌, nat_lt, List, [], slice_index_or}
+use Rattle.std.specs.Prelude.{◌≡◌, ℕ, ◌<◌, Bool, true, false, not, ◌==◌, nat_lt, List, [], slice_index_or}
 use Rattle.ucd_model.specs.Facts.{Sources}
 use Rattle.ucd_model.specs.Predicates.{category_place}
 use Rattle.ucd_model.specs.Records.{Record}
@@ -31,8 +31,8 @@ abbrev pub has_at : List Edges → ℕ → ℕ → Bool
 has_at sets number c = has (slice_index_or sets number no_points) c
 
 pub record AreRowSets (sets : RowSets) (rows : Sources) : Type 0 where
-  pub scripts : (k c : ℕ) → has_at sets.scripts.items k c ≡ is_numbered (script_names (rows Scripts)) k (script_at (rows Scripts) c)
-  pub breaks : (k c : ℕ) → has_at sets.breaks.items k c ≡ is_numbered (break_names (rows WordBreakProperty)) k (word_break_at (rows WordBreakProperty) c)
+  pub scripts : (k c : ℕ) → c < 1114112 → has_at sets.scripts.items k c ≡ is_numbered (script_names (rows Scripts)) k (script_at (rows Scripts) c)
+  pub breaks : (k c : ℕ) → c < 1114112 → has_at sets.breaks.items k c ≡ is_numbered (break_names (rows WordBreakProperty)) k (word_break_at (rows WordBreakProperty) c)
   pub listed : (k c : ℕ) → has_at sets.listed.items k c ≡ is_listed (rows PropList) k c
 
 abbrev pub says : (ℕ → Record) → RowSets → Test → ℕ → Bool

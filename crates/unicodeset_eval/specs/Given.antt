@@ -4,6 +4,7 @@
 -- given_or_default d names rows i c      the same, or no row covers c and the name is d
 -- buckets_are                            the spans of number i are those of its name
 -- defaults_are                           the set of number 0, the default, has what no row covers too
+-- numbers_are                            where a number is that of a value, it is number i where the value is the name of number i
 -- spans_cover                            the spans of rows are what they cover
 -- pushed                                 one set more
 use Rattle.std.proofs.Common.{◌≡◌, ℕ, zero, suc, ◌<◌, ◌≤◌, Bool, true, false, not, ◌&&◌, ◌||◌, List, [], ◌∷◌, ◌++◌, map, length, Some, refl, sym, ap, ◌∙◌, arith, inl, inr}
@@ -124,6 +125,18 @@ module _ {K : Type 0} (bytes : K → List ℕ) (ks : List K) (differ : IsDistinc
       swap false true false = refl
       swap false false true = refl
       swap false false false = refl
+
+  pub numbers_are : (w : ℕ) (value : List ℕ) → slice_get names w ≡ Some value → (b : Bool) (i : ℕ) → (i < length ks → b ≡ nat_eq w i) → (length ks ≤ i → b ≡ false) → b ≡ option_map_or (λ name. bytes_eq value name) (slice_get names i) false
+  numbers_are w value at b i inside past = elim (cases_lt i (length ks)) [
+    | inl lt ↦
+        let some : w < length names = slice_get_within names w value at in
+        let long = length_map bytes ks in
+        inside lt
+        ∙ same_number bytes ks w i differ (omega (arith, some, long)) lt
+        ∙ ap (λ (v : List ℕ). bytes_eq v (slice_index_or names i [])) (get_or_from_slice_get names w value [] at)
+        ∙ sym (at_name (λ name. bytes_eq value name) names i (inside_names i lt))
+    | inr le ↦ past le ∙ sym (past_names (λ name. bytes_eq value name) names i (past_keys i le))
+  ]
 
 -- ---- sets
 

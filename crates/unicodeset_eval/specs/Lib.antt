@@ -13,6 +13,7 @@ pub mod Indexes
 pub mod ValueRows
 pub mod Numbers
 pub mod Given
+pub mod LayeredRows
 pub mod RowSetLaws
 pub mod Assigned
 pub mod IndexLaws

@@ -10,6 +10,7 @@ mod covering;
 mod evaluation;
 mod index;
 mod laws;
+mod layers;
 mod merging;
 mod numbers;
 mod point_set;

@@ -16,7 +16,7 @@ use ucd_model::{ListOf, Memory, Span, Spans};
 /// Empty lists of spans.
 ///
 /// - `Memory`: memory ran out.
-fn buckets(alloc: Global, count: usize) -> Result<Vec<Spans>, Memory>
+pub(crate) fn buckets(alloc: Global, count: usize) -> Result<Vec<Spans>, Memory>
     ensures len { IfOk result (λ buckets. length buckets.items ≡ count) }
     ensures empty { IfOk result (λ buckets. (i : ℕ) → bucket buckets.items i ≡ []) }
 {
@@ -30,7 +30,7 @@ fn buckets(alloc: Global, count: usize) -> Result<Vec<Spans>, Memory>
 /// Puts a span into the list with this number.
 ///
 /// - `Memory`: memory ran out.
-fn push_at(buckets: &mut Vec<Spans>, number: usize, span: Span) -> Result<(), Memory>
+pub(crate) fn push_at(buckets: &mut Vec<Spans>, number: usize, span: Span) -> Result<(), Memory>
     ensures len { OnOk result (length buckets.new.items ≡ length buckets.old.items) }
     ensures spans { OnOk result ((i c : ℕ) → i < length buckets.old.items → list_any (within c) (bucket buckets.new.items i)
         ≡ (list_any (within c) (bucket buckets.old.items i) || (nat_eq number i && within c span))) }

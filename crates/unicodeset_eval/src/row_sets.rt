@@ -1,6 +1,6 @@
 //! The sets of code points to which rows give values.
 
-ghost use Rattle.std.specs.Prelude.{◌≡◌, ◌<◌, ℕ, List, nat_eq, not, ◌&&◌, ◌||◌, length, IfOk, OnOk};
+ghost use Rattle.std.specs.Prelude.{◌≡◌, ◌<◌, ℕ, List, false, nat_eq, not, ◌&&◌, ◌||◌, length, IfOk, OnOk};
 ghost use Rattle.std.specs.List.{IsDistinct, list_any};
 ghost use Rattle.std.specs.Str.{bytes_eq};
 ghost use Rattle.ucd_model.specs.Facts.{within};
@@ -10,14 +10,17 @@ ghost use Rattle.ucd_model.specs.declared.row.ValueRow.{ValueRow};
 ghost use Rattle.property_aliases.specs.Numbers.{AreNumbered, AreNumbersOf, AreValues, names_in};
 ghost use Rattle.property_aliases.specs.Sources.{listed_names, numbered};
 ghost use Rattle.release_rows.specs.Releases.{rows_now};
+ghost use Rattle.release_rows.specs.ValuesApart.{AreValuesApart};
 ghost use Rattle.unicodeset_eval.specs.Edges.{has};
 ghost use Rattle.unicodeset_eval.specs.Found.{AreRowSets, has_at};
 ghost use Rattle.unicodeset_eval.specs.Given.{given};
+ghost use Rattle.unicodeset_eval.specs.LayeredRows.{is_other};
 ghost use Rattle.unicodeset_eval.specs.Numbers.{bucket};
 ghost use Rattle.unicodeset_eval.specs.Tests.{is_listed, is_numbered};
-ghost use Rattle.unicodeset_eval.specs.ValueRows.{IsApart, covers};
+ghost use Rattle.unicodeset_eval.specs.ValueRows.{covers};
 
 use crate::apart::rows_are_apart;
+use crate::layers::{gives_others, layered_spans};
 use crate::numbers::{row_spans, spans_by_number};
 use crate::point_set::PointSet;
 use crate::unions::union_of;
@@ -93,18 +96,51 @@ fn add_at(
     Ok(())
 }
 
-/// The sets of the values of a file, of which number 0, the default, has besides what no row covers.
+/// The sets of the values of a file whose missing rows give the default alone: number 0, the default, has besides what no row
+/// covers.
 ///
 /// - `Memory`: memory ran out.
-fn sets_behind(alloc: Global, values: &FileValues) -> Result<Vec<PointSet>, Memory>
+fn plain_sets(alloc: Global, values: &FileValues) -> Result<Vec<PointSet>, Memory>
     requires some { 0 < length values.now.names.keys }
+    requires missing { list_any is_other values.now.missing.items ≡ false }
     ensures { IfOk result (λ sets. (default : List ℕ) (rows : List Row) → AreValues values.now (numbered default rows) rows
-        → ((c : ℕ) → IsApart c rows)
+        → AreValuesApart rows
         → (i c : ℕ) → has_at sets.items i c ≡ is_numbered (numbered default rows) i (value_at rows default c)) }
 {
     let mut sets = sets_by_number(alloc, values)?;
     let rest = uncovered(alloc, values.rows())?;
     add_at(alloc, &mut sets, 0, &rest)?;
+    Ok(sets)
+}
+
+/// The sets of the values of a file whose missing rows may give any values.
+///
+/// - `Memory`: memory ran out.
+fn layered_sets(alloc: Global, values: &FileValues) -> Result<Vec<PointSet>, Memory>
+    ensures { IfOk result (λ sets. (default : List ℕ) (rows : List Row) → AreValues values.now (numbered default rows) rows
+        → AreValuesApart rows → (i c : ℕ) → c < 1114112
+        → has_at sets.items i c ≡ is_numbered (numbered default rows) i (value_at rows default c)) }
+{
+    let buckets = layered_spans(alloc, values)?;
+    let sets = unions(alloc, buckets.as_slice())?;
+    Ok(sets)
+}
+
+/// The sets of the values of a file, of which number 0 is the default.
+///
+/// - `Memory`: memory ran out.
+fn sets_behind(alloc: Global, values: &FileValues) -> Result<Vec<PointSet>, Memory>
+    requires some { 0 < length values.now.names.keys }
+    ensures { IfOk result (λ sets. (default : List ℕ) (rows : List Row) → AreValues values.now (numbered default rows) rows
+        → AreValuesApart rows → (i c : ℕ) → c < 1114112
+        → has_at sets.items i c ≡ is_numbered (numbered default rows) i (value_at rows default c)) }
+{
+    if gives_others(values.missing()) {
+        let sets = layered_sets(alloc, values)?;
+        return Ok(sets);
+    }
+    // mostly they give the default, and nothing need be painted
+    let sets = plain_sets(alloc, values)?;
     Ok(sets)
 }
 

@@ -1,20 +1,17 @@
-use Rattle.std.proofs.Common.{◌≡◌, ◌∷◌, ◌++◌, [], ℕ, List, Some, refl, sym, subst}
-use Rattle.std.specs.Prelude.{slice_get}
-use Rattle.source_rows.specs.RowRefs.{value_in}
-use Rattle.ucd_model.specs.declared.row.ValueRow.{ValueRow}
+use Rattle.std.proofs.Common.{◌++◌, ℕ, List, sym, subst}
 use Rattle.property_aliases.specs.Numbers.{AreNumbered, names_in}
-use Rattle.property_aliases.specs.Sources.{add_name, value_row_of}
-use Rattle.property_aliases.specs.declared.file_values.NumberedRow.{NumberedRow}
-use Rattle.property_aliases.proofs.NumberedRows.{numbered_more, shown}
+use Rattle.property_aliases.specs.Sources.{missing_row_of, value_row_of}
+use Rattle.property_aliases.proofs.NumberedRows.{not_shown, numbered_still, on_ok_then, shown_plain}
 use Rattle.property_aliases.proofs.file_values.add_row.Goals as goal
 
-pub returns-in_ok-push-clause-rows : goal.returns-in_ok-push-clause-rows
-returns-in_ok-push-clause-rows c = λ above are.
-    let row : ValueRow = value_in c.in-Some.text in
-    let names : List (List ℕ) = add_name (names_in c.args.names.now) row.value in
-    let more : NumberedRow = record { number = c.in_ok-number.number; span = c.in-Some.text.span } in
-    let number = subst (λ (ns : List (List ℕ)). slice_get ns c.in_ok-number.number ≡ Some row.value) c.in_ok-number.ensures.names c.in_ok-number.ensures.number in
-    let all = numbered_more (names_in c.args.names.now) c.args.rows.now.items above more row are (record { number = number; span = refl }) in
-    subst (λ (ns : List (List ℕ)). AreNumbered ns c.push.new.self.items (above ++ value_row_of c.args.row.now)) (sym c.in_ok-number.ensures.names)
-    (subst (λ (rs : List NumberedRow). AreNumbered names rs (above ++ value_row_of c.args.row.now)) (sym c.in_ok-push.ensures.items)
-    (subst (λ (rows : List ValueRow). AreNumbered names (c.args.rows.now.items ++ more ∷ []) (above ++ rows)) (sym (shown c.args.row.now c.in-Some.text c.in-Some.ensures)) all))
+pub returns-in-Some-clause-missing : goal.returns-in-Some-clause-missing
+returns-in-Some-clause-missing c = on_ok_then c.put_row.result c.put_row.ensures.names (λ more above are.
+    let none = shown_plain c.args.row.now c.in-Some.text c.in-Some.ensures in
+    subst (λ (names : List (List ℕ)). AreNumbered names c.args.missing.now.items (above ++ missing_row_of c.args.row.now)) (sym more)
+    (numbered_still (names_in c.args.names.now) c.in-Some.text.value.now c.args.missing.now.items above (missing_row_of c.args.row.now) none are))
+
+pub returns-in-Some-missing-clause-rows : goal.returns-in-Some-missing-clause-rows
+returns-in-Some-missing-clause-rows c = on_ok_then c.put_row-in-Some-missing.result c.put_row-in-Some-missing.ensures.names (λ more above are.
+    let none = not_shown c.args.row.now c.in_default.ensures in
+    subst (λ (names : List (List ℕ)). AreNumbered names c.args.rows.now.items (above ++ value_row_of c.args.row.now)) (sym more)
+    (numbered_still (names_in c.args.names.now) c.in-Some-missing.text.value.now c.args.rows.now.items above (value_row_of c.args.row.now) none are))

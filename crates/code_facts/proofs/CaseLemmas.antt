@@ -5,7 +5,7 @@ use Rattle.std.specs.BTreeMap.{BTreeMap, is_at}
 use Rattle.std.proofs.lemmas.Bool.Decides.{nat_tests}
 use Rattle.std.proofs.lemmas.List.{take_more}
 use Rattle.ucd_model.specs.declared.row.Row.{Row}
-use Rattle.ucd_model.specs.declared.row.Row.TheVariants.{Unit as DataLine, Value as ValueLine, Exclusion as ExclusionLine, Fold as FoldLine, Casing as CasingLine, Alias as AliasLine}
+use Rattle.ucd_model.specs.declared.row.Row.TheVariants.{Unit as DataLine, Value as ValueLine, Exclusion as ExclusionLine, Fold as FoldLine, Casing as CasingLine, Alias as AliasLine, Missing as MissingLine}
 use Rattle.code_facts.specs.Found.{found, first_some, given_to, passes, image_in, image_by, image_of_row}
 use Rattle.code_facts.specs.declared.case.Case.{Case}
 use Rattle.code_facts.specs.declared.case.Case.TheVariants.{Fold, Lower, Title, Upper}
@@ -27,24 +27,28 @@ fold_image (Fold status) c (ValueLine row) e = absurd cc
 fold_image (Fold status) c (ExclusionLine row) e = absurd cc
 fold_image (Fold status) c (CasingLine row) e = absurd cc
 fold_image (Fold status) c (AliasLine row) e = absurd cc
+fold_image (Fold status) c (MissingLine row) e = absurd cc
 fold_image Lower c (CasingLine row) e = refl
 fold_image Lower c (DataLine row) e = absurd cc
 fold_image Lower c (ValueLine row) e = absurd cc
 fold_image Lower c (ExclusionLine row) e = absurd cc
 fold_image Lower c (FoldLine row) e = absurd cc
 fold_image Lower c (AliasLine row) e = absurd cc
+fold_image Lower c (MissingLine row) e = absurd cc
 fold_image Title c (CasingLine row) e = refl
 fold_image Title c (DataLine row) e = absurd cc
 fold_image Title c (ValueLine row) e = absurd cc
 fold_image Title c (ExclusionLine row) e = absurd cc
 fold_image Title c (FoldLine row) e = absurd cc
 fold_image Title c (AliasLine row) e = absurd cc
+fold_image Title c (MissingLine row) e = absurd cc
 fold_image Upper c (CasingLine row) e = refl
 fold_image Upper c (DataLine row) e = absurd cc
 fold_image Upper c (ValueLine row) e = absurd cc
 fold_image Upper c (ExclusionLine row) e = absurd cc
 fold_image Upper c (FoldLine row) e = absurd cc
 fold_image Upper c (AliasLine row) e = absurd cc
+fold_image Upper c (MissingLine row) e = absurd cc
 
 push_by : (case : Case) (c : ℕ) (row : Row) (b : Bool) → passes case c row ≡ b → image_in case (cond b (Some row) None) ≡ first_some (image_in case None) (cond b (image_in case (Some row)) None)
 push_by case c row true e = sym (ap (λ o. first_some o (image_in case (Some row))) (none_image case))

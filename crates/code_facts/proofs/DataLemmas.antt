@@ -4,7 +4,7 @@ use Rattle.std.proofs.lemmas.List.{take_all}
 use Rattle.ucd_model.specs.Facts.{is_data_of, within, data_in, data_row, class_in}
 use Rattle.ucd_model.specs.declared.row.Row.{Row}
 use Rattle.ucd_model.specs.declared.row.DataRow.{DataRow}
-use Rattle.ucd_model.specs.declared.row.Row.TheVariants.{Unit as DataLine, Value as ValueLine, Exclusion as ExclusionLine, Fold as FoldLine, Casing as CasingLine, Alias as AliasLine}
+use Rattle.ucd_model.specs.declared.row.Row.TheVariants.{Unit as DataLine, Value as ValueLine, Exclusion as ExclusionLine, Fold as FoldLine, Casing as CasingLine, Alias as AliasLine, Missing as MissingLine}
 use Rattle.ucd_points.specs.Bounds.{Bounds}
 use Rattle.source_rows.specs.PointValues.{Gives}
 use Rattle.source_rows.specs.declared.point_values.PointValues.{PointValues}
@@ -38,6 +38,7 @@ fresh_by rows i d (ExclusionLine row) shows apart h is old = tt
 fresh_by rows i d (FoldLine row) shows apart h is old = tt
 fresh_by rows i d (CasingLine row) shows apart h is old = tt
 fresh_by rows i d (AliasLine row) shows apart h is old = tt
+fresh_by rows i d (MissingLine row) shows apart h is old = tt
 
 pub row_is_fresh : (rows : List Row) (i : ℕ) (d : Row) (shows : ℕ → PointData) → Apart rows → i < length rows → RowsGive rows i shows → IsFresh (get_or rows i d) shows
 row_is_fresh rows i d shows apart h old = fresh_by rows i d (get_or rows i d) shows apart h refl old
@@ -73,6 +74,7 @@ added_by rows i d (ExclusionLine row) shows new apart h is adds old = rows_same 
 added_by rows i d (FoldLine row) shows new apart h is adds old = rows_same rows (i + 1) shows new adds (rows_skipped rows i d shows apart h (λ c. ap (is_data_of c) is) old)
 added_by rows i d (CasingLine row) shows new apart h is adds old = rows_same rows (i + 1) shows new adds (rows_skipped rows i d shows apart h (λ c. ap (is_data_of c) is) old)
 added_by rows i d (AliasLine row) shows new apart h is adds old = rows_same rows (i + 1) shows new adds (rows_skipped rows i d shows apart h (λ c. ap (is_data_of c) is) old)
+added_by rows i d (MissingLine row) shows new apart h is adds old = rows_same rows (i + 1) shows new adds (rows_skipped rows i d shows apart h (λ c. ap (is_data_of c) is) old)
 
 pub rows_added : (rows : List Row) (i : ℕ) (d : Row) (shows new : ℕ → PointData) → Apart rows → i < length rows → Adds (get_or rows i d) shows new → RowsGive rows i shows → RowsGive rows (i + 1) new
 rows_added rows i d shows new apart h adds old = added_by rows i d (get_or rows i d) shows new apart h refl adds old
@@ -94,6 +96,7 @@ fresh_given given (ExclusionLine row) old g fresh = absurd g
 fresh_given given (FoldLine row) old g fresh = absurd g
 fresh_given given (CasingLine row) old g fresh = absurd g
 fresh_given given (AliasLine row) old g fresh = absurd g
+fresh_given given (MissingLine row) old g fresh = absurd g
 
 pub adds_given : (given : PointValues) (row : Row) (old new : ℕ → PointData) → ShowsGiven (Some given) row → given.values.class < 256
     → ((c : ℕ) → c < 1114112 → new c ≡ cond (within c given.span) (row_data c (Some (given_row given))) (old c)) → Adds row old new
@@ -106,3 +109,4 @@ adds_given given (ExclusionLine row) old new g small gives = absurd g
 adds_given given (FoldLine row) old new g small gives = absurd g
 adds_given given (CasingLine row) old new g small gives = absurd g
 adds_given given (AliasLine row) old new g small gives = absurd g
+adds_given given (MissingLine row) old new g small gives = absurd g

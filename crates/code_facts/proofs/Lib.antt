@@ -14,3 +14,4 @@ pub mod ChangeLemmas
 pub mod BareLemmas
 mod RestLemmas
 mod JoinedLemmas
+mod MidWordLemmas

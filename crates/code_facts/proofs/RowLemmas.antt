@@ -9,7 +9,7 @@ use Rattle.ucd_points.specs.declared.files.SourceFile.{SourceFile}
 use Rattle.ucd_points.specs.declared.files.SourceFile.TheVariants.{UnicodeData}
 use Rattle.ucd_model.specs.declared.row.Row.{Row}
 use Rattle.ucd_model.specs.declared.row.DataRow.{DataRow}
-use Rattle.ucd_model.specs.declared.row.Row.TheVariants.{Unit as DataLine, Value as ValueLine, Exclusion as ExclusionLine, Fold as FoldLine, Casing as CasingLine, Alias as AliasLine}
+use Rattle.ucd_model.specs.declared.row.Row.TheVariants.{Unit as DataLine, Value as ValueLine, Exclusion as ExclusionLine, Fold as FoldLine, Casing as CasingLine, Alias as AliasLine, Missing as MissingLine}
 use Rattle.release_rows.specs.Keys.{key_rule, same_key, overlaps}
 use Rattle.release_rows.specs.FileItems.{FileItem, rows_in, onto_rows}
 use Rattle.release_rows.specs.Releases.{AreKept, AreKeptBelow}
@@ -41,6 +41,7 @@ no_cover_one c row (ExclusionLine x) inside apart = refl
 no_cover_one c row (FoldLine x) inside apart = refl
 no_cover_one c row (CasingLine x) inside apart = refl
 no_cover_one c row (AliasLine x) inside apart = refl
+no_cover_one c row (MissingLine x) inside apart = refl
 
 no_cover : (c : ℕ) (row : DataRow) (above : List Row) → within c row.span ≡ true → list_any (overlaps UnicodeData (DataLine row)) above ≡ false → find (is_data_of c) above ≡ None
 no_cover c row [] inside apart = refl
@@ -56,6 +57,7 @@ none_above c above (ExclusionLine row) free inside = absurd cc
 none_above c above (FoldLine row) free inside = absurd cc
 none_above c above (CasingLine row) free inside = absurd cc
 none_above c above (AliasLine row) free inside = absurd cc
+none_above c above (MissingLine row) free inside = absurd cc
 
 -- ---- the rows of items that are kept
 
@@ -160,3 +162,4 @@ not_data (ExclusionLine x) other c = refl
 not_data (FoldLine x) other c = refl
 not_data (CasingLine x) other c = refl
 not_data (AliasLine x) other c = refl
+not_data (MissingLine x) other c = refl

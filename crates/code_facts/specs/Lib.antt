@@ -6,6 +6,7 @@ pub mod RowLists
 pub mod Locality
 pub mod LocalityProofs
 pub mod DataTables
+pub mod MidWords
 pub mod Marks
 pub mod MarkRows
 pub mod Found

@@ -1,16 +1,17 @@
 -- Proofs that the facts of a code point are those of the rows that speak of it.
 --
 -- facts_are_local, facts_stay, others_give_none   the laws of the same names
-use Rattle.std.proofs.Common.{◌≡◌, ℕ, Bool, true, false, cond, ◌&&◌, ◌==◌, List, [], ◌∷◌, Option, Some, find, filter, is_some, refl, sym, ap, subst, ◌∙◌, nat_lt, nat_le, arith}
+use Rattle.std.proofs.Common.{◌≡◌, ℕ, Bool, true, false, cond, ◌&&◌, ◌==◌, List, [], ◌∷◌, Option, Some, find, filter, fold, is_some, refl, sym, ap, subst, ◌∙◌, nat_lt, nat_le, arith}
 use mathlib.Core.Path.{fun_ext}
 use Rattle.std.specs.List.{list_any}
 use Rattle.std.specs.Str.{bytes_eq}
-use Rattle.std.proofs.lemmas.Bool.{true≢false, and_parts, or_left, eqb-true}
+use Rattle.std.proofs.lemmas.Bool.{true≢false, and_parts, or_left, or_parts, eqb-true}
 use Rattle.std.proofs.lemmas.Bool.Decides.{nat_tests}
 use Rattle.std.proofs.lemmas.Map.Views.{any-filter_same}
 use Rattle.ucd_points.specs.Limits.{point_count}
 use Rattle.ucd_model.specs.Names.{flag_name}
-use Rattle.ucd_model.specs.Facts.{Sources, Facts, facts, given, unassigned, within, is_data_of, data_in, data_row, is_casing_of, casing_in, casing_row, is_folding_of, folding_in, folding, gives_value, mid_word_values, excludes, mid_word_at, excluded_at, full_folding, simple_folding, category_in, class_in, kind_in, mapping_in, upper_in, lower_in, title_in, full_upper, full_lower, full_title, image}
+use Rattle.ucd_model.specs.Facts.{Sources, Facts, facts, given, unassigned, within, is_data_of, data_in, data_row, is_casing_of, casing_in, casing_row, is_folding_of, folding_in, folding, gives_value, excludes, excluded_at, full_folding, simple_folding, category_in, class_in, kind_in, mapping_in, upper_in, lower_in, title_in, full_upper, full_lower, full_title, image}
+use Rattle.ucd_model.specs.Values.{default_word_break, gives_some, is_mid_word, mid_word_at, missing_value, taken_missing, value_in}
 use Rattle.ucd_points.specs.declared.files.SourceFile.{SourceFile}
 use Rattle.ucd_points.specs.declared.files.SourceFile.TheVariants.{UnicodeData, PropList, WordBreakProperty, CompositionExclusions, CaseFolding, SpecialCasing}
 use Rattle.ucd_model.specs.declared.property.Flag.{Flag}
@@ -19,7 +20,7 @@ use Rattle.ucd_model.specs.declared.row.DataRow.{DataRow}
 use Rattle.ucd_model.specs.declared.row.FoldStatus.{FoldStatus}
 use Rattle.ucd_model.specs.declared.row.FoldStatus.TheVariants as status
 use Rattle.ucd_model.specs.declared.row.Row.{Row}
-use Rattle.ucd_model.specs.declared.row.Row.TheVariants.{Unit as DataLine, Value as ValueLine, Exclusion as ExclusionLine, Fold as FoldLine, Casing as CasingLine, Alias as AliasLine}
+use Rattle.ucd_model.specs.declared.row.Row.TheVariants.{Unit as DataLine, Value as ValueLine, Exclusion as ExclusionLine, Fold as FoldLine, Casing as CasingLine, Alias as AliasLine, Missing as MissingLine}
 use Rattle.release_rows.specs.OperationLaws.{speaks_of}
 use Rattle.code_facts.specs.Locality.{rows_within, gives_facts, FactsAreLocal, FactsStay, OthersGiveNone}
 
@@ -35,6 +36,14 @@ find_step p x xs ys false passes same = by_test (p x) (λ is. true≢false (sym 
 find_within : {X : Type 0} (p t : X → Bool) → ((x : X) → p x ≡ true → t x ≡ true) → (xs : List X) → find p xs ≡ find p (filter t xs)
 find_within p t passes [] = refl
 find_within p t passes (x ∷ xs) = find_step p x xs (filter t xs) (t x) (passes x) (find_within p t passes xs)
+
+fold_step : {A X : Type 0} (f : A → X → A) (a : A) (x : X) (xs ys : List X) (t : Bool) → (t ≡ false → f a x ≡ a) → ((b : A) → fold f b xs ≡ fold f b ys) → fold f a (x ∷ xs) ≡ fold f a (cond t (x ∷ ys) ys)
+fold_step f a x xs ys true stays same = same (f a x)
+fold_step f a x xs ys false stays same = ap (λ b. fold f b xs) (stays refl) ∙ same a
+
+fold_within : {A X : Type 0} (f : A → X → A) (t : X → Bool) → ((a : A) (x : X) → t x ≡ false → f a x ≡ a) → (xs : List X) (a : A) → fold f a xs ≡ fold f a (filter t xs)
+fold_within f t stays [] a = refl
+fold_within f t stays (x ∷ xs) a = fold_step f a x xs (filter t xs) (t x) (stays a x) (fold_within f t stays xs)
 
 any_within : {X : Type 0} (p t : X → Bool) → ((x : X) → p x ≡ true → t x ≡ true) → (xs : List X) → list_any p xs ≡ list_any p (filter t xs)
 any_within p t passes xs = sym (any-filter_same p t true passes xs)
@@ -54,6 +63,7 @@ data_speaks c (ExclusionLine row) is = absurd (true≢false (sym is))
 data_speaks c (FoldLine row) is = absurd (true≢false (sym is))
 data_speaks c (CasingLine row) is = absurd (true≢false (sym is))
 data_speaks c (AliasLine row) is = absurd (true≢false (sym is))
+data_speaks c (MissingLine row) is = absurd (true≢false (sym is))
 
 casing_speaks : (c : ℕ) (row : Row) → is_casing_of c row ≡ true → speaks_of c row ≡ true
 casing_speaks c (CasingLine row) is = or_left (within c (record { lo = row.code; hi = row.code })) false (within_one c row.code (and_parts (row.code == c) (bytes_eq row.conditions []) is).0)
@@ -62,6 +72,7 @@ casing_speaks c (ValueLine row) is = absurd (true≢false (sym is))
 casing_speaks c (ExclusionLine row) is = absurd (true≢false (sym is))
 casing_speaks c (FoldLine row) is = absurd (true≢false (sym is))
 casing_speaks c (AliasLine row) is = absurd (true≢false (sym is))
+casing_speaks c (MissingLine row) is = absurd (true≢false (sym is))
 
 folding_speaks : (s : FoldStatus) (c : ℕ) (row : Row) → is_folding_of s c row ≡ true → speaks_of c row ≡ true
 folding_speaks s c (FoldLine row) is = or_left (within c (record { lo = row.code; hi = row.code })) false (within_one c row.code (and_parts (row.code == c) _ is).0)
@@ -70,6 +81,7 @@ folding_speaks s c (ValueLine row) is = absurd (true≢false (sym is))
 folding_speaks s c (ExclusionLine row) is = absurd (true≢false (sym is))
 folding_speaks s c (CasingLine row) is = absurd (true≢false (sym is))
 folding_speaks s c (AliasLine row) is = absurd (true≢false (sym is))
+folding_speaks s c (MissingLine row) is = absurd (true≢false (sym is))
 
 value_speaks : (value : List ℕ) (c : ℕ) (row : Row) → gives_value value c row ≡ true → speaks_of c row ≡ true
 value_speaks value c (ValueLine row) is = or_left (within c row.span) false (and_parts (bytes_eq row.value value) (within c row.span) is).1
@@ -78,6 +90,26 @@ value_speaks value c (ExclusionLine row) is = absurd (true≢false (sym is))
 value_speaks value c (FoldLine row) is = absurd (true≢false (sym is))
 value_speaks value c (CasingLine row) is = absurd (true≢false (sym is))
 value_speaks value c (AliasLine row) is = absurd (true≢false (sym is))
+value_speaks value c (MissingLine row) is = absurd (true≢false (sym is))
+
+some_speaks : (c : ℕ) (row : Row) → gives_some c row ≡ true → speaks_of c row ≡ true
+some_speaks c (ValueLine row) is = or_left (within c row.span) false is
+some_speaks c (DataLine row) is = absurd (true≢false (sym is))
+some_speaks c (ExclusionLine row) is = absurd (true≢false (sym is))
+some_speaks c (FoldLine row) is = absurd (true≢false (sym is))
+some_speaks c (CasingLine row) is = absurd (true≢false (sym is))
+some_speaks c (AliasLine row) is = absurd (true≢false (sym is))
+some_speaks c (MissingLine row) is = absurd (true≢false (sym is))
+
+-- a missing row that does not speak of the code point gives it no value
+silent_missing : (c : ℕ) (default : List ℕ) (row : Row) → speaks_of c row ≡ false → taken_missing c default row ≡ default
+silent_missing c default (MissingLine row) silent = ap (λ b. cond b row.value default) (or_parts (within c row.span) false silent).0
+silent_missing c default (DataLine row) silent = refl
+silent_missing c default (ValueLine row) silent = refl
+silent_missing c default (ExclusionLine row) silent = refl
+silent_missing c default (FoldLine row) silent = refl
+silent_missing c default (CasingLine row) silent = refl
+silent_missing c default (AliasLine row) silent = refl
 
 excludes_speaks : (c : ℕ) (row : Row) → excludes c row ≡ true → speaks_of c row ≡ true
 excludes_speaks c (ExclusionLine row) is = or_left (within c row.span) false is
@@ -86,6 +118,7 @@ excludes_speaks c (ValueLine row) is = absurd (true≢false (sym is))
 excludes_speaks c (FoldLine row) is = absurd (true≢false (sym is))
 excludes_speaks c (CasingLine row) is = absurd (true≢false (sym is))
 excludes_speaks c (AliasLine row) is = absurd (true≢false (sym is))
+excludes_speaks c (MissingLine row) is = absurd (true≢false (sym is))
 
 -- ---- all facts
 
@@ -128,8 +161,15 @@ module _ (t : Row → Bool) (rows : Sources) (c : ℕ) (passes : (row : Row) →
   same_value : (file : SourceFile) (value : List ℕ) → list_any (gives_value value c) (rows file) ≡ list_any (gives_value value c) (rows_within t rows file)
   same_value file value = any_within (gives_value value c) t (λ row is. passes row (value_speaks value c row is)) (rows file)
 
+  same_missing : missing_value (rows WordBreakProperty) default_word_break c ≡ missing_value (rows_within t rows WordBreakProperty) default_word_break c
+  same_missing = fold_within (taken_missing c) t (λ default row out. silent_missing c default row (silent (speaks_of c row) (t row) (passes row) out)) (rows WordBreakProperty) default_word_break
+    where
+      silent : (speaks out : Bool) → (speaks ≡ true → out ≡ true) → out ≡ false → speaks ≡ false
+      silent true out passes is = absurd (true≢false (sym (passes refl) ∙ is))
+      silent false out passes is = refl
+
   same_mid_word : mid_word_at (rows WordBreakProperty) c ≡ mid_word_at (rows_within t rows WordBreakProperty) c
-  same_mid_word = ap (λ (f : List ℕ → Bool). list_any f mid_word_values) (fun_ext (λ value. same_value WordBreakProperty value))
+  same_mid_word = λ i. is_mid_word (value_in (same_missing i) (find_within (gives_some c) t (λ row is. passes row (some_speaks c row is)) (rows WordBreakProperty) i))
 
   same_excluded : excluded_at (rows CompositionExclusions) c ≡ excluded_at (rows_within t rows CompositionExclusions) c
   same_excluded = any_within (excludes c) t (λ row is. passes row (excludes_speaks c row is)) (rows CompositionExclusions)

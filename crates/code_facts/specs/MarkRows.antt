@@ -2,21 +2,21 @@
 --
 -- is_flagged flag c row         the code points with a flag are of this flag, and c is one of them
 -- names_flag value c span flag named   the value is the name of the flag named, that is the flag, and c is in the span
--- IsMarked mark spans sources   the spans cover just the code points on which rows of the mark's file put it
+-- IsMarked mark spans sources   the spans cover just the code points on which the rows of the mark's file put it
 -- AreFlagged flagged sources    of each flag they are just the code points on which rows of PropList.txt put it
 -- KeepsMarkRows rows sources    what is kept is of the rows of the three files
-use Rattle.std.specs.Prelude.{◌≡◌, ℕ, Bool, ◌&&◌, ◌==◌, List}
+use Rattle.std.specs.Prelude.{◌≡◌, ℕ, ◌<◌, Bool, ◌&&◌, ◌==◌, List}
 use Rattle.std.specs.List.{list_any}
 use Rattle.std.specs.Str.{bytes_eq}
 use Rattle.ucd_model.specs.Names.{flag_name}
 use Rattle.ucd_points.specs.Bounds.{Bounds}
-use Rattle.ucd_model.specs.Facts.{Sources, within}
+use Rattle.ucd_model.specs.Facts.{Sources, within, flag_at}
 use Rattle.ucd_model.specs.Sets.{flag_place}
 use Rattle.ucd_points.specs.declared.files.SourceFile.TheVariants.{PropList}
 use Rattle.ucd_model.specs.declared.property.Flag.{Flag}
-use Rattle.code_facts.specs.Marks.{puts, file_of}
+use Rattle.code_facts.specs.Marks.{holds, file_of}
 use Rattle.code_facts.specs.declared.mark.Mark.{Mark}
-use Rattle.code_facts.specs.declared.mark.Mark.TheVariants.{Excluded, MidWord, Flagged as HasFlag}
+use Rattle.code_facts.specs.declared.mark.Mark.TheVariants.{Excluded, MidWord}
 use Rattle.code_facts.specs.declared.mark_rows.Flagged.{Flagged}
 use Rattle.code_facts.specs.declared.mark_rows.MarkRows.{MarkRows as Kept}
 
@@ -27,10 +27,10 @@ abbrev pub names_flag : List ℕ → ℕ → Bounds → Flag → Flag → Bool
 names_flag value c span flag named = (flag_place named == flag_place flag) && (bytes_eq value (flag_name named) && within c span)
 
 abbrev pub IsMarked : Mark → List Bounds → Sources → Type 0
-IsMarked mark spans sources = (c : ℕ) → list_any (within c) spans ≡ list_any (puts mark c) (sources (file_of mark))
+IsMarked mark spans sources = (c : ℕ) → c < 1114112 → list_any (within c) spans ≡ holds mark (sources (file_of mark)) c
 
 abbrev pub AreFlagged : List Flagged → Sources → Type 0
-AreFlagged flagged sources = (flag : Flag) (c : ℕ) → list_any (is_flagged flag c) flagged ≡ list_any (puts (HasFlag flag) c) (sources PropList)
+AreFlagged flagged sources = (flag : Flag) (c : ℕ) → list_any (is_flagged flag c) flagged ≡ flag_at (sources PropList) flag c
 
 pub record KeepsMarkRows (rows : Kept) (sources : Sources) : Type 0 where
   pub excluded : IsMarked Excluded rows.excluded.items sources

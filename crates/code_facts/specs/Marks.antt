@@ -1,26 +1,22 @@
 -- The marks that the rows of other files than UnicodeData.txt put on code points.
 --
 -- covers c span           whether the span, where there is one, covers c
--- gives_mid_word c row    the row gives c such a value
--- puts mark c row         the row puts the mark on c
+-- holds mark rows c       whether rows of its file put the mark on c
 -- file_of mark            the file whose rows put the mark
 -- word_of mark            its bit in the word: 2, 4, or for a flag 2 to the power of 24 and its place
 -- all_marks               the marks, the flags among them in the order of their places
--- mark_bit rows mark c    what the mark adds to the word of c: its bit where some row of its file puts it on c, else 0
+-- mark_bit rows mark c    what the mark adds to the word of c: its bit where the rows of its file put it on c, else 0
 -- marks_before n rows c   what the first n marks add to it together
 -- marks_at rows c         what all marks add to it together
-use Rattle.std.specs.Prelude.{ℕ, ◌+◌, ◌*◌, ◌^◌, Bool, false, ◌&&◌, List, ◌∷◌, map, length, Option, Some, None, take, sum_by}
-use Rattle.std.specs.List.{list_any}
+use Rattle.std.specs.Prelude.{ℕ, ◌+◌, ◌*◌, ◌^◌, Bool, false, List, ◌∷◌, map, length, Option, Some, None, take, sum_by}
 use Rattle.ucd_points.specs.Bounds.{Bounds}
 use Rattle.ucd_model.specs.Enumerations.{flags}
-use Rattle.ucd_model.specs.Names.{flag_name}
 use Rattle.ucd_model.specs.Sets.{flag_place}
-use Rattle.ucd_model.specs.Facts.{Sources, within, gives_value, excludes}
-use Rattle.ucd_model.specs.Values.{is_mid_word}
+use Rattle.ucd_model.specs.Facts.{Sources, within, excluded_at, flag_at}
+use Rattle.ucd_model.specs.Values.{mid_word_at}
 use Rattle.ucd_points.specs.declared.files.SourceFile.{SourceFile}
 use Rattle.ucd_points.specs.declared.files.SourceFile.TheVariants.{PropList, WordBreakProperty, CompositionExclusions}
 use Rattle.ucd_model.specs.declared.row.Row.{Row}
-use Rattle.ucd_model.specs.declared.row.Row.TheVariants.{Value as ValueLine}
 use Rattle.code_facts.specs.Word.{one_if}
 use Rattle.code_facts.specs.declared.mark.Mark.{Mark}
 use Rattle.code_facts.specs.declared.mark.Mark.TheVariants.{Excluded, MidWord, Flagged}
@@ -29,14 +25,10 @@ abbrev pub covers : ℕ → Option Bounds → Bool
 covers c (Some span) = within c span
 covers c None = false
 
-abbrev pub gives_mid_word : ℕ → Row → Bool
-gives_mid_word c (ValueLine row) = is_mid_word row.value && within c row.span
-gives_mid_word c _ = false
-
-abbrev pub puts : Mark → ℕ → Row → Bool
-puts Excluded c row = excludes c row
-puts MidWord c row = gives_mid_word c row
-puts (Flagged flag) c row = gives_value (flag_name flag) c row
+abbrev pub holds : Mark → List Row → ℕ → Bool
+holds Excluded rows c = excluded_at rows c
+holds MidWord rows c = mid_word_at rows c
+holds (Flagged flag) rows c = flag_at rows flag c
 
 abbrev pub file_of : Mark → SourceFile
 file_of Excluded = CompositionExclusions
@@ -52,7 +44,7 @@ abbrev pub all_marks : List Mark
 all_marks = Excluded ∷ MidWord ∷ map Flagged flags
 
 abbrev pub mark_bit : Sources → Mark → ℕ → ℕ
-mark_bit rows mark c = word_of mark * one_if (list_any (puts mark c) (rows (file_of mark)))
+mark_bit rows mark c = word_of mark * one_if (holds mark (rows (file_of mark)) c)
 
 abbrev pub marks_before : ℕ → Sources → ℕ → ℕ
 marks_before n rows c = sum_by (λ mark. mark_bit rows mark c) (take n all_marks)

@@ -23,6 +23,7 @@ mod mappings;
 mod mark;
 mod mark_rows;
 mod marks;
+mod mid_words;
 mod next_view;
 mod painting;
 mod pair_index;

@@ -3,14 +3,15 @@
 ghost use Rattle.std.specs.Prelude.{◌≡◌, ℕ, ◌&&◌, ◌||◌, IfOk, OnOk};
 ghost use Rattle.std.specs.List.{list_any};
 ghost use Rattle.std.specs.Str.{bytes_eq};
-ghost use Rattle.ucd_model.specs.Facts.{within};
+ghost use Rattle.release_rows.specs.ValuesApart.{AreValuesApart};
+ghost use Rattle.ucd_model.specs.Facts.{excluded_at, excludes, flag_at, gives_value, within};
 ghost use Rattle.ucd_model.specs.Names.{flag_name};
 ghost use Rattle.ucd_model.specs.declared.property.Flag.{Flag as FlagValue};
 ghost use Rattle.code_facts.specs.MarkRows.{KeepsMarkRows, is_flagged, names_flag};
-ghost use Rattle.code_facts.specs.Marks.{covers, puts};
+ghost use Rattle.code_facts.specs.Marks.{covers};
 ghost use Rattle.code_facts.specs.RowLists.{sources_of};
 
-use crate::mark::{Mark, is_mid_word_value};
+use crate::mid_words::mid_words_of;
 use crate::row_lists::RowLists;
 use release_rows::RowText;
 use source_rows::{RowRef, ValueText};
@@ -31,7 +32,7 @@ pub struct Flagged {
 pub struct MarkRows {
     /// Those of the rows of CompositionExclusions.txt.
     pub excluded: Vec<Span>,
-    /// Those of the rows of WordBreakProperty.txt whose value stands in the middle of a word.
+    /// Those to which the rows of WordBreakProperty.txt give a value in the middle of a word.
     pub mid_word: Vec<Span>,
     /// Those of the rows of PropList.txt that have the name of a flag.
     pub flagged: Vec<Flagged>,
@@ -42,6 +43,7 @@ impl MarkRows {
     ///
     /// - `Memory`: memory ran out.
     pub fn of(alloc: Global, rows: &RowLists<'_>) -> Result<MarkRows, Memory>
+        requires { AreValuesApart rows.now.word_break.items }
         ensures { IfOk result (λ marked. KeepsMarkRows marked (sources_of rows.now)) }
     {
         Ok(MarkRows {
@@ -54,7 +56,7 @@ impl MarkRows {
 
 /// The code points that are excluded from composition.
 fn excluded_of(alloc: Global, rows: &[RowText<'_>]) -> Result<Vec<Span>, Memory>
-    ensures { IfOk result (λ spans. (c : ℕ) → list_any (within c) spans.items ≡ list_any (puts (Mark.Excluded) c) rows.now) }
+    ensures { IfOk result (λ spans. (c : ℕ) → list_any (within c) spans.items ≡ excluded_at rows.now c) }
 {
     let mut spans = Vec::new(alloc);
     'rows: for row in rows {
@@ -65,7 +67,7 @@ fn excluded_of(alloc: Global, rows: &[RowText<'_>]) -> Result<Vec<Span>, Memory>
 
 /// The code points of a row of CompositionExclusions.txt.
 fn excluded_span(row: &RowText<'_>) -> Option<Span>
-    ensures { (c : ℕ) → covers c result ≡ puts (Mark.Excluded) c row.now }
+    ensures { (c : ℕ) → covers c result ≡ excludes c row.now }
 {
     match row.row() {
         RowRef::Exclusion(row) => Some(row.span),
@@ -73,29 +75,8 @@ fn excluded_span(row: &RowText<'_>) -> Option<Span>
     }
 }
 
-/// The code points that stand in the middle of a word.
-fn mid_words_of(alloc: Global, rows: &[RowText<'_>]) -> Result<Vec<Span>, Memory>
-    ensures { IfOk result (λ spans. (c : ℕ) → list_any (within c) spans.items ≡ list_any (puts (Mark.MidWord) c) rows.now) }
-{
-    let mut spans = Vec::new(alloc);
-    'rows: for row in rows {
-        push_some(&mut spans, mid_word_span(row))?;
-    }
-    Ok(spans)
-}
-
-/// The code points of a row with a value in the middle of a word.
-fn mid_word_span(row: &RowText<'_>) -> Option<Span>
-    ensures { (c : ℕ) → covers c result ≡ puts (Mark.MidWord) c row.now }
-{
-    match row.value() {
-        Some(ValueText { span, value }) if is_mid_word_value(value) => Some(span),
-        _ => None,
-    }
-}
-
 /// Puts the span, where there is one, at the end.
-fn push_some(spans: &mut Vec<Span>, span: Option<Span>) -> Result<(), Memory>
+pub fn push_some(spans: &mut Vec<Span>, span: Option<Span>) -> Result<(), Memory>
     ensures { OnOk result ((c : ℕ) → list_any (within c) spans.new.items ≡ (list_any (within c) spans.old.items || covers c span)) }
 {
     if let Some(span) = span {
@@ -106,7 +87,7 @@ fn push_some(spans: &mut Vec<Span>, span: Option<Span>) -> Result<(), Memory>
 
 /// The code points that have flags.
 fn flagged_of(alloc: Global, rows: &[RowText<'_>]) -> Result<Vec<Flagged>, Memory>
-    ensures { IfOk result (λ flagged. (flag : FlagValue) (c : ℕ) → list_any (is_flagged flag c) flagged.items ≡ list_any (puts (Mark.Flagged flag) c) rows.now) }
+    ensures { IfOk result (λ flagged. (flag : FlagValue) (c : ℕ) → list_any (is_flagged flag c) flagged.items ≡ flag_at rows.now flag c) }
 {
     let mut flagged = Vec::new(alloc);
     'rows: for row in rows {
@@ -117,7 +98,7 @@ fn flagged_of(alloc: Global, rows: &[RowText<'_>]) -> Result<Vec<Flagged>, Memor
 
 /// Puts the code points of a row with the flag that it names at the end.
 fn push_row(flagged: &mut Vec<Flagged>, row: &RowText<'_>) -> Result<(), Memory>
-    ensures { OnOk result ((flag : FlagValue) (c : ℕ) → list_any (is_flagged flag c) flagged.new.items ≡ (list_any (is_flagged flag c) flagged.old.items || puts (Mark.Flagged flag) c row.now)) }
+    ensures { OnOk result ((flag : FlagValue) (c : ℕ) → list_any (is_flagged flag c) flagged.new.items ≡ (list_any (is_flagged flag c) flagged.old.items || gives_value (flag_name flag) c row.now)) }
 {
     if let Some(ValueText { span, value }) = row.value() {
         push_flags(flagged, span, value)?;

@@ -3,6 +3,7 @@
 ghost use Rattle.std.specs.Prelude.{◌≡◌, ℕ, ◌+◌, ◌<◌, ◌^◌, IfOk};
 ghost use Rattle.std.specs.List.{list_any};
 ghost use Rattle.range_table.specs.Values.{SameValues};
+ghost use Rattle.release_rows.specs.ValuesApart.{AreValuesApart};
 ghost use Rattle.range_table.specs.RunTable.{values_now};
 ghost use Rattle.ucd_model.specs.Facts.{Sources, within};
 ghost use Rattle.code_facts.specs.RowLists.{sources_of};
@@ -21,6 +22,7 @@ use ucd_model::{Flag, Memory, Span};
 ///
 /// - `Memory`: memory ran out.
 pub fn marks(alloc: Global, rows: &RowLists<'_>) -> Result<RunTable<u64>, Memory>
+    requires { AreValuesApart rows.now.word_break.items }
     ensures { IfOk result (λ table. SameValues (values_now table) (marks_at (sources_of rows.now))) }
 {
     let spans = MarkRows::of(alloc, rows)?;

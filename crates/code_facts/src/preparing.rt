@@ -34,7 +34,9 @@ impl<T: Table<u64>> FactTables<T> {
     /// The facts of the rows of a release now; next they are the same. UAX #44, sections 5.3, 5.6 and 5.7.
     ///
     /// It takes time by the number of rows, and by its logarithm: no work is done for each code point of a span, but
-    /// for Hangul syllables, each of which has a mapping of its own, and for canonical mappings of two members.
+    /// for Hangul syllables, each of which has a mapping of its own, and for canonical mappings of two members. If a
+    /// missing row gives a Word_Break value in the middle of a word, each row of WordBreakProperty.txt takes time by the
+    /// blocks of 256 code points of its span too.
     /// Room that no value takes up is given back at the end.
     ///
     /// - `Memory`: memory ran out.

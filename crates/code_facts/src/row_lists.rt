@@ -1,8 +1,9 @@
 //! The rows of a release, file by file.
 
 ghost use Rattle.std.specs.Prelude.{◌≡◌, filter, IfOk};
-ghost use Rattle.ucd_points.specs.declared.files.SourceFile.TheVariants.{UnicodeData};
+ghost use Rattle.ucd_points.specs.declared.files.SourceFile.TheVariants.{UnicodeData, WordBreakProperty};
 ghost use Rattle.release_rows.specs.Touching.{meets};
+ghost use Rattle.release_rows.specs.ValuesApart.{AreValuesApart};
 ghost use Rattle.code_facts.specs.Locality.{rows_within};
 ghost use Rattle.code_facts.specs.RowLists.{AreRowsOf};
 ghost use Rattle.code_facts.specs.Rows.{Apart, next_sources, release_sources};
@@ -29,25 +30,27 @@ pub struct RowLists<'a> {
 }
 
 impl<'a> RowLists<'a> {
-    /// The rows of a release now. No two of UnicodeData.txt cover the same code point.
+    /// The rows of a release now. No two of UnicodeData.txt cover the same code point, nor two of WordBreakProperty.txt
+    /// but missing rows.
     ///
     /// - `Memory`: memory ran out.
     pub fn of(alloc: Global, release: &'a Release) -> Result<RowLists<'a>, Memory>
         ensures rows { IfOk result (λ lists. AreRowsOf lists (release_sources release.now)) }
         ensures apart { IfOk result (λ lists. Apart lists.unicode_data.items) }
+        ensures word_breaks_apart { IfOk result (λ lists. AreValuesApart lists.word_break.items) }
     {
         Ok(RowLists {
             unicode_data: data_rows_of(alloc, release)?,
             case_folding: rows_of(alloc, release, SourceFile::CaseFolding)?,
             special_casing: rows_of(alloc, release, SourceFile::SpecialCasing)?,
             prop_list: rows_of(alloc, release, SourceFile::PropList)?,
-            word_break: rows_of(alloc, release, SourceFile::WordBreakProperty)?,
+            word_break: word_breaks_of(alloc, release)?,
             exclusions: rows_of(alloc, release, SourceFile::CompositionExclusions)?,
         })
     }
 
     /// The rows of a release next that speak of a code point in some of the spans. No two of UnicodeData.txt cover the
-    /// same code point.
+    /// same code point, nor two of WordBreakProperty.txt but missing rows.
     ///
     /// - `Memory`: memory ran out.
     pub fn touching(
@@ -57,13 +60,14 @@ impl<'a> RowLists<'a> {
     ) -> Result<RowLists<'a>, Memory>
         ensures rows { IfOk result (λ lists. AreRowsOf lists (rows_within (meets spans.now) (next_sources release.now))) }
         ensures apart { IfOk result (λ lists. Apart lists.unicode_data.items) }
+        ensures word_breaks_apart { IfOk result (λ lists. AreValuesApart lists.word_break.items) }
     {
         Ok(RowLists {
             unicode_data: data_rows_in(alloc, release, spans)?,
             case_folding: release.next_rows_in(alloc, SourceFile::CaseFolding, spans)?,
             special_casing: release.next_rows_in(alloc, SourceFile::SpecialCasing, spans)?,
             prop_list: release.next_rows_in(alloc, SourceFile::PropList, spans)?,
-            word_break: release.next_rows_in(alloc, SourceFile::WordBreakProperty, spans)?,
+            word_break: word_breaks_in(alloc, release, spans)?,
             exclusions: release.next_rows_in(alloc, SourceFile::CompositionExclusions, spans)?,
         })
     }
@@ -108,4 +112,31 @@ fn data_rows_in<'a>(
 {
     let _rows = release.next_rows(SourceFile::UnicodeData);
     release.next_rows_in(alloc, SourceFile::UnicodeData, spans)
+}
+
+/// The rows of WordBreakProperty.txt now. No two of them but missing rows cover the same code point.
+///
+/// - `Memory`: memory ran out.
+fn word_breaks_of(alloc: Global, release: &Release) -> Result<Vec<RowText<'_>>, Memory>
+    ensures rows { IfOk result (λ rows. rows.items ≡ release_sources release.now WordBreakProperty) }
+    ensures apart { IfOk result (λ rows. AreValuesApart rows.items) }
+{
+    let _rows = release.rows(SourceFile::WordBreakProperty);
+    rows_of(alloc, release, SourceFile::WordBreakProperty)
+}
+
+/// The rows of WordBreakProperty.txt next that speak of a code point in some of the spans. No two of them but missing
+/// rows cover the same code point.
+///
+/// - `Memory`: memory ran out.
+fn word_breaks_in<'a>(
+    alloc: Global,
+    release: &'a Release,
+    spans: &[Span],
+) -> Result<Vec<RowText<'a>>, Memory>
+    ensures rows { IfOk result (λ rows. rows.items ≡ filter (meets spans.now) (next_sources release.now WordBreakProperty)) }
+    ensures apart { IfOk result (λ rows. AreValuesApart rows.items) }
+{
+    let _rows = release.next_rows(SourceFile::WordBreakProperty);
+    release.next_rows_in(alloc, SourceFile::WordBreakProperty, spans)
 }

@@ -3,6 +3,7 @@
 ghost use Rattle.std.specs.Prelude.{◌≡◌, ℕ, ◌+◌, ◌<◌, ◌≤◌, true, IsTrue, IfOk, MatchOption};
 ghost use Rattle.std.specs.Option.{option_to_list};
 ghost use Rattle.range_table.specs.RunTable.{values_now};
+ghost use Rattle.release_rows.specs.ValuesApart.{AreValuesApart};
 ghost use Rattle.ucd_model.specs.Facts.{data_row, class_in};
 ghost use Rattle.ucd_points.specs.declared.files.SourceFile.TheVariants.{UnicodeData};
 ghost use Rattle.code_facts.specs.DataTables.{data_now};
@@ -43,7 +44,8 @@ impl RowTables {
     ///
     /// - `Memory`: memory ran out.
     pub fn of(alloc: Global, rows: &RowLists<'_>) -> Result<RowTables, Memory>
-        requires { Apart rows.now.unicode_data.items }
+        requires apart { Apart rows.now.unicode_data.items }
+        requires word_breaks_apart { AreValuesApart rows.now.word_break.items }
         ensures { IfOk result (λ made. (c : ℕ) → c < 1114112 → ShowsRows made (sources_of rows.now) c) }
     {
         let data_tables = DataTables::of(alloc, rows)?;

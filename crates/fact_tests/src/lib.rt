@@ -5,3 +5,5 @@
 mod changes;
 #[cfg(test)]
 mod names;
+#[cfg(test)]
+mod word_breaks;

@@ -9,7 +9,7 @@ use Rattle.code_facts.proofs.marks.with_mark.Goals as goal
 pub returns-then-is_empty : goal.returns-then-is_empty
 returns-then-is_empty c = λ sources keeps k lt.
     let none : length c.in_ok-spans.spans.items ≡ 0 = grind (arith, nat_tests, c.is_empty.ensures, c.if-is_empty.true) in
-    omega (arith, no_bit c.in_ok-spans.spans.items c.args.mark sources k (c.in_ok-spans.ensures sources keeps) none)
+    omega (arith, no_bit c.in_ok-spans.spans.items c.args.mark sources k lt (c.in_ok-spans.ensures sources keeps) none)
 
 pub summed-requires : goal.summed-requires
 summed-requires c k lt =
@@ -18,4 +18,4 @@ summed-requires c k lt =
 pub returns : goal.returns
 returns c = λ sources keeps.
     if_ok_map c.summed.result _ _ (λ sum h k lt.
-    h k lt ∙ ap (λ n. values_now c.args.table k + n) (c.in_ok-one.ensures k lt ∙ bit_of c.in_ok-spans.spans.items c.args.mark sources k c.word.result (c.in_ok-spans.ensures sources keeps) c.word.ensures.value)) c.summed.ensures
+    h k lt ∙ ap (λ n. values_now c.args.table k + n) (c.in_ok-one.ensures k lt ∙ bit_of c.in_ok-spans.spans.items c.args.mark sources k c.word.result lt (c.in_ok-spans.ensures sources keeps) c.word.ensures.value)) c.summed.ensures

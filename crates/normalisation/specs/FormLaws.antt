@@ -9,12 +9,18 @@
 --                               point has its expansion
 -- NfcOfMembers, NfkcOfMembers   the NFC of each member alone of an NFC is that member, and so for NFKC, where each code point has
 --                               its expansion
-use Rattle.std.specs.Prelude.{◌≡◌, ℕ, ◌<◌, Bool, true, false, List, [], ◌∷◌, Ok}
+-- FormsAreTogether              the four forms of a list are together exactly where each of them is there
+-- PlainForms                    each form of a code point without a mapping is that code point
+use Rattle.std.specs.Prelude.{◌≡◌, ℕ, ◌<◌, Bool, true, false, List, [], ◌∷◌, Ok, ◌↔◌}
 use Rattle.std.specs.List.{All}
 use Rattle.ucd_points.specs.Limits.{point_count}
 use Rattle.ucd_model.specs.Facts.{Facts}
 use Rattle.ucd_model.specs.Expansion.{expansion}
 use Rattle.ucd_model.specs.Forms.{nfd, nfc, nfkd, nfkc}
+use Rattle.ucd_model.specs.declared.decomposition.Kind.TheVariants.{Plain}
+use Rattle.ucd_model.specs.declared.form.Form.{Form}
+use Rattle.normalisation.specs.FormValues.{AreForms, form_of, four_forms}
+use Rattle.normalisation.specs.declared.all_forms.Forms.{Forms}
 
 abbrev pub HasExpansion : (ℕ → Facts) → Bool → ℕ → Type 0
 HasExpansion F compat c = (points : List ℕ) × (expansion F compat c ≡ Ok points)
@@ -45,3 +51,9 @@ NfcOfMembers = (F : ℕ → Facts) (s t : List ℕ) → HaveExpansions F false �
 
 abbrev pub NfkcOfMembers : Type 0
 NfkcOfMembers = (F : ℕ → Facts) (s t : List ℕ) → HaveExpansions F true → nfkc F s ≡ Ok t → All (λ x. nfkc F (x ∷ []) ≡ Ok (x ∷ [])) t
+
+abbrev pub FormsAreTogether : Type 0
+FormsAreTogether = (F : ℕ → Facts) (s : List ℕ) (forms : Forms) → (four_forms F s ≡ Ok forms) ↔ AreForms F s forms
+
+abbrev pub PlainForms : Type 0
+PlainForms = (F : ℕ → Facts) (c : ℕ) → (F c).kind ≡ Plain → (form : Form) → form_of F form (c ∷ []) ≡ Ok (c ∷ [])

@@ -8,7 +8,9 @@ pub mod OrderLemmas
 pub mod OrderProofs
 pub mod CompositionLaws
 pub mod CompositionProofs
+pub mod FormValues
 pub mod FormLaws
 pub mod ExpandedLemmas
 pub mod StableLemmas
 pub mod FormProofs
+pub mod FormValueProofs

@@ -1,6 +1,6 @@
 //! The laws of the forms: each function here does nothing, and its contract is a law. UAX #15, section 1.2.
 
-ghost use Rattle.normalisation.specs.FormLaws.{NfdTwice, NfkdTwice, NfcTwice, NfkcTwice, NfdOfNfc, NfkdOfNfkc, NfcOfMembers, NfkcOfMembers};
+ghost use Rattle.normalisation.specs.FormLaws.{NfdTwice, NfkdTwice, NfcTwice, NfkcTwice, NfdOfNfc, NfkdOfNfkc, NfcOfMembers, NfkcOfMembers, FormsAreTogether, PlainForms};
 
 /// Normalisation Form D of its own result is that result.
 pub fn nfd_twice()
@@ -42,4 +42,14 @@ pub fn nfc_of_members()
 /// member.
 pub fn nfkc_of_members()
     ensures { NfkcOfMembers }
+{}
+
+/// The four forms of a list are together exactly if each of them is there.
+pub fn forms_are_together()
+    ensures { FormsAreTogether }
+{}
+
+/// Each form of a code point without a mapping is that code point.
+pub fn plain_forms()
+    ensures { PlainForms }
 {}

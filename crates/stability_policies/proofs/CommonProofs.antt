@@ -3,14 +3,14 @@ use Rattle.std.proofs.Common.{◌≡◌, ℕ, true, List, sym, subst, ◌∙◌}
 use Rattle.release_rows.specs.Releases.{ReleaseItems}
 use Rattle.ucd_model.specs.Facts.{Facts, facts}
 use Rattle.ucd_model.specs.declared.form.Form.{Form}
-use Rattle.stability_policies.specs.CommonForms.{AllAssigned, AreForms, KeepsForms, ListsNone}
-use Rattle.stability_policies.specs.FormValues.{HasList, form_of}
+use Rattle.normalisation.specs.FormValues.{AreForms, HasList, form_of}
+use Rattle.normalisation.specs.declared.all_forms.Forms.{Forms}
+use Rattle.stability_policies.specs.CommonForms.{AllAssigned, KeepsForms, ListsNone}
 use Rattle.stability_policies.specs.Policies.{caseless}
 use Rattle.stability_policies.specs.Reports.{report}
 use Rattle.stability_policies.specs.StableForms.{SameForms}
 use Rattle.stability_policies.specs.Views.{IsValid, rows_of}
 use Rattle.stability_policies.specs.declared.breaks.Break.{Break}
-use Rattle.stability_policies.specs.declared.common.Forms.{Forms}
 use Rattle.stability_policies.specs.declared.policy.Policy.TheVariants.{P10}
 use Rattle.stability_policies.proofs.ListedProofs.{caseless_given, each_old, folds_alike, form_given, old_expansions, stays_normal}
 use Rattle.stability_policies.proofs.StableProofs.{caseless_stays, forms_stay}

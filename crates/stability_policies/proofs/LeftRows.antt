@@ -7,7 +7,7 @@ use Rattle.std.proofs.lemmas.Slice.Eq.{bytes_eq-Decides}
 use Rattle.std.specs.Str.{bytes_eq}
 use Rattle.ucd_model.specs.Facts.{within}
 use Rattle.ucd_model.specs.declared.row.Row.{Row}
-use Rattle.ucd_model.specs.declared.row.Row.TheVariants.{Unit as DataLine, Value as ValueLine, Exclusion as ExclusionLine, Fold as FoldLine, Casing as CasingLine, Alias as AliasLine}
+use Rattle.ucd_model.specs.declared.row.Row.TheVariants.{Unit as DataLine, Value as ValueLine, Exclusion as ExclusionLine, Fold as FoldLine, Casing as CasingLine, Alias as AliasLine, Missing as MissingLine}
 use Rattle.stability_policies.specs.NamedRows.{AreAbove, AreLeft, Takes, name_at, named, named_in, news, olds}
 use Rattle.stability_policies.specs.Policies.{differ}
 use Rattle.stability_policies.specs.declared.differing.Step.{Step}
@@ -89,6 +89,7 @@ module _ (old new : List NamedRow) where
   both_left bs ds (FoldLine row) xs ys left = left
   both_left bs ds (CasingLine row) xs ys left = left
   both_left bs ds (AliasLine row) xs ys left = left
+  both_left bs ds (MissingLine row) xs ys left = left
 
   pub step_left : (bs cs ds es : List NamedRow) (i j : ℕ) (olds_all news_all : List Row) (x y : Row) (step : Step) → i < length olds_all → j < length news_all → x ≡ get_or olds_all i x → y ≡ get_or news_all j y
       → Takes x y step bs cs ds es → AreLeft old new (bs ++ named (drop i olds_all)) (ds ++ named (drop j news_all)) → AreLeft old new (cs ++ named (drop (i + olds step) olds_all)) (es ++ named (drop (j + news step) news_all))

@@ -14,3 +14,4 @@ pub mod StableProofs
 pub mod ListedProofs
 pub mod CommonProofs
 pub mod QuietFoldings
+pub mod ChainProofs

@@ -8,7 +8,7 @@ use Rattle.release_rows.specs.Releases.{ReleaseItems}
 use Rattle.ucd_model.specs.Composites.{first_has_class_zero, is_canonical, primary}
 use Rattle.ucd_model.specs.Facts.{Facts, Sources, data_row, facts, given, kind_in}
 use Rattle.ucd_model.specs.FactsLemmas.{facts_inside, facts_outside}
-use Rattle.ucd_model.specs.Forms.{appended, composed, decomposed, expansions, in_order, nfkc}
+use Rattle.ucd_model.specs.Forms.{nfkc}
 use Rattle.ucd_points.specs.Limits.{point_count}
 use Rattle.ucd_model.specs.Validity.{lacks_row}
 use Rattle.ucd_model.specs.ValidityLaws.{IsValid as AllHaveRecords}
@@ -16,11 +16,12 @@ use Rattle.ucd_model.specs.ValidityProofs.{broken-none, broken-rules, valid_expa
 use Rattle.ucd_points.specs.declared.files.SourceFile.TheVariants.{UnicodeData}
 use Rattle.ucd_model.specs.declared.form.Bad.{Bad as Rule}
 use Rattle.ucd_model.specs.declared.form.Form.{Form}
-use Rattle.ucd_model.specs.declared.form.Form.TheVariants.{Nfd, Nfc, Nfkd, Nfkc}
+use Rattle.ucd_model.specs.declared.form.Form.TheVariants.{Nfkc}
 use Rattle.ucd_model.specs.declared.row.DataRow.{DataRow}
-use Rattle.normalisation.specs.FormLaws.{HaveExpansions}
+use Rattle.normalisation.specs.FormValues.{HasList, form_of}
+use Rattle.normalisation.specs.FormLaws.{HasExpansion, HaveExpansions}
+use Rattle.normalisation.specs.FormValueProofs.{forms_given}
 use Rattle.stability_policies.specs.CommonForms.{AllAssigned, KeepsForms, ListsNone}
-use Rattle.stability_policies.specs.FormValues.{HasList, form_of}
 use Rattle.stability_policies.specs.Policies.{all_assigned, breaks, caseless, folded, place_of_policy, policies, same_list, same_mapping, sort_of}
 use Rattle.stability_policies.specs.Reports.{breaks_of, is_of, report}
 use Rattle.stability_policies.specs.StableForms.{FoldsAlike, IsRooted, Old, StaysNormal}
@@ -232,6 +233,9 @@ module _ (old new : ReleaseItems) where
   stays_normal valid keeps =
       stays_by F G (has_rows valid) (quiet_assigned old new keeps.assigned) (quiet_class old new keeps.class) (quiet_mapping old new keeps.mapping) (quiet_composites old new keeps.composites)
 
+  pub stays_assigned : KeepsForms (report old new) → (c : ℕ) → Old F c → Old G c
+  stays_assigned keeps c is = not_false (G c).assigned (and_left_true (F c).assigned (not (G c).assigned) is (quiet_assigned old new keeps.assigned c (point_of (rows_of old) c is)))
+
   pub folds_alike : ListsNone P10 (report old new) → FoldsAlike F G
   folds_alike none c is =
       not_false (same_list (caseless F (c ∷ [])) (caseless G (c ∷ [])))
@@ -242,33 +246,16 @@ module _ (old new : ReleaseItems) where
 
   -- ---- lists that are there
 
-  expansions_given : (compat : Bool) → IsValid old → (s : List ℕ) → Each (Old F) s → HasList (expansions F compat s)
-  expansions_given compat valid [] e = ([], refl)
-  expansions_given compat valid (c ∷ s) e =
-      let here = old_expansions compat valid c (point_of (rows_of old) c e.0) in
-      let more = expansions_given compat valid s e.1 in
-      (here.0 ++ more.0, ap (λ r. appended r (expansions F compat s)) here.1 ∙ ap (appended (Ok here.0)) more.1)
-
-  ordered_given : (r : Result (List ℕ) Rule) → HasList r → HasList (in_order F r)
-  ordered_given (Ok xs) has = (_, refl)
-  ordered_given (Err rule) has = absurd (let h = has.1 in cc)
-
-  composed_given : (r : Result (List ℕ) Rule) → HasList r → HasList (composed F r)
-  composed_given (Ok xs) has = (_, refl)
-  composed_given (Err rule) has = absurd (let h = has.1 in cc)
-
   folded_given : (r : Result (List ℕ) Rule) → HasList r → HasList (folded F r)
   folded_given (Ok xs) has = (_, refl)
   folded_given (Err rule) has = absurd (let h = has.1 in cc)
 
-  decomposed_given : (compat : Bool) → IsValid old → (s : List ℕ) → Each (Old F) s → HasList (decomposed F compat s)
-  decomposed_given compat valid s e = ordered_given (expansions F compat s) (expansions_given compat valid s e)
+  old_expand : (compat : Bool) → IsValid old → (s : List ℕ) → Each (Old F) s → Each (HasExpansion F compat) s
+  old_expand compat valid [] e = tt
+  old_expand compat valid (c ∷ s) e = (old_expansions compat valid c (point_of (rows_of old) c e.0), old_expand compat valid s e.1)
 
   pub form_given : IsValid old → (form : Form) (s : List ℕ) → Each (Old F) s → HasList (form_of F form s)
-  form_given valid Nfd s e = decomposed_given false valid s e
-  form_given valid Nfc s e = composed_given (decomposed F false s) (decomposed_given false valid s e)
-  form_given valid Nfkd s e = decomposed_given true valid s e
-  form_given valid Nfkc s e = composed_given (decomposed F true s) (decomposed_given true valid s e)
+  form_given valid form s e = forms_given F s (λ compat. old_expand compat valid s e) form
 
   pub caseless_given : IsValid old → (s : List ℕ) → Each (Old F) s → HasList (caseless F s)
   caseless_given valid s e = folded_given (nfkc F s) (form_given valid Nfkc s e)

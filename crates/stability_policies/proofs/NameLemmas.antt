@@ -9,7 +9,7 @@ use Rattle.ucd_points.specs.Limits.{point_count}
 use Rattle.ucd_points.specs.declared.files.SourceFile.TheVariants.{UnicodeData}
 use Rattle.ucd_model.specs.Facts.{data_in, data_row, is_data_of, within}
 use Rattle.ucd_model.specs.declared.row.Row.{Row}
-use Rattle.ucd_model.specs.declared.row.Row.TheVariants.{Unit as DataLine, Value as ValueLine, Exclusion as ExclusionLine, Fold as FoldLine, Casing as CasingLine, Alias as AliasLine}
+use Rattle.ucd_model.specs.declared.row.Row.TheVariants.{Unit as DataLine, Value as ValueLine, Exclusion as ExclusionLine, Fold as FoldLine, Casing as CasingLine, Alias as AliasLine, Missing as MissingLine}
 use Rattle.stability_policies.specs.NamedRows.{AreAbove, BeginsAt, IsRest, end_at, left_behind, name_at, name_here, named}
 use Rattle.stability_policies.specs.Policies.{differ, is_renamed, name_of}
 use Rattle.stability_policies.specs.Reports.{breaks_of}
@@ -34,6 +34,7 @@ name_is (ExclusionLine row ∷ rows) c = name_is rows c
 name_is (FoldLine row ∷ rows) c = name_is rows c
 name_is (CasingLine row ∷ rows) c = name_is rows c
 name_is (AliasLine row ∷ rows) c = name_is rows c
+name_is (MissingLine row ∷ rows) c = name_is rows c
 
 -- ---- rows that follow one another
 

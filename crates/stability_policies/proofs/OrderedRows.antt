@@ -4,12 +4,12 @@ use Rattle.std.specs.List.{All, list_any}
 use Rattle.std.proofs.lemmas.Bool.Decides.{nat_tests}
 use Rattle.std.proofs.lemmas.List.{append-nil}
 use Rattle.std.proofs.lemmas.List.Elements.{All-cons, All-head, All-nil}
-use Rattle.ucd_points.specs.Lines.{is_trivia}
+use Rattle.ucd_points.specs.MissingLines.{is_trivia}
 use Rattle.ucd_model.specs.RowValues.{RowOk}
 use Rattle.ucd_points.specs.declared.files.SourceFile.TheVariants.{UnicodeData}
 use Rattle.ucd_model.specs.declared.row.DataRow.{DataRow}
 use Rattle.ucd_model.specs.declared.row.Row.{Row}
-use Rattle.ucd_model.specs.declared.row.Row.TheVariants.{Unit as DataLine, Value as ValueLine, Exclusion as ExclusionLine, Fold as FoldLine, Casing as CasingLine, Alias as AliasLine}
+use Rattle.ucd_model.specs.declared.row.Row.TheVariants.{Unit as DataLine, Value as ValueLine, Exclusion as ExclusionLine, Fold as FoldLine, Casing as CasingLine, Alias as AliasLine, Missing as MissingLine}
 use Rattle.source_rows.specs.Faults.{row_or_fault}
 use Rattle.source_rows.specs.Laws.{RowsAreOk, RowsAreRead}
 use Rattle.source_rows.specs.declared.fault.RowFault.{RowFault}
@@ -25,12 +25,12 @@ use Rattle.stability_policies.specs.NamedRows.{AreAbove, named}
 
 module _ (read : RowsAreRead) (ok : RowsAreOk) where
   read_row : (content : List ℕ) (row : Row) → content_row UnicodeData content ≡ Ok (Some row) → row_or_fault UnicodeData content ≡ Ok row
-  read_row content row h = by (is_trivia content) (row_or_fault UnicodeData content) refl refl
+  read_row content row h = by (is_trivia UnicodeData content) (row_or_fault UnicodeData content) refl refl
     where
       same_row : (a b : Row) → (let x : Result (Option Row) RowFault = Ok (Some a) in x ≡ Ok (Some b)) → a ≡ b
       same_row a b e = cc
 
-      by : (b : Bool) (r : Result Row RowFault) → is_trivia content ≡ b → row_or_fault UnicodeData content ≡ r → row_or_fault UnicodeData content ≡ Ok row
+      by : (b : Bool) (r : Result Row RowFault) → is_trivia UnicodeData content ≡ b → row_or_fault UnicodeData content ≡ r → row_or_fault UnicodeData content ≡ Ok row
       by true r e f = absurd (let k = (rw e at h) in cc)
       by false (Ok other) e f = f ∙ ap Ok (same_row other row (rw (e, f) at h))
       by false (Err fault) e f = absurd (let k = (rw (e, f) at h) in cc)
@@ -96,6 +96,7 @@ module _ (read : RowsAreRead) (ok : RowsAreOk) where
   above_by item rest above next m n (Some (FoldLine x)) is content free from rise leaves more = absurd (row_ok read ok item.content (FoldLine x) content)
   above_by item rest above next m n (Some (CasingLine x)) is content free from rise leaves more = absurd (row_ok read ok item.content (CasingLine x) content)
   above_by item rest above next m n (Some (AliasLine x)) is content free from rise leaves more = absurd (row_ok read ok item.content (AliasLine x) content)
+  above_by item rest above next m n (Some (MissingLine x)) is content free from rise leaves more = absurd (row_ok read ok item.content (MissingLine x) content)
 
   rows_above : (above items : List FileItem) (m n : ℕ) → AreKeptBelow UnicodeData above items → All (begins_from m) (rows_in items) → Rises (rows_in items) → Leaves (rows_in above) m n → AreAbove n (named (rows_in items))
   rows_above above [] m n kept from rise leaves = tt

@@ -2,15 +2,12 @@
 --
 -- ListsNone P breaks    no break of the policy P is listed
 -- AllAssigned F s       each member of the list s is assigned
--- AreForms F s forms    the four forms of s
 -- KeepsForms breaks     nothing of P01, P03, P04 and P05 is listed
-use Rattle.std.specs.Prelude.{◌≡◌, ℕ, true, false, List, Ok}
+use Rattle.std.specs.Prelude.{◌≡◌, ℕ, true, false, List}
 use Rattle.std.specs.List.{list_all, list_any}
 use Rattle.ucd_model.specs.Facts.{Facts}
-use Rattle.ucd_model.specs.Forms.{nfd, nfc, nfkd, nfkc}
 use Rattle.stability_policies.specs.Reports.{is_of}
 use Rattle.stability_policies.specs.declared.breaks.Break.{Break}
-use Rattle.stability_policies.specs.declared.common.Forms.{Forms}
 use Rattle.stability_policies.specs.declared.policy.Policy.{Policy}
 use Rattle.stability_policies.specs.declared.policy.Policy.TheVariants.{P01, P03, P04, P05}
 
@@ -25,9 +22,3 @@ pub record KeepsForms (breaks : List Break) : Type 0 where
   pub class : ListsNone P03 breaks
   pub mapping : ListsNone P04 breaks
   pub composites : ListsNone P05 breaks
-
-pub record AreForms (F : ℕ → Facts) (s : List ℕ) (forms : Forms) : Type 0 where
-  pub nfd : nfd F s ≡ Ok forms.nfd
-  pub nfc : nfc F s ≡ Ok forms.nfc
-  pub nfkd : nfkd F s ≡ Ok forms.nfkd
-  pub nfkc : nfkc F s ≡ Ok forms.nfkc

@@ -11,4 +11,4 @@ pub mod PolicyLists
 pub mod NamedRows
 pub mod StableForms
 pub mod ReportLaws
-pub mod FormValues
+pub mod ChainForms

@@ -1,10 +1,8 @@
 //! What the two releases have in common where the report lists nothing of some policies.
 
 ghost use Rattle.std.specs.Prelude.{◌≡◌, Ok, IfOk};
-ghost use Rattle.stability_policies.specs.CommonForms.{AllAssigned, AreForms, KeepsForms, ListsNone};
-ghost use Rattle.ucd_model.specs.Expansion.{FormAnswers};
-ghost use Rattle.ucd_model.specs.declared.form.Form.{Form as FormValue};
-ghost use Rattle.stability_policies.specs.FormValues.{HasList, form_of};
+ghost use Rattle.stability_policies.specs.CommonForms.{AllAssigned, KeepsForms, ListsNone};
+ghost use Rattle.normalisation.specs.FormValues.{AreForms, HasList};
 ghost use Rattle.stability_policies.specs.Policies.{caseless};
 ghost use Rattle.stability_policies.specs.Reports.{report};
 ghost use Rattle.stability_policies.specs.Views.{Belongs, IsValid};
@@ -12,23 +10,10 @@ ghost use Rattle.stability_policies.specs.declared.policy.Policy.TheVariants.{P1
 
 use crate::breaks::Breaks;
 use crate::caseless::caseless;
-use normalisation::{nfc, nfd, nfkc, nfkd};
+use normalisation::Forms;
 use release_rows::Release;
 use std::alloc::Global;
-use ucd_model::{FactView, Form, FormStop, Memory, Point, Points, Records};
-
-/// The four normalisation forms of a list of code points. UAX #15, section 1.2.
-#[derive(Debug, Drop)]
-pub struct Forms {
-    /// Normalisation Form D.
-    pub nfd: Points,
-    /// Normalisation Form C.
-    pub nfc: Points,
-    /// Normalisation Form KD.
-    pub nfkd: Points,
-    /// Normalisation Form KC.
-    pub nfkc: Points,
-}
+use ucd_model::{FactView, Memory, Point, Points, Records};
 
 /// The four forms of a list of code points that were assigned in the old release: they are the same in both releases,
 /// where the report lists nothing of P01, P03, P04 and P05. UAX #15, section 3.
@@ -52,7 +37,7 @@ pub fn common_forms<O: Records + FactView, N: Records + FactView>(
     ensures old { IfOk result (AreForms (O.facts_of old.now) s.now) }
     ensures new { IfOk result (AreForms (N.facts_of new.now) s.now) }
 {
-    let forms = forms_of(alloc, old, s)?;
+    let forms = Forms::of(alloc, old, s)?;
     Ok(forms)
 }
 
@@ -81,58 +66,6 @@ pub fn common_caseless<O: Records + FactView, N: Records + FactView>(
 {
     let points = folding_of(alloc, old, s)?;
     Ok(points)
-}
-
-/// The four forms of a list, each of which is there.
-///
-/// - `Memory`: memory ran out.
-fn forms_of<W: FactView>(alloc: Global, view: &W, s: &[Point]) -> Result<Forms, Memory>
-    requires { (form : FormValue) → HasList (form_of (W.facts_of view.now) form s.now) }
-    ensures { IfOk result (AreForms (W.facts_of view.now) s.now) }
-{
-    let nfd = form_of(alloc, view, Form::Nfd, s)?;
-    let nfc = form_of(alloc, view, Form::Nfc, s)?;
-    let nfkd = form_of(alloc, view, Form::Nfkd, s)?;
-    let nfkc = form_of(alloc, view, Form::Nfkc, s)?;
-    Ok(Forms {
-        nfd,
-        nfc,
-        nfkd,
-        nfkc,
-    })
-}
-
-/// A form of a list, which is there.
-///
-/// - `Memory`: memory ran out.
-fn form_of<W: FactView>(alloc: Global, view: &W, form: Form, s: &[Point]) -> Result<Points, Memory>
-    requires { HasList (form_of (W.facts_of view.now) form s.now) }
-    ensures { IfOk result (λ points. form_of (W.facts_of view.now) form s.now ≡ Ok points) }
-{
-    match answer_of(alloc, view, form, s) {
-        Ok(points) => Ok(points),
-        Err(FormStop::Bad(_)) => unreachable!(),
-        Err(FormStop::Memory) => Err(Memory),
-    }
-}
-
-/// A form of a list, or the rule that its first member without an expansion breaks.
-///
-/// - `Memory`: memory ran out.
-fn answer_of<W: FactView>(
-    alloc: Global,
-    view: &W,
-    form: Form,
-    s: &[Point],
-) -> Result<Points, FormStop>
-    ensures { FormAnswers result (form_of (W.facts_of view.now) form s.now) }
-{
-    match form {
-        Form::Nfd => nfd(alloc, view, s),
-        Form::Nfc => nfc(alloc, view, s),
-        Form::Nfkd => nfkd(alloc, view, s),
-        Form::Nfkc => nfkc(alloc, view, s),
-    }
 }
 
 /// The folding of a list under Normalisation Form KC, which is there.

@@ -25,11 +25,12 @@ mod testing;
 mod writing;
 
 pub use breaks::{Break, Breaks, lists};
-pub use common::{Forms, common_caseless, common_forms};
+pub use common::{common_caseless, common_forms};
 pub use laws::{
     caseless_stays, empty_part_keeps_caseless, empty_part_keeps_forms, forms_stay,
-    policies_are_whole,
+    forms_stay_through, policies_are_whole,
 };
+pub use normalisation::Forms;
 pub use policy::{POLICIES, Policy};
 pub use reporting::report;
 pub use writing::report_text;

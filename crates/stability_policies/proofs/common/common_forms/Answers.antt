@@ -1,8 +1,8 @@
 use Rattle.stability_policies.proofs.CommonProofs.{forms_new, old_form, same_forms}
 use Rattle.stability_policies.proofs.common.common_forms.Goals as goal
 
-pub forms_of-requires : goal.forms_of-requires
-forms_of-requires g c =
+pub of-requires : goal.of-requires
+of-requires g c =
     old_form (g.O.FactView.facts_of c.args.old.now) (g.N.FactView.facts_of c.args.new.now) c.args.old_rows.now c.args.new_rows.now c.requires.old.facts_are c.requires.new.facts_are c.requires.valid_old c.args.s.now c.requires.assigned
 
 pub returns-clause-new : goal.returns-clause-new

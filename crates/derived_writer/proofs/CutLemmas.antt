@@ -8,7 +8,7 @@ use Rattle.ucd_model.specs.CutLemmas.{cut_within}
 use Rattle.ucd_model.specs.Cuts.{IsCut}
 use Rattle.ucd_model.specs.Labels.{Label}
 use Rattle.ucd_model.specs.Records.{Record}
-use Rattle.derived_writer.specs.Runs.{IsStretch}
+use Rattle.label_runs.specs.Runs.{IsStretch}
 
 -- where the records are equal, so is what they are listed with
 pub piece_is_stretch : (R : ℕ → Record) (label : Record → Label) (lo n : ℕ) (s : Bounds) (rest : List Bounds) → IsCut R lo n (s ∷ rest) → IsStretch n (λ c. label (R c)) lo (s.hi + 1) (label (R s.lo))

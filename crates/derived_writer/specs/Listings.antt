@@ -3,9 +3,7 @@
 -- check_name form     the name of the quick check of a form; check_value form R is its value in the record R
 -- listing_section l   the section that l stands for
 -- listing_labels l R  the label of each code point in that section, over the records R
--- text_shown t        the label with the text t
-use Rattle.std.specs.Prelude.{ℕ, List, Option, Some, None, codes}
-use Rattle.std.specs.Borrow.{Bor}
+use Rattle.std.specs.Prelude.{ℕ, List, codes}
 use Rattle.ucd_model.specs.Labels.{Label}
 use Rattle.ucd_model.specs.DerivedFiles.{Section, core_listing, category_listing, class_listing, type_listing, exclusion_listing, quick_listing, casefold_listing, simple_casefold_listing, changes_listing}
 use Rattle.ucd_model.specs.Records.{Record}
@@ -40,7 +38,3 @@ listing_section ChangesCasefold = changes_listing
 
 abbrev pub listing_labels : Listing → (ℕ → Record) → ℕ → Label
 listing_labels listing R c = (listing_section listing).label (R c)
-
-abbrev pub text_shown : Option (Bor (List ℕ)) → Label
-text_shown None = None
-text_shown (Some text) = Some text.now

@@ -2,11 +2,9 @@
 #![tactic(auto)]
 
 mod file;
-mod label;
 pub mod laws;
 mod listing;
 mod names;
-mod run;
 mod section;
 mod values;
 

@@ -5,9 +5,9 @@ ghost use Rattle.ucd_model.specs.DerivedFiles.{file_sections};
 ghost use Rattle.ucd_model.specs.Records.{kept_record};
 ghost use Rattle.derived_writer.specs.Listings.{listing_section, check_value};
 
-use crate::label::LabelText;
 use crate::names::check_name;
 use crate::values::{set_binary, set_casefold, set_category, set_class, set_kind, set_quick};
+use label_runs::LabelText;
 use std::alloc::Global;
 use ucd_model::{Core, DerivedFile, Form, Memory, Quick, Record};
 

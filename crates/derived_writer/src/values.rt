@@ -3,7 +3,7 @@
 ghost use Rattle.std.specs.Prelude.{◌≡◌, OnOk};
 ghost use Rattle.ucd_model.specs.DerivedFiles.{binary_label, category_label, class_label, kind_label, quick_label, casefold_label};
 
-use crate::label::LabelText;
+use label_runs::LabelText;
 use std::alloc::Global;
 use ucd_model::{Category, Image, Kind, Memory, Quick};
 

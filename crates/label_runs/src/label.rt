@@ -4,7 +4,7 @@ ghost use Rattle.std.specs.Prelude.{◌≡◌, ◌++◌, Some, None, OnOk, codes
 ghost use Rattle.ucd_model.specs.Labels.{same_label};
 ghost use Rattle.ucd_model.specs.DerivedFiles.{listed};
 ghost use Rattle.ucd_model.specs.RowTexts.{spaced};
-ghost use Rattle.derived_writer.specs.Listings.{text_shown};
+ghost use Rattle.label_runs.specs.Runs.{text_shown};
 
 use std::alloc::Global;
 use std::marker::Model;

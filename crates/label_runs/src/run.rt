@@ -1,9 +1,9 @@
 //! A run of code points with one label, and its line.
 
-ghost use Rattle.std.specs.Prelude.{◌≡◌, ◌≤◌, ◌<◌, ◌+◌, ℕ, List, ◌++◌, None, IsSome, OnOk, IfOk};
+ghost use Rattle.std.specs.Prelude.{◌≡◌, ◌≤◌, ◌<◌, ◌+◌, ℕ, List, ◌++◌, None, IsSome, OnOk, OnErr, IfOk};
 ghost use Rattle.ucd_model.specs.Labels.{Label, same_label};
 ghost use Rattle.ucd_model.specs.LabelLemmas.{labelled_before};
-ghost use Rattle.derived_writer.specs.Runs.{lines_before, run_line, run_length, IsOpen, IsStretch};
+ghost use Rattle.label_runs.specs.Runs.{lines_before, run_line, run_length, IsOpen, IsStretch};
 
 use crate::label::LabelText;
 use std::alloc::Global;
@@ -34,7 +34,7 @@ impl Run {
     /// Goes on to `end`, with the label of what is there. Where that is another label, the line of the run so far is
     /// put, and a new run begins. The answer is how many code points the line lists.
     ///
-    /// - `Memory`: memory ran out. Nothing is told of the run and of the text then.
+    /// - `Memory`: memory ran out. The run stays as it was, and a part of its line may stand at the end of the text then.
     pub fn go_on(&mut self, label: &mut LabelText, end: u32, text: &mut Text) -> Result<u32, Memory>
         requires inside { self.old.end ≤ 1114112 }
         requires some { IsSome self.old.label → self.old.first < self.old.end }
@@ -45,6 +45,7 @@ impl Run {
         ensures opens { OnOk result ((n : ℕ) (f : ℕ → Label) → IsOpen n f self.old.first self.old.end self.old.label → IsStretch n f self.old.end end label.old → IsOpen n f self.new.first self.new.end self.new.label) }
         ensures lines { OnOk result ((n : ℕ) (f : ℕ → Label) → IsOpen n f self.old.first self.old.end self.old.label → IsStretch n f self.old.end end label.old → (front : List ℕ) → text.old ≡ front ++ lines_before n f self.old.first → text.new ≡ front ++ lines_before n f self.new.first) }
         ensures total { IfOk result (λ count. (n : ℕ) (f : ℕ → Label) → IsOpen n f self.old.first self.old.end self.old.label → IsStretch n f self.old.end end label.old → labelled_before f self.new.first ≡ labelled_before f self.old.first + count) }
+        ensures err { OnErr result (self.new ≡ self.old) }
     {
         if self.label.is_same(label) {
             self.end = end;

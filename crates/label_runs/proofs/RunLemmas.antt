@@ -8,7 +8,7 @@ use Rattle.std.proofs.lemmas.Slice.Eq.{bytes_eq-Decides}
 use Rattle.ucd_model.specs.Labels.{Label, LabelSpan, same_label}
 use Rattle.ucd_model.specs.LabelLemmas.{IsRun, spans_before, labelled_before, run_plain, run_labelled}
 use Rattle.ucd_model.specs.DerivedText.{span_line}
-use Rattle.derived_writer.specs.Runs.{lines_before, run_line, run_length, IsStretch, IsOpen}
+use Rattle.label_runs.specs.Runs.{lines_before, run_line, run_length, IsStretch, IsOpen}
 
 same_label-only : (a b : Label) → same_label a b ≡ true → a ≡ b
 same_label-only None None e = refl

@@ -1,6 +1,6 @@
 use Rattle.std.proofs.Common.{◌≡◌, ◌++◌, take}
 use Rattle.ucd_model.specs.RowTexts.{spaced}
-use Rattle.derived_writer.proofs.label.put_spaced.Given as goal
+use Rattle.label_runs.proofs.label.put_spaced.Given as goal
 
 -- what stood there, and the code points so far
 abbrev pub invariant-points : goal.invariant-points

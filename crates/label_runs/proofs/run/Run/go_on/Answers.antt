@@ -1,8 +1,8 @@
 use Rattle.std.proofs.Common.{◌≡◌, ◌∙◌, ◌<◌, ℕ, sym, ap, append_assoc, arith, false}
 use Rattle.ucd_model.specs.Labels.{Label, same_label}
-use Rattle.derived_writer.specs.Runs.{IsStretch}
-use Rattle.derived_writer.proofs.RunLemmas.{open_ends}
-use Rattle.derived_writer.proofs.run.Run.go_on.Goals as goal
+use Rattle.label_runs.specs.Runs.{IsStretch}
+use Rattle.label_runs.proofs.RunLemmas.{open_ends}
+use Rattle.label_runs.proofs.run.Run.go_on.Goals as goal
 
 -- the label of the next number is another one
 next_is_other : (n : ℕ) (f : ℕ → Label) (mid end : ℕ) (a b : Label) → IsStretch n f mid end b → same_label a b ≡ false → mid < n → same_label a (f mid) ≡ false

@@ -6,7 +6,9 @@
 -- IsStretch n f lo end label   from `lo` to before `end` the label is this one
 -- IsOpen n f first end label   so it is from `first` to before `end`, and the number before `first` has another label; only
 --                           at the beginning is the run empty, and then it has no label
-use Rattle.std.specs.Prelude.{◌≡◌, ◌≤◌, ◌<◌, ◌+◌, ◌-◌, ℕ, List, [], Some, None, false}
+-- text_shown t              the label with the text t
+use Rattle.std.specs.Prelude.{◌≡◌, ◌≤◌, ◌<◌, ◌+◌, ◌-◌, ℕ, List, [], Option, Some, None, false}
+use Rattle.std.specs.Borrow.{Bor}
 use Rattle.std.specs.List.{flat_map}
 use Rattle.ucd_model.specs.Labels.{Label, same_label}
 use Rattle.ucd_model.specs.LabelLemmas.{spans_before}
@@ -34,3 +36,7 @@ pub record IsOpen (n : ℕ) (f : ℕ → Label) (first end : ℕ) (label : Label
   pub alike : (k : ℕ) → first ≤ k → k < end → f k ≡ label
   pub starts : (k : ℕ) → k + 1 ≡ first → same_label (f k) label ≡ false
   pub empty : first ≡ end → (first ≡ 0) × (label ≡ None)
+
+abbrev pub text_shown : Option (Bor (List ℕ)) → Label
+text_shown None = None
+text_shown (Some text) = Some text.now

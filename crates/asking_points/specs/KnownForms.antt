@@ -6,13 +6,16 @@
 -- after_form folding F s r               the same of a round from s, whose NFKC is r; None where there is none
 -- after_round folding F s                the same of a round from s
 -- known_puts folding F known s           what is put for a round from s, without what the NFKC of s asks, where s is known
+-- alike_in F r                           the full folding of each member of the form r is its simple one alone; so where there is
+--                                        no form
 -- puts_at f r                            f of the list r and of whether it is known; nothing where there is none
 -- puts_from folding F n known s          what is put for at most n rounds from s, until one gives no other list
 -- after_is_form                          a list that is known after a round is its own NFKC
 -- puts_are                               what is put round by round are the questions that all rounds up to the last one ask
+-- round_covered                          of a round that is alike, what is put and what it gives is what each folding puts and gives
 -- rounds_stop, rounds_more, rounds_end   a round after which no other list comes, one after which another one comes, and no
 --                                        round left
-use Rattle.std.proofs.Common.{◌≡◌, ℕ, zero, suc, ◌+◌, ◌-◌, ◌<◌, ◌≤◌, Bool, true, false, cond, ◌||◌, List, [], ◌∷◌, ◌++◌, append_assoc, append-nil, length, nat_le, Option, Some, None, is_some, if◌then◌else◌, refl, sym, ap, ◌∙◌, arith}
+use Rattle.std.proofs.Common.{◌≡◌, ℕ, zero, suc, ◌+◌, ◌-◌, ◌<◌, ◌≤◌, Bool, true, false, cond, ◌||◌, ◌&&◌, List, [], ◌∷◌, ◌++◌, append_assoc, append-nil, length, nat_le, Option, Some, None, is_some, if◌then◌else◌, refl, sym, ap, ◌∙◌, subst, arith}
 use Rattle.std.specs.Option.{option_and_then}
 use Rattle.std.specs.Str.{bytes_eq}
 use Rattle.std.proofs.lemmas.Bool.{true≢false}
@@ -27,8 +30,10 @@ use Rattle.ucd_model.specs.declared.query.Query.{Query}
 use Rattle.asked_queries.specs.Answers.{same_query, is_asked}
 use Rattle.asked_queries.specs.Turns.{SameQueries}
 use Rattle.asked_queries.specs.Questions.{asks, last_round, rounds_ask, row_queries}
+use Rattle.fold_rounds.specs.AlikeProofs.{covered_both, folded_covered}
+use Rattle.fold_rounds.specs.Steps.{are_alike, IsCovered}
 use Rattle.asking_points.specs.Forms.{list_in}
-use Rattle.asking_points.specs.Rounds.{next_at, next_from, next_is, folded_round, again_puts, folding_puts, round_puts, asks_at, asks_from, asks_step, asks_none}
+use Rattle.asking_points.specs.Rounds.{next_at, next_from, next_is, short_round, folded_round, again_puts, folding_puts, round_puts, asks_at, asks_from, asks_step, asks_none}
 use Rattle.asking_points.specs.RoundQuestions.{rounds_are}
 use Rattle.asking_points.specs.declared.rounds.After.{After}
 
@@ -45,6 +50,10 @@ after_round folding F s = after_form folding F s (list_in (nfkc F s))
 
 abbrev pub known_puts : Folding → (ℕ → Facts) → Bool → List ℕ → List Query
 known_puts folding F known s = (if known then [] else asks F true s) ++ folding_puts folding F s (list_in (nfkc F s))
+
+abbrev pub alike_in : (ℕ → Facts) → Option (List ℕ) → Bool
+alike_in F (Some form) = are_alike F form
+alike_in F None = true
 
 abbrev pub puts_at : (Bool → List ℕ → List Query) → Option After → List Query
 puts_at f (Some a) = f a.known a.list
@@ -192,6 +201,35 @@ module _ (folding : Folding) (F : ℕ → Facts) where
 
 pub puts_are : (folding : Folding) (F : ℕ → Facts) (c : ℕ) → is_some (last_round folding F c) ≡ true → SameQueries (puts_from folding F 8 false (c ∷ [])) (rounds_ask folding F c (last_round folding F c))
 puts_are folding F c e = λ q. puts_same folding F 8 false (c ∷ []) [] (λ no. absurd (true≢false (sym no))) q ∙ rounds_are folding F c e q
+
+-- ---- both foldings
+
+module _ (folding k : Folding) (F : ℕ → Facts) (s : List ℕ) where
+  form_puts : (r : Option (List ℕ)) → IsCovered folding (alike_in F r) k → folding_puts k F s r ≡ folding_puts folding F s r
+  form_puts (Some form) covered = ap (λ xs. row_queries xs ++ again_puts F s (drop_ignorable F xs)) (folded_covered folding k F form covered)
+  form_puts None covered = refl
+
+  form_after : (r : Option (List ℕ)) → IsCovered folding (alike_in F r) k → after_form k F s r ≡ after_form folding F s r
+  form_after (Some form) covered =
+      ap (λ xs. after_at s (drop_ignorable F xs) (short_round form (drop_ignorable F xs) (list_in (nfkc F (drop_ignorable F xs))))) (folded_covered folding k F form covered)
+  form_after None covered = refl
+
+  puts_covered : IsCovered folding (alike_in F (list_in (nfkc F s))) k → (known : Bool) → known_puts k F known s ≡ known_puts folding F known s
+  puts_covered covered known = ap (λ qs. cond known [] (asks F true s) ++ qs) (form_puts (list_in (nfkc F s)) covered)
+
+  after_covered : IsCovered folding (alike_in F (list_in (nfkc F s))) k → after_round k F s ≡ after_round folding F s
+  after_covered covered = form_after (list_in (nfkc F s)) covered
+
+  pub round_covered : (known : Bool) (t : List ℕ) (now put : List Query) (r : Option After) (before alike all : Bool) → t ≡ s → put ≡ now ++ known_puts folding F known t → r ≡ after_round folding F t
+      → alike ≡ alike_in F (list_in (nfkc F t)) → all ≡ (before && alike) → IsCovered folding all k
+      → IsCovered folding before k × (put ≡ now ++ known_puts k F known s) × (r ≡ after_round k F s)
+  round_covered known t now put r before alike all same puts after is both covered =
+      let parts = covered_both folding k before alike (subst (λ (b : Bool). IsCovered folding b k) both covered) in
+      let here : IsCovered folding (alike_in F (list_in (nfkc F s))) k = subst (λ (b : Bool). IsCovered folding b k) (is ∙ ap (λ xs. alike_in F (list_in (nfkc F xs))) same) parts.1 in (
+        parts.0,
+        puts ∙ ap (λ xs. now ++ known_puts folding F known xs) same ∙ ap (λ (qs : List Query). now ++ qs) (sym (puts_covered here known)),
+        after ∙ ap (after_round folding F) same ∙ sym (after_covered here),
+      )
 
 -- ---- round by round
 

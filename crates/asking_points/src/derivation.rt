@@ -103,7 +103,7 @@ fn put_more<W: FactView>(
     asked: &mut Vec<Query>,
 ) -> Result<(), Memory>
     requires { shown_facts facts.now ≡ W.facts_of view.now c }
-    ensures { OnOk result (asked.new.items ≡ asked.old.items ++ other_asks (W.facts_of view.now) c) }
+    ensures { OnOk result (SameQueries asked.new.items (asked.old.items ++ other_asks (W.facts_of view.now) c)) }
 {
     put_members(c, facts, asked)?;
     put_composite(view, facts, asked)?;
@@ -112,17 +112,20 @@ fn put_more<W: FactView>(
     Ok(())
 }
 
-/// Puts what the rounds of a code point by both foldings ask at the end.
+/// Puts what the rounds of a code point by both foldings ask at the end. If it is known that both ask the same, it is put
+/// once.
 fn put_foldings<W: FactView>(
     alloc: Global,
     view: &W,
     c: Point,
     asked: &mut Vec<Query>,
 ) -> Result<(), Memory>
-    ensures { OnOk result (asked.new.items ≡ asked.old.items ++ foldings_put (W.facts_of view.now) c) }
+    ensures { OnOk result (SameQueries asked.new.items (asked.old.items ++ foldings_put (W.facts_of view.now) c)) }
 {
-    put_rounds(alloc, view, Folding::Full, c, asked)?;
-    put_rounds(alloc, view, Folding::Simple, c, asked)?;
+    let alike = put_rounds(alloc, view, Folding::Full, c, asked)?;
+    if !alike {
+        put_rounds(alloc, view, Folding::Simple, c, asked)?;
+    }
     Ok(())
 }
 

@@ -1,16 +1,18 @@
 //! Questions of the folding rounds.
 
-ghost use Rattle.std.specs.Prelude.{◌≡◌, [], ◌∷◌, ◌++◌, true, false, IfOk, OnOk, Some};
+ghost use Rattle.std.specs.Prelude.{◌≡◌, [], ◌∷◌, ◌++◌, ◌&&◌, true, false, IfOk, OnOk, Some};
 ghost use Rattle.std.specs.Str.{bytes_eq};
 ghost use Rattle.ucd_model.specs.Forms.{nfkc};
+ghost use Rattle.ucd_model.specs.declared.folding.Folding.{Folding};
+ghost use Rattle.fold_rounds.specs.Steps.{are_alike, IsCovered};
 ghost use Rattle.asking_points.specs.Forms.{list_in};
 ghost use Rattle.asking_points.specs.Rounds.{again_puts, folding_puts, short_round};
-ghost use Rattle.asking_points.specs.KnownForms.{after_at, after_form, after_round, known_puts, puts_from};
+ghost use Rattle.asking_points.specs.KnownForms.{after_at, after_form, after_round, alike_in, known_puts, puts_from};
 
 use crate::forms::put_asks;
 use crate::rows::put_rows;
 use case_derivation::folded;
-use fold_rounds::{LISTS, MOST_POINTS, drop_ignorable};
+use fold_rounds::{LISTS, MOST_POINTS, are_alike, drop_ignorable};
 use std::alloc::Global;
 use ucd_model::{FactView, Folding, Memory, Point, Points, Query};
 
@@ -23,8 +25,31 @@ pub struct After {
     pub known: bool,
 }
 
-/// Puts what the rounds of a code point by either folding ask at the end, until a round gives no other list. The Unicode Standard,
-/// section 3.13, toNFKC_Casefold.
+/// What a round gives.
+#[derive(Drop)]
+pub struct Round {
+    /// The list after it; `None` where there is none, or where it is the same.
+    pub after: Option<After>,
+    /// Whether it is known that both foldings give that, and ask the same for it.
+    pub alike: bool,
+}
+
+impl Round {
+    /// The same behind rounds of which it is told whether both foldings are known to give and to ask the same.
+    fn behind(self, alike: bool) -> Round
+        ensures after { result.after ≡ self.after }
+        ensures alike { result.alike ≡ (alike && self.alike) }
+    {
+        Round {
+            after: self.after,
+            alike: alike && self.alike,
+        }
+    }
+}
+
+/// Puts what the rounds of a code point by either folding ask at the end, until a round gives no other list; and answers
+/// whether it is known that the rounds by the other folding ask the same. The Unicode Standard, section 3.13,
+/// toNFKC_Casefold.
 ///
 /// - `Memory`: memory ran out.
 pub fn put_rounds<W: FactView>(
@@ -33,26 +58,30 @@ pub fn put_rounds<W: FactView>(
     folding: Folding,
     c: Point,
     asked: &mut Vec<Query>,
-) -> Result<(), Memory>
-    ensures { OnOk result (asked.new.items ≡ asked.old.items ++ puts_from folding (W.facts_of view.now) 8 false (c ∷ [])) }
+) -> Result<bool, Memory>
+    ensures { IfOk result (λ alike. (k : Folding) → IsCovered folding alike k
+        → asked.new.items ≡ asked.old.items ++ puts_from k (W.facts_of view.now) 8 false (c ∷ [])) }
 {
     let mut list = Points::new(alloc);
     list.push(c)?;
     let mut known = false;
+    let mut alike = true;
     'rounds: for done in 0..LISTS {
-        match put_round(alloc, view, folding, list.as_slice(), known, asked)? {
+        let round = put_round(alloc, view, folding, list.as_slice(), known, asked)?.behind(alike);
+        alike = round.alike;
+        match round.after {
             Some(after) => {
                 known = after.known;
                 list = after.list;
             }
-            None => return Ok(()),
+            None => return Ok(alike),
         }
     }
-    Ok(())
+    Ok(alike)
 }
 
 /// Puts what a round from a list asks at the end, without what its Normalisation Form KC asks where the list is `known` to
-/// be that form; and the list after it, or `None` where there is none, or where it is the same.
+/// be that form; and what the round gives.
 fn put_round<W: FactView>(
     alloc: Global,
     view: &W,
@@ -60,22 +89,25 @@ fn put_round<W: FactView>(
     s: &[Point],
     known: bool,
     asked: &mut Vec<Query>,
-) -> Result<Option<After>, Memory>
+) -> Result<Round, Memory>
     requires { known ≡ true → Some s.now ≡ list_in (nfkc (W.facts_of view.now) s.now) }
     ensures asked { OnOk result (asked.new.items ≡ asked.old.items ++ known_puts folding (W.facts_of view.now) known s.now) }
-    ensures next { IfOk result (λ next. next ≡ after_round folding (W.facts_of view.now) s.now) }
+    ensures next { IfOk result (λ round. round.after ≡ after_round folding (W.facts_of view.now) s.now) }
+    ensures alike { IfOk result (λ round. round.alike ≡ alike_in (W.facts_of view.now) (list_in (nfkc (W.facts_of view.now) s.now))) }
 {
     if known {
         return put_folding(alloc, view, folding, s, s, asked);
     }
     match put_asks(alloc, view, true, s, asked)? {
         Some(form) => put_folding(alloc, view, folding, s, form.as_slice(), asked),
-        None => Ok(None),
+        None => Ok(Round {
+            after: None,
+            alike: true,
+        }),
     }
 }
 
-/// Puts what a round from a list asks at the end, from the Normalisation Form KC of the list on; and the list after the
-/// round, or `None` where there is none, or where it is the same.
+/// Puts what a round from a list asks at the end, from the Normalisation Form KC of the list on; and what the round gives.
 fn put_folding<W: FactView>(
     alloc: Global,
     view: &W,
@@ -83,17 +115,20 @@ fn put_folding<W: FactView>(
     s: &[Point],
     form: &[Point],
     asked: &mut Vec<Query>,
-) -> Result<Option<After>, Memory>
+) -> Result<Round, Memory>
     requires { Some form.now ≡ list_in (nfkc (W.facts_of view.now) s.now) }
     ensures asked { OnOk result (asked.new.items ≡ asked.old.items ++ folding_puts folding (W.facts_of view.now) s.now (Some form.now)) }
-    ensures next { IfOk result (λ next. next ≡ after_form folding (W.facts_of view.now) s.now (Some form.now)) }
+    ensures next { IfOk result (λ round. round.after ≡ after_form folding (W.facts_of view.now) s.now (Some form.now)) }
+    ensures alike { IfOk result (λ round. round.alike ≡ are_alike (W.facts_of view.now) form.now) }
 {
+    let alike = are_alike(view, form);
     let mut kept = folded(alloc, view, folding, form)?;
     put_rows(kept.as_slice(), asked)?;
     drop_ignorable(view, &mut kept);
     let next = put_again(alloc, view, s, form, kept.as_slice(), asked)?;
     let next = short_round(form, kept.as_slice(), next);
-    Ok(changed(next, s, kept.as_slice()))
+    let after = changed(next, s, kept.as_slice());
+    Ok(Round { after, alike })
 }
 
 /// Puts what Normalisation Form KC of a list asks at the end, and answers that form. If the list is the one that the

@@ -49,7 +49,7 @@ fn counted<L: Ledger>(
 }
 
 /// Whether the derivation of a code point asks just these questions.
-fn asks(alloc: Global, list: &FactList, c: Point, wanted: &[Query]) -> Result<bool, FormStop> {
+pub fn asks(alloc: Global, list: &FactList, c: Point, wanted: &[Query]) -> Result<bool, FormStop> {
     let asked = counted::<Brand>(alloc, list, c, Blank::new(1))?;
     Ok(asked.as_slice() == wanted)
 }

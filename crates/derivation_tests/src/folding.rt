@@ -84,7 +84,8 @@ fn casefold_by_form<W: FactView>(
     c: Point,
 ) -> Result<Image, FormStop> {
     let form = nfkc(alloc, view, &[c])?;
-    casefold_of(alloc, view, folding, c, &view.facts(c), form.as_slice())
+    let found = casefold_of(alloc, view, folding, c, &view.facts(c), form.as_slice())?;
+    Ok(found.image)
 }
 
 /// Whether NFKC_Casefold of such a code point is no code points.

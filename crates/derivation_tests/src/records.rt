@@ -42,7 +42,8 @@ fn counted<L: Ledger>(
     derive_record(alloc, list, c, &mut steps)
 }
 
-fn record(alloc: Global, list: &FactList, c: Point) -> Result<Record, FormStop> {
+/// The record of a code point.
+pub fn record(alloc: Global, list: &FactList, c: Point) -> Result<Record, FormStop> {
     counted::<Brand>(alloc, list, c, Blank::new(1))
 }
 

@@ -1,3 +1,4 @@
 pub mod Steps
+pub mod AlikeProofs
 pub mod RoundLaws
 pub mod RoundProofs

@@ -8,13 +8,12 @@
 -- found_settled   if it gives the NFKC of a settled list, and that is the same list, it is found
 -- folded_round    the first round is the NFKC of the short_fold of the NFKC of c
 -- settled_round   if that NFKC is settled, the first round is the NFKC of it
--- alone_same      where NFKC and the folding leave c alone as it is, and c is not ignorable, its image is Same
--- alone_ignored   where they do, and c is ignorable, it is the empty list
+-- alone_image     where NFKC and the folding leave c alone as it is, its image is the empty list, if c is ignorable, and else Same
 -- unfolded        where a view shows that c is its own folding, c alone folds to itself alone
 -- ignored         c is ignorable exactly where the facts that a view shows of it say so
 -- alone_form      where the NFKC of c alone is a list with the members of c alone, it is c alone
 -- fixed_is_found, found_is_fixed   the laws of the same names
-use Rattle.std.proofs.Common.{◌≡◌, ℕ, zero, suc, ◌+◌, ◌<◌, ◌≤◌, Bool, true, false, cond, not, ◌&&◌, nat_le, List, [], ◌∷◌, ◌++◌, length, Option, Some, None, Result, Ok, Err, refl, sym, ap, ◌∙◌, subst, arith, add-one, ◌⊎◌, inl, inr}
+use Rattle.std.proofs.Common.{◌≡◌, ℕ, zero, suc, ◌+◌, ◌==◌, ◌<◌, ◌≤◌, Bool, true, false, cond, not, ◌&&◌, nat_le, List, [], ◌∷◌, ◌++◌, length, Option, Some, None, Result, Ok, Err, refl, sym, ap, ◌∙◌, subst, arith, add-one, ◌⊎◌, inl, inr}
 use Rattle.std.specs.List.{list_all}
 use Rattle.std.specs.Option.{option_and_then}
 use Rattle.std.specs.Str.{bytes_eq}
@@ -67,19 +66,19 @@ own_image c Same e = refl
 own_image c (To points) e = cc
 
 -- a member that is its own folding stays in the folded list
-own_first : (folding : Folding) (F : ℕ → Facts) (x : ℕ) (s : List ℕ) → is_own folding x (F x) ≡ true → folded folding F (x ∷ s) ≡ x ∷ folded folding F s
-own_first Full F x s e = ap (λ xs. xs ++ fold F s) (own_image x (F x).fold e)
-own_first Simple F x s e = ap (λ (y : ℕ). y ∷ folded Simple F s) (eqb-true (F x).simple_fold x e)
+own_first : (folding : Folding) (F : ℕ → Facts) (x : ℕ) (s : List ℕ) → is_own x (F x) ≡ true → folded folding F (x ∷ s) ≡ x ∷ folded folding F s
+own_first Full F x s e = ap (λ xs. xs ++ fold F s) (own_image x (F x).fold (both_true (is_same (F x).fold) ((F x).simple_fold == x) e).0)
+own_first Simple F x s e = ap (λ (y : ℕ). y ∷ folded Simple F s) (eqb-true (F x).simple_fold x (both_true (is_same (F x).fold) ((F x).simple_fold == x) e).1)
 
 folded_none : (folding : Folding) (F : ℕ → Facts) → folded folding F [] ≡ []
 folded_none Full F = refl
 folded_none Simple F = refl
 
-settled_fold : (folding : Folding) (F : ℕ → Facts) (s : List ℕ) → list_all (λ x. is_settled folding x (F x)) s ≡ true → drop_ignorable F (folded folding F s) ≡ s
+settled_fold : (folding : Folding) (F : ℕ → Facts) (s : List ℕ) → list_all (λ x. is_settled x (F x)) s ≡ true → drop_ignorable F (folded folding F s) ≡ s
 settled_fold folding F [] e = ap (drop_ignorable F) (folded_none folding F)
 settled_fold folding F (x ∷ s) e =
-    let parts = both_true (is_settled folding x (F x)) (list_all (λ y. is_settled folding y (F y)) s) e in
-    let own = both_true (is_own folding x (F x)) (not (default_ignorable x (F x))) parts.0 in
+    let parts = both_true (is_settled x (F x)) (list_all (λ y. is_settled y (F y)) s) e in
+    let own = both_true (is_own x (F x)) (not (default_ignorable x (F x))) parts.0 in
     let rest : List ℕ = drop_ignorable F (folded folding F s) in
     ap (drop_ignorable F) (own_first folding F x s own.0) ∙ ap (λ b. cond b (x ∷ rest) rest) own.1 ∙ ap (λ zs. x ∷ zs) (settled_fold folding F s parts.1)
 
@@ -98,7 +97,7 @@ pub folded_round : (folding : Folding) (F : ℕ → Facts) (c : ℕ) (form : Lis
     → round folding F (c ∷ []) ≡ option_and_then (short_nfkc F) folded
 folded_round folding F c form folded e few f = round_known folding F (c ∷ []) form e few ∙ ap (option_and_then (short_nfkc F)) f
 
-pub settled_round : (folding : Folding) (F : ℕ → Facts) (c : ℕ) (form : List ℕ) → nfkc F (c ∷ []) ≡ Ok form → length form ≤ 255 → list_all (λ x. is_settled folding x (F x)) form ≡ true → round folding F (c ∷ []) ≡ short_nfkc F form
+pub settled_round : (folding : Folding) (F : ℕ → Facts) (c : ℕ) (form : List ℕ) → nfkc F (c ∷ []) ≡ Ok form → length form ≤ 255 → list_all (λ x. is_settled x (F x)) form ≡ true → round folding F (c ∷ []) ≡ short_nfkc F form
 settled_round folding F c form e few settled =
     let test : nat_le (length form) 255 ≡ true = grind (arith, nat_tests) in
     folded_round folding F c form (Some form) e few (ap short (settled_fold folding F form settled) ∙ ap (λ b. cond b (Some form) None) test)
@@ -204,7 +203,7 @@ module _ (folding : Folding) (F : ℕ → Facts) (c : ℕ) where
   pub found_first_none : round folding F (c ∷ []) ≡ None → casefold folding F c ≡ None
   found_first_none r = found_stop 0 (c ∷ []) refl r (λ k lt. absurd (omega arith))
 
-  pub found_settled : (folded list : List ℕ) → round folding F (c ∷ []) ≡ Some list → short_nfkc F folded ≡ Some list → list_all (λ x. is_settled folding x (F x)) folded ≡ true → bytes_eq list folded ≡ true
+  pub found_settled : (folded list : List ℕ) → round folding F (c ∷ []) ≡ Some list → short_nfkc F folded ≡ Some list → list_all (λ x. is_settled x (F x)) folded ≡ true → bytes_eq list folded ≡ true
       → casefold folding F c ≡ Some list
   found_settled folded list r k settled test =
       let same : folded ≡ list = sym (bytes_same list folded test) in
@@ -240,20 +239,24 @@ module _ (folding : Folding) (F : ℕ → Facts) (c : ℕ) (form : nfkc F (c ∷
   alone_fold : (t : Bool) → default_ignorable c (F c) ≡ t → short_fold folding F (c ∷ []) ≡ Some (cond t [] (c ∷ []))
   alone_fold t e = ap (λ zs. short (drop_ignorable F zs)) folds ∙ ap (λ b. short (cond (not b) (c ∷ []) [])) e ∙ kept_unless c t
 
-  pub alone_same : default_ignorable c (F c) ≡ false → casefold_image folding F c ≡ Ok Same
+  alone_same : default_ignorable c (F c) ≡ false → casefold_image folding F c ≡ Ok Same
   alone_same e =
       let once : round folding F (c ∷ []) ≡ Some (c ∷ []) = round_known folding F (c ∷ []) (c ∷ []) form (omega arith) ∙ ap (option_and_then (short_nfkc F)) (alone_fold false e) ∙ ap short_form form in
       ap (image_or_rule c) (found_is folding F c (c ∷ []) 0 (omega arith) refl once) ∙ ap (λ b. Ok (cond b Same (To (c ∷ [])))) (same_bytes (c ∷ []) (c ∷ []) refl)
 
-  pub alone_ignored : default_ignorable c (F c) ≡ true → casefold_image folding F c ≡ Ok (To [])
+  alone_ignored : default_ignorable c (F c) ≡ true → casefold_image folding F c ≡ Ok (To [])
   alone_ignored e =
       let once : round folding F (c ∷ []) ≡ Some [] = round_known folding F (c ∷ []) (c ∷ []) form (omega arith) ∙ ap (option_and_then (short_nfkc F)) (alone_fold true e) in
       ap (image_or_rule c) (found_is folding F c [] 1 (omega arith) once (ap (λ zs. option_and_then (short_nfkc F) (short (drop_ignorable F zs))) (folded_none folding F)))
 
+  pub alone_image : (t : Bool) → default_ignorable c (F c) ≡ t → casefold_image folding F c ≡ Ok (cond t (To []) Same)
+  alone_image true e = alone_ignored e
+  alone_image false e = alone_same e
+
 -- ---- the same, from what a view shows of it
 
-pub unfolded : (folding : Folding) (F : ℕ → Facts) (c : ℕ) (shown : FactsRef) → shown_facts shown ≡ F c → is_own folding c (shown_facts shown) ≡ true → folded folding F (c ∷ []) ≡ c ∷ []
-unfolded folding F c shown shows e = own_first folding F c [] (ap (is_own folding c) (sym shows) ∙ e) ∙ ap (λ zs. c ∷ zs) (folded_none folding F)
+pub unfolded : (folding : Folding) (F : ℕ → Facts) (c : ℕ) (shown : FactsRef) → shown_facts shown ≡ F c → is_own c (shown_facts shown) ≡ true → folded folding F (c ∷ []) ≡ c ∷ []
+unfolded folding F c shown shows e = own_first folding F c [] (ap (is_own c) (sym shows) ∙ e) ∙ ap (λ zs. c ∷ zs) (folded_none folding F)
 
 pub ignored : (F : ℕ → Facts) (c : ℕ) (shown : FactsRef) (t : Bool) → shown_facts shown ≡ F c → t ≡ default_ignorable c (shown_facts shown) → default_ignorable c (F c) ≡ t
 ignored F c shown t shows e = ap (default_ignorable c) (sym shows) ∙ sym e

@@ -1,12 +1,14 @@
 //! The rounds of folding.
 
-ghost use Rattle.std.specs.Prelude.{◌≡◌, IfOk, Ok, Some, [], ◌∷◌};
+ghost use Rattle.std.specs.Prelude.{◌≡◌, ◌&&◌, IfOk, Ok, Some, [], ◌∷◌};
 ghost use Rattle.std.specs.List.{list_all};
 ghost use Rattle.std.specs.Str.{bytes_eq};
 ghost use Rattle.ucd_model.specs.FoldRounds.{short, short_nfkc, short_fold, round, casefold};
 ghost use Rattle.ucd_model.specs.Forms.{nfkc};
-ghost use Rattle.fold_rounds.specs.Steps.{folded_form, is_settled};
+ghost use Rattle.ucd_model.specs.declared.folding.Folding.{Folding};
+ghost use Rattle.fold_rounds.specs.Steps.{folded_form, is_settled, FoundBy, IsCovered};
 
+use crate::alike::are_alike;
 use crate::ignorable::drop_ignorable;
 use crate::settled::is_settled;
 use case_derivation::folded;
@@ -20,6 +22,28 @@ pub const MOST_POINTS: usize = 255;
 /// How many lists are looked at for one that a round leaves as it is: after 0 to 7 rounds (real releases need 0 or 1).
 pub const LISTS: u8 = 8;
 
+/// A list that rounds by a folding give.
+#[derive(Drop)]
+pub struct Found {
+    /// The list.
+    pub list: Points,
+    /// Whether it is known that rounds by either folding give it.
+    pub alike: bool,
+}
+
+impl Found {
+    /// The list after one more round, from a list of which it is told whether it is known that both foldings give it.
+    fn behind(self, alike: bool) -> Found
+        ensures list { result.list ≡ self.list }
+        ensures alike { result.alike ≡ (alike && self.alike) }
+    {
+        Found {
+            list: self.list,
+            alike: alike && self.alike,
+        }
+    }
+}
+
 /// The first list, after 0 to 7 rounds from a code point with this Normalisation Form KC, that one more round leaves as
 /// it is; `None` where there is none. The Unicode Standard, section 3.13, toNFKC_Casefold.
 ///
@@ -30,46 +54,50 @@ pub(crate) fn fixed<W: FactView>(
     folding: Folding,
     c: Point,
     form: &[Point],
-) -> Result<Option<Points>, Memory>
+) -> Result<Option<Found>, Memory>
     requires { nfkc (W.facts_of view.now) (c ∷ []) ≡ Ok form.now }
-    ensures { IfOk result (λ found. found ≡ casefold folding (W.facts_of view.now) c) }
+    ensures { IfOk result (FoundBy folding (λ k. casefold k (W.facts_of view.now) c)) }
 {
     if form.len() > MOST_POINTS {
         return Ok(None);
     }
-    if is_settled(view, folding, form) {
-        return fixed_by(alloc, view, folding, c, form, true);
+    if is_settled(view, form) {
+        return fixed_by(alloc, view, folding, c, form, true, true);
     }
+    let alike = are_alike(view, form);
     match short_fold(alloc, view, folding, form)? {
         Some(folded) => {
-            let settled = is_settled(view, folding, folded.as_slice());
-            fixed_by(alloc, view, folding, c, folded.as_slice(), settled)
+            let settled = is_settled(view, folded.as_slice());
+            fixed_by(alloc, view, folding, c, folded.as_slice(), alike, settled)
         }
         None => Ok(None),
     }
 }
 
-/// The same from the folded list of the first round, of which it is told whether it is settled. If it is, and it is its
-/// own Normalisation Form KC, one more round leaves it as it is, and is not made.
+/// The same from the folded list of the first round, of which it is told whether both foldings give it, and whether it is
+/// settled. If it is settled, and its own Normalisation Form KC, one more round leaves it as it is, and is not made.
 fn fixed_by<W: FactView>(
     alloc: Global,
     view: &W,
     folding: Folding,
     c: Point,
     folded: &[Point],
+    alike: bool,
     settled: bool,
-) -> Result<Option<Points>, Memory>
-    requires first { round folding (W.facts_of view.now) (c ∷ []) ≡ short_nfkc (W.facts_of view.now) folded.now }
-    requires settled { settled ≡ list_all (λ x. is_settled folding x (W.facts_of view.now x)) folded.now }
-    ensures { IfOk result (λ found. found ≡ casefold folding (W.facts_of view.now) c) }
+) -> Result<Option<Found>, Memory>
+    requires first { (k : Folding) → IsCovered folding alike k
+        → round k (W.facts_of view.now) (c ∷ []) ≡ short_nfkc (W.facts_of view.now) folded.now }
+    requires settled { settled ≡ list_all (λ x. is_settled x (W.facts_of view.now x)) folded.now }
+    ensures { IfOk result (FoundBy folding (λ k. casefold k (W.facts_of view.now) c)) }
 {
     let Some(list) = short_nfkc(alloc, view, folded)? else {
         return Ok(None);
     };
-    if settled && is_same(list.as_slice(), folded) {
-        return Ok(Some(list));
+    let found = Found { list, alike };
+    if settled && is_same(found.list.as_slice(), folded) {
+        return Ok(Some(found));
     }
-    fixed_behind(alloc, view, folding, c, list)
+    fixed_behind(alloc, view, folding, c, found)
 }
 
 /// The same from the list after the first round.
@@ -78,23 +106,24 @@ fn fixed_behind<W: FactView>(
     view: &W,
     folding: Folding,
     c: Point,
-    first: Points,
-) -> Result<Option<Points>, Memory>
-    requires { round folding (W.facts_of view.now) (c ∷ []) ≡ Some first }
-    ensures { IfOk result (λ found. found ≡ casefold folding (W.facts_of view.now) c) }
+    first: Found,
+) -> Result<Option<Found>, Memory>
+    requires { (k : Folding) → IsCovered folding first.alike k → round k (W.facts_of view.now) (c ∷ []) ≡ Some first.list }
+    ensures { IfOk result (FoundBy folding (λ k. casefold k (W.facts_of view.now) c)) }
 {
-    if is_same(first.as_slice(), &[c]) {
+    if is_same(first.list.as_slice(), &[c]) {
         return Ok(Some(first));
     }
-    let mut list = first;
+    let mut last = first;
     'rounds: for done in 1..LISTS {
-        let Some(next) = round(alloc, view, folding, list.as_slice())? else {
+        let Some(found) = round(alloc, view, folding, last.list.as_slice())? else {
             return Ok(None);
         };
-        if is_same(next.as_slice(), list.as_slice()) {
+        let next = found.behind(last.alike);
+        if is_same(next.list.as_slice(), last.list.as_slice()) {
             return Ok(Some(next));
         }
-        list = next;
+        last = next;
     }
     Ok(None)
 }
@@ -105,11 +134,15 @@ fn round<W: FactView>(
     view: &W,
     folding: Folding,
     s: &[Point],
-) -> Result<Option<Points>, Memory>
-    ensures { IfOk result (λ next. next ≡ round folding (W.facts_of view.now) s.now) }
+) -> Result<Option<Found>, Memory>
+    ensures { IfOk result (FoundBy folding (λ k. round k (W.facts_of view.now) s.now)) }
 {
-    match short_nfkc(alloc, view, s)? {
-        Some(form) => folded_form(alloc, view, folding, form.as_slice()),
+    let Some(form) = short_nfkc(alloc, view, s)? else {
+        return Ok(None);
+    };
+    let alike = are_alike(view, form.as_slice());
+    match folded_form(alloc, view, folding, form.as_slice())? {
+        Some(list) => Ok(Some(Found { list, alike })),
         None => Ok(None),
     }
 }

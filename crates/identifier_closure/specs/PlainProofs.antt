@@ -34,7 +34,7 @@ use Rattle.ucd_model.specs.declared.image.Image.{Image}
 use Rattle.ucd_model.specs.declared.image.Image.TheVariants.{Same, To}
 use Rattle.ucd_model.specs.declared.property.Core.{Core}
 use Rattle.ucd_model.specs.declared.property.Core.TheVariants.{Math, Alphabetic, Lowercase, Uppercase, Cased, CaseIgnorable, ChangesWhenLowercased, ChangesWhenUppercased, ChangesWhenTitlecased, ChangesWhenCasefolded, ChangesWhenCasemapped, IdStart, IdContinue, XidStart, XidContinue, DefaultIgnorableCodePoint, GraphemeExtend, GraphemeBase, GraphemeLink}
-use Rattle.fold_rounds.specs.RoundProofs.{alone_same, alone_ignored}
+use Rattle.fold_rounds.specs.RoundProofs.{alone_image}
 use Rattle.identifier_closure.specs.PointForms.{expansion_rule, HaveForms}
 use Rattle.identifier_closure.specs.RuleProofs.{by_none}
 
@@ -110,11 +110,6 @@ not_hidden F c p =
 own_fold : (folding : Folding) (F : ℕ → Facts) (c : ℕ) → IsPlain c (F c) → folded folding F (c ∷ []) ≡ c ∷ []
 own_fold Full F c p = ap (λ i. image_points c i ++ []) p.fold
 own_fold Simple F c p = ap (λ (x : ℕ). x ∷ []) p.simple_fold
-
-fold_by : (folding : Folding) (F : ℕ → Facts) (c : ℕ) → nfkc F (c ∷ []) ≡ Ok (c ∷ []) → folded folding F (c ∷ []) ≡ c ∷ [] → (b : Bool) → default_ignorable c (F c) ≡ b
-    → casefold_image folding F c ≡ Ok (if b then To [] else Same)
-fold_by folding F c form folds true e = alone_ignored folding F c form folds e
-fold_by folding F c form folds false e = alone_same folding F c form folds e
 
 pub folded_if : (c : ℕ) (r : Option (List ℕ)) (i : Image) → image_or_rule c r ≡ Ok i → is_none r ≡ false
 folded_if c (Some s) i e = refl
@@ -230,7 +225,7 @@ module _ (F : ℕ → Facts) (c : ℕ) (p : IsPlain c (F c)) where
   nfkc_check = ap (λ r. quick_or_yes (quick_where (quick_given F Nfkc c) r)) nfkc_is ∙ composed_check
 
   fold_is : (folding : Folding) → casefold_image folding F c ≡ Ok (if default_ignorable c (F c) then To [] else Same)
-  fold_is folding = fold_by folding F c nfkc_is (own_fold folding F c p) (default_ignorable c (F c)) refl
+  fold_is folding = alone_image folding F c nfkc_is (own_fold folding F c p) (default_ignorable c (F c)) refl
 
   image_is : (folding : Folding) → image_or_same (casefold_image folding F c) ≡ (if default_ignorable c (F c) then To [] else Same)
   image_is folding = ap image_or_same (fold_is folding)

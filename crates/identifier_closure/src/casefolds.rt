@@ -1,13 +1,13 @@
 //! The case foldings of a code point under NFKC.
 
-ghost use Rattle.std.specs.Prelude.{◌≡◌, [], ◌∷◌, Ok};
+ghost use Rattle.std.specs.Prelude.{◌≡◌, [], ◌∷◌, Ok, IfOk};
 ghost use Rattle.ucd_model.specs.Forms.{nfkc};
 ghost use Rattle.ucd_model.specs.Shown.{shown_facts};
 ghost use Rattle.identifier_closure.specs.Derived.{CasefoldsAnswer};
 
 use fold_rounds::casefold_of;
 use std::alloc::Global;
-use ucd_model::{FactView, FactsRef, Folding, FormStop, Image, Point};
+use ucd_model::{FactView, FactsRef, Folding, FormStop, Image, Memory, Point};
 
 /// NFKC_Casefold and NFKC_Simple_Casefold of a code point. UAX #44, section 5.3.
 #[derive(Debug, Drop)]
@@ -18,7 +18,8 @@ pub struct Casefolds {
     pub simple: Image,
 }
 
-/// The two foldings of a code point with these facts, whose Normalisation Form KC is `form`.
+/// The two foldings of a code point with these facts, whose Normalisation Form KC is `form`. If it is known that both are
+/// one image, the rounds by the simple folding are not made.
 ///
 /// - `Bad(V5)`: one of them reaches no list. No other rule comes.
 /// - `Memory`: memory ran out.
@@ -35,11 +36,31 @@ pub fn casefolds_of<W: FactView>(
     ensures { CasefoldsAnswer (W.facts_of view.now) c result }
 {
     let full = match casefold_of(alloc, view, Folding::Full, c, facts, form) {
-        Ok(image) => image,
+        Ok(found) => found,
         Err(stop) => return Err(stop),
     };
+    if full.alike {
+        let simple = copied(alloc, &full.image)?;
+        return Ok(Casefolds {
+            full: full.image,
+            simple,
+        });
+    }
     match casefold_of(alloc, view, Folding::Simple, c, facts, form) {
-        Ok(simple) => Ok(Casefolds { full, simple }),
+        Ok(simple) => Ok(Casefolds {
+            full: full.image,
+            simple: simple.image,
+        }),
         Err(stop) => Err(stop),
+    }
+}
+
+/// The same image again. It takes no memory if that is the code point itself, or no code points.
+fn copied(alloc: Global, image: &Image) -> Result<Image, Memory>
+    ensures { IfOk result (λ copy. copy ≡ image.now) }
+{
+    match image {
+        Image::Same => Ok(Image::Same),
+        Image::To(points) => Ok(Image::To(points.copy(alloc)?)),
     }
 }

@@ -10,7 +10,7 @@ use Rattle.script_lines.proofs.Runs.{run, run_is, run_append}
 use Rattle.script_lines.specs.Faults.{fault_of, says_group_line, says_operation, is_group_line, is_operation, begin_in, open_begin, operations, is_full, found_fault, fault_by, fault_at, NoFault, FirstFault, Unclosed, FaultsAreFirst}
 use Rattle.script_lines.specs.Grammar.{NumberedPiece, numbered_pieces}
 use Rattle.script_lines.specs.Lines.{Said, nothing, begins, ends, asks, puts, withdraws, no_command, said}
-use Rattle.script_lines.specs.Scripts.{ScriptFault, row_op, key_op, at_line, begun_by, ended_by, asked_by, with_op_by, is_full as is_full_group, with_found, step, step_by, steps, then_steps, closed, closed_by, empty_script, script_or_fault, script_pieces}
+use Rattle.script_lines.specs.Scripts.{ScriptFault, row_op, key_op, at_line, begun_by, ended_by, asked_by, with_op_by, is_full as is_full_group, with_found, step, step_by, steps, then_steps, closed, closed_by, empty_script, script_from, script_pieces}
 use Rattle.script_lines.specs.declared.command.Command.{Command}
 use Rattle.script_lines.specs.declared.group.OpenGroup.{OpenGroup}
 use Rattle.script_lines.specs.declared.script.Script.{Script}
@@ -209,10 +209,10 @@ told_fails ps fault (inl first) =
 told_fails ps fault (inr unclosed) = unclosed_fails ps (run empty_script ps) fault (run_told ps [] empty_script refl) unclosed
 
 pub faults_are_first : FaultsAreFirst
-unfolding script_or_fault
-faults_are_first bytes fault =
+unfolding script_from
+faults_are_first n bytes fault =
     let ps = script_pieces (items_of bytes) in
-    let same : run empty_script (numbered_pieces bytes) ≡ steps 1 empty_script ps = run_is 1 empty_script ps in (
-      λ h. fault_is_told (numbered_pieces bytes) (run empty_script (numbered_pieces bytes)) fault (run_told (numbered_pieces bytes) [] empty_script refl) (ap closed same ∙ h),
-      λ told. ap closed (sym same) ∙ told_fails (numbered_pieces bytes) fault told,
+    let same : run empty_script (numbered_pieces n bytes) ≡ steps n empty_script ps = run_is n empty_script ps in (
+      λ h. fault_is_told (numbered_pieces n bytes) (run empty_script (numbered_pieces n bytes)) fault (run_told (numbered_pieces n bytes) [] empty_script refl) (ap closed same ∙ h),
+      λ told. ap closed (sym same) ∙ told_fails (numbered_pieces n bytes) fault told,
     )

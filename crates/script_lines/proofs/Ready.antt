@@ -17,7 +17,7 @@ use Rattle.release_rows.specs.Operations.{IsOp}
 use Rattle.release_rows.specs.declared.operation.Op.{Op}
 use Rattle.script_lines.specs.Groups.{AreReady, GroupsAreReady, IsReady}
 use Rattle.script_lines.specs.Lines.{Said, nothing, begins, ends, asks, puts, withdraws, no_command, said}
-use Rattle.script_lines.specs.Scripts.{ScriptFault, ScriptPiece, row_text, row_op, row_op_by, key_op, key_op_by, begun_by, ended_by, asked_by, with_op_by, is_full, with_found, operated, step, step_by, steps, then_steps, closed, closed_by, empty_script, piece_lines, script_or_fault, script_pieces}
+use Rattle.script_lines.specs.Scripts.{ScriptFault, ScriptPiece, row_text, row_op, row_op_by, key_op, key_op_by, begun_by, ended_by, asked_by, with_op_by, is_full, with_found, operated, step, step_by, steps, then_steps, closed, closed_by, empty_script, piece_lines, script_from, script_pieces}
 use Rattle.script_lines.specs.declared.command.Command.{Command}
 use Rattle.script_lines.specs.declared.group.OpenGroup.{OpenGroup}
 use Rattle.script_lines.specs.declared.line.Put.{Put}
@@ -113,5 +113,5 @@ closed_ready (Ok script) ready = commands_ready script.commands script.group rea
 closed_ready (Err fault) ready = tt
 
 pub groups_are_ready : RowsAreRead → RowsAreOk → GroupsAreReady
-unfolding script_or_fault
-groups_are_ready read ok bytes = closed_ready (steps 1 empty_script (script_pieces (items_of bytes))) (steps_ready read ok 1 empty_script (script_pieces (items_of bytes)) (record { commands = All-nil IsReady; group = tt }))
+unfolding script_from
+groups_are_ready read ok n bytes = closed_ready (steps n empty_script (script_pieces (items_of bytes))) (steps_ready read ok n empty_script (script_pieces (items_of bytes)) (record { commands = All-nil IsReady; group = tt }))

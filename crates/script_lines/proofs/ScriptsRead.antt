@@ -17,7 +17,7 @@ use Rattle.script_lines.proofs.Ready.{few_more}
 use Rattle.script_lines.proofs.Runs.{run, run_is, run_after}
 use Rattle.script_lines.specs.Grammar.{NumberedPiece, numbered_pieces, SaysOpBy, AreOps, nothing_inside, passed_inside, one_inside, IsScript, nothing_left, passed, alone, asking, grouped, ScriptsAreRead}
 use Rattle.script_lines.specs.Lines.{Said, nothing, begins, ends, asks, puts, withdraws, no_command, said}
-use Rattle.script_lines.specs.Scripts.{ScriptFault, row_text, row_op, row_op_by, key_op, key_op_by, one_group, question, at_line, begun_by, ended_by, asked_by, with_op_by, is_full, with_found, operated, step_by, steps, then_steps, closed, closed_by, empty_script, script_or_fault, script_pieces}
+use Rattle.script_lines.specs.Scripts.{ScriptFault, row_text, row_op, row_op_by, key_op, key_op_by, one_group, question, at_line, begun_by, ended_by, asked_by, with_op_by, is_full, with_found, operated, step_by, steps, then_steps, closed, closed_by, empty_script, script_from, script_pieces}
 use Rattle.script_lines.specs.declared.command.Command.{Command}
 use Rattle.script_lines.specs.declared.group.OpenGroup.{OpenGroup}
 use Rattle.script_lines.specs.declared.line.Put.{Put}
@@ -218,10 +218,10 @@ closed_whole (Ok script) commands h = all_closed script script.group commands re
     all_closed script (Some group) commands e h = absurd cc
 
 pub scripts_are_read : RowsAreRead → KeysAreRead → ScriptsAreRead
-unfolding script_or_fault
-scripts_are_read rows keys bytes commands =
+unfolding script_from
+scripts_are_read rows keys n bytes commands =
     let ps = script_pieces (items_of bytes) in
-    let same : run empty_script (numbered_pieces bytes) ≡ steps 1 empty_script ps = run_is 1 empty_script ps in (
-      λ h. let a = script_read rows keys (numbered_pieces bytes) commands empty_script (same ∙ closed_whole (steps 1 empty_script ps) commands h) in subst (λ (all : List Command). IsScript (numbered_pieces bytes) all) (sym a.2) a.1,
+    let same : run empty_script (numbered_pieces n bytes) ≡ steps n empty_script ps = run_is n empty_script ps in (
+      λ h. let a = script_read rows keys (numbered_pieces n bytes) commands empty_script (same ∙ closed_whole (steps n empty_script ps) commands h) in subst (λ (all : List Command). IsScript (numbered_pieces n bytes) all) (sym a.2) a.1,
       λ is. ap closed (sym same ∙ script_runs rows keys is []),
     )

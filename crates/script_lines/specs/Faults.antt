@@ -21,7 +21,7 @@ use Rattle.std.specs.List.{after_last}
 use Rattle.release_rows.specs.declared.operation.Op.{Op}
 use Rattle.script_lines.specs.Grammar.{NumberedPiece, numbered_pieces}
 use Rattle.script_lines.specs.Lines.{Said, nothing, begins, ends, asks, puts, withdraws, no_command, said}
-use Rattle.script_lines.specs.Scripts.{ScriptFault, row_op, key_op, script_or_fault}
+use Rattle.script_lines.specs.Scripts.{ScriptFault, row_op, key_op, script_from}
 use Rattle.script_lines.specs.declared.stop.ScriptRule.{ScriptRule}
 use Rattle.script_lines.specs.declared.stop.ScriptRule.TheVariants.{E1, E2, E3, E4, E5}
 
@@ -102,4 +102,4 @@ pub record Unclosed (pieces : List NumberedPiece) (fault : ScriptFault) : Type 0
   pub is : fault ≡ fault_of opening E2
 
 abbrev pub FaultsAreFirst : Type 0
-FaultsAreFirst = (bytes : List ℕ) (fault : ScriptFault) → (script_or_fault bytes ≡ Err fault) ↔ (FirstFault (numbered_pieces bytes) fault ⊎ Unclosed (numbered_pieces bytes) fault)
+FaultsAreFirst = (n : ℕ) (bytes : List ℕ) (fault : ScriptFault) → (script_from n bytes ≡ Err fault) ↔ (FirstFault (numbered_pieces n bytes) fault ⊎ Unclosed (numbered_pieces n bytes) fault)

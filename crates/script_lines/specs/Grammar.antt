@@ -2,7 +2,7 @@
 --
 -- NumberedPiece              a piece, and the number of its first line
 -- numbered n pieces          the pieces with their numbers; n is that of the first one
--- numbered_pieces bytes      the pieces of a script; its first line has the number 1
+-- numbered_pieces n bytes    the pieces of a script; n is the number of its first line
 -- SaysOp piece op            the piece is this operation: it puts a row that its bytes are read as, or takes out the row of a key that its
 --                            text stands for
 -- AreOps pieces ops          the pieces are passed over or are operations, and these are the operations, in order
@@ -25,7 +25,7 @@ use Rattle.source_rows.specs.declared.key.Key.{Key}
 use Rattle.release_rows.specs.declared.operation.Op.{Op}
 use Rattle.release_rows.specs.declared.operation.Op.TheVariants.{Withdraw as WithdrawRow}
 use Rattle.script_lines.specs.Lines.{Said, nothing, begins, ends, asks, puts, withdraws, said}
-use Rattle.script_lines.specs.Scripts.{ScriptPiece, script_pieces, piece_lines, row_text, op_of, one_group, question, script_or_fault}
+use Rattle.script_lines.specs.Scripts.{ScriptPiece, script_pieces, piece_lines, row_text, op_of, one_group, question, script_from}
 use Rattle.script_lines.specs.declared.command.Command.{Command}
 
 pub record NumberedPiece : Type 0 where
@@ -36,8 +36,8 @@ abbrev pub numbered : ℕ → List ScriptPiece → List NumberedPiece
 numbered n [] = []
 numbered n (piece ∷ pieces) = record { number = n; piece = piece } ∷ numbered (n + piece_lines piece) pieces
 
-abbrev pub numbered_pieces : List ℕ → List NumberedPiece
-numbered_pieces bytes = numbered 1 (script_pieces (items_of bytes))
+abbrev pub numbered_pieces : ℕ → List ℕ → List NumberedPiece
+numbered_pieces n bytes = numbered n (script_pieces (items_of bytes))
 
 -- ---- operations
 
@@ -66,4 +66,4 @@ pub data IsScript : List NumberedPiece → List Command → Type 0 where
       → IsScript (opening ∷ inside ++ closing ∷ rest) (one_group opening.number ops ∷ commands)
 
 abbrev pub ScriptsAreRead : Type 0
-ScriptsAreRead = (bytes : List ℕ) (commands : List Command) → (script_or_fault bytes ≡ Ok commands) ↔ IsScript (numbered_pieces bytes) commands
+ScriptsAreRead = (n : ℕ) (bytes : List ℕ) (commands : List Command) → (script_from n bytes ≡ Ok commands) ↔ IsScript (numbered_pieces n bytes) commands

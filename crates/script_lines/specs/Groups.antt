@@ -8,7 +8,7 @@ use Rattle.std.specs.Prelude.{◌≤◌, List, length, ℕ, IfOk, ⊤}
 use Rattle.std.specs.List.{All}
 use Rattle.release_rows.specs.Operations.{IsOp}
 use Rattle.release_rows.specs.declared.operation.Op.{Op}
-use Rattle.script_lines.specs.Scripts.{script_or_fault}
+use Rattle.script_lines.specs.Scripts.{script_from}
 use Rattle.script_lines.specs.declared.command.Command.{Command}
 use Rattle.script_lines.specs.declared.command.What.{What}
 use Rattle.script_lines.specs.declared.command.What.TheVariants.{Group, Question}
@@ -24,4 +24,4 @@ abbrev pub IsReady : Command → Type 0
 IsReady command = ReadyWhat command.what
 
 abbrev pub GroupsAreReady : Type 0
-GroupsAreReady = (bytes : List ℕ) → IfOk (script_or_fault bytes) (All IsReady)
+GroupsAreReady = (n : ℕ) (bytes : List ℕ) → IfOk (script_from n bytes) (All IsReady)

@@ -19,10 +19,11 @@
 use Rattle.std.specs.Prelude.{ℕ, Bool, List, length, take, drop, find, Option, Some, None, ◌==◌, nat_lt, codes, if◌then◌else◌}
 use Rattle.std.specs.List.{position_or_len, before_first, after_first}
 use Rattle.std.specs.Str.{bytes_eq}
-use Rattle.ucd_points.specs.Lines.{is_trivia}
+use Rattle.ucd_points.specs.MissingLines.{is_trivia}
 use Rattle.ucd_points.specs.SourceFiles.{source_path}
 use Rattle.ucd_points.specs.SourceFiles.{source_files}
 use Rattle.ucd_points.specs.declared.files.SourceFile.{SourceFile}
+use Rattle.ucd_points.specs.declared.files.SourceFile.TheVariants.{UnicodeData}
 use Rattle.script_lines.specs.declared.line.Line.{Line}
 use Rattle.script_lines.specs.declared.line.Line.TheVariants.{Skipped, Begin, End, Row, Withdraw, Set, Other}
 use Rattle.script_lines.specs.declared.line.Put.{Put}
@@ -69,7 +70,7 @@ ordered content = asks_or (behind (codes "set ") content) (orders content)
 
 abbrev pub said : List ℕ → Said
 said content =
-    if is_trivia content
+    if is_trivia UnicodeData content
     then nothing
     else (if bytes_eq content (codes "begin")
     then begins

@@ -26,7 +26,8 @@
 -- step n script piece          the script with what a piece says, or its fault; n is the number of the piece's line
 -- steps n script pieces        the same of pieces, one after the other, up to the first fault
 -- closed result                the commands, or the fault; E2 where a group is open at the end
--- script_or_fault bytes        the commands of a script, or its first fault
+-- script_from n bytes          the commands of a script whose first line has the number n, or its first fault
+-- script_or_fault bytes        the same of a script whose first line has the number 1
 -- StepsAs result new expected  a result and what it leaves are what was expected; want of memory says nothing
 -- OpAs result expected         an operation, or the fault, is what was expected; want of memory says nothing
 -- CommandsAs result expected   the commands, or the fault, are what was expected; want of memory says nothing
@@ -200,8 +201,11 @@ closed (Err fault) = Err fault
 abbrev pub empty_script : Script
 empty_script = record { commands = []; group = None }
 
-unfoldable pub script_or_fault : List ℕ → Result (List Command) ScriptFault
-script_or_fault bytes = closed (steps 1 empty_script (script_pieces (items_of bytes)))
+unfoldable pub script_from : ℕ → List ℕ → Result (List Command) ScriptFault
+script_from n bytes = closed (steps n empty_script (script_pieces (items_of bytes)))
+
+abbrev pub script_or_fault : List ℕ → Result (List Command) ScriptFault
+script_or_fault bytes = script_from 1 bytes
 
 -- ---- results
 

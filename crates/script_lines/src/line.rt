@@ -101,7 +101,7 @@ fn word_line(content: &[u8]) -> Line<'_>
 pub fn line_of(content: &[u8]) -> Line<'_>
     ensures { said_by result ≡ said content.now }
 {
-    if is_trivia(content) {
+    if is_trivia(SourceFile::UnicodeData, content) {
         return Line::Skipped;
     }
     if content == b"begin".as_slice() {

@@ -3,7 +3,7 @@
 ghost use Rattle.std.specs.Prelude.{◌≡◌, ◌+◌, ◌<◌, ◌≤◌, ◌^◌, length};
 ghost use Rattle.ucd_points.specs.Limits.{file_limit};
 ghost use Rattle.script_lines.specs.Pieces.{piece_of};
-ghost use Rattle.script_lines.specs.Scripts.{CommandsAs, StepsAs, closed_by, piece_lines, script_or_fault, step};
+ghost use Rattle.script_lines.specs.Scripts.{CommandsAs, StepsAs, closed_by, piece_lines, script_from, script_or_fault, step};
 
 use crate::command::Commands;
 use crate::line::{Line, line_of};
@@ -78,14 +78,23 @@ fn closed(script: Script) -> Result<Commands, ScriptStop>
 /// - `Fault { line, rule }`: the first line that breaks a rule, and the first rule that it breaks: `E1`, `E3`, `E4`,
 ///   `E5`, `E6`; where no line breaks one, `E2` with the line of the group that is open at the end.
 /// - `Memory`: memory ran out.
-#[tactic(auto, unfolding(crate::specs::Scripts::script_or_fault, ucd_points::specs::Limits::file_limit))]
+#[tactic(auto, unfolding(ucd_points::specs::Limits::file_limit))]
 pub fn commands(alloc: Global, bytes: &[u8]) -> Result<Commands, ScriptStop>
     requires { length bytes.now ≤ file_limit }
     ensures { CommandsAs result (script_or_fault bytes.now) }
 {
+    commands_from(alloc, 1, bytes)
+}
+
+/// [`commands`] of a script whose first line has this number, as a script has that begins within a file.
+#[tactic(auto, unfolding(crate::specs::Scripts::script_from))]
+pub fn commands_from(alloc: Global, first_line: u32, bytes: &[u8]) -> Result<Commands, ScriptStop>
+    requires { first_line + length bytes.now < 2 ^ 32 }
+    ensures { CommandsAs result (script_from first_line bytes.now) }
+{
     let mut lines = items(bytes);
     let mut script = Script::new(alloc);
-    let mut line = 1;
+    let mut line = first_line;
     'pieces: while let Some(piece) = next_piece(&mut lines) {
         take(alloc, &mut script, line, piece)?;
         line += piece_lines(piece);

@@ -1,0 +1,15 @@
+pub mod Endings
+pub mod Printed
+pub mod Paths
+pub mod Codes
+pub mod Reading
+pub mod Writing
+pub mod Outcome
+pub mod Planning
+pub mod Promises
+pub mod Ends
+pub mod ReadingProofs
+pub mod OutcomeProofs
+pub mod PromiseProofs
+pub mod PathProofs
+pub mod PutProofs

@@ -1,0 +1,3 @@
+mod CutLemmas
+pub mod LoadingLemmas
+pub mod BenchLemmas

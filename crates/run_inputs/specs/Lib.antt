@@ -1,0 +1,9 @@
+pub mod Paths
+pub mod Files
+pub mod Printed
+pub mod GroupLines
+pub mod Held
+pub mod Verdict
+pub mod Refusals
+pub mod Judging
+pub mod CutProofs

@@ -16,6 +16,8 @@ mod folding;
 #[cfg(test)]
 mod makes;
 #[cfg(test)]
+mod missing_rows;
+#[cfg(test)]
 mod next_facts;
 #[cfg(test)]
 mod other_files;

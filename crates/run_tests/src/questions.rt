@@ -12,17 +12,17 @@ const REAL: &[u8] =
     b"0053;LATIN CAPITAL LETTER S;Lu;0;L;;;;;N;;;;0073;\n0073;LATIN SMALL LETTER S;Ll;0;L;;;;;N;;;0053;;0053\n00DF;LATIN SMALL LETTER SHARP S;Ll;0;L;;;;;N;;;;;\n";
 
 /// A run whose script asks about sets.
-struct Asked {
+pub struct Asked {
     /// UnicodeData.txt.
-    data: &'static [u8],
+    pub data: &'static [u8],
     /// Other files that are read.
-    read: &'static [File],
+    pub read: &'static [File],
     /// The script.
-    script: &'static [u8],
+    pub script: &'static [u8],
     /// How many groups are accepted, commands refused and sets answered, in digits.
-    counts: [&'static [u8]; 3],
+    pub counts: [&'static [u8]; 3],
     /// Files that the run writes.
-    files: &'static [File],
+    pub files: &'static [File],
 }
 
 /// Each rule of a set.
@@ -121,7 +121,7 @@ const ASKED: [Asked; 4] = [
 ];
 
 /// Whether a run whose script asks about sets answers them.
-fn answers_sets(alloc: Global, asked: &Asked) -> Result<bool, Memory> {
+pub fn answers_sets(alloc: Global, asked: &Asked) -> Result<bool, Memory> {
     let mut shelf = shelf_of(alloc, asked.data, b"")?;
     answers_over(alloc, &mut shelf, asked)
 }

@@ -1,35 +1,72 @@
 -- What a run makes before it writes, from the verdict on what it works on.
-use Rattle.std.proofs.Common.{◌≡◌, Bool, List, ℕ, map, Option, Some, Result, Ok, Err, refl, sym, ap, subst, ◌∙◌}
-use Rattle.std.specs.Borrow.{Bor}
+use Rattle.std.proofs.Common.{◌≡◌, ◌≤◌, Bool, List, ℕ, map, Option, Some, None, Result, Ok, Err, refl, sym, ap, subst, ◌∙◌}
 use Rattle.std.specs.Prelude.{IfOk}
 use Rattle.release_rows.specs.FileItems.{FileItem}
-use Rattle.ucdshop_core.specs.Commands.{job_of}
-use Rattle.ucdshop_core.specs.Judging.{AreFor, ReadAs, given_verdict}
+use Rattle.ucdshop_core.specs.Commands.{IsListed}
+use Rattle.ucdshop_core.specs.Judging.{given_verdict, inputs_of, made_for}
 use Rattle.ucdshop_core.specs.Making.{data_rows}
-use Rattle.ucdshop_core.specs.Planning.{CountsRows, IsPlanOf, OnRefused, PlansAs}
+use Rattle.ucdshop_core.specs.Planning.{CountsRows}
+use Rattle.run_endings.specs.Planning.{IsPlanOf, OnRefused, OnlyRead, PlansAs, UnreadAs}
+use Rattle.run_endings.specs.Ends.{Prepares}
+use Rattle.run_endings.specs.Reading.{IsRead}
+use Rattle.run_endings.specs.Outcome.{ShelfSeen}
+use Rattle.run_inputs.specs.Judging.{ToldAs}
 use Rattle.stability_policies.specs.declared.breaks.Break.{Break}
-use Rattle.ucdshop_core.specs.Run.{Contents, Job, Derive, Apply, Compare, Make, Refuses, Sees, breaks_since, ending_of, everywhere, expected_of, job_verdict, judged, needed}
-use Rattle.ucdshop_core.specs.Session.{Session}
-use Rattle.ucdshop_core.specs.Reading.{cut}
-use Rattle.ucdshop_core.specs.declared.command.Command.{Command}
-use Rattle.ucdshop_core.specs.declared.command.Command.TheVariants.{Derive as DeriveWords, Apply as ApplyWords, Compare as CompareWords, Make as MakeWords}
+use Rattle.run_endings.specs.Endings.{Contents, Ending, Expected, Finishes, NewFile, Refuses, Sees, WritesItsPaths}
+use Rattle.ucdshop_core.specs.Run.{Job, Derive, Apply, Compare, Make, Inputs, breaks_since, ending_of, expected_of, inputs_ending, job_verdict, judged, needed, output_paths, ucdshop}
+use Rattle.ucdshop_core.specs.Session.{Session, session}
 use Rattle.ucdshop_core.specs.declared.given.Given.{Given}
-use Rattle.ucdshop_core.specs.declared.given.Given.TheVariants.{Made}
-use Rattle.ucdshop_core.proofs.VerdictLemmas.{apply_seen, compare_seen, derive_seen, made_seen}
-use Rattle.ucdshop_core.specs.declared.plan.Plan.{Plan}
-use Rattle.ucdshop_core.specs.declared.stop.Stop.{Stop}
-use Rattle.ucdshop_core.specs.declared.stop.Stop.TheVariants.{Refused, ReadFailed, Memory}
+use Rattle.ucdshop_core.specs.declared.inputs.Inputs.{Inputs as InputsMade}
+use Rattle.ucdshop_core.proofs.VerdictLemmas.{Decides, none_is_some, read_decides, some_is}
+use Rattle.ucdshop_core.proofs.PathLemmas.{paths_are_of_the_words}
+use Rattle.run_endings.specs.declared.plan.Plan.{Plan}
+use Rattle.run_endings.specs.declared.stop.Stop.{Stop}
+use Rattle.run_endings.specs.declared.stop.Stop.TheVariants.{Refused, ReadFailed, Memory}
 
-module _ (tells : Bool) (holds : Contents) (job : Job) (given : Given)
-    (sees : Sees tells (everywhere holds) (λ seen. given_verdict job given ≡ job_verdict job seen)) where
-  pub planned : (plan : Plan) → IsPlanOf plan (judged job (given_verdict job given)) → Sees tells (everywhere holds) (λ seen. IsPlanOf plan (expected_of (Some job) seen))
+module _ (tells : Bool) (holds : Contents) (job : Job) (given : Given) (sees : Decides tells holds job given) where
+  pub planned : (plan : Plan) → IsPlanOf plan (judged job (given_verdict job given)) → Sees tells holds (needed job) (λ seen. IsPlanOf plan (expected_of job seen))
   planned plan is = (sees.0, sees.1, subst (IsPlanOf plan) (ap (judged job) sees.2) is)
 
   pub refused : (stop : Stop) → PlansAs (Err stop) (judged job (given_verdict job given))
-      → OnRefused {A = Plan} (Err stop) (λ line. Sees tells (everywhere holds) (λ seen. expected_of (Some job) seen ≡ Refuses line))
+      → OnRefused {A = Plan} (Err stop) (λ line. Sees tells holds (needed job) (λ seen. expected_of job seen ≡ Refuses line))
   refused (Refused line) h = (sees.0, sees.1, sym (ap (judged job) sees.2) ∙ h)
   refused (ReadFailed line) h = tt
   refused Memory h = tt
+
+-- inputs that are refused
+pub stops_as : (job : Job) (verdict : Result Inputs (List ℕ)) (stop : Stop) → ToldAs {A = InputsMade} inputs_of (Err stop) verdict → PlansAs (Err stop) (judged job verdict)
+stops_as job verdict (Refused line) told = ap (judged job) told
+stops_as job verdict (ReadFailed line) told = absurd told
+stops_as job verdict Memory told = tt
+
+-- a job that was prepared
+pub prepares : (job : Job) (answer : Result Plan Stop) (shelf : ShelfSeen)
+    → IfOk answer (λ plan. Sees shelf.tells shelf.old (needed job) (λ seen. IsPlanOf plan (expected_of job seen)))
+    → OnRefused answer (λ line. Sees shelf.tells shelf.old (needed job) (λ seen. expected_of job seen ≡ Refuses line))
+    → UnreadAs answer (needed job) shelf → OnlyRead shelf → Prepares ucdshop job answer shelf
+prepares job (Ok plan) shelf planned refused unread only = record { planned = planned; unread = unread; only_read = only }
+prepares job (Err (Refused line)) shelf planned refused unread only = record { planned = refused; unread = unread; only_read = only }
+prepares job (Err (ReadFailed line)) shelf planned refused unread only = record { planned = tt; unread = unread; only_read = only }
+prepares job (Err Memory) shelf planned refused unread only = record { planned = tt; unread = unread; only_read = only }
+
+-- ---- the paths of the files that are written
+
+finishes_is : (a b : Ending) (e : Expected) → e ≡ Finishes a → e ≡ Finishes b → a ≡ b
+finishes_is a b e p q = cc
+
+refuses_finishes : (line : List ℕ) (ending : Ending) → Refuses line ≡ Finishes ending → ⊥
+refuses_finishes line ending e = cc
+
+judged_paths : (job : Job) (verdict : Result Inputs (List ℕ)) (ending : Ending) → judged job verdict ≡ Finishes ending
+    → map (λ (file : NewFile). file.path) ending.files ≡ output_paths job
+judged_paths job (Ok inputs) ending e =
+    let s : Session = session inputs.files inputs.commands in
+    subst (λ (it : Ending). map (λ (file : NewFile). file.path) it.files ≡ output_paths job)
+    (finishes_is (inputs_ending job inputs) ending (judged job (Ok inputs)) refl e) (paths_are_of_the_words job s (breaks_since inputs.earlier s.files))
+judged_paths job (Err line) ending e = absurd (refuses_finishes _ ending e)
+
+pub writes_its_paths : WritesItsPaths ucdshop
+writes_its_paths job seen ending e = judged_paths job (job_verdict job seen) ending e
 
 -- only the summary of `make` tells how many rows there were
 ending_counts : (job : Job) (rows : ℕ) (files : List (List FileItem)) (s : Session) (breaks : List Break) → CountsRows job rows files
@@ -49,33 +86,15 @@ ending_reached job rows files earlier carried s breaks counts reached broken =
 
 -- ---- the texts that a command works on
 
-abbrev pub GivenAs : Bool → Contents → Command → Given → Type 0
-GivenAs tells holds command given = Sees tells (everywhere holds) (λ seen. given_verdict (job_of command) given ≡ job_verdict (job_of command) seen)
+-- the number of a listed job is one of a release
+pub listed_number : (job : Job) (number : ℕ) → Some number ≡ made_for job → IsListed job → (1 ≤ number) × (number ≤ 50)
+listed_number (Derive input output) number some listed = absurd (none_is_some number some)
+listed_number (Apply input script output) number some listed = absurd (none_is_some number some)
+listed_number (Compare input script output previous) number some listed = absurd (none_is_some number some)
+listed_number (Make n output) number some listed = subst (λ (k : ℕ). (1 ≤ k) × (k ≤ 50)) (sym (some_is number n some)) listed
 
-pub given_made : (tells : Bool) (holds : Contents) (command : Command) (number : ℕ) (output : Bor (List ℕ)) (given : Given) → command ≡ MakeWords number output → given ≡ Made number
-    → Sees tells (everywhere holds) (λ seen. given_verdict (job_of command) given ≡ job_verdict (job_of command) seen)
-given_made tells holds command number output given e made = subst (λ (c : Command). GivenAs tells holds c given) (sym e) (made_seen tells holds number output.now given made)
-
-pub given_derive : (tells : Bool) (holds : Contents) (command : Command) (input output : Bor (List ℕ)) (r : Result Given Stop) → command ≡ DeriveWords input output
-    → IfOk r (λ given. ReadAs given tells (map (λ path. cut (holds path)) (needed (job_of command))))
-    → IfOk r (λ given. AreFor given (job_of command)) × IfOk r (λ given. GivenAs tells holds command given)
-given_derive tells holds command input output (Ok given) e read =
-    subst (λ (c : Command). AreFor given (job_of c) × GivenAs tells holds c given) (sym e)
-    (tt, derive_seen tells holds input.now output.now given (subst (λ (c : Command). ReadAs given tells (map (λ path. cut (holds path)) (needed (job_of c)))) e read))
-given_derive tells holds command input output (Err stop) e read = (tt, tt)
-
-pub given_apply : (tells : Bool) (holds : Contents) (command : Command) (input script output : Bor (List ℕ)) (r : Result Given Stop) → command ≡ ApplyWords input script output
-    → IfOk r (λ given. ReadAs given tells (map (λ path. cut (holds path)) (needed (job_of command))))
-    → IfOk r (λ given. AreFor given (job_of command)) × IfOk r (λ given. GivenAs tells holds command given)
-given_apply tells holds command input script output (Ok given) e read =
-    subst (λ (c : Command). AreFor given (job_of c) × GivenAs tells holds c given) (sym e)
-    (tt, apply_seen tells holds input.now script.now output.now given (subst (λ (c : Command). ReadAs given tells (map (λ path. cut (holds path)) (needed (job_of c)))) e read))
-given_apply tells holds command input script output (Err stop) e read = (tt, tt)
-
-pub given_compare : (tells : Bool) (holds : Contents) (command : Command) (input script output previous : Bor (List ℕ)) (r : Result Given Stop)
-    → command ≡ CompareWords input script output previous → IfOk r (λ given. ReadAs given tells (map (λ path. cut (holds path)) (needed (job_of command))))
-    → IfOk r (λ given. AreFor given (job_of command)) × IfOk r (λ given. GivenAs tells holds command given)
-given_compare tells holds command input script output previous (Ok given) e read =
-    subst (λ (c : Command). AreFor given (job_of c) × GivenAs tells holds c given) (sym e)
-    (tt, compare_seen tells holds input.now script.now output.now previous.now given (subst (λ (c : Command). ReadAs given tells (map (λ path. cut (holds path)) (needed (job_of c)))) e read))
-given_compare tells holds command input script output previous (Err stop) e read = (tt, tt)
+-- what was read, where nothing is made, decides
+pub reading_decides : (tells : Bool) (holds : Contents) (job : Job) (r : Result Given Stop) → None ≡ made_for job
+    → IfOk r (λ given. IsRead tells holds (needed job) given.held.items) → IfOk r (λ given. Decides tells holds job given)
+reading_decides tells holds job (Ok given) none read = read_decides tells holds job given (sym none) read
+reading_decides tells holds job (Err stop) none read = tt

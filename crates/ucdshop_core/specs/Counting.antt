@@ -15,9 +15,9 @@ use Rattle.script_lines.specs.declared.command.Command.{Command}
 use Rattle.script_lines.specs.declared.command.What.{What}
 use Rattle.script_lines.specs.declared.command.What.TheVariants.{Group, Question}
 use Rattle.edit_session.specs.Groups.{CountsAs, after_ops, files_facts}
-use Rattle.ucdshop_core.specs.Run.{Job, Derive, Apply, Compare, Make, Inputs, Seen, job_verdict}
+use Rattle.ucdshop_core.specs.Run.{Job, Derive, Apply, Compare, Make, Inputs, job_verdict}
+use Rattle.run_endings.specs.Endings.{Seen}
 use Rattle.ucdshop_core.specs.Session.{Session, started, step}
-use Rattle.ucdshop_core.specs.declared.refusal.Refusal.{Refusal}
 
 abbrev pub CommandCounts : List (List FileItem) → What → ℕ → ℕ → Type 0
 CommandCounts files (Group ops) old new = CountsAs (after_ops files 0 ops) (files_facts files) old new
@@ -36,9 +36,9 @@ releases_of (Make number output) = 1
 abbrev pub opened_limit : Job → ℕ
 opened_limit job = releases_of job * point_count
 
-abbrev pub VerdictCounts : Job → Result Inputs Refusal → ℕ → ℕ → Type 0
+abbrev pub VerdictCounts : Job → Result Inputs (List ℕ) → ℕ → ℕ → Type 0
 VerdictCounts job (Ok inputs) old new = (opened : ℕ) × (opened ≤ old + opened_limit job) × SessionCounts (started inputs.files) inputs.commands opened new
-VerdictCounts job (Err refusal) old new = new ≤ old + opened_limit job
+VerdictCounts job (Err line) old new = new ≤ old + opened_limit job
 
 abbrev pub FormCounts : Option Job → Seen → ℕ → ℕ → Type 0
 FormCounts None seen old new = new ≡ old

@@ -5,7 +5,8 @@
 -- OtherPathsStay          and each path that is none of them holds what it held
 use Rattle.std.specs.Prelude.{◌≡◌, ◌≢◌, ℕ, List, All, map, Some}
 use Rattle.stability_policies.specs.declared.breaks.Break.{Break}
-use Rattle.ucdshop_core.specs.Run.{Contents, Job, NewFile, new_files, output_paths, after}
+use Rattle.run_endings.specs.Endings.{Contents, NewFile, after}
+use Rattle.ucdshop_core.specs.Run.{Job, new_files, output_paths}
 use Rattle.ucdshop_core.specs.Session.{Session}
 
 abbrev pub PathsAreOfTheWords : Type 0

@@ -1,6 +1,5 @@
 -- What a run is to do, by its words and by what the shelf holds.
 --
--- Contents                         what a shelf holds at each path: the bytes of a file, or None
 -- Job                              what is asked for: Derive input output, to derive the files of one folder into another; Apply
 --                                  input script output, to carry a script out on the files of a folder, and to write what they are
 --                                  then and what is derived of them into another; Compare input script output previous, to do the
@@ -9,10 +8,8 @@
 --                                  a folder
 -- form words                       what the words ask for; None where they have no listed form
 -- make_form number output          `make` with this number; None where there is none
--- input_of job, script_of job, previous_of job   the folder whose files are judged, the path of the script, and the folder of the
---                                  earlier release; no bytes where there is none. What is made is judged as the files of the folder
---                                  that it is written into
--- places_of job                    the three together
+-- input_of job                     the folder whose files are judged; what is made is judged as the files of the folder that it is written
+--                                  into
 -- needed job                       the paths that are read, in order
 --
 -- The verdict
@@ -20,25 +17,19 @@
 --                                  earlier release; None where there is none
 -- commands_verdict job held        the commands, where the script holds this; `derive` has none
 -- earlier_verdict job held         the earlier release, where its source files hold this; only Compare has one
--- inputs_verdict job held script earlier   what the source files, the script and the source files of the earlier release give, where
---                                  they hold this; or the refusal of the first of these: a file, a code point, the script, a file of
---                                  the earlier release, a code point of it
--- Seen                             what was seen of each part that is read: of the folder, of the script, and of the folder of the
---                                  earlier release, what was held
--- everywhere holds                 the same contents were seen of each part
--- source_seen job seen file        what a source file holds: what was seen of it; of `make` the text that is made
--- script_seen job seen             what the script holds: what was seen of it; of `make` the script that is made
--- earlier_seen job seen file       what a source file of the earlier release holds: what was seen of it
--- job_verdict job seen             what these give, or why they are refused
+-- inputs_verdict job held          what is held of the source files, of the script behind them, and of the source files of the earlier
+--                                  release behind that gives; or the line that refuses the first of these: a file, a code point, the
+--                                  script, a file of the earlier release, a code point of it
+-- made_text n file                 the text of a source file of the release that is made of n
+-- made_held n file                 it as what is held
+-- made_texts number                the texts of the source files of the release that is made of a number, and of its script
+-- texts_of job seen                the texts that a job works on: what was seen; of `make` those that are made
+-- job_verdict job seen             what these give, or the line that refuses them
 --
 -- What is written
--- NewFile                          a path, and the bytes that are written there
--- source_file folder files file    a source file as it is among these files: its path below the folder, with its bytes
--- derived_file folder files file   a derived file of these files: its path below the folder, with its bytes
 -- log_file folder log              the log: its path below the folder, with its bytes
 -- sets_file folder sets            the answers to the questions: their path below the folder, with their bytes
 -- policy_file folder breaks        the policy report of these breaks: its path below the folder, with its text
--- made_text n file                 the text of a source file of the release that is made of n
 -- made_file folder n file          a source file of the release that is made of n: its path below the folder, with its bytes
 -- made_script folder               the script that is made: its path below the folder, with its bytes
 -- session_files folder session     what `apply` writes into a folder after a session: the source files, the derived files, the log and
@@ -47,8 +38,6 @@
 --                                  derived files; of `apply` those of the session, and with an earlier release the policy report; of
 --                                  `make` the source files and the script as they are made
 -- counts_of session breaks         what the summary counts
--- Ending                           how a run ends that is not refused: the files that are written, in order, each path with its
---                                  bytes; the summary that is told then; and whether a command was refused or a policy is broken
 -- summary_of job rows session breaks   the summary of a job that began with so many rows of UnicodeData.txt, after a session, with these
 --                                  breaks
 -- ending_of job rows session breaks    the ending of such a job
@@ -59,45 +48,31 @@
 --                                  that it leaves
 -- session_paths folder             the paths of what `apply` writes into a folder after a session
 -- output_paths job                 the paths of the files that are written, which the words alone give
--- Expected                         NoForm; Refuses line; or Finishes ending
--- judged job verdict               Finishes with the ending on what was judged; or Refuses with the line of the refusal
--- expected_of form seen            what is expected of a job, by what was seen; NoForm where there is none
--- expected words seen              what is expected of the words
--- put file holds path              what the path holds once the file is put in its place
--- after files holds                the contents with these files replaced, one after the other
--- Replaced files old new           the new contents are the old ones with these files replaced
---
--- What was seen
--- Sees tells held P                P of what was seen: that is what is held, where the shelf tells it
--- EndsAs words seen P              by what was seen the run is not refused, and P of its ending
--- IsFine words seen                by what was seen the run is not refused
-use Rattle.std.specs.Prelude.{◌≡◌, ℕ, Bool, IsTrue, ◌||◌, List, [], ◌∷◌, ◌++◌, length, map, Option, Some, None, Result, Ok, Err, nat_lt, if◌then◌else◌, codes}
+-- judged job verdict               Finishes with the ending on what was judged; or Refuses with the line that refuses it
+-- expected_of job seen             what is expected of a job, by what was seen at the paths that it needs
+-- ucdshop                          this program
+use Rattle.std.specs.Prelude.{ℕ, ◌+◌, ◌||◌, List, [], ◌∷◌, ◌++◌, length, map, Option, Some, None, Result, Ok, Err, nat_lt, if◌then◌else◌, codes}
 use Rattle.std.specs.Str.{bytes_eq}
-use Rattle.ucd_points.specs.Limits.{point_count}
-use Rattle.ucd_model.specs.DerivedFiles.{derived_files, derived_text}
-use Rattle.ucd_model.specs.Records.{record_at}
+use Rattle.ucd_model.specs.DerivedFiles.{derived_files}
 use Rattle.ucd_points.specs.declared.files.SourceFile.{SourceFile}
 use Rattle.ucd_points.specs.SourceFiles.{source_files}
-use Rattle.ucd_model.specs.declared.files.DerivedFile.{DerivedFile}
-use Rattle.release_rows.specs.FileItems.{FileItem, bytes_of}
-use Rattle.release_rows.specs.Releases.{ReleaseItems, items_at}
+use Rattle.release_rows.specs.FileItems.{FileItem}
+use Rattle.release_rows.specs.Releases.{ReleaseItems}
 use Rattle.script_lines.specs.declared.command.Command.{Command}
-use Rattle.edit_session.specs.Groups.{files_facts}
 use Rattle.release_maker.specs.MadeTexts.{source_text, script_text}
 use Rattle.stability_policies.specs.ReportTexts.{report_text}
 use Rattle.stability_policies.specs.Reports.{report}
 use Rattle.stability_policies.specs.declared.breaks.Break.{Break}
 use Rattle.ucdshop_core.specs.Making.{data_rows, made_counts, number_of}
-use Rattle.ucdshop_core.specs.Paths.{source_in, sources_in, derived_in, log_in, sets_in, script_in, policy_in}
-use Rattle.ucdshop_core.specs.Printed.{Counts, summary, made_summary}
-use Rattle.ucdshop_core.specs.Refusals.{Places, refusal_line}
+use Rattle.ucdshop_core.specs.Paths.{log_in, sets_in, script_in, policy_in}
+use Rattle.run_endings.specs.Endings.{NewFile, Ending, Expected, Finishes, Program, Refuses, Seen}
+use Rattle.ucdshop_core.specs.Printed.{Counts, summary, made_summary, usage}
+use Rattle.run_inputs.specs.Files.{derived_file, source_file}
+use Rattle.run_inputs.specs.Held.{held_at, source_held}
+use Rattle.run_inputs.specs.Paths.{derived_in, source_in, sources_in}
+use Rattle.run_inputs.specs.Refusals.{folder_verdict, script_told}
 use Rattle.ucdshop_core.specs.Session.{Session, session}
-use Rattle.ucdshop_core.specs.Verdict.{and_then, release_verdict, script_verdict}
-use Rattle.ucdshop_core.specs.declared.refusal.Folder.TheVariants.{Data, Previous}
-use Rattle.ucdshop_core.specs.declared.refusal.Refusal.{Refusal}
-
-abbrev pub Contents : Type 0
-Contents = List ℕ → Option (List ℕ)
+use Rattle.run_inputs.specs.Verdict.{and_then}
 
 -- ---- the words
 
@@ -126,21 +101,6 @@ input_of (Apply input script output) = input
 input_of (Compare input script output previous) = input
 input_of (Make number output) = output
 
-abbrev pub script_of : Job → List ℕ
-script_of (Derive input output) = []
-script_of (Apply input script output) = script
-script_of (Compare input script output previous) = script
-script_of (Make number output) = script_in output
-
-abbrev pub previous_of : Job → List ℕ
-previous_of (Derive input output) = []
-previous_of (Apply input script output) = []
-previous_of (Compare input script output previous) = previous
-previous_of (Make number output) = []
-
-abbrev pub places_of : Job → Places
-places_of job = record { input = input_of job; script = script_of job; previous = previous_of job }
-
 abbrev pub needed : Job → List (List ℕ)
 needed (Derive input output) = sources_in input
 needed (Apply input script output) = sources_in input ++ script ∷ []
@@ -154,63 +114,42 @@ pub record Inputs : Type 0 where
   pub commands : List Command
   pub earlier : Option (List (List FileItem))
 
-abbrev pub commands_verdict : Job → Option (List ℕ) → Result (List Command) Refusal
+abbrev pub commands_verdict : Job → Option (List ℕ) → Result (List Command) (List ℕ)
 commands_verdict (Derive input output) held = Ok []
-commands_verdict (Apply input script output) held = script_verdict held
-commands_verdict (Compare input script output previous) held = script_verdict held
-commands_verdict (Make number output) held = script_verdict held
+commands_verdict (Apply input script output) held = script_told script held
+commands_verdict (Compare input script output previous) held = script_told script held
+commands_verdict (Make number output) held = script_told (script_in output) held
 
-abbrev pub earlier_verdict : Job → (SourceFile → Option (List ℕ)) → Result (Option (List (List FileItem))) Refusal
+abbrev pub earlier_verdict : Job → (SourceFile → Option (List ℕ)) → Result (Option (List (List FileItem))) (List ℕ)
 earlier_verdict (Derive input output) held = Ok None
 earlier_verdict (Apply input script output) held = Ok None
-earlier_verdict (Compare input script output previous) held = and_then (release_verdict Previous held) (λ files. Ok (Some files))
+earlier_verdict (Compare input script output previous) held = and_then (folder_verdict previous held) (λ files. Ok (Some files))
 earlier_verdict (Make number output) held = Ok None
 
-abbrev pub inputs_verdict : Job → (SourceFile → Option (List ℕ)) → Option (List ℕ) → (SourceFile → Option (List ℕ)) → Result Inputs Refusal
-inputs_verdict job held script before =
-    and_then (release_verdict Data held) (λ files. and_then (commands_verdict job script) (λ commands. and_then (earlier_verdict job before) (λ earlier.
-    Ok (record { files = files; commands = commands; earlier = earlier }))))
+abbrev pub inputs_verdict : Job → Seen → Result Inputs (List ℕ)
+inputs_verdict job held =
+    and_then (folder_verdict (input_of job) (source_held held 0)) (λ files. and_then (commands_verdict job (held_at held 9)) (λ commands.
+    and_then (earlier_verdict job (source_held held 10)) (λ earlier. Ok (record { files = files; commands = commands; earlier = earlier }))))
 
-pub record Seen : Type 0 where
-  pub folder : Contents
-  pub script : Contents
-  pub earlier : Contents
+unfoldable pub made_text : ℕ → SourceFile → List ℕ
+made_text n file = source_text n file
 
-abbrev pub everywhere : Contents → Seen
-everywhere holds = record { folder = holds; script = holds; earlier = holds }
+abbrev pub made_held : ℕ → SourceFile → Option (List ℕ)
+made_held n file = Some (made_text n file)
 
-abbrev pub source_seen : Job → Seen → SourceFile → Option (List ℕ)
-source_seen (Derive input output) seen file = seen.folder (source_in input file)
-source_seen (Apply input script output) seen file = seen.folder (source_in input file)
-source_seen (Compare input script output previous) seen file = seen.folder (source_in input file)
-source_seen (Make number output) seen file = Some (source_text number file)
+abbrev pub made_texts : ℕ → Seen
+made_texts number = map (made_held number) source_files ++ Some script_text ∷ []
 
-abbrev pub script_seen : Job → Seen → Option (List ℕ)
-script_seen (Derive input output) seen = None
-script_seen (Apply input script output) seen = seen.script script
-script_seen (Compare input script output previous) seen = seen.script script
-script_seen (Make number output) seen = Some script_text
+abbrev pub texts_of : Job → Seen → Seen
+texts_of (Derive input output) seen = seen
+texts_of (Apply input script output) seen = seen
+texts_of (Compare input script output previous) seen = seen
+texts_of (Make number output) seen = made_texts number
 
-abbrev pub earlier_seen : Job → Seen → SourceFile → Option (List ℕ)
-earlier_seen (Derive input output) seen file = None
-earlier_seen (Apply input script output) seen file = None
-earlier_seen (Compare input script output previous) seen file = seen.earlier (source_in previous file)
-earlier_seen (Make number output) seen file = None
-
-abbrev pub job_verdict : Job → Seen → Result Inputs Refusal
-job_verdict job seen = inputs_verdict job (source_seen job seen) (script_seen job seen) (earlier_seen job seen)
+abbrev pub job_verdict : Job → Seen → Result Inputs (List ℕ)
+job_verdict job seen = inputs_verdict job (texts_of job seen)
 
 -- ---- what is written
-
-pub record NewFile : Type 0 where
-  pub path : List ℕ
-  pub bytes : List ℕ
-
-abbrev pub source_file : List ℕ → List (List FileItem) → SourceFile → NewFile
-source_file folder files file = record { path = source_in folder file; bytes = bytes_of (items_at files file) }
-
-abbrev pub derived_file : List ℕ → List (List FileItem) → DerivedFile → NewFile
-derived_file folder files file = record { path = derived_in folder file; bytes = derived_text point_count file (record_at (files_facts files)) }
 
 abbrev pub log_file : List ℕ → List ℕ → NewFile
 log_file folder log = record { path = log_in folder; bytes = log }
@@ -220,9 +159,6 @@ sets_file folder sets = record { path = sets_in folder; bytes = sets }
 
 abbrev pub policy_file : List ℕ → List Break → NewFile
 policy_file folder breaks = record { path = policy_in folder; bytes = report_text breaks }
-
-unfoldable pub made_text : ℕ → SourceFile → List ℕ
-made_text n file = source_text n file
 
 abbrev pub made_file : List ℕ → ℕ → SourceFile → NewFile
 made_file folder n file = record { path = source_in folder file; bytes = made_text n file }
@@ -242,11 +178,6 @@ new_files (Make number output) s breaks = map (made_file output number) source_f
 
 abbrev pub counts_of : Session → List Break → Counts
 counts_of s breaks = record { accepted = s.accepted; refused = s.refused; answered = s.answered; broken = length breaks }
-
-pub record Ending : Type 0 where
-  pub files : List NewFile
-  pub summary : List ℕ
-  pub done : Bool
 
 abbrev pub summary_of : Job → ℕ → Session → List Break → List ℕ
 summary_of (Derive input output) rows s breaks = summary (counts_of s breaks)
@@ -281,41 +212,12 @@ output_paths (Apply input script output) = session_paths output
 output_paths (Compare input script output previous) = session_paths output ++ policy_in output ∷ []
 output_paths (Make number output) = sources_in output ++ script_in output ∷ []
 
-pub data Expected : Type 0 where
-  NoForm : Expected
-  Refuses : (line : List ℕ) → Expected
-  Finishes : (ending : Ending) → Expected
-
-abbrev pub judged : Job → Result Inputs Refusal → Expected
+abbrev pub judged : Job → Result Inputs (List ℕ) → Expected
 judged job (Ok inputs) = Finishes (inputs_ending job inputs)
-judged job (Err refusal) = Refuses (refusal_line (places_of job) refusal)
+judged job (Err line) = Refuses line
 
-abbrev pub expected_of : Option Job → Seen → Expected
-expected_of None seen = NoForm
-expected_of (Some job) seen = judged job (job_verdict job seen)
+abbrev pub expected_of : Job → Seen → Expected
+expected_of job seen = judged job (job_verdict job seen)
 
-abbrev pub expected : List (List ℕ) → Seen → Expected
-expected words seen = expected_of (form words) seen
-
--- ---- contents
-
-abbrev pub put : NewFile → Contents → Contents
-put file holds path = if bytes_eq file.path path then Some file.bytes else holds path
-
-abbrev pub after : List NewFile → Contents → Contents
-after [] holds = holds
-after (file ∷ files) holds = after files (put file holds)
-
-abbrev pub Replaced : List NewFile → Contents → Contents → Type 0
-Replaced files old new = (path : List ℕ) → new path ≡ after files old path
-
--- ---- what was seen
-
-abbrev pub Sees : {A : Type 0} → Bool → A → (A → Type 0) → Type 0
-Sees {A} tells held P = (seen : A) × (IsTrue tells → seen ≡ held) × P seen
-
-abbrev pub EndsAs : List (List ℕ) → Seen → (Ending → Type 0) → Type 0
-EndsAs words seen P = (ending : Ending) × (expected words seen ≡ Finishes ending) × P ending
-
-abbrev pub IsFine : List (List ℕ) → Seen → Type 0
-IsFine words seen = (ending : Ending) × (expected words seen ≡ Finishes ending)
+abbrev pub ucdshop : Program Job
+ucdshop = record { usage = usage; form = form; needed = needed; written = output_paths; expected = expected_of }

@@ -1,11 +1,5 @@
 -- The commands of a script, carried out one after the other on the files of a release.
 --
--- log_line line said        a line of the log: the number of the command's line, a space, what is said of it, and LF
--- accepted_line line count  of a group that was accepted: how many code points have another record
--- key_rule_code rule        the code of a rule that an operation breaks: K1, K2 or K4
--- refusal_text why          of a group that was refused: the rule that an operation breaks, and the number of that operation,
---                           counted from 1; or the rule of a valid release, and the code point that breaks it
--- refused_line line why     the line that says it
 -- set_line line count       of a question that was answered: how many code points are members
 -- set_rule_code rule        the code of a rule that the text of a question breaks: S1 to S7
 -- name_rule_code rule       the code of a rule that a name breaks: S8 or S9
@@ -27,22 +21,17 @@ use Rattle.std.specs.Prelude.{ℕ, ◌+◌, List, [], ◌++◌, length, Result, 
 use Rattle.std.specs.Fmt.{decimal}
 use Rattle.std.specs.List.{fold}
 use Rattle.ucd_points.specs.Bounds.{Bounds}
-use Rattle.ucd_model.specs.DerivedText.{line_end}
-use Rattle.ucd_points.specs.HexText.{hex_text}
 use Rattle.release_rows.specs.FileItems.{FileItem}
-use Rattle.release_rows.specs.declared.key_rule.KeyRule.{KeyRule}
-use Rattle.release_rows.specs.declared.key_rule.KeyRule.TheVariants.{K1, K2, K4}
 use Rattle.script_lines.specs.declared.command.Command.{Command}
 use Rattle.script_lines.specs.declared.command.What.{What}
 use Rattle.script_lines.specs.declared.command.What.TheVariants.{Group, Question}
 use Rattle.edit_session.specs.Groups.{changed, files_facts, group_answer}
 use Rattle.edit_session.specs.declared.apply_stop.Refused.{Refused}
-use Rattle.edit_session.specs.declared.apply_stop.Refused.TheVariants.{Key, Valid}
 use Rattle.unicodeset_eval.specs.declared.stop.NameRule.{NameRule}
 use Rattle.unicodeset_eval.specs.declared.stop.NameRule.TheVariants.{S8, S9}
 use Rattle.unicodeset_parser.specs.declared.stop.SetRule.{SetRule}
 use Rattle.unicodeset_parser.specs.declared.stop.SetRule.TheVariants.{S1, S2, S3, S4, S5, S6, S7}
-use Rattle.ucdshop_core.specs.Printed.{bad_code}
+use Rattle.run_inputs.specs.GroupLines.{accepted_line, log_line, refused_line}
 use Rattle.ucdshop_core.specs.Questions.{question_answer}
 use Rattle.ucdshop_core.specs.SetTexts.{members_in, set_section}
 use Rattle.ucdshop_core.specs.declared.ask_stop.AskFault.{AskFault}
@@ -50,24 +39,6 @@ use Rattle.ucdshop_core.specs.declared.ask_stop.AskRule.{AskRule}
 use Rattle.ucdshop_core.specs.declared.ask_stop.AskRule.TheVariants.{Text, Name}
 
 -- ---- the log
-
-abbrev pub log_line : ℕ → List ℕ → List ℕ
-log_line line said = decimal line ++ codes " " ++ said ++ line_end
-
-abbrev pub accepted_line : ℕ → ℕ → List ℕ
-accepted_line line count = log_line line (codes "accepted " ++ decimal count)
-
-abbrev pub key_rule_code : KeyRule → List ℕ
-key_rule_code K1 = codes "K1"
-key_rule_code K2 = codes "K2"
-key_rule_code K4 = codes "K4"
-
-abbrev pub refusal_text : Refused → List ℕ
-refusal_text (Key rule op) = codes "refused " ++ key_rule_code rule ++ codes " operation " ++ decimal op
-refusal_text (Valid rule point) = codes "refused " ++ bad_code rule ++ codes " point " ++ hex_text point
-
-abbrev pub refused_line : ℕ → Refused → List ℕ
-refused_line line why = log_line line (refusal_text why)
 
 abbrev pub set_line : ℕ → ℕ → List ℕ
 set_line line count = log_line line (codes "set " ++ decimal count)

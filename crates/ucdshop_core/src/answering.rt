@@ -14,9 +14,9 @@ ghost use Rattle.ucdshop_core.specs.Session.{step_by};
 
 use crate::ask_stop::AskStop;
 use crate::asking::Asking;
-use crate::bench_pieces::bench_pieces;
 use crate::carried::Carried;
 use edit_session::Bench;
+use run_inputs::bench_pieces;
 use script_lines::{Command, What};
 use std::alloc::Global;
 use ucd_model::{Memory, Span};

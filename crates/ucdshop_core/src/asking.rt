@@ -2,12 +2,13 @@
 
 ghost use Rattle.std.specs.Prelude.{◌≡◌, ◌≤◌, IfOk};
 ghost use Rattle.edit_session.specs.Benches.{bench_record};
+ghost use Rattle.property_aliases.specs.Found.{AreAliasesOf};
 ghost use Rattle.property_aliases.specs.Numbers.{AreNumbersOf};
 ghost use Rattle.release_rows.specs.Releases.{rows_now};
 ghost use Rattle.ucd_model.specs.Cuts.{IsCut};
 ghost use Rattle.ucd_points.specs.Limits.{point_count};
 ghost use Rattle.ucdshop_core.specs.Asking.{IsUnnamed, IsUnread};
-ghost use Rattle.ucdshop_core.specs.Questions.{AskedAs, files_hold, question_answer, tree_answer};
+ghost use Rattle.ucdshop_core.specs.Questions.{AskedAs, files_hold, files_sources, question_answer, tree_answer};
 ghost use Rattle.ucdshop_core.specs.SetTexts.{members_in};
 ghost use Rattle.unicodeset_eval.specs.Indexes.{index_holds};
 ghost use Rattle.unicodeset_parser.specs.Views.{tree_view};
@@ -96,6 +97,21 @@ impl<'b> Asking<'b> {
         ensures { IfOk result (λ asking. asking ≡ bench.now.current) }
     {
         let aliases = Aliases::of(alloc, bench.release())?;
+        Asking::with_aliases(alloc, bench, pieces, aliases)
+    }
+
+    /// The same with the meaning of names by the rows of the bench.
+    fn with_aliases(
+        alloc: Global,
+        bench: &'b Bench,
+        pieces: &[Span],
+        aliases: Aliases,
+    ) -> Result<Asking<'b>, Memory>
+        requires pieces { IsCut (bench_record bench.now) 0 point_count pieces.now }
+        requires meant { AreAliasesOf aliases (files_sources bench.now.current) }
+        requires numbers { AreNumbersOf aliases.numbers (rows_now bench.now) }
+        ensures { IfOk result (λ asking. asking ≡ bench.now.current) }
+    {
         let index = index_of(alloc, bench, pieces, aliases.numbers())?;
         Ok(Asking {
             bench,

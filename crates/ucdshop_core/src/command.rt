@@ -3,8 +3,9 @@
 ghost use Rattle.std.specs.Prelude.{◌≡◌, ◌∷◌, [], ⊤};
 ghost use Rattle.std.specs.Option.{MatchOption};
 ghost use Rattle.ucdshop_core.specs.Commands.{AsksFor, IsListed, job_of};
+ghost use Rattle.ucdshop_core.specs.Judging.{made_for};
 ghost use Rattle.ucdshop_core.specs.Making.{number_of};
-ghost use Rattle.ucdshop_core.specs.Run.{form, input_of, make_form, previous_of};
+ghost use Rattle.ucdshop_core.specs.Run.{form, input_of, make_form};
 
 use crate::release_number::number_of;
 use ucd_model::Text;
@@ -52,13 +53,13 @@ impl<'a> Command<'a> {
         }
     }
 
-    /// The folder of the earlier release; no bytes where there is none.
-    pub fn previous(self) -> &'a [u8]
-        ensures { result.now ≡ previous_of (job_of self.entry) }
+    /// The number that a release is made of; `None` where none is made.
+    pub fn number(self) -> Option<u8>
+        ensures { result ≡ made_for (job_of self.entry) }
     {
         match self {
-            Command::Compare { previous, .. } => previous,
-            Command::Derive { .. } | Command::Apply { .. } | Command::Make { .. } => b"",
+            Command::Make { number, .. } => Some(number),
+            Command::Derive { .. } | Command::Apply { .. } | Command::Compare { .. } => None,
         }
     }
 }

@@ -1,73 +1,56 @@
 //! The texts that a run works on.
 
-ghost use Rattle.std.specs.Prelude.{◌≡◌, ◌≢◌, ℕ, None};
-ghost use Rattle.std.specs.Option.{option_map};
-ghost use Rattle.ucdshop_core.specs.Judging.{given_script, given_source, held_at, held_place};
-ghost use Rattle.ucdshop_core.specs.declared.given.Given.TheVariants.{Made as MadeOf};
+ghost use Rattle.std.specs.Prelude.{◌≡◌, ◌≤◌, ℕ, ◌++◌, IfOk, OnOk, Some, map};
+ghost use Rattle.ucd_points.specs.SourceFiles.{source_files};
+ghost use Rattle.ucdshop_core.specs.Run.{made_held, made_text, made_texts};
 
-use crate::refusal::Folder;
-use release_maker::Made;
-use ucd_model::{SOURCE_FILES, SourceFile, Text};
+use release_maker::{Made, make};
+use std::alloc::Global;
+use ucd_model::{Memory, SOURCE_FILES, SourceFile, Text};
 
 /// The texts that a run works on.
 #[derive(Drop)]
-pub enum Given {
-    /// What is held at each path that is needed, in their order; `None` where a path is not held.
-    Read(Vec<Option<Text>>),
-    /// A release that is made, and its script.
-    Made(Made),
+pub struct Given {
+    /// What is held at each path that is needed, in their order, `None` where a path is not held; or the texts that are made.
+    pub held: Vec<Option<Text>>,
+    /// The release that is made, and its script.
+    pub made: Option<Made>,
 }
 
-impl Given {
-    /// What the script holds; `None` where nothing is held at its path, or no path of a script is read.
-    pub fn script(&self) -> Option<&[u8]>
-        ensures { option_map (λ bytes. bytes.now) result ≡ given_script self.now }
-    {
-        match self {
-            Given::Read(held) => held_at(held.as_slice(), SOURCE_FILES.len()),
-            Given::Made(made) => Some(made.script()),
-        }
-    }
-}
-
-/// The place of a source file of a folder; those of the earlier release stand behind the script.
-pub fn held_place(folder: Folder, file: SourceFile) -> usize
-    ensures { result ≡ held_place folder file }
+/// The release of a number, and its script.
+///
+/// - `Memory`: memory ran out.
+pub fn made_given(alloc: Global, number: u8) -> Result<Given, Memory>
+    requires least { 1 ≤ number }
+    requires most { number ≤ 50 }
+    ensures held { IfOk result (λ given. given.held.items ≡ made_texts number) }
+    ensures made { IfOk result (λ given. given.made ≡ Some number) }
 {
-    match folder {
-        Folder::Data => file.place(),
-        Folder::Previous => SOURCE_FILES.len() + 1 + file.place(),
-    }
+    let made = make(alloc, number)?;
+    let mut held = Vec::new(alloc);
+    put_made_texts(alloc, &made, &mut held)?;
+    held.push(Some(Text::of(alloc, made.script())?))?;
+    Ok(Given {
+        held,
+        made: Some(made),
+    })
 }
 
-/// The text of a source file that is made; `None` of an earlier release.
-pub fn made_source(made: &Made, folder: Folder, file: SourceFile) -> Option<&[u8]>
-    ensures { option_map (λ bytes. bytes.now) result ≡ given_source (MadeOf made.now) folder file }
+/// Puts copies of the source files of a release that is made.
+fn put_made_texts(alloc: Global, made: &Made, held: &mut Vec<Option<Text>>) -> Result<(), Memory>
+    ensures { OnOk result (held.new.items ≡ held.old.items ++ map (made_held made.now) source_files) }
 {
-    match folder {
-        Folder::Data => Some(made.text(file)),
-        Folder::Previous => None,
+    'files: for file in &SOURCE_FILES {
+        let text = made_copy(alloc, made, *file)?;
+        held.push(Some(text))?;
     }
+    Ok(())
 }
 
-/// What is held at a place; `None` where nothing is, and past the last.
-fn held_at(held: &[Option<Text>], at: usize) -> Option<&[u8]>
-    ensures { option_map (λ bytes. bytes.now) result ≡ held_at held.now at }
+/// A copy of a source file of a release that is made.
+#[tactic(auto, unfolding(crate::specs::Run::made_text))]
+fn made_copy(alloc: Global, made: &Made, file: SourceFile) -> Result<Text, Memory>
+    ensures { IfOk result (λ text. text ≡ made_text made.now file) }
 {
-    match held.get(at) {
-        Some(Some(text)) => Some(text.as_slice()),
-        _ => None,
-    }
-}
-
-/// Takes what is held at a place; `None` where nothing is, and past the last. Nothing is held there any longer.
-pub fn take_held(held: &mut Vec<Option<Text>>, at: usize) -> Option<Text>
-    ensures taken { result ≡ held_at held.old.items at }
-    ensures emptied { held_at held.new.items at ≡ None }
-    ensures others { (k : ℕ) → k ≢ at → held_at held.new.items k ≡ held_at held.old.items k }
-{
-    if at < held.len() {
-        return held[at].take();
-    }
-    None
+    Text::of(alloc, made.text(file))
 }

@@ -1,27 +1,25 @@
 //! What the texts that a run works on give.
 
-ghost use Rattle.std.specs.Prelude.{◌≡◌, ℕ, ◌+◌, ◌≤◌, [], IfOk};
+ghost use Rattle.std.specs.Prelude.{◌≡◌, ◌+◌, ◌≤◌, IfOk};
 ghost use Rattle.std.specs.Option.{option_map};
 ghost use Rattle.std.specs.List.{All};
 ghost use Rattle.ucd_points.specs.Limits.{point_count};
+ghost use Rattle.run_inputs.specs.Held.{held_at, source_held};
+ghost use Rattle.run_inputs.specs.Judging.{ToldAs};
 ghost use Rattle.ucdshop_core.specs.Commands.{job_of};
 ghost use Rattle.ucdshop_core.specs.Counting.{opened_limit};
-ghost use Rattle.ucdshop_core.specs.Judging.{JudgedAs, behind_verdict, earlier_inputs, given_script, given_source, given_verdict, inputs_of};
-ghost use Rattle.ucdshop_core.specs.Run.{commands_verdict, earlier_verdict};
-ghost use Rattle.ucdshop_core.specs.declared.given.Given.TheVariants.{Made as MadeOf};
-ghost use Rattle.ucdshop_core.specs.declared.refusal.Folder.TheVariants.{Previous};
+ghost use Rattle.ucdshop_core.specs.Judging.{behind_verdict, earlier_inputs, inputs_of};
+ghost use Rattle.ucdshop_core.specs.Run.{commands_verdict, earlier_verdict, inputs_verdict};
 ghost use Rattle.script_lines.specs.Groups.{IsReady};
 
 use crate::command::Command;
-use crate::given::Given;
-use crate::judging::judge_release;
-use crate::judging_script::judge_script;
-use crate::refusal::{Folder, JudgeStop};
 use edit_session::Bench;
+use run_endings::{Stop, path_in};
+use run_inputs::{held_at, open_folder, read_script};
 use script_lines::Commands;
 use std::alloc::Global;
 use std::sync::ledger::Ledger;
-use ucd_model::Steps;
+use ucd_model::{SOURCE_FILES, Steps, Text};
 
 /// What the texts that a run works on give.
 #[derive(Drop)]
@@ -34,65 +32,63 @@ pub struct Inputs {
     pub earlier: Option<Bench>,
 }
 
-/// Judges what is given to a command. Texts of source files that were read move into the benches. The counter of steps rises by at most the number of code points for each
+/// Judges what a command is given: the source files, the script behind them, and the source files of the earlier release behind
+/// that. Texts of source files move into the benches. The counter of steps rises by at most the number of code points for each
 /// release that the command names.
 ///
-/// - `Refused(refusal)`: the first of these is refused: a source file, a code point, the script, a source file of the earlier
+/// - `Refused(line)`: the first of these is refused: a source file, a code point, the script, a source file of the earlier
 ///   release, a code point of it.
 /// - `Memory`: memory ran out.
 #[tactic(auto, using(crate::proofs::CountingLemmas::one_release))]
 pub fn judge_inputs<L: Ledger>(
     alloc: Global,
     command: Command<'_>,
-    given: &mut Given,
+    held: &mut Vec<Option<Text>>,
     steps: &mut Steps<L>,
-) -> Result<Inputs, JudgeStop>
-    ensures inputs { JudgedAs inputs_of result (given_verdict (job_of command.entry) given.old) }
+) -> Result<Inputs, Stop>
+    ensures inputs { ToldAs inputs_of result (inputs_verdict (job_of command.entry) held.old.items) }
     ensures commands { IfOk result (λ inputs. All IsReady inputs.commands) }
-    ensures made { (number : ℕ) → given.old ≡ MadeOf number → given.new ≡ MadeOf number }
     ensures steps { steps.new ≤ steps.old + opened_limit (job_of command.entry) }
 {
-    let bench = judge_release(alloc, given, Folder::Data, steps)?;
-    judge_behind(alloc, command, given, bench, steps)
+    let bench = open_folder(alloc, command.input(), held, 0, steps)?;
+    judge_behind(alloc, command, held, bench, steps)
 }
 
-/// Judges what is given behind the release, which this bench is over.
+/// Judges what is held behind the release, which this bench is over.
 #[tactic(auto, using(crate::proofs::CountingLemmas::one_release))]
 fn judge_behind<L: Ledger>(
     alloc: Global,
     command: Command<'_>,
-    given: &mut Given,
+    held: &mut Vec<Option<Text>>,
     bench: Bench,
     steps: &mut Steps<L>,
-) -> Result<Inputs, JudgeStop>
-    ensures inputs { JudgedAs inputs_of result (behind_verdict (job_of command.entry) given.old bench.current) }
+) -> Result<Inputs, Stop>
+    ensures inputs { ToldAs inputs_of result (behind_verdict (job_of command.entry) held.old.items bench.current) }
     ensures commands { IfOk result (λ inputs. All IsReady inputs.commands) }
-    ensures made { (number : ℕ) → given.old ≡ MadeOf number → given.new ≡ MadeOf number }
     ensures steps { steps.new + point_count ≤ steps.old + opened_limit (job_of command.entry) }
 {
-    match judge_commands(alloc, command, given) {
-        Ok(commands) => with_earlier(alloc, command, given, bench, commands, steps),
+    match judge_commands(alloc, command, held.as_slice()) {
+        Ok(commands) => with_earlier(alloc, command, held, bench, commands, steps),
         Err(stop) => Err(stop),
     }
 }
 
-/// Judges what is given of the earlier release, and joins it with the bench and the commands.
+/// Judges what is held of the earlier release, and joins it with the bench and the commands.
 #[tactic(auto, using(crate::proofs::CountingLemmas::one_release))]
 fn with_earlier<L: Ledger>(
     alloc: Global,
     command: Command<'_>,
-    given: &mut Given,
+    held: &mut Vec<Option<Text>>,
     bench: Bench,
     commands: Commands,
     steps: &mut Steps<L>,
-) -> Result<Inputs, JudgeStop>
+) -> Result<Inputs, Stop>
     requires { All IsReady commands }
-    ensures inputs { JudgedAs inputs_of result (earlier_inputs (job_of command.entry) given.old bench.current commands) }
+    ensures inputs { ToldAs inputs_of result (earlier_inputs (job_of command.entry) held.old.items bench.current commands) }
     ensures commands { IfOk result (λ inputs. All IsReady inputs.commands) }
-    ensures made { (number : ℕ) → given.old ≡ MadeOf number → given.new ≡ MadeOf number }
     ensures steps { steps.new + point_count ≤ steps.old + opened_limit (job_of command.entry) }
 {
-    match judge_earlier(alloc, command, given, steps) {
+    match judge_earlier(alloc, command, held, steps) {
         Ok(earlier) => Ok(Inputs {
             bench,
             commands,
@@ -102,35 +98,43 @@ fn with_earlier<L: Ledger>(
     }
 }
 
-/// Judges what is given of the earlier release.
+/// Judges what is held of the earlier release.
 fn judge_earlier<L: Ledger>(
     alloc: Global,
     command: Command<'_>,
-    given: &mut Given,
+    held: &mut Vec<Option<Text>>,
     steps: &mut Steps<L>,
-) -> Result<Option<Bench>, JudgeStop>
-    ensures earlier { JudgedAs (λ earlier. option_map (λ bench. bench.current) earlier) result (earlier_verdict (job_of command.entry) (given_source given.old Previous)) }
-    ensures made { (number : ℕ) → given.old ≡ MadeOf number → given.new ≡ MadeOf number }
+) -> Result<Option<Bench>, Stop>
+    ensures earlier { ToldAs (λ earlier. option_map (λ bench. bench.current) earlier) result (earlier_verdict (job_of command.entry) (source_held held.old.items 10)) }
     ensures steps { steps.new + point_count ≤ steps.old + opened_limit (job_of command.entry) }
 {
     match command {
-        Command::Compare { .. } => {
-            let bench = judge_release(alloc, given, Folder::Previous, steps)?;
+        Command::Compare { previous, .. } => {
+            let bench = open_folder(alloc, previous, held, SOURCE_FILES.len() + 1, steps)?;
             Ok(Some(bench))
         }
         Command::Derive { .. } | Command::Apply { .. } | Command::Make { .. } => Ok(None),
     }
 }
 
-/// Judges what is given of the script.
-fn judge_commands(alloc: Global, command: Command<'_>, given: &Given) -> Result<Commands, JudgeStop>
-    ensures script { JudgedAs (λ commands. commands) result (commands_verdict (job_of command.entry) (given_script given.now)) }
+/// Judges what is held of the script.
+fn judge_commands(
+    alloc: Global,
+    command: Command<'_>,
+    held: &[Option<Text>],
+) -> Result<Commands, Stop>
+    ensures script { ToldAs (λ commands. commands) result (commands_verdict (job_of command.entry) (held_at held.now 9)) }
     ensures commands { IfOk result (All IsReady) }
 {
+    let script = held_at(held, SOURCE_FILES.len());
     match command {
         Command::Derive { .. } => Ok(Commands::new(alloc)),
-        Command::Apply { .. } | Command::Compare { .. } | Command::Make { .. } => {
-            judge_script(alloc, given.script())
+        Command::Apply { script: path, .. } | Command::Compare { script: path, .. } => {
+            read_script(alloc, path, script)
+        }
+        Command::Make { output, .. } => {
+            let path = path_in(alloc, output, b"script.txt")?;
+            read_script(alloc, path.as_slice(), script)
         }
     }
 }

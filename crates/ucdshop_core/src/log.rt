@@ -1,73 +1,14 @@
-//! The lines of the log.
+//! The lines of the log that tell of questions.
 
-ghost use Rattle.std.specs.Prelude.{◌≡◌, ◌++◌, OnOk, codes};
-ghost use Rattle.std.specs.Fmt.{decimal};
-ghost use Rattle.ucdshop_core.specs.Session.{accepted_line, ask_rule_code, key_rule_code, refusal_text, refused_line, set_line, set_rule_code, unasked_line};
+ghost use Rattle.std.specs.Prelude.{◌≡◌, ◌++◌, OnOk};
+ghost use Rattle.ucdshop_core.specs.Session.{ask_rule_code, set_line, set_rule_code, unasked_line};
 
 use crate::ask_stop::{AskFault, AskRule};
-use crate::printed::bad_code;
-use edit_session::Refused;
-use release_rows::KeyRule;
 use std::alloc::Global;
-use ucd_lines::{put_decimal, put_hex};
+use ucd_lines::put_decimal;
 use ucd_model::{Memory, Text};
 use unicodeset_eval::NameRule;
 use unicodeset_parser::SetRule;
-
-/// Puts the line of a group that was accepted: the number of the command's line, and how many code points have another
-/// record.
-///
-/// - `Memory`: memory ran out.
-pub fn put_accepted(alloc: Global, text: &mut Text, line: u32, count: usize) -> Result<(), Memory>
-    ensures { OnOk result (text.new ≡ text.old ++ accepted_line line count) }
-{
-    put_decimal(alloc, line as usize, text)?;
-    text.append(b" accepted ")?;
-    put_decimal(alloc, count, text)?;
-    text.append(b"\n")
-}
-
-/// Puts the line of a group that was refused: the number of the command's line, and why.
-///
-/// - `Memory`: memory ran out.
-pub fn put_refused(alloc: Global, text: &mut Text, line: u32, why: Refused) -> Result<(), Memory>
-    ensures { OnOk result (text.new ≡ text.old ++ refused_line line why) }
-{
-    put_decimal(alloc, line as usize, text)?;
-    text.append(b" ")?;
-    put_refusal(alloc, text, why)?;
-    text.append(b"\n")
-}
-
-/// Puts why a group was refused.
-fn put_refusal(alloc: Global, text: &mut Text, why: Refused) -> Result<(), Memory>
-    ensures { OnOk result (text.new ≡ text.old ++ refusal_text why) }
-{
-    text.append(b"refused ")?;
-    match why {
-        Refused::Key { rule, op } => {
-            text.append(key_rule_code(rule))?;
-            text.append(b" operation ")?;
-            put_decimal(alloc, op as usize, text)
-        }
-        Refused::Valid { rule, point } => {
-            text.append(bad_code(rule))?;
-            text.append(b" point ")?;
-            put_hex(point, text)
-        }
-    }
-}
-
-/// The code of a rule that an operation breaks.
-fn key_rule_code(rule: KeyRule) -> &'static [u8]
-    ensures { result.now ≡ key_rule_code rule }
-{
-    match rule {
-        KeyRule::K1 => b"K1",
-        KeyRule::K2 => b"K2",
-        KeyRule::K4 => b"K4",
-    }
-}
 
 /// Puts the line of a question that was answered: the number of the command's line, and how many code points are
 /// members.

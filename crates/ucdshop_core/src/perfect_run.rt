@@ -3,10 +3,11 @@
 ghost use Rattle.std.specs.Prelude.{◌≡◌, ◌≢◌};
 ghost use Rattle.shelf_io.specs.Counts.{Rose};
 ghost use Rattle.shelf_io.specs.Folders.{held_in};
-ghost use Rattle.ucdshop_core.specs.Outcome.{WrittenWhole};
+ghost use Rattle.run_endings.specs.Outcome.{WrittenWhole};
+ghost use Rattle.ucdshop_core.specs.Run.{ucdshop};
 
 use crate::program::run;
-use crate::status::Status;
+use run_endings::Status;
 use shelf_io::{PerfectShelf, Sink};
 use std::alloc::Global;
 use ucd_model::Texts;
@@ -21,7 +22,7 @@ pub fn run_perfectly<K: Sink>(
 ) -> Status
     ensures never_read_fault { result ≢ Status.ReadFault }
     ensures by_the_sink { result ≡ Status.WriteFault → Rose (K.faults out.old) (K.faults out.new)
-        × WrittenWhole words.now (held_in shelf.old) (held_in shelf.new) }
+        × WrittenWhole ucdshop words.now (held_in shelf.old) (held_in shelf.new) }
 {
     run(alloc, words, shelf, out)
 }

@@ -3,32 +3,21 @@
 ghost use Rattle.std.specs.Prelude.{◌≡◌, ◌||◌, IfOk, length, nat_lt};
 ghost use Rattle.ucdshop_core.specs.Carrying.{session_of};
 ghost use Rattle.ucdshop_core.specs.Commands.{job_of};
-ghost use Rattle.ucdshop_core.specs.Judging.{AreFor};
-ghost use Rattle.ucdshop_core.specs.Planning.{HasPlan};
+ghost use Rattle.ucdshop_core.specs.Judging.{made_for};
+ghost use Rattle.run_endings.specs.Planning.{HasPlan};
 ghost use Rattle.ucdshop_core.specs.Run.{ending_of, summary_of};
 
 use crate::carried::Carried;
 use crate::command::Command;
-use crate::given::Given;
 use crate::making::casefolds;
 use crate::outputs::outputs_of;
 use crate::printed::{MadeCounts, RunCounts, made_summary, summary};
-use crate::writing::Output;
 use edit_session::Bench;
+use release_maker::Made;
+use run_endings::Plan;
 use stability_policies::Breaks;
 use std::alloc::Global;
 use ucd_model::{Memory, Text};
-
-/// What is left to be done: the files to be written, the summary to be told, and how the run then ends.
-#[derive(Drop)]
-pub struct Plan {
-    /// The files, in the order in which they are written.
-    pub outputs: Vec<Output>,
-    /// The line that is told once they are.
-    pub summary: Text,
-    /// Whether a command was refused or a policy is broken.
-    pub done: bool,
-}
 
 /// The files that a command writes, and its summary, once the commands of its script are carried out on a bench, with these
 /// breaks of policies. At the beginning UnicodeData.txt had so many rows.
@@ -37,16 +26,16 @@ pub struct Plan {
 pub fn plan_of(
     alloc: Global,
     command: Command<'_>,
-    given: &Given,
+    made: &Option<Made>,
     rows: usize,
     bench: &Bench,
     carried: &Carried,
     breaks: &Breaks,
 ) -> Result<Plan, Memory>
-    requires { AreFor given.now (job_of command) }
+    requires { made.now ≡ made_for (job_of command) }
     ensures { IfOk result (λ plan. HasPlan (ending_of (job_of command.entry) rows (session_of bench.now carried.now) breaks.now) plan) }
 {
-    let outputs = outputs_of(alloc, command, given, bench, carried, breaks)?;
+    let outputs = outputs_of(alloc, command, made, bench, carried, breaks)?;
     let summary = summary_of(alloc, command, rows, bench, carried, breaks)?;
     Ok(Plan {
         outputs,

@@ -1,19 +1,17 @@
 //! The run of the program.
 
-ghost use Rattle.std.specs.Prelude.{◌≡◌, ◌≤◌, IsTrue, length};
+ghost use Rattle.std.specs.Prelude.{◌≡◌};
+ghost use Rattle.run_endings.specs.Endings.{Sees, paths_read};
+ghost use Rattle.run_endings.specs.Ends.{HasRoom, Plans};
+ghost use Rattle.run_endings.specs.Promises.{Promises, shelf_seen, sink_seen};
 ghost use Rattle.ucdshop_core.specs.Commands.{FormMayStep};
-ghost use Rattle.ucdshop_core.specs.Outcome.{Outcome, Told, StoppedWith, Finished, status_if};
-ghost use Rattle.ucdshop_core.specs.Promises.{Promises, shelf_seen, sink_seen};
 ghost use Rattle.ucdshop_core.specs.Counting.{FormCounts};
-ghost use Rattle.ucdshop_core.specs.Run.{Sees, everywhere, form};
+ghost use Rattle.ucdshop_core.specs.Run.{form, ucdshop};
 
 use crate::command::command_of;
-use crate::plan::Plan;
 use crate::planning::prepare;
-use crate::printed::{OUT_OF_MEMORY, USAGE};
-use crate::status::Status;
-use crate::stop::Stop;
-use crate::writing::write_all;
+use crate::printed::USAGE;
+use run_endings::{Plan, Status, Stop, end_run};
 use shelf_io::{Shelf, Sink};
 use std::alloc::Global;
 use std::marker::Brand;
@@ -27,9 +25,9 @@ use ucd_model::{Steps, Texts};
 /// are read before any is judged, and all texts are made before the first is written. Nothing is written unless the status
 /// is [`Status::Clean`], [`Status::Done`] or [`Status::WriteFault`].
 ///
-/// What is promised is written in `specs/Promises.antt`, a line for each promise.
+/// What is promised is what every program promises that ends by [`end_run`], of this program: `ucdshop` in `specs/Run.antt`.
 pub fn run<S: Shelf, K: Sink>(alloc: Global, words: &Texts, shelf: &mut S, out: &mut K) -> Status
-    ensures { Promises words.now (shelf_seen S.Shelf shelf.old shelf.new) (sink_seen K.Sink out.old out.new) result }
+    ensures { Promises ucdshop words.now (shelf_seen S.Shelf shelf.old shelf.new) (sink_seen K.Sink out.old out.new) result }
 {
     run_anew::<S, K, Brand>(alloc, words, shelf, out, Blank::new(1))
 }
@@ -45,7 +43,7 @@ fn run_anew<S: Shelf, K: Sink, L: Ledger>(
     requires name { blank.name ≡ L.name }
     requires parts { blank.parts ≡ L.parts }
     requires some { blank.parts ≡ 1 }
-    ensures { Promises words.now (shelf_seen S.Shelf shelf.old shelf.new) (sink_seen K.Sink out.old out.new) result }
+    ensures { Promises ucdshop words.now (shelf_seen S.Shelf shelf.old shelf.new) (sink_seen K.Sink out.old out.new) result }
 {
     let mut steps = Steps::<L>::new(blank);
     run_counted(alloc, words, shelf, out, &mut steps)
@@ -61,86 +59,28 @@ pub fn run_counted<S: Shelf, K: Sink, L: Ledger>(
     out: &mut K,
     steps: &mut Steps<L>,
 ) -> Status
-    ensures run { Promises words.now (shelf_seen S.Shelf shelf.old shelf.new) (sink_seen K.Sink out.old out.new) result }
-    ensures counted { Sees S.tells (everywhere (S.holds shelf.old)) (λ seen. FormCounts (form words.now) seen steps.old steps.new) }
+    ensures run { Promises ucdshop words.now (shelf_seen S.Shelf shelf.old shelf.new) (sink_seen K.Sink out.old out.new) result }
+    ensures counted { Sees S.tells (S.holds shelf.old) (paths_read ucdshop (form words.now)) (λ seen. FormCounts (form words.now) seen steps.old steps.new) }
     ensures steps { FormMayStep (form words.now) steps.old steps.new }
 {
-    run_words(alloc, words, shelf, out, steps)
+    let planned = plan_words(alloc, words, shelf, steps);
+    end_run(USAGE, planned, shelf, out)
 }
 
-/// Does all that the words ask for, and answers how the run ended.
-fn run_words<S: Shelf, K: Sink, L: Ledger>(
+/// Does all that the words ask for and that comes before the first write; `None` where they have no listed form.
+fn plan_words<S: Shelf, L: Ledger>(
     alloc: Global,
     words: &Texts,
     shelf: &mut S,
-    out: &mut K,
     steps: &mut Steps<L>,
-) -> Status
-    ensures outcome { Outcome words.now (shelf_seen S.Shelf shelf.old shelf.new) (sink_seen K.Sink out.old out.new) result }
-    ensures counts { Sees S.tells (everywhere (S.holds shelf.old)) (λ seen. FormCounts (form words.now) seen steps.old steps.new) }
+) -> Option<Result<Plan, Stop>>
+    ensures plans { Plans ucdshop words.now result (shelf_seen S.Shelf shelf.old shelf.new) }
+    ensures room { HasRoom result (S.spare shelf.new) }
+    ensures counts { Sees S.tells (S.holds shelf.old) (paths_read ucdshop (form words.now)) (λ seen. FormCounts (form words.now) seen steps.old steps.new) }
     ensures steps { FormMayStep (form words.now) steps.old steps.new }
 {
-    let Some(command) = command_of(words.as_slice()) else {
-        tell(out, USAGE);
-        return Status::BadWords;
-    };
-    match prepare(alloc, command, shelf, steps) {
-        Ok(plan) => finish(plan, shelf, out),
-        Err(stop) => tell_stop(stop, out),
+    match command_of(words.as_slice()) {
+        Some(command) => Some(prepare(alloc, command, shelf, steps)),
+        None => None,
     }
-}
-
-/// Tells a line; where that fails, the status stays what it is.
-fn tell<K: Sink>(out: &mut K, line: &[u8])
-    ensures { Told line.now (sink_seen K.Sink out.old out.new) }
-{
-    let _ = out.put(line);
-}
-
-/// Tells the line of a run that stopped before it wrote.
-fn tell_stop<K: Sink>(stop: Stop, out: &mut K) -> Status
-    ensures { StoppedWith stop (sink_seen K.Sink out.old out.new) result }
-{
-    match stop {
-        Stop::Refused(line) => {
-            tell(out, line.as_slice());
-            Status::LoadRefused
-        }
-        Stop::ReadFailed(line) => {
-            tell(out, line.as_slice());
-            Status::ReadFault
-        }
-        Stop::Memory => {
-            tell(out, OUT_OF_MEMORY);
-            Status::Memory
-        }
-    }
-}
-
-/// Writes all files, and tells the summary.
-fn finish<S: Shelf, K: Sink>(plan: Plan, shelf: &mut S, out: &mut K) -> Status
-    requires { length plan.outputs.items ≤ S.spare shelf.old }
-    ensures last_failed_stays { IsTrue S.tells_failed → S.last_failed shelf.new ≡ S.last_failed shelf.old }
-    ensures outcome { Finished plan (shelf_seen S.Shelf shelf.old shelf.new) (sink_seen K.Sink out.old out.new) result }
-{
-    let Plan {
-        outputs,
-        summary,
-        done,
-    } = plan;
-    if let Err(line) = write_all(shelf, outputs) {
-        tell(out, line.as_slice());
-        return Status::WriteFault;
-    }
-    match out.put(summary.as_slice()) {
-        Ok(()) => status_if(done),
-        Err(_) => Status::WriteFault,
-    }
-}
-
-/// How a run ended that wrote all files: whether a command was refused or a policy is broken.
-fn status_if(done: bool) -> Status
-    ensures { result ≡ status_if done }
-{
-    if done { Status::Done } else { Status::Clean }
 }

@@ -1,4 +1,4 @@
-use Rattle.ucdshop_core.proofs.OutputLemmas.{puts_then}
+use Rattle.run_endings.specs.PutProofs.{puts_then}
 use Rattle.ucdshop_core.proofs.outputs.put_made.Goals as goal
 
 pub returns : goal.returns

@@ -1,5 +1,5 @@
 use Rattle.std.proofs.Common.{take, map}
-use Rattle.ucdshop_core.specs.Planning.{Puts}
+use Rattle.run_endings.specs.Planning.{Puts}
 use Rattle.ucdshop_core.specs.Run.{made_file}
 use Rattle.ucdshop_core.proofs.outputs.put_made_files.Given as goal
 

@@ -2,8 +2,8 @@ use Rattle.std.proofs.Common.{subst}
 use Rattle.std.specs.Prelude.{IfOk}
 use Rattle.std.specs.Option.{option_map}
 use Rattle.ucdshop_core.specs.Commands.{job_of}
-use Rattle.ucdshop_core.specs.Planning.{HasPlan}
-use Rattle.ucdshop_core.specs.Run.{Ending}
+use Rattle.run_endings.specs.Planning.{HasPlan}
+use Rattle.run_endings.specs.Endings.{Ending}
 use Rattle.ucdshop_core.specs.Session.{started}
 use Rattle.ucdshop_core.proofs.CarryingLemmas.{session_counts_none}
 use Rattle.ucdshop_core.proofs.PlanningLemmas.{ending_reached}

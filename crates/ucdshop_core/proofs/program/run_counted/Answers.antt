@@ -1,5 +1,7 @@
-use Rattle.ucdshop_core.proofs.Clauses.{promises}
+use Rattle.run_endings.specs.PromiseProofs.{promises_are_kept}
+use Rattle.ucdshop_core.specs.Run.{ucdshop}
+use Rattle.ucdshop_core.proofs.PlanningLemmas.{writes_its_paths}
 use Rattle.ucdshop_core.proofs.program.run_counted.Goals as goal
 
 pub returns-clause-run : goal.returns-clause-run
-returns-clause-run g c = promises _ _ _ _ c.run_words.ensures.outcome
+returns-clause-run g c = promises_are_kept ucdshop c.args.words.now g.S.Shelf c.args.shelf.now _ _ _ _ _ writes_its_paths c.plan_words-planned.ensures.plans c.end_run.ensures

@@ -28,8 +28,8 @@ fn stretches_of<T: Stretches<u64>>(alloc: Global, table: &T) -> Result<Vec<Layer
     Ok(pieces)
 }
 
-/// The layers that cover each code point once, in ascending order, with the word of the last of the given layers that
-/// covers it, and the word `base` where none does.
+/// Layers that cover each code point with one word: that of the last of the given layers that covers it, and `base` where
+/// none does.
 ///
 /// - `Memory`: memory ran out.
 pub fn pieces(alloc: Global, base: u64, layers: &[Layer]) -> Result<Vec<Layer>, Memory>

@@ -21,7 +21,7 @@ pub struct Layer {
 
 /// The table with the word of the last layer that covers a code point, and the word `base` where none does.
 ///
-/// Each layer takes time by the blocks of its span, however wide the others are.
+/// Each layer takes time by the blocks of its span, however wide the others are, and no memory but that of the table.
 ///
 /// - `Memory`: memory ran out.
 pub fn layered(alloc: Global, base: u64, layers: &[Layer]) -> Result<PagedTable, Memory>
@@ -30,7 +30,8 @@ pub fn layered(alloc: Global, base: u64, layers: &[Layer]) -> Result<PagedTable,
     let mut table = PagedTable::filled(alloc, base)?;
     'layers: for layer in layers {
         table.prepare(layer.span, layer.word)?;
+        // a table keeps a list of what was prepared since it was last committed
+        table.commit();
     }
-    table.commit();
     Ok(table)
 }

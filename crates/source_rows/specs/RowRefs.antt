@@ -2,10 +2,15 @@
 --
 -- value_in text, fold_in text, casing_in text   the row that stands in the text
 -- row_in row                 the row that stands in a line of any file
+-- valued_in row              the row that stands in a line of a file that gives values
+-- has_values file            the rows of the file give values: PropList.txt, Scripts.txt, WordBreakProperty.txt
 -- ValueAs result expected    the value that stands there, or the fault, is what was expected
+-- ValuedAs result expected   the row that stands there, or the fault, is what was expected, of a file that gives values
 -- RefAs result expected      the row that stands there, or the fault, is what was expected
 -- NamesAs result expected    the names, or the fault, are what was expected, of a line of names
-use Rattle.std.specs.Prelude.{◌≡◌, ℕ, List, Result, Ok, Err}
+use Rattle.std.specs.Prelude.{◌≡◌, ℕ, Bool, true, false, List, Result, Ok, Err}
+use Rattle.ucd_points.specs.declared.files.SourceFile.{SourceFile}
+use Rattle.ucd_points.specs.declared.files.SourceFile.TheVariants.{PropList, Scripts, WordBreakProperty}
 use Rattle.ucd_model.specs.declared.row.CasingRow.{CasingRow}
 use Rattle.ucd_model.specs.declared.row.FoldRow.{FoldRow}
 use Rattle.ucd_model.specs.declared.row.Row.{Row}
@@ -18,6 +23,8 @@ use Rattle.source_rows.specs.declared.row_ref.RowRef.{RowRef}
 use Rattle.source_rows.specs.declared.row_ref.RowRef.TheVariants.{Unit as DataRef, Value as ValueRef, Exclusion as ExclusionRef, Fold as FoldRef, Casing as CasingRef, Alias as AliasRef, Missing as MissingRef}
 use Rattle.source_rows.specs.declared.special_casing.CasingText.{CasingText}
 use Rattle.source_rows.specs.declared.values.ValueText.{ValueText}
+use Rattle.source_rows.specs.declared.values.Valued.{Valued}
+use Rattle.source_rows.specs.declared.values.Valued.TheVariants.{Given as GivenRef, Missing as MissingValue}
 
 abbrev pub value_in : ValueText → ValueRow
 value_in t = record { span = t.span; value = t.value.now }
@@ -37,6 +44,16 @@ row_in (CasingRef text) = CasingLine (casing_in text)
 row_in (AliasRef names) = AliasLine (record { names = names })
 row_in (MissingRef text) = MissingLine (value_in text)
 
+abbrev pub valued_in : Valued → Row
+valued_in (GivenRef text) = ValueLine (value_in text)
+valued_in (MissingValue text) = MissingLine (value_in text)
+
+abbrev pub has_values : SourceFile → Bool
+has_values PropList = true
+has_values Scripts = true
+has_values WordBreakProperty = true
+has_values _ = false
+
 abbrev pub ValueAs : Result ValueText RowFault → Result ValueRow RowFault → Type 0
 ValueAs (Ok text) expected = expected ≡ Ok (value_in text)
 ValueAs (Err fault) expected = expected ≡ Err fault
@@ -44,6 +61,10 @@ ValueAs (Err fault) expected = expected ≡ Err fault
 abbrev pub RefAs : Result RowRef RowFault → Result Row RowFault → Type 0
 RefAs (Ok row) expected = expected ≡ Ok (row_in row)
 RefAs (Err fault) expected = expected ≡ Err fault
+
+abbrev pub ValuedAs : Result Valued RowFault → Result Row RowFault → Type 0
+ValuedAs (Ok row) expected = expected ≡ Ok (valued_in row)
+ValuedAs (Err fault) expected = expected ≡ Err fault
 
 abbrev pub NamesAs : Result (List (List ℕ)) RowFault → Result Row RowFault → Type 0
 NamesAs (Ok names) expected = expected ≡ Ok (AliasLine (record { names = names }))

@@ -47,12 +47,12 @@ pub use laws::{
     keys_are_read, rows_are_no_trivia, rows_are_ok, rows_are_read, rows_have_lines,
     spans_are_spelled, spellings_are_one, texts_read_back,
 };
-pub use mapping::Mapping;
+pub use mapping::{Mapping, some_mapping_of};
 pub use point_values::{PointValues, read_point_values};
-pub use read::{read_row, read_row_ref};
+pub use read::{has_values, read_row, read_row_ref, read_valued};
 pub use row_keys::row_key;
 pub use row_ref::RowRef;
 pub use special_casing::CasingText;
 pub use text::row_text;
 pub use unicode_data::begins_range;
-pub use values::ValueText;
+pub use values::{ValueText, Valued};

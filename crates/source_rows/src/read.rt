@@ -1,9 +1,9 @@
 //! Reads one row.
 
-ghost use Rattle.std.specs.Prelude.{IfOk};
+ghost use Rattle.std.specs.Prelude.{◌≡◌, true, IfOk};
 ghost use Rattle.ucd_model.specs.RowValues.{RowOk};
 ghost use Rattle.source_rows.specs.Faults.{ReadsAs, row_or_fault};
-ghost use Rattle.source_rows.specs.RowRefs.{RefAs};
+ghost use Rattle.source_rows.specs.RowRefs.{RefAs, ValuedAs, has_values};
 
 use crate::aliases::read_names;
 use crate::case_folding::read_fold;
@@ -13,7 +13,7 @@ use crate::lines::holds_line_feed;
 use crate::row_ref::RowRef;
 use crate::special_casing::read_casing;
 use crate::unicode_data::read_unit;
-use crate::values::{read_value, read_value_or_missing};
+use crate::values::{Valued, read_value, read_value_or_missing, read_value_ref};
 use std::alloc::Global;
 use ucd_model::{Row, SourceFile};
 
@@ -33,11 +33,9 @@ pub fn read_row_ref(file: SourceFile, bytes: &[u8]) -> Result<RowRef<'_>, RowFau
     }
     match file {
         SourceFile::UnicodeData => read_unit(bytes),
-        SourceFile::PropList => read_value(bytes),
-        SourceFile::Scripts => read_value_or_missing(SourceFile::Scripts, bytes),
-        SourceFile::WordBreakProperty => {
-            read_value_or_missing(SourceFile::WordBreakProperty, bytes)
-        }
+        SourceFile::PropList => read_value_ref(SourceFile::PropList, bytes),
+        SourceFile::Scripts => read_value_ref(SourceFile::Scripts, bytes),
+        SourceFile::WordBreakProperty => read_value_ref(SourceFile::WordBreakProperty, bytes),
         SourceFile::CompositionExclusions => read_exclusion(bytes),
         SourceFile::CaseFolding => read_fold(bytes),
         SourceFile::SpecialCasing => read_casing(bytes),
@@ -45,6 +43,35 @@ pub fn read_row_ref(file: SourceFile, bytes: &[u8]) -> Result<RowRef<'_>, RowFau
         SourceFile::PropertyAliases => read_names(2, bytes),
         // the name of a property, and the short and the long name of its value
         SourceFile::PropertyValueAliases => read_names(3, bytes),
+    }
+}
+
+/// Whether the rows of a file give values: PropList.txt, Scripts.txt and WordBreakProperty.txt.
+pub fn has_values(file: SourceFile) -> bool
+    ensures { result ≡ has_values file }
+{
+    matches!(
+        file,
+        SourceFile::PropList | SourceFile::Scripts | SourceFile::WordBreakProperty
+    )
+}
+
+/// The same as [`read_row_ref`] of PropList.txt, Scripts.txt and WordBreakProperty.txt alone, whose rows take less room.
+#[tactic(auto, unfolding(crate::specs::Faults::row_or_fault, ucd_points::specs::Fields::fields, ucd_points::specs::MissingLines::missing_rest))]
+pub fn read_valued(file: SourceFile, bytes: &[u8]) -> Result<Valued<'_>, RowFault>
+    requires { has_values file ≡ true }
+    ensures { ValuedAs result (row_or_fault file bytes.now) }
+{
+    if holds_line_feed(bytes) {
+        return Err(RowFault::G03);
+    }
+    match file {
+        SourceFile::PropList => read_value(bytes),
+        SourceFile::Scripts => read_value_or_missing(SourceFile::Scripts, bytes),
+        SourceFile::WordBreakProperty => {
+            read_value_or_missing(SourceFile::WordBreakProperty, bytes)
+        }
+        _ => unreachable!(),
     }
 }
 

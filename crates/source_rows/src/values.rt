@@ -6,7 +6,7 @@ ghost use Rattle.ucd_points.specs.Fields.{is_hash};
 ghost use Rattle.ucd_model.specs.declared.row.Row.TheVariants.{Value as ValueLine};
 ghost use Rattle.source_rows.specs.Faults.{value_line};
 ghost use Rattle.source_rows.specs.Fields.{fields_of, row_fields};
-ghost use Rattle.source_rows.specs.RowRefs.{RefAs, ValueAs};
+ghost use Rattle.source_rows.specs.RowRefs.{RefAs, ValueAs, ValuedAs};
 ghost use Rattle.source_rows.specs.Steps.{and_then};
 ghost use Rattle.source_rows.specs.OtherFaults.{value_or_fault};
 
@@ -28,6 +28,15 @@ pub struct ValueText<'a> {
     pub span: Span,
     /// In PropList.txt the name of a property that they have, else that of their Script or Word_Break.
     pub value: &'a [u8],
+}
+
+/// A row of PropList.txt, Scripts.txt or WordBreakProperty.txt as it stands in its line.
+#[derive(Clone, Copy, Debug)]
+pub enum Valued<'a> {
+    /// A row that gives its code points the value.
+    Given(ValueText<'a>),
+    /// A missing row of Scripts.txt or WordBreakProperty.txt.
+    Missing(ValueText<'a>),
 }
 
 /// The span and the value of a text without comment.
@@ -57,11 +66,11 @@ fn value_text(text: &[u8]) -> Result<ValueText<'_>, RowFault>
 /// - `G03`: there are not two fields.
 /// - `G04`: the first is no code point and no span.
 /// - `G11`: the second is no name.
-pub fn read_value(content: &[u8]) -> Result<RowRef<'_>, RowFault>
-    ensures { RefAs result (and_then (value_or_fault (fields_of (before_first is_hash content.now))) (λ row. Ok (ValueLine row))) }
+pub fn read_value(content: &[u8]) -> Result<Valued<'_>, RowFault>
+    ensures { ValuedAs result (and_then (value_or_fault (fields_of (before_first is_hash content.now))) (λ row. Ok (ValueLine row))) }
 {
     match value_text(without_comment(content)) {
-        Ok(text) => Ok(RowRef::Value(text)),
+        Ok(text) => Ok(Valued::Given(text)),
         Err(fault) => Err(fault),
     }
 }
@@ -71,14 +80,25 @@ pub fn read_value(content: &[u8]) -> Result<RowRef<'_>, RowFault>
 /// - `G03`: there are not two fields.
 /// - `G04`: the first is no code point and no span.
 /// - `G11`: the second is no name.
-pub fn read_value_or_missing(file: SourceFile, content: &[u8]) -> Result<RowRef<'_>, RowFault>
-    ensures { RefAs result (and_then (value_or_fault (row_fields file content.now)) (λ row. Ok (value_line file content.now row))) }
+pub fn read_value_or_missing(file: SourceFile, content: &[u8]) -> Result<Valued<'_>, RowFault>
+    ensures { ValuedAs result (and_then (value_or_fault (row_fields file content.now)) (λ row. Ok (value_line file content.now row))) }
 {
     let Some(rest) = missing_rest(file, content) else {
         return read_value(content);
     };
     match value_text(without_comment(rest)) {
-        Ok(text) => Ok(RowRef::Missing(text)),
+        Ok(text) => Ok(Valued::Missing(text)),
+        Err(fault) => Err(fault),
+    }
+}
+
+/// The same as a row of any file.
+pub fn read_value_ref(file: SourceFile, content: &[u8]) -> Result<RowRef<'_>, RowFault>
+    ensures { RefAs result (and_then (value_or_fault (row_fields file content.now)) (λ row. Ok (value_line file content.now row))) }
+{
+    match read_value_or_missing(file, content) {
+        Ok(Valued::Given(text)) => Ok(RowRef::Value(text)),
+        Ok(Valued::Missing(text)) => Ok(RowRef::Missing(text)),
         Err(fault) => Err(fault),
     }
 }

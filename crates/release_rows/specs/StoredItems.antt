@@ -18,6 +18,7 @@
 -- HasRow file content e      the content reads as a row, and the entry has its code points and what is kept of what it gives
 -- IsBriefOf b file row first   the row has one code point, and this is kept of what it gives
 -- IsRowText file content b first   the content reads as a row, and what is kept, if anything is, is kept of a row of one code point
+-- ShowsValued value row     the value is the row, which is one of a file that gives values; None of other rows
 -- ShowsValue value row      the value is that of a row of a span and a value; None of other rows, missing rows among them
 -- ShowsMissing value row    the value is that of a missing row; None of other rows
 use Rattle.std.specs.Prelude.{◌≡◌, ◌≢◌, ℕ, ◌+◌, ◌<◌, ◌≤◌, ◌^◌, List, map, length, take, drop, Option, Some, None, Result, Ok, Err}
@@ -28,9 +29,10 @@ use Rattle.ucd_model.specs.declared.row.Row.{Row}
 use Rattle.ucd_model.specs.declared.row.Row.TheVariants.{Value as ValueLine, Exclusion as ExclusionLine, Missing as MissingLine}
 use Rattle.ucd_lines.specs.Items.{item_of, ending_of}
 use Rattle.source_rows.specs.Faults.{row_or_fault}
-use Rattle.source_rows.specs.RowRefs.{value_in}
+use Rattle.source_rows.specs.RowRefs.{value_in, valued_in}
 use Rattle.source_rows.specs.declared.fault.RowFault.{RowFault}
 use Rattle.source_rows.specs.declared.values.ValueText.{ValueText}
+use Rattle.source_rows.specs.declared.values.Valued.{Valued}
 use Rattle.part_list.specs.Parts.{PartLists, now_in, next_in}
 use Rattle.part_list.specs.declared.spanned.Spanned.{Spanned}
 use Rattle.source_rows.specs.Keys.{row_span}
@@ -103,6 +105,12 @@ IsBriefOf b file row first = (b ≡ brief_of (Some row)) × HasSpan (Some row) f
 pub record IsRowText (file : SourceFile) (content : List ℕ) (b : Brief) (first : ℕ) : Type 0 where
   pub read : row_or_fault file content ≡ Ok (read_as file content)
   pub brief : b ≢ no_brief → IsBriefOf b file (read_as file content) first
+
+abbrev pub ShowsValued : Option Valued → Row → Type 0
+ShowsValued (Some v) row = row ≡ valued_in v
+ShowsValued None (ValueLine row) = ⊥
+ShowsValued None (MissingLine row) = ⊥
+ShowsValued None _ = Unit {0}
 
 abbrev pub ShowsValue : Option ValueText → Row → Type 0
 ShowsValue (Some v) (ValueLine row) = row ≡ value_in v

@@ -4,13 +4,14 @@ ghost use Rattle.std.specs.Prelude.{◌≡◌, Some, IfOk, IsTrue};
 ghost use Rattle.std.specs.Option.{IfSome};
 ghost use Rattle.source_rows.specs.RowRefs.{row_in};
 ghost use Rattle.release_rows.specs.Given.{ShowsGiven};
-ghost use Rattle.release_rows.specs.StoredItems.{HasRow, ShowsMissing, ShowsValue, read_as};
+ghost use Rattle.release_rows.specs.StoredItems.{HasRow, ShowsMissing, ShowsValue, ShowsValued, read_as};
 
 use crate::brief::Brief;
 use crate::stretch::Stretch;
 use part_list::Spanned;
 use source_rows::{
-    PointValues, RowRef, ValueText, read_point_values, read_row_ref, rows_are_ok, rows_are_read,
+    PointValues, RowRef, ValueText, Valued, has_values, read_point_values, read_row_ref,
+    read_valued, rows_are_ok, rows_are_read,
 };
 use std::alloc::Global;
 use std::marker::Model;
@@ -114,13 +115,28 @@ impl<'a> RowText<'a> {
         }
     }
 
+    /// A row of PropList.txt, Scripts.txt or WordBreakProperty.txt, as it stands there; `None` of the rows of the other files.
+    pub fn valued(&self) -> Option<Valued<'a>>
+        ensures { ShowsValued result self.now }
+    {
+        rows_are_read();
+        rows_are_ok();
+        if !has_values(self.file) {
+            return None;
+        }
+        match read_valued(self.file, self.content) {
+            Ok(row) => Some(row),
+            Err(_) => unreachable!(),
+        }
+    }
+
     /// The code points and the value of a row of PropList.txt, Scripts.txt or WordBreakProperty.txt, as they stand there;
     /// `None` of missing rows, and of the rows of the other files.
     pub fn value(&self) -> Option<ValueText<'a>>
         ensures { ShowsValue result self.now }
     {
-        match self.row() {
-            RowRef::Value(text) => Some(text),
+        match self.valued() {
+            Some(Valued::Given(text)) => Some(text),
             _ => None,
         }
     }
@@ -130,8 +146,8 @@ impl<'a> RowText<'a> {
     pub fn missing(&self) -> Option<ValueText<'a>>
         ensures { ShowsMissing result self.now }
     {
-        match self.row() {
-            RowRef::Missing(text) => Some(text),
+        match self.valued() {
+            Some(Valued::Missing(text)) => Some(text),
             _ => None,
         }
     }

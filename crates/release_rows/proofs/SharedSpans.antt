@@ -11,7 +11,7 @@ use Rattle.ucd_model.specs.declared.row.ValueRow.{ValueRow}
 use Rattle.ucd_model.specs.declared.row.Row.{Row}
 use Rattle.ucd_model.specs.declared.row.Row.TheVariants.{Unit as DataLine, Value as ValueLine, Exclusion as ExclusionLine, Fold as FoldLine, Casing as CasingLine, Alias as AliasLine, Missing as MissingLine}
 use Rattle.source_rows.specs.Keys.{row_span, condition_names, value_names, missing_names, key_names, same_texts}
-use Rattle.release_rows.specs.Keys.{has_spans, is_missing_row, own_end, same_key}
+use Rattle.release_rows.specs.Keys.{has_spans, is_missing_row, own_end}
 use Rattle.release_rows.specs.Operations.{overlaps_another}
 use Rattle.release_rows.specs.OperationLaws.{MissingRowsOverlapNothing}
 use Rattle.release_rows.proofs.RowsApart.{keys_swap, overlaps_swap, texts_swap}

@@ -26,7 +26,7 @@ use source_rows::{Key, row_key};
 use std::alloc::Global;
 use std::marker::Model;
 use ucd_lines::Ending;
-use ucd_model::{ListOf, Memory, Row, SourceFile, Span, Spans, Text};
+use ucd_model::{Memory, Row, SourceFile, Span, Spans, Text};
 
 /// A text that only grows, and where the items of a file stand in it, now and next. A row is kept as its bytes alone:
 /// they read as it. Contracts see the items.

@@ -1,6 +1,6 @@
 //! A file that is loaded piece by piece, whose rows are held against each other once all of them are there.
 
-ghost use Rattle.std.specs.Prelude.{◌≡◌, ◌+◌, ◌<◌, ◌^◌, ◌++◌, [], OnOk, IfOk, length, true};
+ghost use Rattle.std.specs.Prelude.{◌≡◌, ◌+◌, ◌<◌, ◌^◌, ◌++◌, [], OnOk, IfOk, length};
 ghost use Rattle.std.specs.Option.{IfSome};
 ghost use Rattle.release_rows.specs.Entries.{EntersSome};
 ghost use Rattle.release_rows.specs.FileItems.{bytes_of, file_item_bytes, lines_of};

@@ -1,7 +1,5 @@
 //! Looks for the entries of a file that share a code point with some of the spans.
 
-ghost use Rattle.std.specs.Prelude.{◌≡◌};
-
 use crate::span_order::SpanOrder;
 use crate::stretch::Stretch;
 use part_list::{Reach, Seek, Spanned};

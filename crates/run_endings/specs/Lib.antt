@@ -13,3 +13,4 @@ pub mod OutcomeProofs
 pub mod PromiseProofs
 pub mod PathProofs
 pub mod PutProofs
+pub mod PreparedProofs

@@ -21,10 +21,10 @@ no_form_finishes e ending p q = cc
 no_form_refuses : (e : Expected) (line : List ℕ) → e ≡ NoForm → e ≡ Refuses line → ⊥
 no_form_refuses e line p q = cc
 
-refuses_finishes : (e : Expected) (line : List ℕ) (ending : Ending) → e ≡ Refuses line → e ≡ Finishes ending → ⊥
+pub refuses_finishes : (e : Expected) (line : List ℕ) (ending : Ending) → e ≡ Refuses line → e ≡ Finishes ending → ⊥
 refuses_finishes e line ending p q = cc
 
-same_ending : (e : Expected) (a b : Ending) → e ≡ Finishes a → e ≡ Finishes b → a ≡ b
+pub same_ending : (e : Expected) (a b : Ending) → e ≡ Finishes a → e ≡ Finishes b → a ≡ b
 same_ending e a b p q = cc
 
 same_job : {Job : Type 0} (o : Option Job) (a b : Job) → o ≡ Some a → o ≡ Some b → a ≡ b

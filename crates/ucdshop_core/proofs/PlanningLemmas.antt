@@ -6,10 +6,8 @@ use Rattle.ucdshop_core.specs.Commands.{IsListed}
 use Rattle.ucdshop_core.specs.Judging.{given_verdict, inputs_of, made_for}
 use Rattle.ucdshop_core.specs.Making.{data_rows}
 use Rattle.ucdshop_core.specs.Planning.{CountsRows}
-use Rattle.run_endings.specs.Planning.{IsPlanOf, OnRefused, OnlyRead, PlansAs, UnreadAs}
-use Rattle.run_endings.specs.Ends.{Prepares}
+use Rattle.run_endings.specs.Planning.{IsPlanOf, OnRefused, PlansAs}
 use Rattle.run_endings.specs.Reading.{IsRead}
-use Rattle.run_endings.specs.Outcome.{ShelfSeen}
 use Rattle.run_inputs.specs.Judging.{ToldAs}
 use Rattle.stability_policies.specs.declared.breaks.Break.{Break}
 use Rattle.run_endings.specs.Endings.{Contents, Ending, Expected, Finishes, NewFile, Refuses, Sees, WritesItsPaths}
@@ -38,16 +36,6 @@ pub stops_as : (job : Job) (verdict : Result Inputs (List ℕ)) (stop : Stop) �
 stops_as job verdict (Refused line) told = ap (judged job) told
 stops_as job verdict (ReadFailed line) told = absurd told
 stops_as job verdict Memory told = tt
-
--- a job that was prepared
-pub prepares : (job : Job) (answer : Result Plan Stop) (shelf : ShelfSeen)
-    → IfOk answer (λ plan. Sees shelf.tells shelf.old (needed job) (λ seen. IsPlanOf plan (expected_of job seen)))
-    → OnRefused answer (λ line. Sees shelf.tells shelf.old (needed job) (λ seen. expected_of job seen ≡ Refuses line))
-    → UnreadAs answer (needed job) shelf → OnlyRead shelf → Prepares ucdshop job answer shelf
-prepares job (Ok plan) shelf planned refused unread only = record { planned = planned; unread = unread; only_read = only }
-prepares job (Err (Refused line)) shelf planned refused unread only = record { planned = refused; unread = unread; only_read = only }
-prepares job (Err (ReadFailed line)) shelf planned refused unread only = record { planned = tt; unread = unread; only_read = only }
-prepares job (Err Memory) shelf planned refused unread only = record { planned = tt; unread = unread; only_read = only }
 
 -- ---- the paths of the files that are written
 

@@ -7,6 +7,7 @@
 -- valid_files files broken    the files where no code point breaks a rule of a valid release, else the refusal
 -- release_verdict held        the items of the source files of a folder, of which this is held, where each file loads and each code
 --                             point is valid; else the refusal of the first file, or that of the least code point, by its first rule
+-- release_items files         a release with these items now, and nothing prepared
 -- second_verdict held         the bytes of what is held of the file beside a folder; an absent one is refused, and one that is too long
 -- script_verdict held         the commands of what is held of the script; an absent one is refused, one that is too long, and one
 --                             with a fault
@@ -18,6 +19,7 @@ use Rattle.ucd_points.specs.declared.files.SourceFile.{SourceFile}
 use Rattle.ucd_model.specs.declared.form.Broken.{Broken}
 use Rattle.release_rows.specs.FileItems.{FileItem}
 use Rattle.release_rows.specs.Loading.{LoadFault, load_or_fault}
+use Rattle.release_rows.specs.Releases.{ReleaseItems}
 use Rattle.script_lines.specs.Scripts.{ScriptFault, script_or_fault}
 use Rattle.script_lines.specs.declared.command.Command.{Command}
 use Rattle.edit_session.specs.Groups.{files_facts}
@@ -57,6 +59,9 @@ valid_files files (Some broken) = Err (Point broken)
 
 abbrev pub release_verdict : (SourceFile → Option (List ℕ)) → Result (List (List FileItem)) FolderRefusal
 release_verdict held = and_then (files_verdict held) (λ files. valid_files files (first_broken (files_facts files)))
+
+abbrev pub release_items : List (List FileItem) → ReleaseItems
+release_items files = record { current = files; prepared = files }
 
 -- ---- the file beside the folder
 

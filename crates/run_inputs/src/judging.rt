@@ -85,6 +85,7 @@ pub fn judge_folder<L: Ledger>(
 ) -> Result<Bench, FolderStop>
     requires { first + 9 < 2 ^ 64 }
     ensures files { JudgedAs (λ bench. bench.current) result (release_verdict (source_held held.old.items first)) }
+    ensures still { IfOk result HasNothingPrepared }
     ensures others { StayOutside first held.old.items held.new.items }
     ensures steps { steps.new ≤ steps.old + point_count }
 {
@@ -120,6 +121,7 @@ pub fn open_folder<L: Ledger>(
 ) -> Result<Bench, Stop>
     requires { first + 9 < 2 ^ 64 }
     ensures files { ToldAs (λ bench. bench.current) result (folder_verdict folder.now (source_held held.old.items first)) }
+    ensures still { IfOk result HasNothingPrepared }
     ensures others { StayOutside first held.old.items held.new.items }
     ensures steps { steps.new ≤ steps.old + point_count }
 {

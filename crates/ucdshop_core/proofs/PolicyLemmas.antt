@@ -3,9 +3,9 @@ use Rattle.std.proofs.Common.{◌≡◌, List, Result, ap, subst, ◌∙◌}
 use Rattle.std.specs.Prelude.{IfOk}
 use Rattle.edit_session.specs.Benches.{HasNothingPrepared}
 use Rattle.release_rows.specs.Releases.{ReleaseItems}
+use Rattle.run_inputs.specs.Verdict.{release_items}
 use Rattle.stability_policies.specs.Reports.{report}
 use Rattle.stability_policies.specs.declared.breaks.Break.{Break}
-use Rattle.ucdshop_core.specs.Run.{release_items}
 
 -- what is now is the release
 still_items : (release : ReleaseItems) → HasNothingPrepared release → release ≡ release_items release.current

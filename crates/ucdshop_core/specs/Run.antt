@@ -41,7 +41,6 @@
 -- summary_of job rows session breaks   the summary of a job that began with so many rows of UnicodeData.txt, after a session, with these
 --                                  breaks
 -- ending_of job rows session breaks    the ending of such a job
--- release_items files              a release with these items now
 -- breaks_since earlier files       the breaks of the stability policies by these files against those of the earlier release; none where
 --                                  there is none
 -- inputs_ending job inputs         the ending of a job on these inputs: after the session of their commands, with the breaks by the files
@@ -57,7 +56,6 @@ use Rattle.ucd_model.specs.DerivedFiles.{derived_files}
 use Rattle.ucd_points.specs.declared.files.SourceFile.{SourceFile}
 use Rattle.ucd_points.specs.SourceFiles.{source_files}
 use Rattle.release_rows.specs.FileItems.{FileItem}
-use Rattle.release_rows.specs.Releases.{ReleaseItems}
 use Rattle.script_lines.specs.declared.command.Command.{Command}
 use Rattle.release_maker.specs.MadeTexts.{source_text, script_text}
 use Rattle.stability_policies.specs.ReportTexts.{report_text}
@@ -72,7 +70,7 @@ use Rattle.run_inputs.specs.Held.{held_at, source_held}
 use Rattle.run_inputs.specs.Paths.{derived_in, source_in, sources_in}
 use Rattle.run_inputs.specs.Refusals.{folder_verdict, script_told}
 use Rattle.ucdshop_core.specs.Session.{Session, session}
-use Rattle.run_inputs.specs.Verdict.{and_then}
+use Rattle.run_inputs.specs.Verdict.{and_then, release_items}
 
 -- ---- the words
 
@@ -191,9 +189,6 @@ ending_of job rows s breaks = record {
   summary = summary_of job rows s breaks;
   done = nat_lt 0 s.refused || nat_lt 0 (length breaks);
 }
-
-abbrev pub release_items : List (List FileItem) → ReleaseItems
-release_items files = record { current = files; prepared = files }
 
 abbrev pub breaks_since : Option (List (List FileItem)) → List (List FileItem) → List Break
 breaks_since None files = []

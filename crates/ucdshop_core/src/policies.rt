@@ -2,7 +2,8 @@
 
 ghost use Rattle.std.specs.Prelude.{◌≡◌, IfOk};
 ghost use Rattle.std.specs.Option.{option_map};
-ghost use Rattle.ucdshop_core.specs.Run.{breaks_since, release_items};
+ghost use Rattle.run_inputs.specs.Verdict.{release_items};
+ghost use Rattle.ucdshop_core.specs.Run.{breaks_since};
 ghost use Rattle.stability_policies.specs.Reports.{report};
 
 use edit_session::Bench;

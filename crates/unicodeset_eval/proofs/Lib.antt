@@ -1,3 +1,4 @@
 pub mod StepLemmas
 pub mod AnswerLemmas
 pub mod FaultLemmas
+pub mod BinaryDigits

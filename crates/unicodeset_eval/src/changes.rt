@@ -1,6 +1,6 @@
 //! Steps of a bracket set, put together.
 
-ghost use Rattle.std.specs.Prelude.{◌≡◌, ℕ, Bool, IfOk, OnOk};
+ghost use Rattle.std.specs.Prelude.{◌≡◌, ◌+◌, ◌≤◌, ℕ, Bool, count_ones, length, IfOk, OnOk};
 ghost use Rattle.unicodeset_eval.specs.Changes.{all_changed, changed, gathered};
 ghost use Rattle.unicodeset_eval.specs.Edges.{has, holds};
 
@@ -67,7 +67,8 @@ fn applied(alloc: Global, set: &PointSet, change: &Change) -> Result<PointSet, M
 ///
 /// - `Memory`: memory ran out.
 fn join_last(alloc: Global, changes: &mut Vec<Change>) -> Result<(), Memory>
-    ensures { OnOk result ((c : ℕ) (b : Bool) → all_changed c b changes.new.items ≡ all_changed c b changes.old.items) }
+    ensures same { OnOk result ((c : ℕ) (b : Bool) → all_changed c b changes.new.items ≡ all_changed c b changes.old.items) }
+    ensures fewer { OnOk result (2 ≤ length changes.old.items → length changes.new.items + 1 ≡ length changes.old.items) }
 {
     if let Some(second) = changes.pop() {
         match changes.pop() {
@@ -81,7 +82,8 @@ fn join_last(alloc: Global, changes: &mut Vec<Change>) -> Result<(), Memory>
 /// Puts a change behind others, of which so many were put there before.
 ///
 /// Changes of equally many steps are put together, as one is carried when numbers are counted in binary. So an edge is
-/// looked at once for each digit of the number of steps, in whatever order they come, and few changes are kept at a time.
+/// looked at once for each digit of the number of steps, in whatever order they come: as many changes are kept as the number
+/// of steps has binary digits 1.
 ///
 /// - `Memory`: memory ran out.
 pub(crate) fn push_change(
@@ -90,7 +92,8 @@ pub(crate) fn push_change(
     change: Change,
     before: usize,
 ) -> Result<(), Memory>
-    ensures { OnOk result ((c : ℕ) (b : Bool) → all_changed c b changes.new.items ≡ changed c (all_changed c b changes.old.items) change) }
+    ensures behind { OnOk result ((c : ℕ) (b : Bool) → all_changed c b changes.new.items ≡ changed c (all_changed c b changes.old.items) change) }
+    ensures carried { OnOk result (length changes.old.items ≡ count_ones before → length changes.new.items ≡ count_ones (before + 1)) }
 {
     changes.push(change)?;
     let mut digits = before;

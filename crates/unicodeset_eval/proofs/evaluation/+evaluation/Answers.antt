@@ -15,5 +15,5 @@ changes_of-steps-preserved g t c =
       number = ap (λ n. n + 1) c.steps.invariant.number;
       kept = parts_more names tests c.steps.changes.items c.push_change.new.changes.items c.of-change.result c.in-Ok.set c.deref-step-items.result.now c.steps.step-index c.step-item.result
           (members_after names tests nothing (steps_of (parts_view c.args.parts.now)))
-          c.steps-test.true c.step-item.is c.in-Ok.ensures c.of-change.ensures c.in_ok-push_change.ensures c.steps.invariant.kept;
+          c.steps-test.true c.step-item.is c.in-Ok.ensures c.of-change.ensures c.in_ok-push_change.ensures.behind c.steps.invariant.kept;
     }

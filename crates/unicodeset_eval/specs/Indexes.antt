@@ -10,4 +10,4 @@ use Rattle.unicodeset_eval.specs.Found.{says}
 use Rattle.unicodeset_eval.specs.declared.index.SetIndex.{SetIndex}
 
 abbrev pub index_holds : {B : Type 0} {d : Ghosts B} → (B → ℕ → Record) → SetIndex B d → Test → ℕ → Bool
-index_holds record_of index test c = nat_lt c point_count && says (record_of index.bench.now) index.rows test c
+index_holds record_of index test c = nat_lt c point_count && says (record_of index.bench.now) index.rows.now test c

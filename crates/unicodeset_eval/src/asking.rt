@@ -1,14 +1,13 @@
 //! The sets of all tests, made once and asked for one by one.
 
 ghost use Rattle.std.specs.Prelude.{◌≡◌, ℕ, Bool, ◌&&◌, ◌<◌, nat_lt, IfOk};
-ghost use Rattle.property_aliases.specs.Numbers.{AreNumbersOf};
 ghost use Rattle.property_aliases.specs.declared.property.Test.{Test as TestValue};
 ghost use Rattle.ucd_model.specs.Cuts.{IsCut};
 ghost use Rattle.ucd_model.specs.Facts.{facts};
 ghost use Rattle.ucd_points.specs.Limits.{point_count};
 ghost use Rattle.release_rows.specs.Releases.{rows_now};
 ghost use Rattle.unicodeset_eval.specs.Edges.{has, holds};
-ghost use Rattle.unicodeset_eval.specs.Found.{has_at};
+ghost use Rattle.unicodeset_eval.specs.Found.{AreRowSets, has_at};
 ghost use Rattle.unicodeset_eval.specs.Indexes.{index_holds};
 ghost use Rattle.unicodeset_eval.specs.Tests.{same_truth, test_holds};
 
@@ -18,7 +17,7 @@ use crate::point_set::PointSet;
 use crate::record_pieces::pieces_of;
 use crate::row_sets::RowSets;
 use crate::test_sets::TestSets;
-use property_aliases::{Test, ValueNumbers};
+use property_aliases::Test;
 use release_rows::Release;
 use std::alloc::Global;
 use ucd_model::{Memory, Records, Span, point_count};
@@ -75,8 +74,7 @@ pub(crate) fn numbered_set(
 
 impl<'b, B: Records> SetIndex<'b, B> {
     /// The sets of all tests by the rows of a release now, and by what is derived of them: `pieces` are the pieces of equal
-    /// records of the bench, as [`equal_pieces`](ucd_model::equal_pieces) gives them, and `numbers` the numbers of the values
-    /// that the rows give.
+    /// records of the bench, as [`equal_pieces`](ucd_model::equal_pieces) gives them, and `rows` the sets that the rows give.
     ///
     /// - `Memory`: memory ran out.
     pub fn of(
@@ -84,17 +82,16 @@ impl<'b, B: Records> SetIndex<'b, B> {
         bench: &'b B,
         pieces: &[Span],
         release: &Release,
-        numbers: &ValueNumbers,
+        rows: &'b RowSets,
     ) -> Result<SetIndex<'b, B>, Memory>
         requires pieces { IsCut (B.record_of bench.now) 0 point_count pieces.now }
-        requires numbers { AreNumbersOf numbers.now (rows_now release.now) }
+        requires rows { AreRowSets rows.now (rows_now release.now) }
         requires categories { (c : ℕ) → c < point_count → (B.record_of bench.now c).category ≡ (facts (rows_now release.now) c).category }
         ensures { IfOk result (λ index. (test : TestValue) (c : ℕ) → index_holds B.record_of index test c
             ≡ (nat_lt c point_count && test_holds (B.record_of bench.now) (rows_now release.now) test c)) }
     {
         assigned_have_categories(release);
         let pieces = pieces_of(alloc, bench, pieces)?;
-        let rows = RowSets::of(alloc, release, numbers)?;
         Ok(SetIndex {
             bench,
             pieces,

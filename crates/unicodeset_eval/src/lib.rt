@@ -28,5 +28,6 @@ pub use index::SetIndex;
 pub use laws::{equal_members_have_equal_edges, first_fault_is_told, least_fault_is_told};
 pub use point_set::PointSet;
 pub use release_eval::eval;
+pub use row_sets::RowSets;
 pub use stop::{EvalStop, NameRule};
 pub use test_sets::TestSets;

@@ -13,6 +13,7 @@ ghost use Rattle.unicodeset_parser.specs.Views.{tree_view};
 
 use crate::evaluation::eval_over;
 use crate::index::SetIndex;
+use crate::row_sets::RowSets;
 use crate::stop::EvalStop;
 use property_aliases::{Aliases, ValueNumbers};
 use release_rows::Release;
@@ -40,6 +41,7 @@ pub fn eval<B: Records>(
 {
     let pieces = equal_pieces(alloc, bench)?;
     let numbers = ValueNumbers::of(alloc, release)?;
-    let index = SetIndex::of(alloc, bench, pieces.as_slice(), release, &numbers)?;
+    let rows = RowSets::of(alloc, release, &numbers)?;
+    let index = SetIndex::of(alloc, bench, pieces.as_slice(), release, &rows)?;
     eval_over(alloc, &index, aliases, expr)
 }

@@ -159,11 +159,7 @@ impl RowSets {
     /// The sets by the rows of a release now, which have these numbers.
     ///
     /// - `Memory`: memory ran out.
-    pub(crate) fn of(
-        alloc: Global,
-        release: &Release,
-        numbers: &ValueNumbers,
-    ) -> Result<RowSets, Memory>
+    pub fn of(alloc: Global, release: &Release, numbers: &ValueNumbers) -> Result<RowSets, Memory>
         requires { AreNumbersOf numbers.now (rows_now release.now) }
         ensures { IfOk result (λ sets. AreRowSets sets (rows_now release.now)) }
     {

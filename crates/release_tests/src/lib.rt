@@ -1,6 +1,9 @@
-//! Tests of rows, keys, files, operations and scripts. They stand above the crates that they test, so that each is proved once.
+//! Tests of rows, keys, files, operations, scripts and cases. They stand above the crates that they test, so that each is
+//! proved once.
 #![tactic(auto)]
 
+#[cfg(test)]
+mod cases;
 #[cfg(test)]
 mod data_files;
 #[cfg(test)]

@@ -1,5 +1,7 @@
-//! Tests of the policy report over benches. They stand above the crates that they test, so that each is proved once.
+//! Tests of the policy report and of conformance over benches. They stand above the crates that they test, so that each is proved once.
 #![tactic(auto)]
 
+#[cfg(test)]
+mod conformance;
 #[cfg(test)]
 mod reports;

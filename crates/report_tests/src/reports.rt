@@ -25,7 +25,7 @@ const LATER: &[u8] =
     b"0061;LATIN SMALL LETTER A;Ll;0;L;;;;;N;;;;;\n00E0;LATIN SMALL LETTER A WITH GRAVE;Ll;0;L;0061 0300;;;;N;;;;;\n0300;COMBINING GRAVE ACCENT;Mn;220;NSM;;;;;N;;;;;\n0301;COMBINING ACUTE ACCENT;Mn;230;NSM;;;;;N;;;;;\n";
 
 /// A letter with a mark and its parts, and the same with one mark more.
-const GRAVE: &[u8] =
+pub const GRAVE: &[u8] =
     b"0061;LATIN SMALL LETTER A;Ll;0;L;;;;;N;;;;;\n00E0;LATIN SMALL LETTER A WITH GRAVE;Ll;0;L;0061 0300;;;;N;;;;;\n0300;COMBINING GRAVE ACCENT;Mn;230;NSM;;;;;N;;;;;\n";
 
 const MORE: &[u8] =
@@ -50,7 +50,7 @@ const MOVED: &[u8] = b"scx ; sc ; Latn ; Latin\ngc ; Lu ; Uppercase_Letter\n";
 
 /// The lines of UnicodeData.txt, PropertyAliases.txt and PropertyValueAliases.txt; the other files are empty.
 #[derive(Clone, Copy)]
-struct Lines {
+pub struct Lines {
     data: &'static [u8],
     properties: &'static [u8],
     values: &'static [u8],
@@ -68,7 +68,7 @@ fn counted<L: Ledger>(alloc: Global, release: Release, blank: Blank) -> Result<B
 }
 
 /// A bench over a release with these lines.
-fn bench_over(alloc: Global, lines: &Lines) -> Result<Box<Bench>, Fail> {
+pub fn bench_over(alloc: Global, lines: &Lines) -> Result<Box<Bench>, Fail> {
     let mut release = Release::empty(alloc);
     release.load_file(SourceFile::UnicodeData, lines.data)?;
     release.load_file(SourceFile::PropertyAliases, lines.properties)?;
@@ -194,7 +194,7 @@ fn are_kept(forms: &Forms, folding: &Points) -> bool {
         && folding.as_slice() == [composed, composed].as_slice()
 }
 
-fn data(lines: &'static [u8]) -> Lines {
+pub fn data(lines: &'static [u8]) -> Lines {
     Lines {
         data: lines,
         properties: b"",

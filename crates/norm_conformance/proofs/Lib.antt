@@ -1,0 +1,7 @@
+mod CaseLemmas
+mod LinesSaid
+mod CasesRead
+mod ValidForms
+mod CheckLemmas
+mod ListedLemmas
+mod PointLemmas

@@ -1,0 +1,58 @@
+-- What is missed of code points.
+--
+-- plain_missed     of a code point without a mapping nothing is missed
+-- points_more      one more code point
+-- points_all       all code points
+-- listed_same      equal sets of listed code points give the same misses
+use Rattle.std.proofs.Common.{◌≡◌, ℕ, zero, suc, ◌+◌, Bool, true, false, ◌&&◌, not, ◌==◌, if◌then◌else◌, List, [], ◌∷◌, ◌++◌, Ok, refl, sym, ap, ◌∙◌, arith}
+use Rattle.std.specs.List.{flat_map, range_with_len}
+use Rattle.std.specs.Str.{bytes_eq}
+use Rattle.std.proofs.lemmas.Bool.Decides.{nat_tests}
+use Rattle.std.proofs.lemmas.List.{flat_map_more}
+use Rattle.ucd_points.specs.Limits.{point_count}
+use Rattle.ucd_model.specs.Facts.{Facts}
+use Rattle.ucd_model.specs.declared.decomposition.Kind.TheVariants.{Plain}
+use Rattle.ucd_model.specs.declared.form.Form.{Form}
+use Rattle.ucd_model.specs.declared.form.Form.TheVariants.{Nfd, Nfc, Nfkd, Nfkc}
+use Rattle.normalisation.specs.FormValueProofs.{plain_forms}
+use Rattle.norm_conformance.specs.Misses.{is_form, is_list, missed_forms, misses_at, point_miss, unless, unlisted_misses}
+use Rattle.norm_conformance.specs.declared.miss.Miss.{Miss}
+
+-- ---- a code point without a mapping
+
+one_same : (c : ℕ) → bytes_eq (c ∷ []) (c ∷ []) ≡ true
+one_same c = let t : (c == c) ≡ true = grind (arith, nat_tests) in rw t refl
+
+plain_is_form : (F : ℕ → Facts) (c : ℕ) → (F c).kind ≡ Plain → (form : Form) → is_form F form (c ∷ []) (c ∷ []) ≡ true
+plain_is_form F c plain form = ap (λ r. is_list r (c ∷ [])) (plain_forms F c plain form) ∙ one_same c
+
+all_kept : (a b c d : Bool) (j k l m : Miss) → a ≡ true → b ≡ true → c ≡ true → d ≡ true → unless a j ++ (unless b k ++ (unless c l ++ (unless d m ++ []))) ≡ []
+all_kept a b c d j k l m p q r s = rw (p, q, r, s) refl
+
+plain_none : (F : ℕ → Facts) (c : ℕ) → (F c).kind ≡ Plain → missed_forms F c ≡ []
+plain_none F c plain =
+    all_kept (is_form F Nfd (c ∷ []) (c ∷ [])) (is_form F Nfc (c ∷ []) (c ∷ [])) (is_form F Nfkd (c ∷ []) (c ∷ [])) (is_form F Nfkc (c ∷ []) (c ∷ [])) (point_miss c Nfd) (point_miss c Nfc) (point_miss c Nfkd) (point_miss c Nfkc)
+    (plain_is_form F c plain Nfd) (plain_is_form F c plain Nfc) (plain_is_form F c plain Nfkd) (plain_is_form F c plain Nfkc)
+
+if_empty : (t : Bool) (xs : List Miss) → xs ≡ [] → (if t then xs else []) ≡ []
+if_empty true xs e = e
+if_empty false xs e = refl
+
+pub plain_missed : (F : ℕ → Facts) (listed : ℕ → Bool) (c : ℕ) → (F c).kind ≡ Plain → misses_at F listed c ≡ []
+plain_missed F listed c plain = if_empty ((F c).assigned && not (listed c)) (missed_forms F c) (plain_none F c plain)
+
+-- ---- all code points
+
+range_more : (a n : ℕ) → range_with_len a (n + 1) ≡ range_with_len a n ++ (a + n) ∷ []
+range_more a zero = let same : a ≡ a + 0 = omega arith in ap (λ k. k ∷ []) same
+range_more a (suc n) = let same : (a + 1) + n ≡ a + suc n = omega arith in ap (λ zs. a ∷ zs) (range_more (a + 1) n ∙ ap (λ k. range_with_len (a + 1) n ++ k ∷ []) same)
+
+pub points_more : {X : Type 0} (f : ℕ → List X) (o xs zs : List X) (n : ℕ) → xs ≡ o ++ flat_map f (range_with_len 0 n) → zs ≡ xs ++ f n → zs ≡ o ++ flat_map f (range_with_len 0 (n + 1))
+points_more f o xs zs n before put = let from_zero : 0 + n ≡ n = omega arith in put ∙ ap (λ ys. ys ++ f n) before ∙ flat_map_more f o (range_with_len 0 n) n ∙ ap (λ ks. o ++ flat_map f ks) (sym (range_more 0 n ∙ ap (λ k. range_with_len 0 n ++ k ∷ []) from_zero))
+
+pub points_all : (F : ℕ → Facts) (listed : ℕ → Bool) (o xs : List Miss) (n : ℕ) → n ≡ point_count → xs ≡ o ++ flat_map (misses_at F listed) (range_with_len 0 n) → xs ≡ o ++ unlisted_misses F listed
+unfolding unlisted_misses
+points_all F listed o xs n all e = e ∙ ap (λ k. o ++ flat_map (misses_at F listed) (range_with_len 0 k)) all
+
+pub listed_same : (F : ℕ → Facts) (f g : ℕ → Bool) → ((c : ℕ) → f c ≡ g c) → unlisted_misses F f ≡ unlisted_misses F g
+listed_same F f g same = let alike : f ≡ g = λ i c. same c i in ap (unlisted_misses F) alike

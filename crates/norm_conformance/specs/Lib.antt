@@ -1,0 +1,6 @@
+pub mod Lines
+pub mod Cases
+pub mod Grammar
+pub mod ValidFacts
+pub mod Misses
+pub mod Checks

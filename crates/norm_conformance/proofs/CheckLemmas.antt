@@ -1,7 +1,5 @@
 -- What is told of the forms of columns.
 --
--- five_put       what is put five times
--- four_put       what is put four times
 -- case_put       what is put of a case
 -- point_put      what is put of a code point
 use Rattle.std.proofs.Common.{◌≡◌, ℕ, Bool, List, [], ◌∷◌, ◌++◌, refl, sym, ap, ◌∙◌, append_assoc, append-nil}
@@ -17,13 +15,9 @@ use Rattle.norm_conformance.specs.declared.miss.Miss.{Miss}
 
 -- ---- what is put
 
-pub four_put : {X : Type 0} (o a b c d : List X) → (((o ++ a) ++ b) ++ c) ++ d ≡ o ++ (a ++ (b ++ (c ++ (d ++ []))))
+four_put : {X : Type 0} (o a b c d : List X) → (((o ++ a) ++ b) ++ c) ++ d ≡ o ++ (a ++ (b ++ (c ++ (d ++ []))))
 four_put o a b c d =
     append_assoc ((o ++ a) ++ b) c d ∙ append_assoc (o ++ a) b (c ++ d) ∙ append_assoc o a (b ++ (c ++ d)) ∙ ap (λ zs. o ++ (a ++ (b ++ (c ++ zs)))) (sym (append-nil d))
-
-pub five_put : {X : Type 0} (o a b c d e : List X) → ((((o ++ a) ++ b) ++ c) ++ d) ++ e ≡ o ++ (a ++ (b ++ (c ++ (d ++ (e ++ [])))))
-five_put o a b c d e = append_assoc (((o ++ a) ++ b) ++ c) d e ∙ append_assoc ((o ++ a) ++ b) c (d ++ e) ∙ append_assoc (o ++ a) b (c ++ (d ++ e)) ∙ append_assoc o a (b ++ (c ++ (d ++ e)))
-    ∙ ap (λ zs. o ++ (a ++ (b ++ (c ++ (d ++ zs))))) (sym (append-nil e))
 
 four_same : {X : Type 0} (o a b c d a' b' c' d' : List X) → a ≡ a' → b ≡ b' → c ≡ c' → d ≡ d' → o ++ (a ++ (b ++ (c ++ (d ++ [])))) ≡ o ++ (a' ++ (b' ++ (c' ++ (d' ++ []))))
 four_same o a b c d a' b' c' d' p q r s = rw (p, q, r, s) refl

@@ -3,5 +3,4 @@ mod LinesSaid
 mod CasesRead
 mod ValidForms
 mod CheckLemmas
-mod ListedLemmas
 mod PointLemmas

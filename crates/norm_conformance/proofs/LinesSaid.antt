@@ -1,15 +1,15 @@
 -- What a line says is what the grammar tells.
-use Rattle.std.proofs.Common.{◌≡◌, ◌↔◌, ℕ, zero, suc, ◌+◌, ◌-◌, ◌<◌, ◌≤◌, Bool, true, false, cond, ◌==◌, List, [], ◌∷◌, ◌++◌, length, take, drop, Option, Some, None, Result, Ok, Err, refl, sym, ap, subst, ◌∙◌, arith}
-use Rattle.std.specs.Prelude.{codes, nat_le, ◌&&◌}
+use Rattle.std.proofs.Common.{◌≡◌, ℕ, zero, suc, ◌+◌, ◌-◌, ◌<◌, ◌≤◌, Bool, true, false, cond, List, [], ◌∷◌, ◌++◌, length, take, drop, Option, Some, None, Result, Ok, Err, refl, sym, ap, ◌∙◌, arith}
+use Rattle.std.specs.Prelude.{codes, nat_le}
 use Rattle.std.specs.Str.{bytes_eq}
-use Rattle.std.proofs.lemmas.Bool.{and_parts, true≢false}
+use Rattle.std.proofs.lemmas.Bool.{and_parts}
 use Rattle.std.proofs.lemmas.Bool.Decides.{nat_tests}
 use Rattle.std.proofs.lemmas.Slice.Eq.{bytes_eq-Decides}
 use Rattle.ucd_points.specs.Fields.{fields, is_digit}
 use Rattle.ucd_points.specs.declared.files.SourceFile.TheVariants.{PropList}
 use Rattle.ucd_model.specs.Mappings.{mapping_of}
 use Rattle.source_rows.specs.DataFaults.{at_least_one}
-use Rattle.norm_conformance.specs.Grammar.{IsPart, Spells, HasFields, HasColumns, SaidBy, LinesAreSaid}
+use Rattle.norm_conformance.specs.Grammar.{IsPart, Spells, HasColumns, LinesAreSaid}
 use Rattle.norm_conformance.specs.Lines.{columns_by, columns_in, digit_alone, is_end, is_mark, is_passed, marked, part_of, points_in, said, tested, text_of}
 use Rattle.norm_conformance.specs.declared.columns.Columns.{Columns}
 use Rattle.norm_conformance.specs.declared.line.Line.{Line}

@@ -1,10 +1,9 @@
 -- Over facts of valid rows each form is there.
-use Rattle.std.proofs.Common.{◌≡◌, ℕ, ◌<◌, ◌≤◌, Bool, List, [], ◌∷◌, Ok, refl, sym, ap, subst, ◌∙◌, arith, ◌⊎◌, inl, inr}
+use Rattle.std.proofs.Common.{◌≡◌, ℕ, ◌<◌, ◌≤◌, Bool, List, [], ◌∷◌, refl, ap, ◌∙◌, ◌⊎◌, inl, inr}
 use Rattle.std.specs.List.{AllByRecursion as Each}
 use Rattle.std.proofs.lemmas.Bool.{cases_lt}
 use Rattle.ucd_points.specs.Limits.{point_count}
-use Rattle.ucd_model.specs.Expansion.{counted}
-use Rattle.ucd_model.specs.Facts.{Facts, facts, unassigned}
+use Rattle.ucd_model.specs.Facts.{Facts, unassigned}
 use Rattle.ucd_model.specs.FactsLemmas.{facts_outside}
 use Rattle.ucd_model.specs.ValidityProofs.{valid_expands, valid_is_unbroken}
 use Rattle.ucd_model.specs.declared.form.Form.{Form}

@@ -14,7 +14,7 @@
 -- CasesAs result expected       the cases, or the fault, are what was expected; want of memory says nothing
 -- LineAs result n part old new said   line n was put to the cases before it: `result` is the part of the lines behind it, or the rule
 --                               that the line breaks; want of memory says nothing
-use Rattle.std.specs.Prelude.{◌≡◌, ℕ, ◌+◌, Bool, false, ◌||◌, List, [], ◌∷◌, ◌++◌, Result, Ok, Err, ◌==◌, ⊤}
+use Rattle.std.specs.Prelude.{◌≡◌, ℕ, ◌+◌, false, ◌||◌, List, [], ◌∷◌, ◌++◌, Result, Ok, Err, ◌==◌, ⊤}
 use Rattle.ucd_points.specs.Lines.{LineItem, items_of}
 use Rattle.norm_conformance.specs.Lines.{said}
 use Rattle.norm_conformance.specs.declared.case.Case.{Case}

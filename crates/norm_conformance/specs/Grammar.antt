@@ -15,7 +15,7 @@
 --                             whether `@Part1` is among them
 -- FirstFault lines fault      a line breaks this rule, and no line before it breaks one
 -- FaultsAreFirst              a file is refused exactly by its first fault
-use Rattle.std.specs.Prelude.{◌≡◌, ◌↔◌, ◌⊎◌, ⊥, ℕ, ◌+◌, ◌<◌, ◌≤◌, true, false, List, [], ◌∷◌, ◌++◌, length, Some, Ok, Err, codes}
+use Rattle.std.specs.Prelude.{◌≡◌, ◌↔◌, ◌⊎◌, ℕ, ◌+◌, ◌<◌, ◌≤◌, true, false, List, [], ◌∷◌, ◌++◌, length, Some, Ok, Err, codes}
 use Rattle.std.specs.List.{AllByRecursion as Each}
 use Rattle.ucd_points.specs.Fields.{fields}
 use Rattle.ucd_points.specs.declared.files.SourceFile.TheVariants.{PropList}
@@ -27,7 +27,6 @@ use Rattle.norm_conformance.specs.declared.case.Cases.{Cases}
 use Rattle.norm_conformance.specs.declared.columns.Columns.{Columns}
 use Rattle.norm_conformance.specs.declared.line.Line.{Line}
 use Rattle.norm_conformance.specs.declared.line.Line.TheVariants.{Passed, Part, Tested}
-use Rattle.norm_conformance.specs.declared.stop.CaseRule.{CaseRule}
 
 -- ---- a line
 

@@ -4,3 +4,4 @@ pub mod Grammar
 pub mod ValidFacts
 pub mod Misses
 pub mod Checks
+pub mod Examples

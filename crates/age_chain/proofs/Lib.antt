@@ -1,0 +1,4 @@
+pub mod AgeLemmas
+pub mod TableLemmas
+pub mod ListingLemmas
+pub mod ChainLemmas

@@ -1,0 +1,4 @@
+pub mod Ages
+pub mod AgeLaws
+pub mod Giving
+pub mod Examples

@@ -1,10 +1,11 @@
 -- How far a run raises its counter, from what is judged to what was seen.
-use Rattle.std.proofs.Common.{◌≡◌, ◌≤◌, ℕ, ◌+◌, Bool, List, [], map, Option, Some, None, Result, Ok, Err, refl, sym, subst, arith}
+use Rattle.std.proofs.Common.{◌≡◌, ◌≤◌, ℕ, ◌+◌, ◌*◌, Bool, List, [], map, Option, Some, None, Result, Ok, Err, refl, sym, subst, arith}
 use Rattle.ucd_points.specs.Limits.{point_count}
-use Rattle.ucdshop_core.specs.Counting.{FormCounts, SessionCounts, VerdictCounts, opened_limit}
+use Rattle.ucdshop_core.specs.Counting.{FormCounts, SessionCounts, VerdictCounts, opened_limit, releases_of}
 use Rattle.ucdshop_core.specs.Judging.{given_verdict}
 use Rattle.run_endings.specs.Endings.{Contents, Seen, Sees, paths_read}
-use Rattle.ucdshop_core.specs.Run.{Job, Derive, Apply, Compare, Make, Inputs, job_verdict, needed, ucdshop}
+use Rattle.ucdshop_core.specs.Jobs.{Job, needed}
+use Rattle.ucdshop_core.specs.Run.{Inputs, job_verdict, ucdshop}
 use Rattle.ucdshop_core.specs.Session.{started}
 use Rattle.ucdshop_core.specs.declared.given.Given.{Given}
 use Rattle.std.proofs.lemmas.List.{length-map}
@@ -12,11 +13,12 @@ use Rattle.ucdshop_core.proofs.CarryingLemmas.{session_counts_none}
 use Rattle.ucdshop_core.proofs.VerdictLemmas.{Decides}
 
 -- at least one release is opened
+one_of : (previous : Option (List ℕ)) → point_count ≤ releases_of previous * point_count
+one_of None = omega arith
+one_of (Some previous) = omega arith
+
 pub one_release : (job : Job) → point_count ≤ opened_limit job
-one_release (Derive input output) = omega arith
-one_release (Apply input script output) = omega arith
-one_release (Compare input script output previous) = omega arith
-one_release (Make number output) = omega arith
+one_release job = one_of job.previous
 
 -- nothing is carried out
 pub verdict_opened : (job : Job) (v : Result Inputs (List ℕ)) (old new : ℕ) → new ≤ old + opened_limit job → VerdictCounts job v old new

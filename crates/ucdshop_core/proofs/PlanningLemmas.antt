@@ -1,9 +1,8 @@
 -- What a run makes before it writes, from the verdict on what it works on.
-use Rattle.std.proofs.Common.{◌≡◌, ◌≤◌, Bool, List, ℕ, map, Option, Some, None, Result, Ok, Err, refl, sym, ap, subst, ◌∙◌}
+use Rattle.std.proofs.Common.{◌≡◌, ◌≤◌, ◌||◌, nat_lt, Bool, List, length, ℕ, map, Option, Some, None, Result, Ok, Err, refl, sym, ap, subst, ◌∙◌}
 use Rattle.std.specs.Prelude.{IfOk}
 use Rattle.release_rows.specs.FileItems.{FileItem}
-use Rattle.ucdshop_core.specs.Commands.{IsListed}
-use Rattle.ucdshop_core.specs.Judging.{given_verdict, inputs_of, made_for}
+use Rattle.ucdshop_core.specs.Judging.{given_verdict, inputs_of}
 use Rattle.ucdshop_core.specs.Making.{data_rows}
 use Rattle.ucdshop_core.specs.Planning.{CountsRows}
 use Rattle.run_endings.specs.Planning.{IsPlanOf, OnRefused, PlansAs}
@@ -11,11 +10,12 @@ use Rattle.run_endings.specs.Reading.{IsRead}
 use Rattle.run_inputs.specs.Judging.{ToldAs}
 use Rattle.stability_policies.specs.declared.breaks.Break.{Break}
 use Rattle.run_endings.specs.Endings.{Contents, Ending, Expected, Finishes, NewFile, Refuses, Sees, WritesItsPaths}
-use Rattle.ucdshop_core.specs.Run.{Job, Derive, Apply, Compare, Make, Inputs, breaks_since, ending_of, expected_of, inputs_ending, job_verdict, judged, needed, output_paths, ucdshop}
+use Rattle.ucdshop_core.specs.Jobs.{Job, needed, output_paths}
+use Rattle.ucdshop_core.specs.Run.{Inputs, breaks_since, ending_of, expected_of, inputs_ending, job_verdict, judged, new_files, summary_of, ucdshop}
 use Rattle.ucdshop_core.specs.Session.{Session, session}
 use Rattle.ucdshop_core.specs.declared.given.Given.{Given}
 use Rattle.ucdshop_core.specs.declared.inputs.Inputs.{Inputs as InputsMade}
-use Rattle.ucdshop_core.proofs.VerdictLemmas.{Decides, none_is_some, read_decides, some_is}
+use Rattle.ucdshop_core.proofs.VerdictLemmas.{Decides, read_decides}
 use Rattle.ucdshop_core.proofs.PathLemmas.{paths_are_of_the_words}
 use Rattle.run_endings.specs.declared.plan.Plan.{Plan}
 use Rattle.run_endings.specs.declared.stop.Stop.{Stop}
@@ -56,33 +56,31 @@ judged_paths job (Err line) ending e = absurd (refuses_finishes _ ending e)
 pub writes_its_paths : WritesItsPaths ucdshop
 writes_its_paths job seen ending e = judged_paths job (job_verdict job seen) ending e
 
--- only the summary of `make` tells how many rows there were
-ending_counts : (job : Job) (rows : ℕ) (files : List (List FileItem)) (s : Session) (breaks : List Break) → CountsRows job rows files
+-- only the summary of a release that was made tells how many rows there were
+summary_counts : (made : Option ℕ) (rows : ℕ) (files : List (List FileItem)) (s : Session) (breaks : List Break) → CountsRows made rows files
+    → summary_of made rows s breaks ≡ summary_of made (data_rows files) s breaks
+summary_counts None rows files s breaks counts = refl
+summary_counts (Some number) rows files s breaks counts = ap (λ (n : ℕ). summary_of (Some number) n s breaks) counts
+
+abbrev ending_told : Job → Session → List Break → List ℕ → Ending
+ending_told job s breaks line = record { files = new_files job s breaks; summary = line; done = nat_lt 0 s.refused || nat_lt 0 (length breaks) }
+
+ending_counts : (job : Job) (rows : ℕ) (files : List (List FileItem)) (s : Session) (breaks : List Break) → CountsRows job.made rows files
     → ending_of job rows s breaks ≡ ending_of job (data_rows files) s breaks
-ending_counts (Derive input output) rows files s breaks counts = refl
-ending_counts (Apply input script output) rows files s breaks counts = refl
-ending_counts (Compare input script output previous) rows files s breaks counts = refl
-ending_counts (Make number output) rows files s breaks counts = ap (λ (n : ℕ). ending_of (Make number output) n s breaks) counts
+ending_counts job rows files s breaks counts = ap (ending_told job s breaks) (summary_counts job.made rows files s breaks counts)
 
 -- the ending after a session that was carried out, with the breaks by the files that it leaves
 pub ending_reached : (job : Job) (rows : ℕ) (files : List (List FileItem)) (earlier : Option (List (List FileItem))) (carried s : Session) (breaks : List Break)
-    → CountsRows job rows files → carried ≡ s → breaks ≡ breaks_since earlier carried.files
+    → CountsRows job.made rows files → carried ≡ s → breaks ≡ breaks_since earlier carried.files
     → ending_of job rows carried breaks ≡ ending_of job (data_rows files) s (breaks_since earlier s.files)
 ending_reached job rows files earlier carried s breaks counts reached broken =
     ending_counts job rows files carried breaks counts ∙ ap (ending_of job (data_rows files) carried) broken
     ∙ ap (λ (it : Session). ending_of job (data_rows files) it (breaks_since earlier it.files)) reached
 
--- ---- the texts that a command works on
-
--- the number of a listed job is one of a release
-pub listed_number : (job : Job) (number : ℕ) → Some number ≡ made_for job → IsListed job → (1 ≤ number) × (number ≤ 50)
-listed_number (Derive input output) number some listed = absurd (none_is_some number some)
-listed_number (Apply input script output) number some listed = absurd (none_is_some number some)
-listed_number (Compare input script output previous) number some listed = absurd (none_is_some number some)
-listed_number (Make n output) number some listed = subst (λ (k : ℕ). (1 ≤ k) × (k ≤ 50)) (sym (some_is number n some)) listed
+-- ---- the texts that a job works on
 
 -- what was read, where nothing is made, decides
-pub reading_decides : (tells : Bool) (holds : Contents) (job : Job) (r : Result Given Stop) → None ≡ made_for job
+pub reading_decides : (tells : Bool) (holds : Contents) (job : Job) (r : Result Given Stop) → job.made ≡ None
     → IfOk r (λ given. IsRead tells holds (needed job) given.held.items) → IfOk r (λ given. Decides tells holds job given)
-reading_decides tells holds job (Ok given) none read = read_decides tells holds job given (sym none) read
+reading_decides tells holds job (Ok given) none read = read_decides tells holds job given none read
 reading_decides tells holds job (Err stop) none read = tt

@@ -3,11 +3,13 @@
 -- CommandCounts files what old new   a group raises the counter by at most the number of code points that depend on it, and not where
 --                              an operation is refused; a question leaves it
 -- SessionCounts s commands old new   so does each of the commands, in order, on the files as they are then
--- releases_of job              how many releases the words name
+-- releases_of previous         how many releases a job names: one more with an earlier one
 -- opened_limit job             the number of code points, for each of these releases
 -- VerdictCounts job verdict old new   the counter rises by at most that limit; and, where what is judged is not refused, further by
 --                              what the session of the commands may raise it
 -- FormCounts form seen old new   the same of what the words ask for, by what was seen; the counter stays where they have no listed form
+-- MayStep job old new          where no script is carried out, the counter rises by at most that limit; else nothing is said
+-- FormMayStep form old new     the same of what the words ask for; the counter stays where they have no listed form
 use Rattle.std.specs.Prelude.{◌≡◌, ◌≤◌, ℕ, ◌+◌, ◌*◌, List, [], ◌∷◌, Option, Some, None, Result, Ok, Err}
 use Rattle.ucd_points.specs.Limits.{point_count}
 use Rattle.release_rows.specs.FileItems.{FileItem}
@@ -15,7 +17,8 @@ use Rattle.script_lines.specs.declared.command.Command.{Command}
 use Rattle.script_lines.specs.declared.command.What.{What}
 use Rattle.script_lines.specs.declared.command.What.TheVariants.{Group, Question}
 use Rattle.edit_session.specs.Groups.{CountsAs, after_ops, files_facts}
-use Rattle.ucdshop_core.specs.Run.{Job, Derive, Apply, Compare, Make, Inputs, job_verdict}
+use Rattle.ucdshop_core.specs.Jobs.{Job}
+use Rattle.ucdshop_core.specs.Run.{Inputs, job_verdict}
 use Rattle.run_endings.specs.Endings.{Seen}
 use Rattle.ucdshop_core.specs.Session.{Session, started, step}
 
@@ -27,14 +30,12 @@ unfoldable pub SessionCounts : Session → List Command → ℕ → ℕ → Type
 SessionCounts s [] old new = new ≡ old
 SessionCounts s (command ∷ rest) old new = (between : ℕ) × CommandCounts s.files command.what old between × SessionCounts (step s command) rest between new
 
-abbrev pub releases_of : Job → ℕ
-releases_of (Derive input output) = 1
-releases_of (Apply input script output) = 1
-releases_of (Compare input script output previous) = 2
-releases_of (Make number output) = 1
+abbrev pub releases_of : Option (List ℕ) → ℕ
+releases_of None = 1
+releases_of (Some previous) = 2
 
 abbrev pub opened_limit : Job → ℕ
-opened_limit job = releases_of job * point_count
+opened_limit job = releases_of job.previous * point_count
 
 abbrev pub VerdictCounts : Job → Result Inputs (List ℕ) → ℕ → ℕ → Type 0
 VerdictCounts job (Ok inputs) old new = (opened : ℕ) × (opened ≤ old + opened_limit job) × SessionCounts (started inputs.files) inputs.commands opened new
@@ -43,3 +44,10 @@ VerdictCounts job (Err line) old new = new ≤ old + opened_limit job
 abbrev pub FormCounts : Option Job → Seen → ℕ → ℕ → Type 0
 FormCounts None seen old new = new ≡ old
 FormCounts (Some job) seen old new = VerdictCounts job (job_verdict job seen) old new
+
+abbrev pub MayStep : Job → ℕ → ℕ → Type 0
+MayStep job old new = job.script ≡ None → new ≤ old + opened_limit job
+
+abbrev pub FormMayStep : Option Job → ℕ → ℕ → Type 0
+FormMayStep None old new = new ≡ old
+FormMayStep (Some job) old new = MayStep job old new

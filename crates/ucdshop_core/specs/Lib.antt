@@ -4,10 +4,11 @@ pub mod Questions
 pub mod SetTexts
 pub mod Session
 pub mod Making
+pub mod Jobs
 pub mod Run
 pub mod OutputLaws
 pub mod LineLaws
-pub mod Commands
+pub mod JobWords
 pub mod Judging
 pub mod Counting
 pub mod Carrying

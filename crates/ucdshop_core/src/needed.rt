@@ -1,48 +1,48 @@
-//! The paths that a command reads.
+//! The paths that a job reads.
 
-ghost use Rattle.std.specs.Prelude.{◌≡◌, ◌∷◌, [], ◌++◌, IfOk};
+ghost use Rattle.std.specs.Prelude.{◌≡◌, ◌++◌, IfOk, OnOk, option_to_list};
+ghost use Rattle.std.specs.List.{flat_map};
+ghost use Rattle.std.specs.Option.{option_map};
 ghost use Rattle.run_inputs.specs.Paths.{sources_in};
-ghost use Rattle.ucdshop_core.specs.Commands.{job_of};
-ghost use Rattle.ucdshop_core.specs.Run.{needed};
+ghost use Rattle.ucdshop_core.specs.JobWords.{job_of, path_at};
+ghost use Rattle.ucdshop_core.specs.Jobs.{needed};
 
-use crate::command::Command;
-use run_inputs::{put_source_paths, source_paths};
+use crate::job::{Job, Place};
+use run_inputs::put_source_paths;
 use std::alloc::Global;
-use ucd_model::{Memory, Text, Texts};
+use ucd_model::{Memory, Texts};
 
-/// The paths that a command reads, in their order.
+/// The paths that a job reads, in their order: none if its release is made.
 ///
 /// - `Memory`: memory ran out.
-pub fn needed_paths(alloc: Global, command: Command<'_>) -> Result<Texts, Memory>
-    ensures { IfOk result (λ paths. paths ≡ needed (job_of command.entry)) }
+pub fn needed_paths(alloc: Global, job: Job<'_>) -> Result<Texts, Memory>
+    ensures { IfOk result (λ paths. paths ≡ needed (job_of job.entry)) }
 {
-    match command {
-        Command::Derive { input, .. } => source_paths(alloc, input),
-        Command::Apply { input, script, .. } => paths_with(alloc, input, script),
-        Command::Compare {
-            input,
-            script,
-            previous,
-            ..
-        } => paths_of_two(alloc, input, script, previous),
-        Command::Make { .. } => Ok(Texts::new(alloc)),
+    let mut paths = Texts::new(alloc);
+    if job.made.is_none() {
+        put_source_paths(alloc, job.folder, &mut paths)?;
+        put_script_path(alloc, job.script, &mut paths)?;
+        put_earlier_paths(alloc, job.previous, &mut paths)?;
     }
-}
-
-/// The paths of the source files of a folder, in their order, and that of a script.
-fn paths_with(alloc: Global, folder: &[u8], script: &[u8]) -> Result<Texts, Memory>
-    ensures { IfOk result (λ paths. paths ≡ sources_in folder.now ++ script.now ∷ []) }
-{
-    let mut paths = source_paths(alloc, folder)?;
-    paths.push(Text::of(alloc, script)?)?;
     Ok(paths)
 }
 
-/// The same, and behind them the paths of the source files of a second folder.
-fn paths_of_two(alloc: Global, folder: &[u8], script: &[u8], second: &[u8]) -> Result<Texts, Memory>
-    ensures { IfOk result (λ paths. paths ≡ sources_in folder.now ++ script.now ∷ sources_in second.now) }
+/// Puts the path of the script, if there is one.
+fn put_script_path(alloc: Global, script: Option<Place<'_>>, into: &mut Texts) -> Result<(), Memory>
+    ensures { OnOk result (into.new ≡ into.old ++ option_to_list (option_map path_at script.entry)) }
 {
-    let mut paths = paths_with(alloc, folder, script)?;
-    put_source_paths(alloc, second, &mut paths)?;
-    Ok(paths)
+    if let Some(script) = script {
+        into.push(script.path(alloc)?)?;
+    }
+    Ok(())
+}
+
+/// Puts the paths of the source files of the earlier release, if there is one.
+fn put_earlier_paths(alloc: Global, previous: Option<&[u8]>, into: &mut Texts) -> Result<(), Memory>
+    ensures { OnOk result (into.new ≡ into.old ++ flat_map sources_in (option_to_list (option_map (λ folder. folder.now) previous.entry))) }
+{
+    if let Some(folder) = previous {
+        put_source_paths(alloc, folder, into)?;
+    }
+    Ok(())
 }

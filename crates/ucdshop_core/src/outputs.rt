@@ -1,17 +1,16 @@
 //! The files that a run writes, made before the first is written.
 
-ghost use Rattle.std.specs.Prelude.{◌≡◌, ℕ, ◌∷◌, ◌++◌, [], IfOk, OnOk, Some, map};
+ghost use Rattle.std.specs.Prelude.{◌≡◌, ℕ, ◌∷◌, ◌++◌, [], IfOk, OnOk, map};
 ghost use Rattle.ucd_points.specs.SourceFiles.{source_files};
 ghost use Rattle.ucdshop_core.specs.Carrying.{session_of};
-ghost use Rattle.ucdshop_core.specs.Commands.{job_of};
-ghost use Rattle.ucdshop_core.specs.Judging.{made_for};
+ghost use Rattle.ucdshop_core.specs.JobWords.{job_of};
 ghost use Rattle.run_endings.specs.Planning.{HaveLines, Puts};
 ghost use Rattle.run_endings.specs.Printed.{write_failed};
-ghost use Rattle.ucdshop_core.specs.Run.{log_file, made_file, made_script, new_files, policy_file, session_files, sets_file};
+ghost use Rattle.ucdshop_core.specs.Run.{log_file, made_file, made_files, made_script, new_files, part_files, policy_file, sets_file};
 ghost use Rattle.run_endings.specs.Writing.{file_of, files_of};
 
 use crate::carried::Carried;
-use crate::command::Command;
+use crate::job::{Job, Part};
 use edit_session::Bench;
 use release_maker::Made;
 use run_endings::{Output, path_in, put_text};
@@ -20,66 +19,54 @@ use stability_policies::{Breaks, report_text};
 use std::alloc::Global;
 use ucd_model::{Memory, SOURCE_FILES, SourceFile, Text};
 
-/// The files that a command writes, once the commands of its script are carried out on a bench, with these breaks of
-/// policies, each with the line for the case that it can't be written.
+/// What the outputs of a run are made of.
+#[derive(Clone, Copy)]
+pub struct Work<'a> {
+    /// The release that was made, and its script.
+    pub made: &'a Option<Made>,
+    /// The bench, once the commands of the script are carried out.
+    pub bench: &'a Bench,
+    /// What these came to.
+    pub carried: &'a Carried,
+    /// The breaks of the stability policies.
+    pub breaks: &'a Breaks,
+}
+
+/// The files that a job writes, each with the line for the case that it can't be written.
 ///
 /// - `Memory`: memory ran out.
-pub fn outputs_of(
-    alloc: Global,
-    command: Command<'_>,
-    made: &Option<Made>,
-    bench: &Bench,
-    carried: &Carried,
-    breaks: &Breaks,
-) -> Result<Vec<Output>, Memory>
-    requires { made.now ≡ made_for (job_of command) }
-    ensures files { IfOk result (λ outputs. files_of outputs.items ≡ new_files (job_of command.entry) (session_of bench.now carried.now) breaks.now) }
+pub fn outputs_of(alloc: Global, job: Job<'_>, work: Work<'_>) -> Result<Vec<Output>, Memory>
+    requires { work.made.now ≡ job.made }
+    ensures files { IfOk result (λ outputs. files_of outputs.items ≡ new_files (job_of job.entry) (session_of work.entry.bench.now work.entry.carried.now) work.entry.breaks.now) }
     ensures lines { IfOk result (λ outputs. HaveLines outputs.items) }
 {
     let mut outputs = Vec::new(alloc);
-    match command {
-        Command::Derive { output, .. } => put_derived(alloc, output, bench, &mut outputs)?,
-        Command::Apply { output, .. } => put_all(alloc, output, bench, carried, &mut outputs)?,
-        Command::Compare { output, .. } => {
-            put_compared(alloc, output, bench, carried, breaks, &mut outputs)?;
-        }
-        Command::Make { output, .. } => put_given(alloc, output, made, &mut outputs)?,
+    'parts: for part in job.parts {
+        put_part(alloc, job, work, *part, &mut outputs)?;
     }
     Ok(outputs)
 }
 
-/// Puts what `apply` writes below a folder: the source files, the derived files, the log and the answers to the
-/// questions.
-fn put_all(
+/// Puts a part of what a job writes.
+fn put_part(
     alloc: Global,
-    folder: &[u8],
-    bench: &Bench,
-    carried: &Carried,
+    job: Job<'_>,
+    work: Work<'_>,
+    part: Part,
     outputs: &mut Vec<Output>,
 ) -> Result<(), Memory>
-    ensures { OnOk result (Puts (session_files folder.now (session_of bench.now carried.now)) outputs.old.items outputs.new.items) }
+    requires { work.made.now ≡ job.made }
+    ensures { OnOk result (Puts (part_files (job_of job.entry) (session_of work.entry.bench.now work.entry.carried.now) work.entry.breaks.now part) outputs.old.items outputs.new.items) }
 {
-    put_sources(alloc, folder, bench, outputs)?;
-    put_derived(alloc, folder, bench, outputs)?;
-    put_log(alloc, folder, carried, outputs)?;
-    put_sets(alloc, folder, carried, outputs)?;
-    Ok(())
-}
-
-/// Puts what `apply` with an earlier release writes below a folder: the same, and the policy report.
-fn put_compared(
-    alloc: Global,
-    folder: &[u8],
-    bench: &Bench,
-    carried: &Carried,
-    breaks: &Breaks,
-    outputs: &mut Vec<Output>,
-) -> Result<(), Memory>
-    ensures { OnOk result (Puts (session_files folder.now (session_of bench.now carried.now) ++ policy_file folder.now breaks.now ∷ []) outputs.old.items outputs.new.items) }
-{
-    put_all(alloc, folder, bench, carried, outputs)?;
-    put_report(alloc, folder, breaks, outputs)?;
-    Ok(())
+    let folder = job.output;
+    match part {
+        Part::Sources => put_sources(alloc, folder, work.bench, outputs),
+        Part::Derived => put_derived(alloc, folder, work.bench, outputs),
+        Part::Log => put_log(alloc, folder, work.carried, outputs),
+        Part::Sets => put_sets(alloc, folder, work.carried, outputs),
+        Part::Report => put_report(alloc, folder, work.breaks, outputs),
+        Part::Made => put_given(alloc, folder, work.made, outputs),
+    }
 }
 
 /// Puts the policy report of these breaks below a folder.
@@ -98,14 +85,14 @@ fn put_report(
     Ok(())
 }
 
-/// Puts what `make` writes below a folder: the source files and the script as they are made.
+/// Puts the source files and the script as they are made below a folder, if they are.
 fn put_given(
     alloc: Global,
     folder: &[u8],
     made: &Option<Made>,
     outputs: &mut Vec<Output>,
 ) -> Result<(), Memory>
-    ensures { (n : ℕ) → made.now ≡ Some n → OnOk result (Puts (map (made_file folder.now n) source_files ++ made_script folder.now ∷ []) outputs.old.items outputs.new.items) }
+    ensures { OnOk result (Puts (made_files folder.now made.now) outputs.old.items outputs.new.items) }
 {
     match made {
         Some(made) => put_made(alloc, folder, made, outputs),

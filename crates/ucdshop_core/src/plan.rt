@@ -2,45 +2,33 @@
 
 ghost use Rattle.std.specs.Prelude.{◌≡◌, ◌||◌, IfOk, length, nat_lt};
 ghost use Rattle.ucdshop_core.specs.Carrying.{session_of};
-ghost use Rattle.ucdshop_core.specs.Commands.{job_of};
-ghost use Rattle.ucdshop_core.specs.Judging.{made_for};
+ghost use Rattle.ucdshop_core.specs.JobWords.{job_of};
 ghost use Rattle.run_endings.specs.Planning.{HasPlan};
 ghost use Rattle.ucdshop_core.specs.Run.{ending_of, summary_of};
 
 use crate::carried::Carried;
-use crate::command::Command;
+use crate::job::Job;
 use crate::making::casefolds;
-use crate::outputs::outputs_of;
+use crate::outputs::{Work, outputs_of};
 use crate::printed::{MadeCounts, RunCounts, made_summary, summary};
-use edit_session::Bench;
-use release_maker::Made;
 use run_endings::Plan;
 use stability_policies::Breaks;
 use std::alloc::Global;
 use ucd_model::{Memory, Text};
 
-/// The files that a command writes, and its summary, once the commands of its script are carried out on a bench, with these
-/// breaks of policies. At the beginning UnicodeData.txt had so many rows.
+/// The files that a job writes, and its summary. At the beginning UnicodeData.txt had so many rows.
 ///
 /// - `Memory`: memory ran out.
-pub fn plan_of(
-    alloc: Global,
-    command: Command<'_>,
-    made: &Option<Made>,
-    rows: usize,
-    bench: &Bench,
-    carried: &Carried,
-    breaks: &Breaks,
-) -> Result<Plan, Memory>
-    requires { made.now ≡ made_for (job_of command) }
-    ensures { IfOk result (λ plan. HasPlan (ending_of (job_of command.entry) rows (session_of bench.now carried.now) breaks.now) plan) }
+pub fn plan_of(alloc: Global, job: Job<'_>, rows: usize, work: Work<'_>) -> Result<Plan, Memory>
+    requires { work.made.now ≡ job.made }
+    ensures { IfOk result (λ plan. HasPlan (ending_of (job_of job.entry) rows (session_of work.entry.bench.now work.entry.carried.now) work.entry.breaks.now) plan) }
 {
-    let outputs = outputs_of(alloc, command, made, bench, carried, breaks)?;
-    let summary = summary_of(alloc, command, rows, bench, carried, breaks)?;
+    let outputs = outputs_of(alloc, job, work)?;
+    let summary = summary_of(alloc, job.made, rows, work)?;
     Ok(Plan {
         outputs,
         summary,
-        done: is_done(carried, breaks),
+        done: is_done(work.carried, work.breaks),
     })
 }
 
@@ -51,24 +39,18 @@ fn is_done(carried: &Carried, breaks: &Breaks) -> bool
     carried.refused > 0 || breaks.len() > 0
 }
 
-/// The summary of a command, with these breaks of policies.
-fn summary_of(
-    alloc: Global,
-    command: Command<'_>,
-    rows: usize,
-    bench: &Bench,
-    carried: &Carried,
-    breaks: &Breaks,
-) -> Result<Text, Memory>
-    ensures { IfOk result (λ line. line ≡ summary_of (job_of command.entry) rows (session_of bench.now carried.now) breaks.now) }
+/// The summary of a job: that of the release that is made of a number, or of any other.
+fn summary_of(alloc: Global, made: Option<u8>, rows: usize, work: Work<'_>) -> Result<Text, Memory>
+    ensures { IfOk result (λ line. line ≡ summary_of made rows (session_of work.entry.bench.now work.entry.carried.now) work.entry.breaks.now) }
 {
-    if let Command::Make { number, .. } = command {
+    let carried = work.carried;
+    if let Some(number) = made {
         let counts = MadeCounts {
             number,
             rows,
             accepted: carried.accepted,
             changed: carried.changed,
-            casefolds: casefolds(bench),
+            casefolds: casefolds(work.bench),
         };
         return made_summary(alloc, counts);
     }
@@ -76,7 +58,7 @@ fn summary_of(
         accepted: carried.accepted,
         refused: carried.refused,
         answered: carried.answered,
-        broken: breaks.len(),
+        broken: work.breaks.len(),
     };
     summary(alloc, counts)
 }

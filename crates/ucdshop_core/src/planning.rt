@@ -2,25 +2,27 @@
 
 ghost use Rattle.std.specs.Prelude.{◌≡◌, ◌≤◌, [], IfOk, None, Some, length};
 ghost use Rattle.std.specs.List.{All};
-ghost use Rattle.ucdshop_core.specs.Commands.{IsListed, MayStep, job_of};
-ghost use Rattle.ucdshop_core.specs.Counting.{FormCounts, SessionCounts, VerdictCounts};
-ghost use Rattle.ucdshop_core.specs.Judging.{AreFor, given_verdict, inputs_of, made_for};
+ghost use Rattle.ucdshop_core.specs.JobWords.{IsListed, job_of};
+ghost use Rattle.ucdshop_core.specs.Counting.{FormCounts, MayStep, SessionCounts, VerdictCounts};
+ghost use Rattle.ucdshop_core.specs.Judging.{AreFor, given_verdict, inputs_of};
 ghost use Rattle.ucdshop_core.specs.Planning.{CountsRows};
 ghost use Rattle.run_endings.specs.Planning.{HasPlan, IsPlanOf, OnRefused, OnlyRead, PlansAs, UnreadAs};
 ghost use Rattle.run_endings.specs.Promises.{shelf_seen};
 ghost use Rattle.run_endings.specs.Reading.{IsRead};
 ghost use Rattle.std.specs.Option.{option_map};
 ghost use Rattle.run_endings.specs.Endings.{Refuses, Sees};
-ghost use Rattle.ucdshop_core.specs.Run.{expected_of, inputs_ending, job_verdict, judged, needed};
+ghost use Rattle.ucdshop_core.specs.Run.{expected_of, inputs_ending, job_verdict, judged};
+ghost use Rattle.ucdshop_core.specs.Jobs.{needed};
 ghost use Rattle.script_lines.specs.Groups.{IsReady};
 ghost use Rattle.ucdshop_core.specs.Session.{started};
 
 use crate::carrying::carry_out;
-use crate::command::Command;
 use crate::given::{Given, made_given};
 use crate::inputs::{Inputs, judge_inputs};
+use crate::job::Job;
 use crate::making::data_rows;
 use crate::needed::needed_paths;
+use crate::outputs::Work;
 use crate::plan::plan_of;
 use crate::policies::breaks_since;
 use edit_session::Bench;
@@ -35,14 +37,14 @@ use ucd_model::{Memory, Steps};
 /// Carries out the commands of a script, and makes the files that are then written, and the summary.
 fn carried_plan<L: Ledger>(
     alloc: Global,
-    command: Command<'_>,
+    job: Job<'_>,
     made: &Option<Made>,
     inputs: Inputs,
     steps: &mut Steps<L>,
 ) -> Result<Plan, Memory>
     requires ready { All IsReady inputs.commands }
-    requires made { made.now ≡ made_for (job_of command) }
-    ensures plan { IfOk result (λ plan. HasPlan (inputs_ending (job_of command.entry) (inputs_of inputs)) plan) }
+    requires made { made.now ≡ job.made }
+    ensures plan { IfOk result (λ plan. HasPlan (inputs_ending (job_of job.entry) (inputs_of inputs)) plan) }
     ensures counts { SessionCounts (started inputs.bench.current) inputs.commands steps.old steps.new }
     ensures steps { inputs.commands ≡ [] → steps.new ≡ steps.old }
 {
@@ -51,13 +53,13 @@ fn carried_plan<L: Ledger>(
         commands,
         earlier,
     } = inputs;
-    plan_since(alloc, command, made, bench, commands, &earlier, steps)
+    plan_since(alloc, job, made, bench, commands, &earlier, steps)
 }
 
 /// The same of the bench and the commands, which are let go, and of the earlier bench.
 fn plan_since<L: Ledger>(
     alloc: Global,
-    command: Command<'_>,
+    job: Job<'_>,
     made: &Option<Made>,
     bench: Bench,
     commands: Commands,
@@ -65,15 +67,15 @@ fn plan_since<L: Ledger>(
     steps: &mut Steps<L>,
 ) -> Result<Plan, Memory>
     requires ready { All IsReady commands }
-    requires made { made.now ≡ made_for (job_of command) }
-    ensures plan { IfOk result (λ plan. HasPlan (inputs_ending (job_of command.entry) (record { files = bench.current; commands = commands; earlier = option_map (λ before. before.current) earlier.now })) plan) }
+    requires made { made.now ≡ job.made }
+    ensures plan { IfOk result (λ plan. HasPlan (inputs_ending (job_of job.entry) (record { files = bench.current; commands = commands; earlier = option_map (λ before. before.current) earlier.now })) plan) }
     ensures counts { SessionCounts (started bench.current) commands steps.old steps.new }
     ensures steps { commands ≡ [] → steps.new ≡ steps.old }
 {
     let mut bench = bench;
     plan_after(
         alloc,
-        command,
+        job,
         made,
         &mut bench,
         commands.as_slice(),
@@ -85,7 +87,7 @@ fn plan_since<L: Ledger>(
 /// The same of the bench, the commands and the earlier bench that were read.
 fn plan_after<L: Ledger>(
     alloc: Global,
-    command: Command<'_>,
+    job: Job<'_>,
     made: &Option<Made>,
     bench: &mut Bench,
     commands: &[ScriptCommand],
@@ -93,82 +95,88 @@ fn plan_after<L: Ledger>(
     steps: &mut Steps<L>,
 ) -> Result<Plan, Memory>
     requires ready { All IsReady commands.now }
-    requires made { made.now ≡ made_for (job_of command) }
-    ensures plan { IfOk result (λ plan. HasPlan (inputs_ending (job_of command.entry) (record { files = bench.old.current; commands = commands.now; earlier = option_map (λ before. before.current) earlier.now })) plan) }
+    requires made { made.now ≡ job.made }
+    ensures plan { IfOk result (λ plan. HasPlan (inputs_ending (job_of job.entry) (record { files = bench.old.current; commands = commands.now; earlier = option_map (λ before. before.current) earlier.now })) plan) }
     ensures counts { SessionCounts (started bench.old.current) commands.now steps.old steps.new }
     ensures steps { commands.now ≡ [] → steps.new ≡ steps.old }
 {
-    let rows = counted_rows(command, bench)?;
+    let rows = counted_rows(job.made, bench)?;
     let carried = carry_out(alloc, bench, commands, steps)?;
     let breaks = breaks_since(alloc, earlier, bench)?;
-    plan_of(alloc, command, made, rows, bench, &carried, &breaks)
+    let work = Work {
+        made,
+        bench,
+        carried: &carried,
+        breaks: &breaks,
+    };
+    plan_of(alloc, job, rows, work)
 }
 
-/// How many rows UnicodeData.txt has, if the summary of the command tells it; else 0.
-fn counted_rows(command: Command<'_>, bench: &Bench) -> Result<usize, Memory>
-    ensures { IfOk result (λ rows. CountsRows (job_of command.entry) rows bench.now.current) }
+/// How many rows UnicodeData.txt has, if a release is made: the summary tells it then. Else 0.
+fn counted_rows(made: Option<u8>, bench: &Bench) -> Result<usize, Memory>
+    ensures { IfOk result (λ rows. CountsRows made rows bench.now.current) }
 {
-    match command {
-        Command::Make { .. } => data_rows(bench),
-        Command::Derive { .. } | Command::Apply { .. } | Command::Compare { .. } => Ok(0),
+    match made {
+        Some(_) => data_rows(bench),
+        None => Ok(0),
     }
 }
 
-/// Judges what is given to a command, and does all that the command asks for but writing. The counter of steps rises by at
+/// Judges what is given to a job, and does all that the job asks for but writing. The counter of steps rises by at
 /// most the number of code points where no script is carried out.
 ///
 /// - `Refused(line)`: a file, a code point or the script breaks a rule.
 /// - `Memory`: memory ran out.
 fn given_plan<L: Ledger>(
     alloc: Global,
-    command: Command<'_>,
+    job: Job<'_>,
     given: &mut Given,
     steps: &mut Steps<L>,
 ) -> Result<Plan, Stop>
-    requires { AreFor given.old (job_of command) }
-    ensures plan { PlansAs result (judged (job_of command.entry) (given_verdict (job_of command.entry) given.old)) }
-    ensures counts { VerdictCounts (job_of command.entry) (given_verdict (job_of command.entry) given.old) steps.old steps.new }
-    ensures steps { MayStep (job_of command.entry) steps.old steps.new }
+    requires { AreFor given.old (job_of job) }
+    ensures plan { PlansAs result (judged (job_of job.entry) (given_verdict (job_of job.entry) given.old)) }
+    ensures counts { VerdictCounts (job_of job.entry) (given_verdict (job_of job.entry) given.old) steps.old steps.new }
+    ensures steps { MayStep (job_of job.entry) steps.old steps.new }
 {
-    match judge_inputs(alloc, command, &mut given.held, steps) {
-        Ok(inputs) => Ok(carried_plan(alloc, command, &given.made, inputs, steps)?),
+    match judge_inputs(alloc, job, &mut given.held, steps) {
+        Ok(inputs) => Ok(carried_plan(alloc, job, &given.made, inputs, steps)?),
         Err(stop) => Err(stop),
     }
 }
 
-/// The texts that a command works on: what is read at the paths that it needs, or what it makes.
+/// The texts that a job works on: what is read at the paths that it needs, or what it makes.
 ///
 /// - `ReadFailed(line)`: a file could not be read.
 /// - `Memory`: memory ran out.
-fn given_texts<S: Shelf>(alloc: Global, command: Command<'_>, shelf: &mut S) -> Result<Given, Stop>
-    requires { IsListed (job_of command) }
-    ensures given { IfOk result (λ given. AreFor given (job_of command.entry)) }
-    ensures verdict { IfOk result (λ given. Sees S.tells (S.holds shelf.old) (needed (job_of command.entry)) (λ seen.
-        given_verdict (job_of command.entry) given ≡ job_verdict (job_of command.entry) seen)) }
+fn given_texts<S: Shelf>(alloc: Global, job: Job<'_>, shelf: &mut S) -> Result<Given, Stop>
+    requires { IsListed (job_of job) }
+    ensures given { IfOk result (λ given. AreFor given (job_of job.entry)) }
+    ensures verdict { IfOk result (λ given. Sees S.tells (S.holds shelf.old) (needed (job_of job.entry)) (λ seen.
+        given_verdict (job_of job.entry) given ≡ job_verdict (job_of job.entry) seen)) }
     ensures refused { OnRefused result (λ _. ⊥) }
-    ensures unread { UnreadAs result (needed (job_of command.entry)) (shelf_seen S.Shelf shelf.old shelf.new) }
+    ensures unread { UnreadAs result (needed (job_of job.entry)) (shelf_seen S.Shelf shelf.old shelf.new) }
     ensures only_read { OnlyRead (shelf_seen S.Shelf shelf.old shelf.new) }
 {
-    match command.number() {
+    match job.made {
         Some(number) => Ok(made_given(alloc, number)?),
-        None => read_texts(alloc, command, shelf),
+        None => read_texts(alloc, job, shelf),
     }
 }
 
-/// What is read at the paths that a command needs.
-fn read_texts<S: Shelf>(alloc: Global, command: Command<'_>, shelf: &mut S) -> Result<Given, Stop>
-    ensures read { IfOk result (λ given. IsRead S.tells (S.holds shelf.old) (needed (job_of command.entry)) given.held.items) }
+/// What is read at the paths that a job needs.
+fn read_texts<S: Shelf>(alloc: Global, job: Job<'_>, shelf: &mut S) -> Result<Given, Stop>
+    ensures read { IfOk result (λ given. IsRead S.tells (S.holds shelf.old) (needed (job_of job.entry)) given.held.items) }
     ensures made { IfOk result (λ given. given.made ≡ None) }
     ensures refused { OnRefused result (λ _. ⊥) }
-    ensures unread { UnreadAs result (needed (job_of command.entry)) (shelf_seen S.Shelf shelf.old shelf.new) }
+    ensures unread { UnreadAs result (needed (job_of job.entry)) (shelf_seen S.Shelf shelf.old shelf.new) }
     ensures only_read { OnlyRead (shelf_seen S.Shelf shelf.old shelf.new) }
 {
-    let paths = needed_paths(alloc, command)?;
+    let paths = needed_paths(alloc, job)?;
     let held = gather(alloc, shelf, paths.as_slice())?;
     Ok(Given { held, made: None })
 }
 
-/// Does all of a command that comes before the first write. The counter of steps rises by at most the number of code
+/// Does all of a job that comes before the first write. The counter of steps rises by at most the number of code
 /// points where no script is carried out.
 ///
 /// - `Refused(line)`: a file is absent, too long, or breaks a rule, a code point breaks a rule of a valid release, or
@@ -177,24 +185,24 @@ fn read_texts<S: Shelf>(alloc: Global, command: Command<'_>, shelf: &mut S) -> R
 /// - `Memory`: memory ran out.
 pub fn prepare<S: Shelf, L: Ledger>(
     alloc: Global,
-    command: Command<'_>,
+    job: Job<'_>,
     shelf: &mut S,
     steps: &mut Steps<L>,
 ) -> Result<Plan, Stop>
-    requires { IsListed (job_of command) }
-    ensures planned { IfOk result (λ plan. Sees S.tells (S.holds shelf.old) (needed (job_of command.entry)) (λ seen.
-        IsPlanOf plan (expected_of (job_of command.entry) seen))) }
+    requires { IsListed (job_of job) }
+    ensures planned { IfOk result (λ plan. Sees S.tells (S.holds shelf.old) (needed (job_of job.entry)) (λ seen.
+        IsPlanOf plan (expected_of (job_of job.entry) seen))) }
     ensures room { IfOk result (λ plan. length plan.outputs.items ≤ S.spare shelf.new) }
-    ensures refused { OnRefused result (λ line. Sees S.tells (S.holds shelf.old) (needed (job_of command.entry)) (λ seen.
-        expected_of (job_of command.entry) seen ≡ Refuses line)) }
-    ensures unread { UnreadAs result (needed (job_of command.entry)) (shelf_seen S.Shelf shelf.old shelf.new) }
+    ensures refused { OnRefused result (λ line. Sees S.tells (S.holds shelf.old) (needed (job_of job.entry)) (λ seen.
+        expected_of (job_of job.entry) seen ≡ Refuses line)) }
+    ensures unread { UnreadAs result (needed (job_of job.entry)) (shelf_seen S.Shelf shelf.old shelf.new) }
     ensures only_read { OnlyRead (shelf_seen S.Shelf shelf.old shelf.new) }
-    ensures counts { Sees S.tells (S.holds shelf.old) (needed (job_of command.entry)) (λ seen. FormCounts (Some (job_of command.entry)) seen steps.old steps.new) }
-    ensures steps { MayStep (job_of command.entry) steps.old steps.new }
+    ensures counts { Sees S.tells (S.holds shelf.old) (needed (job_of job.entry)) (λ seen. FormCounts (Some (job_of job.entry)) seen steps.old steps.new) }
+    ensures steps { MayStep (job_of job.entry) steps.old steps.new }
 {
     let plan = {
-        let mut given = given_texts(alloc, command, shelf)?;
-        given_plan(alloc, command, &mut given, steps)?
+        let mut given = given_texts(alloc, job, shelf)?;
+        given_plan(alloc, job, &mut given, steps)?
     };
     make_room(shelf, &plan)?;
     Ok(plan)

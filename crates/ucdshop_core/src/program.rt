@@ -4,13 +4,13 @@ ghost use Rattle.std.specs.Prelude.{◌≡◌};
 ghost use Rattle.run_endings.specs.Endings.{Sees, paths_read};
 ghost use Rattle.run_endings.specs.Ends.{HasRoom, Plans};
 ghost use Rattle.run_endings.specs.Promises.{Promises, shelf_seen, sink_seen};
-ghost use Rattle.ucdshop_core.specs.Commands.{FormMayStep};
-ghost use Rattle.ucdshop_core.specs.Counting.{FormCounts};
-ghost use Rattle.ucdshop_core.specs.Run.{form, ucdshop};
+ghost use Rattle.ucdshop_core.specs.Counting.{FormCounts, FormMayStep};
+ghost use Rattle.ucdshop_core.specs.Run.{ucdshop};
+ghost use Rattle.ucdshop_core.specs.Jobs.{form};
 
-use crate::command::command_of;
 use crate::planning::prepare;
 use crate::printed::USAGE;
+use crate::words::job_of;
 use run_endings::{Plan, Status, Stop, end_run};
 use shelf_io::{Shelf, Sink};
 use std::alloc::Global;
@@ -79,8 +79,8 @@ fn plan_words<S: Shelf, L: Ledger>(
     ensures counts { Sees S.tells (S.holds shelf.old) (paths_read ucdshop (form words.now)) (λ seen. FormCounts (form words.now) seen steps.old steps.new) }
     ensures steps { FormMayStep (form words.now) steps.old steps.new }
 {
-    match command_of(words.as_slice()) {
-        Some(command) => Some(prepare(alloc, command, shelf, steps)),
+    match job_of(words.as_slice()) {
+        Some(job) => Some(prepare(alloc, job, shelf, steps)),
         None => None,
     }
 }

@@ -1,11 +1,11 @@
-use Rattle.ucdshop_core.specs.Commands.{job_of}
+use Rattle.ucdshop_core.specs.JobWords.{job_of}
 use Rattle.ucdshop_core.specs.Judging.{given_verdict}
 use Rattle.ucdshop_core.proofs.CountingLemmas.{verdict_opened}
 use Rattle.ucdshop_core.proofs.PlanningLemmas.{stops_as}
 use Rattle.ucdshop_core.proofs.planning.given_plan.Goals as goal
 
 pub returns-in-Err-clause-counts : goal.returns-in-Err-clause-counts
-returns-in-Err-clause-counts g c = verdict_opened (job_of c.args.command) (given_verdict (job_of c.args.command) c.args.given.now) c.args.steps.now c.judge_inputs.new.steps c.judge_inputs.ensures.steps
+returns-in-Err-clause-counts g c = verdict_opened (job_of c.args.job) (given_verdict (job_of c.args.job) c.args.given.now) c.args.steps.now c.judge_inputs.new.steps c.judge_inputs.ensures.steps
 
 pub returns-in-Err-clause-plan : goal.returns-in-Err-clause-plan
-returns-in-Err-clause-plan g c = stops_as (job_of c.args.command) (given_verdict (job_of c.args.command) c.args.given.now) c.in-Err.stop c.in-Err.ensures.inputs
+returns-in-Err-clause-plan g c = stops_as (job_of c.args.job) (given_verdict (job_of c.args.job) c.args.given.now) c.in-Err.stop c.in-Err.ensures.inputs

@@ -1,7 +1,7 @@
 use Rattle.std.proofs.Common.{subst}
 use Rattle.std.specs.Prelude.{IfOk}
 use Rattle.std.specs.Option.{option_map}
-use Rattle.ucdshop_core.specs.Commands.{job_of}
+use Rattle.ucdshop_core.specs.JobWords.{job_of}
 use Rattle.run_endings.specs.Planning.{HasPlan}
 use Rattle.run_endings.specs.Endings.{Ending}
 use Rattle.ucdshop_core.specs.Session.{started}
@@ -12,7 +12,7 @@ use Rattle.ucdshop_core.proofs.planning.plan_after.Goals as goal
 pub returns-clause-plan : goal.returns-clause-plan
 returns-clause-plan g c =
     subst (λ (ending : Ending). IfOk c.plan_of.result (HasPlan ending))
-    (ending_reached (job_of c.args.command) c.in_ok-rows.rows _ (option_map (λ before. before.current) c.args.earlier.now) _ _ _
+    (ending_reached (job_of c.args.job) c.in_ok-rows.rows _ (option_map (λ before. before.current) c.args.earlier.now) _ _ _
     c.in_ok-rows.ensures c.in_ok-carried.ensures.session c.in_ok-breaks.ensures)
     c.plan_of.ensures
 

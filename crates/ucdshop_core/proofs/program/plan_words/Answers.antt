@@ -1,20 +1,21 @@
 use Rattle.std.proofs.Common.{Some, refl, ap, sym, ◌∙◌}
 use Rattle.run_endings.specs.PreparedProofs.{prepares}
-use Rattle.ucdshop_core.specs.Commands.{job_of}
-use Rattle.ucdshop_core.specs.Run.{form, ucdshop}
+use Rattle.ucdshop_core.specs.JobWords.{job_of}
+use Rattle.ucdshop_core.specs.Jobs.{form}
+use Rattle.ucdshop_core.specs.Run.{ucdshop}
 use Rattle.ucdshop_core.proofs.CountingLemmas.{form_counts, formless_counts}
 use Rattle.ucdshop_core.proofs.program.plan_words.Goals as goal
 
 pub returns-in-Some-clause-plans : goal.returns-in-Some-clause-plans
 returns-in-Some-clause-plans g c = (
-  job_of c.in-Some.command,
+  job_of c.in-Some.job,
   ap form (sym c.as_slice.ensures) ∙ c.in-Some.ensures.form,
-  prepares ucdshop (job_of c.in-Some.command) c.prepare.result _ c.prepare.ensures.planned c.prepare.ensures.refused c.prepare.ensures.unread c.prepare.ensures.only_read,
+  prepares ucdshop (job_of c.in-Some.job) c.prepare.result _ c.prepare.ensures.planned c.prepare.ensures.refused c.prepare.ensures.unread c.prepare.ensures.only_read,
 )
 
 pub returns-in-Some-clause-counts : goal.returns-in-Some-clause-counts
 returns-in-Some-clause-counts g c =
-    form_counts g.S.Shelf.tells (g.S.Shelf.holds c.args.shelf.now) (form c.args.words.now) (Some (job_of c.in-Some.command)) c.args.steps.now c.prepare.new.steps (ap form (sym c.as_slice.ensures) ∙ c.in-Some.ensures.form)
+    form_counts g.S.Shelf.tells (g.S.Shelf.holds c.args.shelf.now) (form c.args.words.now) (Some (job_of c.in-Some.job)) c.args.steps.now c.prepare.new.steps (ap form (sym c.as_slice.ensures) ∙ c.in-Some.ensures.form)
     c.prepare.ensures.counts
 
 pub returns-in-None-clause-plans : goal.returns-in-None-clause-plans

@@ -8,3 +8,4 @@ pub mod AskingLemmas
 pub mod CarryingLemmas
 pub mod CountingLemmas
 pub mod MakingLemmas
+pub mod SessionLemmas

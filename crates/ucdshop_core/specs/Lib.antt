@@ -3,6 +3,7 @@ pub mod Paths
 pub mod Questions
 pub mod SetTexts
 pub mod Session
+pub mod SessionLaws
 pub mod Making
 pub mod Jobs
 pub mod Run

@@ -2,6 +2,7 @@
 
 ghost use Rattle.ucdshop_core.specs.LineLaws.{LinesAreCounted};
 ghost use Rattle.ucdshop_core.specs.OutputLaws.{OtherPathsStay, OutputsHoldTheirBytes, PathsAreOfTheWords};
+ghost use Rattle.ucdshop_core.specs.SessionLaws.{RefusalsAreLeftOut, RefusalsChangeNothing};
 
 use ucd_lines::{endings_are_told_apart, no_line_feed_inside, only_the_last_is_unended};
 
@@ -28,3 +29,13 @@ pub fn lines_are_counted()
     only_the_last_is_unended();
     endings_are_told_apart();
 }
+
+/// A refused command changes nothing but the log, whose line names its rule, and the count of refusals.
+pub fn refusals_change_nothing()
+    ensures { RefusalsChangeNothing }
+{}
+
+/// A script without a refused command leaves the same files and answers, and the same counts but that of refusals.
+pub fn refusals_are_left_out()
+    ensures { RefusalsAreLeftOut }
+{}

@@ -7,10 +7,14 @@
 -- opened_limit job             the number of code points, for each of these releases
 -- VerdictCounts job verdict old new   the counter rises by at most that limit; and, where what is judged is not refused, further by
 --                              what the session of the commands may raise it
+-- FormOpens form old new       the counter rises by at most that limit; it stays where the words have no listed form
+-- StatusCounts status form old new   so it does with LoadRefused; with ReadFault it stays; of the other statuses nothing is said
+-- StopCounts answer form old new   the same of what is left to be done, or of why the run stops before it writes
+-- PlannedCounts planned form old new   the same of what was planned; nothing is said where the words have no listed form
 -- FormCounts form seen old new   the same of what the words ask for, by what was seen; the counter stays where they have no listed form
 -- MayStep job old new          where no script is carried out, the counter rises by at most that limit; else nothing is said
 -- FormMayStep form old new     the same of what the words ask for; the counter stays where they have no listed form
-use Rattle.std.specs.Prelude.{◌≡◌, ◌≤◌, ℕ, ◌+◌, ◌*◌, List, [], ◌∷◌, Option, Some, None, Result, Ok, Err}
+use Rattle.std.specs.Prelude.{◌≡◌, ◌≤◌, ℕ, ◌+◌, ◌*◌, List, [], ◌∷◌, Option, Some, None, Result, Ok, Err, ⊤}
 use Rattle.ucd_points.specs.Limits.{point_count}
 use Rattle.release_rows.specs.FileItems.{FileItem}
 use Rattle.script_lines.specs.declared.command.Command.{Command}
@@ -20,6 +24,11 @@ use Rattle.edit_session.specs.Groups.{CountsAs, after_ops, files_facts}
 use Rattle.ucdshop_core.specs.Jobs.{Job}
 use Rattle.ucdshop_core.specs.Run.{Inputs, job_verdict}
 use Rattle.run_endings.specs.Endings.{Seen}
+use Rattle.run_endings.specs.declared.plan.Plan.{Plan}
+use Rattle.run_endings.specs.declared.status.Status.{Status}
+use Rattle.run_endings.specs.declared.status.Status.TheVariants.{LoadRefused, ReadFault}
+use Rattle.run_endings.specs.declared.stop.Stop.{Stop}
+use Rattle.run_endings.specs.declared.stop.Stop.TheVariants.{Refused, ReadFailed, Memory}
 use Rattle.ucdshop_core.specs.Session.{Session, started, step}
 
 abbrev pub CommandCounts : List (List FileItem) → What → ℕ → ℕ → Type 0
@@ -40,6 +49,25 @@ opened_limit job = releases_of job.previous * point_count
 abbrev pub VerdictCounts : Job → Result Inputs (List ℕ) → ℕ → ℕ → Type 0
 VerdictCounts job (Ok inputs) old new = (opened : ℕ) × (opened ≤ old + opened_limit job) × SessionCounts (started inputs.files) inputs.commands opened new
 VerdictCounts job (Err line) old new = new ≤ old + opened_limit job
+
+abbrev pub FormOpens : Option Job → ℕ → ℕ → Type 0
+FormOpens None old new = new ≡ old
+FormOpens (Some job) old new = new ≤ old + opened_limit job
+
+abbrev pub StatusCounts : Status → Option Job → ℕ → ℕ → Type 0
+StatusCounts LoadRefused form old new = FormOpens form old new
+StatusCounts ReadFault form old new = new ≡ old
+StatusCounts _ form old new = ⊤
+
+abbrev pub StopCounts : Result Plan Stop → Option Job → ℕ → ℕ → Type 0
+StopCounts (Ok plan) form old new = ⊤
+StopCounts (Err (Refused line)) form old new = FormOpens form old new
+StopCounts (Err (ReadFailed line)) form old new = new ≡ old
+StopCounts (Err Memory) form old new = ⊤
+
+abbrev pub PlannedCounts : Option (Result Plan Stop) → Option Job → ℕ → ℕ → Type 0
+PlannedCounts None form old new = ⊤
+PlannedCounts (Some answer) form old new = StopCounts answer form old new
 
 abbrev pub FormCounts : Option Job → Seen → ℕ → ℕ → Type 0
 FormCounts None seen old new = new ≡ old

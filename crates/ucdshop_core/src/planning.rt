@@ -3,7 +3,7 @@
 ghost use Rattle.std.specs.Prelude.{◌≡◌, ◌≤◌, [], IfOk, None, Some, length};
 ghost use Rattle.std.specs.List.{All};
 ghost use Rattle.ucdshop_core.specs.JobWords.{IsListed, job_of};
-ghost use Rattle.ucdshop_core.specs.Counting.{FormCounts, MayStep, SessionCounts, VerdictCounts};
+ghost use Rattle.ucdshop_core.specs.Counting.{FormCounts, MayStep, SessionCounts, StopCounts, VerdictCounts};
 ghost use Rattle.ucdshop_core.specs.Judging.{AreFor, given_verdict, inputs_of};
 ghost use Rattle.ucdshop_core.specs.Planning.{CountsRows};
 ghost use Rattle.run_endings.specs.Planning.{HasPlan, IsPlanOf, OnRefused, OnlyRead, PlansAs, UnreadAs};
@@ -136,6 +136,7 @@ fn given_plan<L: Ledger>(
     requires { AreFor given.old (job_of job) }
     ensures plan { PlansAs result (judged (job_of job.entry) (given_verdict (job_of job.entry) given.old)) }
     ensures counts { VerdictCounts (job_of job.entry) (given_verdict (job_of job.entry) given.old) steps.old steps.new }
+    ensures stops { StopCounts result (Some (job_of job.entry)) steps.old steps.new }
     ensures steps { MayStep (job_of job.entry) steps.old steps.new }
 {
     match judge_inputs(alloc, job, &mut given.held, steps) {
@@ -198,6 +199,7 @@ pub fn prepare<S: Shelf, L: Ledger>(
     ensures unread { UnreadAs result (needed (job_of job.entry)) (shelf_seen S.Shelf shelf.old shelf.new) }
     ensures only_read { OnlyRead (shelf_seen S.Shelf shelf.old shelf.new) }
     ensures counts { Sees S.tells (S.holds shelf.old) (needed (job_of job.entry)) (λ seen. FormCounts (Some (job_of job.entry)) seen steps.old steps.new) }
+    ensures stops { StopCounts result (Some (job_of job.entry)) steps.old steps.new }
     ensures steps { MayStep (job_of job.entry) steps.old steps.new }
 {
     let plan = {

@@ -4,7 +4,7 @@ ghost use Rattle.std.specs.Prelude.{◌≡◌};
 ghost use Rattle.run_endings.specs.Endings.{Sees, paths_read};
 ghost use Rattle.run_endings.specs.Ends.{HasRoom, Plans};
 ghost use Rattle.run_endings.specs.Promises.{Promises, shelf_seen, sink_seen};
-ghost use Rattle.ucdshop_core.specs.Counting.{FormCounts, FormMayStep};
+ghost use Rattle.ucdshop_core.specs.Counting.{FormCounts, FormMayStep, PlannedCounts, StatusCounts};
 ghost use Rattle.ucdshop_core.specs.Run.{ucdshop};
 ghost use Rattle.ucdshop_core.specs.Jobs.{form};
 
@@ -51,7 +51,7 @@ fn run_anew<S: Shelf, K: Sink, L: Ledger>(
 
 /// [`run`], with a counter of the code points that are derived. It rises by at most the number of code points for each
 /// release that the words name, and if nothing is refused, by that of the code points that depend on each group of the
-/// script. It stays if the words have no listed form.
+/// script. It stays if the words have no listed form, and if a file could not be read: all are read before any is judged.
 pub fn run_counted<S: Shelf, K: Sink, L: Ledger>(
     alloc: Global,
     words: &Texts,
@@ -61,6 +61,7 @@ pub fn run_counted<S: Shelf, K: Sink, L: Ledger>(
 ) -> Status
     ensures run { Promises ucdshop words.now (shelf_seen S.Shelf shelf.old shelf.new) (sink_seen K.Sink out.old out.new) result }
     ensures counted { Sees S.tells (S.holds shelf.old) (paths_read ucdshop (form words.now)) (λ seen. FormCounts (form words.now) seen steps.old steps.new) }
+    ensures stopped { StatusCounts result (form words.now) steps.old steps.new }
     ensures steps { FormMayStep (form words.now) steps.old steps.new }
 {
     let planned = plan_words(alloc, words, shelf, steps);
@@ -77,6 +78,7 @@ fn plan_words<S: Shelf, L: Ledger>(
     ensures plans { Plans ucdshop words.now result (shelf_seen S.Shelf shelf.old shelf.new) }
     ensures room { HasRoom result (S.spare shelf.new) }
     ensures counts { Sees S.tells (S.holds shelf.old) (paths_read ucdshop (form words.now)) (λ seen. FormCounts (form words.now) seen steps.old steps.new) }
+    ensures stops { PlannedCounts result (form words.now) steps.old steps.new }
     ensures steps { FormMayStep (form words.now) steps.old steps.new }
 {
     match job_of(words.as_slice()) {

@@ -1,6 +1,6 @@
 use Rattle.ucdshop_core.specs.JobWords.{job_of}
 use Rattle.ucdshop_core.specs.Judging.{given_verdict}
-use Rattle.ucdshop_core.proofs.CountingLemmas.{verdict_opened}
+use Rattle.ucdshop_core.proofs.CountingLemmas.{stop_opens, verdict_opened}
 use Rattle.ucdshop_core.proofs.PlanningLemmas.{stops_as}
 use Rattle.ucdshop_core.proofs.planning.given_plan.Goals as goal
 
@@ -9,3 +9,7 @@ returns-in-Err-clause-counts g c = verdict_opened (job_of c.args.job) (given_ver
 
 pub returns-in-Err-clause-plan : goal.returns-in-Err-clause-plan
 returns-in-Err-clause-plan g c = stops_as (job_of c.args.job) (given_verdict (job_of c.args.job) c.args.given.now) c.in-Err.stop c.in-Err.ensures.inputs
+
+pub returns-in-Err-clause-stops : goal.returns-in-Err-clause-stops
+returns-in-Err-clause-stops g c =
+    stop_opens c.in-Err.stop (given_verdict (job_of c.args.job) c.args.given.now) (job_of c.args.job) c.args.steps.now c.judge_inputs.new.steps c.in-Err.ensures.inputs c.judge_inputs.ensures.steps

@@ -3,7 +3,7 @@ use Rattle.run_endings.specs.PreparedProofs.{prepares}
 use Rattle.ucdshop_core.specs.JobWords.{job_of}
 use Rattle.ucdshop_core.specs.Jobs.{form}
 use Rattle.ucdshop_core.specs.Run.{ucdshop}
-use Rattle.ucdshop_core.proofs.CountingLemmas.{form_counts, formless_counts}
+use Rattle.ucdshop_core.proofs.CountingLemmas.{form_counts, form_stops, formless_counts}
 use Rattle.ucdshop_core.proofs.program.plan_words.Goals as goal
 
 pub returns-in-Some-clause-plans : goal.returns-in-Some-clause-plans
@@ -25,3 +25,7 @@ returns-in-None-clause-plans g c =
 pub returns-in-None-clause-counts : goal.returns-in-None-clause-counts
 returns-in-None-clause-counts g c =
     formless_counts g.S.Shelf.tells (g.S.Shelf.holds c.args.shelf.now) (form c.args.words.now) c.args.steps.now (ap form (sym c.as_slice.ensures) ∙ c.in-None.ensures.form)
+
+pub returns-in-Some-clause-stops : goal.returns-in-Some-clause-stops
+returns-in-Some-clause-stops g c =
+    form_stops c.prepare.result (form c.args.words.now) (job_of c.in-Some.job) c.args.steps.now c.prepare.new.steps (ap form (sym c.as_slice.ensures) ∙ c.in-Some.ensures.form) c.prepare.ensures.stops

@@ -16,3 +16,4 @@ pub mod Carrying
 pub mod Asking
 pub mod Answering
 pub mod Planning
+pub mod RunExamples

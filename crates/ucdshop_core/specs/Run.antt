@@ -1,5 +1,16 @@
 -- What a run is to do, by its words and by what the shelf holds.
 --
+-- What a run keeps stands in Promises.antt of run_endings, of any program; here stands this one, `ucdshop`. Its headline, phrase by phrase:
+--   the words are a command               form, in Jobs.antt
+--   every file loads                      file_verdict, in Verdict.antt of run_inputs; load_or_fault, in Loading.antt of release_rows
+--   every code point is valid             valid_files, in Verdict.antt of run_inputs; first_broken, in Validity.antt of ucd_model
+--   the script has no fault               script_told, in Refusals.antt of run_inputs; script_from, in Scripts.antt of script_lines
+--   a command is carried out, or refused  step and session, in Session.antt; that a refused one changes nothing, in SessionLaws.antt
+--   exactly the expected files            new_files, below; the words alone give their paths: output_paths, in Jobs.antt
+--   each with exactly the expected bytes  part_files, below; source_file and derived_file, in Files.antt of run_inputs
+--   exactly the breaks of the policies    breaks_since, below; report, in Reports.antt of stability_policies
+-- RunExamples.antt has forms, lines and summaries, worked out.
+--
 -- The verdict
 -- Inputs                           the items of the source files, in order, the commands, and the items of the source files of the
 --                                  earlier release; None where there is none

@@ -1,4 +1,4 @@
-use Rattle.std.proofs.Common.{◌≡◌, ◌≤◌, ◌<◌, ◌+◌, ◌-◌, ℕ, cond, is_some, ap, subst, ◌∙◌, arith}
+use Rattle.std.proofs.Common.{◌≡◌, ◌≤◌, ◌<◌, ◌+◌, ◌-◌, ℕ, cond, is_some, ap, ◌∙◌, arith}
 use Rattle.ucd_model.specs.CutLemmas.{point_count-is}
 use Rattle.ucd_points.specs.Limits.{point_count}
 use Rattle.ucd_model.specs.DerivedFiles.{casefold_listing}

@@ -6,6 +6,7 @@ pub mod PolicyLemmas
 pub mod QuestionLemmas
 pub mod AskingLemmas
 pub mod CarryingLemmas
+pub mod RowNamesLemmas
 pub mod CountingLemmas
 pub mod MakingLemmas
 pub mod SessionLemmas

@@ -2,6 +2,7 @@ pub mod Printed
 pub mod Paths
 pub mod Questions
 pub mod SetTexts
+pub mod RowNames
 pub mod Session
 pub mod SessionLaws
 pub mod Making

@@ -10,11 +10,13 @@ ghost use Rattle.ucd_model.specs.Cuts.{IsCut};
 ghost use Rattle.ucd_points.specs.Limits.{point_count};
 ghost use Rattle.ucdshop_core.specs.Answering.{AnswersFront};
 ghost use Rattle.ucdshop_core.specs.Carrying.{counted, session_on, question_command};
+ghost use Rattle.ucdshop_core.specs.RowNames.{AreKept, AreRowNames};
 ghost use Rattle.ucdshop_core.specs.Session.{step_by};
 
 use crate::ask_stop::AskStop;
 use crate::asking::Asking;
 use crate::carried::Carried;
+use crate::row_names::RowNames;
 use edit_session::Bench;
 use run_inputs::bench_pieces;
 use script_lines::{Command, What};
@@ -22,23 +24,59 @@ use std::alloc::Global;
 use ucd_model::{Memory, Span};
 
 /// Answers the question of this text, and those at the front of the commands that stand behind it, and answers the
-/// commands that are left. What answers them is made once.
+/// commands that are left. What answers them is made once; what it needs of the rows alone is taken from what is kept, and kept.
 ///
 /// - `Memory`: memory ran out.
 pub fn answer_run<'c>(
     alloc: Global,
     bench: &Bench,
+    kept: &mut Option<RowNames>,
     line: u32,
     text: &[u8],
     behind: &'c [Command],
     carried: &mut Carried,
 ) -> Result<&'c [Command], Memory>
+    requires kept { AreKept kept.old bench.now.current }
+    requires room { counted carried.old + 1 + length behind.now < 2 ^ 64 }
+    requires ready { All IsReady behind.now }
+    ensures kept { AreKept kept.new bench.now.current }
+    ensures answers { IfOk result (λ rest. AnswersFront bench.now.current (step_by (session_on bench.now.current carried.old) line (Question text.now)) (counted carried.old + 1) behind.now carried.new rest.now) }
+{
+    let names = match kept.take() {
+        Some(names) => names,
+        None => RowNames::of(alloc, bench.release())?,
+    };
+    let answered = answer_by(alloc, bench, &names, line, text, behind, carried);
+    *kept = Some(names);
+    answered
+}
+
+/// The same by what the rows of the bench tell.
+fn answer_by<'c>(
+    alloc: Global,
+    bench: &Bench,
+    names: &RowNames,
+    line: u32,
+    text: &[u8],
+    behind: &'c [Command],
+    carried: &mut Carried,
+) -> Result<&'c [Command], Memory>
+    requires names { AreRowNames names.now bench.now.current }
     requires room { counted carried.old + 1 + length behind.now < 2 ^ 64 }
     requires ready { All IsReady behind.now }
     ensures { IfOk result (λ rest. AnswersFront bench.now.current (step_by (session_on bench.now.current carried.old) line (Question text.now)) (counted carried.old + 1) behind.now carried.new rest.now) }
 {
     let pieces = bench_pieces(alloc, bench)?;
-    answer_over(alloc, bench, pieces.as_slice(), line, text, behind, carried)
+    answer_over(
+        alloc,
+        bench,
+        pieces.as_slice(),
+        names,
+        line,
+        text,
+        behind,
+        carried,
+    )
 }
 
 /// The same over the pieces of equal records of the bench.
@@ -46,17 +84,19 @@ fn answer_over<'c>(
     alloc: Global,
     bench: &Bench,
     pieces: &[Span],
+    names: &RowNames,
     line: u32,
     text: &[u8],
     behind: &'c [Command],
     carried: &mut Carried,
 ) -> Result<&'c [Command], Memory>
     requires pieces { IsCut (bench_record bench.now) 0 point_count pieces.now }
+    requires names { AreRowNames names.now bench.now.current }
     requires room { counted carried.old + 1 + length behind.now < 2 ^ 64 }
     requires ready { All IsReady behind.now }
     ensures { IfOk result (λ rest. AnswersFront bench.now.current (step_by (session_on bench.now.current carried.old) line (Question text.now)) (counted carried.old + 1) behind.now carried.new rest.now) }
 {
-    match Asking::of(alloc, bench, pieces) {
+    match Asking::of(alloc, bench, pieces, names) {
         Ok(asking) => {
             let answered = answer_first(alloc, &asking, line, text, behind, carried);
             drop(asking);

@@ -2,32 +2,32 @@
 
 ghost use Rattle.std.specs.Prelude.{◌≡◌, ◌≤◌, IfOk};
 ghost use Rattle.edit_session.specs.Benches.{bench_record};
-ghost use Rattle.property_aliases.specs.Found.{AreAliasesOf};
-ghost use Rattle.property_aliases.specs.Numbers.{AreNumbersOf};
 ghost use Rattle.release_rows.specs.Releases.{rows_now};
 ghost use Rattle.ucd_model.specs.Cuts.{IsCut};
 ghost use Rattle.ucd_points.specs.Limits.{point_count};
 ghost use Rattle.ucdshop_core.specs.Asking.{IsUnnamed, IsUnread};
-ghost use Rattle.ucdshop_core.specs.Questions.{AskedAs, files_hold, files_sources, question_answer, tree_answer};
+ghost use Rattle.ucdshop_core.specs.Questions.{AskedAs, files_hold, question_answer, tree_answer};
+ghost use Rattle.ucdshop_core.specs.RowNames.{AreRowNames};
 ghost use Rattle.ucdshop_core.specs.SetTexts.{members_in};
+ghost use Rattle.unicodeset_eval.specs.Found.{AreRowSets};
 ghost use Rattle.unicodeset_eval.specs.Indexes.{index_holds};
 ghost use Rattle.unicodeset_parser.specs.Views.{tree_view};
 
 use crate::ask_stop::{AskFault, AskRule, AskStop};
+use crate::row_names::RowNames;
 use edit_session::Bench;
-use property_aliases::{Aliases, ValueNumbers};
 use std::alloc::Global;
 use std::marker::Model;
 use ucd_model::{Memory, Span, Spans};
-use unicodeset_eval::{EvalStop, SetIndex, eval_over};
+use unicodeset_eval::{EvalStop, RowSets, SetIndex, eval_over};
 use unicodeset_parser::{Expr, SetStop, parse};
 
-/// What answers questions on the release of a bench: the meaning of names and the sets of tests, made once for its rows.
+/// What answers questions on the release of a bench: the meaning of names and the sets of tests, by its rows and its records.
 /// Contracts see the items of its files.
 #[derive(Drop)]
 pub struct Asking<'b> {
     bench: &'b Bench,
-    aliases: Aliases,
+    names: &'b RowNames,
     index: SetIndex<'b, Bench>,
 }
 
@@ -42,7 +42,7 @@ impl<'b> Model for Asking<'b> {
 
     ghost view = { λ a. a.bench.now.current };
 
-    ghost invariant = { λ a. CanAnswer a.bench.now.current a.aliases (index_holds bench_record a.index) };
+    ghost invariant = { λ a. CanAnswer a.bench.now.current a.names.now.aliases (index_holds bench_record a.index) };
 }
 
 /// The sets of all tests by the rows of a bench and by its pieces of equal records.
@@ -52,13 +52,13 @@ fn index_of<'b>(
     alloc: Global,
     bench: &'b Bench,
     pieces: &[Span],
-    numbers: &ValueNumbers,
+    rows: &'b RowSets,
 ) -> Result<SetIndex<'b, Bench>, Memory>
     requires pieces { IsCut (bench_record bench.now) 0 point_count pieces.now }
-    requires numbers { AreNumbersOf numbers.now (rows_now bench.now) }
+    requires rows { AreRowSets rows.now (rows_now bench.now) }
     ensures { IfOk result (λ index. index_holds bench_record index ≡ files_hold bench.now.current) }
 {
-    let index = SetIndex::of(alloc, bench, pieces, bench.release(), numbers)?;
+    let index = SetIndex::of(alloc, bench, pieces, bench.release(), rows)?;
     Ok(index)
 }
 
@@ -89,33 +89,24 @@ fn unnamed(stop: EvalStop) -> AskStop
 }
 
 impl<'b> Asking<'b> {
-    /// What answers questions on the release of a bench, whose pieces of equal records these are.
+    /// What answers questions on the release of a bench, whose pieces of equal records these are; the names are those of its
+    /// rows.
     ///
     /// - `Memory`: memory ran out.
-    pub fn of(alloc: Global, bench: &'b Bench, pieces: &[Span]) -> Result<Asking<'b>, Memory>
-        requires { IsCut (bench_record bench.now) 0 point_count pieces.now }
-        ensures { IfOk result (λ asking. asking ≡ bench.now.current) }
-    {
-        let aliases = Aliases::of(alloc, bench.release())?;
-        Asking::with_aliases(alloc, bench, pieces, aliases)
-    }
-
-    /// The same with the meaning of names by the rows of the bench.
-    fn with_aliases(
+    pub fn of(
         alloc: Global,
         bench: &'b Bench,
         pieces: &[Span],
-        aliases: Aliases,
+        names: &'b RowNames,
     ) -> Result<Asking<'b>, Memory>
         requires pieces { IsCut (bench_record bench.now) 0 point_count pieces.now }
-        requires meant { AreAliasesOf aliases (files_sources bench.now.current) }
-        requires numbers { AreNumbersOf aliases.numbers (rows_now bench.now) }
+        requires names { AreRowNames names.now bench.now.current }
         ensures { IfOk result (λ asking. asking ≡ bench.now.current) }
     {
-        let index = index_of(alloc, bench, pieces, aliases.numbers())?;
+        let index = index_of(alloc, bench, pieces, &names.sets)?;
         Ok(Asking {
             bench,
-            aliases,
+            names,
             index,
         })
     }
@@ -142,7 +133,7 @@ impl<'b> Asking<'b> {
     fn members(&self, alloc: Global, tree: &Expr) -> Result<Spans, AskStop>
         ensures { AskedAs result (tree_answer self.now (tree_view tree.now)) }
     {
-        match eval_over(alloc, &self.index, &self.aliases, tree) {
+        match eval_over(alloc, &self.index, &self.names.aliases, tree) {
             Ok(spans) => Ok(spans),
             Err(stop) => Err(unnamed(stop)),
         }

@@ -6,10 +6,12 @@ ghost use Rattle.script_lines.specs.Groups.{AreReady, IsReady};
 ghost use Rattle.script_lines.specs.declared.command.What.TheVariants.{Group};
 ghost use Rattle.ucdshop_core.specs.Carrying.{counted, session_of};
 ghost use Rattle.ucdshop_core.specs.Counting.{CommandCounts, SessionCounts};
+ghost use Rattle.ucdshop_core.specs.RowNames.{AreKept};
 ghost use Rattle.ucdshop_core.specs.Session.{session, started, step, step_by};
 
 use crate::answering::answer_run;
 use crate::carried::Carried;
+use crate::row_names::{RowNames, renames};
 use edit_session::{ApplyStop, Bench};
 use release_rows::Op;
 use script_lines::{Command, What};
@@ -33,9 +35,10 @@ pub fn carry_out<L: Ledger>(
     ensures steps { commands.now ≡ [] → steps.new ≡ steps.old }
 {
     let mut carried = Carried::new(alloc);
+    let mut kept = None;
     let mut rest = commands;
     'commands: while !rest.is_empty() {
-        rest = carry_some(alloc, bench, rest, &mut carried, steps)?;
+        rest = carry_some(alloc, bench, &mut kept, rest, &mut carried, steps)?;
     }
     Ok(carried)
 }
@@ -45,13 +48,16 @@ pub fn carry_out<L: Ledger>(
 fn carry_some<'c, L: Ledger>(
     alloc: Global,
     bench: &mut Bench,
+    kept: &mut Option<RowNames>,
     commands: &'c [Command],
     carried: &mut Carried,
     steps: &mut Steps<L>,
 ) -> Result<&'c [Command], Memory>
     requires some { 0 < length commands.now }
+    requires kept { AreKept kept.old bench.old.current }
     requires ready { All IsReady commands.now }
     requires room { counted carried.old + length commands.now < 2 ^ 64 }
+    ensures kept { AreKept kept.new bench.new.current }
     ensures session { IfOk result (λ rest. fold step (session_of bench.new carried.new) rest.now ≡ fold step (session_of bench.old carried.old) commands.now) }
     ensures counts { (n : ℕ) → IfOk result (λ rest. SessionCounts (session_of bench.new carried.new) rest.now steps.new n → SessionCounts (session_of bench.old carried.old) commands.now steps.old n) }
     ensures stopped { IfErr result (λ _. SessionCounts (session_of bench.old carried.old) commands.now steps.old steps.new) }
@@ -62,11 +68,27 @@ fn carry_some<'c, L: Ledger>(
     let (command, behind) = first_command(commands);
     match &command.what {
         What::Group(ops) => {
-            carry_group(alloc, bench, command.line, ops.as_slice(), carried, steps)?;
+            carry_group(
+                alloc,
+                bench,
+                kept,
+                command.line,
+                ops.as_slice(),
+                carried,
+                steps,
+            )?;
             Ok(behind)
         }
         What::Question(text) => {
-            answer_run(alloc, bench, command.line, text.as_slice(), behind, carried)
+            answer_run(
+                alloc,
+                bench,
+                kept,
+                command.line,
+                text.as_slice(),
+                behind,
+                carried,
+            )
         }
     }
 }
@@ -79,23 +101,31 @@ fn first_command(commands: &[Command]) -> (&Command, &[Command])
     (&commands[0], &commands[1..])
 }
 
-/// Carries out a group.
+/// Carries out a group. What is kept of the rows alone is let go if the group edits a row that tells it.
 fn carry_group<L: Ledger>(
     alloc: Global,
     bench: &mut Bench,
+    kept: &mut Option<RowNames>,
     line: u32,
     ops: &[Op],
     carried: &mut Carried,
     steps: &mut Steps<L>,
 ) -> Result<(), Memory>
+    requires kept { AreKept kept.old bench.old.current }
     requires ready { AreReady ops.now }
     requires room { counted carried.old + 1 < 2 ^ 64 }
+    ensures kept { AreKept kept.new bench.new.current }
     ensures session { OnOk result (session_of bench.new carried.new ≡ step_by (session_of bench.old carried.old) line (Group ops.now)) }
     ensures counts { CommandCounts bench.old.current (Group ops.now) steps.old steps.new }
     ensures counted { OnOk result (counted carried.new ≡ counted carried.old + 1) }
 {
     match bench.apply(alloc, ops, steps) {
-        Ok(accepted) => carried.accept(alloc, line, accepted.changed.as_slice().len()),
+        Ok(accepted) => {
+            if renames(ops) {
+                *kept = None;
+            }
+            carried.accept(alloc, line, accepted.changed.as_slice().len())
+        }
         Err(ApplyStop::Refused(why)) => carried.refuse(alloc, line, why),
         Err(ApplyStop::Memory) => Err(Memory),
     }

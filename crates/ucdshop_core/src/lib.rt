@@ -21,6 +21,7 @@ mod policies;
 mod printed;
 mod program;
 mod release_number;
+mod row_names;
 mod set_text;
 mod words;
 

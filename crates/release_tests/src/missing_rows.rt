@@ -84,6 +84,11 @@ fn keys_of_missing_rows(rt: HostRuntime) {
             "{text:?}"
         );
     }
+}
+
+#[test]
+fn keys_of_other_missing_rows(rt: HostRuntime) {
+    let scripts = SourceFile::Scripts;
     let all = b"# @missing: 0000..10FFFF";
     assert!(rt; is_key(rt.alloc(), scripts, all, Some(0), &[b"@missing", b"10FFFF"]));
     assert!(rt; key_fault(rt.alloc(), scripts, b"# @missing: 0041; A") == Some(RowFault::G03));

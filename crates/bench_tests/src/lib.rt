@@ -4,6 +4,8 @@
 #[cfg(test)]
 mod benches;
 #[cfg(test)]
+mod dependants;
+#[cfg(test)]
 mod groups;
 #[cfg(test)]
 mod turns;

@@ -92,6 +92,7 @@ enum Look {
     Letters,
     Listing,
     NoQuestions,
+    Sweeps,
     Steps,
 }
 
@@ -112,6 +113,7 @@ fn look_at(rt: &impl Abort, alloc: Global, map: &mut Map, look: Look) -> Result<
         Look::Letters => look_at_letters(rt, alloc, map),
         Look::Listing => look_at_listing(rt, alloc, map),
         Look::NoQuestions => take_questions(rt, alloc, map),
+        Look::Sweeps => sweep_letters(rt, alloc, map),
         Look::Steps => take_steps(rt, alloc, map),
     }
 }
@@ -129,6 +131,30 @@ fn look_at_letters(rt: &impl Abort, alloc: Global, map: &mut Map) -> Result<(), 
     map.commit();
     expect(rt, map, row(0x41), &[0x41, 0xC0, 0xC1]);
     expect(rt, map, grave_pair(), &[0xC0]);
+    Ok(())
+}
+
+#[test]
+fn askers_after_sweeps(rt: HostRuntime) -> Result<(), Fail> {
+    on_a_map(&rt, rt.alloc(), Look::Sweeps)
+}
+
+/// A with grave gets another mark so often that the code points are listed anew.
+fn sweep_letters(rt: &impl Abort, alloc: Global, map: &mut Map) -> Result<(), Fail> {
+    put(alloc, map, acute().ok_or("a letter")?)?;
+    for round in 0..1_000 {
+        put(
+            alloc,
+            map,
+            letter(0xC0, 0x41, 0x310 + round % 8).ok_or("a letter")?,
+        )?;
+        map.commit();
+        map.sweep();
+    }
+    expect(rt, map, row(0x41), &[0x41, 0xC0, 0xC1]);
+    expect(rt, map, row(0x301), &[0xC1, 0x301]);
+    expect(rt, map, row(0x310), &[0x310]);
+    expect(rt, map, row(0x317), &[0xC0, 0x317]);
     Ok(())
 }
 

@@ -19,7 +19,8 @@ VERSION := $(shell cat VERSION)
 # each program, as its crate, a colon and its name: the launcher has a line for it, which begins with the crate and how it is used
 PROGRAMS := $(shell sed -nE "s/^ +'([a-z_]+) usage: ([a-z_-]+) .*/\1:\2/p" ucdshop)
 PAGES := $(wildcard *.1)
-TOOLS := $(sort $(patsubst tools/%,%,$(shell find tools -maxdepth 1 -type f -perm -u+x)))
+# those that work on releases and runs; contracts works on the sources, which are not installed
+TOOLS := $(sort $(filter-out contracts,$(patsubst tools/%,%,$(shell find tools -maxdepth 1 -type f -perm -u+x))))
 # the scripts that work on real releases, not those that try this repository
 COMPARISONS = compare sets step
 READ_FIRST = README.md CHANGELOG.md CONTRIBUTING.md VERSION

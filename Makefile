@@ -29,6 +29,7 @@ root = $(DESTDIR)$(PREFIX)
 bin = $(root)/bin
 man = $(root)/share/man/man1
 completions = $(root)/share/bash-completion/completions
+functions = $(root)/share/zsh/site-functions
 documents = $(root)/share/doc/ucdshop
 shared = $(root)/share/ucdshop
 
@@ -46,7 +47,7 @@ install:
 	    crate=$${program%:*}; built="$(CRATES)/$$crate/out/$$crate"; \
 	    [ -x "$$built" ] || { echo "$$built is not there: run make build first" >&2; exit 1; }; \
 	done
-	install -d -m 755 "$(bin)" "$(man)" "$(completions)" "$(documents)/docs" "$(shared)/tools" "$(shared)/conformance"
+	install -d -m 755 "$(bin)" "$(man)" "$(completions)" "$(functions)" "$(documents)/docs" "$(shared)/tools" "$(shared)/conformance"
 	@set -e; for program in $(PROGRAMS); do \
 	    crate=$${program%:*}; name=$${program#*:}; \
 	    install -m 755 "$(CRATES)/$$crate/out/$$crate" "$(bin)/$$name"; \
@@ -56,6 +57,7 @@ install:
 	done
 	install -m 644 $(PAGES) "$(man)"
 	install -m 644 completion/ucdshop.bash "$(completions)/ucdshop"
+	install -m 644 completion/_ucdshop "$(functions)"
 	install -m 644 $(READ_FIRST) "$(documents)"
 	install -m 644 docs/*.md "$(documents)/docs"
 	@set -e; find examples -type d | while read -r folder; do install -d -m 755 "$(documents)/$$folder"; done; \
@@ -72,7 +74,7 @@ uninstall:
 	@set -e; for program in $(PROGRAMS); do rm -f "$(bin)/$${program#*:}"; done
 	@set -e; for tool in $(TOOLS); do rm -f "$(bin)/ucdshop-$$tool"; done
 	@set -e; for page in $(PAGES); do rm -f "$(man)/$$page"; done
-	rm -f "$(completions)/ucdshop"
+	rm -f "$(completions)/ucdshop" "$(functions)/_ucdshop"
 	rm -rf "$(documents)" "$(shared)"
 
 dist:

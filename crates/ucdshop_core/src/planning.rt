@@ -130,15 +130,16 @@ fn counted_rows(made: Option<u8>, bench: &Bench) -> Result<usize, Memory>
 fn given_plan<L: Ledger>(
     alloc: Global,
     job: Job<'_>,
-    given: &mut Given,
+    given: Given,
     steps: &mut Steps<L>,
 ) -> Result<Plan, Stop>
-    requires { AreFor given.old (job_of job) }
-    ensures plan { PlansAs result (judged (job_of job.entry) (given_verdict (job_of job.entry) given.old)) }
-    ensures counts { VerdictCounts (job_of job.entry) (given_verdict (job_of job.entry) given.old) steps.old steps.new }
+    requires { AreFor given (job_of job) }
+    ensures plan { PlansAs result (judged (job_of job.entry) (given_verdict (job_of job.entry) given)) }
+    ensures counts { VerdictCounts (job_of job.entry) (given_verdict (job_of job.entry) given) steps.old steps.new }
     ensures stops { StopCounts result (Some (job_of job.entry)) steps.old steps.new }
     ensures steps { MayStep (job_of job.entry) steps.old steps.new }
 {
+    let mut given = given;
     match judge_inputs(alloc, job, &mut given.held, steps) {
         Ok(inputs) => Ok(carried_plan(alloc, job, &given.made, inputs, steps)?),
         Err(stop) => Err(stop),
@@ -202,10 +203,8 @@ pub fn prepare<S: Shelf, L: Ledger>(
     ensures stops { StopCounts result (Some (job_of job.entry)) steps.old steps.new }
     ensures steps { MayStep (job_of job.entry) steps.old steps.new }
 {
-    let plan = {
-        let mut given = given_texts(alloc, job, shelf)?;
-        given_plan(alloc, job, &mut given, steps)?
-    };
+    let given = given_texts(alloc, job, shelf)?;
+    let plan = given_plan(alloc, job, given, steps)?;
     make_room(shelf, &plan)?;
     Ok(plan)
 }

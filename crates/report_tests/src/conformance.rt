@@ -1,6 +1,7 @@
 //! Conformance to cases over a release of a few lines.
 
-use crate::reports::{GRAVE, bench_over, data};
+use crate::reports::{GRAVE, boxed};
+use crate::samples::data;
 use edit_session::Bench;
 use norm_conformance::{CaseStop, Cases, Miss, misses, read_cases};
 use std::alloc::Global;
@@ -106,7 +107,7 @@ const TESTS: [(&[u8], &[Missed]); 7] = [
 
 #[test]
 fn misses_of_lines_and_of_code_points(rt: HostRuntime) -> Result<(), Fail> {
-    let bench = bench_over(rt.alloc(), &data(GRAVE))?;
+    let bench = boxed(rt.alloc(), &data(GRAVE))?;
     for (text, expected) in &TESTS {
         let cases = cases_in(rt.alloc(), text)?;
         assert!(rt;

@@ -5,3 +5,5 @@
 mod conformance;
 #[cfg(test)]
 mod reports;
+#[cfg(test)]
+mod samples;

@@ -1,28 +1,18 @@
 //! Reports over releases of a few lines.
 
-ghost use Rattle.std.specs.Prelude.{◌≡◌, ◌<◌, IfOk};
+ghost use Rattle.std.specs.Prelude.{◌≡◌, IfOk};
 ghost use Rattle.std.specs.List.{list_all};
 ghost use Rattle.edit_session.specs.Benches.{bench_facts};
 ghost use Rattle.stability_policies.specs.Reports.{report};
 
-use edit_session::{Bench, OpenStop};
-use release_rows::Release;
+use crate::samples::{LATER, LETTERS, Lines, bench_over, data, point};
+use edit_session::Bench;
 use stability_policies::{
     Breaks, Forms, Policy, common_caseless, common_forms, lists, report, report_text,
 };
 use std::alloc::Global;
-use std::marker::Brand;
-use std::sync::ledger::{Blank, Ledger};
 use std::test::Fail;
-use ucd_model::{FactView, Memory, Point, Points, SourceFile, Steps};
-
-/// Letters and marks as UnicodeData.txt has them, without case mappings.
-const LETTERS: &[u8] =
-    b"0041;LATIN CAPITAL LETTER A;Lu;0;L;;;;;N;;;;;\n0061;LATIN SMALL LETTER A;Ll;0;L;;;;;N;;;;;\n0300;COMBINING GRAVE ACCENT;Mn;230;NSM;;;;;N;;;;;\n0301;COMBINING ACUTE ACCENT;Mn;230;NSM;;;;;N;;;;;\n";
-
-/// The same without 0041, with another class of 0300, and with 00E0.
-const LATER: &[u8] =
-    b"0061;LATIN SMALL LETTER A;Ll;0;L;;;;;N;;;;;\n00E0;LATIN SMALL LETTER A WITH GRAVE;Ll;0;L;0061 0300;;;;N;;;;;\n0300;COMBINING GRAVE ACCENT;Mn;220;NSM;;;;;N;;;;;\n0301;COMBINING ACUTE ACCENT;Mn;230;NSM;;;;;N;;;;;\n";
+use ucd_model::{FactView, Memory, Point, Points};
 
 /// A letter with a mark and its parts, and the same with one mark more.
 pub const GRAVE: &[u8] =
@@ -48,35 +38,10 @@ const VALUES: &[u8] = b"sc ; Latn ; Latin\ngc ; Lu ; Uppercase_Letter\n";
 
 const MOVED: &[u8] = b"scx ; sc ; Latn ; Latin\ngc ; Lu ; Uppercase_Letter\n";
 
-/// The lines of UnicodeData.txt, PropertyAliases.txt and PropertyValueAliases.txt; the other files are empty.
-#[derive(Clone, Copy)]
-pub struct Lines {
-    data: &'static [u8],
-    properties: &'static [u8],
-    values: &'static [u8],
-}
-
-/// A bench over a release, which is counted on a ledger of its own.
-fn counted<L: Ledger>(alloc: Global, release: Release, blank: Blank) -> Result<Bench, OpenStop>
-    requires still { release.prepared ≡ release.current }
-    requires name { blank.name ≡ L.name }
-    requires parts { blank.parts ≡ L.parts }
-    requires some { blank.parts ≡ 1 }
-{
-    let mut steps = Steps::<L>::new(blank);
-    Bench::open(alloc, release, &mut steps)
-}
-
-/// A bench over a release with these lines.
-pub fn bench_over(alloc: Global, lines: &Lines) -> Result<Box<Bench>, Fail> {
-    let mut release = Release::empty(alloc);
-    release.load_file(SourceFile::UnicodeData, lines.data)?;
-    release.load_file(SourceFile::PropertyAliases, lines.properties)?;
-    release.load_file(SourceFile::PropertyValueAliases, lines.values)?;
-    match counted::<Brand>(alloc, release, Blank::new(1)) {
-        Ok(bench) => Ok(Box::new(alloc, bench)?),
-        Err(stop) => Err(Fail::from(stop)),
-    }
+/// The same on the heap.
+pub fn boxed(alloc: Global, lines: &Lines) -> Result<Box<Bench>, Fail> {
+    let bench = bench_over(alloc, lines)?;
+    Ok(Box::new(alloc, bench)?)
 }
 
 /// The report of two benches.
@@ -86,14 +51,6 @@ fn report_of(alloc: Global, old: &Bench, new: &Bench) -> Result<Breaks, Memory>
     let old_rows = old.release();
     let new_rows = new.release();
     report(alloc, old, old_rows, new, new_rows)
-}
-
-/// The code point of a number.
-fn point(number: u32) -> Point
-    requires { number < 1114112 }
-    ensures { result ≡ number }
-{
-    Point::new(number).unwrap()
 }
 
 /// What is looked at in two releases. One function owns their benches for all tests, and calls let these go: so each stays
@@ -109,8 +66,8 @@ enum Look {
 }
 
 fn on_benches(alloc: Global, old: &Lines, new: &Lines, look: Look) -> Result<bool, Fail> {
-    let old = bench_over(alloc, old)?;
-    let new = bench_over(alloc, new)?;
+    let old = boxed(alloc, old)?;
+    let new = boxed(alloc, new)?;
     let looked = look_at(alloc, &old, &new, look);
     drop(new);
     drop(old);
@@ -192,14 +149,6 @@ fn are_kept(forms: &Forms, folding: &Points) -> bool {
     forms.nfd.as_slice() == [letter, grave, letter, grave].as_slice()
         && forms.nfc.as_slice() == [composed, composed].as_slice()
         && folding.as_slice() == [composed, composed].as_slice()
-}
-
-pub fn data(lines: &'static [u8]) -> Lines {
-    Lines {
-        data: lines,
-        properties: b"",
-        values: b"",
-    }
 }
 
 #[test]

@@ -1,4 +1,4 @@
-use Rattle.report_tests.proofs.reports.bench_over.Given as goal
+use Rattle.report_tests.proofs.samples.bench_over.Given as goal
 
 abbrev pub ghosts-counted : goal.ghosts-counted
 ghosts-counted a = record { name = a.blank.name; parts = a.blank.parts }

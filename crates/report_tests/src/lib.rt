@@ -1,6 +1,9 @@
-//! Tests of the policy report and of conformance over benches. They stand above the crates that they test, so that each is proved once.
+//! Tests of the policy report over benches, of chains of them, and of conformance. They stand above the crates that they test, so that
+//! each is proved once.
 #![tactic(auto)]
 
+#[cfg(test)]
+mod ages;
 #[cfg(test)]
 mod conformance;
 #[cfg(test)]

@@ -3,9 +3,9 @@
 -- SameNames old next     each file that tells names or values has the same items
 -- group_stays            so it is after a group that edits no such file
 -- kept_stays             what is kept stays then
--- answered_stays         the same by what a group was answered
+-- left_stays             what is left of it after a group that was accepted
 -- refused_stays          a group that was not carried out leaves what is kept
-use Rattle.std.proofs.Common.{◌≡◌, ◌≢◌, ℕ, ◌+◌, ◌<◌, Bool, true, false, List, [], ◌∷◌, Option, Some, None, Result, Ok, Err, refl, sym, ap, subst, ◌∙◌}
+use Rattle.std.proofs.Common.{◌≡◌, ◌≢◌, ℕ, ◌+◌, ◌<◌, Bool, true, false, List, [], ◌∷◌, Option, Some, None, Result, Ok, Err, refl, sym, ap, subst, ◌∙◌, if◌then◌else◌}
 use Rattle.std.proofs.lemmas.Bool.{or_parts}
 use Rattle.ucd_model.specs.Values.{script_at, word_break_at}
 use Rattle.ucd_model.specs.Validity.{first_broken}
@@ -117,9 +117,18 @@ answer_stays accepted (Ok files) ops old new kept is applied no are =
     subst (λ (r : ReleaseItems). AreKept kept r.current) (sym applied.0) (kept_stays kept old.current files (group_stays old.current files ops no is) are)
 answer_stays accepted (Err why) ops old new kept is applied no are = absurd applied
 
-pub answered_stays : (accepted : Accepted) (ops : List Op) (old new : ReleaseItems) (kept : Option RowNames)
+answered_stays : (accepted : Accepted) (ops : List Op) (old new : ReleaseItems) (kept : Option RowNames)
     → AppliesAs (Ok accepted) (group_answer old.current ops) old new → renames ops ≡ false → AreKept kept old.current → AreKept kept new.current
 answered_stays accepted ops old new kept applied no are = answer_stays accepted (group_answer old.current ops) ops old new kept refl applied no are
+
+kept_by : (renamed : Bool) (accepted : Accepted) (ops : List Op) (old new : ReleaseItems) (kept : Option RowNames) → renames ops ≡ renamed
+    → AppliesAs (Ok accepted) (group_answer old.current ops) old new → AreKept kept old.current → AreKept (if renamed then None else kept) new.current
+kept_by true accepted ops old new kept is applied are = tt
+kept_by false accepted ops old new kept is applied are = answered_stays accepted ops old new kept applied is are
+
+pub left_stays : (accepted : Accepted) (ops : List Op) (old new : ReleaseItems) (kept : Option RowNames)
+    → AppliesAs (Ok accepted) (group_answer old.current ops) old new → AreKept kept old.current → AreKept (if renames ops then None else kept) new.current
+left_stays accepted ops old new kept applied are = kept_by (renames ops) accepted ops old new kept refl applied are
 
 stopped_same : (stop : ApplyStop) (answer : Result Files Refused) (old new : ReleaseItems) → AppliesAs (Err stop) answer old new → new ≡ old
 stopped_same (Refuses why) (Ok files) old new applied = absurd applied

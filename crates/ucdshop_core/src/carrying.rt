@@ -11,7 +11,7 @@ ghost use Rattle.ucdshop_core.specs.Session.{session, started, step, step_by};
 
 use crate::answering::answer_run;
 use crate::carried::Carried;
-use crate::row_names::{RowNames, renames};
+use crate::row_names::{RowNames, let_go};
 use edit_session::{ApplyStop, Bench};
 use release_rows::Op;
 use script_lines::{Command, What};
@@ -121,9 +121,7 @@ fn carry_group<L: Ledger>(
 {
     match bench.apply(alloc, ops, steps) {
         Ok(accepted) => {
-            if renames(ops) {
-                *kept = None;
-            }
+            let_go(kept, ops);
             carried.accept(alloc, line, accepted.changed.as_slice().len())
         }
         Err(ApplyStop::Refused(why)) => carried.refuse(alloc, line, why),

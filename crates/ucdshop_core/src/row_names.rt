@@ -1,6 +1,6 @@
 //! What questions need of the rows alone.
 
-ghost use Rattle.std.specs.Prelude.{◌≡◌, IfOk};
+ghost use Rattle.std.specs.Prelude.{◌≡◌, IfOk, None, if◌then◌else◌};
 ghost use Rattle.std.specs.List.{list_any};
 ghost use Rattle.property_aliases.specs.Found.{AreAliasesOf};
 ghost use Rattle.property_aliases.specs.Numbers.{AreNumbersOf};
@@ -61,8 +61,17 @@ fn gives_names(file: SourceFile) -> bool
 }
 
 /// Whether an operation of a group is on such a file.
-pub fn renames(group: &[Op]) -> bool
+fn renames(group: &[Op]) -> bool
     ensures { result ≡ renames group.now }
 {
     group.iter().any(|op| gives_names(op.file()))
+}
+
+/// Lets go of what is kept if a group edits a row that tells it.
+pub fn let_go(kept: &mut Option<RowNames>, group: &[Op])
+    ensures { kept.new ≡ (if renames group.now then None else kept.old) }
+{
+    if renames(group) {
+        *kept = None;
+    }
 }

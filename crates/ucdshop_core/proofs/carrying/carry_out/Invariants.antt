@@ -3,6 +3,7 @@ use Rattle.std.specs.List.{All}
 use Rattle.script_lines.specs.Groups.{IsReady}
 use Rattle.ucdshop_core.specs.Carrying.{counted, session_of}
 use Rattle.ucdshop_core.specs.Counting.{SessionCounts}
+use Rattle.ucdshop_core.specs.RowNames.{AreKept}
 use Rattle.ucdshop_core.specs.Session.{session, started, step}
 use Rattle.ucdshop_core.proofs.carrying.carry_out.Given as goal
 
@@ -10,6 +11,7 @@ use Rattle.ucdshop_core.proofs.carrying.carry_out.Given as goal
 abbrev pub invariant-commands : goal.invariant-commands
 invariant-commands g l =
     record {
+      kept : AreKept l.kept l.bench.current;
       session : fold step (session_of l.bench l.carried) l.rest ≡ session l.initial.bench.current l.commands;
       counts : (n : ℕ) → SessionCounts (session_of l.bench l.carried) l.rest l.steps n → SessionCounts (started l.initial.bench.current) l.commands l.initial.steps n;
       counted : counted l.carried + length l.rest ≡ length l.commands;

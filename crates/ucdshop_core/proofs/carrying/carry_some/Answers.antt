@@ -24,7 +24,7 @@ returns-in_ok-carry_group-in-Group-clause-ready g c = ready_behind c.args.comman
 pub returns-in-Question-clause-counts : goal.returns-in-Question-clause-counts
 returns-in-Question-clause-counts g c = λ n.
     question_counts c.answer_run.result c.args.bench.now.current c.answer_run.new.carried c.args.commands.now c.first_command.result.0.now c.first_command.result.1.now c.as_slice-in-Question.result.now (session_of c.args.bench.now c.args.carried.now) _
-    c.args.steps.now n c.first_command.ensures (c.in-Question.is ∙ ap Question (sym c.as_slice-in-Question.ensures)) c.answer_run.ensures
+    c.args.steps.now n c.first_command.ensures (c.in-Question.is ∙ ap Question (sym c.as_slice-in-Question.ensures)) c.answer_run.ensures.answers
 
 pub returns-in-Question-clause-stopped : goal.returns-in-Question-clause-stopped
 returns-in-Question-clause-stopped g c =

@@ -1,0 +1,13 @@
+//! Tests of the runs of the second program. They stand above the crate that they test, so that it is proved once.
+#![tactic(auto)]
+
+#[cfg(test)]
+mod ages;
+#[cfg(test)]
+mod faults;
+#[cfg(test)]
+mod refusals;
+#[cfg(test)]
+mod runs;
+#[cfg(test)]
+mod words;

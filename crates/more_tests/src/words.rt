@@ -1,0 +1,49 @@
+//! Runs of words that have no listed form.
+
+use crate::runs::{EARLIER, LATER, ends, is_untouched, shelf_of};
+use std::alloc::Global;
+use std::test::Fail;
+use ucd_model::Memory;
+use ucdshop_more_core::Status;
+
+/// Words that have no listed form.
+const BAD_WORDS: [&[&[u8]]; 7] = [
+    &[],
+    &[b"ages"],
+    &[b"ages", b"o"],
+    &[b"age", b"o", b"p"],
+    &[b"Ages", b"o", b"p"],
+    &[b"derive", b"p", b"o"],
+    &[b"", b"o", b"p"],
+];
+
+/// One folder more than there may be.
+const SEVENTEEN: &[&[u8]] = &[
+    b"ages", b"o", b"p", b"p", b"p", b"p", b"p", b"p", b"p", b"p", b"p", b"p", b"p", b"p", b"p",
+    b"p", b"p", b"p", b"p",
+];
+
+/// Whether words are refused by the usage line, and nothing is read or written.
+///
+/// - `Memory`: memory ran out.
+fn are_bad(alloc: Global, words: &[&[u8]]) -> Result<bool, Memory> {
+    let mut shelf = shelf_of(alloc, EARLIER, LATER)?;
+    shelf.fail_read(1)?;
+    let usage = b"usage: ucdshop_more ages OUT DATA1 .. DATAn\n".as_slice();
+    let expected = (Status::BadWords, usage);
+    Ok(ends(alloc, words, &mut shelf, 1000, expected)? && is_untouched(&shelf))
+}
+
+#[test]
+fn words_of_no_form_are_told_the_usage(rt: HostRuntime) -> Result<(), Fail> {
+    for words in &BAD_WORDS {
+        assert!(rt; are_bad(rt.alloc(), words)?);
+    }
+    Ok(())
+}
+
+#[test]
+fn seventeen_folders_are_too_many(rt: HostRuntime) -> Result<(), Fail> {
+    assert!(rt; are_bad(rt.alloc(), SEVENTEEN)?);
+    Ok(())
+}

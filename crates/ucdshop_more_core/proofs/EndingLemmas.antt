@@ -1,0 +1,48 @@
+-- How a run ends by what was planned: the paths of its files, and the order of its reads.
+use Rattle.std.proofs.Common.{◌≡◌, Bool, true, false, List, ℕ, map, Option, Some, None, Result, Ok, Err, refl, sym, subst, ◌∙◌, inl, inr}
+use Rattle.release_rows.specs.Releases.{ReleaseItems}
+use Rattle.shelf_io.specs.declared.shelf.Shelf.{Ghosts as ShelfGhosts}
+use Rattle.run_endings.specs.Endings.{Ending, Finishes, NewFile, Refuses, WritesItsPaths}
+use Rattle.run_endings.specs.Ends.{Ends}
+use Rattle.run_endings.specs.Outcome.{SinkSeen, status_if}
+use Rattle.run_endings.specs.PromiseProofs.{refuses_finishes, same_ending}
+use Rattle.run_endings.specs.Promises.{shelf_seen}
+use Rattle.run_endings.specs.declared.plan.Plan.{Plan}
+use Rattle.run_endings.specs.declared.status.Status.{Status}
+use Rattle.run_endings.specs.declared.status.Status.TheVariants.{BadWords, LoadRefused, ReadFault, WriteFault, Memory}
+use Rattle.run_endings.specs.declared.stop.Stop.{Stop}
+use Rattle.run_endings.specs.declared.stop.Stop.TheVariants as stops
+use Rattle.ucdshop_more_core.specs.Order.{ComesTo, NamesPath, PlansInOrder, ReadsInOrder}
+use Rattle.ucdshop_more_core.specs.Run.{Job, Ages, ages_ending, finished, folders_verdict, output_paths, ucdshop_more}
+
+-- ---- the paths of the files
+
+ages_paths : (output : List ℕ) (folders : List (List ℕ)) (verdict : Result (List ReleaseItems) (List ℕ)) (ending : Ending) → finished (ages_ending output) verdict ≡ Finishes ending
+    → map (λ (file : NewFile). file.path) ending.files ≡ output_paths (Ages output folders)
+ages_paths output folders (Ok releases) ending e =
+    subst (λ (it : Ending). map (λ (file : NewFile). file.path) it.files ≡ output_paths (Ages output folders))
+    (same_ending (finished (ages_ending output) (Ok releases)) (ages_ending output releases) ending refl e) refl
+ages_paths output folders (Err line) ending e = absurd (refuses_finishes (Refuses line) line ending refl e)
+
+pub writes_its_paths : WritesItsPaths ucdshop_more
+writes_its_paths (Ages output folders) seen ending e = ages_paths output folders (folders_verdict folders seen) ending e
+
+-- ---- the order of the reads
+
+no_read_fault : (done : Bool) → status_if done ≡ ReadFault → ⊥
+no_read_fault true e = cc
+no_read_fault false e = cc
+
+-- a run ends by a read that failed only where that was planned
+pub reads_in_order : {S : Type 0} (words : List (List ℕ)) (usage : List ℕ) (g : ShelfGhosts S) (start middle end : S) (sink : SinkSeen) (status : Status) (planned : Option (Result Plan Stop))
+    → Ends usage planned g middle end sink status → PlansInOrder words planned (shelf_seen g start middle) → status ≡ ReadFault → ReadsInOrder words (shelf_seen g start end) sink
+reads_in_order words usage g start middle end sink status None ends order fault = let is = ends.0 in absurd cc
+reads_in_order words usage g start middle end sink status (Some (Ok plan)) ends order fault = elim ends.0 [
+  | inl all ↦ absurd (no_read_fault plan.done (sym all.0 ∙ fault))
+  | inr stopped ↦ let is = stopped.0 in absurd cc
+]
+reads_in_order words usage g start middle end sink status (Some (Err (stops.Refused line))) ends order fault = let is = ends.0.0 in absurd cc
+reads_in_order words usage g start middle end sink status (Some (Err (stops.ReadFailed line))) ends order fault =
+    subst (λ (last : _). ReadsInOrder words (shelf_seen g start last) sink) (sym ends.1)
+    (record { job = order.0; formed = order.1; line = line; names = order.2; told = ends.0.1 })
+reads_in_order words usage g start middle end sink status (Some (Err stops.Memory)) ends order fault = let is = ends.0.0 in absurd cc

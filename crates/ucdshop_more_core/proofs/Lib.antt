@@ -1,0 +1,4 @@
+pub mod StepLemmas
+pub mod FolderLemmas
+pub mod ChainLemmas
+pub mod EndingLemmas

@@ -1,0 +1,11 @@
+-- The files that a run writes lie at paths of their own.
+--
+-- AgesHoldTheirBytes      once both files of `ages` are put, the path of each holds its bytes: neither takes the place of the other
+use Rattle.std.specs.Prelude.{◌≡◌, ℕ, List, All, Some}
+use Rattle.release_rows.specs.Releases.{ReleaseItems}
+use Rattle.run_endings.specs.Endings.{Contents, NewFile, after}
+use Rattle.ucdshop_more_core.specs.Run.{ages_ending}
+
+abbrev pub AgesHoldTheirBytes : Type 0
+AgesHoldTheirBytes = (output : List ℕ) (releases : List ReleaseItems) (holds : Contents)
+    → All (λ (file : NewFile). after (ages_ending output releases).files holds file.path ≡ Some file.bytes) (ages_ending output releases).files

@@ -1,0 +1,12 @@
+-- Where the files that this program writes lie below a folder.
+--
+-- ages_in folder           the path of the ages below a folder
+-- steps_in folder          the path of the steps from release to release below a folder
+use Rattle.std.specs.Prelude.{ℕ, List, codes}
+use Rattle.run_endings.specs.Paths.{path_in}
+
+abbrev pub ages_in : List ℕ → List ℕ
+ages_in folder = path_in folder (codes "DerivedAge.txt")
+
+abbrev pub steps_in : List ℕ → List ℕ
+steps_in folder = path_in folder (codes "steps.txt")

@@ -1,0 +1,30 @@
+-- The lines that a run prints, each ended by LF.
+--
+-- forms                    the forms of the words, in order
+-- barred texts             the texts, with a space, a bar and a space between two of them
+-- usage                    of words that have no listed form: it names the forms
+-- AgeCounts                how many releases there are, how many code points have an age, and how many breaks of policies all steps
+--                          have
+-- ages_summary counts      the line that says them
+use Rattle.std.specs.Prelude.{ℕ, List, [], ◌∷◌, ◌++◌, codes}
+use Rattle.std.specs.Fmt.{decimal}
+use Rattle.ucd_model.specs.DerivedText.{line_end}
+
+abbrev pub forms : List (List ℕ)
+forms = codes "ages OUT DATA1 .. DATAn" ∷ []
+
+abbrev pub barred : List (List ℕ) → List ℕ
+barred [] = []
+barred (text ∷ []) = text
+barred (text ∷ next ∷ later) = text ++ codes " | " ++ barred (next ∷ later)
+
+abbrev pub usage : List ℕ
+usage = codes "usage: ucdshop_more " ++ barred forms ++ line_end
+
+pub record AgeCounts : Type 0 where
+  pub releases : ℕ
+  pub points : ℕ
+  pub breaks : ℕ
+
+abbrev pub ages_summary : AgeCounts → List ℕ
+ages_summary counts = codes "ages: " ++ decimal counts.releases ++ codes " releases, " ++ decimal counts.points ++ codes " code points, " ++ decimal counts.breaks ++ codes " breaks" ++ line_end

@@ -1,0 +1,101 @@
+-- What a run is to do, by its words and by what the shelf holds.
+--
+-- Job                              what is asked for: Ages output folders, to write the ages of code points over the releases of these
+--                                  folders, in order, and what each step from a release to the next breaks, into another folder
+-- folder_limit                     the greatest number of folders
+-- ages_form arguments              what the words behind `ages` ask for: OUT, and one folder or more, up to the limit
+-- form words                       what the words ask for; None where they have no listed form
+-- needed job                       the paths that are read, in order
+--
+-- The verdict
+-- folders_verdict folders seen     the release in each of these folders, of which this was seen, folder after folder; or the line that
+--                                  refuses the first folder that is refused: by a file, or by a code point
+--
+-- What is written
+-- ages_file folder releases        the ages: their path below the folder, with their text
+-- steps_file folder releases       the steps: their path below the folder, with their text
+-- aged_count releases              how many code points have an age: the total that their text tells
+-- age_counts releases              what the summary counts
+-- ages_ending output releases      the ending of `ages` on these releases: something is broken where a step has a break
+-- output_paths job                 the paths of the files that are written, which the words alone give
+-- finished ending verdict          Finishes with the ending on what was judged; or Refuses with the line that refuses it
+-- expected_of job seen             what is expected of a job, by what was seen at the paths that it needs
+-- ucdshop_more                     this program
+use Rattle.std.specs.Prelude.{ℕ, ◌&&◌, List, [], ◌∷◌, length, drop, Option, Some, None, Result, Ok, Err, nat_le, nat_lt, if◌then◌else◌, codes}
+use Rattle.std.specs.List.{flat_map}
+use Rattle.std.specs.Str.{bytes_eq}
+use Rattle.release_rows.specs.Releases.{ReleaseItems}
+use Rattle.ucd_points.specs.Limits.{point_count}
+use Rattle.ucd_model.specs.Labels.{labelled}
+use Rattle.age_chain.specs.Ages.{age, age_label, age_text}
+use Rattle.run_endings.specs.Endings.{NewFile, Ending, Expected, Finishes, Program, Refuses, Seen}
+use Rattle.run_inputs.specs.Held.{source_held}
+use Rattle.run_inputs.specs.Paths.{sources_in}
+use Rattle.run_inputs.specs.Refusals.{folder_verdict}
+use Rattle.run_inputs.specs.Verdict.{and_then, release_items}
+use Rattle.ucdshop_more_core.specs.Paths.{ages_in, steps_in}
+use Rattle.ucdshop_more_core.specs.Printed.{AgeCounts, ages_summary, usage}
+use Rattle.ucdshop_more_core.specs.Steps.{breaks_in, steps_of, steps_text}
+
+-- ---- the words
+
+pub data Job : Type 0 where
+  Ages : (output : List ℕ) (folders : List (List ℕ)) → Job
+
+abbrev pub folder_limit : ℕ
+folder_limit = 16
+
+abbrev pub ages_form : List (List ℕ) → Option Job
+ages_form [] = None
+ages_form (output ∷ folders) = if nat_lt 0 (length folders) && nat_le (length folders) folder_limit then Some (Ages output folders) else None
+
+abbrev pub form : List (List ℕ) → Option Job
+form [] = None
+form (word ∷ arguments) = if bytes_eq word (codes "ages") then ages_form arguments else None
+
+-- ---- what is read
+
+abbrev pub needed : Job → List (List ℕ)
+needed (Ages output folders) = flat_map sources_in folders
+
+-- ---- the verdict
+
+-- a folder has nine files
+abbrev pub folders_verdict : List (List ℕ) → Seen → Result (List ReleaseItems) (List ℕ)
+folders_verdict [] seen = Ok []
+folders_verdict (folder ∷ later) seen =
+    and_then (folder_verdict folder (source_held seen 0)) (λ files. and_then (folders_verdict later (drop 9 seen)) (λ releases. Ok (release_items files ∷ releases)))
+
+-- ---- what is written
+
+abbrev pub ages_file : List ℕ → List ReleaseItems → NewFile
+ages_file folder releases = record { path = ages_in folder; bytes = age_text releases }
+
+abbrev pub steps_file : List ℕ → List ReleaseItems → NewFile
+steps_file folder releases = record { path = steps_in folder; bytes = steps_text (steps_of releases) }
+
+abbrev pub aged_count : List ReleaseItems → ℕ
+aged_count releases = labelled point_count (λ c. age_label (age releases c))
+
+abbrev pub age_counts : List ReleaseItems → AgeCounts
+age_counts releases = record { releases = length releases; points = aged_count releases; breaks = breaks_in (steps_of releases) }
+
+abbrev pub ages_ending : List ℕ → List ReleaseItems → Ending
+ages_ending output releases = record {
+  files = ages_file output releases ∷ steps_file output releases ∷ [];
+  summary = ages_summary (age_counts releases);
+  done = nat_lt 0 (breaks_in (steps_of releases));
+}
+
+abbrev pub output_paths : Job → List (List ℕ)
+output_paths (Ages output folders) = ages_in output ∷ steps_in output ∷ []
+
+abbrev pub finished : {A : Type 0} → (A → Ending) → Result A (List ℕ) → Expected
+finished ending (Ok value) = Finishes (ending value)
+finished ending (Err line) = Refuses line
+
+abbrev pub expected_of : Job → Seen → Expected
+expected_of (Ages output folders) seen = finished (ages_ending output) (folders_verdict folders seen)
+
+abbrev pub ucdshop_more : Program Job
+ucdshop_more = record { usage = usage; form = form; needed = needed; written = output_paths; expected = expected_of }

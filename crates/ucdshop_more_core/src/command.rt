@@ -1,0 +1,56 @@
+//! What the words of a run ask for.
+
+ghost use Rattle.std.specs.Prelude.{◌≡◌, ⊤};
+ghost use Rattle.std.specs.Option.{MatchOption};
+ghost use Rattle.ucdshop_more_core.specs.Commands.{AsksFor, IsListed, job_of};
+ghost use Rattle.ucdshop_more_core.specs.Run.{ages_form, form};
+
+use ucd_model::Text;
+
+/// The greatest number of folders of `ages`.
+const FOLDER_LIMIT: usize = 16;
+
+/// What the words of a run ask for.
+#[derive(Clone, Copy, Debug)]
+pub enum Command<'a> {
+    /// Write the ages of code points over the releases of the folders `folders`, in order, and what each step from a release
+    /// to the next breaks, into the folder `output`.
+    Ages {
+        output: &'a [u8],
+        /// From 1 to 16.
+        folders: &'a [Text],
+    },
+}
+
+/// What the words ask for, and `None` exactly where they have no listed form.
+pub fn command_of(words: &[Text]) -> Option<Command<'_>>
+    ensures form { AsksFor result (form words.now) }
+    ensures listed { MatchOption result ⊤ (λ command. IsListed (job_of command)) }
+{
+    let [word, arguments @ ..] = words else {
+        return None;
+    };
+    if word.as_slice() == b"ages".as_slice() {
+        ages_of(arguments)
+    } else {
+        None
+    }
+}
+
+/// `ages OUT DATA1 .. DATAn`, of the words behind `ages`.
+fn ages_of(arguments: &[Text]) -> Option<Command<'_>>
+    ensures form { AsksFor result (ages_form arguments.now) }
+    ensures listed { MatchOption result ⊤ (λ command. IsListed (job_of command)) }
+{
+    let [output, folders @ ..] = arguments else {
+        return None;
+    };
+    if 0 < folders.len() && folders.len() <= FOLDER_LIMIT {
+        Some(Command::Ages {
+            output: output.as_slice(),
+            folders,
+        })
+    } else {
+        None
+    }
+}

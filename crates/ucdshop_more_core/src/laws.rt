@@ -1,0 +1,8 @@
+//! The laws of what a run writes: each function here does nothing, and its contract is a law.
+
+ghost use Rattle.ucdshop_more_core.specs.OutputLaws.{AgesHoldTheirBytes};
+
+/// Once both files of `ages` are put, the path of each holds its bytes: neither takes the place of the other.
+pub fn ages_hold_their_bytes()
+    ensures { AgesHoldTheirBytes }
+{}

@@ -1,0 +1,86 @@
+//! All that a run does before it writes.
+
+ghost use Rattle.std.specs.Prelude.{◌≡◌, ◌≤◌, IfOk, length};
+ghost use Rattle.run_endings.specs.Endings.{Refuses, Sees};
+ghost use Rattle.run_endings.specs.Planning.{IsPlanOf, OnRefused, OnlyRead, UnreadAs};
+ghost use Rattle.run_endings.specs.Promises.{shelf_seen};
+ghost use Rattle.ucdshop_more_core.specs.Commands.{IsListed, job_of};
+ghost use Rattle.ucdshop_more_core.specs.Order.{ComesTo, NamesPath, OnUnread};
+ghost use Rattle.ucdshop_more_core.specs.Run.{Ages, expected_of, needed};
+
+use crate::chaining::chain_folders;
+use crate::command::Command;
+use crate::outputs::ages_plan;
+use run_endings::{Plan, Stop, make_room};
+use shelf_io::Shelf;
+use std::alloc::Global;
+use std::sync::ledger::Ledger;
+use ucd_model::{Steps, Text};
+
+/// Does all of a command that comes before the first write.
+///
+/// - `Refused(line)`: a file is absent, too long, or breaks a rule, or a code point breaks a rule of a valid release.
+/// - `ReadFailed(line)`: a file could not be read.
+/// - `Memory`: memory ran out.
+pub fn prepare<S: Shelf, L: Ledger>(
+    alloc: Global,
+    command: Command<'_>,
+    shelf: &mut S,
+    steps: &mut Steps<L>,
+) -> Result<Plan, Stop>
+    requires { IsListed (job_of command) }
+    ensures planned { IfOk result (λ plan. Sees S.tells (S.holds shelf.old) (needed (job_of command.entry)) (λ seen.
+        IsPlanOf plan (expected_of (job_of command.entry) seen))) }
+    ensures room { IfOk result (λ plan. length plan.outputs.items ≤ S.spare shelf.new) }
+    ensures refused { OnRefused result (λ line. Sees S.tells (S.holds shelf.old) (needed (job_of command.entry)) (λ seen.
+        expected_of (job_of command.entry) seen ≡ Refuses line)) }
+    ensures unread { UnreadAs result (needed (job_of command.entry)) (shelf_seen S.Shelf shelf.old shelf.new) }
+    ensures in_order { OnUnread result (NamesPath (ComesTo (job_of command.entry) S.tells (S.holds shelf.old)) (shelf_seen S.Shelf shelf.old shelf.new)) }
+    ensures only_read { OnlyRead (shelf_seen S.Shelf shelf.old shelf.new) }
+{
+    let plan = plan_of(alloc, command, shelf, steps)?;
+    make_room(shelf, &plan)?;
+    Ok(plan)
+}
+
+/// The same without room for the files.
+fn plan_of<S: Shelf, L: Ledger>(
+    alloc: Global,
+    command: Command<'_>,
+    shelf: &mut S,
+    steps: &mut Steps<L>,
+) -> Result<Plan, Stop>
+    requires { IsListed (job_of command) }
+    ensures planned { IfOk result (λ plan. Sees S.tells (S.holds shelf.old) (needed (job_of command.entry)) (λ seen.
+        IsPlanOf plan (expected_of (job_of command.entry) seen))) }
+    ensures refused { OnRefused result (λ line. Sees S.tells (S.holds shelf.old) (needed (job_of command.entry)) (λ seen.
+        expected_of (job_of command.entry) seen ≡ Refuses line)) }
+    ensures unread { UnreadAs result (needed (job_of command.entry)) (shelf_seen S.Shelf shelf.old shelf.new) }
+    ensures in_order { OnUnread result (NamesPath (ComesTo (job_of command.entry) S.tells (S.holds shelf.old)) (shelf_seen S.Shelf shelf.old shelf.new)) }
+    ensures only_read { OnlyRead (shelf_seen S.Shelf shelf.old shelf.new) }
+{
+    match command {
+        Command::Ages { output, folders } => plan_ages(alloc, output, folders, shelf, steps),
+    }
+}
+
+/// The same of `ages`.
+fn plan_ages<S: Shelf, L: Ledger>(
+    alloc: Global,
+    output: &[u8],
+    folders: &[Text],
+    shelf: &mut S,
+    steps: &mut Steps<L>,
+) -> Result<Plan, Stop>
+    requires few { length folders.now ≤ 16 }
+    ensures planned { IfOk result (λ plan. Sees S.tells (S.holds shelf.old) (needed (Ages output.now folders.now)) (λ seen.
+        IsPlanOf plan (expected_of (Ages output.now folders.now) seen))) }
+    ensures refused { OnRefused result (λ line. Sees S.tells (S.holds shelf.old) (needed (Ages output.now folders.now)) (λ seen.
+        expected_of (Ages output.now folders.now) seen ≡ Refuses line)) }
+    ensures unread { UnreadAs result (needed (Ages output.now folders.now)) (shelf_seen S.Shelf shelf.old shelf.new) }
+    ensures in_order { OnUnread result (NamesPath (ComesTo (Ages output.now folders.now) S.tells (S.holds shelf.old)) (shelf_seen S.Shelf shelf.old shelf.new)) }
+    ensures only_read { OnlyRead (shelf_seen S.Shelf shelf.old shelf.new) }
+{
+    let chained = chain_folders(alloc, folders, shelf, steps)?;
+    Ok(ages_plan(alloc, output, &chained)?)
+}

@@ -1,0 +1,39 @@
+//! The lines that a run prints.
+
+ghost use Rattle.std.specs.Prelude.{◌≡◌, IfOk};
+ghost use Rattle.ucdshop_more_core.specs.Printed.{ages_summary};
+
+use std::alloc::Global;
+use ucd_lines::put_decimal;
+use ucd_model::{Memory, Text};
+
+/// The line for words that have no listed form.
+pub const USAGE: &[u8] = b"usage: ucdshop_more ages OUT DATA1 .. DATAn\n";
+
+/// What a run of `ages` counts for its summary.
+#[derive(Clone, Copy, Debug, PartialEq, Eq)]
+pub struct AgeCounts {
+    /// How many releases there are.
+    pub releases: usize,
+    /// How many code points have an age.
+    pub points: usize,
+    /// How many breaks of policies all steps have.
+    pub breaks: usize,
+}
+
+/// The line of a run of `ages` that wrote all files.
+///
+/// - `Memory`: memory ran out.
+pub fn ages_summary(alloc: Global, counts: AgeCounts) -> Result<Text, Memory>
+    ensures { IfOk result (λ text. text ≡ ages_summary (record { releases = counts.releases; points = counts.points; breaks = counts.breaks })) }
+{
+    let mut text = Text::new(alloc);
+    text.append(b"ages: ")?;
+    put_decimal(alloc, counts.releases, &mut text)?;
+    text.append(b" releases, ")?;
+    put_decimal(alloc, counts.points, &mut text)?;
+    text.append(b" code points, ")?;
+    put_decimal(alloc, counts.breaks, &mut text)?;
+    text.append(b" breaks\n")?;
+    Ok(text)
+}

@@ -22,7 +22,7 @@ PAGES := $(wildcard *.1)
 # those that work on releases and runs; contracts works on the sources, which are not installed
 TOOLS := $(sort $(filter-out contracts,$(patsubst tools/%,%,$(shell find tools -maxdepth 1 -type f -perm -u+x))))
 # the scripts that work on real releases, not those that try this repository
-COMPARISONS = compare sets step
+COMPARISONS = ages compare sets step
 READ_FIRST = README.md CHANGELOG.md CONTRIBUTING.md VERSION
 
 root = $(DESTDIR)$(PREFIX)
@@ -58,6 +58,9 @@ install:
 	install -m 644 $(PAGES) "$(man)"
 	install -m 644 completion/ucdshop.bash "$(completions)/ucdshop"
 	install -m 644 completion/_ucdshop "$(functions)"
+	@set -e; for program in $(PROGRAMS); do \
+	    name=$${program#*:}; [ "$$name" = ucdshop ] || ln -sf ucdshop "$(completions)/$$name"; \
+	done
 	install -m 644 $(READ_FIRST) "$(documents)"
 	install -m 644 docs/*.md "$(documents)/docs"
 	@set -e; find examples -type d | while read -r folder; do install -d -m 755 "$(documents)/$$folder"; done; \
@@ -71,10 +74,10 @@ install:
 
 # Folders that others use too stay, even if they are empty.
 uninstall:
-	@set -e; for program in $(PROGRAMS); do rm -f "$(bin)/$${program#*:}"; done
+	@set -e; for program in $(PROGRAMS); do rm -f "$(bin)/$${program#*:}" "$(completions)/$${program#*:}"; done
 	@set -e; for tool in $(TOOLS); do rm -f "$(bin)/ucdshop-$$tool"; done
 	@set -e; for page in $(PAGES); do rm -f "$(man)/$$page"; done
-	rm -f "$(completions)/ucdshop" "$(functions)/_ucdshop"
+	rm -f "$(functions)/_ucdshop"
 	rm -rf "$(documents)" "$(shared)"
 
 dist:

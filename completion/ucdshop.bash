@@ -1,9 +1,12 @@
-# Completion in bash for ucdshop, installed or in its checkout: commands, then the folders and files that each of them takes.
+# Completion in bash for ucdshop and ucdshop_more, installed or in their checkout: commands, then the folders and files that each of them
+# takes.
 
 _ucdshop() {
     local word=${COMP_WORDS[COMP_CWORD]} place=$COMP_CWORD commands='derive apply make' kind
+    [ "${COMP_WORDS[0]##*/}" != ucdshop_more ] || commands=ages
     # only the launcher, beside which the crates lie, has more
     if [ "$place" -eq 1 ] && [ -e "${COMP_WORDS[0]%/*}/crates.txt" ]; then
+        [ "$commands" = ages ] || commands+=' ages'
         commands+=' --help --version --build --unproved explain'
     fi
     # after --unproved stands a command with its arguments
@@ -12,7 +15,7 @@ _ucdshop() {
     fi
     case ${COMP_WORDS[COMP_CWORD - place + 1]}:$place in
         *:1) mapfile -t COMPREPLY < <(compgen -W "$commands" -- "$word"); return ;;
-        derive:[23] | apply:[245] | make:3 | explain:3) kind=-d ;;
+        derive:[23] | apply:[245] | make:3 | explain:3 | ages:*) kind=-d ;;
         apply:3 | explain:4) kind=-f ;;
         *) COMPREPLY=(); return ;;
     esac
@@ -20,4 +23,4 @@ _ucdshop() {
     compopt -o filenames 2>/dev/null
     mapfile -t COMPREPLY < <(compgen "$kind" -- "$word")
 }
-complete -F _ucdshop ucdshop
+complete -F _ucdshop ucdshop ucdshop_more

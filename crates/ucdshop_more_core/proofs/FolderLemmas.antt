@@ -3,13 +3,13 @@
 -- behind releases verdict  these releases, and behind them those of the verdict; or its refusal
 -- ReadSoFar tells holds before releases   what was seen of the folders before, none of which is refused, gives these releases, whatever
 --                          folders follow and whatever is seen of them
-use Rattle.std.proofs.Common.{◌≡◌, ℕ, suc, zero, ◌+◌, Bool, IsTrue, List, [], ◌∷◌, ◌++◌, length, map, drop, Option, Some, None, Result, Ok, Err, refl, sym, ap, subst, ◌∙◌, arith, append_assoc}
+use Rattle.std.proofs.Common.{◌≡◌, ℕ, suc, zero, ◌+◌, ◌<◌, Bool, IsTrue, List, [], ◌∷◌, ◌++◌, length, map, drop, take, get_or, Option, Some, None, Result, Ok, Err, refl, sym, ap, subst, ◌∙◌, arith, append_assoc}
 use mathlib.Core.Path.{fun_ext}
 use Rattle.std.specs.Prelude.{slice_get}
 use Rattle.std.specs.List.{flat_map}
 use Rattle.std.proofs.Math.Seq.{drop-append_seam}
 use Rattle.std.proofs.lemmas.Grind.{flat_map-append}
-use Rattle.std.proofs.lemmas.List.{append-nil, get_or_append_left, length-append, length-map, map-append}
+use Rattle.std.proofs.lemmas.List.{append-nil, drop_more, get_or_append_left, length-append, length-map, map-append, take-append-drop}
 use Rattle.ucd_points.specs.SourceFiles.{file_place, file_place_small}
 use Rattle.ucd_points.specs.declared.files.SourceFile.{SourceFile}
 use Rattle.release_rows.specs.FileItems.{FileItem}
@@ -21,8 +21,9 @@ use Rattle.run_inputs.specs.Held.{source_held}
 use Rattle.run_inputs.specs.Paths.{sources_in}
 use Rattle.run_inputs.specs.Refusals.{folder_verdict}
 use Rattle.run_inputs.specs.Verdict.{and_then, release_items}
-use Rattle.ucdshop_more_core.specs.Chaining.{AreFine, AreRefused, IsRefused, OpensAs, folders_paths}
+use Rattle.ucdshop_more_core.specs.Chaining.{AreChained, AreFine, AreRefused, Follows, IsRefused, OpensAs, folders_paths}
 use Rattle.ucdshop_more_core.specs.Run.{folders_verdict}
+use Rattle.ucdshop_more_core.specs.declared.chaining.Chained.{Chained}
 
 -- ---- what was seen of a folder, in front of what was seen of others
 
@@ -60,6 +61,7 @@ behind releases verdict = and_then verdict (λ later. Ok (releases ++ later))
 pub record ReadSoFar (tells : Bool) (holds : Contents) (before : List (List ℕ)) (releases : List ReleaseItems) : Type 0 where
   pub seen : Seen
   pub is : IsSeen tells holds (folders_paths before) seen
+  pub count : length releases ≡ length before
   pub verdict : (more : List (List ℕ)) (rest : Seen) → folders_verdict (before ++ more) (seen ++ rest) ≡ behind releases (folders_verdict more rest)
 
 behind_none : (verdict : Result (List ReleaseItems) (List ℕ)) → verdict ≡ behind [] verdict
@@ -75,6 +77,7 @@ pub nothing_read : (tells : Bool) (holds : Contents) → ReadSoFar tells holds [
 nothing_read tells holds = record {
   seen = [];
   is = record { each = refl; held = λ told. refl };
+  count = refl;
   verdict = λ more rest. behind_none (folders_verdict more rest);
 }
 
@@ -101,6 +104,12 @@ module _ (tells : Bool) (holds : Contents) (before : List (List ℕ)) (releases 
         ),
       )
 
+  -- all folders are read
+  pub are_chained : (folders : List (List ℕ)) → before ≡ folders → (chained : Chained) → Follows chained releases → AreChained tells holds folders chained
+  unfolding are_fine
+  are_chained folders all chained follows =
+      subst (λ (fs : List (List ℕ)). AreChained tells holds fs chained) all (are_fine.0, are_fine.1, (are_fine.2.0, are_fine.2.1, follows))
+
   module _ (now : Contents) (folder : List ℕ) (same : IsTrue tells → SameContents holds now) where
     with_next : (more : List (List ℕ)) (here rest : Seen) → length here ≡ 9
         → folders_verdict (before ++ folder ∷ more) (far.seen ++ (here ++ rest)) ≡ behind releases (and_then (folder_verdict folder (source_held here 0)) (λ files. and_then (folders_verdict more rest) (λ later. Ok (release_items files ∷ later))))
@@ -114,6 +123,7 @@ module _ (tells : Bool) (holds : Contents) (before : List (List ℕ)) (releases 
         record {
           seen = far.seen ++ here;
           is = subst (λ (paths : List (List ℕ)). IsSeen tells holds paths (far.seen ++ here)) (paths_with before folder) (seen_both tells holds (folders_paths before) (sources_in folder) far.seen here far.is sees.1);
+          count = omega (arith, far.count, length-append releases (bench ∷ []), length-append before (folder ∷ []));
           verdict = λ more rest.
               ap (λ (folders : List (List ℕ)). folders_verdict folders ((far.seen ++ here) ++ rest)) (append_assoc before (folder ∷ []) more)
               ∙ ap (folders_verdict (before ++ folder ∷ more)) (append_assoc far.seen here rest)
@@ -146,8 +156,16 @@ slice_get_left (y ∷ xs) ys zero x e = e
 slice_get_left (y ∷ xs) ys (suc i) x e = slice_get_left xs ys i x e
 
 slice_get_behind : {A : Type 0} (xs ys : List A) (i : ℕ) → slice_get (xs ++ ys) (length xs + i) ≡ slice_get ys i
-slice_get_behind [] ys i = refl
-slice_get_behind (x ∷ xs) ys i = slice_get_behind xs ys i
+slice_get_behind [] ys i = ap (slice_get ys) (omega arith)
+slice_get_behind (x ∷ xs) ys i =
+    let place : length (x ∷ xs) + i ≡ suc (length xs + i) = omega arith in
+    ap (slice_get (x ∷ (xs ++ ys))) place ∙ slice_get_behind xs ys i
+
+-- the folder at a place, between those before and those behind it
+pub folders_here : (folders : List (List ℕ)) (at : ℕ) (item folder : List ℕ) → at < length folders → item ≡ get_or folders at item → folder ≡ item → folders ≡ take at folders ++ folder ∷ drop (at + 1) folders
+folders_here folders at item folder inside is same =
+    sym (take-append-drop at folders)
+    ∙ ap (λ (rest : List (List ℕ)). take at folders ++ rest) (drop_more folders at item inside ∙ ap (λ (f : List ℕ). f ∷ drop (at + 1) folders) (sym is ∙ sym same))
 
 pub path_among : (before : List (List ℕ)) (folder : List ℕ) (later : List (List ℕ)) (place : ℕ) (path : List ℕ) → slice_get (sources_in folder) place ≡ Some path
     → slice_get (folders_paths (before ++ folder ∷ later)) (length (folders_paths before) + place) ≡ Some path

@@ -2,3 +2,6 @@ pub mod StepLemmas
 pub mod FolderLemmas
 pub mod ChainLemmas
 pub mod EndingLemmas
+pub mod ReadingLemmas
+pub mod StoppingLemmas
+pub mod PlanningLemmas

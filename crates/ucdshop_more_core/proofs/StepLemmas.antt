@@ -1,7 +1,7 @@
 -- One more release, and the step that leads to it.
 --
 -- step_to last new         the breaks of the step from the last release to a new one; no step where there is no release
-use Rattle.std.proofs.Common.{◌≡◌, ℕ, ◌+◌, List, [], ◌∷◌, ◌++◌, length, Option, Some, None, refl, ap, sym, ◌∙◌, arith, append_assoc}
+use Rattle.std.proofs.Common.{◌≡◌, ℕ, suc, ◌+◌, List, [], ◌∷◌, ◌++◌, length, Option, Some, None, refl, ap, sym, ◌∙◌, arith, append_assoc}
 use Rattle.std.proofs.lemmas.List.{append-nil}
 use Rattle.release_rows.specs.Releases.{ReleaseItems}
 use Rattle.age_chain.specs.Ages.{last_of}
@@ -21,7 +21,7 @@ steps_more (old ∷ next ∷ later) new = ap (λ (steps : List (List Break)). re
 -- a step leads to each release but the first
 pub steps_count : (release : ReleaseItems) (later : List ReleaseItems) → length (steps_of (release ∷ later)) ≡ length later
 steps_count release [] = refl
-steps_count release (next ∷ later) = ap (λ (n : ℕ). n + 1) (steps_count next later)
+steps_count release (next ∷ later) = ap suc (steps_count next later)
 
 pub text_more : (k : ℕ) (steps : List (List Break)) (breaks : List Break) → steps_from k (steps ++ breaks ∷ []) ≡ steps_from k steps ++ step_text (k + length steps) breaks
 text_more k [] breaks = append-nil (step_text k breaks) ∙ ap (λ (n : ℕ). step_text n breaks) (omega arith)

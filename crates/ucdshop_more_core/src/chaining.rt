@@ -45,7 +45,7 @@ impl Chained {
 
     /// Puts the release of a bench behind the others, and if it is not the first, the step that leads to it.
     ///
-    /// - `Memory`: memory ran out, or there are 2^64 breaks or more.
+    /// - `Memory`: memory ran out, or there are 2^64 breaks or more. Nothing is told of the chain then.
     pub fn add(&mut self, alloc: Global, bench: Bench) -> Result<(), Memory>
         requires room { self.old.chain.count < 255 }
         ensures follows { OnOk result ((releases : List ReleaseItems) → Follows self.old releases → Follows self.new (releases ++ bench ∷ [])) }

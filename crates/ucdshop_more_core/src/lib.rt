@@ -11,9 +11,5 @@ mod program;
 mod reading;
 mod step_text;
 
-pub use chaining::{Chained, chain_folders};
-pub use command::Command;
-pub use outputs::ages_plan;
 pub use program::run_more;
-pub use reading::read_folder;
-pub use run_endings::{OUT_OF_MEMORY, Output, Plan, Status, Stop};
+pub use run_endings::{OUT_OF_MEMORY, Status};

@@ -1,5 +1,5 @@
 -- One more release in a chain, and the step that leads to it.
-use Rattle.std.proofs.Common.{◌≡◌, ℕ, ◌+◌, ◌<◌, List, [], ◌∷◌, ◌++◌, length, Option, Some, None, refl, sym, ap, ◌∙◌, arith}
+use Rattle.std.proofs.Common.{◌≡◌, ℕ, ◌+◌, ◌<◌, List, [], ◌∷◌, ◌++◌, length, Option, Some, refl, sym, ap, ◌∙◌, arith}
 use Rattle.release_rows.specs.Releases.{ReleaseItems}
 use Rattle.age_chain.specs.Ages.{StandsFor, breaks_since, last_of}
 use Rattle.stability_policies.specs.Reports.{report}

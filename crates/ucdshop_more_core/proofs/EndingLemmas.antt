@@ -9,11 +9,11 @@ use Rattle.run_endings.specs.PromiseProofs.{refuses_finishes, same_ending}
 use Rattle.run_endings.specs.Promises.{shelf_seen}
 use Rattle.run_endings.specs.declared.plan.Plan.{Plan}
 use Rattle.run_endings.specs.declared.status.Status.{Status}
-use Rattle.run_endings.specs.declared.status.Status.TheVariants.{BadWords, LoadRefused, ReadFault, WriteFault, Memory}
+use Rattle.run_endings.specs.declared.status.Status.TheVariants.{ReadFault}
 use Rattle.run_endings.specs.declared.stop.Stop.{Stop}
 use Rattle.run_endings.specs.declared.stop.Stop.TheVariants as stops
-use Rattle.ucdshop_more_core.specs.Order.{ComesTo, NamesPath, PlansInOrder, ReadsInOrder}
-use Rattle.ucdshop_more_core.specs.Run.{Job, Ages, ages_ending, finished, folders_verdict, output_paths, ucdshop_more}
+use Rattle.ucdshop_more_core.specs.Order.{PlansInOrder, ReadsInOrder}
+use Rattle.ucdshop_more_core.specs.Run.{Ages, ages_ending, finished, folders_verdict, output_paths, ucdshop_more}
 
 -- ---- the paths of the files
 

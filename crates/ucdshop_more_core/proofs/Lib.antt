@@ -4,4 +4,3 @@ pub mod ChainLemmas
 pub mod EndingLemmas
 pub mod ReadingLemmas
 pub mod StoppingLemmas
-pub mod PlanningLemmas

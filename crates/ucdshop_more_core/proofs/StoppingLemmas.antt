@@ -1,16 +1,15 @@
 -- What a run of `ages` has seen when it stops at a folder, behind folders that are not refused.
-use Rattle.std.proofs.Common.{◌≡◌, ℕ, ◌+◌, Bool, IsTrue, List, ◌∷◌, ◌++◌, length, Some, Result, Ok, Err, sym, ap, subst, ◌∙◌, arith}
+use Rattle.std.proofs.Common.{◌≡◌, ℕ, ◌+◌, List, ◌∷◌, ◌++◌, length, Some, Err, sym, subst, ◌∙◌, arith}
 use Rattle.std.specs.Prelude.{slice_get}
 use Rattle.release_rows.specs.Releases.{ReleaseItems}
 use Rattle.shelf_io.specs.declared.shelf.Shelf.{Ghosts as ShelfGhosts}
-use Rattle.run_endings.specs.Endings.{Contents}
 use Rattle.run_endings.specs.Outcome.{LastFailedStays}
-use Rattle.run_endings.specs.Planning.{NamesUnread, OnRefused, OnlyRead, UnreadAs}
+use Rattle.run_endings.specs.Planning.{OnRefused, OnlyRead, UnreadAs}
 use Rattle.run_endings.specs.Promises.{shelf_seen}
 use Rattle.run_endings.specs.declared.stop.Stop.{Stop}
 use Rattle.run_endings.specs.declared.stop.Stop.TheVariants.{Refused, ReadFailed, Memory}
 use Rattle.run_inputs.specs.Paths.{sources_in}
-use Rattle.ucdshop_more_core.specs.Chaining.{AreFine, AreRefused, IsRefused, folders_paths}
+use Rattle.ucdshop_more_core.specs.Chaining.{AreRefused, IsRefused, folders_paths}
 use Rattle.ucdshop_more_core.specs.Order.{IsReached, NamesPath, OnUnread}
 use Rattle.ucdshop_more_core.specs.declared.chaining.Chained.{Chained}
 use Rattle.ucdshop_more_core.proofs.FolderLemmas.{ReadSoFar, are_fine, path_among, refused_next}

@@ -7,7 +7,7 @@
 -- AreRefused tells holds folders line      by what was seen the first folder that is refused has this line
 -- OpensAs folder bench tells holds         by what was seen the folder is not refused, and the bench is over its release
 -- IsRefused folder line tells holds        by what was seen the folder is refused by this line
-use Rattle.std.specs.Prelude.{◌≡◌, ℕ, Bool, List, Result, Ok, Err}
+use Rattle.std.specs.Prelude.{◌≡◌, ℕ, Bool, List, Ok, Err}
 use Rattle.std.specs.List.{flat_map}
 use Rattle.release_rows.specs.Releases.{ReleaseItems}
 use Rattle.age_chain.specs.Ages.{StandsFor}
@@ -15,7 +15,6 @@ use Rattle.run_endings.specs.Endings.{Contents, Sees}
 use Rattle.run_inputs.specs.Held.{source_held}
 use Rattle.run_inputs.specs.Paths.{sources_in}
 use Rattle.run_inputs.specs.Refusals.{folder_verdict}
-use Rattle.run_inputs.specs.Verdict.{release_items}
 use Rattle.ucdshop_more_core.specs.Run.{folders_verdict}
 use Rattle.ucdshop_more_core.specs.Steps.{breaks_in, steps_of, steps_text}
 use Rattle.ucdshop_more_core.specs.declared.chaining.Chained.{Chained}

@@ -1,8 +1,8 @@
-use Rattle.std.proofs.Common.{◌≡◌, ℕ, ◌+◌, ◌++◌, ◌∷◌, [], List, length, take, drop, refl, ap, subst, sym, ◌∙◌, arith}
-use Rattle.std.proofs.lemmas.List.{drop_more, take_all, take_more, take-append-drop}
+use Rattle.std.proofs.Common.{◌≡◌, ℕ, ◌+◌, ◌++◌, ◌∷◌, [], List, take, drop, refl, ap, subst, sym, ◌∙◌, arith}
+use Rattle.std.proofs.lemmas.List.{take_all, take_more}
 use Rattle.std.proofs.lemmas.Result.{err_from_is_err_and}
 use Rattle.release_rows.specs.Releases.{ReleaseItems}
-use Rattle.ucdshop_more_core.specs.Chaining.{AreChained, OpensAs}
+use Rattle.ucdshop_more_core.specs.Chaining.{OpensAs}
 use Rattle.ucdshop_more_core.proofs.FolderLemmas.{ReadSoFar, are_chained, folders_here, nothing_read, read_next}
 use Rattle.ucdshop_more_core.proofs.StoppingLemmas.{only_then, stays_then, stops_in_order, stops_refused, stops_unread}
 use Rattle.ucdshop_more_core.proofs.chaining.chain_folders.Goals as goal

@@ -1,4 +1,4 @@
-use Rattle.std.proofs.Common.{Some, refl, ap, sym, ◌∙◌}
+use Rattle.std.proofs.Common.{refl, ap, sym, ◌∙◌}
 use Rattle.run_endings.specs.PreparedProofs.{prepares}
 use Rattle.ucdshop_more_core.specs.Commands.{job_of}
 use Rattle.ucdshop_more_core.specs.Run.{form, ucdshop_more}

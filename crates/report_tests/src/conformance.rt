@@ -105,15 +105,22 @@ const TESTS: [(&[u8], &[Missed]); 7] = [
     ),
 ];
 
+/// Whether this is missed of the cases of a text.
+fn are_missed(
+    alloc: Global,
+    bench: &Bench,
+    text: &[u8],
+    expected: &[Missed],
+) -> Result<bool, CaseStop> {
+    let cases = cases_in(alloc, text)?;
+    Ok(misses_are(alloc, bench, &cases, expected)?)
+}
+
 #[test]
 fn misses_of_lines_and_of_code_points(rt: HostRuntime) -> Result<(), Fail> {
     let bench = boxed(rt.alloc(), &data(GRAVE))?;
     for (text, expected) in &TESTS {
-        let cases = cases_in(rt.alloc(), text)?;
-        assert!(rt;
-            misses_are(rt.alloc(), &bench, &cases, expected)?,
-            "{text:?}"
-        );
+        assert!(rt; are_missed(rt.alloc(), &bench, text, expected)?, "{text:?}");
     }
     Ok(())
 }

@@ -11,7 +11,6 @@ use Rattle.run_endings.specs.declared.stop.Stop.TheVariants.{Refused, ReadFailed
 use Rattle.run_inputs.specs.Paths.{sources_in}
 use Rattle.ucdshop_more_core.specs.Chaining.{AreRefused, IsRefused, folders_paths}
 use Rattle.ucdshop_more_core.specs.Order.{IsReached, NamesPath, OnUnread}
-use Rattle.ucdshop_more_core.specs.declared.chaining.Chained.{Chained}
 use Rattle.ucdshop_more_core.proofs.FolderLemmas.{ReadSoFar, are_fine, path_among, refused_next}
 
 -- ---- a shelf that is read again
@@ -32,14 +31,14 @@ module _ {S : Type 0} (g : ShelfGhosts S) (start middle end : S) where
 module _ {S : Type 0} (g : ShelfGhosts S) (start middle end : S) (folders before : List (List ℕ)) (folder : List ℕ) (later : List (List ℕ)) (whole : folders ≡ before ++ folder ∷ later)
     (releases : List ReleaseItems) (far : ReadSoFar g.tells (g.holds start) before releases) (only : OnlyRead (shelf_seen g start middle)) (stays : LastFailedStays (shelf_seen g start middle)) where
   pub stops_refused : (stop : Stop) → OnRefused {A = ReleaseItems} (Err stop) (λ line. IsRefused folder line g.tells (g.holds middle))
-      → OnRefused {A = Chained} (Err stop) (λ line. AreRefused g.tells (g.holds start) folders line)
+      → OnRefused {A = Unit {0}} (Err stop) (λ line. AreRefused g.tells (g.holds start) folders line)
   stops_refused (Refused line) refused =
       subst (λ (fs : List (List ℕ)). AreRefused g.tells (g.holds start) fs line) (sym whole)
       (refused_next g.tells (g.holds start) before releases far (g.holds middle) folder only.held_stays line later refused)
   stops_refused (ReadFailed line) refused = tt
   stops_refused Memory refused = tt
 
-  pub stops_unread : (stop : Stop) → UnreadAs {A = ReleaseItems} (Err stop) (sources_in folder) (shelf_seen g middle end) → UnreadAs {A = Chained} (Err stop) (folders_paths folders) (shelf_seen g start end)
+  pub stops_unread : (stop : Stop) → UnreadAs {A = ReleaseItems} (Err stop) (sources_in folder) (shelf_seen g middle end) → UnreadAs {A = Unit {0}} (Err stop) (folders_paths folders) (shelf_seen g start end)
   stops_unread (Refused line) unread = stays_then g start middle end stays unread
   stops_unread (ReadFailed line) unread =
       let names = unread.1 in (
@@ -56,7 +55,7 @@ module _ {S : Type 0} (g : ShelfGhosts S) (start middle end : S) (folders before
   stops_unread Memory unread = tt
 
   pub stops_in_order : (stop : Stop) → UnreadAs {A = ReleaseItems} (Err stop) (sources_in folder) (shelf_seen g middle end)
-      → OnUnread {A = Chained} (Err stop) (λ line. NamesPath (IsReached g.tells (g.holds start) folders) (shelf_seen g start end) line)
+      → OnUnread {A = Unit {0}} (Err stop) (λ line. NamesPath (IsReached g.tells (g.holds start) folders) (shelf_seen g start end) line)
   stops_in_order (Refused line) unread = tt
   stops_in_order (ReadFailed line) unread =
       let names = unread.1 in

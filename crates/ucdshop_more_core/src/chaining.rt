@@ -72,29 +72,32 @@ fn sum(a: usize, b: usize) -> Result<usize, Memory>
     }
 }
 
-/// The chain of the releases in these folders. Each is read, judged and put behind the others before a file of the next one is
-/// read, so that at most two are held.
+/// Chains the releases in these folders, where none is chained yet. Each is read, judged and put behind the others before a
+/// file of the next one is read, so that at most two are held.
 ///
 /// - `Refused(line)`: a file or a code point of a folder breaks a rule. The first such folder is refused.
 /// - `ReadFailed(line)`: a file could not be read.
 /// - `Memory`: memory ran out.
+///
+/// After each nothing is told of the chain.
 pub fn chain_folders<S: Shelf, L: Ledger>(
     alloc: Global,
     folders: &[Text],
     shelf: &mut S,
     steps: &mut Steps<L>,
-) -> Result<Chained, Stop>
+    chained: &mut Chained,
+) -> Result<(), Stop>
     requires few { length folders.now ≤ 16 }
-    ensures chained { IfOk result (λ chained. AreChained S.tells (S.holds shelf.old) folders.now chained) }
+    requires none { Follows chained.old [] }
+    ensures chained { OnOk result (AreChained S.tells (S.holds shelf.old) folders.now chained.new) }
     ensures refused { OnRefused result (λ line. AreRefused S.tells (S.holds shelf.old) folders.now line) }
     ensures unread { UnreadAs result (folders_paths folders.now) (shelf_seen S.Shelf shelf.old shelf.new) }
     ensures in_order { OnUnread result (λ line. NamesPath (IsReached S.tells (S.holds shelf.old) folders.now) (shelf_seen S.Shelf shelf.old shelf.new) line) }
     ensures only_read { OnlyRead (shelf_seen S.Shelf shelf.old shelf.new) }
 {
-    let mut chained = Chained::new(alloc)?;
     'folders: for folder in folders {
         let bench = read_folder(alloc, folder.as_slice(), shelf, steps)?;
         chained.add(alloc, bench)?;
     }
-    Ok(chained)
+    Ok(())
 }

@@ -1,14 +1,15 @@
 //! All that a run does before it writes.
 
-ghost use Rattle.std.specs.Prelude.{◌≡◌, ◌≤◌, IfOk, length};
+ghost use Rattle.std.specs.Prelude.{◌≡◌, ◌≤◌, [], IfOk, length};
 ghost use Rattle.run_endings.specs.Endings.{Refuses, Sees};
 ghost use Rattle.run_endings.specs.Planning.{IsPlanOf, OnRefused, OnlyRead, UnreadAs};
 ghost use Rattle.run_endings.specs.Promises.{shelf_seen};
+ghost use Rattle.ucdshop_more_core.specs.Chaining.{Follows};
 ghost use Rattle.ucdshop_more_core.specs.Commands.{IsListed, job_of};
 ghost use Rattle.ucdshop_more_core.specs.Order.{ComesTo, NamesPath, OnUnread};
 ghost use Rattle.ucdshop_more_core.specs.Run.{Ages, expected_of, needed};
 
-use crate::chaining::chain_folders;
+use crate::chaining::{Chained, chain_folders};
 use crate::command::Command;
 use crate::outputs::ages_plan;
 use run_endings::{Plan, Stop, make_room};
@@ -81,6 +82,29 @@ fn plan_ages<S: Shelf, L: Ledger>(
     ensures in_order { OnUnread result (NamesPath (ComesTo (Ages output.now folders.now) S.tells (S.holds shelf.old)) (shelf_seen S.Shelf shelf.old shelf.new)) }
     ensures only_read { OnlyRead (shelf_seen S.Shelf shelf.old shelf.new) }
 {
-    let chained = chain_folders(alloc, folders, shelf, steps)?;
-    Ok(ages_plan(alloc, output, &chained)?)
+    let mut chained = Chained::new(alloc)?;
+    plan_chained(alloc, output, folders, shelf, steps, &mut chained)
+}
+
+/// The same, where the releases are chained here.
+fn plan_chained<S: Shelf, L: Ledger>(
+    alloc: Global,
+    output: &[u8],
+    folders: &[Text],
+    shelf: &mut S,
+    steps: &mut Steps<L>,
+    chained: &mut Chained,
+) -> Result<Plan, Stop>
+    requires few { length folders.now ≤ 16 }
+    requires none { Follows chained.old [] }
+    ensures planned { IfOk result (λ plan. Sees S.tells (S.holds shelf.old) (needed (Ages output.now folders.now)) (λ seen.
+        IsPlanOf plan (expected_of (Ages output.now folders.now) seen))) }
+    ensures refused { OnRefused result (λ line. Sees S.tells (S.holds shelf.old) (needed (Ages output.now folders.now)) (λ seen.
+        expected_of (Ages output.now folders.now) seen ≡ Refuses line)) }
+    ensures unread { UnreadAs result (needed (Ages output.now folders.now)) (shelf_seen S.Shelf shelf.old shelf.new) }
+    ensures in_order { OnUnread result (NamesPath (ComesTo (Ages output.now folders.now) S.tells (S.holds shelf.old)) (shelf_seen S.Shelf shelf.old shelf.new)) }
+    ensures only_read { OnlyRead (shelf_seen S.Shelf shelf.old shelf.new) }
+{
+    chain_folders(alloc, folders, shelf, steps, chained)?;
+    Ok(ages_plan(alloc, output, chained)?)
 }

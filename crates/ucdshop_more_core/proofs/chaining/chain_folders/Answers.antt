@@ -9,7 +9,7 @@ use Rattle.ucdshop_more_core.proofs.chaining.chain_folders.Goals as goal
 
 pub folders-init : goal.folders-init
 folders-init g c = record {
-  far = ([], nothing_read g.S.Shelf.tells (g.S.Shelf.holds c.args.shelf.now), c.in_ok-chained.ensures);
+  far = ([], nothing_read g.S.Shelf.tells (g.S.Shelf.holds c.args.shelf.now), c.requires.none);
   only = record { held_stays = λ tells path. refl; read_faults_never_fall = omega arith; write_faults_stay = refl };
   failed = λ tells. refl;
 }
@@ -46,7 +46,7 @@ returns-in_err-bench-clause-refused g c =
     let folders : List (List ℕ) = c.args.folders.now in
     let at : ℕ = c.folders.folder-index in
     let far = c.folders.invariant.far in
-    let p = err_from_is_err_and c.from_residual-in_err-bench.result c.from_residual-in_err-bench.ensures.1 in
+    let p = err_from_is_err_and c.from_residual.result c.from_residual.ensures.1 in
     rw (p.1, p.2) (stops_refused g.S.Shelf c.args.shelf.now c.folders.shelf c.read_folder.new.shelf folders (take at folders) c.as_slice.result.now (drop (at + 1) folders)
     (folders_here folders at c.folder-item.result c.as_slice.result.now (omega arith) c.folder-item.is c.as_slice.ensures) far.0 far.1 c.folders.invariant.only c.folders.invariant.failed
     _ c.in_err-bench.ensures.refused)
@@ -56,7 +56,7 @@ returns-in_err-bench-clause-unread g c =
     let folders : List (List ℕ) = c.args.folders.now in
     let at : ℕ = c.folders.folder-index in
     let far = c.folders.invariant.far in
-    let p = err_from_is_err_and c.from_residual-in_err-bench.result c.from_residual-in_err-bench.ensures.1 in
+    let p = err_from_is_err_and c.from_residual.result c.from_residual.ensures.1 in
     rw (p.1, p.2) (stops_unread g.S.Shelf c.args.shelf.now c.folders.shelf c.read_folder.new.shelf folders (take at folders) c.as_slice.result.now (drop (at + 1) folders)
     (folders_here folders at c.folder-item.result c.as_slice.result.now (omega arith) c.folder-item.is c.as_slice.ensures) far.0 far.1 c.folders.invariant.only c.folders.invariant.failed
     _ c.in_err-bench.ensures.unread)
@@ -66,7 +66,7 @@ returns-in_err-bench-clause-in_order g c =
     let folders : List (List ℕ) = c.args.folders.now in
     let at : ℕ = c.folders.folder-index in
     let far = c.folders.invariant.far in
-    let p = err_from_is_err_and c.from_residual-in_err-bench.result c.from_residual-in_err-bench.ensures.1 in
+    let p = err_from_is_err_and c.from_residual.result c.from_residual.ensures.1 in
     rw (p.1, p.2) (stops_in_order g.S.Shelf c.args.shelf.now c.folders.shelf c.read_folder.new.shelf folders (take at folders) c.as_slice.result.now (drop (at + 1) folders)
     (folders_here folders at c.folder-item.result c.as_slice.result.now (omega arith) c.folder-item.is c.as_slice.ensures) far.0 far.1 c.folders.invariant.only c.folders.invariant.failed
     _ c.in_err-bench.ensures.unread)

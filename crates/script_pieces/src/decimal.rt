@@ -1,0 +1,30 @@
+//! The numbers of marks.
+
+ghost use Rattle.std.specs.Prelude.{◌≡◌, ◌≢◌, ℕ, ◌<◌, ◌^◌};
+ghost use Rattle.std.specs.Fmt.{decimal};
+ghost use Rattle.std.specs.Option.{MatchOption};
+ghost use Rattle.script_pieces.specs.Decimals.{is_plain};
+
+/// The number below 2^32 that a word writes in decimal digits with no zero to spare; `None` exactly where it writes none.
+pub fn decimal_u32(word: &[u8]) -> Option<u32>
+    ensures { MatchOption result ((n : ℕ) → n < 2 ^ 32 → word.now ≢ decimal n) (λ n. word.now ≡ decimal n) }
+{
+    if !is_plain(word) {
+        return None;
+    }
+    let Ok(text) = str::from_utf8(word) else {
+        return None;
+    };
+    text.parse::<u32>().ok()
+}
+
+/// Whether no `+` stands first, and a first 0 stands alone.
+fn is_plain(word: &[u8]) -> bool
+    ensures { result ≡ is_plain word.now }
+{
+    match word {
+        [] => true,
+        [first] => *first != b'+',
+        [first, _, ..] => *first != b'+' && *first != b'0',
+    }
+}

@@ -2,10 +2,8 @@
 use Rattle.std.proofs.Common.{◌≡◌, ℕ, Bool, List, [], ◌∷◌, Result, Ok, Err, fold, refl, sym, ap, subst, ◌∙◌}
 use Rattle.std.specs.Borrow.{Bor}
 use Rattle.std.specs.Prelude.{IfOk, IfErr}
-use mathlib.Core.Path.{fun_ext}
 use Rattle.std.specs.List.{All}
 use Rattle.std.proofs.lemmas.List.Elements.{All-head, All-tail}
-use Rattle.property_aliases.specs.declared.property.Test.{Test}
 use Rattle.release_rows.specs.FileItems.{FileItem}
 use Rattle.script_lines.specs.Groups.{IsReady}
 use Rattle.script_lines.specs.declared.command.Command.{Command}
@@ -17,7 +15,6 @@ use Rattle.ucd_points.specs.declared.memory.Memory.{Memory as NoMemory}
 use Rattle.ucdshop_core.specs.Answering.{AnswersFront}
 use Rattle.ucdshop_core.specs.Carrying.{session_on}
 use Rattle.ucdshop_core.specs.Counting.{CommandCounts, SessionCounts}
-use Rattle.ucdshop_core.specs.Questions.{files_hold}
 use Rattle.ucdshop_core.specs.Session.{Session, step, step_by}
 use Rattle.ucdshop_core.specs.declared.carried.Carried.{Carried}
 
@@ -31,9 +28,6 @@ pub first_carried : (commands : List Command) (first : Command) (behind : List C
     → t ≡ step_by s first.line what → fold step t behind ≡ fold step s commands
 first_carried commands first behind what s t e is carried =
     ap (λ (x : Session). fold step x behind) (carried ∙ ap (step_by s first.line) (sym is)) ∙ ap (fold step s) (sym e)
-
-pub holds_are : (files : List (List FileItem)) (holds : Test → ℕ → Bool) → ((test : Test) (c : ℕ) → holds test c ≡ files_hold files test c) → holds ≡ files_hold files
-holds_are files holds same = fun_ext (λ test. fun_ext (λ c. same test c))
 
 -- ---- the counter
 

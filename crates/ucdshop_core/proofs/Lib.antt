@@ -3,10 +3,7 @@ pub mod PathLemmas
 pub mod LineLemmas
 pub mod PlanningLemmas
 pub mod PolicyLemmas
-pub mod QuestionLemmas
-pub mod AskingLemmas
 pub mod CarryingLemmas
-pub mod RowNamesLemmas
 pub mod CountingLemmas
 pub mod MakingLemmas
 pub mod SessionLemmas

@@ -1,8 +1,5 @@
 pub mod Printed
 pub mod Paths
-pub mod Questions
-pub mod SetTexts
-pub mod RowNames
 pub mod Session
 pub mod SessionLaws
 pub mod Making
@@ -14,7 +11,6 @@ pub mod JobWords
 pub mod Judging
 pub mod Counting
 pub mod Carrying
-pub mod Asking
 pub mod Answering
 pub mod Planning
 pub mod RunExamples

@@ -20,7 +20,7 @@ use Rattle.ucdshop_core.specs.Jobs.{Job, apply_job, compare_job, derive_job, for
 use Rattle.ucdshop_core.specs.Printed.{made_release, made_summary, summary}
 use Rattle.ucdshop_core.specs.Run.{ucdshop}
 use Rattle.ucdshop_core.specs.Session.{set_line, unasked_line}
-use Rattle.ucdshop_core.specs.declared.ask_stop.AskRule.TheVariants.{Name, Text}
+use Rattle.set_questions.specs.declared.ask_stop.AskRule.TheVariants.{Name, Text}
 
 abbrev words : List ℕ → List (List ℕ)
 words line = slice_split (λ b. b == 32) line

@@ -1,10 +1,6 @@
 -- The commands of a script, carried out one after the other on the files of a release.
 --
 -- set_line line count       of a question that was answered: how many code points are members
--- set_rule_code rule        the code of a rule that the text of a question breaks: S1 to S7
--- name_rule_code rule       the code of a rule that a name breaks: S8 or S9
--- ask_rule_code rule        the code of either
--- unasked_text fault        of a question that was refused: the rule, and the place in its text, in bytes counted from 0
 -- unasked_line line fault   the line that says it
 -- Session                   the files as the commands so far leave them, the log, the answers to the questions, how many groups were
 --                           accepted, how many code points have another record after each of these, added up, how many commands
@@ -27,41 +23,16 @@ use Rattle.script_lines.specs.declared.command.What.{What}
 use Rattle.script_lines.specs.declared.command.What.TheVariants.{Group, Question}
 use Rattle.edit_session.specs.Groups.{changed, files_facts, group_answer}
 use Rattle.edit_session.specs.declared.apply_stop.Refused.{Refused}
-use Rattle.unicodeset_eval.specs.declared.stop.NameRule.{NameRule}
-use Rattle.unicodeset_eval.specs.declared.stop.NameRule.TheVariants.{S8, S9}
-use Rattle.unicodeset_parser.specs.declared.stop.SetRule.{SetRule}
-use Rattle.unicodeset_parser.specs.declared.stop.SetRule.TheVariants.{S1, S2, S3, S4, S5, S6, S7}
 use Rattle.run_inputs.specs.GroupLines.{accepted_line, log_line, refused_line}
-use Rattle.ucdshop_core.specs.Questions.{question_answer}
-use Rattle.ucdshop_core.specs.SetTexts.{members_in, set_section}
-use Rattle.ucdshop_core.specs.declared.ask_stop.AskFault.{AskFault}
-use Rattle.ucdshop_core.specs.declared.ask_stop.AskRule.{AskRule}
-use Rattle.ucdshop_core.specs.declared.ask_stop.AskRule.TheVariants.{Text, Name}
+use Rattle.set_questions.specs.Questions.{question_answer}
+use Rattle.set_questions.specs.Refusals.{unasked_text}
+use Rattle.set_questions.specs.SetTexts.{members_in, set_section}
+use Rattle.set_questions.specs.declared.ask_stop.AskFault.{AskFault}
 
 -- ---- the log
 
 abbrev pub set_line : ℕ → ℕ → List ℕ
 set_line line count = log_line line (codes "set " ++ decimal count)
-
-abbrev pub set_rule_code : SetRule → List ℕ
-set_rule_code S1 = codes "S1"
-set_rule_code S2 = codes "S2"
-set_rule_code S3 = codes "S3"
-set_rule_code S4 = codes "S4"
-set_rule_code S5 = codes "S5"
-set_rule_code S6 = codes "S6"
-set_rule_code S7 = codes "S7"
-
-abbrev pub name_rule_code : NameRule → List ℕ
-name_rule_code S8 = codes "S8"
-name_rule_code S9 = codes "S9"
-
-abbrev pub ask_rule_code : AskRule → List ℕ
-ask_rule_code (Text rule) = set_rule_code rule
-ask_rule_code (Name rule) = name_rule_code rule
-
-abbrev pub unasked_text : AskFault → List ℕ
-unasked_text fault = codes "refused " ++ ask_rule_code fault.rule ++ codes " byte " ++ decimal fault.at
 
 abbrev pub unasked_line : ℕ → AskFault → List ℕ
 unasked_line line fault = log_line line (unasked_text fault)

@@ -10,16 +10,14 @@ ghost use Rattle.ucd_model.specs.Cuts.{IsCut};
 ghost use Rattle.ucd_points.specs.Limits.{point_count};
 ghost use Rattle.ucdshop_core.specs.Answering.{AnswersFront};
 ghost use Rattle.ucdshop_core.specs.Carrying.{counted, session_on, question_command};
-ghost use Rattle.ucdshop_core.specs.RowNames.{AreKept, AreRowNames};
+ghost use Rattle.set_questions.specs.RowNames.{AreKept, AreRowNames};
 ghost use Rattle.ucdshop_core.specs.Session.{step_by};
 
-use crate::ask_stop::AskStop;
-use crate::asking::Asking;
 use crate::carried::Carried;
-use crate::row_names::RowNames;
 use edit_session::Bench;
 use run_inputs::bench_pieces;
 use script_lines::{Command, What};
+use set_questions::{AskStop, Asking, RowNames};
 use std::alloc::Global;
 use ucd_model::{Memory, Span};
 

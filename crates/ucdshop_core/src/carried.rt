@@ -5,13 +5,12 @@ ghost use Rattle.ucd_points.specs.Limits.{point_count};
 ghost use Rattle.ucdshop_core.specs.Carrying.{counted};
 ghost use Rattle.run_inputs.specs.GroupLines.{accepted_line, refused_line};
 ghost use Rattle.ucdshop_core.specs.Session.{set_line, unasked_line};
-ghost use Rattle.ucdshop_core.specs.SetTexts.{members_in, set_section};
+ghost use Rattle.set_questions.specs.SetTexts.{members_in, set_section};
 
-use crate::ask_stop::AskFault;
 use crate::log::{put_set, put_unasked};
-use crate::set_text::put_answer;
 use edit_session::Refused;
 use run_inputs::{put_accepted, put_refused};
+use set_questions::{AskFault, put_answer};
 use std::alloc::Global;
 use ucd_model::{Memory, Span, Text};
 

@@ -6,15 +6,15 @@ ghost use Rattle.script_lines.specs.Groups.{AreReady, IsReady};
 ghost use Rattle.script_lines.specs.declared.command.What.TheVariants.{Group};
 ghost use Rattle.ucdshop_core.specs.Carrying.{counted, session_of};
 ghost use Rattle.ucdshop_core.specs.Counting.{CommandCounts, SessionCounts};
-ghost use Rattle.ucdshop_core.specs.RowNames.{AreKept};
+ghost use Rattle.set_questions.specs.RowNames.{AreKept};
 ghost use Rattle.ucdshop_core.specs.Session.{session, started, step, step_by};
 
 use crate::answering::answer_run;
 use crate::carried::Carried;
-use crate::row_names::{RowNames, let_go};
 use edit_session::{ApplyStop, Bench};
 use release_rows::Op;
 use script_lines::{Command, What};
+use set_questions::{RowNames, let_go};
 use std::alloc::Global;
 use std::sync::ledger::Ledger;
 use ucd_model::{Memory, Steps};

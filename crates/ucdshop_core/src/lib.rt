@@ -2,8 +2,6 @@
 #![tactic(auto)]
 
 mod answering;
-mod ask_stop;
-mod asking;
 mod carried;
 mod carrying;
 mod given;
@@ -21,11 +19,8 @@ mod policies;
 mod printed;
 mod program;
 mod release_number;
-mod row_names;
-mod set_text;
 mod words;
 
-pub use ask_stop::{AskFault, AskRule};
 pub use carried::Carried;
 pub use carrying::carry_out;
 pub use given::Given;
@@ -36,3 +31,4 @@ pub use perfect_run::run_perfectly;
 pub use plan::plan_of;
 pub use program::{run, run_counted};
 pub use run_endings::{OUT_OF_MEMORY, Output, Plan, Status, Stop};
+pub use set_questions::{AskFault, AskRule};

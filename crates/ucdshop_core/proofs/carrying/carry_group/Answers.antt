@@ -1,4 +1,4 @@
-use Rattle.ucdshop_core.proofs.RowNamesLemmas.{left_stays}
+use Rattle.set_questions.specs.RowNamesProofs.{left_stays}
 use Rattle.ucdshop_core.proofs.carrying.carry_group.Goals as goal
 
 pub returns-in-Ok-clause-kept : goal.returns-in-Ok-clause-kept

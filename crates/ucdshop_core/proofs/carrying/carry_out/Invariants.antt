@@ -3,7 +3,7 @@ use Rattle.std.specs.List.{All}
 use Rattle.script_lines.specs.Groups.{IsReady}
 use Rattle.ucdshop_core.specs.Carrying.{counted, session_of}
 use Rattle.ucdshop_core.specs.Counting.{SessionCounts}
-use Rattle.ucdshop_core.specs.RowNames.{AreKept}
+use Rattle.set_questions.specs.RowNames.{AreKept}
 use Rattle.ucdshop_core.specs.Session.{session, started, step}
 use Rattle.ucdshop_core.proofs.carrying.carry_out.Given as goal
 

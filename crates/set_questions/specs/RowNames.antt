@@ -13,8 +13,8 @@ use Rattle.release_rows.specs.FileItems.{FileItem}
 use Rattle.release_rows.specs.Operations.{op_file}
 use Rattle.release_rows.specs.declared.operation.Op.{Op}
 use Rattle.unicodeset_eval.specs.Found.{AreRowSets}
-use Rattle.ucdshop_core.specs.Questions.{files_rows, files_sources}
-use Rattle.ucdshop_core.specs.declared.row_names.RowNames.{RowNames}
+use Rattle.set_questions.specs.Questions.{files_rows, files_sources}
+use Rattle.set_questions.specs.declared.row_names.RowNames.{RowNames}
 
 pub record AreRowNames (names : RowNames) (files : List (List FileItem)) : Type 0 where
   pub meant : AreAliasesOf names.aliases (files_sources files)

@@ -1,7 +1,7 @@
 use Rattle.std.proofs.Common.{◌≡◌, ◌++◌, take}
 use Rattle.std.specs.List.{flat_map}
-use Rattle.ucdshop_core.specs.SetTexts.{members_in, span_entry}
-use Rattle.ucdshop_core.proofs.set_text.put_spans.Given as goal
+use Rattle.set_questions.specs.SetTexts.{members_in, span_entry}
+use Rattle.set_questions.proofs.set_text.put_spans.Given as goal
 
 -- the lines of the spans so far, and how many code points lie in them
 abbrev pub invariant-spans : goal.invariant-spans

@@ -27,10 +27,10 @@ use Rattle.unicodeset_parser.specs.Parsed.{parsed}
 use Rattle.unicodeset_parser.specs.Trees.{Tree}
 use Rattle.unicodeset_eval.specs.Questions.{NameFault, answer}
 use Rattle.unicodeset_eval.specs.Tests.{test_holds}
-use Rattle.ucdshop_core.specs.declared.ask_stop.AskFault.{AskFault}
-use Rattle.ucdshop_core.specs.declared.ask_stop.AskRule.TheVariants.{Text, Name}
-use Rattle.ucdshop_core.specs.declared.ask_stop.AskStop.{AskStop}
-use Rattle.ucdshop_core.specs.declared.ask_stop.AskStop.TheVariants.{Fault, Memory}
+use Rattle.set_questions.specs.declared.ask_stop.AskFault.{AskFault}
+use Rattle.set_questions.specs.declared.ask_stop.AskRule.TheVariants.{Text, Name}
+use Rattle.set_questions.specs.declared.ask_stop.AskStop.{AskStop}
+use Rattle.set_questions.specs.declared.ask_stop.AskStop.TheVariants.{Fault, Memory}
 
 abbrev pub files_rows : List (List FileItem) → SourceFile → List Row
 files_rows files file = rows_in (items_at files file)

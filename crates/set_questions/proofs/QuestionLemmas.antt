@@ -13,11 +13,11 @@ use Rattle.release_rows.specs.FileItems.{FileItem}
 use Rattle.unicodeset_eval.specs.Members.{member_label, member_spans}
 use Rattle.unicodeset_eval.specs.Questions.{NameFault, members, names_of, spans_of}
 use Rattle.unicodeset_parser.specs.Trees.{Tree}
-use Rattle.ucdshop_core.specs.Questions.{AskedAs, files_hold, files_sources, name_fault, named_answer, tree_answer}
-use Rattle.ucdshop_core.specs.SetTexts.{members_in}
-use Rattle.ucdshop_core.specs.declared.ask_stop.AskFault.{AskFault}
-use Rattle.ucdshop_core.specs.declared.ask_stop.AskStop.{AskStop}
-use Rattle.ucdshop_core.specs.declared.ask_stop.AskStop.TheVariants.{Fault, Memory}
+use Rattle.set_questions.specs.Questions.{AskedAs, files_hold, files_sources, name_fault, named_answer, tree_answer}
+use Rattle.set_questions.specs.SetTexts.{members_in}
+use Rattle.set_questions.specs.declared.ask_stop.AskFault.{AskFault}
+use Rattle.set_questions.specs.declared.ask_stop.AskStop.{AskStop}
+use Rattle.set_questions.specs.declared.ask_stop.AskStop.TheVariants.{Fault, Memory}
 
 members_mapped : (spans : List LabelSpan) → members_in (map (λ (s : LabelSpan). s.bounds) spans) ≡ sum_by span_length spans
 members_mapped [] = refl

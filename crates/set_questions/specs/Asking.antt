@@ -12,10 +12,10 @@ use Rattle.unicodeset_eval.specs.declared.stop.EvalStop.{EvalStop}
 use Rattle.unicodeset_eval.specs.declared.stop.EvalStop.TheVariants as names
 use Rattle.unicodeset_parser.specs.declared.stop.SetStop.{SetStop}
 use Rattle.unicodeset_parser.specs.declared.stop.SetStop.TheVariants as texts
-use Rattle.ucdshop_core.specs.Questions.{files_hold, files_sources}
-use Rattle.ucdshop_core.specs.declared.ask_stop.AskRule.TheVariants.{Text, Name}
-use Rattle.ucdshop_core.specs.declared.ask_stop.AskStop.{AskStop}
-use Rattle.ucdshop_core.specs.declared.ask_stop.AskStop.TheVariants.{Fault, Memory}
+use Rattle.set_questions.specs.Questions.{files_hold, files_sources}
+use Rattle.set_questions.specs.declared.ask_stop.AskRule.TheVariants.{Text, Name}
+use Rattle.set_questions.specs.declared.ask_stop.AskStop.{AskStop}
+use Rattle.set_questions.specs.declared.ask_stop.AskStop.TheVariants.{Fault, Memory}
 
 pub record CanAnswer (files : List (List FileItem)) (aliases : Aliases) (holds : Test → ℕ → Bool) : Type 0 where
   pub meant : AreAliasesOf aliases (files_sources files)

@@ -2,8 +2,8 @@ use Rattle.std.proofs.Common.{Ok}
 use Rattle.edit_session.specs.Benches.{bench_record}
 use Rattle.unicodeset_eval.specs.Indexes.{index_holds}
 use Rattle.unicodeset_parser.specs.Views.{tree_view}
-use Rattle.ucdshop_core.proofs.AskingLemmas.{tree_asked, unnamed_asked}
-use Rattle.ucdshop_core.proofs.asking.Asking.members.Goals as goal
+use Rattle.set_questions.proofs.AskingLemmas.{tree_asked, unnamed_asked}
+use Rattle.set_questions.proofs.asking.Asking.members.Goals as goal
 
 pub returns-in-Ok : goal.returns-in-Ok
 returns-in-Ok c =

@@ -6,7 +6,7 @@ ghost use Rattle.property_aliases.specs.Found.{AreAliasesOf};
 ghost use Rattle.property_aliases.specs.Numbers.{AreNumbersOf};
 ghost use Rattle.property_aliases.specs.Sources.{sources_of};
 ghost use Rattle.release_rows.specs.Releases.{rows_now};
-ghost use Rattle.ucdshop_core.specs.RowNames.{AreRowNames, gives_names, renames};
+ghost use Rattle.set_questions.specs.RowNames.{AreRowNames, gives_names, renames};
 
 use property_aliases::Aliases;
 use release_rows::{Op, Release};

@@ -6,8 +6,8 @@ use Rattle.ucd_model.specs.Facts.{facts}
 use Rattle.ucd_points.specs.Limits.{point_count}
 use Rattle.unicodeset_eval.specs.Indexes.{index_holds}
 use Rattle.unicodeset_eval.specs.Tests.{test_holds}
-use Rattle.ucdshop_core.proofs.CarryingLemmas.{holds_are}
-use Rattle.ucdshop_core.proofs.asking.index_of.Goals as goal
+use Rattle.set_questions.proofs.AskingLemmas.{holds_are}
+use Rattle.set_questions.proofs.asking.index_of.Goals as goal
 
 pub of-requires-clause-categories : goal.of-requires-clause-categories
 of-requires-clause-categories c = λ k lt. ap (λ (r : ReleaseItems). (facts (rows_now r) k).category) (sym c.release.ensures.same)

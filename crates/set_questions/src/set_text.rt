@@ -5,7 +5,7 @@ ghost use Rattle.std.specs.Fmt.{decimal};
 ghost use Rattle.std.specs.List.{flat_map};
 ghost use Rattle.ucd_model.specs.DerivedText.{line_end};
 ghost use Rattle.ucd_points.specs.Limits.{point_count};
-ghost use Rattle.ucdshop_core.specs.SetTexts.{members_in, set_section, span_entry};
+ghost use Rattle.set_questions.specs.SetTexts.{members_in, set_section, span_entry};
 
 use std::alloc::Global;
 use ucd_lines::{put_decimal, put_span, put_total};

@@ -28,9 +28,9 @@ use Rattle.edit_session.specs.declared.apply_stop.ApplyStop.TheVariants.{Refused
 use Rattle.edit_session.specs.declared.apply_stop.Refused.{Refused}
 use Rattle.unicodeset_eval.specs.Found.{AreRowSets, has_at}
 use Rattle.unicodeset_eval.specs.Tests.{is_listed, is_numbered}
-use Rattle.ucdshop_core.specs.Questions.{files_rows, files_sources}
-use Rattle.ucdshop_core.specs.RowNames.{AreKept, AreRowNames, gives_names, renames}
-use Rattle.ucdshop_core.specs.declared.row_names.RowNames.{RowNames}
+use Rattle.set_questions.specs.Questions.{files_rows, files_sources}
+use Rattle.set_questions.specs.RowNames.{AreKept, AreRowNames, gives_names, renames}
+use Rattle.set_questions.specs.declared.row_names.RowNames.{RowNames}
 
 abbrev Files : Type 0
 Files = List (List FileItem)

@@ -5,10 +5,10 @@ ghost use Rattle.edit_session.specs.Benches.{bench_record};
 ghost use Rattle.release_rows.specs.Releases.{rows_now};
 ghost use Rattle.ucd_model.specs.Cuts.{IsCut};
 ghost use Rattle.ucd_points.specs.Limits.{point_count};
-ghost use Rattle.ucdshop_core.specs.Asking.{IsUnnamed, IsUnread};
-ghost use Rattle.ucdshop_core.specs.Questions.{AskedAs, files_hold, question_answer, tree_answer};
-ghost use Rattle.ucdshop_core.specs.RowNames.{AreRowNames};
-ghost use Rattle.ucdshop_core.specs.SetTexts.{members_in};
+ghost use Rattle.set_questions.specs.Asking.{IsUnnamed, IsUnread};
+ghost use Rattle.set_questions.specs.Questions.{AskedAs, files_hold, question_answer, tree_answer};
+ghost use Rattle.set_questions.specs.RowNames.{AreRowNames};
+ghost use Rattle.set_questions.specs.SetTexts.{members_in};
 ghost use Rattle.unicodeset_eval.specs.Found.{AreRowSets};
 ghost use Rattle.unicodeset_eval.specs.Indexes.{index_holds};
 ghost use Rattle.unicodeset_parser.specs.Views.{tree_view};
@@ -36,7 +36,7 @@ impl<'b> Model for Asking<'b> {
     ghost use Rattle.edit_session.specs.Benches.{bench_record};
     ghost use Rattle.release_rows.specs.FileItems.{FileItem};
     ghost use Rattle.unicodeset_eval.specs.Indexes.{index_holds};
-    ghost use Rattle.ucdshop_core.specs.Asking.{CanAnswer};
+    ghost use Rattle.set_questions.specs.Asking.{CanAnswer};
 
     ghost Value = { List (List FileItem) };
 

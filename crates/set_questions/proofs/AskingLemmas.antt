@@ -1,4 +1,5 @@
 -- What a question is answered, from what its tree is answered.
+use mathlib.Core.Path.{fun_ext}
 use Rattle.std.proofs.Common.{◌≡◌, ℕ, Bool, List, Result, Err, sym, ap, ◌∙◌}
 use Rattle.ucd_points.specs.Bounds.{Bounds}
 use Rattle.ucd_points.specs.Limits.{point_count}
@@ -12,11 +13,18 @@ use Rattle.unicodeset_eval.specs.Questions.{NameFault, answer, fault}
 use Rattle.unicodeset_eval.specs.declared.stop.EvalStop.{EvalStop}
 use Rattle.unicodeset_eval.specs.declared.stop.EvalStop.TheVariants as names
 use Rattle.unicodeset_parser.specs.Trees.{Tree}
-use Rattle.ucdshop_core.specs.Asking.{CanAnswer, IsUnnamed}
-use Rattle.ucdshop_core.specs.Questions.{AskedAs, files_sources, named_answer, tree_answer}
-use Rattle.ucdshop_core.specs.declared.ask_stop.AskFault.{AskFault}
-use Rattle.ucdshop_core.specs.declared.ask_stop.AskStop.{AskStop}
-use Rattle.ucdshop_core.specs.declared.ask_stop.AskStop.TheVariants.{Fault, Memory}
+use Rattle.set_questions.specs.Asking.{CanAnswer, IsUnnamed}
+use Rattle.set_questions.specs.Questions.{AskedAs, files_hold, files_sources, named_answer, tree_answer}
+use Rattle.set_questions.specs.declared.ask_stop.AskFault.{AskFault}
+use Rattle.set_questions.specs.declared.ask_stop.AskStop.{AskStop}
+use Rattle.set_questions.specs.declared.ask_stop.AskStop.TheVariants.{Fault, Memory}
+
+-- ---- the tests
+
+pub holds_are : (files : List (List FileItem)) (holds : Test → ℕ → Bool) → ((test : Test) (c : ℕ) → holds test c ≡ files_hold files test c) → holds ≡ files_hold files
+holds_are files holds same = fun_ext (λ test. fun_ext (λ c. same test c))
+
+-- ---- the answers
 
 module _ (files : List (List FileItem)) (aliases : Aliases) (holds : Test → ℕ → Bool) (tree : Tree) (can : CanAnswer files aliases holds) where
   pub tree_asked : (r : Result (List Bounds) NameFault) → ((s : Sources) → AreAliasesOf aliases s → answer s holds point_count tree ≡ r) → tree_answer files tree ≡ named_answer r

@@ -41,27 +41,27 @@ SameNames old next = (file : SourceFile) → gives_names file ≡ true → items
 -- ---- operations
 
 apart_by : (f file : SourceFile) → gives_names f ≡ false → gives_names file ≡ true → file ≢ f
-apart_by f file no yes same = absurd (let k = ap gives_names same in cc)
+apart_by f file out here same = absurd (let k = ap gives_names same in cc)
 
 put_stays : (files : Files) (f : SourceFile) (result : Result (List FileItem) KeyRule) (next : Files) → gives_names f ≡ false → with_edited files f result ≡ Ok next → SameNames files next
-put_stays files f (Ok items) next no e = λ file yes.
+put_stays files f (Ok items) next out e = λ file here.
     let is : with_items files f items ≡ next = cc in
-    ap (λ (fs : Files). items_at fs file) (sym is) ∙ items_at-with_items_other files f file items (apart_by f file no yes)
-put_stays files f (Err rule) next no e = absurd cc
+    ap (λ (fs : Files). items_at fs file) (sym is) ∙ items_at-with_items_other files f file items (apart_by f file out here)
+put_stays files f (Err rule) next out e = absurd cc
 
 then_stays : (files : Files) (n : ℕ) (result : Result Files KeyRule) (more : Files → Result Files Refused) (next : Files)
     → ((f : Files) → result ≡ Ok f → SameNames files f) → ((f : Files) → more f ≡ Ok next → SameNames f next) → then_ops n result more ≡ Ok next → SameNames files next
-then_stays files n (Ok f) more next first rest e = λ file yes. rest f e file yes ∙ first f refl file yes
+then_stays files n (Ok f) more next first rest e = λ file here. rest f e file here ∙ first f refl file here
 then_stays files n (Err rule) more next first rest e = absurd cc
 
-none_stays : (files next : Files) → (the (Result Files Refused) (Ok files)) ≡ Ok next → SameNames files next
-none_stays files next e = λ file yes. let is : files ≡ next = cc in ap (λ (fs : Files). items_at fs file) (sym is)
+none_stays : (files next : Files) (result : Result Files Refused) → result ≡ Ok files → result ≡ Ok next → SameNames files next
+none_stays files next result p q = λ file here. let is : files ≡ next = cc in ap (λ (fs : Files). items_at fs file) (sym is)
 
 ops_stay : (files : Files) (n : ℕ) (ops : List Op) (next : Files) → renames ops ≡ false → after_ops files n ops ≡ Ok next → SameNames files next
 unfolding after_ops
-ops_stay files n [] next no e = none_stays files next e
-ops_stay files n (op ∷ ops) next no e =
-    let parts = or_parts (gives_names (op_file op)) (renames ops) no in
+ops_stay files n [] next out e = none_stays files next (Ok files) refl e
+ops_stay files n (op ∷ ops) next out e =
+    let parts = or_parts (gives_names (op_file op)) (renames ops) out in
     then_stays files (n + 1) (op_or_rule files op) (λ f. after_ops f (n + 1) ops) next
     (λ f is. put_stays files (op_file op) (edited (items_at files (op_file op)) op) f parts.0 is)
     (λ f is. ops_stay f (n + 1) ops next parts.1 is) e
@@ -75,7 +75,7 @@ checked_is (Ok files) next e = ap (λ (fs : Files). Ok fs) (valid_is files next 
 checked_is (Err refused) next e = absurd cc
 
 pub group_stays : (files next : Files) (ops : List Op) → renames ops ≡ false → group_answer files ops ≡ Ok next → SameNames files next
-group_stays files next ops no e = ops_stay files 0 ops next no (checked_is (after_ops files 0 ops) next e)
+group_stays files next ops out e = ops_stay files 0 ops next out (checked_is (after_ops files 0 ops) next e)
 
 -- ---- what is kept
 
@@ -89,7 +89,7 @@ told_by properties values listed scripts breaks = record {
 }
 
 rows_same : (old next : Files) → SameNames old next → (file : SourceFile) → gives_names file ≡ true → files_rows old file ≡ files_rows next file
-rows_same old next same file yes = ap rows_in (sym (same file yes))
+rows_same old next same file here = ap rows_in (sym (same file here))
 
 sources_same : (old next : Files) → SameNames old next → files_sources old ≡ files_sources next
 sources_same old next same =
@@ -113,13 +113,13 @@ kept_stays (Some names) old next same are = record {
 
 answer_stays : (accepted : Accepted) (answer : Result Files Refused) (ops : List Op) (old new : ReleaseItems) (kept : Option RowNames) → group_answer old.current ops ≡ answer
     → AppliesAs (Ok accepted) answer old new → renames ops ≡ false → AreKept kept old.current → AreKept kept new.current
-answer_stays accepted (Ok files) ops old new kept is applied no are =
-    subst (λ (r : ReleaseItems). AreKept kept r.current) (sym applied.0) (kept_stays kept old.current files (group_stays old.current files ops no is) are)
-answer_stays accepted (Err why) ops old new kept is applied no are = absurd applied
+answer_stays accepted (Ok files) ops old new kept is applied out are =
+    subst (λ (r : ReleaseItems). AreKept kept r.current) (sym applied.0) (kept_stays kept old.current files (group_stays old.current files ops out is) are)
+answer_stays accepted (Err why) ops old new kept is applied out are = absurd applied
 
 answered_stays : (accepted : Accepted) (ops : List Op) (old new : ReleaseItems) (kept : Option RowNames)
     → AppliesAs (Ok accepted) (group_answer old.current ops) old new → renames ops ≡ false → AreKept kept old.current → AreKept kept new.current
-answered_stays accepted ops old new kept applied no are = answer_stays accepted (group_answer old.current ops) ops old new kept refl applied no are
+answered_stays accepted ops old new kept applied out are = answer_stays accepted (group_answer old.current ops) ops old new kept refl applied out are
 
 kept_by : (renamed : Bool) (accepted : Accepted) (ops : List Op) (old new : ReleaseItems) (kept : Option RowNames) → renames ops ≡ renamed
     → AppliesAs (Ok accepted) (group_answer old.current ops) old new → AreKept kept old.current → AreKept (if renamed then None else kept) new.current

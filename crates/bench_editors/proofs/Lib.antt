@@ -1,0 +1,5 @@
+mod KeyLemmas
+mod GroupLemmas
+mod Replaying
+mod DeskLemmas
+mod EventLemmas

@@ -7,8 +7,9 @@
 -- started files             the state with no editor and no group
 -- without editor editors    the other editors
 -- is_stale groups base op   a group with a number greater than base touches the row of the operation: the last one that does
--- stale_reply groups base ops   what a proposal is told if one of its operations is stale: the number of the last group that
---                           touches the row of any of its operations, and the first operation that is stale, counted from 1
+-- stale_at groups ops first   what a proposal is told whose first stale operation has this place, from 0: the number of the last
+--                           group that touches the row of any of its operations, and that operation, counted from 1
+-- stale_reply groups base ops   what it is told if one of its operations is stale
 -- early_reply s editor base ops   the reply to a proposal that does not come to its operations: Absent if the editor is not
 --                           present, Ahead if base is greater than the revision, then Stale; None if it comes to them
 -- Answer                    a reply, and the state that it leaves
@@ -16,6 +17,7 @@
 -- carried s ops answer      the answer to a group by what its operations give on the rows: an accepted group is one more, and a
 --                           refused one leaves the state
 -- proposed s ops early      the early reply, which leaves the state; else what the group is answered on the rows
+-- entered s editor present, left s editor present   the answers to an editor who comes or leaves
 -- answer s event            the answer to an event
 -- replies s events          the replies to events, one after the other
 -- after_events s events     the state that they leave
@@ -59,7 +61,7 @@ without editor editors = filter (λ e. not (e == editor)) editors
 abbrev pub is_stale : List (List Op) → ℕ → Op → Bool
 is_stale groups base op = nat_lt base (last_touched groups (row_of op))
 
-abbrev stale_at : List (List Op) → List Op → Option ℕ → Option Reply
+abbrev pub stale_at : List (List Op) → List Op → Option ℕ → Option Reply
 stale_at groups ops None = None
 stale_at groups ops (Some first) = Some (Stale (last_passing (touches_any ops) groups) (first + 1))
 
@@ -89,13 +91,13 @@ proposed s ops None = carried s ops (group_answer s.files ops)
 
 -- ---- an event, and events
 
-abbrev entered : DeskState → ℕ → Bool → Answer
+abbrev pub entered : DeskState → ℕ → Bool → Answer
 entered s editor present =
     if present
     then record { reply = Present; state = s }
     else record { reply = Entered (revision_of s); state = record { files = s.files; editors = editor ∷ s.editors; groups = s.groups } }
 
-abbrev left : DeskState → ℕ → Bool → Answer
+abbrev pub left : DeskState → ℕ → Bool → Answer
 left s editor present =
     if present
     then record { reply = Left; state = record { files = s.files; editors = without editor s.editors; groups = s.groups } }

@@ -10,7 +10,7 @@
 -- alone files editor        the state of one editor at a new desk
 -- LoneEditorsGetTheSame     a reply to a proposal that is neither Absent nor Ahead nor Stale is, its revision aside, the one that a
 --                           lone editor gets on the rows at that point
-use Rattle.std.specs.Prelude.{◌≡◌, ℕ, Bool, true, false, List, [], ◌∷◌, ◌++◌, Result, Ok}
+use Rattle.std.specs.Prelude.{◌≡◌, ℕ, Bool, true, false, List, [], ◌∷◌, ◌++◌, Ok}
 use Rattle.release_rows.specs.FileItems.{FileItem}
 use Rattle.release_rows.specs.declared.operation.Op.{Op}
 use Rattle.edit_session.specs.Groups.{changed, files_facts, group_answer}

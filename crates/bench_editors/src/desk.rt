@@ -62,7 +62,8 @@ impl Desk {
         &self.bench
     }
 
-    /// The last revision that touched the row with this key; 0 if none did. It takes no memory.
+    /// The last revision that touched the row with this key; 0 if none did. It takes no memory, and time by the number of
+    /// rows that were touched.
     pub fn touched(&self, file: SourceFile, key: &Key) -> u32
         ensures { result ≡ desk_last self.now (record { file = file; key = key.now }) }
     {
@@ -110,12 +111,12 @@ impl Desk {
         ensures counted { OnOk result ((s : DeskState) → StandsFor self.old s → EventsCount s events.now steps.old steps.new) }
         ensures err { OnErr result ((s : DeskState) → StandsFor self.old s → StopsWithin s events.now self.new steps.old steps.new) }
     {
-        let mut replies = Replies::new(self.alloc);
+        let mut replies = Vec::with_capacity(self.alloc, events.len())?;
         'events: for event in events {
             let reply = self.step(event, steps)?;
             replies.push(reply)?;
         }
-        Ok(replies)
+        Ok(Replies::from_vec(replies))
     }
 
     /// An editor comes.

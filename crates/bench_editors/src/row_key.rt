@@ -36,10 +36,15 @@ impl RowKey {
 fn are_same(names: &[Text], others: &[Vec<u8>]) -> bool
     ensures { result ≡ same_texts names.now (map (λ name. name.items) others.now) }
 {
-    names
-        .iter()
-        .map(|name| name.as_slice())
-        .eq(others.iter().map(|name| name.as_slice()))
+    if names.len() != others.len() {
+        return false;
+    }
+    'names: for (at, name) in names.iter().enumerate() {
+        if name.as_slice() != others[at].as_slice() {
+            return false;
+        }
+    }
+    true
 }
 
 /// One more than the code point; 0 if there is none.

@@ -35,18 +35,16 @@ impl RowRevisions {
         self.last.get(key).copied().unwrap_or(0)
     }
 
-    /// The same of a row by its file and its key. It takes no memory, and time by the rows of the map.
+    /// The same of a row by its file and its key. It takes no memory, and time by the number of rows.
     pub fn last_of(&self, file: SourceFile, key: &Key) -> u32
         ensures { result ≡ last_in self.now (row_parts (record { file = file; key = key.now })) }
     {
-        match self
-            .last
-            .iter()
-            .find(|(found, _)| found.is_in(file, key))
-        {
-            Some((_, last)) => *last,
-            None => 0,
+        'rows: for (row, last) in &self.last {
+            if row.is_in(file, key) {
+                return *last;
+            }
         }
+        0
     }
 
     /// The place of the first row that a revision after `base` touched.
@@ -60,7 +58,8 @@ impl RowRevisions {
     pub fn greatest(&self, keys: &[RowKey]) -> u32
         ensures { result ≡ fold (λ n key. max n (last_in self.now (key_parts key))) 0 keys.now }
     {
-        keys.iter().map(|key| self.last(key)).max().unwrap_or(0)
+        keys.iter()
+            .fold(0, |greatest, key| greatest.max(self.last(key)))
     }
 
     /// Gives a row an entry with 0, unless it has one.

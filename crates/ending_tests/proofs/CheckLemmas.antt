@@ -46,7 +46,7 @@ abbrev paths : Ending → List (List ℕ)
 paths ending = map (λ (file : NewFile). file.path) ending.files
 
 judged_path : {A : Type 0} (check : Check) (verdict : Result A (List ℕ)) (ending : Ending) → judged check verdict ≡ Finishes ending → paths ending ≡ check.output ∷ []
-judged_path check (Ok files) ending e = ap paths (sym (same_ending (valid_ending check) ending e))
+judged_path check (Ok files) ending e = ap paths (sym (same_ending (Finishes (valid_ending check)) (valid_ending check) ending refl e))
 judged_path check (Err line) ending e = absurd cc
 
 pub writes_its_path : WritesItsPaths checker

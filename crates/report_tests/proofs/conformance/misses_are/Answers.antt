@@ -4,4 +4,4 @@ use Rattle.report_tests.proofs.conformance.misses_are.Goals as goal
 
 -- the facts of a bench are those of its rows, which are valid
 pub misses-requires : goal.misses-requires
-misses-requires c = record { valid = record { rows = _; facts_are = refl; valid = subst IsUnbroken c.release.ensures.same c.release.ensures.valid } }
+misses-requires c = record { valid = record { rows = _; facts_are = refl; valid = subst IsUnbroken c.release-release.ensures.same c.release-release.ensures.valid } }

@@ -75,6 +75,24 @@ fn each_failed_read_is_told(rt: HostRuntime) -> Result<(), Fail> {
     Ok(())
 }
 
+/// Whether a run is done though the read with this number, counted from 1, would fail: it does not come.
+fn is_done_before(alloc: Global, shelf: &mut MemoryShelf, nth: u32) -> Result<bool, Memory> {
+    shelf.fail_read(nth)?;
+    Ok(status_of(alloc, &WORDS, shelf)? == Status::Done)
+}
+
+fn reads_no_more(alloc: Global, nth: u32) -> Result<bool, Memory> {
+    let mut shelf = shelf_to_fail(alloc, LATER)?;
+    is_done_before(alloc, &mut shelf, nth)
+}
+
+/// No path is read twice: the words name nineteen, and there is no twentieth read.
+#[test]
+fn each_path_is_read_once(rt: HostRuntime) -> Result<(), Fail> {
+    assert!(rt; reads_no_more(rt.alloc(), 20)?);
+    Ok(())
+}
+
 /// A shelf with this release and the earlier one, on which each output has an old text.
 ///
 /// - `Memory`: memory ran out.

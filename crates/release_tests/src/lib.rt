@@ -15,6 +15,8 @@ mod keys;
 #[cfg(test)]
 mod missing_rows;
 #[cfg(test)]
+mod pieces;
+#[cfg(test)]
 mod row_lines;
 #[cfg(test)]
 mod rows;

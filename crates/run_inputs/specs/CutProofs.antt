@@ -34,7 +34,7 @@ cut_folder folder seen first =
 
 -- ---- the file beside it
 
-cut_second : (held : Option (List ℕ)) → second_verdict (cut held) ≡ second_verdict held
+pub cut_second : (held : Option (List ℕ)) → second_verdict (cut held) ≡ second_verdict held
 cut_second None = refl
 cut_second (Some bytes) = cut_decides {A = Result (List ℕ) FileRule} bytes (Err G02) (λ bs. Ok bs)
 

@@ -4,6 +4,8 @@
 #[cfg(test)]
 mod ages;
 #[cfg(test)]
+mod conform;
+#[cfg(test)]
 mod faults;
 #[cfg(test)]
 mod refusals;

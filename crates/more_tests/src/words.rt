@@ -29,7 +29,8 @@ const SEVENTEEN: &[&[u8]] = &[
 fn are_bad(alloc: Global, words: &[&[u8]]) -> Result<bool, Memory> {
     let mut shelf = shelf_of(alloc, EARLIER, LATER)?;
     shelf.fail_read(1)?;
-    let usage = b"usage: ucdshop_more ages OUT DATA1 .. DATAn\n".as_slice();
+    let usage =
+        b"usage: ucdshop_more conform DATA TESTS OUT | ages OUT DATA1 .. DATAn\n".as_slice();
     let expected = (Status::BadWords, usage);
     Ok(ends(alloc, words, &mut shelf, 1000, expected)? && is_untouched(&shelf))
 }

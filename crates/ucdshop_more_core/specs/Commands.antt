@@ -2,13 +2,14 @@
 --
 -- job_of command          the job that it stands for
 -- AsksFor command form    the command is there exactly where the form is, and stands for its job
--- IsListed job            it is one that words ask for: there are not more folders than may be
-use Rattle.std.specs.Prelude.{◌≡◌, ◌≤◌, length, Option, Some, None}
-use Rattle.ucdshop_more_core.specs.Run.{Job, Ages}
+-- IsListed job            it is one that words ask for: of `ages` there are not more folders than may be
+use Rattle.std.specs.Prelude.{◌≡◌, ◌≤◌, length, Option, Some, None, ⊤}
+use Rattle.ucdshop_more_core.specs.Run.{Job, Ages, Conform}
 use Rattle.ucdshop_more_core.specs.declared.command.Command.{Command}
-use Rattle.ucdshop_more_core.specs.declared.command.Command.TheVariants.{Ages as AgesWords}
+use Rattle.ucdshop_more_core.specs.declared.command.Command.TheVariants.{Ages as AgesWords, Conform as ConformWords}
 
 abbrev pub job_of : Command → Job
+job_of (ConformWords input tests output) = Conform input.now tests.now output.now
 job_of (AgesWords output folders) = Ages output.now folders.now
 
 abbrev pub AsksFor : Option Command → Option Job → Type 0
@@ -16,4 +17,5 @@ AsksFor None form = form ≡ None
 AsksFor (Some command) form = form ≡ Some (job_of command)
 
 abbrev pub IsListed : Job → Type 0
+IsListed (Conform input tests output) = ⊤
 IsListed (Ages output folders) = length folders ≤ 16

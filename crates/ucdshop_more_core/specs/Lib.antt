@@ -1,6 +1,8 @@
 pub mod Printed
 pub mod Paths
 pub mod Steps
+pub mod Trials
+pub mod MissTexts
 pub mod Run
 pub mod Commands
 pub mod Chaining

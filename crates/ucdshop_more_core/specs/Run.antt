@@ -1,8 +1,10 @@
 -- What a run is to do, by its words and by what the shelf holds.
 --
--- Job                              what is asked for: Ages output folders, to write the ages of code points over the releases of these
+-- Job                              what is asked for: Conform input tests output, to write into a folder what the release of a folder
+--                                  misses of the cases in a file; Ages output folders, to write the ages of code points over the releases of these
 --                                  folders, in order, and what each step from a release to the next breaks, into another folder
 -- folder_limit                     the greatest number of folders
+-- conform_form arguments           what the words behind `conform` ask for: DATA, TESTS and OUT
 -- ages_form arguments              what the words behind `ages` ask for: OUT, and one folder or more, up to the limit
 -- form words                       what the words ask for; None where they have no listed form
 -- needed job                       the paths that are read, in order
@@ -12,6 +14,8 @@
 --                                  refuses the first folder that is refused: by a file, or by a code point
 --
 -- What is written
+-- misses_file folder misses        what is missed: its path below the folder, with its text
+-- conform_ending output trial      the ending of `conform` on this trial: something is broken where something is missed
 -- ages_file folder releases        the ages: their path below the folder, with their text
 -- steps_file folder releases       the steps: their path below the folder, with their text
 -- aged_count releases              how many code points have an age: the total that their text tells
@@ -21,7 +25,7 @@
 -- finished ending verdict          Finishes with the ending on what was judged; or Refuses with the line that refuses it
 -- expected_of job seen             what is expected of a job, by what was seen at the paths that it needs
 -- ucdshop_more                     this program
-use Rattle.std.specs.Prelude.{ℕ, ◌&&◌, List, [], ◌∷◌, length, drop, Option, Some, None, Result, Ok, Err, nat_le, nat_lt, if◌then◌else◌, codes}
+use Rattle.std.specs.Prelude.{ℕ, ◌&&◌, List, [], ◌∷◌, ◌++◌, length, drop, Option, Some, None, Result, Ok, Err, nat_le, nat_lt, if◌then◌else◌, codes}
 use Rattle.std.specs.List.{flat_map}
 use Rattle.std.specs.Str.{bytes_eq}
 use Rattle.release_rows.specs.Releases.{ReleaseItems}
@@ -33,17 +37,25 @@ use Rattle.run_inputs.specs.Held.{source_held}
 use Rattle.run_inputs.specs.Paths.{sources_in}
 use Rattle.run_inputs.specs.Refusals.{folder_verdict}
 use Rattle.run_inputs.specs.Verdict.{and_then, release_items}
-use Rattle.ucdshop_more_core.specs.Paths.{ages_in, steps_in}
-use Rattle.ucdshop_more_core.specs.Printed.{AgeCounts, ages_summary, usage}
+use Rattle.ucdshop_more_core.specs.Paths.{ages_in, misses_in, steps_in}
+use Rattle.ucdshop_more_core.specs.Printed.{AgeCounts, ages_summary, conform_summary, usage}
+use Rattle.ucdshop_more_core.specs.Trials.{Trial, trial_verdict}
+use Rattle.ucdshop_more_core.specs.MissTexts.{misses_of, misses_text}
+use Rattle.norm_conformance.specs.declared.miss.Miss.{Miss}
 use Rattle.ucdshop_more_core.specs.Steps.{breaks_in, steps_of, steps_text}
 
 -- ---- the words
 
 pub data Job : Type 0 where
+  Conform : (input tests output : List ℕ) → Job
   Ages : (output : List ℕ) (folders : List (List ℕ)) → Job
 
 abbrev pub folder_limit : ℕ
 folder_limit = 16
+
+abbrev pub conform_form : List (List ℕ) → Option Job
+conform_form (input ∷ tests ∷ output ∷ []) = Some (Conform input tests output)
+conform_form _ = None
 
 abbrev pub ages_form : List (List ℕ) → Option Job
 ages_form [] = None
@@ -51,11 +63,12 @@ ages_form (output ∷ folders) = if nat_lt 0 (length folders) && nat_le (length 
 
 abbrev pub form : List (List ℕ) → Option Job
 form [] = None
-form (word ∷ arguments) = if bytes_eq word (codes "ages") then ages_form arguments else None
+form (word ∷ arguments) = if bytes_eq word (codes "conform") then conform_form arguments else (if bytes_eq word (codes "ages") then ages_form arguments else None)
 
 -- ---- what is read
 
 abbrev pub needed : Job → List (List ℕ)
+needed (Conform input tests output) = sources_in input ++ tests ∷ []
 needed (Ages output folders) = flat_map sources_in folders
 
 -- ---- the verdict
@@ -67,6 +80,16 @@ folders_verdict (folder ∷ later) seen =
     and_then (folder_verdict folder (source_held seen 0)) (λ files. and_then (folders_verdict later (drop 9 seen)) (λ releases. Ok (release_items files ∷ releases)))
 
 -- ---- what is written
+
+abbrev pub misses_file : List ℕ → List Miss → NewFile
+misses_file folder misses = record { path = misses_in folder; bytes = misses_text misses }
+
+abbrev pub conform_ending : List ℕ → Trial → Ending
+conform_ending output trial = record {
+  files = misses_file output (misses_of trial) ∷ [];
+  summary = conform_summary (length trial.cases.list) (length (misses_of trial));
+  done = nat_lt 0 (length (misses_of trial));
+}
 
 abbrev pub ages_file : List ℕ → List ReleaseItems → NewFile
 ages_file folder releases = record { path = ages_in folder; bytes = age_text releases }
@@ -88,6 +111,7 @@ ages_ending output releases = record {
 }
 
 abbrev pub output_paths : Job → List (List ℕ)
+output_paths (Conform input tests output) = misses_in output ∷ []
 output_paths (Ages output folders) = ages_in output ∷ steps_in output ∷ []
 
 abbrev pub finished : {A : Type 0} → (A → Ending) → Result A (List ℕ) → Expected
@@ -95,6 +119,7 @@ finished ending (Ok value) = Finishes (ending value)
 finished ending (Err line) = Refuses line
 
 abbrev pub expected_of : Job → Seen → Expected
+expected_of (Conform input tests output) seen = finished (conform_ending output) (trial_verdict input tests seen)
 expected_of (Ages output folders) seen = finished (ages_ending output) (folders_verdict folders seen)
 
 abbrev pub ucdshop_more : Program Job

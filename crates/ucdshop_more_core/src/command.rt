@@ -3,7 +3,7 @@
 ghost use Rattle.std.specs.Prelude.{◌≡◌, ⊤};
 ghost use Rattle.std.specs.Option.{MatchOption};
 ghost use Rattle.ucdshop_more_core.specs.Commands.{AsksFor, IsListed, job_of};
-ghost use Rattle.ucdshop_more_core.specs.Run.{ages_form, form};
+ghost use Rattle.ucdshop_more_core.specs.Run.{ages_form, conform_form, form};
 
 use ucd_model::Text;
 
@@ -13,6 +13,12 @@ const FOLDER_LIMIT: usize = 16;
 /// What the words of a run ask for.
 #[derive(Clone, Copy, Debug)]
 pub enum Command<'a> {
+    /// Write what the release of the folder `input` misses of the cases in the file `tests` into the folder `output`.
+    Conform {
+        input: &'a [u8],
+        tests: &'a [u8],
+        output: &'a [u8],
+    },
     /// Write the ages of code points over the releases of the folders `folders`, in order, and what each step from a release
     /// to the next breaks, into the folder `output`.
     Ages {
@@ -30,11 +36,28 @@ pub fn command_of(words: &[Text]) -> Option<Command<'_>>
     let [word, arguments @ ..] = words else {
         return None;
     };
-    if word.as_slice() == b"ages".as_slice() {
+    if word.as_slice() == b"conform".as_slice() {
+        conform_of(arguments)
+    } else if word.as_slice() == b"ages".as_slice() {
         ages_of(arguments)
     } else {
         None
     }
+}
+
+/// `conform DATA TESTS OUT`, of the words behind `conform`.
+fn conform_of(arguments: &[Text]) -> Option<Command<'_>>
+    ensures form { AsksFor result (conform_form arguments.now) }
+    ensures listed { MatchOption result ⊤ (λ command. IsListed (job_of command)) }
+{
+    let [input, tests, output] = arguments else {
+        return None;
+    };
+    Some(Command::Conform {
+        input: input.as_slice(),
+        tests: tests.as_slice(),
+        output: output.as_slice(),
+    })
 }
 
 /// `ages OUT DATA1 .. DATAn`, of the words behind `ages`.

@@ -3,13 +3,16 @@
 
 mod chaining;
 mod command;
+mod conform_plan;
 pub mod laws;
+mod miss_text;
 mod outputs;
 mod planning;
 mod printed;
 mod program;
 mod reading;
 mod step_text;
+mod trial;
 
 pub use program::run_more;
 pub use run_endings::{OUT_OF_MEMORY, Status};

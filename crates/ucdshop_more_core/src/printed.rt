@@ -1,14 +1,29 @@
 //! The lines that a run prints.
 
 ghost use Rattle.std.specs.Prelude.{◌≡◌, IfOk};
-ghost use Rattle.ucdshop_more_core.specs.Printed.{ages_summary};
+ghost use Rattle.ucdshop_more_core.specs.Printed.{ages_summary, conform_summary};
 
 use std::alloc::Global;
 use ucd_lines::put_decimal;
 use ucd_model::{Memory, Text};
 
 /// The line for words that have no listed form.
-pub const USAGE: &[u8] = b"usage: ucdshop_more ages OUT DATA1 .. DATAn\n";
+pub const USAGE: &[u8] = b"usage: ucdshop_more conform DATA TESTS OUT | ages OUT DATA1 .. DATAn\n";
+
+/// The line of a run of `conform` that wrote its file.
+///
+/// - `Memory`: memory ran out.
+pub fn conform_summary(alloc: Global, cases: usize, misses: usize) -> Result<Text, Memory>
+    ensures { IfOk result (λ text. text ≡ conform_summary cases misses) }
+{
+    let mut text = Text::new(alloc);
+    text.append(b"conform: ")?;
+    put_decimal(alloc, cases, &mut text)?;
+    text.append(b" cases, ")?;
+    put_decimal(alloc, misses, &mut text)?;
+    text.append(b" misses\n")?;
+    Ok(text)
+}
 
 /// What a run of `ages` counts for its summary.
 #[derive(Clone, Copy, Debug, PartialEq, Eq)]

@@ -19,12 +19,14 @@ use ucd_model::{Steps, Texts};
 /// Runs the program on its words, without the program's name: reads what they name from the shelf, writes the files
 /// that it makes to it, and tells one line to the sink.
 ///
-/// The words are `ages OUT DATA1 .. DATAn`, with 1 to 16 folders. Folders are read and judged one after another: whatever
-/// fails in one is told before a file of the next is read. All texts are made before the first file is written. Nothing is
-/// written unless the status is [`Status::Clean`], [`Status::Done`] or [`Status::WriteFault`].
+/// The words are `conform DATA TESTS OUT`, or `ages OUT DATA1 .. DATAn` with 1 to 16 folders. `conform` reads its ten files
+/// and then judges them: the folder first, then the file of cases. The folders of `ages` are read and judged one after
+/// another: whatever fails in one is told before a file of the next is read. All texts are made before the first file is
+/// written. Nothing is written unless the status is [`Status::Clean`], [`Status::Done`] or [`Status::WriteFault`].
 ///
 /// What is promised is what every program promises that ends by [`end_run`], of this program: `ucdshop_more` in
-/// `specs/Run.antt`; and that with [`Status::ReadFault`] none of the folders before the one that is named is refused.
+/// `specs/Run.antt`; and that with [`Status::ReadFault`] of `ages` none of the folders before the one
+/// that is named is refused.
 pub fn run_more<S: Shelf, K: Sink>(
     alloc: Global,
     words: &Texts,

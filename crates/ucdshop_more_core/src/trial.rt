@@ -1,0 +1,113 @@
+//! What `conform` is given: a release, and the cases that it is tried on.
+
+ghost use Rattle.std.specs.Prelude.{◌≡◌, ◌∷◌, [], ◌++◌, IfOk};
+ghost use Rattle.std.specs.Option.{option_map};
+ghost use Rattle.edit_session.specs.Benches.{HasNothingPrepared};
+ghost use Rattle.run_endings.specs.Endings.{Sees};
+ghost use Rattle.run_endings.specs.Planning.{OnRefused, OnlyRead, UnreadAs};
+ghost use Rattle.run_endings.specs.Promises.{shelf_seen};
+ghost use Rattle.run_inputs.specs.Judging.{ToldAs};
+ghost use Rattle.run_inputs.specs.Paths.{sources_in};
+ghost use Rattle.ucdshop_more_core.specs.Trials.{case_rule_code, cases_told, trial_verdict};
+
+use edit_session::Bench;
+use norm_conformance::{CaseRule, CaseStop, Cases, read_cases};
+use run_endings::{Stop, gather};
+use run_inputs::{file_rule_code, held_at, open_folder, refused, second_file, source_paths};
+use shelf_io::Shelf;
+use std::alloc::Global;
+use std::sync::ledger::Ledger;
+use ucd_model::{Memory, SOURCE_FILES, Steps, Text, Texts};
+
+/// A release, and the cases that it is tried on.
+#[derive(Drop)]
+pub struct Trial {
+    /// The bench over the release.
+    pub bench: Bench,
+    /// The cases.
+    pub cases: Cases,
+}
+
+/// The release of a folder and the cases in a file: all ten files are read, and then judged.
+///
+/// - `Refused(line)`: the first of these is refused: a file of the folder, a code point, the file of cases.
+/// - `ReadFailed(line)`: a file could not be read.
+/// - `Memory`: memory ran out.
+pub fn read_trial<S: Shelf, L: Ledger>(
+    alloc: Global,
+    input: &[u8],
+    tests: &[u8],
+    shelf: &mut S,
+    steps: &mut Steps<L>,
+) -> Result<Trial, Stop>
+    ensures given { IfOk result (λ trial. Sees S.tells (S.holds shelf.old) (sources_in input.now ++ tests.now ∷ []) (λ seen.
+        trial_verdict input.now tests.now seen ≡ Ok (record { release = trial.bench; cases = trial.cases }))) }
+    ensures refused { OnRefused result (λ line. Sees S.tells (S.holds shelf.old) (sources_in input.now ++ tests.now ∷ []) (λ seen.
+        trial_verdict input.now tests.now seen ≡ Err line)) }
+    ensures unread { UnreadAs result (sources_in input.now ++ tests.now ∷ []) (shelf_seen S.Shelf shelf.old shelf.new) }
+    ensures only_read { OnlyRead (shelf_seen S.Shelf shelf.old shelf.new) }
+{
+    let paths = trial_paths(alloc, input, tests)?;
+    let mut held = gather(alloc, shelf, paths.as_slice())?;
+    judge_trial(alloc, input, tests, &mut held, steps)
+}
+
+/// The paths of the source files of a folder, in their order, and that of a file.
+///
+/// - `Memory`: memory ran out.
+fn trial_paths(alloc: Global, input: &[u8], tests: &[u8]) -> Result<Texts, Memory>
+    ensures { IfOk result (λ paths. paths ≡ sources_in input.now ++ tests.now ∷ []) }
+{
+    let mut paths = source_paths(alloc, input)?;
+    paths.push(Text::of(alloc, tests)?)?;
+    Ok(paths)
+}
+
+/// Judges the source files of a folder, and behind them the file of cases.
+///
+/// - `Refused(line)`: the first of these is refused.
+/// - `Memory`: memory ran out.
+fn judge_trial<L: Ledger>(
+    alloc: Global,
+    input: &[u8],
+    tests: &[u8],
+    held: &mut Vec<Option<Text>>,
+    steps: &mut Steps<L>,
+) -> Result<Trial, Stop>
+    ensures { ToldAs (λ trial. record { release = trial.bench; cases = trial.cases }) result (trial_verdict input.now tests.now held.old.items) }
+{
+    let bench = open_folder(alloc, input, held, 0, steps)?;
+    let cases = judge_cases(alloc, tests, held_at(held.as_slice(), SOURCE_FILES.len()))?;
+    Ok(Trial { bench, cases })
+}
+
+/// The cases of the file at this path, of which this is held.
+///
+/// - `Refused(line)`: the file is absent, too long, or breaks a rule.
+/// - `Memory`: memory ran out.
+fn judge_cases(alloc: Global, path: &[u8], held: Option<&[u8]>) -> Result<Cases, Stop>
+    ensures { ToldAs (λ cases. cases) result (cases_told path.now (option_map (λ bytes. bytes.now) held.entry)) }
+{
+    let bytes = match second_file(held) {
+        Ok(bytes) => bytes,
+        Err(rule) => return Err(Stop::Refused(refused(alloc, path, 0, file_rule_code(rule))?)),
+    };
+    match read_cases(alloc, bytes) {
+        Ok(cases) => Ok(cases),
+        Err(CaseStop::Fault { line, rule }) => {
+            Err(Stop::Refused(refused(alloc, path, line as usize, case_rule_code(rule))?))
+        }
+        Err(CaseStop::Memory) => Err(Stop::Memory),
+    }
+}
+
+/// The code of a rule that a file of cases breaks.
+fn case_rule_code(rule: CaseRule) -> &'static [u8]
+    ensures { result.now ≡ case_rule_code rule }
+{
+    match rule {
+        CaseRule::N1 => b"N1",
+        CaseRule::N2 => b"N2",
+        CaseRule::N3 => b"N3",
+    }
+}

@@ -80,7 +80,7 @@ nothing_read tells holds = record {
   verdict = λ more rest. behind_none (folders_verdict more rest);
 }
 
-still_items : (release : ReleaseItems) → HasNothingPrepared release → release_items release.current ≡ release
+pub still_items : (release : ReleaseItems) → HasNothingPrepared release → release_items release.current ≡ release
 still_items release still = sym (ap (λ items. record { current = release.current; prepared = items }) still)
 
 paths_with : (before : List (List ℕ)) (folder : List ℕ) → folders_paths before ++ sources_in folder ≡ folders_paths (before ++ folder ∷ [])

@@ -4,3 +4,4 @@ pub mod ChainLemmas
 pub mod EndingLemmas
 pub mod ReadingLemmas
 pub mod StoppingLemmas
+pub mod TrialLemmas

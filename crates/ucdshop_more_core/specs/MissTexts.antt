@@ -16,7 +16,7 @@ use Rattle.edit_session.specs.Benches.{bench_facts}
 use Rattle.norm_conformance.specs.Misses.{misses}
 use Rattle.norm_conformance.specs.declared.miss.Miss.{Miss}
 use Rattle.norm_conformance.specs.declared.miss.Miss.TheVariants.{Line, Point}
-use Rattle.ucdshop_more_core.specs.Trials.{Trial}
+use Rattle.ucdshop_more_core.specs.declared.trial.Trial.{Trial}
 
 abbrev pub form_code : Form → List ℕ
 form_code Nfd = codes "NFD"
@@ -32,4 +32,4 @@ abbrev pub misses_text : List Miss → List ℕ
 misses_text misses = flat_map miss_line misses ++ codes "# total " ++ decimal (length misses) ++ line_end
 
 abbrev pub misses_of : Trial → List Miss
-misses_of trial = misses (bench_facts trial.release) trial.cases
+misses_of trial = misses (bench_facts trial.bench) trial.cases

@@ -39,7 +39,8 @@ use Rattle.run_inputs.specs.Refusals.{folder_verdict}
 use Rattle.run_inputs.specs.Verdict.{and_then, release_items}
 use Rattle.ucdshop_more_core.specs.Paths.{ages_in, misses_in, steps_in}
 use Rattle.ucdshop_more_core.specs.Printed.{AgeCounts, ages_summary, conform_summary, usage}
-use Rattle.ucdshop_more_core.specs.Trials.{Trial, trial_verdict}
+use Rattle.ucdshop_more_core.specs.Trials.{trial_verdict}
+use Rattle.ucdshop_more_core.specs.declared.trial.Trial.{Trial}
 use Rattle.ucdshop_more_core.specs.MissTexts.{misses_of, misses_text}
 use Rattle.norm_conformance.specs.declared.miss.Miss.{Miss}
 use Rattle.ucdshop_more_core.specs.Steps.{breaks_in, steps_of, steps_text}

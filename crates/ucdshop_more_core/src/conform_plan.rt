@@ -17,17 +17,18 @@ use ucd_model::Memory;
 ///
 /// - `Memory`: memory ran out.
 pub fn conform_plan(alloc: Global, output: &[u8], trial: &Trial) -> Result<Plan, Memory>
-    ensures { IfOk result (HasPlan (conform_ending output.now (record { release = trial.now.bench; cases = trial.now.cases }))) }
+    ensures { IfOk result (HasPlan (conform_ending output.now trial.now)) }
 {
     let found = misses_in(alloc, trial)?;
     let text = misses_text(alloc, &found)?;
     let mut outputs = Vec::new(alloc);
     put_text(alloc, output, b"conform.txt", text.as_slice(), &mut outputs)?;
-    let summary = conform_summary(alloc, trial.cases.list.len(), found.len())?;
+    let count = found.len();
+    let summary = conform_summary(alloc, trial.cases.list.len(), count)?;
     Ok(Plan {
         outputs,
         summary,
-        done: found.len() > 0,
+        done: count > 0,
     })
 }
 
@@ -35,7 +36,7 @@ pub fn conform_plan(alloc: Global, output: &[u8], trial: &Trial) -> Result<Plan,
 ///
 /// - `Memory`: memory ran out.
 fn misses_in(alloc: Global, trial: &Trial) -> Result<Misses, Memory>
-    ensures { IfOk result (λ found. found ≡ misses_of (record { release = trial.now.bench; cases = trial.now.cases })) }
+    ensures { IfOk result (λ found. found ≡ misses_of trial.now) }
 {
     let _release = trial.bench.release();
     misses(alloc, &trial.bench, &trial.cases)

@@ -89,8 +89,10 @@ fn plan_conform<S: Shelf, L: Ledger>(
     ensures in_order { OnUnread result (NamesPath (ComesTo (Conform input.now tests.now output.now) S.tells (S.holds shelf.old)) (shelf_seen S.Shelf shelf.old shelf.new)) }
     ensures only_read { OnlyRead (shelf_seen S.Shelf shelf.old shelf.new) }
 {
-    let trial = read_trial(alloc, input, tests, shelf, steps)?;
-    Ok(conform_plan(alloc, output, &trial)?)
+    match read_trial(alloc, input, tests, shelf, steps) {
+        Ok(trial) => Ok(conform_plan(alloc, output, &trial)?),
+        Err(stop) => Err(stop),
+    }
 }
 
 /// The same of `ages`.

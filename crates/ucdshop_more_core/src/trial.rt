@@ -2,13 +2,14 @@
 
 ghost use Rattle.std.specs.Prelude.{◌≡◌, ◌∷◌, [], ◌++◌, IfOk};
 ghost use Rattle.std.specs.Option.{option_map};
-ghost use Rattle.edit_session.specs.Benches.{HasNothingPrepared};
 ghost use Rattle.run_endings.specs.Endings.{Sees};
 ghost use Rattle.run_endings.specs.Planning.{OnRefused, OnlyRead, UnreadAs};
 ghost use Rattle.run_endings.specs.Promises.{shelf_seen};
 ghost use Rattle.run_inputs.specs.Judging.{ToldAs};
+ghost use Rattle.run_inputs.specs.Held.{held_at};
 ghost use Rattle.run_inputs.specs.Paths.{sources_in};
-ghost use Rattle.ucdshop_more_core.specs.Trials.{case_rule_code, cases_told, trial_verdict};
+ghost use Rattle.run_inputs.specs.Printed.{refused};
+ghost use Rattle.ucdshop_more_core.specs.Trials.{TellsLine, case_rule_code, cases_told, trial_verdict, with_cases};
 
 use edit_session::Bench;
 use norm_conformance::{CaseRule, CaseStop, Cases, read_cases};
@@ -41,7 +42,7 @@ pub fn read_trial<S: Shelf, L: Ledger>(
     steps: &mut Steps<L>,
 ) -> Result<Trial, Stop>
     ensures given { IfOk result (λ trial. Sees S.tells (S.holds shelf.old) (sources_in input.now ++ tests.now ∷ []) (λ seen.
-        trial_verdict input.now tests.now seen ≡ Ok (record { release = trial.bench; cases = trial.cases }))) }
+        trial_verdict input.now tests.now seen ≡ Ok trial)) }
     ensures refused { OnRefused result (λ line. Sees S.tells (S.holds shelf.old) (sources_in input.now ++ tests.now ∷ []) (λ seen.
         trial_verdict input.now tests.now seen ≡ Err line)) }
     ensures unread { UnreadAs result (sources_in input.now ++ tests.now ∷ []) (shelf_seen S.Shelf shelf.old shelf.new) }
@@ -74,11 +75,28 @@ fn judge_trial<L: Ledger>(
     held: &mut Vec<Option<Text>>,
     steps: &mut Steps<L>,
 ) -> Result<Trial, Stop>
-    ensures { ToldAs (λ trial. record { release = trial.bench; cases = trial.cases }) result (trial_verdict input.now tests.now held.old.items) }
+    ensures { ToldAs (λ trial. trial) result (trial_verdict input.now tests.now held.old.items) }
 {
     let bench = open_folder(alloc, input, held, 0, steps)?;
-    let cases = judge_cases(alloc, tests, held_at(held.as_slice(), SOURCE_FILES.len()))?;
-    Ok(Trial { bench, cases })
+    judge_behind(alloc, tests, held.as_slice(), bench)
+}
+
+/// Judges the file of cases, which is held behind the release that this bench is over.
+///
+/// - `Refused(line)`: the file of cases is refused.
+/// - `Memory`: memory ran out.
+fn judge_behind(
+    alloc: Global,
+    tests: &[u8],
+    held: &[Option<Text>],
+    bench: Bench,
+) -> Result<Trial, Stop>
+    ensures { ToldAs (λ trial. trial) result (with_cases bench (cases_told tests.now (held_at held.now 9))) }
+{
+    match judge_cases(alloc, tests, held_at(held, SOURCE_FILES.len())) {
+        Ok(cases) => Ok(Trial { bench, cases }),
+        Err(stop) => Err(stop),
+    }
 }
 
 /// The cases of the file at this path, of which this is held.
@@ -90,14 +108,24 @@ fn judge_cases(alloc: Global, path: &[u8], held: Option<&[u8]>) -> Result<Cases,
 {
     let bytes = match second_file(held) {
         Ok(bytes) => bytes,
-        Err(rule) => return Err(Stop::Refused(refused(alloc, path, 0, file_rule_code(rule))?)),
+        Err(rule) => return Err(refusal(alloc, path, 0, file_rule_code(rule))),
     };
     match read_cases(alloc, bytes) {
         Ok(cases) => Ok(cases),
         Err(CaseStop::Fault { line, rule }) => {
-            Err(Stop::Refused(refused(alloc, path, line as usize, case_rule_code(rule))?))
+            Err(refusal(alloc, path, line as usize, case_rule_code(rule)))
         }
         Err(CaseStop::Memory) => Err(Stop::Memory),
+    }
+}
+
+/// The refusal of a file by this line of it, and the rule with this code.
+fn refusal(alloc: Global, path: &[u8], line: usize, rule: &[u8]) -> Stop
+    ensures { TellsLine result (refused path.now line rule.now) }
+{
+    match refused(alloc, path, line, rule) {
+        Ok(told) => Stop::Refused(told),
+        Err(_) => Stop::Memory,
     }
 }
 

@@ -5,12 +5,11 @@ use Rattle.release_rows.specs.FileItems.{FileItem}
 use Rattle.release_rows.specs.Releases.{ReleaseItems}
 use Rattle.norm_conformance.specs.declared.case.Cases.{Cases}
 use Rattle.edit_session.specs.Benches.{HasNothingPrepared}
-use Rattle.run_endings.specs.Endings.{Contents, IsSeen, Refuses, Seen, Sees}
+use Rattle.run_endings.specs.Endings.{Contents, IsSeen, Seen, Sees}
 use Rattle.run_endings.specs.Outcome.{LastFailedStays, ShelfSeen}
-use Rattle.run_endings.specs.Planning.{HasPlan, IsPlanOf, OnRefused, UnreadAs}
+use Rattle.run_endings.specs.Planning.{OnRefused, UnreadAs}
 use Rattle.run_endings.specs.Reading.{IsRead, cut}
 use Rattle.run_endings.specs.ReadingProofs.{held_cut}
-use Rattle.run_endings.specs.declared.plan.Plan.{Plan}
 use Rattle.run_endings.specs.declared.stop.Stop.{Stop}
 use Rattle.run_endings.specs.declared.stop.Stop.TheVariants.{Refused, ReadFailed, Memory}
 use Rattle.run_inputs.specs.CutProofs.{cut_folder, cut_second}
@@ -20,7 +19,6 @@ use Rattle.run_inputs.specs.Paths.{sources_in}
 use Rattle.run_inputs.specs.Refusals.{folder_verdict}
 use Rattle.run_inputs.specs.Verdict.{and_then, release_items, second_verdict}
 use Rattle.ucdshop_more_core.proofs.FolderLemmas.{still_items}
-use Rattle.ucdshop_more_core.specs.Run.{Conform, conform_ending, expected_of, finished}
 use Rattle.ucdshop_more_core.specs.Trials.{cases_of, cases_told, trial_verdict, with_cases}
 use Rattle.ucdshop_more_core.specs.declared.trial.Trial.{Trial}
 
@@ -72,14 +70,3 @@ judged_unread (Ok trial) verdict paths shelf told stays = stays
 judged_unread (Err (Refused line)) verdict paths shelf told stays = stays
 judged_unread (Err (ReadFailed line)) verdict paths shelf told stays = absurd told
 judged_unread (Err Memory) verdict paths shelf told stays = tt
-
--- ---- what is planned
-
-module _ (tells : Bool) (holds : Contents) (input tests output : List ℕ) where
-  pub plans_conform : (trial : Trial) (plan : Plan) → Sees tells holds (sources_in input ++ tests ∷ []) (λ seen. trial_verdict input tests seen ≡ Ok trial) → HasPlan (conform_ending output trial) plan
-      → Sees tells holds (sources_in input ++ tests ∷ []) (λ seen. IsPlanOf plan (expected_of (Conform input tests output) seen))
-  plans_conform trial plan are has = (are.0, are.1, (conform_ending output trial, ap (finished (conform_ending output)) are.2, has))
-
-  pub refuses_conform : (line : List ℕ) → Sees tells holds (sources_in input ++ tests ∷ []) (λ seen. trial_verdict input tests seen ≡ Err line)
-      → Sees tells holds (sources_in input ++ tests ∷ []) (λ seen. expected_of (Conform input tests output) seen ≡ Refuses line)
-  refuses_conform line are = (are.0, are.1, ap (finished (conform_ending output)) are.2)

@@ -22,7 +22,7 @@ PAGES := $(wildcard *.1)
 # those that work on releases and runs; contracts works on the sources, which are not installed
 TOOLS := $(sort $(filter-out contracts,$(patsubst tools/%,%,$(shell find tools -maxdepth 1 -type f -perm -u+x))))
 # the scripts that work on real releases, not those that try this repository
-COMPARISONS = ages compare sets step
+COMPARISONS = ages compare conform sets step
 READ_FIRST = README.md CHANGELOG.md CONTRIBUTING.md VERSION
 
 root = $(DESTDIR)$(PREFIX)

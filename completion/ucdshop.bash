@@ -3,10 +3,10 @@
 
 _ucdshop() {
     local word=${COMP_WORDS[COMP_CWORD]} place=$COMP_CWORD commands='derive apply make' kind
-    [ "${COMP_WORDS[0]##*/}" != ucdshop_more ] || commands=ages
+    [ "${COMP_WORDS[0]##*/}" != ucdshop_more ] || commands='conform ages'
     # only the launcher, beside which the crates lie, has more
     if [ "$place" -eq 1 ] && [ -e "${COMP_WORDS[0]%/*}/crates.txt" ]; then
-        [ "$commands" = ages ] || commands+=' ages'
+        [ "$commands" = 'conform ages' ] || commands+=' conform ages'
         commands+=' --help --version --build --unproved explain'
     fi
     # after --unproved stands a command with its arguments
@@ -15,8 +15,8 @@ _ucdshop() {
     fi
     case ${COMP_WORDS[COMP_CWORD - place + 1]}:$place in
         *:1) mapfile -t COMPREPLY < <(compgen -W "$commands" -- "$word"); return ;;
-        derive:[23] | apply:[245] | make:3 | explain:3 | ages:*) kind=-d ;;
-        apply:3 | explain:4) kind=-f ;;
+        derive:[23] | apply:[245] | make:3 | explain:3 | conform:[24] | ages:*) kind=-d ;;
+        apply:3 | conform:3 | explain:4) kind=-f ;;
         *) COMPREPLY=(); return ;;
     esac
     # readline quotes names and puts slashes; outside of a completion there is no readline

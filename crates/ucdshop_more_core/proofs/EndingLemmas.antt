@@ -1,6 +1,5 @@
 -- How a run ends by what was planned: the paths of its files, and the order of its reads.
 use Rattle.std.proofs.Common.{◌≡◌, Bool, true, false, List, ℕ, map, Option, Some, None, Result, Ok, Err, refl, sym, subst, ◌∙◌, inl, inr}
-use Rattle.release_rows.specs.Releases.{ReleaseItems}
 use Rattle.shelf_io.specs.declared.shelf.Shelf.{Ghosts as ShelfGhosts}
 use Rattle.run_endings.specs.Endings.{Ending, Finishes, NewFile, Refuses, WritesItsPaths}
 use Rattle.run_endings.specs.Ends.{Ends}
@@ -13,19 +12,25 @@ use Rattle.run_endings.specs.declared.status.Status.TheVariants.{ReadFault}
 use Rattle.run_endings.specs.declared.stop.Stop.{Stop}
 use Rattle.run_endings.specs.declared.stop.Stop.TheVariants as stops
 use Rattle.ucdshop_more_core.specs.Order.{PlansInOrder, ReadsInOrder}
-use Rattle.ucdshop_more_core.specs.Run.{Ages, ages_ending, finished, folders_verdict, output_paths, ucdshop_more}
+use Rattle.ucdshop_more_core.specs.Run.{Ages, Conform, ages_ending, conform_ending, finished, folders_verdict, output_paths, ucdshop_more}
+use Rattle.ucdshop_more_core.specs.Trials.{trial_verdict}
 
 -- ---- the paths of the files
 
-ages_paths : (output : List ℕ) (folders : List (List ℕ)) (verdict : Result (List ReleaseItems) (List ℕ)) (ending : Ending) → finished (ages_ending output) verdict ≡ Finishes ending
-    → map (λ (file : NewFile). file.path) ending.files ≡ output_paths (Ages output folders)
-ages_paths output folders (Ok releases) ending e =
-    subst (λ (it : Ending). map (λ (file : NewFile). file.path) it.files ≡ output_paths (Ages output folders))
-    (same_ending (finished (ages_ending output) (Ok releases)) (ages_ending output releases) ending refl e) refl
-ages_paths output folders (Err line) ending e = absurd (refuses_finishes (Refuses line) line ending refl e)
+abbrev paths_of : Ending → List (List ℕ)
+paths_of ending = map (λ (file : NewFile). file.path) ending.files
+
+ended_paths : {A : Type 0} (ending : A → Ending) (paths : List (List ℕ)) → ((value : A) → paths_of (ending value) ≡ paths) → (verdict : Result A (List ℕ)) (end : Ending)
+    → finished ending verdict ≡ Finishes end → paths_of end ≡ paths
+ended_paths ending paths each (Ok value) end e =
+    subst (λ (it : Ending). paths_of it ≡ paths) (same_ending (finished ending (Ok value)) (ending value) end refl e) (each value)
+ended_paths ending paths each (Err line) end e = absurd (refuses_finishes (Refuses line) line end refl e)
 
 pub writes_its_paths : WritesItsPaths ucdshop_more
-writes_its_paths (Ages output folders) seen ending e = ages_paths output folders (folders_verdict folders seen) ending e
+writes_its_paths (Conform input tests output) seen end e =
+    ended_paths (conform_ending output) (output_paths (Conform input tests output)) (λ trial. refl) (trial_verdict input tests seen) end e
+writes_its_paths (Ages output folders) seen end e =
+    ended_paths (ages_ending output) (output_paths (Ages output folders)) (λ releases. refl) (folders_verdict folders seen) end e
 
 -- ---- the order of the reads
 

@@ -1,4 +1,4 @@
-use Rattle.std.proofs.Common.{◌≡◌, refl, subst}
+use Rattle.std.proofs.Common.{refl, subst}
 use Rattle.edit_session.specs.Benches.{IsUnbroken}
 use Rattle.ucdshop_more_core.proofs.conform_plan.misses_in.Goals as goal
 

@@ -6,10 +6,7 @@ ghost use Rattle.property_aliases.specs.Found.{AreAliasesOf};
 ghost use Rattle.property_aliases.specs.Numbers.{AreNumbersOf};
 ghost use Rattle.property_aliases.specs.Sources.{sources_of};
 ghost use Rattle.release_rows.specs.Releases.{items_now, rows_now};
-ghost use Rattle.ucd_model.specs.Cuts.{IsCut};
-ghost use Rattle.ucd_model.specs.Records.{kept_record};
 ghost use Rattle.ucd_model.specs.declared.category.Category.TheVariants.{Cn};
-ghost use Rattle.ucd_points.specs.Limits.{point_count};
 ghost use Rattle.ucd_points.specs.declared.files.SourceFile.TheVariants.{UnicodeData};
 ghost use Rattle.unicodeset_eval.specs.Found.{AreRowSets};
 
@@ -20,7 +17,7 @@ use std::alloc::Global;
 use std::process::Abort;
 use std::test::Fail;
 use ucd_model::{
-    Category, CoreSet, Image, Kind, Point, Quick, Record, Records, SourceFile, Span, equal_pieces,
+    Category, CoreSet, Image, Kind, Point, Quick, Record, Records, SourceFile, equal_pieces,
 };
 use unicodeset_eval::{RowSets, SetIndex, TestSets, eval};
 use unicodeset_parser::parse;
@@ -113,7 +110,7 @@ fn tests_have_sets(rt: HostRuntime) -> Result<(), Fail> {
     sets_are_made(&rt, rt.alloc(), &release, &SETS)
 }
 
-/// Each of the calls below owns one value alone: the parts of several would else fill one function's proof.
+/// Each of the calls below owns one value or two: the parts of more would else fill one function's proof.
 pub(crate) fn sets_are_made(
     rt: &impl Abort,
     alloc: Global,
@@ -154,6 +151,7 @@ fn sets_of_rows(
     sets_of_record(rt, alloc, &bench, release, rows, sets)
 }
 
+#[tactic(auto, using(crate::proofs::NoRows::unassigned))]
 fn sets_of_record(
     rt: &impl Abort,
     alloc: Global,
@@ -167,25 +165,7 @@ fn sets_of_record(
     requires rows { AreRowSets rows.now (rows_now release.now) }
 {
     let pieces = equal_pieces(alloc, bench)?;
-    sets_of_pieces(rt, alloc, bench, pieces.as_slice(), release, rows, sets)
-}
-
-#[tactic(auto, using(crate::proofs::NoRows::unassigned))]
-fn sets_of_pieces(
-    rt: &impl Abort,
-    alloc: Global,
-    bench: &OneRecord,
-    pieces: &[Span],
-    release: &Release,
-    rows: &RowSets,
-    sets: &[SetRow],
-) -> Result<(), Fail>
-    requires record { bench.now.record.category ≡ Cn }
-    requires pieces { IsCut (λ c. kept_record bench.now.record) 0 point_count pieces.now }
-    requires unassigned { items_now release.now UnicodeData ≡ [] }
-    requires rows { AreRowSets rows.now (rows_now release.now) }
-{
-    let index = SetIndex::of(alloc, bench, pieces, release, rows)?;
+    let index = SetIndex::of(alloc, bench, pieces.as_slice(), release, rows)?;
     sets_are_found(rt, alloc, &index, sets)
 }
 

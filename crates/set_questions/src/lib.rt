@@ -10,5 +10,5 @@ mod set_text;
 pub use ask_stop::{AskFault, AskRule, AskStop};
 pub use asking::Asking;
 pub use refusals::put_refusal;
-pub use row_names::{RowNames, let_go};
+pub use row_names::{RowNames, keep_names, let_go};
 pub use set_text::put_answer;

@@ -1,12 +1,12 @@
 //! What questions need of the rows alone.
 
-ghost use Rattle.std.specs.Prelude.{◌≡◌, IfOk, None, if◌then◌else◌};
+ghost use Rattle.std.specs.Prelude.{◌≡◌, IfOk, OnOk, IsSome, None, if◌then◌else◌};
 ghost use Rattle.std.specs.List.{list_any};
 ghost use Rattle.property_aliases.specs.Found.{AreAliasesOf};
 ghost use Rattle.property_aliases.specs.Numbers.{AreNumbersOf};
 ghost use Rattle.property_aliases.specs.Sources.{sources_of};
 ghost use Rattle.release_rows.specs.Releases.{rows_now};
-ghost use Rattle.set_questions.specs.RowNames.{AreRowNames, gives_names, renames};
+ghost use Rattle.set_questions.specs.RowNames.{AreKept, AreRowNames, gives_names, renames};
 
 use property_aliases::Aliases;
 use release_rows::{Op, Release};
@@ -74,4 +74,22 @@ pub fn let_go(kept: &mut Option<RowNames>, group: &[Op])
     if renames(group) {
         *kept = None;
     }
+}
+
+/// Keeps the names of the rows of a release now, unless they are kept already.
+///
+/// - `Memory`: memory ran out.
+pub fn keep_names(
+    alloc: Global,
+    release: &Release,
+    kept: &mut Option<RowNames>,
+) -> Result<(), Memory>
+    requires { AreKept kept.old release.now.current }
+    ensures kept { AreKept kept.new release.now.current }
+    ensures some { OnOk result (IsSome kept.new) }
+{
+    if kept.is_none() {
+        *kept = Some(RowNames::of(alloc, release)?);
+    }
+    Ok(())
 }

@@ -17,7 +17,7 @@ use crate::carried::Carried;
 use edit_session::Bench;
 use run_inputs::bench_pieces;
 use script_lines::{Command, What};
-use set_questions::{AskStop, Asking, RowNames};
+use set_questions::{AskStop, Asking, RowNames, keep_names};
 use std::alloc::Global;
 use ucd_model::{Memory, Span};
 
@@ -40,13 +40,11 @@ pub fn answer_run<'c>(
     ensures kept { AreKept kept.new bench.now.current }
     ensures answers { IfOk result (λ rest. AnswersFront bench.now.current (step_by (session_on bench.now.current carried.old) line (Question text.now)) (counted carried.old + 1) behind.now carried.new rest.now) }
 {
-    let names = match kept.take() {
-        Some(names) => names,
-        None => RowNames::of(alloc, bench.release())?,
-    };
-    let answered = answer_by(alloc, bench, &names, line, text, behind, carried);
-    *kept = Some(names);
-    answered
+    keep_names(alloc, bench.release(), kept)?;
+    match kept {
+        Some(names) => answer_by(alloc, bench, names, line, text, behind, carried),
+        None => unreachable!(),
+    }
 }
 
 /// The same by what the rows of the bench tell.

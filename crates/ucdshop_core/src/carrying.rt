@@ -34,11 +34,30 @@ pub fn carry_out<L: Ledger>(
     ensures counts { SessionCounts (started bench.old.current) commands.now steps.old steps.new }
     ensures steps { commands.now ≡ [] → steps.new ≡ steps.old }
 {
-    let mut carried = Carried::new(alloc);
     let mut kept = None;
+    let carried = carry_all(alloc, bench, &mut kept, commands, steps);
+    drop(kept);
+    carried
+}
+
+/// The same with what is kept of the rows alone.
+fn carry_all<L: Ledger>(
+    alloc: Global,
+    bench: &mut Bench,
+    kept: &mut Option<RowNames>,
+    commands: &[Command],
+    steps: &mut Steps<L>,
+) -> Result<Carried, Memory>
+    requires kept { AreKept kept.old bench.old.current }
+    requires ready { All IsReady commands.now }
+    ensures session { IfOk result (λ carried. session_of bench.new carried ≡ session bench.old.current commands.now) }
+    ensures counts { SessionCounts (started bench.old.current) commands.now steps.old steps.new }
+    ensures steps { commands.now ≡ [] → steps.new ≡ steps.old }
+{
+    let mut carried = Carried::new(alloc);
     let mut rest = commands;
     'commands: while !rest.is_empty() {
-        rest = carry_some(alloc, bench, &mut kept, rest, &mut carried, steps)?;
+        rest = carry_some(alloc, bench, kept, rest, &mut carried, steps)?;
     }
     Ok(carried)
 }

@@ -2,11 +2,13 @@
 
 ghost use Rattle.std.specs.Prelude.{◌≡◌, ℕ, ◌<◌};
 ghost use Rattle.property_aliases.specs.Found.{AreAliasesOf};
+ghost use Rattle.property_aliases.specs.Numbers.{AreNumbersOf};
 ghost use Rattle.property_aliases.specs.Sources.{sources_of};
 ghost use Rattle.ucd_model.specs.Facts.{facts};
 ghost use Rattle.ucd_points.specs.Limits.{point_count};
 ghost use Rattle.release_rows.specs.Releases.{rows_now};
 ghost use Rattle.unicodeset_eval.specs.Answers.{Gives};
+ghost use Rattle.unicodeset_eval.specs.Found.{AreRowSets};
 ghost use Rattle.unicodeset_eval.specs.Questions.{answer};
 ghost use Rattle.unicodeset_eval.specs.ReleaseTests.{release_tests};
 ghost use Rattle.unicodeset_parser.specs.Views.{tree_view};
@@ -39,9 +41,46 @@ pub fn eval<B: Records>(
     ensures { Gives (λ spans. spans) result
         (answer (sources_of release.now) (release_tests (B.record_of bench.now) (rows_now release.now)) point_count (tree_view expr.now)) }
 {
-    let pieces = equal_pieces(alloc, bench)?;
     let numbers = ValueNumbers::of(alloc, release)?;
-    let rows = RowSets::of(alloc, release, &numbers)?;
-    let index = SetIndex::of(alloc, bench, pieces.as_slice(), release, &rows)?;
+    eval_numbered(alloc, bench, release, &numbers, aliases, expr)
+}
+
+/// The same by the numbers of the values that the rows give. Each of these functions owns few values: one that owned all would be
+/// slow to prove.
+fn eval_numbered<B: Records>(
+    alloc: Global,
+    bench: &B,
+    release: &Release,
+    numbers: &ValueNumbers,
+    aliases: &Aliases,
+    expr: &Expr,
+) -> Result<Spans, EvalStop>
+    requires numbers { AreNumbersOf numbers.now (rows_now release.now) }
+    requires aliases { AreAliasesOf aliases.now (sources_of release.now) }
+    requires categories { (c : ℕ) → c < point_count → (B.record_of bench.now c).category ≡ (facts (rows_now release.now) c).category }
+    ensures { Gives (λ spans. spans) result
+        (answer (sources_of release.now) (release_tests (B.record_of bench.now) (rows_now release.now)) point_count (tree_view expr.now)) }
+{
+    let rows = RowSets::of(alloc, release, numbers)?;
+    eval_by(alloc, bench, release, &rows, aliases, expr)
+}
+
+/// The same by the sets that the rows give.
+fn eval_by<B: Records>(
+    alloc: Global,
+    bench: &B,
+    release: &Release,
+    rows: &RowSets,
+    aliases: &Aliases,
+    expr: &Expr,
+) -> Result<Spans, EvalStop>
+    requires rows { AreRowSets rows.now (rows_now release.now) }
+    requires aliases { AreAliasesOf aliases.now (sources_of release.now) }
+    requires categories { (c : ℕ) → c < point_count → (B.record_of bench.now c).category ≡ (facts (rows_now release.now) c).category }
+    ensures { Gives (λ spans. spans) result
+        (answer (sources_of release.now) (release_tests (B.record_of bench.now) (rows_now release.now)) point_count (tree_view expr.now)) }
+{
+    let pieces = equal_pieces(alloc, bench)?;
+    let index = SetIndex::of(alloc, bench, pieces.as_slice(), release, rows)?;
     eval_over(alloc, &index, aliases, expr)
 }

@@ -7,7 +7,7 @@ use Rattle.unicodeset_eval.specs.Indexes.{index_holds}
 use Rattle.unicodeset_eval.specs.ReleaseTests.{release_tests}
 use Rattle.unicodeset_parser.specs.Views.{tree_view}
 use Rattle.unicodeset_eval.proofs.AnswerLemmas.{answer_by}
-use Rattle.unicodeset_eval.proofs.release_eval.eval.Goals as goal
+use Rattle.unicodeset_eval.proofs.release_eval.eval_by.Goals as goal
 
 pub returns : goal.returns
 returns g c =

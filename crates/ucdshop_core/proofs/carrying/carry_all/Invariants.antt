@@ -5,7 +5,7 @@ use Rattle.ucdshop_core.specs.Carrying.{counted, session_of}
 use Rattle.ucdshop_core.specs.Counting.{SessionCounts}
 use Rattle.set_questions.specs.RowNames.{AreKept}
 use Rattle.ucdshop_core.specs.Session.{session, started, step}
-use Rattle.ucdshop_core.proofs.carrying.carry_out.Given as goal
+use Rattle.ucdshop_core.proofs.carrying.carry_all.Given as goal
 
 -- the session so far and the commands that are left give what the whole gives; each other command is counted
 abbrev pub invariant-commands : goal.invariant-commands

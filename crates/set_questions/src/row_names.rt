@@ -1,6 +1,6 @@
 //! What questions need of the rows alone.
 
-ghost use Rattle.std.specs.Prelude.{◌≡◌, IfOk, OnOk, IsSome, None, if◌then◌else◌};
+ghost use Rattle.std.specs.Prelude.{◌≡◌, IfOk, OnOk, IsSome, None, Some, if◌then◌else◌};
 ghost use Rattle.std.specs.List.{list_any};
 ghost use Rattle.property_aliases.specs.Found.{AreAliasesOf};
 ghost use Rattle.property_aliases.specs.Numbers.{AreNumbersOf};
@@ -89,7 +89,15 @@ pub fn keep_names(
     ensures some { OnOk result (IsSome kept.new) }
 {
     if kept.is_none() {
-        *kept = Some(RowNames::of(alloc, release)?);
+        let names = RowNames::of(alloc, release)?;
+        put_names(kept, names);
     }
     Ok(())
+}
+
+/// Puts names there.
+fn put_names(kept: &mut Option<RowNames>, names: RowNames)
+    ensures { kept.new ≡ Some names }
+{
+    *kept = Some(names);
 }

@@ -3,11 +3,10 @@ use Rattle.std.proofs.Common.{◌≡◌, ℕ, ◌+◌, ◌≤◌, Bool, true, fa
 use Rattle.std.specs.Prelude.{if◌then◌else◌}
 use Rattle.std.specs.List.{AllByRecursion as Each}
 use Rattle.std.specs.Option.{option_map}
-use Rattle.release_rows.specs.Releases.{ReleaseItems}
+use Rattle.release_rows.specs.Releases.{ReleaseItems, rows_now}
 use Rattle.ucd_points.specs.Limits.{point_count}
 use Rattle.ucd_model.specs.Facts.{Facts}
 use Rattle.ucd_model.specs.FactsLemmas.{facts_outside}
-use Rattle.stability_policies.specs.Views.{rows_of}
 use Rattle.age_chain.specs.AgeLaws.{AgeIsOfTheFirst}
 use Rattle.age_chain.specs.Ages.{age, is_assigned, last_of}
 
@@ -43,7 +42,7 @@ ageless (release ∷ later) c all = not_here (is_assigned release c) (age later 
 
 pub age_past : (releases : List ReleaseItems) (c : ℕ) → point_count ≤ c → age releases c ≡ None
 age_past [] c le = refl
-age_past (release ∷ later) c le = not_here (is_assigned release c) (age later c) (ap (λ (F : Facts). F.assigned) (facts_outside (rows_of release) c le)) (age_past later c le)
+age_past (release ∷ later) c le = not_here (is_assigned release c) (age later c) (ap (λ (F : Facts). F.assigned) (facts_outside (rows_now release) c le)) (age_past later c le)
 
 -- ---- the first release
 

@@ -6,12 +6,11 @@
 --                    the same four forms in it and in every later one
 use Rattle.std.specs.Prelude.{◌≡◌, ◌+◌, ℕ, true, false, List, ◌∷◌, ◌++◌, length, drop, Some, None}
 use Rattle.std.specs.List.{AllByRecursion as Each}
-use Rattle.release_rows.specs.Releases.{ReleaseItems}
+use Rattle.release_rows.specs.Releases.{ReleaseItems, rows_now}
 use Rattle.ucd_model.specs.Facts.{facts}
 use Rattle.stability_policies.specs.ChainForms.{StepsKeepForms}
 use Rattle.stability_policies.specs.CommonForms.{AllAssigned}
 use Rattle.stability_policies.specs.StableForms.{SameForms}
-use Rattle.stability_policies.specs.Views.{rows_of}
 use Rattle.age_chain.specs.Ages.{age, is_assigned}
 
 pub record AgeIsOfTheFirst : Type 0 where
@@ -23,4 +22,4 @@ pub record AgeIsOfTheFirst : Type 0 where
 abbrev pub FormsStayFrom : Type 0
 FormsStayFrom =
     (releases : List ReleaseItems) (k : ℕ) (release : ReleaseItems) (later : List ReleaseItems) → drop k releases ≡ release ∷ later → StepsKeepForms release later
-    → (s : List ℕ) → AllAssigned (facts (rows_of release)) s → Each (λ new. SameForms (facts (rows_of release)) (facts (rows_of new)) s) later
+    → (s : List ℕ) → AllAssigned (facts (rows_now release)) s → Each (λ new. SameForms (facts (rows_now release)) (facts (rows_now new)) s) later

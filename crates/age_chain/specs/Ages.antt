@@ -19,14 +19,13 @@ use Rattle.std.specs.Fmt.{decimal}
 use Rattle.std.specs.Option.{option_map}
 use Rattle.range_table.specs.RunTable.{values_now}
 use Rattle.range_table.specs.declared.run_table.RunTable.{RunTable}
-use Rattle.release_rows.specs.Releases.{ReleaseItems}
+use Rattle.release_rows.specs.Releases.{ReleaseItems, rows_now}
 use Rattle.ucd_points.specs.Limits.{point_count}
 use Rattle.ucd_model.specs.DerivedFiles.{listed}
 use Rattle.ucd_model.specs.DerivedText.{section_text}
 use Rattle.ucd_model.specs.Facts.{facts}
 use Rattle.ucd_model.specs.Labels.{Label}
 use Rattle.stability_policies.specs.Reports.{report}
-use Rattle.stability_policies.specs.Views.{rows_of}
 use Rattle.stability_policies.specs.declared.breaks.Break.{Break}
 
 abbrev pub first_with : List (ℕ → Bool) → ℕ → Option ℕ
@@ -34,7 +33,7 @@ first_with [] c = None
 first_with (test ∷ tests) c = if test c then Some 1 else option_map (λ k. k + 1) (first_with tests c)
 
 abbrev pub is_assigned : ReleaseItems → ℕ → Bool
-is_assigned release c = (facts (rows_of release) c).assigned
+is_assigned release c = (facts (rows_now release) c).assigned
 
 abbrev pub age : List ReleaseItems → ℕ → Option ℕ
 age releases c = first_with (map is_assigned releases) c

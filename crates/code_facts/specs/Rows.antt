@@ -1,7 +1,5 @@
 -- The rows of a release, and what a row of UnicodeData.txt gives to a code point that it covers.
 --
--- release_sources release    the rows of each file now
--- next_sources release       the rows of each file next
 -- Apart rows                 no row of UnicodeData.txt covers a code point that a row above it covers
 -- PointData                  what the row gives: its part of the word, the mapping, and the simple mappings, each a list of one
 --                            code point, or an empty one where the row has none
@@ -11,18 +9,10 @@
 -- row_data c row             what the row that covers c gives; without a row category Cn and nothing else
 use Rattle.std.specs.Prelude.{◌≡◌, ℕ, ◌<◌, true, List, [], length, take, find, Option, Some, None, is_some, slice_index_or}
 use Rattle.std.specs.Option.{option_to_list}
-use Rattle.ucd_model.specs.Facts.{Sources, is_data_of, category_in, class_in, kind_in, mapping_in}
+use Rattle.ucd_model.specs.Facts.{is_data_of, category_in, class_in, kind_in, mapping_in}
 use Rattle.ucd_model.specs.declared.row.Row.{Row}
 use Rattle.ucd_model.specs.declared.row.DataRow.{DataRow}
-use Rattle.release_rows.specs.FileItems.{rows_in}
-use Rattle.release_rows.specs.Releases.{ReleaseItems, items_now, items_next}
 use Rattle.code_facts.specs.Word.{data_part}
-
-abbrev pub release_sources : ReleaseItems → Sources
-release_sources release file = rows_in (items_now release file)
-
-abbrev pub next_sources : ReleaseItems → Sources
-next_sources release file = rows_in (items_next release file)
 
 abbrev pub Apart : List Row → Type 0
 Apart rows = (i c : ℕ) (other : Row) → i < length rows → is_data_of c (slice_index_or rows i other) ≡ true → find (is_data_of c) (take i rows) ≡ None

@@ -11,7 +11,7 @@ ghost use Rattle.code_facts.specs.Index.{is_listed};
 ghost use Rattle.code_facts.specs.KeptFacts.{Packs};
 ghost use Rattle.code_facts.specs.Locality.{rows_within};
 ghost use Rattle.code_facts.specs.RowTables.{ShowsRows, word_in, rest_in, made_facts};
-ghost use Rattle.code_facts.specs.Rows.{release_sources, next_sources};
+ghost use Rattle.release_rows.specs.Releases.{rows_now, rows_next};
 ghost use Rattle.code_facts.specs.Word.{packed};
 
 use crate::copying::{copy_spans, put_spans};
@@ -41,8 +41,8 @@ impl<T: Table<u64>> FactTables<T> {
     ///
     /// - `Memory`: memory ran out.
     pub fn of(alloc: Global, release: &Release) -> Result<FactTables<T>, Memory>
-        ensures now { IfOk result (λ tables. ⟦<FactTables<T> as FactView>⟧.facts_of tables ≡ facts (release_sources release.now)) }
-        ensures next { IfOk result (λ tables. tables_next T.now tables ≡ facts (release_sources release.now)) }
+        ensures now { IfOk result (λ tables. ⟦<FactTables<T> as FactView>⟧.facts_of tables ≡ facts (rows_now release.now)) }
+        ensures next { IfOk result (λ tables. tables_next T.now tables ≡ facts (rows_now release.now)) }
     {
         let made = tables_of(alloc, release)?;
         let tables = FactTables::filled(alloc, &made)?;
@@ -75,9 +75,9 @@ impl<T: Table<u64>> FactTables<T> {
     pub fn prepare(&mut self, alloc: Global, after: &Release, touched: &Spans) -> Result<(), Memory>
         requires ready { tables_next T.now self.old ≡ tables_facts T.now self.old }
         requires touched { (c : ℕ) → c < 1114112 → list_any (within c) touched.now ≡ false
-            → tables_facts T.now self.old c ≡ facts (next_sources after.now) c }
+            → tables_facts T.now self.old c ≡ facts (rows_next after.now) c }
         ensures now { tables_facts T.now self.new ≡ tables_facts T.now self.old }
-        ensures ok { OnOk result (tables_next T.now self.new ≡ facts (next_sources after.now)) }
+        ensures ok { OnOk result (tables_next T.now self.new ≡ facts (rows_next after.now)) }
         ensures err { OnErr result (tables_next T.now self.new ≡ tables_next T.now self.old) }
     {
         if touched.as_slice().is_empty() {
@@ -152,7 +152,7 @@ impl<T: Table<u64>> FactTables<T> {
 ///
 /// - `Memory`: memory ran out.
 fn tables_of(alloc: Global, release: &Release) -> Result<RowTables, Memory>
-    ensures { IfOk result (λ made. (c : ℕ) → c < 1114112 → ShowsRows made (release_sources release.now) c) }
+    ensures { IfOk result (λ made. (c : ℕ) → c < 1114112 → ShowsRows made (rows_now release.now) c) }
 {
     let rows = RowLists::of(alloc, release)?;
     let made = RowTables::of(alloc, &rows)?;
@@ -163,7 +163,7 @@ fn tables_of(alloc: Global, release: &Release) -> Result<RowTables, Memory>
 ///
 /// - `Memory`: memory ran out.
 fn touching_tables(alloc: Global, release: &Release, spans: &[Span]) -> Result<RowTables, Memory>
-    ensures { IfOk result (λ made. (c : ℕ) → c < 1114112 → ShowsRows made (rows_within (meets spans.now) (next_sources release.now)) c) }
+    ensures { IfOk result (λ made. (c : ℕ) → c < 1114112 → ShowsRows made (rows_within (meets spans.now) (rows_next release.now)) c) }
 {
     let rows = RowLists::touching(alloc, release, spans)?;
     let made = RowTables::of(alloc, &rows)?;

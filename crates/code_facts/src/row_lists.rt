@@ -6,7 +6,8 @@ ghost use Rattle.release_rows.specs.Touching.{meets};
 ghost use Rattle.release_rows.specs.ValuesApart.{AreValuesApart};
 ghost use Rattle.code_facts.specs.Locality.{rows_within};
 ghost use Rattle.code_facts.specs.RowLists.{AreRowsOf};
-ghost use Rattle.code_facts.specs.Rows.{Apart, next_sources, release_sources};
+ghost use Rattle.release_rows.specs.Releases.{rows_now, rows_next};
+ghost use Rattle.code_facts.specs.Rows.{Apart};
 
 use release_rows::{Release, RowText};
 use std::alloc::Global;
@@ -35,7 +36,7 @@ impl<'a> RowLists<'a> {
     ///
     /// - `Memory`: memory ran out.
     pub fn of(alloc: Global, release: &'a Release) -> Result<RowLists<'a>, Memory>
-        ensures rows { IfOk result (λ lists. AreRowsOf lists (release_sources release.now)) }
+        ensures rows { IfOk result (λ lists. AreRowsOf lists (rows_now release.now)) }
         ensures apart { IfOk result (λ lists. Apart lists.unicode_data.items) }
         ensures word_breaks_apart { IfOk result (λ lists. AreValuesApart lists.word_break.items) }
     {
@@ -58,7 +59,7 @@ impl<'a> RowLists<'a> {
         release: &'a Release,
         spans: &[Span],
     ) -> Result<RowLists<'a>, Memory>
-        ensures rows { IfOk result (λ lists. AreRowsOf lists (rows_within (meets spans.now) (next_sources release.now))) }
+        ensures rows { IfOk result (λ lists. AreRowsOf lists (rows_within (meets spans.now) (rows_next release.now))) }
         ensures apart { IfOk result (λ lists. Apart lists.unicode_data.items) }
         ensures word_breaks_apart { IfOk result (λ lists. AreValuesApart lists.word_break.items) }
     {
@@ -77,7 +78,7 @@ impl<'a> RowLists<'a> {
 ///
 /// - `Memory`: memory ran out.
 fn rows_of(alloc: Global, release: &Release, file: SourceFile) -> Result<Vec<RowText<'_>>, Memory>
-    ensures { IfOk result (λ rows. rows.items ≡ release_sources release.now file) }
+    ensures { IfOk result (λ rows. rows.items ≡ rows_now release.now file) }
 {
     let mut texts = Vec::new(alloc);
     let mut rows = release.rows(file);
@@ -91,7 +92,7 @@ fn rows_of(alloc: Global, release: &Release, file: SourceFile) -> Result<Vec<Row
 ///
 /// - `Memory`: memory ran out.
 fn data_rows_of(alloc: Global, release: &Release) -> Result<Vec<RowText<'_>>, Memory>
-    ensures rows { IfOk result (λ rows. rows.items ≡ release_sources release.now UnicodeData) }
+    ensures rows { IfOk result (λ rows. rows.items ≡ rows_now release.now UnicodeData) }
     ensures apart { IfOk result (λ rows. Apart rows.items) }
 {
     let _rows = release.rows(SourceFile::UnicodeData);
@@ -107,7 +108,7 @@ fn data_rows_in<'a>(
     release: &'a Release,
     spans: &[Span],
 ) -> Result<Vec<RowText<'a>>, Memory>
-    ensures rows { IfOk result (λ rows. rows.items ≡ filter (meets spans.now) (next_sources release.now UnicodeData)) }
+    ensures rows { IfOk result (λ rows. rows.items ≡ filter (meets spans.now) (rows_next release.now UnicodeData)) }
     ensures apart { IfOk result (λ rows. Apart rows.items) }
 {
     let _rows = release.next_rows(SourceFile::UnicodeData);
@@ -118,7 +119,7 @@ fn data_rows_in<'a>(
 ///
 /// - `Memory`: memory ran out.
 fn word_breaks_of(alloc: Global, release: &Release) -> Result<Vec<RowText<'_>>, Memory>
-    ensures rows { IfOk result (λ rows. rows.items ≡ release_sources release.now WordBreakProperty) }
+    ensures rows { IfOk result (λ rows. rows.items ≡ rows_now release.now WordBreakProperty) }
     ensures apart { IfOk result (λ rows. AreValuesApart rows.items) }
 {
     let _rows = release.rows(SourceFile::WordBreakProperty);
@@ -134,7 +135,7 @@ fn word_breaks_in<'a>(
     release: &'a Release,
     spans: &[Span],
 ) -> Result<Vec<RowText<'a>>, Memory>
-    ensures rows { IfOk result (λ rows. rows.items ≡ filter (meets spans.now) (next_sources release.now WordBreakProperty)) }
+    ensures rows { IfOk result (λ rows. rows.items ≡ filter (meets spans.now) (rows_next release.now WordBreakProperty)) }
     ensures apart { IfOk result (λ rows. AreValuesApart rows.items) }
 {
     let _rows = release.next_rows(SourceFile::WordBreakProperty);

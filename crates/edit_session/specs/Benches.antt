@@ -11,14 +11,13 @@ use Rattle.std.specs.Prelude.{◌≡◌, ℕ, Some, None, ⊤}
 use Rattle.ucd_model.specs.Facts.{Facts, facts}
 use Rattle.ucd_model.specs.Records.{Record, record_at}
 use Rattle.ucd_model.specs.Validity.{first_broken}
-use Rattle.release_rows.specs.Releases.{ReleaseItems}
-use Rattle.code_facts.specs.Rows.{release_sources}
+use Rattle.release_rows.specs.Releases.{ReleaseItems, rows_now}
 use Rattle.code_facts.specs.Word.{packed}
 use Rattle.edit_session.specs.declared.open_stop.OpenStop.{OpenStop}
 use Rattle.edit_session.specs.declared.open_stop.OpenStop.TheVariants.{Invalid, Memory}
 
 abbrev pub bench_facts : ReleaseItems → ℕ → Facts
-bench_facts release = facts (release_sources release)
+bench_facts release = facts (rows_now release)
 
 abbrev pub bench_record : ReleaseItems → ℕ → Record
 bench_record release = record_at (bench_facts release)

@@ -1,5 +1,5 @@
 -- What is judged is what was seen, and the path that is written.
-use Rattle.std.proofs.Common.{◌≡◌, ℕ, Bool, List, ◌∷◌, [], map, Option, Result, Ok, Err, refl, sym, ap, subst, ◌∙◌}
+use Rattle.std.proofs.Common.{◌≡◌, ℕ, Bool, List, ◌∷◌, [], map, Result, Ok, Err, refl, sym, ap, subst, ◌∙◌}
 use Rattle.run_endings.specs.Endings.{Contents, Ending, Expected, Finishes, NewFile, Refuses, Seen, Sees, WritesItsPaths}
 use Rattle.run_endings.specs.Planning.{IsPlanOf, OnRefused, PlansAs}
 use Rattle.run_endings.specs.PromiseProofs.{same_ending}

@@ -3,7 +3,7 @@
 -- forms_are_together, plain_forms   the laws of the same names
 -- four_have_forms                   where each form is there, the four of them are together
 -- forms_given                       where each member has its expansions, each form is there
-use Rattle.std.proofs.Common.{◌≡◌, ℕ, Bool, true, false, List, [], ◌∷◌, ◌++◌, Result, Ok, Err, refl, sym, ap, ◌∙◌, arith}
+use Rattle.std.proofs.Common.{◌≡◌, ℕ, Bool, true, false, List, [], ◌∷◌, ◌++◌, Result, Ok, Err, refl, ap, ◌∙◌, arith}
 use Rattle.std.specs.List.{AllByRecursion as Each}
 use Rattle.ucd_model.specs.CanonicalOrder.{class_of}
 use Rattle.ucd_model.specs.Facts.{Facts}
@@ -14,7 +14,7 @@ use Rattle.ucd_model.specs.declared.form.Form.{Form}
 use Rattle.ucd_model.specs.declared.form.Form.TheVariants.{Nfd, Nfc, Nfkd, Nfkc}
 use Rattle.normalisation.specs.ExpandedLemmas.{Unmapped, expansions_unmapped}
 use Rattle.normalisation.specs.FormLaws.{FormsAreTogether, HasExpansion, PlainForms}
-use Rattle.normalisation.specs.FormValues.{AreForms, HasList, all_four, form_of, four_forms}
+use Rattle.normalisation.specs.FormValues.{HasList, all_four, form_of, four_forms}
 use Rattle.normalisation.specs.OrderLemmas.{order-ordered}
 use Rattle.normalisation.specs.declared.all_forms.Forms.{Forms}
 

@@ -10,6 +10,7 @@
 -- loaded release file items       the release whose file has these items, now and next
 -- rows_of_items files file        the rows of one file, where these are the items of the files
 -- rows_now release file           the rows of one file now
+-- rows_next release file          the rows of one file next
 -- onto_numbered line row rows     the row with the number of its line before the others; the others alone where there is no row
 -- numbered_rows line items        the rows in order, each with the number of its first line; the first item's line is given
 -- rows_at items                   the same, with lines counted from 1
@@ -75,6 +76,9 @@ rows_of_items files file = rows_in (items_at files file)
 
 abbrev pub rows_now : ReleaseItems → SourceFile → List Row
 rows_now release file = rows_of_items release.current file
+
+abbrev pub rows_next : ReleaseItems → SourceFile → List Row
+rows_next release file = rows_of_items release.prepared file
 
 abbrev pub onto_numbered : ℕ → Option Row → List (ℕ × Row) → List (ℕ × Row)
 onto_numbered line None rows = rows

@@ -1,6 +1,5 @@
 -- What a question is answered on the files of a release. UTS #35, "Unicode Sets".
 --
--- files_rows files                the rows of each of these files
 -- files_sources files             what names are resolved by in these files
 -- files_hold files test c         what a test says of the code point c, by the rows of these files and by what is derived of them;
 --                                 past 10FFFF it holds of nothing
@@ -15,10 +14,8 @@ use Rattle.std.specs.Prelude.{◌≡◌, ℕ, Bool, ◌&&◌, nat_lt, List, Resu
 use Rattle.ucd_points.specs.Bounds.{Bounds}
 use Rattle.ucd_points.specs.Limits.{point_count}
 use Rattle.ucd_model.specs.Records.{record_at}
-use Rattle.ucd_points.specs.declared.files.SourceFile.{SourceFile}
-use Rattle.ucd_model.specs.declared.row.Row.{Row}
-use Rattle.release_rows.specs.FileItems.{FileItem, rows_in}
-use Rattle.release_rows.specs.Releases.{items_at}
+use Rattle.release_rows.specs.FileItems.{FileItem}
+use Rattle.release_rows.specs.Releases.{rows_of_items}
 use Rattle.edit_session.specs.Groups.{files_facts}
 use Rattle.property_aliases.specs.Sources.{Sources, sources_of}
 use Rattle.property_aliases.specs.declared.property.Test.{Test}
@@ -32,14 +29,11 @@ use Rattle.set_questions.specs.declared.ask_stop.AskRule.TheVariants.{Text, Name
 use Rattle.set_questions.specs.declared.ask_stop.AskStop.{AskStop}
 use Rattle.set_questions.specs.declared.ask_stop.AskStop.TheVariants.{Fault, Memory}
 
-abbrev pub files_rows : List (List FileItem) → SourceFile → List Row
-files_rows files file = rows_in (items_at files file)
-
 abbrev pub files_sources : List (List FileItem) → Sources
 files_sources files = sources_of (record { current = files; prepared = files })
 
 abbrev pub files_hold : List (List FileItem) → Test → ℕ → Bool
-files_hold files test c = nat_lt c point_count && test_holds (record_at (files_facts files)) (files_rows files) test c
+files_hold files test c = nat_lt c point_count && test_holds (record_at (files_facts files)) (rows_of_items files) test c
 
 abbrev pub text_fault : TextFault → AskFault
 text_fault f = record { rule = Text f.rule; at = f.at }

@@ -13,12 +13,13 @@ use Rattle.release_rows.specs.FileItems.{FileItem}
 use Rattle.release_rows.specs.Operations.{op_file}
 use Rattle.release_rows.specs.declared.operation.Op.{Op}
 use Rattle.unicodeset_eval.specs.Found.{AreRowSets}
-use Rattle.set_questions.specs.Questions.{files_rows, files_sources}
+use Rattle.release_rows.specs.Releases.{rows_of_items}
+use Rattle.set_questions.specs.Questions.{files_sources}
 use Rattle.set_questions.specs.declared.row_names.RowNames.{RowNames}
 
 pub record AreRowNames (names : RowNames) (files : List (List FileItem)) : Type 0 where
   pub meant : AreAliasesOf names.aliases (files_sources files)
-  pub sets : AreRowSets names.sets (files_rows files)
+  pub sets : AreRowSets names.sets (rows_of_items files)
 
 abbrev pub AreKept : Option RowNames → List (List FileItem) → Type 0
 AreKept None files = ⊤

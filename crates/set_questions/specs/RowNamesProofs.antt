@@ -18,7 +18,7 @@ use Rattle.property_aliases.specs.Sources.{Sources, alias_rows, break_names, lis
 use Rattle.release_rows.specs.FileItems.{FileItem, rows_in}
 use Rattle.release_rows.specs.FileLemmas.{items_at-with_items_other}
 use Rattle.release_rows.specs.Operations.{edited, op_file, op_or_rule, with_edited}
-use Rattle.release_rows.specs.Releases.{ReleaseItems, items_at, with_items}
+use Rattle.release_rows.specs.Releases.{ReleaseItems, items_at, with_items, rows_of_items}
 use Rattle.release_rows.specs.declared.key_rule.KeyRule.{KeyRule}
 use Rattle.release_rows.specs.declared.operation.Op.{Op}
 use Rattle.edit_session.specs.Groups.{AppliesAs, after_ops, checked_files, files_facts, group_answer, then_ops, valid_files}
@@ -26,10 +26,9 @@ use Rattle.edit_session.specs.declared.accepted.Accepted.{Accepted}
 use Rattle.edit_session.specs.declared.apply_stop.ApplyStop.{ApplyStop}
 use Rattle.edit_session.specs.declared.apply_stop.ApplyStop.TheVariants.{Refused as Refuses, Memory}
 use Rattle.edit_session.specs.declared.apply_stop.Refused.{Refused}
-use Rattle.unicodeset_eval.specs.Found.{AreRowSets, has_at}
 use Rattle.unicodeset_eval.specs.Tests.{is_listed, is_numbered}
-use Rattle.set_questions.specs.Questions.{files_rows, files_sources}
-use Rattle.set_questions.specs.RowNames.{AreKept, AreRowNames, gives_names, renames}
+use Rattle.set_questions.specs.Questions.{files_sources}
+use Rattle.set_questions.specs.RowNames.{AreKept, gives_names, renames}
 use Rattle.set_questions.specs.declared.row_names.RowNames.{RowNames}
 
 abbrev Files : Type 0
@@ -88,17 +87,17 @@ told_by properties values listed scripts breaks = record {
   breaks = break_names breaks;
 }
 
-rows_same : (old next : Files) → SameNames old next → (file : SourceFile) → gives_names file ≡ true → files_rows old file ≡ files_rows next file
+rows_same : (old next : Files) → SameNames old next → (file : SourceFile) → gives_names file ≡ true → rows_of_items old file ≡ rows_of_items next file
 rows_same old next same file here = ap rows_in (sym (same file here))
 
 sources_same : (old next : Files) → SameNames old next → files_sources old ≡ files_sources next
 sources_same old next same =
     let r = rows_same old next same in
-    ap (λ rows. told_by rows (files_rows old PropertyValueAliases) (files_rows old PropList) (files_rows old Scripts) (files_rows old WordBreakProperty)) (r PropertyAliases refl)
-    ∙ ap (λ rows. told_by (files_rows next PropertyAliases) rows (files_rows old PropList) (files_rows old Scripts) (files_rows old WordBreakProperty)) (r PropertyValueAliases refl)
-    ∙ ap (λ rows. told_by (files_rows next PropertyAliases) (files_rows next PropertyValueAliases) rows (files_rows old Scripts) (files_rows old WordBreakProperty)) (r PropList refl)
-    ∙ ap (λ rows. told_by (files_rows next PropertyAliases) (files_rows next PropertyValueAliases) (files_rows next PropList) rows (files_rows old WordBreakProperty)) (r Scripts refl)
-    ∙ ap (λ rows. told_by (files_rows next PropertyAliases) (files_rows next PropertyValueAliases) (files_rows next PropList) (files_rows next Scripts) rows) (r WordBreakProperty refl)
+    ap (λ rows. told_by rows (rows_of_items old PropertyValueAliases) (rows_of_items old PropList) (rows_of_items old Scripts) (rows_of_items old WordBreakProperty)) (r PropertyAliases refl)
+    ∙ ap (λ rows. told_by (rows_of_items next PropertyAliases) rows (rows_of_items old PropList) (rows_of_items old Scripts) (rows_of_items old WordBreakProperty)) (r PropertyValueAliases refl)
+    ∙ ap (λ rows. told_by (rows_of_items next PropertyAliases) (rows_of_items next PropertyValueAliases) rows (rows_of_items old Scripts) (rows_of_items old WordBreakProperty)) (r PropList refl)
+    ∙ ap (λ rows. told_by (rows_of_items next PropertyAliases) (rows_of_items next PropertyValueAliases) (rows_of_items next PropList) rows (rows_of_items old WordBreakProperty)) (r Scripts refl)
+    ∙ ap (λ rows. told_by (rows_of_items next PropertyAliases) (rows_of_items next PropertyValueAliases) (rows_of_items next PropList) (rows_of_items next Scripts) rows) (r WordBreakProperty refl)
 
 pub kept_stays : (kept : Option RowNames) (old next : Files) → SameNames old next → AreKept kept old → AreKept kept next
 kept_stays None old next same are = tt

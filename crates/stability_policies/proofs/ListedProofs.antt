@@ -4,7 +4,7 @@ use Rattle.std.specs.List.{AllByRecursion as Each, flat_map, list_all, list_any,
 use Rattle.std.specs.Str.{bytes_eq}
 use Rattle.std.proofs.lemmas.Bool.{and_parts, cases_lt, eq-eqb, eqb-true}
 use Rattle.std.proofs.lemmas.Slice.Eq.{bytes_eq-Decides}
-use Rattle.release_rows.specs.Releases.{ReleaseItems}
+use Rattle.release_rows.specs.Releases.{ReleaseItems, rows_now}
 use Rattle.ucd_model.specs.Composites.{first_has_class_zero, is_canonical, primary}
 use Rattle.ucd_model.specs.Facts.{Facts, Sources, data_row, facts, given, kind_in}
 use Rattle.ucd_model.specs.FactsLemmas.{facts_inside, facts_outside}
@@ -25,7 +25,7 @@ use Rattle.stability_policies.specs.CommonForms.{AllAssigned, KeepsForms, ListsN
 use Rattle.stability_policies.specs.Policies.{all_assigned, breaks, caseless, folded, place_of_policy, policies, same_list, same_mapping, sort_of}
 use Rattle.stability_policies.specs.Reports.{breaks_of, is_of, report}
 use Rattle.stability_policies.specs.StableForms.{FoldsAlike, IsRooted, Old, StaysNormal}
-use Rattle.stability_policies.specs.Views.{IsValid, rows_of}
+use Rattle.stability_policies.specs.Views.{IsValid}
 use Rattle.stability_policies.specs.declared.breaks.Break.{Break}
 use Rattle.stability_policies.specs.declared.breaks.Break.TheVariants.{At}
 use Rattle.stability_policies.specs.declared.policy.Policy.{Policy}
@@ -111,10 +111,10 @@ IsQuiet O N policy = (c : ℕ) → c < point_count → breaks policy O N c ≡ f
 
 module _ (old new : ReleaseItems) where
   abbrev O : ℕ → Facts
-  O = facts (rows_of old)
+  O = facts (rows_now old)
 
   abbrev N : ℕ → Facts
-  N = facts (rows_of new)
+  N = facts (rows_now new)
 
   abbrev by_policy : Policy → List Break
   by_policy policy = breaks_of policy old new
@@ -203,10 +203,10 @@ stays_by O N roots no_loss no_class no_mapping no_composite =
 
 module _ (old new : ReleaseItems) where
   abbrev F : ℕ → Facts
-  F = facts (rows_of old)
+  F = facts (rows_now old)
 
   abbrev G : ℕ → Facts
-  G = facts (rows_of new)
+  G = facts (rows_now new)
 
   have_records : IsValid old → AllHaveRecords F
   have_records valid = (valid_is_unbroken F).1 valid
@@ -216,17 +216,17 @@ module _ (old new : ReleaseItems) where
 
   members_old : IsValid old → (c : ℕ) → Old F c → Each (Old F) (F c).mapping
   members_old valid c is =
-      let lt : c < point_count = point_of (rows_of old) c is in
+      let lt : c < point_count = point_of (rows_now old) c is in
       let rules = broken-rules F c (broken-none F c (have_records valid c lt)) in
       let first : lacks_row F c (F c).mapping ≡ false = or_left_false (lacks_row F c (F c).mapping) _ rules.rows in
       mapping_members F c (F c).mapping (bytes_eq (F c).mapping (c ∷ [])) refl is first
 
   pub has_rows : IsValid old → IsRooted F G
   has_rows valid = record {
-    within = point_of (rows_of old);
+    within = point_of (rows_now old);
     members = members_old valid;
-    composites = primary_rooted (rows_of old);
-    later = λ c is. point_of (rows_of new) c (primary_rooted (rows_of new) c is);
+    composites = primary_rooted (rows_now old);
+    later = λ c is. point_of (rows_now new) c (primary_rooted (rows_now new) c is);
   }
 
   pub stays_normal : IsValid old → KeepsForms (report old new) → StaysNormal F G
@@ -234,12 +234,12 @@ module _ (old new : ReleaseItems) where
       stays_by F G (has_rows valid) (quiet_assigned old new keeps.assigned) (quiet_class old new keeps.class) (quiet_mapping old new keeps.mapping) (quiet_composites old new keeps.composites)
 
   pub stays_assigned : KeepsForms (report old new) → (c : ℕ) → Old F c → Old G c
-  stays_assigned keeps c is = not_false (G c).assigned (and_left_true (F c).assigned (not (G c).assigned) is (quiet_assigned old new keeps.assigned c (point_of (rows_of old) c is)))
+  stays_assigned keeps c is = not_false (G c).assigned (and_left_true (F c).assigned (not (G c).assigned) is (quiet_assigned old new keeps.assigned c (point_of (rows_now old) c is)))
 
   pub folds_alike : ListsNone P10 (report old new) → FoldsAlike F G
   folds_alike none c is =
       not_false (same_list (caseless F (c ∷ [])) (caseless G (c ∷ [])))
-      (and_left_true (F c).assigned (not (same_list (caseless F (c ∷ [])) (caseless G (c ∷ [])))) is (quiet_foldings old new none c (point_of (rows_of old) c is)))
+      (and_left_true (F c).assigned (not (same_list (caseless F (c ∷ [])) (caseless G (c ∷ [])))) is (quiet_foldings old new none c (point_of (rows_now old) c is)))
 
   pub each_old : (s : List ℕ) → AllAssigned F s → Each (Old F) s
   each_old s e = all_each (λ c. (F c).assigned) s e
@@ -252,7 +252,7 @@ module _ (old new : ReleaseItems) where
 
   old_expand : (compat : Bool) → IsValid old → (s : List ℕ) → Each (Old F) s → Each (HasExpansion F compat) s
   old_expand compat valid [] e = tt
-  old_expand compat valid (c ∷ s) e = (old_expansions compat valid c (point_of (rows_of old) c e.0), old_expand compat valid s e.1)
+  old_expand compat valid (c ∷ s) e = (old_expansions compat valid c (point_of (rows_now old) c e.0), old_expand compat valid s e.1)
 
   pub form_given : IsValid old → (form : Form) (s : List ℕ) → Each (Old F) s → HasList (form_of F form s)
   form_given valid form s e = forms_given F s (λ compat. old_expand compat valid s e) form

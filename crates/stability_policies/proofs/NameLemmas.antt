@@ -4,7 +4,7 @@ use Rattle.std.specs.List.{range_with_len}
 use Rattle.std.proofs.lemmas.Bool.{cases_lt}
 use Rattle.std.proofs.lemmas.Bool.Decides.{nat_tests}
 use mathlib.Core.Path.{fun_ext}
-use Rattle.release_rows.specs.Releases.{ReleaseItems}
+use Rattle.release_rows.specs.Releases.{ReleaseItems, rows_now}
 use Rattle.ucd_points.specs.Limits.{point_count}
 use Rattle.ucd_points.specs.declared.files.SourceFile.TheVariants.{UnicodeData}
 use Rattle.ucd_model.specs.Facts.{data_in, data_row, is_data_of, within}
@@ -13,7 +13,6 @@ use Rattle.ucd_model.specs.declared.row.Row.TheVariants.{Unit as DataLine, Value
 use Rattle.stability_policies.specs.NamedRows.{AreAbove, BeginsAt, IsRest, end_at, left_behind, name_at, name_here, named}
 use Rattle.stability_policies.specs.Policies.{differ, is_renamed, name_of}
 use Rattle.stability_policies.specs.Reports.{breaks_of}
-use Rattle.stability_policies.specs.Views.{rows_of}
 use Rattle.stability_policies.specs.declared.breaks.Break.TheVariants.{At}
 use Rattle.stability_policies.specs.declared.policy.Policy.TheVariants.{P02}
 use Rattle.stability_policies.proofs.PointLemmas.{more_breaks}
@@ -132,10 +131,10 @@ pub names_all : {B : Type 0} (f : ℕ → B) (init xs : List B) (before after : 
 unfolding point_count
 names_all f init xs before after n all so_far = so_far ∙ ap (λ k. init ++ map f (filter (changed before after) (range_with_len 0 k))) all
 
-pub names_break : (old new : ReleaseItems) (before after : List Row) → before ≡ rows_of old UnicodeData → after ≡ rows_of new UnicodeData
+pub names_break : (old new : ReleaseItems) (before after : List Row) → before ≡ rows_now old UnicodeData → after ≡ rows_now new UnicodeData
     → map (At P02) (filter (changed (named before) (named after)) (range_with_len 0 point_count)) ≡ breaks_of P02 old new
 names_break old new before after olds news =
     ap (λ (g : ℕ → Bool). map (At P02) (filter g (range_with_len 0 point_count)))
     (fun_ext (λ c. ap (λ name. differ name (name_at (named after) c)) (name_is before c) ∙ ap (differ (name_of (data_row before c))) (name_is after c)))
     ∙ ap (λ (rows : List Row). map (At P02) (filter (λ c. is_renamed (data_row rows c) (data_row after c)) (range_with_len 0 point_count))) olds
-    ∙ ap (λ (rows : List Row). map (At P02) (filter (λ c. is_renamed (data_row (rows_of old UnicodeData) c) (data_row rows c)) (range_with_len 0 point_count))) news
+    ∙ ap (λ (rows : List Row). map (At P02) (filter (λ c. is_renamed (data_row (rows_now old UnicodeData) c) (data_row rows c)) (range_with_len 0 point_count))) news

@@ -2,14 +2,14 @@
 use Rattle.std.proofs.Common.{◌≡◌, ℕ, ◌<◌, Bool, true, false, ◌&&◌, ◌||◌, not, [], ◌∷◌, List, Result, Ok, Err, refl, ap, subst, sym}
 use Rattle.std.specs.Str.{bytes_eq}
 use Rattle.std.proofs.lemmas.Slice.Eq.{bytes_eq-Decides}
-use Rattle.release_rows.specs.Releases.{ReleaseItems}
+use Rattle.release_rows.specs.Releases.{ReleaseItems, rows_now}
 use Rattle.ucd_model.specs.Casing.{fold_of}
 use Rattle.ucd_model.specs.Facts.{Facts, facts}
 use Rattle.ucd_points.specs.Limits.{point_count}
 use Rattle.ucd_model.specs.declared.form.Bad.{Bad as Rule}
 use Rattle.stability_policies.specs.Policies.{breaks, caseless, same_list}
 use Rattle.stability_policies.specs.StableForms.{IsRooted, Old, StaysNormal, all_kept, keeps_forms}
-use Rattle.stability_policies.specs.Views.{IsValid, rows_of}
+use Rattle.stability_policies.specs.Views.{IsValid}
 use Rattle.stability_policies.specs.declared.policy.Policy.TheVariants.{P01, P03, P04, P05, P10}
 use Rattle.stability_policies.proofs.ListedProofs.{has_rows, stays_by}
 use Rattle.stability_policies.proofs.StableProofs.{caseless_where_folds_stay}
@@ -56,6 +56,6 @@ module _ (O N : ℕ → Facts) (keep : (c : ℕ) → c < point_count → keeps_f
 
 -- ---- views of two releases
 
-pub rooted_views : (O N : ℕ → Facts) (old new : ReleaseItems) → O ≡ facts (rows_of old) → N ≡ facts (rows_of new) → IsValid old → IsRooted O N
+pub rooted_views : (O N : ℕ → Facts) (old new : ReleaseItems) → O ≡ facts (rows_now old) → N ≡ facts (rows_now new) → IsValid old → IsRooted O N
 rooted_views O N old new before after valid =
-    subst (λ (F : ℕ → Facts). IsRooted F N) (sym before) (subst (λ (G : ℕ → Facts). IsRooted (facts (rows_of old)) G) (sym after) (has_rows old new valid))
+    subst (λ (F : ℕ → Facts). IsRooted F N) (sym before) (subst (λ (G : ℕ → Facts). IsRooted (facts (rows_now old)) G) (sym after) (has_rows old new valid))

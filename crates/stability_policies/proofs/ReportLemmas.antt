@@ -4,7 +4,7 @@ use Rattle.std.specs.List.{flat_map, list_any, position, position_or_len}
 use Rattle.std.proofs.lemmas.List.{append-nil, append_assoc, take_all, take_more}
 use Rattle.std.proofs.lemmas.Grind.{flat_map-append}
 use Rattle.std.proofs.lemmas.Bool.Decides.{nat_tests}
-use Rattle.release_rows.specs.Releases.{ReleaseItems}
+use Rattle.release_rows.specs.Releases.{ReleaseItems, rows_now}
 use Rattle.ucd_model.specs.Facts.{Facts, facts}
 use Rattle.ucd_points.specs.Limits.{point_count}
 use Rattle.ucd_points.specs.declared.files.SourceFile.{SourceFile}
@@ -12,7 +12,6 @@ use Rattle.ucd_model.specs.declared.row.Row.{Row}
 use Rattle.stability_policies.specs.BrokenStretches.{AreStretches, breaking}
 use Rattle.stability_policies.specs.Policies.{policies}
 use Rattle.stability_policies.specs.Reports.{breaks_of, is_lost, keeps_names, lost_rows, names_in, report}
-use Rattle.stability_policies.specs.Views.{rows_of}
 use Rattle.stability_policies.specs.declared.breaks.Break.{Break}
 use Rattle.stability_policies.specs.declared.breaks.Break.TheVariants.{At, Alias}
 use Rattle.stability_policies.specs.declared.policy.Policy.{Policy}
@@ -81,7 +80,7 @@ module _ (file : SourceFile) (new : List (ℕ × Row)) where
 
 -- ---- policies
 
-of_points : (policy : Policy) (old new : ReleaseItems) → policy ≢ P02 → policy ≢ P17 → map (At policy) (breaking policy (facts (rows_of old)) (facts (rows_of new)) point_count) ≡ breaks_of policy old new
+of_points : (policy : Policy) (old new : ReleaseItems) → policy ≢ P02 → policy ≢ P17 → map (At policy) (breaking policy (facts (rows_now old)) (facts (rows_now new)) point_count) ≡ breaks_of policy old new
 of_points P01 old new names rows = refl
 of_points P02 old new names rows = absurd (names refl)
 of_points P03 old new names rows = refl
@@ -103,13 +102,13 @@ of_points P18 old new names rows = refl
 of_points P19 old new names rows = refl
 of_points P20 old new names rows = refl
 
-pub of_broken : (policy : Policy) (old new : ReleaseItems) (points : List ℕ) → policy ≢ P02 → policy ≢ P17 → points ≡ breaking policy (facts (rows_of old)) (facts (rows_of new)) point_count
+pub of_broken : (policy : Policy) (old new : ReleaseItems) (points : List ℕ) → policy ≢ P02 → policy ≢ P17 → points ≡ breaking policy (facts (rows_now old)) (facts (rows_now new)) point_count
     → map (At policy) points ≡ breaks_of policy old new
 of_broken policy old new points names rows are = ap (map (At policy)) are ∙ of_points policy old new names rows
 
-pub of_rows : (O N : ℕ → Facts) (old new : ReleaseItems) (found : Stretches) → O ≡ facts (rows_of old) → N ≡ facts (rows_of new) → AreStretches O N found → AreStretches (facts (rows_of old)) (facts (rows_of new)) found
+pub of_rows : (O N : ℕ → Facts) (old new : ReleaseItems) (found : Stretches) → O ≡ facts (rows_now old) → N ≡ facts (rows_now new) → AreStretches O N found → AreStretches (facts (rows_now old)) (facts (rows_now new)) found
 of_rows O N old new found before after are =
-    subst (λ (F : ℕ → Facts). AreStretches F (facts (rows_of new)) found) before (subst (λ (G : ℕ → Facts). AreStretches O G found) after are)
+    subst (λ (F : ℕ → Facts). AreStretches F (facts (rows_now new)) found) before (subst (λ (G : ℕ → Facts). AreStretches O G found) after are)
 
 pub whole_report : (old new : ReleaseItems) (now : List Break) → now ≡ flat_map (λ policy. breaks_of policy old new) policies → now ≡ report old new
 unfolding report

@@ -6,12 +6,12 @@
 --                             each of the later ones
 use Rattle.std.specs.Prelude.{ℕ, List, [], ◌∷◌}
 use Rattle.std.specs.List.{AllByRecursion as Each}
-use Rattle.release_rows.specs.Releases.{ReleaseItems}
+use Rattle.release_rows.specs.Releases.{ReleaseItems, rows_now}
 use Rattle.ucd_model.specs.Facts.{facts}
 use Rattle.stability_policies.specs.CommonForms.{AllAssigned, KeepsForms}
 use Rattle.stability_policies.specs.Reports.{report}
 use Rattle.stability_policies.specs.StableForms.{SameForms}
-use Rattle.stability_policies.specs.Views.{IsValid, rows_of}
+use Rattle.stability_policies.specs.Views.{IsValid}
 
 pub record KeepsAllForms (old new : ReleaseItems) : Type 0 where
   pub valid : IsValid old
@@ -23,5 +23,5 @@ StepsKeepForms old (new ∷ later) = KeepsAllForms old new × StepsKeepForms new
 
 abbrev pub FormsStayThrough : Type 0
 FormsStayThrough =
-    (old : ReleaseItems) (later : List ReleaseItems) → StepsKeepForms old later → (s : List ℕ) → AllAssigned (facts (rows_of old)) s
-    → Each (λ new. SameForms (facts (rows_of old)) (facts (rows_of new)) s) later
+    (old : ReleaseItems) (later : List ReleaseItems) → StepsKeepForms old later → (s : List ℕ) → AllAssigned (facts (rows_now old)) s
+    → Each (λ new. SameForms (facts (rows_now old)) (facts (rows_now new)) s) later

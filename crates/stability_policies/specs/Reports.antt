@@ -13,14 +13,13 @@
 use Rattle.std.specs.Prelude.{ℕ, Bool, true, false, ◌&&◌, not, List, [], ◌∷◌, ◌++◌, ◌==◌, map, filter}
 use Rattle.std.specs.List.{flat_map, list_all, list_any, range_with_len}
 use Rattle.std.specs.Str.{bytes_eq}
-use Rattle.release_rows.specs.Releases.{ReleaseItems, items_now, rows_at}
+use Rattle.release_rows.specs.Releases.{ReleaseItems, items_now, rows_at, rows_now}
 use Rattle.ucd_points.specs.Limits.{point_count}
 use Rattle.ucd_points.specs.declared.files.SourceFile.{SourceFile}
 use Rattle.ucd_points.specs.declared.files.SourceFile.TheVariants.{PropertyAliases, PropertyValueAliases}
 use Rattle.ucd_model.specs.declared.row.Row.{Row}
 use Rattle.ucd_model.specs.declared.row.Row.TheVariants.{Alias as AliasLine}
 use Rattle.stability_policies.specs.Policies.{is_broken, place_of_policy, policies}
-use Rattle.stability_policies.specs.Views.{rows_of}
 use Rattle.stability_policies.specs.declared.breaks.Break.{Break}
 use Rattle.stability_policies.specs.declared.breaks.Break.TheVariants.{At, Alias}
 use Rattle.stability_policies.specs.declared.policy.Policy.{Policy}
@@ -56,7 +55,7 @@ lost_in file old new = lost_rows file (rows_at (items_now old file)) (rows_at (i
 -- ---- the report
 
 abbrev pub point_breaks : Policy → ReleaseItems → ReleaseItems → List Break
-point_breaks policy old new = map (At policy) (filter (is_broken policy (rows_of old) (rows_of new)) (range_with_len 0 point_count))
+point_breaks policy old new = map (At policy) (filter (is_broken policy (rows_now old) (rows_now new)) (range_with_len 0 point_count))
 
 abbrev pub breaks_of : Policy → ReleaseItems → ReleaseItems → List Break
 breaks_of P17 old new = lost_in PropertyAliases old new ++ lost_in PropertyValueAliases old new

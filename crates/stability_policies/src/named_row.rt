@@ -4,7 +4,7 @@ ghost use Rattle.std.specs.Prelude.{◌≡◌, ◌++◌, IfOk, OnOk};
 ghost use Rattle.std.specs.Option.{option_to_list};
 ghost use Rattle.ucd_points.specs.declared.files.SourceFile.TheVariants.{UnicodeData};
 ghost use Rattle.stability_policies.specs.NamedRows.{AreAbove, named, named_in};
-ghost use Rattle.stability_policies.specs.Views.{rows_of};
+ghost use Rattle.release_rows.specs.Releases.{rows_now};
 
 use release_rows::{Release, RowText};
 use source_rows::{rows_are_ok, rows_are_read};
@@ -24,7 +24,7 @@ pub struct NamedRow {
 ///
 /// - `Memory`: memory ran out.
 pub fn data_rows(alloc: Global, release: &Release) -> Result<Vec<RowText<'_>>, Memory>
-    ensures rows { IfOk result (λ rows. rows.items ≡ rows_of release.now UnicodeData) }
+    ensures rows { IfOk result (λ rows. rows.items ≡ rows_now release.now UnicodeData) }
     ensures above { IfOk result (λ rows. AreAbove 0 (named rows.items)) }
 {
     rows_are_read();
@@ -38,7 +38,7 @@ pub fn data_rows(alloc: Global, release: &Release) -> Result<Vec<RowText<'_>>, M
 ///
 /// - `Memory`: memory ran out.
 fn all_rows(alloc: Global, release: &Release) -> Result<Vec<RowText<'_>>, Memory>
-    ensures { IfOk result (λ rows. rows.items ≡ rows_of release.now UnicodeData) }
+    ensures { IfOk result (λ rows. rows.items ≡ rows_now release.now UnicodeData) }
 {
     let mut all = Vec::new(alloc);
     let mut rows = release.rows(SourceFile::UnicodeData);

@@ -5,7 +5,8 @@ ghost use Rattle.ucd_model.specs.Facts.{facts};
 ghost use Rattle.ucd_points.specs.declared.files.SourceFile.TheVariants.{PropertyAliases, PropertyValueAliases};
 ghost use Rattle.stability_policies.specs.BrokenStretches.{AreStretches};
 ghost use Rattle.stability_policies.specs.Reports.{breaks_of, lost_in, report};
-ghost use Rattle.stability_policies.specs.Views.{Belongs, IsValid, rows_of};
+ghost use Rattle.release_rows.specs.Releases.{rows_now};
+ghost use Rattle.stability_policies.specs.Views.{Belongs, IsValid};
 
 use crate::alias_rows::put_lost;
 use crate::breaks::Breaks;
@@ -54,7 +55,7 @@ fn put_breaks(
     stretches: &Stretches,
     into: &mut Breaks,
 ) -> Result<(), Memory>
-    requires { AreStretches (facts (rows_of old.now)) (facts (rows_of new.now)) stretches.now }
+    requires { AreStretches (facts (rows_now old.now)) (facts (rows_now new.now)) stretches.now }
     ensures { OnOk result (into.new ≡ into.old ++ breaks_of policy old.now new.now) }
 {
     match policy {

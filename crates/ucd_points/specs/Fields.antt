@@ -45,7 +45,7 @@
 -- some_point c                a mapping to c, where bytes spell it; None where they spell no code point
 -- case_of bs                  no bytes: there is none; a code point: that one; None for all other bytes
 use Rattle.std.specs.Prelude.{◌≡◌, ◌⊎◌, ℕ, ◌+◌, ◌-◌, ◌*◌, ◌≤◌, Bool, false, ◌&&◌, ◌||◌, not, List, [], ◌∷◌, ◌++◌, length, take, drop, map, Option, Some, None, ◌==◌, nat_lt, nat_le, if◌then◌else◌, unwrap_or, codes, fold}
-use Rattle.std.specs.List.{slice_split, prefix_len, suffix_len, before_first, after_first, position_or_len, list_all}
+use Rattle.std.specs.List.{slice_split, suffix_len, before_first, after_first, position_or_len, list_all}
 use Rattle.std.specs.Str.{bytes_eq}
 use Rattle.ucd_points.specs.Bounds.{Bounds}
 use Rattle.ucd_points.specs.Lines.{is_blank, unindented}

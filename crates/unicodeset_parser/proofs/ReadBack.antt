@@ -12,7 +12,7 @@ use Rattle.ucd_points.specs.HexTextProofs.{hex_text_has_four_to_six_digits, hex_
 use Rattle.unicodeset_parser.specs.Blanks.{is_white, closes}
 use Rattle.unicodeset_parser.specs.Bytes.{begins_with, found_at}
 use Rattle.unicodeset_parser.specs.Escapes.{spelled as spelled_letter, braced_digits, bad_escape, brace_at}
-use Rattle.unicodeset_parser.specs.Grammar.{Stand, nothing, a_set, other, range, step_of, IsLetter, spelled_out, IsChars, up_to, IsSet, a_property, IsBody, closed, joined, IsText}
+use Rattle.unicodeset_parser.specs.Grammar.{Stand, nothing, a_set, step_of, spelled_out, up_to, IsSet, a_property, IsBody, closed, joined}
 use Rattle.unicodeset_parser.specs.Grammar as g
 use Rattle.unicodeset_parser.specs.Lexing.{tokens, lexed_by, escape, escape_by, opening}
 use Rattle.unicodeset_parser.specs.Machine.{before, run}

@@ -4,7 +4,7 @@ use Rattle.std.proofs.lemmas.Bool.Decides.{nat_tests}
 use Rattle.std.specs.Prelude.{nat_lt, nat_le}
 use Rattle.unicodeset_parser.specs.Grammar.{Stand, nothing, a_set, other, range, step_of, IsLetter, spelled_out, first_hyphen, IsChars, one as one_letter, up_to, IsSet, a_property, a_bracket, IsBody, closed, joined, met, taken, spelled, IsText}
 use Rattle.unicodeset_parser.specs.Machine as m
-use Rattle.unicodeset_parser.specs.Machine.{Fault, State, Frame, Mode, within, before, after, first, behind_set, elsewhere, pending, lacking, due, fresh, put, range_of, step, run, then_run}
+use Rattle.unicodeset_parser.specs.Machine.{Fault, Frame, Mode, within, before, after, first, behind_set, elsewhere, pending, lacking, due, fresh, put, range_of, run, then_run}
 use Rattle.unicodeset_parser.specs.Tokens.{Token, placed, Sign, open_set, close, dash, meet, letter, property, wrong}
 use Rattle.unicodeset_parser.specs.Trees.{Tree, Step, bracket_of}
 use Rattle.unicodeset_parser.specs.declared.expr.Join.{Join}

@@ -16,7 +16,7 @@ use Rattle.ucd_points.specs.Fields.{hex_number, if_point}
 use Rattle.unicodeset_parser.specs.Blanks.{blank_size, closes}
 use Rattle.unicodeset_parser.specs.Bytes.{begins_with, found_at}
 use Rattle.unicodeset_parser.specs.Escapes.{bad_escape, spelled as spelled_letter, fixed_digits, braced_digits, any_digits, control_of, control_or, is_letter_or_digit, plain_escape, brace_at}
-use Rattle.unicodeset_parser.specs.Grammar.{Stand, nothing, a_set, other, step_of, IsLetter, spelled_out, first_hyphen, IsChars, one, up_to, IsSet, a_property, IsBody, closed, joined, IsText}
+use Rattle.unicodeset_parser.specs.Grammar.{Stand, nothing, IsLetter, spelled_out, first_hyphen, IsChars, one, up_to, IsSet, a_property, IsBody, closed, joined}
 use Rattle.unicodeset_parser.specs.Grammar as g
 use Rattle.unicodeset_parser.specs.Lexing.{tokens, tokens_by, lexed, lexed_by, opening, escape, escape_by}
 use Rattle.unicodeset_parser.specs.Machine.{Fault, before, run}

@@ -4,7 +4,7 @@ use Rattle.std.proofs.lemmas.Result.{on_ok_weaker}
 use Rattle.ucd_points.specs.Bounds.{Bounds}
 use Rattle.ucd_points.specs.Limits.{point_count}
 use Rattle.ucd_model.specs.Cuts.{IsCut}
-use Rattle.ucd_model.specs.CutLemmas.{cut_ended, next_piece, point_count-is}
+use Rattle.ucd_model.specs.CutLemmas.{cut_ended, next_piece}
 use Rattle.ucd_model.specs.DerivedText.{section_text}
 use Rattle.ucd_model.specs.Labels.{Label}
 use Rattle.ucd_model.specs.Records.{Record, kept_record}

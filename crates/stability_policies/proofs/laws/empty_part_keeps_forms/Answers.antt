@@ -1,9 +1,9 @@
 use Rattle.std.proofs.Common.{refl}
 use Rattle.ucd_model.specs.Facts.{facts}
 use Rattle.stability_policies.specs.Reports.{report}
-use Rattle.stability_policies.specs.Views.{rows_of}
+use Rattle.release_rows.specs.Releases.{rows_now}
 use Rattle.stability_policies.proofs.CommonProofs.{same_forms}
 use Rattle.stability_policies.proofs.laws.empty_part_keeps_forms.Goals as goal
 
 pub returns : goal.returns
-returns c = λ old new valid keeps s assigned. same_forms (facts (rows_of old)) (facts (rows_of new)) old new refl refl valid s assigned (report old new) refl keeps
+returns c = λ old new valid keeps s assigned. same_forms (facts (rows_now old)) (facts (rows_now new)) old new refl refl valid s assigned (report old new) refl keeps

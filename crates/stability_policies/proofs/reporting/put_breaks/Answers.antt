@@ -2,7 +2,7 @@ use Rattle.std.proofs.Common.{◌≡◌, ◌++◌, OnOk, List, ap, subst, sym, �
 use Rattle.ucd_model.specs.Facts.{facts}
 use Rattle.ucd_points.specs.Limits.{point_count}
 use Rattle.stability_policies.specs.BrokenStretches.{breaking, points_of}
-use Rattle.stability_policies.specs.Views.{rows_of}
+use Rattle.release_rows.specs.Releases.{rows_now}
 use Rattle.stability_policies.specs.declared.breaks.Break.{Break}
 use Rattle.stability_policies.proofs.ReportLemmas.{of_broken}
 use Rattle.stability_policies.proofs.reporting.put_breaks.Goals as goal
@@ -12,7 +12,7 @@ returns-in-P10 c =
     subst (λ (more : List Break). OnOk c.put_points.result (c.put_points.new.into ≡ c.args.into.now ++ more))
     (of_broken c.args.policy c.args.old.now c.args.new.now (points_of c.args.policy c.as_slice.result.now) (λ is. absurd cc) (λ is. absurd cc)
     (ap (points_of c.args.policy) c.as_slice.ensures
-    ∙ subst (λ policy. points_of policy c.args.stretches.now.foldings ≡ breaking policy (facts (rows_of c.args.old.now)) (facts (rows_of c.args.new.now)) point_count) (sym c.in-P10.is) c.requires.foldings))
+    ∙ subst (λ policy. points_of policy c.args.stretches.now.foldings ≡ breaking policy (facts (rows_now c.args.old.now)) (facts (rows_now c.args.new.now)) point_count) (sym c.in-P10.is) c.requires.foldings))
     c.put_points.ensures
 
 pub returns-in_default : goal.returns-in_default

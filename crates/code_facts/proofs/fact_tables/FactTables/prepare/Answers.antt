@@ -8,7 +8,7 @@ use Rattle.code_facts.specs.FactTables.{words_at, rests_at, facts_at}
 use Rattle.release_rows.specs.Touching.{meets}
 use Rattle.code_facts.specs.Locality.{rows_within}
 use Rattle.code_facts.specs.RowTables.{ShowsRows}
-use Rattle.code_facts.specs.Rows.{next_sources}
+use Rattle.release_rows.specs.Releases.{rows_next}
 use Rattle.code_facts.specs.declared.version.Version.TheVariants.{Now, Next}
 use Rattle.code_facts.proofs.FactLemmas.{facts_from_points}
 use Rattle.code_facts.proofs.TableLemmas.{shown_packs, put_facts, on_ok_map}
@@ -21,16 +21,16 @@ returns-then-is_empty-clause-ok g c =
     let seen : c.as_slice.result.now ≡ [] = nil_from_length c.as_slice.result.now (grind (arith, nat_tests, c.is_empty.ensures, c.if-is_empty.true)) in
     let none : c.args.touched.now ≡ [] = sym c.as_slice.ensures ∙ seen in
     c.requires.ready
-    ∙ facts_from_points (words_at Now t) (rests_at Now t) (next_sources c.args.after.now)
+    ∙ facts_from_points (words_at Now t) (rests_at Now t) (rows_next c.args.after.now)
     (λ k lt. c.requires.touched k lt (subst (λ (spans : List Bounds). list_any (within k) spans ≡ false) (sym none) refl))
 
 pub put-requires-clause-words : goal.put-requires-clause-words
-put-requires-clause-words g c = shown_packs c.in_ok-made.made (rows_within (meets c.as_slice-3.result.now) (next_sources c.args.after.now)) c.in_ok-made.ensures
+put-requires-clause-words g c = shown_packs c.in_ok-made.made (rows_within (meets c.as_slice-3.result.now) (rows_next c.args.after.now)) c.in_ok-made.ensures
 
 pub returns-clause-ok : goal.returns-clause-ok
 returns-clause-ok g c =
     let t = c.args.self.now in
-    let rows = next_sources c.args.after.now in
+    let rows = rows_next c.args.after.now in
     on_ok_map c.put.result _ _
     (λ point. put_facts c.in_ok-made.made rows c.as_slice-4.result.now (words_at Next c.put.new.self) (rests_at Next c.put.new.self) (facts_at Next t) point (subst (λ (spans : List Bounds). (k : ℕ) → k < 1114112 → ShowsRows c.in_ok-made.made (rows_within (meets spans) rows) k) (c.as_slice-3.ensures ∙ sym c.as_slice-4.ensures) c.in_ok-made.ensures) c.rows_meet.ensures
     (λ k lt none. ap (λ (F : ℕ → Facts). F k) c.requires.ready

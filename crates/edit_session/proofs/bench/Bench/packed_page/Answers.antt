@@ -1,4 +1,4 @@
-use Rattle.std.proofs.Common.{◌≡◌, ℕ, ◌/◌, ◌<◌, Option, None, Some, arith}
+use Rattle.std.proofs.Common.{◌≡◌, ℕ, ◌/◌, ◌<◌, None, Some, arith}
 use Rattle.paged_table.specs.Paged.{values_now}
 use Rattle.edit_session.specs.Benches.{bench_word}
 use Rattle.edit_session.proofs.PageLemmas.{shows_as}

@@ -3,10 +3,13 @@
 -- check_name form     the name of the quick check of a form; check_value form R is its value in the record R
 -- listing_section l   the section that l stands for
 -- listing_labels l R  the label of each code point in that section, over the records R
+-- shown_label l kept  the label of the record that is kept
 use Rattle.std.specs.Prelude.{ℕ, List, codes}
+use Rattle.std.specs.Borrow.{Bor}
 use Rattle.ucd_model.specs.Labels.{Label}
 use Rattle.ucd_model.specs.DerivedFiles.{Section, core_listing, category_listing, class_listing, type_listing, exclusion_listing, quick_listing, casefold_listing, simple_casefold_listing, changes_listing}
-use Rattle.ucd_model.specs.Records.{Record}
+use Rattle.ucd_model.specs.Records.{Record, kept_record}
+use Rattle.ucd_model.specs.declared.records.Record.{Record as Kept}
 use Rattle.ucd_model.specs.declared.form.Form.{Form}
 use Rattle.ucd_model.specs.declared.form.Form.TheVariants.{Nfd, Nfc, Nfkd, Nfkc}
 use Rattle.ucd_model.specs.declared.form.Quick.{Quick as QuickValue}
@@ -38,3 +41,6 @@ listing_section ChangesCasefold = changes_listing
 
 abbrev pub listing_labels : Listing → (ℕ → Record) → ℕ → Label
 listing_labels listing R c = (listing_section listing).label (R c)
+
+abbrev pub shown_label : Listing → Bor Kept → Label
+shown_label listing kept = (listing_section listing).label (kept_record kept.now)

@@ -1,9 +1,11 @@
 //! The sections of the derived files.
 
-ghost use Rattle.std.specs.Prelude.{◌≡◌, OnOk, map};
+ghost use Rattle.std.specs.Prelude.{◌≡◌, ◌≤◌, ◌<◌, ℕ, IsTrue, OnOk, length, map, slice_index_or};
+ghost use Rattle.std.specs.Borrow.{Bor};
 ghost use Rattle.ucd_model.specs.DerivedFiles.{file_sections};
 ghost use Rattle.ucd_model.specs.Records.{kept_record};
-ghost use Rattle.derived_writer.specs.Listings.{listing_section, check_value};
+ghost use Rattle.ucd_model.specs.declared.records.Record.{Record as Kept};
+ghost use Rattle.derived_writer.specs.Listings.{listing_section, check_value, shown_label};
 
 use crate::names::check_name;
 use crate::values::{set_binary, set_casefold, set_category, set_class, set_kind, set_quick};
@@ -121,6 +123,39 @@ impl Listing {
             Listing::Casefold => set_casefold(self.name(), &shown.casefold, label),
             Listing::SimpleCasefold => set_casefold(self.name(), &shown.simple_casefold, label),
             Listing::ChangesCasefold => set_binary(self.name(), shown.changes_casefold, label),
+        }
+    }
+
+    /// The place behind the records from the one at `at` on that have its label, as far as equal values tell.
+    pub fn end_of_same(self, records: &[&Record], at: usize) -> usize
+        requires { at < length records.now }
+        ensures from { at < result }
+        ensures within { result ≤ length records.now }
+        ensures same { (k : ℕ) (kept : Bor Kept) → at ≤ k → k < result
+            → shown_label self (slice_index_or records.now k kept) ≡ shown_label self (slice_index_or records.now at kept) }
+    {
+        let first = records[at];
+        let mut end = at + 1;
+        'records: while end < records.len() && self.is_same(first, records[end]) {
+            end += 1;
+        }
+        end
+    }
+
+    /// Whether two records have one value in this section, and so one label.
+    fn is_same(self, a: &Record, b: &Record) -> bool
+        ensures { IsTrue result → (listing_section self).label (kept_record a.now) ≡ (listing_section self).label (kept_record b.now) }
+    {
+        match self {
+            Listing::Core(core) => a.core.has(core) == b.core.has(core),
+            Listing::Category => a.category == b.category,
+            Listing::Class => a.class == b.class,
+            Listing::Decomposition => a.kind == b.kind,
+            Listing::Exclusion => a.exclusion == b.exclusion,
+            Listing::Quick(form) => quick(form, a) == quick(form, b),
+            Listing::Casefold => a.casefold.is_same(&b.casefold),
+            Listing::SimpleCasefold => a.simple_casefold.is_same(&b.simple_casefold),
+            Listing::ChangesCasefold => a.changes_casefold == b.changes_casefold,
         }
     }
 }

@@ -13,7 +13,8 @@ use std::alloc::Global;
 use ucd_model::{Memory, Record, Records, Span, Text};
 
 /// Puts a section at the end of a text: `# NAME`, a line for each maximal span of one value, `# total N` with the
-/// number of code points listed, and an empty line. The records are those of the pieces of the bench.
+/// number of code points listed, and an empty line. The records are those of the pieces of the bench. A label is made once for
+/// pieces of equal value that follow one another.
 ///
 /// - `Memory`: memory ran out. A part of the section may stand at the end of the text then.
 pub fn put_section<B: Records>(
@@ -31,10 +32,11 @@ pub fn put_section<B: Records>(
     let mut section = OpenSection::begin(alloc, listing.name(), text)?;
     let mut label = LabelText::none(alloc);
     let mut at = 0;
-    'pieces: for piece in pieces {
+    'runs: while at < pieces.len() {
+        let end = listing.end_of_same(records, at);
         listing.set_label(alloc, records[at], &mut label)?;
-        section.go_on(&mut label, piece.last() + 1, text)?;
-        at += 1;
+        section.go_on(&mut label, pieces[end - 1].last() + 1, text)?;
+        at = end;
     }
     section.end(alloc, text)
 }

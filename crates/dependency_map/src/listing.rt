@@ -33,7 +33,7 @@ impl<S: Store<Option<Queries>>> Listing<S> {
         ensures ok { OnOk result (SameValues (put_at S.next self.new) (with_span (put_at S.next self.old) c c asked.now)) }
         ensures err { OnErr result (SameValues (put_at S.next self.new) (put_at S.next self.old)) }
     {
-        let copy = asked.copy(self.alloc)?;
+        let copy = Queries::of(self.alloc, asked.as_slice())?;
         push_keys(&mut self.keys, c, asked)?;
         put_list(self.alloc, &mut self.lists, c, copy)
     }

@@ -37,7 +37,7 @@ impl<S: Store<Option<Queries>>> DependencyMap<S> {
         ensures ok { OnOk result (SameValues (asked_at S.next self.new) (with_span (asked_at S.next self.old) c c asked.now)) }
         ensures err { OnErr result (SameValues (asked_at S.next self.new) (asked_at S.next self.old)) }
     {
-        let copy = asked.copy(self.alloc)?;
+        let copy = Queries::of(self.alloc, asked.as_slice())?;
         self.prepared = self.prepared.saturating_add(asked.len());
         list(&mut self.askers, c, asked)?;
         put_list(self.alloc, &mut self.lists, c, copy)

@@ -7,7 +7,7 @@ ghost use Rattle.identifier_closure.specs.Derived.{CasefoldsAnswer};
 
 use fold_rounds::casefold_of;
 use std::alloc::Global;
-use ucd_model::{FactView, FactsRef, Folding, FormStop, Image, Memory, Point};
+use ucd_model::{FactView, FactsRef, Folding, FormStop, Image, Memory, Point, Points};
 
 /// NFKC_Casefold and NFKC_Simple_Casefold of a code point. UAX #44, section 5.3.
 #[derive(Debug, Drop)]
@@ -61,6 +61,6 @@ fn copied(alloc: Global, image: &Image) -> Result<Image, Memory>
 {
     match image {
         Image::Same => Ok(Image::Same),
-        Image::To(points) => Ok(Image::To(points.copy(alloc)?)),
+        Image::To(points) => Ok(Image::To(Points::of(alloc, points.as_slice())?)),
     }
 }

@@ -96,7 +96,7 @@ pub fn forms_of<W: FactView>(alloc: Global, view: &W, c: Point) -> Result<Forms,
         compat,
     } = both_expansions(alloc, view, c)?;
     order(view, &mut nfd);
-    let mut nfc = nfd.copy(alloc)?;
+    let mut nfc = Points::of(alloc, nfd.as_slice())?;
     compose(view, &mut nfc);
     let nfkc = composed_form(view, compat);
     Ok(Forms { nfd, nfc, nfkc })

@@ -2,16 +2,18 @@
 --
 -- kept_by_dedup   a list that is freed of repeats has the same numbers
 -- listed_next     the first number of an ascending list that is not below start is the next one
-use Rattle.std.proofs.Common.{◌≡◌, ℕ, ◌<◌, ◌≤◌, Bool, true, false, List, length, get_or, refl, sym, subst, arith, inl, inr, eqb, ltb}
+use Rattle.std.proofs.Common.{◌≡◌, ℕ, ◌+◌, ◌<◌, ◌≤◌, Bool, true, false, List, length, get_or, refl, sym, subst, arith, inl, inr, eqb, ltb}
 use Rattle.std.specs.List.{Contains, dedup, slice_get}
-use Rattle.std.specs.List.Sorted.{IsNonDecreasing, IsPartitionPoint}
+use Rattle.std.specs.List.Sorted.{IsNonDecreasing, IsPartitionPoint, IsStrictlyIncreasing}
 use Rattle.std.proofs.lemmas.Bool.{cases_lt, eqb-true, ltb-true, ltb-false}
 use Rattle.std.proofs.lemmas.Bool.Decides.{nat_tests}
 use Rattle.std.proofs.lemmas.List.Folds.{list_any_at}
 use Rattle.std.proofs.lemmas.List.Kept.{Contains-dedup_nat, Contains-from_dedup}
+use Rattle.std.proofs.lemmas.List.{get_or_default}
+use Rattle.std.proofs.lemmas.Map.Keys.{non_decreasing_from_sorted, sorted_from_strictly_increasing}
 use Rattle.std.proofs.lemmas.Map.Views.{Contains-from_any}
 use Rattle.std.proofs.lemmas.Option.{get_or_from_slice_get, slice_get_cases}
-use Rattle.key_set.specs.Keys.{IsNext, is_in}
+use Rattle.key_set.specs.Keys.{IsBetween, IsNext, is_in}
 
 absent : (b : Bool) → (b ≡ true → ⊥) → b ≡ false
 absent true h = absurd (h refl)
@@ -57,3 +59,26 @@ listed_next xs start place ascends point = elim ((slice_get_cases xs place).1) [
   )
   | inr (past, is) ↦ subst (IsNext (is_in xs) start) (sym is) (λ k low. none_up_to xs start place k point low (λ i from inside stands. omega arith))
 ]
+
+-- ---- between two places
+
+-- the numbers up to a place are below start, where the one there is
+pub behind_all : (xs : List ℕ) (start place : ℕ) → IsStrictlyIncreasing xs → place < length xs → get_or xs place 0 < start → (i d : ℕ) → i < place + 1 → get_or xs i d < start
+behind_all xs start place ascends inside low i d lt =
+    let rises = non_decreasing_from_sorted xs (sorted_from_strictly_increasing xs ascends) i place d (omega arith) inside in
+    let at = get_or_default xs place d 0 inside in
+    omega (arith, rises, at, low)
+
+-- the numbers from a place on are not, where the one there is not
+pub before_all : (xs : List ℕ) (start place : ℕ) → IsStrictlyIncreasing xs → start ≤ get_or xs place 0 → (i d : ℕ) → place ≤ i → i < length xs → start ≤ get_or xs i d
+before_all xs start place ascends high i d from inside =
+    let rises = non_decreasing_from_sorted xs (sorted_from_strictly_increasing xs ascends) place i d from inside in
+    let at = get_or_default xs place d 0 (omega arith) in
+    omega (arith, rises, at, high)
+
+-- where no place is left between the two, it is that of the next number
+pub parted : (xs : List ℕ) (start place : ℕ) → IsBetween xs start place place → IsPartitionPoint (λ y. ltb y start ≡ true) (λ y. ltb y start ≡ false) xs place
+parted xs start place between = (
+  λ i d inside lt. let below = between.below i d lt in grind (arith, nat_tests),
+  λ i d from inside. let above = between.above i d from inside in grind (arith, nat_tests),
+)

@@ -1,11 +1,12 @@
 //! What a set of keys has, and which key is the next one.
 
-ghost use Rattle.std.specs.Prelude.{◌≡◌, ℕ, ◌==◌, ◌||◌, false, OnErr, OnOk};
+ghost use Rattle.std.specs.Prelude.{◌≡◌, ◌≤◌, ◌<◌, ℕ, ◌==◌, ◌||◌, false, length, slice_index_or, IsTrue, OnErr, OnOk};
 ghost use Rattle.std.specs.Ordering.{nat_cmp};
 ghost use Rattle.std.specs.BTreeSet.{contains};
 ghost use Rattle.std.specs.List.Sorted.{IsStrictlyIncreasing};
-ghost use Rattle.key_set.specs.Keys.{IsNext, has, is_in, least};
+ghost use Rattle.key_set.specs.Keys.{IsBetween, IsNext, has, is_in, least};
 
+use crate::buckets::Buckets;
 use crate::key_set::KeySet;
 use std::alloc::Global;
 use std::collections::BTreeSet;
@@ -20,18 +21,22 @@ impl KeySet {
         KeySet {
             sorted: Vec::new(alloc),
             more: BTreeSet::new(alloc),
+            buckets: Buckets::none(alloc),
         }
     }
 
-    /// The set of the keys of a list, which may repeat some. It takes no memory, sorts the list, and
-    /// gives back the room that no key takes up.
+    /// The set of the keys of a list, which may repeat some. It sorts the list, and gives back the room that no key takes
+    /// up. What memory it takes is for buckets, which it can do without.
     #[tactic(auto, unfolding(crate::specs::Keys::has))]
     pub fn of(alloc: Global, keys: Vec<u64>) -> KeySet
         ensures { (k : ℕ) → has result k ≡ is_in keys.items k }
     {
+        let sorted = ascending(keys);
+        let buckets = Buckets::of(alloc, &sorted);
         KeySet {
-            sorted: ascending(keys),
+            sorted,
             more: BTreeSet::new(alloc),
+            buckets,
         }
     }
 
@@ -52,7 +57,8 @@ impl KeySet {
     pub fn next(&self, start: u64) -> Option<u64>
         ensures { IsNext (has self.now) start result }
     {
-        let listed = next_listed(self.sorted.as_slice(), start);
+        let (begin, end) = self.buckets.place(start, self.sorted.len());
+        let listed = next_listed(self.sorted.as_slice(), begin, end, start);
         if self.more.is_empty() {
             return listed;
         }
@@ -71,13 +77,73 @@ fn ascending(mut keys: Vec<u64>) -> Vec<u64>
     keys
 }
 
-/// The least number of an ascending list at or above `start`.
-fn next_listed(sorted: &[u64], start: u64) -> Option<u64>
+/// The least number of an ascending list at or above `start`. It is looked for from `begin` to `end` first, and may stand
+/// anywhere.
+fn next_listed(sorted: &[u64], begin: usize, end: usize, start: u64) -> Option<u64>
     requires { IsStrictlyIncreasing sorted.now }
     ensures { IsNext (is_in sorted.now) start result }
 {
-    let place = sorted.partition_point(|key| *key < start);
+    let place = place_of(sorted, begin, end, start);
     sorted.get(place).copied()
+}
+
+/// The place of the first number of an ascending list that is not below `start`.
+fn place_of(sorted: &[u64], begin: usize, end: usize, start: u64) -> usize
+    requires { IsStrictlyIncreasing sorted.now }
+    ensures { IsBetween sorted.now start result result }
+{
+    if is_between(sorted, begin, end, start) {
+        return place_between(sorted, begin, end, start);
+    }
+    place_between(sorted, 0, sorted.len(), start)
+}
+
+/// Whether it is known by two looks that the place stands from `begin` to `end`.
+fn is_between(sorted: &[u64], begin: usize, end: usize, start: u64) -> bool
+    requires { IsStrictlyIncreasing sorted.now }
+    ensures { IsTrue result → IsBetween sorted.now start begin end }
+{
+    begin <= end
+        && end <= sorted.len()
+        && is_behind(sorted, begin, start)
+        && is_before(sorted, end, start)
+}
+
+/// Whether the numbers before a place are below `start`.
+fn is_behind(sorted: &[u64], begin: usize, start: u64) -> bool
+    requires ascends { IsStrictlyIncreasing sorted.now }
+    requires within { begin ≤ length sorted.now }
+    ensures { IsTrue result → (i d : ℕ) → i < begin → slice_index_or sorted.now i d < start }
+{
+    begin == 0 || sorted[begin - 1] < start
+}
+
+/// Whether the numbers from a place on are not below `start`.
+fn is_before(sorted: &[u64], end: usize, start: u64) -> bool
+    requires ascends { IsStrictlyIncreasing sorted.now }
+    requires within { end ≤ length sorted.now }
+    ensures { IsTrue result → (i d : ℕ) → end ≤ i → i < length sorted.now → start ≤ slice_index_or sorted.now i d }
+{
+    end == sorted.len() || start <= sorted[end]
+}
+
+/// The place of the first number of an ascending list that is not below `start`, which stands from `begin` to `end`.
+fn place_between(sorted: &[u64], begin: usize, end: usize, start: u64) -> usize
+    requires ascends { IsStrictlyIncreasing sorted.now }
+    requires between { IsBetween sorted.now start begin end }
+    ensures { IsBetween sorted.now start result result }
+{
+    let mut low = begin;
+    let mut high = end;
+    'halves: while low < high {
+        let middle = low + (high - low) / 2;
+        if sorted[middle] < start {
+            low = middle + 1;
+        } else {
+            high = middle;
+        }
+    }
+    low
 }
 
 /// The least number of a tree at or above `start`.

@@ -1,0 +1,68 @@
+//! Buckets of a sorted list: hints where a number is to be looked for. No answer depends on them.
+
+use std::alloc::Global;
+
+/// How many buckets there are.
+const BUCKETS: u64 = 4096;
+
+/// How many keys are so few that they need no buckets.
+const FEW: usize = 64;
+
+/// The numbers of a bucket have the same upper bits.
+#[derive(Drop)]
+pub struct Buckets {
+    // where in the list each bucket begins, and behind these where the last one ends; none where nothing is known
+    begins: Vec<usize>,
+    // how many lower bits the numbers of a bucket differ in
+    bits: u32,
+}
+
+impl Buckets {
+    /// Nothing is known. It takes no memory.
+    pub fn none(alloc: Global) -> Buckets {
+        Buckets {
+            begins: Vec::new(alloc),
+            bits: 0,
+        }
+    }
+
+    /// The buckets of a sorted list, as far as there is memory for them.
+    pub fn of(alloc: Global, sorted: &[u64]) -> Buckets {
+        let mut buckets = Buckets::none(alloc);
+        if sorted.len() < FEW {
+            return buckets;
+        }
+        if let Some(last) = sorted.last() {
+            buckets.bits = 52_u32.saturating_sub(last.leading_zeros());
+        }
+        buckets.fill(sorted);
+        buckets
+    }
+
+    /// Puts where each bucket begins.
+    fn fill(&mut self, sorted: &[u64]) {
+        let mut at = 0;
+        'buckets: for bucket in 0..BUCKETS + 1 {
+            'keys: while at < sorted.len() && self.bucket(sorted[at]) < bucket {
+                at += 1;
+            }
+            if self.begins.push(at).is_err() {
+                return;
+            }
+        }
+    }
+
+    /// The bucket of a number.
+    fn bucket(&self, number: u64) -> u64 {
+        number >> (self.bits % 64)
+    }
+
+    /// Where the bucket of a number begins and ends in a list of so many keys; the whole list where nothing is known.
+    pub fn place(&self, number: u64, keys: usize) -> (usize, usize) {
+        let at = (self.bucket(number) % BUCKETS) as usize;
+        match (self.begins.get(at), self.begins.get(at + 1)) {
+            (Some(begin), Some(end)) => (*begin, *end),
+            _ => (0, keys),
+        }
+    }
+}

@@ -30,11 +30,22 @@ pub fn list(keys: &mut KeySet, c: Point, asked: &Queries) -> Result<(), Memory>
     ensures listed { OnOk result ((q : Question) → is_asked asked.now q ≡ true → may_ask (has keys.new) q c ≡ true) }
 {
     'queries: for query in asked.as_slice() {
-        if !is_own(query, c) {
-            keys.insert(asker_key(query, c))?;
-        }
+        put_asker(keys, query, c)?;
     }
     Ok(())
+}
+
+/// Lists a code point under a question, if that is not its own one.
+///
+/// - `Memory`: memory ran out. Nothing that was listed is lost.
+fn put_asker(keys: &mut KeySet, query: &Query, c: Point) -> Result<(), Memory>
+    ensures grows { (q : Question) (k : ℕ) → may_ask (has keys.old) q k ≡ true → may_ask (has keys.new) q k ≡ true }
+    ensures listed { OnOk result (may_ask (has keys.new) query.now c ≡ true) }
+{
+    if is_own(query, c) {
+        return Ok(());
+    }
+    keys.insert(asker_key(query, c))
 }
 
 /// Puts the keys of a code point under each of the questions that are not its own ones behind others.

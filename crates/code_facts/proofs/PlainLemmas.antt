@@ -34,7 +34,8 @@ not_true true h = absurd (h refl)
 pub key_absent : (b : Bool) (next d : ℕ) → d < next → (IsTrue b → IsLeBy nat_cmp next d) → b ≡ false
 key_absent b next d lt least = not_true b (λ some. omega (arith, le_from_not_gt next d (least some)))
 
-itself : (c : ℕ) → image c (c ∷ []) ≡ Same
+-- the point alone is no image
+pub itself : (c : ℕ) → image c (c ∷ []) ≡ Same
 itself c = rw ((bytes_eq-Decides (c ∷ []) (c ∷ [])).1 refl) refl
 
 none_plain : (c word : ℕ) → IsPlain c (kept_at c word no_rest)

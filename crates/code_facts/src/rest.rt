@@ -1,6 +1,6 @@
 //! What is kept of the facts of a code point beside its word.
 
-ghost use Rattle.std.specs.Prelude.{◌≡◌, IfOk, IsTrue};
+ghost use Rattle.std.specs.Prelude.{◌≡◌, IfOk, IfSome, IsTrue};
 ghost use Rattle.std.specs.Option.{option_copied};
 ghost use Rattle.code_facts.specs.Rest.{no_rest, bare_rest, cases_of, rest_of_all};
 
@@ -195,6 +195,18 @@ impl Rest {
         has_same_lists(self, other)
             && has_same_foldings(self, other)
             && has_same_casings(self, other)
+    }
+
+    /// The decomposition mapping, where it is kept that there is no other one; `None` where others may be too.
+    pub fn bare_mapping(&self) -> Option<&[Point]>
+        ensures { IfSome result (λ mapping. self.now ≡ bare_rest mapping.now) }
+    {
+        match &self.form {
+            RestForm::Empty => Some(&[]),
+            RestForm::One(points) => Some(points),
+            RestForm::Two(points) => Some(points),
+            RestForm::All(_) => None,
+        }
     }
 
     /// Whether there is no mapping at all.

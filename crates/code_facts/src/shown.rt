@@ -3,6 +3,7 @@
 ghost use Rattle.std.specs.Prelude.{◌≡◌};
 ghost use Rattle.ucd_model.specs.Shown.{shown_facts};
 ghost use Rattle.code_facts.specs.KeptFacts.{kept_at};
+ghost use Rattle.code_facts.specs.Rest.{bare_rest};
 
 use crate::images::{first_list, first_or, folding, full_image, simple_folding};
 use crate::rest::Rest;
@@ -13,6 +14,41 @@ use ucd_model::{FactsRef, Point};
 
 /// The facts of a code point by its word and its rest.
 pub fn shown(c: Point, word: u64, rest: &Rest) -> FactsRef<'_>
+    ensures { shown_facts result ≡ kept_at c word rest.now }
+{
+    match rest.bare_mapping() {
+        Some(mapping) => shown_bare(c, word, mapping),
+        None => shown_all(c, word, rest),
+    }
+}
+
+/// The same of a code point that has no more than this decomposition mapping, as most have: nothing is looked up.
+#[tactic(auto, using(crate::proofs::PlainLemmas::itself))]
+fn shown_bare(c: Point, word: u64, mapping: &[Point]) -> FactsRef<'_>
+    ensures { shown_facts result ≡ kept_at c word (bare_rest mapping.now) }
+{
+    FactsRef {
+        assigned: is_assigned(word),
+        category: category_of(word),
+        class: class_of(word),
+        kind: kind_of(word),
+        mapping,
+        simple_upper: c,
+        simple_lower: c,
+        simple_title: c,
+        simple_fold: c,
+        upper: None,
+        lower: None,
+        title: None,
+        fold: None,
+        flags: flags_of(word),
+        mid_word: is_mid_word(word),
+        excluded: is_excluded(word),
+    }
+}
+
+/// The same, whatever mappings it has.
+fn shown_all(c: Point, word: u64, rest: &Rest) -> FactsRef<'_>
     ensures { shown_facts result ≡ kept_at c word rest.now }
 {
     let upper = rest.upper();

@@ -11,7 +11,10 @@ use Rattle.ucd_model.specs.Forms.{appended, in_order, composed, decomposed}
 use Rattle.ucd_model.specs.Validity.{is_none, is_long}
 use Rattle.ucd_model.specs.declared.form.Bad.{Bad as Rule}
 use Rattle.ucd_model.specs.declared.form.Bad.TheVariants.{V2, V3}
-use Rattle.identifier_closure.specs.PointForms.{expansion_rule, HaveForms, composed_form, ExpandTo}
+use Rattle.ucd_model.specs.Casing.{lowers, uppers, titles, folds, casemaps, where_form}
+use Rattle.ucd_model.specs.Forms.{nfd as form_d}
+use Rattle.case_derivation.specs.declared.changes.Changes.{Changes}
+use Rattle.identifier_closure.specs.PointForms.{expansion_rule, AreChanges, HaveForms, TellForms, composed_form, ExpandTo}
 
 -- ---- the rule of two expansions
 
@@ -89,7 +92,7 @@ form_or : (f : List ℕ → List ℕ) (p : List ℕ) (q : Option (List ℕ)) →
 form_or f p (Some q) = refl
 form_or f p None = refl
 
-pub forms_are : (F : ℕ → Facts) (c : ℕ) (p nfd nfc : List ℕ) (q nfkc : Option (List ℕ)) → ExpandTo F c p (unwrap_or q p) → nfd ≡ order (class_of F) p
+forms_are : (F : ℕ → Facts) (c : ℕ) (p nfd nfc : List ℕ) (q nfkc : Option (List ℕ)) → ExpandTo F c p (unwrap_or q p) → nfd ≡ order (class_of F) p
     → nfc ≡ compose (class_of F) (pair_of F) nfd → nfkc ≡ option_map (composed_form F) q → HaveForms F c nfd nfc (unwrap_or nfkc nfc)
 forms_are F c p nfd nfc q nfkc have d e k =
     let canonical : decomposed F false (c ∷ []) ≡ Ok nfd = alone F false c p have.canonical ∙ ap (λ zs. Ok zs) (sym d) in
@@ -101,3 +104,24 @@ forms_are F c p nfd nfc q nfkc have d e k =
       nfc = ap (composed F) canonical ∙ ap (λ zs. Ok zs) (sym e);
       nfkc = ap (composed F) compat ∙ ap (λ zs. Ok zs) (sym kept);
     }
+
+-- ---- what they tell
+
+pub told_of : (F : ℕ → Facts) (c : ℕ) (t : Changes) (d n k : List ℕ) → HaveForms F c d n k → AreChanges F d t → TellForms F c t n k
+told_of F c t d n k forms changes =
+    let are : (test : List ℕ → Bool) → test d ≡ where_form test (form_d F (c ∷ [])) = λ test. ap (where_form test) (sym forms.nfd) in
+    record {
+      lowered = changes.lowered ∙ are (lowers F);
+      uppered = changes.uppered ∙ are (uppers F);
+      titled = changes.titled ∙ are (titles F);
+      folded = changes.folded ∙ are (folds F);
+      mapped = changes.mapped ∙ are (casemaps F);
+      nfc = forms.nfc;
+      nfkc = forms.nfkc;
+    }
+
+pub forms_tell : (F : ℕ → Facts) (c : ℕ) (t : Changes) (p nfd nfc : List ℕ) (q nfkc : Option (List ℕ)) → ExpandTo F c p (unwrap_or q p) → nfd ≡ order (class_of F) p
+    → nfc ≡ compose (class_of F) (pair_of F) nfd → nfkc ≡ option_map (composed_form F) q
+    → t.lowered ≡ lowers F nfd → t.uppered ≡ uppers F nfd → t.titled ≡ titles F nfd → t.folded ≡ folds F nfd → t.mapped ≡ casemaps F nfd → TellForms F c t nfc (unwrap_or nfkc nfc)
+forms_tell F c t p nfd nfc q nfkc have d e k lowered uppered titled folded mapped =
+    told_of F c t nfd nfc (unwrap_or nfkc nfc) (forms_are F c p nfd nfc q nfkc have d e k) (record { lowered = lowered; uppered = uppered; titled = titled; folded = folded; mapped = mapped })

@@ -3,7 +3,7 @@ use Rattle.std.proofs.Common.{◌≡◌, ℕ, Bool, true, false, not, List, [], 
 use Rattle.std.specs.Str.{bytes_eq}
 use Rattle.std.proofs.lemmas.Bool.{or_left, or_right}
 use Rattle.std.proofs.lemmas.Slice.Eq.{bytes_eq-Decides}
-use Rattle.ucd_model.specs.Casing.{lowers, uppers, titles, folds, casemaps, where_form, changes_when}
+use Rattle.ucd_model.specs.Casing.{lowers, uppers, titles, folds, casemaps, changes_when}
 use Rattle.ucd_model.specs.Composites.{is_canonical}
 use Rattle.ucd_model.specs.Expansion.{FormAnswers}
 use Rattle.ucd_model.specs.Facts.{Facts, image, is_plain}
@@ -32,12 +32,13 @@ use Rattle.ucd_model.specs.declared.property.Core.{Core}
 use Rattle.ucd_model.specs.declared.property.Core.TheVariants.{Math, Alphabetic, Lowercase, Uppercase, Cased, CaseIgnorable, ChangesWhenLowercased, ChangesWhenUppercased, ChangesWhenTitlecased, ChangesWhenCasefolded, ChangesWhenCasemapped, IdStart, IdContinue, XidStart, XidContinue, DefaultIgnorableCodePoint, GraphemeExtend, GraphemeBase, GraphemeLink}
 use Rattle.ucd_model.specs.declared.records.Record.{Record as KeptRecord}
 use Rattle.ucd_model.specs.declared.view.FactsRef.{FactsRef}
+use Rattle.case_derivation.specs.declared.changes.Changes.{Changes}
 use Rattle.identifier_closure.specs.Composites.{hidden_of}
 use Rattle.identifier_closure.specs.CoreSets.{core_given}
 use Rattle.identifier_closure.specs.Derived.{RecordAnswers, CasefoldsAnswer}
 use Rattle.quick_checks.specs.Checks.{quick_decomposed}
 use Rattle.identifier_closure.specs.PlainProofs.{folded_if}
-use Rattle.identifier_closure.specs.PointForms.{expansion_rule, HaveForms, FormsAnswer}
+use Rattle.identifier_closure.specs.PointForms.{expansion_rule, TellForms, FormsAnswer}
 use Rattle.identifier_closure.specs.RuleProofs.{by_expansion, by_composite, by_folding, by_none}
 use Rattle.identifier_closure.specs.declared.predicates.ToldByForms.{ToldByForms}
 
@@ -94,7 +95,7 @@ given : (F : ℕ → Facts) (r : Result (List ℕ) Rule) (u : List ℕ) (value :
 given F (Ok t) u value e = refl
 given F (Err rule) u value e = cc
 
-module _ (F : ℕ → Facts) (c : ℕ) (d n k : List ℕ) (forms : HaveForms F c d n k) where
+module _ (F : ℕ → Facts) (c : ℕ) (t : Changes) (n k : List ℕ) (forms : TellForms F c t n k) where
   nfd_check : quick_decomposed (F c).kind false ≡ quick_or_yes (quick F Nfd c)
   nfd_check = kind_of (F c).kind ∙ sym (given F (nfd F (c ∷ [])) n (if is_canonical (F c).kind then No else Yes) forms.nfc)
 
@@ -106,9 +107,6 @@ module _ (F : ℕ → Facts) (c : ℕ) (d n k : List ℕ) (forms : HaveForms F c
 
   nfkc_check : quick_composed F c k ≡ quick_or_yes (quick F Nfkc c)
   nfkc_check = ap (λ r. quick_or_yes (quick_where (quick_composed F c) r)) (sym forms.nfkc)
-
-  changes_are : (test : List ℕ → Bool) → test d ≡ where_form test (nfd F (c ∷ []))
-  changes_are test = ap (where_form test) (sym forms.nfd)
 
 -- ---- the folding changes the point
 
@@ -152,12 +150,7 @@ cores_are F c told GraphemeBase l u t f m s k = refl
 cores_are F c told GraphemeLink l u t f m s k = refl
 
 -- what is found of a point of which the facts, the forms and the folding are known
-pub record IsTold (F : ℕ → Facts) (c : ℕ) (d n k : List ℕ) (kept : KeptRecord) (told : ToldByForms) : Type 0 where
-  pub lowered : told.changes.lowered ≡ lowers F d
-  pub uppered : told.changes.uppered ≡ uppers F d
-  pub titled : told.changes.titled ≡ titles F d
-  pub folded : told.changes.folded ≡ folds F d
-  pub mapped : told.changes.mapped ≡ casemaps F d
+pub record IsTold (F : ℕ → Facts) (c : ℕ) (n k : List ℕ) (kept : KeptRecord) (told : ToldByForms) : Type 0 where
   pub xid_start : told.xid_start ≡ xid_start F c
   pub xid_continue : told.xid_continue ≡ xid_continue F c
   pub exclusion : kept.exclusion ≡ full_exclusion F c
@@ -167,21 +160,20 @@ pub record IsTold (F : ℕ → Facts) (c : ℕ) (d n k : List ℕ) (kept : KeptR
   pub nfkc : kept.nfkc ≡ quick_composed F c k
   pub changes : kept.changes_casefold ≡ is_other kept.casefold
 
-pub record_is : (F : ℕ → Facts) (c : ℕ) (r : FactsRef) (d n k : List ℕ) (kept : KeptRecord) (told : ToldByForms) → shown_facts r ≡ F c → HaveForms F c d n k
+pub record_is : (F : ℕ → Facts) (c : ℕ) (r : FactsRef) (n k : List ℕ) (kept : KeptRecord) (told : ToldByForms) → shown_facts r ≡ F c → TellForms F c told.changes n k
     → casefold_image Full F c ≡ Ok kept.casefold → casefold_image Simple F c ≡ Ok kept.simple_casefold → kept.category ≡ r.category → kept.class ≡ r.class → kept.kind ≡ r.kind
-    → ((core : Core) → has_core kept.core core ≡ core_given c (shown_facts r) told core) → IsTold F c d n k kept told → kept_record kept ≡ record_at F c
-record_is F c r d n k kept told shows forms fold simple category class kind cores found =
+    → ((core : Core) → has_core kept.core core ≡ core_given c (shown_facts r) told core) → IsTold F c n k kept told → kept_record kept ≡ record_at F c
+record_is F c r n k kept told shows forms fold simple category class kind cores found =
     let same_kind : kept.kind ≡ (F c).kind = kind ∙ ap (λ (G : Facts). G.kind) shows in
     let set : (core : Core) → has_core kept.core core ≡ core_at F c core = λ core.
     cores core ∙ ap (λ (G : Facts). core_given c G told core) shows
-    ∙ cores_are F c told core (found.lowered ∙ changes_are F c d n k forms (lowers F)) (found.uppered ∙ changes_are F c d n k forms (uppers F)) (found.titled ∙ changes_are F c d n k forms (titles F))
-    (found.folded ∙ changes_are F c d n k forms (folds F)) (found.mapped ∙ changes_are F c d n k forms (casemaps F)) found.xid_start found.xid_continue in
+    ∙ cores_are F c told core forms.lowered forms.uppered forms.titled forms.folded forms.mapped found.xid_start found.xid_continue in
     let image : kept.casefold ≡ image_or_same (casefold_image Full F c) = ap image_or_same (sym fold) in
     let simple_image : kept.simple_casefold ≡ image_or_same (casefold_image Simple F c) = ap image_or_same (sym simple) in
-    let nfd : kept.nfd ≡ quick_or_yes (quick F Nfd c) = found.nfd ∙ ap (λ x. quick_decomposed x false) same_kind ∙ nfd_check F c d n k forms in
-    let nfc : kept.nfc ≡ quick_or_yes (quick F Nfc c) = found.nfc ∙ nfc_check F c d n k forms in
-    let nfkd : kept.nfkd ≡ quick_or_yes (quick F Nfkd c) = found.nfkd ∙ ap (λ x. quick_decomposed x true) same_kind ∙ nfkd_check F c d n k forms in
-    let nfkc : kept.nfkc ≡ quick_or_yes (quick F Nfkc c) = found.nfkc ∙ nfkc_check F c d n k forms in
+    let nfd : kept.nfd ≡ quick_or_yes (quick F Nfd c) = found.nfd ∙ ap (λ x. quick_decomposed x false) same_kind ∙ nfd_check F c told.changes n k forms in
+    let nfc : kept.nfc ≡ quick_or_yes (quick F Nfc c) = found.nfc ∙ nfc_check F c told.changes n k forms in
+    let nfkd : kept.nfkd ≡ quick_or_yes (quick F Nfkd c) = found.nfkd ∙ ap (λ x. quick_decomposed x true) same_kind ∙ nfkd_check F c told.changes n k forms in
+    let nfkc : kept.nfkc ≡ quick_or_yes (quick F Nfkc c) = found.nfkc ∙ nfkc_check F c told.changes n k forms in
     let changes : kept.changes_casefold ≡ changes_image c (image_or_same (casefold_image Full F c)) = found.changes ∙ other_of c (casefold Full F c) kept.casefold fold ∙ ap (changes_image c) image in
     let category_is : kept.category ≡ (F c).category = category ∙ ap (λ (G : Facts). G.category) shows in
     let class_is : kept.class ≡ (F c).class = class ∙ ap (λ (G : Facts). G.class) shows in

@@ -2,6 +2,8 @@
 --
 -- expansion_rule F c           the first rule that the expansions of c break: V2, then V3; None where they break none
 -- HaveForms F c nfd nfc nfkc   the forms of c alone are these lists
+-- AreChanges F s t             t says which mappings change the list s
+-- TellForms F c t n k          t says which mappings change the NFD of c, and its NFC and NFKC are the lists n and k
 -- form_kc forms                the NFKC that is kept; if none is kept apart, the NFC
 -- composed_form F s            the list s in canonical order, composed
 -- compat_of both               the compatibility expansion that is kept; if none is kept apart, the canonical one
@@ -12,6 +14,7 @@
 -- FormsAnswer F c r            r is the forms of c alone, or in their place that rule; want of memory says nothing
 use Rattle.std.specs.Prelude.{◌≡◌, ℕ, true, false, List, [], ◌∷◌, Option, Some, None, unwrap_or, Result, Ok, Err, if◌then◌else◌, ⊤}
 use Rattle.ucd_model.specs.CanonicalOrder.{class_of, order}
+use Rattle.ucd_model.specs.Casing.{lowers, uppers, titles, folds, casemaps, changes_when}
 use Rattle.ucd_model.specs.Composites.{pair_of}
 use Rattle.ucd_model.specs.Composition.{compose}
 use Rattle.ucd_model.specs.Expansion.{expansion}
@@ -22,6 +25,7 @@ use Rattle.ucd_model.specs.declared.form.Bad.{Bad as Rule}
 use Rattle.ucd_model.specs.declared.form.Bad.TheVariants.{V2, V3}
 use Rattle.ucd_model.specs.declared.form.FormStop.{FormStop}
 use Rattle.ucd_model.specs.declared.form.FormStop.TheVariants.{Bad, Memory}
+use Rattle.case_derivation.specs.declared.changes.Changes.{Changes}
 use Rattle.identifier_closure.specs.declared.point_forms.Expansions.{Expansions}
 use Rattle.identifier_closure.specs.declared.point_forms.Forms.{Forms}
 
@@ -30,6 +34,22 @@ expansion_rule F c = if is_endless F c then Some V2 else (if is_too_long F c the
 
 pub record HaveForms (F : ℕ → Facts) (c : ℕ) (decomposed composed compat : List ℕ) : Type 0 where
   pub nfd : nfd F (c ∷ []) ≡ Ok decomposed
+  pub nfc : nfc F (c ∷ []) ≡ Ok composed
+  pub nfkc : nfkc F (c ∷ []) ≡ Ok compat
+
+pub record AreChanges (F : ℕ → Facts) (s : List ℕ) (t : Changes) : Type 0 where
+  pub lowered : t.lowered ≡ lowers F s
+  pub uppered : t.uppered ≡ uppers F s
+  pub titled : t.titled ≡ titles F s
+  pub folded : t.folded ≡ folds F s
+  pub mapped : t.mapped ≡ casemaps F s
+
+pub record TellForms (F : ℕ → Facts) (c : ℕ) (t : Changes) (composed compat : List ℕ) : Type 0 where
+  pub lowered : t.lowered ≡ changes_when lowers F c
+  pub uppered : t.uppered ≡ changes_when uppers F c
+  pub titled : t.titled ≡ changes_when titles F c
+  pub folded : t.folded ≡ changes_when folds F c
+  pub mapped : t.mapped ≡ changes_when casemaps F c
   pub nfc : nfc F (c ∷ []) ≡ Ok composed
   pub nfkc : nfkc F (c ∷ []) ≡ Ok compat
 
@@ -57,6 +77,6 @@ StopsBy F c (Bad rule) = expansion_rule F c ≡ Some rule
 StopsBy F c Memory = ⊤
 
 abbrev pub FormsAnswer : (ℕ → Facts) → ℕ → Result Forms FormStop → Type 0
-FormsAnswer F c (Ok forms) = (expansion_rule F c ≡ None) × HaveForms F c forms.nfd forms.nfc (form_kc forms)
+FormsAnswer F c (Ok forms) = (expansion_rule F c ≡ None) × TellForms F c forms.changes forms.nfc (form_kc forms)
 FormsAnswer F c (Err (Bad rule)) = expansion_rule F c ≡ Some rule
 FormsAnswer F c (Err Memory) = ⊤

@@ -7,7 +7,7 @@ ghost use Rattle.ucd_model.specs.Validity.{lacks_a_row};
 ghost use Rattle.ucd_model.specs.Shown.{shown_facts};
 ghost use Rattle.ucd_model.specs.declared.folding.Folding.TheVariants.{Full, Simple};
 ghost use Rattle.identifier_closure.specs.Derived.{RecordAnswers};
-ghost use Rattle.identifier_closure.specs.PointForms.{expansion_rule, HaveForms};
+ghost use Rattle.identifier_closure.specs.PointForms.{expansion_rule, TellForms};
 
 use crate::casefolds::{Casefolds, casefolds_of};
 use crate::composed_checks::composed_checks;
@@ -17,7 +17,6 @@ use crate::identifiers::closure_of;
 use crate::missing_rows::lacks_a_row;
 use crate::point_forms::{FormsRef, forms_of};
 use crate::predicates::ToldByForms;
-use case_derivation::changes_when;
 use quick_checks::{is_fully_excluded, quick_decomposed};
 use std::alloc::Global;
 use std::sync::ledger::Ledger;
@@ -52,7 +51,7 @@ fn record_or_rule<W: FactView>(alloc: Global, view: &W, c: Point) -> Result<Reco
     }
     if let Kind::Plain = facts.kind {
         let alone = [c];
-        let forms = FormsRef::alone(&alone);
+        let forms = FormsRef::alone(view, &alone);
         return recorded(alloc, view, c, &facts, forms);
     }
     match forms_of(alloc, view, c) {
@@ -72,7 +71,7 @@ fn recorded<W: FactView>(
     forms: FormsRef<'_>,
 ) -> Result<Record, FormStop>
     requires facts { shown_facts facts.now ≡ W.facts_of view.now c }
-    requires forms { HaveForms (W.facts_of view.now) c forms.nfd.now forms.nfc.now forms.nfkc.now }
+    requires forms { TellForms (W.facts_of view.now) c forms.changes forms.nfc.now forms.nfkc.now }
     requires rows { lacks_a_row (W.facts_of view.now) c ≡ false }
     requires expansions { expansion_rule (W.facts_of view.now) c ≡ None }
     ensures { RecordAnswers result (derived (W.facts_of view.now) c) }
@@ -95,14 +94,14 @@ fn record_of<W: FactView>(
     found: Casefolds,
 ) -> Record
     requires facts { shown_facts facts.now ≡ W.facts_of view.now c }
-    requires forms { HaveForms (W.facts_of view.now) c forms.nfd.now forms.nfc.now forms.nfkc.now }
+    requires forms { TellForms (W.facts_of view.now) c forms.changes forms.nfc.now forms.nfkc.now }
     requires full { casefold_image Full (W.facts_of view.now) c ≡ Ok found.full }
     requires simple { casefold_image Simple (W.facts_of view.now) c ≡ Ok found.simple }
     ensures { kept_record result ≡ record_at (W.facts_of view.now) c }
 {
     let closed = closure_of(view, c, facts, forms.nfkc);
     let told = ToldByForms {
-        changes: changes_when(view, forms.nfd),
+        changes: forms.changes,
         xid_start: closed.start,
         xid_continue: closed.continues,
     };

@@ -4,19 +4,20 @@ ghost use Rattle.std.specs.Prelude.{◌≡◌, Ok, Err, true, false};
 ghost use Rattle.std.specs.List.{list_any};
 ghost use Rattle.std.specs.Option.{option_map};
 ghost use Rattle.ucd_model.specs.Expansion.{expansion};
-ghost use Rattle.identifier_closure.specs.PointForms.{ExpansionsAnswer, FormsAnswer, StopsBy, composed_form, form_kc};
+ghost use Rattle.identifier_closure.specs.PointForms.{AreChanges, ExpansionsAnswer, FormsAnswer, StopsBy, composed_form, form_kc};
 ghost use Rattle.ucd_model.specs.Expansion.{is_compat};
 
+use case_derivation::{Changes, changes_when};
 use decomposition::expand;
 use normalisation::{compose, order};
 use std::alloc::Global;
 use ucd_model::{Bad, FactView, FormStop, Point, Points};
 
-/// Normalisation Forms D, C and KC of a code point alone. UAX #15, section 1.2.
+/// Normalisation Forms C and KC of a code point alone, and what its Normalisation Form D tells. UAX #15, section 1.2.
 #[derive(Drop)]
 pub struct Forms {
-    /// Normalisation Form D.
-    pub nfd: Points,
+    /// Which mappings change its Normalisation Form D.
+    pub changes: Changes,
     /// Normalisation Form C.
     pub nfc: Points,
     /// Normalisation Form KC; `None` if it is Normalisation Form C, since both expansions are the same.
@@ -26,8 +27,8 @@ pub struct Forms {
 /// The same forms, as slices.
 #[derive(Clone, Copy)]
 pub struct FormsRef<'a> {
-    /// Normalisation Form D.
-    pub nfd: &'a [Point],
+    /// Which mappings change Normalisation Form D.
+    pub changes: Changes,
     /// Normalisation Form C.
     pub nfc: &'a [Point],
     /// Normalisation Form KC.
@@ -37,12 +38,12 @@ pub struct FormsRef<'a> {
 impl Forms {
     /// The forms as slices.
     pub fn shown(&self) -> FormsRef<'_>
-        ensures nfd { result.nfd.now ≡ self.now.nfd }
+        ensures changes { result.changes ≡ self.now.changes }
         ensures nfc { result.nfc.now ≡ self.now.nfc }
         ensures nfkc { result.nfkc.now ≡ form_kc self.now }
     {
         FormsRef {
-            nfd: self.nfd.as_slice(),
+            changes: self.changes,
             nfc: self.nfc.as_slice(),
             nfkc: self.form_kc(),
         }
@@ -61,13 +62,13 @@ impl Forms {
 
 impl<'a> FormsRef<'a> {
     /// One list for all forms: that of a code point without a mapping.
-    pub fn alone(points: &'a [Point]) -> FormsRef<'a>
-        ensures nfd { result.nfd.now ≡ points.now }
+    pub fn alone<W: FactView>(view: &W, points: &'a [Point]) -> FormsRef<'a>
+        ensures changes { AreChanges (W.facts_of view.now) points.now result.changes }
         ensures nfc { result.nfc.now ≡ points.now }
         ensures nfkc { result.nfkc.now ≡ points.now }
     {
         FormsRef {
-            nfd: points,
+            changes: changes_when(view, points),
             nfc: points,
             nfkc: points,
         }
@@ -82,24 +83,28 @@ struct Expansions {
 }
 
 /// The forms of a code point alone. UAX #15, section 1.2. If both expansions are the same list, it is put in order and
-/// composed once.
+/// composed once, in its place.
 ///
 /// - `Bad(V2)`: one of its expansions needs a chain of eight mappings or more, or one without end.
 /// - `Bad(V3)`: none does, and one has more than 64 code points.
 /// - `Memory`: memory ran out.
-#[tactic(auto, using(crate::proofs::FormLemmas::forms_are))]
+#[tactic(auto, using(crate::proofs::FormLemmas::forms_tell))]
 pub fn forms_of<W: FactView>(alloc: Global, view: &W, c: Point) -> Result<Forms, FormStop>
     ensures { FormsAnswer (W.facts_of view.now) c result }
 {
     let Expansions {
-        canonical: mut nfd,
+        canonical: mut points,
         compat,
     } = both_expansions(alloc, view, c)?;
-    order(view, &mut nfd);
-    let mut nfc = Points::of(alloc, nfd.as_slice())?;
-    compose(view, &mut nfc);
+    order(view, &mut points);
+    let changes = changes_when(view, points.as_slice());
+    compose(view, &mut points);
     let nfkc = composed_form(view, compat);
-    Ok(Forms { nfd, nfc, nfkc })
+    Ok(Forms {
+        changes,
+        nfc: points,
+        nfkc,
+    })
 }
 
 /// A list, if there is one, in canonical order and composed. It takes no memory.

@@ -9,7 +9,7 @@ use Rattle.identifier_closure.proofs.derivation.record_of.Goals as goal
 pub returns : goal.returns
 returns g c =
     let F : ℕ → Facts = g.W.FactView.facts_of c.args.view.now in
-    let told : ToldByForms = record { changes = c.changes_when.result; xid_start = c.closure_of-closed.result.start; xid_continue = c.closure_of-closed.result.continues } in
+    let told : ToldByForms = record { changes = c.args.forms.changes; xid_start = c.closure_of-closed.result.start; xid_continue = c.closure_of-closed.result.continues } in
     let kept : KeptRecord = record {
       category = c.args.facts.now.category;
       class = c.args.facts.now.class;
@@ -28,12 +28,7 @@ returns g c =
       | in-Same w ↦ w.changes_casefold-is ∙ sym (ap is_other w.in-Same.is)
       | in-To w ↦ w.changes_casefold-is ∙ sym (ap is_other w.in-To.is)
     ] in
-    let found : IsTold F c.args.c c.args.forms.nfd.now c.args.forms.nfc.now c.args.forms.nfkc.now kept told = record {
-      lowered = c.changes_when.ensures.lowered;
-      uppered = c.changes_when.ensures.uppered;
-      titled = c.changes_when.ensures.titled;
-      folded = c.changes_when.ensures.folded;
-      mapped = c.changes_when.ensures.mapped;
+    let found : IsTold F c.args.c c.args.forms.nfc.now c.args.forms.nfkc.now kept told = record {
       xid_start = c.closure_of-closed.ensures.start;
       xid_continue = c.closure_of-closed.ensures.continues;
       exclusion = c.is_fully_excluded.ensures;
@@ -43,4 +38,4 @@ returns g c =
       nfkc = c.composed_checks-checks.ensures.nfkc;
       changes = changes;
     } in
-    record_is F c.args.c c.args.facts.now c.args.forms.nfd.now c.args.forms.nfc.now c.args.forms.nfkc.now kept told c.requires.facts c.requires.forms c.requires.full c.requires.simple refl refl refl c.core_set.ensures found
+    record_is F c.args.c c.args.facts.now c.args.forms.nfc.now c.args.forms.nfkc.now kept told c.requires.facts c.requires.forms c.requires.full c.requires.simple refl refl refl c.core_set.ensures found

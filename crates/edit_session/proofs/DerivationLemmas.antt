@@ -1,9 +1,14 @@
 -- What is derived, over facts that are the same.
-use Rattle.std.proofs.Common.{◌≡◌, ℕ, Bool, true, false, List, Option, Some, None, Ok, Err, refl, sym, ap, subst, ◌∙◌}
+use Rattle.std.proofs.Common.{◌≡◌, ℕ, Bool, true, false, not, List, [], ◌∷◌, Option, Some, None, Ok, Err, length, cond, ◌==◌, filter, refl, sym, ap, subst, ◌∙◌, arith}
+use Rattle.std.specs.List.{list_any, range_with_len}
+use Rattle.std.proofs.lemmas.Bool.Decides.{nat_tests}
+use Rattle.ucd_points.specs.Bounds.{Bounds}
 use Rattle.range_table.specs.Values.{SameValues}
-use Rattle.ucd_model.specs.Facts.{Facts}
+use Rattle.ucd_model.specs.Facts.{Facts, within}
 use Rattle.ucd_points.specs.Limits.{point_count}
-use Rattle.ucd_model.specs.Records.{Record}
+use Rattle.ucd_model.specs.Records.{Record, record_at}
+use Rattle.ucd_model.specs.Sameness.{same_record}
+use Rattle.ucd_model.specs.SamenessProofs.{records_are_told}
 use Rattle.ucd_model.specs.Validity.{first_broken}
 use Rattle.ucd_model.specs.ValidityLaws.{IsValid}
 use Rattle.ucd_model.specs.ValidityProofs.{valid_is_unbroken}
@@ -11,17 +16,17 @@ use Rattle.ucd_model.specs.declared.form.Broken.{Broken}
 use Rattle.ucd_model.specs.declared.query.Query.{Query}
 use Rattle.asked_queries.specs.Answers.{TellsChanges, is_asked}
 use Rattle.asked_queries.specs.Turns.{KeepsAsked}
-use Rattle.record_list.specs.Records.{record_now}
+use Rattle.record_list.specs.Records.{record_next, record_now}
 use Rattle.rederivation.specs.Turned.{CountsWithin, IsReady, IsTurned, StopsTurn}
 use Rattle.rederivation.specs.declared.again_stop.AgainStop.{AgainStop}
 use Rattle.rederivation.specs.declared.again_stop.AgainStop.TheVariants.{Broken as Breaks, Memory as Lacking}
 use Rattle.release_rows.specs.FileItems.{FileItem}
-use Rattle.code_facts.specs.FactTables.{tables_facts}
+use Rattle.code_facts.specs.FactTables.{tables_facts, tables_next}
 use Rattle.dependency_map.specs.Maps.{asked_at}
 use Rattle.kept_values.specs.Kept.{values}
-use Rattle.paged_table.specs.Paged.{values_now}
+use Rattle.paged_table.specs.Paged.{values_next, values_now}
 use Rattle.edit_session.specs.Benches.{NamesBroken}
-use Rattle.edit_session.specs.Derivations.{AreOf, IsNow}
+use Rattle.edit_session.specs.Derivations.{AreOf, IsNext, IsNow, IsStill}
 use Rattle.edit_session.specs.declared.derivation.Derivation.{Derivation}
 use Rattle.edit_session.specs.declared.questions.Questions.{Questions}
 use Rattle.edit_session.specs.Questions.{Keeps, KeepsNow}
@@ -125,3 +130,34 @@ answers_broken A view stop told files shown is stops =
     by : (s : AgainStop) → StopsTurn (files_facts files) s → AnswersAs {A = A} (Err (refused_by s)) (checked_files (Ok files)) files
     by (Breaks rule point) h = subst (λ (b : Option Broken). AnswersAs {A = A} (Err (Refuses (Valid rule point))) (valid_files files b) files) (sym h) refl
     by Lacking h = tt
+
+-- ---- no fact is another one
+
+abbrev Untouched : (ℕ → Facts) → (ℕ → Facts) → Type 0
+Untouched F G = (c : ℕ) → G c ≡ F c
+
+pub same_facts : (F G : ℕ → Facts) → Untouched F G → F ≡ G
+same_facts F G same = sym (λ i c. same c i)
+
+none_pass : (p : ℕ → Bool) → ((c : ℕ) → p c ≡ false) → (xs : List ℕ) → [] ≡ filter p xs
+none_pass p none [] = refl
+none_pass p none (x ∷ xs) = none_pass p none xs ∙ sym (ap (λ (b : Bool). cond b (x ∷ filter p xs) (filter p xs)) (none x))
+
+none_changed : (F : ℕ → Facts) → [] ≡ changed F F
+none_changed F = none_pass (λ c. not (same_record (record_at F c) (record_at F c))) (λ c. ap not ((records_are_told (record_at F c) (record_at F c)).1 refl)) (range_with_len 0 point_count)
+
+pub unchanged : (F G : ℕ → Facts) → Untouched F G → [] ≡ changed F G
+unchanged F G same = subst (λ (H : ℕ → Facts). [] ≡ changed F H) (same_facts F G same) (none_changed F)
+
+-- what the derivation has next is that of facts that are the same
+pub stays : (F G : ℕ → Facts) (d : Derivation) → Untouched F G → IsNow F d → IsStill d → IsNext G d
+stays F G d same now still =
+    moved G (tables_facts values_now d.tables) (tables_next values_now d.tables) (record_now d.records) (record_next d.records) d.questions.listed d.questions.listed
+    (asked_at (values values_now) d.questions.map) (asked_at (values values_next) d.questions.map) still.tables still.records
+    (keeps_same d.questions.listed (asked_at (values values_now) d.questions.map) (asked_at (values values_next) d.questions.map) G still.asked)
+    (subst (λ (H : ℕ → Facts). IsNow H d) (same_facts F G same) now)
+
+-- no span, no touched code point
+pub none_within : (spans : List Bounds) → (length spans == 0) ≡ true → (c : ℕ) → list_any (within c) spans ≡ false
+none_within [] e c = refl
+none_within (s ∷ rest) e c = absurd (let no : length (s ∷ rest) ≡ 0 = grind (arith, nat_tests) in omega (arith, no))

@@ -60,7 +60,8 @@ impl Derivation {
     }
 
     /// Makes what is next that of the rows of a release next, and answers the code points whose records differ,
-    /// ascending. Only the code points that depend on the change are derived, and counted.
+    /// ascending. Only the code points that depend on the change are derived, and counted. Where no
+    /// code point is touched, no fact is another one, and nothing is listed.
     ///
     /// - `Refused(Valid { rule, point })`: the rows next are not valid. The least code point that breaks a rule is named,
     ///   with its first rule.
@@ -84,6 +85,9 @@ impl Derivation {
         ensures changed { IfOk result (λ points. points ≡ changed (files_facts release.now.current) (files_facts release.now.prepared)) }
         ensures steps { CountsWithin (files_facts release.now.current) (files_facts release.now.prepared) steps.old steps.new }
     {
+        if touched.as_slice().is_empty() {
+            return Ok(Points::new(alloc));
+        }
         self.questions.list(alloc, &self.tables)?;
         self.turn_listed(alloc, release, touched, steps)
     }

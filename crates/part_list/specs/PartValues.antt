@@ -1,28 +1,19 @@
 -- A part of a list.
 --
 -- PartValue A               its entries now and next, and whether what is next is kept apart from what is now
--- IsReach reach now next    the entries of both lie within the reach
 -- committed part            the part once what is next is what is now
 -- discarded part            the part once what is now is what is next
 -- has_entries part          whether there are entries, now or next
 -- shown version part        what is now, or what is next
 -- parts_now, parts_next     of each part what is now, and what is next
 use Rattle.std.specs.Prelude.{Bool, false, ◌||◌, nat_lt, List, length, map}
-use Rattle.std.specs.List.{All}
-use Rattle.part_list.specs.declared.reach.Reach.{Reach}
-use Rattle.part_list.specs.declared.spanned.Spanned.{Spanned}
 use Rattle.part_list.specs.declared.version.Version.{Version}
 use Rattle.part_list.specs.declared.version.Version.TheVariants.{Now, Next}
-use Rattle.part_list.specs.Reaches.{IsWithin}
 
 pub record PartValue (A : Type 0) : Type 0 where
   pub now : List A
   pub next : List A
   pub edited : Bool
-
-pub record IsReach {A : Type 0} (reach : Reach) (now next : List (Spanned A)) : Type 0 where
-  pub current : All (IsWithin reach) now
-  pub prepared : All (IsWithin reach) next
 
 abbrev pub committed : {A : Type 0} → PartValue A → PartValue A
 committed part = record { now = part.next; next = part.next; edited = false }

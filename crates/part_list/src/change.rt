@@ -10,7 +10,7 @@ use std::alloc::Global;
 use ucd_points::ListOf;
 
 /// A part with more entries next is cut in two.
-const MOST: usize = 1024;
+const MOST: usize = 512;
 
 /// Makes what is next what is now in each part. It takes no memory.
 pub fn commit_all<T: Copy>(parts: &mut Vec<Part<T>>)

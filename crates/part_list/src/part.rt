@@ -26,20 +26,23 @@ pub struct Part<T: Copy> {
     kept: ListOf<Spanned<T>>,
     /// What is next, where it was edited since the last `commit` or `discard`.
     edit: Option<ListOf<Spanned<T>>>,
-    /// It bounds the entries now and next. Edits widen it; `commit` and `discard` make it as narrow as the entries are.
+    /// It bounds the entries next, which are those that are looked at. Edits widen it; `truncate`, `commit` and `discard` make it
+    /// as narrow as the entries are.
     reach: Reach,
 }
 
 impl<T: Copy> Model for Part<T> {
     ghost use Rattle.std.specs.Option.{is_some, unwrap_or};
     ghost use Rattle.part_list.specs.declared.spanned.Spanned.{Spanned as Entry};
-    ghost use Rattle.part_list.specs.PartValues.{PartValue, IsReach};
+    ghost use Rattle.std.specs.List.{All};
+    ghost use Rattle.part_list.specs.PartValues.{PartValue};
+    ghost use Rattle.part_list.specs.Reaches.{IsWithin};
 
     ghost Value = { PartValue (Entry T) };
 
     ghost view = { λ p. record { now = p.kept; next = unwrap_or p.edit p.kept; edited = is_some p.edit } };
 
-    ghost invariant = { λ p. IsReach p.reach p.kept (unwrap_or p.edit p.kept) };
+    ghost invariant = { λ p. All (IsWithin p.reach) (unwrap_or p.edit p.kept) };
 }
 
 /// Puts an entry, where there is one, at the end.
@@ -110,13 +113,20 @@ pub fn first_in<T: Copy, S: Seek<T>>(entries: &[Spanned<T>], seek: &S) -> Option
     None
 }
 
+/// Whether an entry passes. Mostly its bounds rule it out, which is a few comparisons.
+fn is_sought<T: Copy, S: Seek<T>>(entry: &Spanned<T>, seek: &S) -> bool
+    ensures { result ≡ S.passing seek.now entry.now }
+{
+    !seek.skips(Reach::NONE.with(entry)) && seek.passes(entry)
+}
+
 /// The place of the last entry that passes.
 fn last_in<T: Copy, S: Seek<T>>(entries: &[Spanned<T>], seek: &S) -> Option<usize>
     ensures { LastIn result (S.passing seek.now) entries.now }
 {
     let mut left = entries.len();
     'entries: while left > 0 {
-        if seek.passes(&entries[left - 1]) {
+        if is_sought(&entries[left - 1], seek) {
             return Some(left - 1);
         }
         left -= 1;
@@ -228,13 +238,15 @@ impl<T: Copy> Part<T> {
         Ok(())
     }
 
-    /// Keeps the first `len` entries next. It takes no memory.
+    /// Keeps the first `len` entries next, with the bounds of these. It takes no memory.
     pub fn truncate(&mut self, len: usize)
         requires { self.old.edited ≡ true }
         ensures { self.new ≡ record { now = self.old.now; next = take len self.old.next; edited = true } }
     {
-        if let Some(edit) = &mut self.edit {
-            edit.truncate(len);
+        if let Some(mut front) = self.edit.take() {
+            front.truncate(len);
+            self.reach = Reach::NONE.with_all(front.as_slice());
+            self.edit = Some(front);
         }
     }
 

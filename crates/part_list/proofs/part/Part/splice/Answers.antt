@@ -8,9 +8,6 @@ pub invariant_of-self : goal.invariant_of-self
 invariant_of-self g c =
     let second = c.with_some-self-inside.ensures in
     let wider = wider_on _ _ _ c.with_some.ensures.wider second.wider in
-    record {
-      current = all_wider _ _ wider _ c.self.invariant.current;
-      prepared = rw (c.in_ok-edit.ensures, c.next.ensures, ← c.self.view_is)
-          (within_spliced c.with_some-self-inside.result _ c.args.at c.args.removed _ (all_wider _ _ wider _ c.self.invariant.prepared)
-          (All-append (IsWithin c.with_some-self-inside.result) _ _ (all_wider _ _ second.wider _ c.with_some.ensures.entry) second.entry));
-    }
+    rw (c.in_ok-edit.ensures, c.next.ensures, ← c.self.view_is)
+    (within_spliced c.with_some-self-inside.result _ c.args.at c.args.removed _ (all_wider _ _ wider _ c.self.invariant)
+    (All-append (IsWithin c.with_some-self-inside.result) _ _ (all_wider _ _ second.wider _ c.with_some.ensures.entry) second.entry))

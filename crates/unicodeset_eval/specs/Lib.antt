@@ -2,6 +2,7 @@ pub mod Edges
 pub mod Merges
 pub mod EdgeLaws
 pub mod Members
+pub mod RisingSpans
 pub mod Pieces
 pub mod Laws
 pub mod Tests

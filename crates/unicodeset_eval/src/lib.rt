@@ -16,6 +16,7 @@ mod numbers;
 mod point_set;
 mod record_pieces;
 mod release_eval;
+mod rising;
 mod row_sets;
 mod splitting;
 mod stop;

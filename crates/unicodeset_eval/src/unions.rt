@@ -6,14 +6,33 @@ ghost use Rattle.ucd_model.specs.Facts.{within};
 ghost use Rattle.unicodeset_eval.specs.Edges.{has};
 
 use crate::point_set::PointSet;
+use crate::rising::rising_union;
 use std::alloc::Global;
 use ucd_model::{Memory, Span};
 use unicodeset_parser::Join;
 
-/// The code points of spans in any order, by halves: its time is that of n log n for n spans.
+/// The code points of spans in any order. Its time is that of n for n spans that rise, and of n log n for others.
 ///
 /// - `Memory`: memory ran out.
 pub(crate) fn union_of(alloc: Global, spans: &[Span]) -> Result<PointSet, Memory>
+    ensures { IfOk result (λ set. (c : ℕ) → has set c ≡ list_any (within c) spans.now) }
+{
+    match spans {
+        [] => {
+            let set = PointSet::empty(alloc);
+            Ok(set)
+        }
+        [first, others @ ..] => match rising_union(alloc, *first, others)? {
+            Some(set) => Ok(set),
+            None => halved_union(alloc, spans),
+        },
+    }
+}
+
+/// The code points of spans, by halves.
+///
+/// - `Memory`: memory ran out.
+fn halved_union(alloc: Global, spans: &[Span]) -> Result<PointSet, Memory>
     ensures { IfOk result (λ set. (c : ℕ) → has set c ≡ list_any (within c) spans.now) }
 {
     match spans {
@@ -27,8 +46,8 @@ pub(crate) fn union_of(alloc: Global, spans: &[Span]) -> Result<PointSet, Memory
         }
         _ => {
             let (front, back) = spans.split_at(spans.len() / 2);
-            let first = union_of(alloc, front)?;
-            let second = union_of(alloc, back)?;
+            let first = halved_union(alloc, front)?;
+            let second = halved_union(alloc, back)?;
             let set = PointSet::joined(alloc, Join::Union, &first, &second)?;
             Ok(set)
         }

@@ -5,7 +5,7 @@ use Rattle.std.proofs.lemmas.List.Sorted.{IsPartitionPoint-from_clause, IsPartit
 use Rattle.release_rows.specs.Keys.{spans_meet}
 use Rattle.release_rows.specs.declared.span_order.Begun.{Begun}
 use Rattle.release_rows.proofs.SpanOrder.{some_begun, none_begun}
-use Rattle.release_rows.proofs.span_order.SpanOrder.meets.Goals as goal
+use Rattle.release_rows.proofs.span_order.SpanOrder.some_meet.Goals as goal
 
 pub returns-then-begun-gt0 : goal.returns-then-begun-gt0
 returns-then-begun-gt0 c =

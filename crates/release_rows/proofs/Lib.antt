@@ -32,6 +32,7 @@ pub mod Cuts
 pub mod Reload
 pub mod Sound
 pub mod Chains
+pub mod ConditionTags
 pub mod Gathered
 mod StoredRows
 mod FoundRows

@@ -16,6 +16,7 @@ use Rattle.ucd_points.specs.declared.files.SourceFile.TheVariants.{UnicodeData, 
 use Rattle.source_rows.specs.KeyNames.{content_group, content_names, names_cmp}
 use Rattle.release_rows.specs.Searches.{has_names, is_of_group, is_row}
 use Rattle.release_rows.specs.Tags.{HasTag, behind_first, content_tag, digit, end_of, first_digit, is_inner, key_tag, number, tag_fits, tag_rises, tells_group, tells_key, tells_order}
+use Rattle.release_rows.proofs.ConditionTags.{conditions_number}
 use Rattle.release_rows.proofs.Texts.{equal_is, is_eq-then, same_text}
 
 -- ---- texts in order
@@ -201,7 +202,7 @@ tag_of Scripts c = record { by_key = λ h. absurd cc; by_group = λ h. refl; nam
 tag_of WordBreakProperty c = record { by_key = λ h. absurd cc; by_group = λ h. refl; name = tt }
 tag_of CompositionExclusions c = record { by_key = λ h. absurd cc; by_group = λ h. absurd cc; name = tt }
 tag_of CaseFolding c = record { by_key = λ h. absurd cc; by_group = λ h. absurd cc; name = tt }
-tag_of SpecialCasing c = record { by_key = λ h. absurd cc; by_group = λ h. absurd cc; name = tt }
+tag_of SpecialCasing c = record { by_key = λ h. conditions_number SpecialCasing c 4; by_group = λ h. absurd cc; name = tt }
 tag_of PropertyAliases c = record { by_key = λ h. ap number (first_taken 1 (fields PropertyAliases c)); by_group = λ h. absurd cc; name = tt }
 tag_of PropertyValueAliases c = record {
   by_key = λ h. ap number (second_taken 1 (fields PropertyValueAliases c));
@@ -276,7 +277,8 @@ rises Scripts x y a b names others group s e h = refl
 rises WordBreakProperty x y a b names others group s e h = refl
 rises CompositionExclusions x y a b names others group s e h = refl
 rises CaseFolding x y a b names others group s e h = refl
-rises SpecialCasing x y a b names others group s e h = refl
+rises SpecialCasing x y a b names others group s e h =
+    with_names x y a b (names_cmp names others) h (λ less. rw (s.by_key refl, e.by_key refl) (number_up (field names 0) (field others 0) (first_up names others less)))
 rises PropertyAliases x y a b names others group s e h =
     with_names x y a b (names_cmp names others) h (λ less. rw (s.by_key refl, e.by_key refl) (number_up (field names 0) (field others 0) (first_up names others less)))
 rises PropertyValueAliases x y a b names others group s e h =

@@ -8,7 +8,7 @@
 -- end_of bs                the last five bytes; all where there are no more
 -- content_tag file content   the tag of the row that stands in this content: the number of the end of its value in PropList.txt,
 --                          Scripts.txt and WordBreakProperty.txt; that of its first name in PropertyAliases.txt, and of the
---                          second one in PropertyValueAliases.txt; 0 in the other files
+--                          second one in PropertyValueAliases.txt; that of the conditions in SpecialCasing.txt; 0 in the other files
 -- key_tag file names       the same by the names of the key, where they tell it; else 0
 -- tells_key file           rows of one key have one tag
 -- tells_group file         rows of one group have one tag
@@ -21,7 +21,7 @@
 use Rattle.std.specs.Prelude.{◌≡◌, ℕ, ◌+◌, ◌-◌, ◌*◌, Bool, true, false, ◌&&◌, ◌||◌, not, List, [], ◌∷◌, length, drop, ◌==◌, nat_le, nat_lt, if◌then◌else◌}
 use Rattle.ucd_points.specs.Fields.{field, fields}
 use Rattle.ucd_points.specs.declared.files.SourceFile.{SourceFile}
-use Rattle.ucd_points.specs.declared.files.SourceFile.TheVariants.{PropList, Scripts, WordBreakProperty, PropertyAliases, PropertyValueAliases}
+use Rattle.ucd_points.specs.declared.files.SourceFile.TheVariants.{PropList, Scripts, WordBreakProperty, SpecialCasing, PropertyAliases, PropertyValueAliases}
 use Rattle.source_rows.specs.KeyNames.{content_group}
 use Rattle.part_list.specs.declared.reach.Reach.{Reach}
 
@@ -53,18 +53,21 @@ unfoldable pub content_tag : SourceFile → List ℕ → ℕ
 content_tag PropList content = number (end_of (content_group PropList content))
 content_tag Scripts content = number (end_of (content_group Scripts content))
 content_tag WordBreakProperty content = number (end_of (content_group WordBreakProperty content))
+content_tag SpecialCasing content = number (field (fields SpecialCasing content) 4)
 content_tag PropertyAliases content = number (field (fields PropertyAliases content) 0)
 content_tag PropertyValueAliases content = number (field (fields PropertyValueAliases content) 1)
 content_tag _ content = 0
 
 abbrev pub key_tag : SourceFile → List (List ℕ) → ℕ
 key_tag PropList names = number (end_of (field names 0))
+key_tag SpecialCasing names = number (field names 0)
 key_tag PropertyAliases names = number (field names 0)
 key_tag PropertyValueAliases names = number (field names 1)
 key_tag _ names = 0
 
 abbrev pub tells_key : SourceFile → Bool
 tells_key PropList = true
+tells_key SpecialCasing = true
 tells_key PropertyAliases = true
 tells_key PropertyValueAliases = true
 tells_key _ = false
@@ -76,6 +79,7 @@ tells_group WordBreakProperty = true
 tells_group _ = false
 
 abbrev pub tells_order : SourceFile → Bool
+tells_order SpecialCasing = true
 tells_order PropertyAliases = true
 tells_order PropertyValueAliases = true
 tells_order _ = false

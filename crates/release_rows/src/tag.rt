@@ -105,6 +105,36 @@ fn second_field(mut fields: Fields<'_>) -> &[u8]
     }
 }
 
+/// The third one of the fields; nothing where there is none.
+fn third_field(mut fields: Fields<'_>) -> &[u8]
+    ensures { result.now ≡ field fields.entry 2 }
+{
+    match fields.next() {
+        Some(_) => second_field(fields),
+        None => &[],
+    }
+}
+
+/// The fourth one of the fields; nothing where there is none.
+fn fourth_field(mut fields: Fields<'_>) -> &[u8]
+    ensures { result.now ≡ field fields.entry 3 }
+{
+    match fields.next() {
+        Some(_) => third_field(fields),
+        None => &[],
+    }
+}
+
+/// The fifth one of the fields; nothing where there is none.
+fn fifth_field(mut fields: Fields<'_>) -> &[u8]
+    ensures { result.now ≡ field fields.entry 4 }
+{
+    match fields.next() {
+        Some(_) => fourth_field(fields),
+        None => &[],
+    }
+}
+
 /// The tag of a row that stands in this content of the file.
 #[tactic(auto, unfolding(crate::specs::Tags::content_tag))]
 pub fn content_tag(file: SourceFile, content: &[u8]) -> u32
@@ -114,6 +144,7 @@ pub fn content_tag(file: SourceFile, content: &[u8]) -> u32
         SourceFile::PropList | SourceFile::Scripts | SourceFile::WordBreakProperty => {
             number(end_of(content_group(file, content)))
         }
+        SourceFile::SpecialCasing => number(fifth_field(fields(file, content))),
         SourceFile::PropertyAliases => number(first_field(fields(file, content))),
         SourceFile::PropertyValueAliases => number(second_field(fields(file, content))),
         _ => 0,
@@ -126,7 +157,7 @@ pub fn key_tag(file: SourceFile, names: &[Text]) -> u32
 {
     match file {
         SourceFile::PropList => number(end_of(first_text(names))),
-        SourceFile::PropertyAliases => number(first_text(names)),
+        SourceFile::SpecialCasing | SourceFile::PropertyAliases => number(first_text(names)),
         SourceFile::PropertyValueAliases => number(second_text(names)),
         _ => 0,
     }
@@ -138,7 +169,10 @@ pub fn tells_key(file: SourceFile) -> bool
 {
     matches!(
         file,
-        SourceFile::PropList | SourceFile::PropertyAliases | SourceFile::PropertyValueAliases
+        SourceFile::PropList
+            | SourceFile::SpecialCasing
+            | SourceFile::PropertyAliases
+            | SourceFile::PropertyValueAliases
     )
 }
 
@@ -158,6 +192,6 @@ pub fn tells_order(file: SourceFile) -> bool
 {
     matches!(
         file,
-        SourceFile::PropertyAliases | SourceFile::PropertyValueAliases
+        SourceFile::SpecialCasing | SourceFile::PropertyAliases | SourceFile::PropertyValueAliases
     )
 }

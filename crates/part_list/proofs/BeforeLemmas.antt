@@ -26,3 +26,12 @@ before_found ps spot left part xs same some within is long first stands =
     let size = ap length same in
     let step = before_left ps left part some within is in
     (record { part = omega arith; within = omega arith }, omega arith)
+
+-- the place, behind one more part
+pub place_behind : {A : Type 0} (ps : List (PartValue A)) (slot at place : ℕ) (part : PartValue A) (xs : List A) → xs ≡ part.next → slot < length ps → part ≡ get_or ps slot part → length xs ≤ at → before (parts_next ps) slot + at ≡ place → before (parts_next ps) (slot + 1) + (at - length xs) ≡ place
+place_behind ps slot at place part xs same within is past stands =
+    let long = length-map ps (λ (p : PartValue _). p.next) in
+    let step = before_more (parts_next ps) slot (omega arith) in
+    let here = ap length (part_next ps slot part within is) in
+    let size = ap length same in
+    omega arith

@@ -1,9 +1,10 @@
 //! Lists that can be edited.
 
-ghost use Rattle.std.specs.Prelude.{◌≡◌, ◌+◌, [], ◌∷◌, ◌++◌, slice_index_or, slice_set, OnOk, OnErr};
+ghost use Rattle.std.specs.Prelude.{◌≡◌, ◌+◌, ◌<◌, [], ◌∷◌, ◌++◌, length, slice_index_or, slice_set, OnOk, OnErr};
 ghost use Rattle.std.specs.List.{filter, insert, remove};
-ghost use Rattle.part_list.specs.Parts.{IsEntry, IsGap, now_in, next_in, place};
-ghost use Rattle.part_list.specs.Finds.{FirstAt, IsBefore, LastAt};
+ghost use Rattle.std.specs.Option.{MatchOption};
+ghost use Rattle.part_list.specs.Parts.{IsEntry, IsGap, now_in, next_in, part_at, place};
+ghost use Rattle.part_list.specs.Finds.{FirstAt, IsBefore, LastAt, StandsAt};
 
 use crate::change::{commit_all, discard_all, drop_empty};
 use crate::entries::Entries;
@@ -11,7 +12,7 @@ use crate::fill::{begin, edit, push};
 use crate::part::Part;
 use crate::passing::Passing;
 use crate::put::Put;
-use crate::search::{first_spot, last_spot, spot_before};
+use crate::search::{first_spot, last_spot, spot_at, spot_before};
 use crate::seek::Seek;
 use crate::spanned::Spanned;
 use crate::spot::Spot;
@@ -172,6 +173,43 @@ impl<T: Copy> PartList<T> {
         ensures { IsBefore result spot self.now.next }
     {
         spot_before(&self.parts, spot)
+    }
+
+    /// The spot of the entry next at a place of the list, counted from 0; `None` past the last. It takes time by the parts
+    /// before it.
+    pub fn at(&self, place: usize) -> Option<Spot>
+        ensures { StandsAt result place self.now.next }
+    {
+        spot_at(&self.parts, place)
+    }
+
+    /// How many parts there are, now and next.
+    pub fn part_count(&self) -> usize
+        ensures now { result ≡ length self.now.now }
+        ensures next { result ≡ length self.now.next }
+    {
+        self.parts.len()
+    }
+
+    /// The entries now of a part, counted from 0.
+    pub fn part(&self, slot: usize) -> &[Spanned<T>]
+        requires { slot < length self.now.now }
+        ensures { result.now ≡ part_at self.now.now slot }
+    {
+        self.parts[slot].shown(Version::Now)
+    }
+
+    /// The entries next of a part that was edited since the last `commit` or `discard`; `None` of one that was not, which
+    /// has the entries next that it has now.
+    pub fn edited_part(&self, slot: usize) -> Option<&[Spanned<T>]>
+        requires { slot < length self.now.now }
+        ensures { MatchOption result (part_at self.now.next slot ≡ part_at self.now.now slot) (λ entries. entries.now ≡ part_at self.now.next slot) }
+    {
+        let part = &self.parts[slot];
+        if part.is_edited() {
+            return Some(part.next());
+        }
+        None
     }
 
     /// The entries now, in order.

@@ -1,6 +1,6 @@
 //! Searches over all parts of a list.
 
-ghost use Rattle.part_list.specs.Finds.{FirstAt, IsBefore, LastAt};
+ghost use Rattle.part_list.specs.Finds.{FirstAt, IsBefore, LastAt, StandsAt};
 ghost use Rattle.part_list.specs.Parts.{IsEntry};
 ghost use Rattle.part_list.specs.PartValues.{parts_next};
 
@@ -56,6 +56,23 @@ pub fn spot_before<T: Copy>(parts: &[Part<T>], spot: Spot) -> Option<Spot>
             return Some(Spot { slot, at: len - 1 });
         }
         left = slot;
+    }
+    None
+}
+
+/// The spot of the entry next at a place of the list, counted from 0; `None` past the last.
+pub fn spot_at<T: Copy>(parts: &[Part<T>], place: usize) -> Option<Spot>
+    ensures { StandsAt result place (parts_next parts.now) }
+{
+    let mut at = place;
+    let mut slot = 0;
+    'parts: while slot < parts.len() {
+        let len = parts[slot].next().len();
+        if at < len {
+            return Some(Spot { slot, at });
+        }
+        at -= len;
+        slot += 1;
     }
     None
 }

@@ -70,7 +70,7 @@ module _ (files : List FileLists) (file : SourceFile) (n : ℕ) (d : FileLists) 
   pub now_same : (new : FileLists) → new.now ≡ (get_or files n d).now → files_now (set files n new) ≡ files_now files
   now_same new same = rw here (now_with files file new ∙ ap (with_items (files_now files) file) (same ∙ now_here) ∙ same_items (files_now files) file)
 
-  next_are : (new : FileLists) → files_next (set files n new) ≡ with_items (files_next files) file new.next
+  pub next_are : (new : FileLists) → files_next (set files n new) ≡ with_items (files_next files) file new.next
   next_are new = rw here (next_with files file new)
 
   pub answered : (r : Result (List Bounds) OpStop) (op : Op) (spans : List FileItem → List Bounds) (new : FileLists) → op_file op ≡ file → AnswersOp r (edited (get_or files n d).next op) (spans (get_or files n d).next) (get_or files n d).next new.next → AnswersOp r (op_or_rule (files_next files) op) (spans (items_at (files_next files) (op_file op))) (files_next files) (files_next (set files n new))

@@ -43,3 +43,7 @@ mod FirstRows
 mod SeekingKeys
 mod FilesEdited
 pub mod SameTexts
+mod Backward
+mod Leading
+mod LeadingFiles
+mod TouchedBack

@@ -32,3 +32,5 @@ pub mod Laws
 pub mod FileLemmas
 pub mod ValuesApart
 pub mod ValuesApartProofs
+pub mod Patches
+pub mod Back

@@ -1,7 +1,7 @@
 //! Edits of the entries of a file, next.
 
-ghost use Rattle.std.specs.Prelude.{◌≡◌, ℕ, ◌+◌, true, false, List, length, map, OnOk, OnErr};
-ghost use Rattle.std.specs.List.{All};
+ghost use Rattle.std.specs.Prelude.{◌≡◌, ℕ, ◌+◌, ◌≤◌, true, false, List, length, map, OnOk, OnErr};
+ghost use Rattle.std.specs.List.{All, insert};
 ghost use Rattle.ucd_points.specs.declared.files.SourceFile.{SourceFile as FileValue};
 ghost use Rattle.ucd_model.specs.declared.row.Row.{Row as RowValue};
 ghost use Rattle.part_list.specs.Parts.{next_in, now_in};
@@ -117,5 +117,24 @@ pub fn put_in(
             items.replace_and_insert(spot, ended, entry)
         }
         Gap::Only => items.push_next(entry),
+    }
+}
+
+/// Puts an entry in at a place of the list, next.
+///
+/// - `Memory`: memory ran out. The entries stay as they were.
+pub fn put_at(
+    items: &mut PartList<Stretch>,
+    at: usize,
+    entry: Spanned<Stretch>,
+) -> Result<(), Memory>
+    requires { at ≤ length (next_in items.old) }
+    ensures now { now_in items.new ≡ now_in items.old }
+    ensures ok { OnOk result (next_in items.new ≡ insert (next_in items.old) at entry) }
+    ensures err { OnErr result (items.new ≡ items.old) }
+{
+    match items.at(at) {
+        Some(spot) => items.insert(spot, entry),
+        None => items.push_next(entry),
     }
 }

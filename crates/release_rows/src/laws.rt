@@ -1,6 +1,7 @@
 //! Laws of loaded files.
 
 ghost use Rattle.release_rows.specs.OperationLaws.{MissingRowsOverlapNothing, OperationsKeepCuts, OperationsKeepOrder, OperationsKeepRows, RowsStay};
+ghost use Rattle.release_rows.specs.Patches.{RowsStayBack};
 ghost use Rattle.release_rows.specs.Touching.{RowsMeet};
 ghost use Rattle.release_rows.specs.Unchanged.{EverythingElseStays};
 ghost use Rattle.release_rows.specs.ValuesApart.{ValuesAreApart};
@@ -75,6 +76,12 @@ pub fn missing_rows_overlap_nothing()
 /// A code point outside of what an operation touches has the same rows that speak of it, in the same order.
 pub fn rows_stay()
     ensures { RowsStay }
+{}
+
+/// A code point outside of what the rows of a patch speak of has the same rows that speak of it where the patch leads, in
+/// the same order.
+pub fn rows_stay_back()
+    ensures { RowsStayBack }
 {}
 
 /// A row that speaks of a code point in one of the spans is among those that meet the spans.

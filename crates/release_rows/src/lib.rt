@@ -1,8 +1,11 @@
 //! Loads the source files of a release and keeps their text, from which their rows are read again.
 #![tactic(auto)]
 
+mod back;
 mod brief;
 mod conflict;
+mod copy;
+mod difference;
 mod edits;
 mod end_map;
 mod entry;
@@ -20,6 +23,7 @@ mod meeting;
 mod nine_files;
 mod op_spans;
 mod operation;
+mod patch;
 mod piece;
 mod place;
 mod placed;
@@ -32,19 +36,23 @@ mod row_text;
 mod run;
 mod search;
 mod span_order;
+mod splice;
 mod stored_row;
 mod stretch;
 mod tag;
 mod touching;
+mod way_back;
 
 pub use key_rule::KeyRule;
 pub use laws::{
     bytes_are_kept, everything_else_stays, faults_are_first, loaded_files_are_sound, loads_exactly,
     missing_rows_overlap_nothing, operations_keep_cuts, operations_keep_order,
-    operations_keep_rows, reloads_the_same, rows_meet, rows_stay, values_are_apart,
+    operations_keep_rows, reloads_the_same, rows_meet, rows_stay, rows_stay_back, values_are_apart,
 };
 pub use load_stop::{LoadRule, LoadStop};
 pub use operation::{Op, OpStop, Ops};
+pub use patch::Patch;
 pub use release::Release;
 pub use row_iter::Rows;
 pub use row_text::RowText;
+pub use splice::Splice;

@@ -6,15 +6,18 @@ ghost use Rattle.release_rows.specs.Cuts.{Ascends};
 ghost use Rattle.release_rows.specs.FileItems.{bytes_of, rows_in};
 ghost use Rattle.release_rows.specs.Laws.{Reloads};
 ghost use Rattle.release_rows.specs.Loading.{load_or_fault};
+ghost use Rattle.release_rows.specs.Patches.{AnswersBack, IsWayBack, LeadsBack};
 ghost use Rattle.release_rows.specs.Operations.{AnswersOp, IsOp, op_file, op_or_rule, touched};
-ghost use Rattle.release_rows.specs.Releases.{AnswersLoad, AreKept, items_now, items_next, no_items, rows_at};
+ghost use Rattle.release_rows.specs.Releases.{AllAreKept, AnswersLoad, AreKept, items_now, items_next, no_items, rows_at};
 ghost use Rattle.release_rows.specs.Touching.{meets};
 
+use crate::back::undo_all;
 use crate::laws::reloads_the_same;
 use crate::load_items::load_items;
 use crate::load_stop::{LoadRule, LoadStop};
 use crate::nine_files::{NineFiles, commit_all, discard_all, items_at, no_items, prepare_in, put};
 use crate::operation::{Op, OpStop};
+use crate::patch::{Patch, way_back};
 use crate::row_iter::Rows;
 use crate::row_text::RowText;
 use std::alloc::Global;
@@ -173,5 +176,42 @@ impl Release {
         ensures { self.new ≡ record { current = self.old.current; prepared = self.old.current } }
     {
         discard_all(&mut self.files);
+    }
+}
+
+/// Ways back.
+impl Release {
+    /// The way from what is prepared back to what is current. It holds what was exchanged in each part of a file that was
+    /// edited, with its bytes.
+    ///
+    /// - `Memory`: memory ran out, or what was exchanged in a part has 2^32 bytes or more.
+    pub fn patch(&self) -> Result<Patch, Memory>
+        ensures { IfOk result (λ patch. LeadsBack patch self.now.prepared self.now.current) }
+    {
+        way_back(&self.files, self.alloc)
+    }
+
+    /// Prepares what a patch leads back to, and answers the code points that its rows speak of. Outside of them the rows
+    /// that speak of a code point stay (`rows_stay_back`).
+    ///
+    /// - `Memory`: memory ran out, or the text that a file is kept in would have 2^32 bytes or more. What is prepared is as
+    ///   it was.
+    pub fn prepare_back(&mut self, patch: &Patch) -> Result<Spans, Memory>
+        requires still { self.old.prepared ≡ self.old.current }
+        requires way { IsWayBack patch.now self.old.current }
+        ensures answer { AnswersBack result patch.now self.old self.new }
+    {
+        let told = undo_all(&mut self.files, self.alloc, patch.as_slice());
+        if told.is_err() {
+            discard_all(&mut self.files);
+        }
+        told
+    }
+
+    /// What is current is what a release keeps: nine files, of which each is sound.
+    pub fn is_kept(&self)
+        ensures { AllAreKept self.now.current }
+    {
+        let _files = &self.files;
     }
 }

@@ -26,7 +26,7 @@ fn lines_in(bytes: &[u8]) -> u8
 /// Where bytes have their place at the end of a text: the text's length and theirs.
 ///
 /// - `Memory`: the text would have 2^32 bytes or more.
-fn stretch_behind(text: &[u8], bytes: &[u8]) -> Result<(u32, u32), Memory>
+pub fn stretch_behind(text: &[u8], bytes: &[u8]) -> Result<(u32, u32), Memory>
     ensures { IfOk result (λ place. (place.0 ≡ length text.now) × (place.1 ≡ length bytes.now)) }
 {
     let (Ok(start), Ok(len)) = (u32::try_from(text.len()), u32::try_from(bytes.len())) else {

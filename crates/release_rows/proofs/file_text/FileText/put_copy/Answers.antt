@@ -1,0 +1,36 @@
+use Rattle.std.proofs.Common.{◌≡◌, List, map, length, ap, ◌∙◌, arith}
+use Rattle.std.proofs.lemmas.List.{length-map}
+use Rattle.std.specs.List.{insert}
+use Rattle.part_list.specs.Parts.{now_in, next_in}
+use Rattle.release_rows.specs.FileItems.{FileItem, FileLists}
+use Rattle.release_rows.specs.StoredItems.{stored_at}
+use Rattle.release_rows.proofs.Arena.{items_kept}
+use Rattle.release_rows.proofs.Backward.{kept_inserted, map_insert}
+use Rattle.release_rows.proofs.file_text.FileText.put_copy.Goals as goal
+
+pub returns-in_err-put_at-clause-now : goal.returns-in_err-put_at-clause-now
+returns-in_err-put_at-clause-now c =
+    let inside = c.self.inside in
+    rw (c.put_at.ensures.now, c.in_ok-copy.ensures.grows.1, ← c.self.view_is) (items_kept inside.file inside.text c.in_ok-copy.ensures.grows.0 (now_in inside.items) c.self.invariant.0.now)
+
+pub invariant_of-self-2 : goal.invariant_of-self-2
+invariant_of-self-2 c =
+    let inside = c.self.inside in
+    let within = c.requires.within in
+    let here = ap (λ (l : FileLists). length l.next) c.self.view_is in
+    let long = length-map (next_in inside.items) (stored_at inside.file inside.text) in
+    let more = c.in-Some.ensures in
+    (kept_inserted inside.file inside.text c.copy_entry.new.into inside.added c.in-Some.added c.args.at c.in_ok-copy.copy inside.items c.put_at.new.items c.in_ok-copy.ensures.grows c.self.invariant.0 c.put_at.ensures.now c.in_ok-put_at.ensures.ok (omega arith) c.in_ok-copy.ensures.stored (omega arith) (omega arith), λ e. absurd cc)
+
+pub returns-clause-now : goal.returns-clause-now
+returns-clause-now c =
+    let inside = c.self.inside in
+    rw (c.put_at.ensures.now, c.in_ok-copy.ensures.grows.1, ← c.self.view_is) (items_kept inside.file inside.text c.in_ok-copy.ensures.grows.0 (now_in inside.items) c.self.invariant.0.now)
+
+pub returns-clause-next : goal.returns-clause-next
+returns-clause-next c =
+    let inside = c.self.inside in
+    let st = stored_at inside.file c.copy_entry.new.into in
+    let kept : map st (next_in inside.items) ≡ map (stored_at inside.file inside.text) (next_in inside.items) = rw c.in_ok-copy.ensures.grows.1 (items_kept inside.file inside.text c.in_ok-copy.ensures.grows.0 (next_in inside.items) c.self.invariant.0.next) in
+    ap (map st) c.in_ok-put_at.ensures.ok ∙ map_insert st (next_in inside.items) c.args.at c.in_ok-copy.copy
+    ∙ rw (← c.self.view_is) (ap (λ (xs : List FileItem). insert xs c.args.at (st c.in_ok-copy.copy)) kept ∙ ap (insert (map (stored_at inside.file inside.text) (next_in inside.items)) c.args.at) c.in_ok-copy.ensures.item)

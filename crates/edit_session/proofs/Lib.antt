@@ -5,3 +5,4 @@ mod TouchedLemmas
 mod CountLemmas
 mod GroupLemmas
 mod PageLemmas
+mod BackLemmas

@@ -5,3 +5,4 @@ pub mod Derivations
 pub mod Groups
 pub mod Standing
 pub mod CountProofs
+pub mod Reverts

@@ -7,24 +7,29 @@ ghost use Rattle.std.specs.Result.{IsErr};
 ghost use Rattle.code_facts.specs.FactTables.{tables_facts, tables_next};
 ghost use Rattle.paged_table.specs.Paged.{values_now};
 ghost use Rattle.paged_table.specs.Pages.{IsEvenBlock, IsPageOf};
+ghost use Rattle.rederivation.specs.Turned.{CountsWithin};
 ghost use Rattle.release_rows.specs.Operations.{IsOp};
+ghost use Rattle.release_rows.specs.Patches.{back};
 ghost use Rattle.ucd_points.specs.Limits.{point_count};
 ghost use Rattle.edit_session.specs.Benches.{bench_facts, bench_record, bench_word, HasNothingPrepared, IsUnbroken, NamesBroken};
-ghost use Rattle.edit_session.specs.Groups.{AppliesAs, CountsAs, after_ops, group_answer, group_limit};
+ghost use Rattle.edit_session.specs.Groups.{AppliesAs, CountsAs, after_ops, files_facts, group_answer, group_limit};
+ghost use Rattle.edit_session.specs.Reverts.{IsValidWayBack, Keeps, RevertsAs, first_of};
 
 use crate::accepted::Accepted;
 use crate::apply_stop::ApplyStop;
 use crate::derivation::Derivation;
 use crate::group::apply_group;
+use crate::kept_group::apply_kept;
 use crate::open_stop::OpenStop;
+use crate::revert::revert;
 use code_facts::FactTables;
 use page_pool::PagePool;
 use paged_table::PagedTable;
-use release_rows::{Op, Release};
+use release_rows::{Op, Patch, Release};
 use std::alloc::Global;
 use std::marker::Model;
 use std::sync::ledger::Ledger;
-use ucd_model::{FactView, FactsRef, Kind, Point, Record, Records, Steps};
+use ucd_model::{FactView, FactsRef, Kind, Memory, Point, Record, Records, Steps};
 use uniform_facts::UniformFacts;
 
 /// A valid release, with the facts of its rows, the records of all code points and, once a group came, what each of them
@@ -99,6 +104,45 @@ impl Bench {
         ensures uncounted { IsErr (after_ops self.old.current 0 group.now) → steps.new ≡ steps.old }
     {
         apply_group(alloc, &mut self.release, &mut self.derivation, group, steps)
+    }
+
+    /// Carries the operations of a group out as `apply` does, and answers besides the way from the rows after them back to
+    /// those before. The counter of steps rises as it does there.
+    ///
+    /// - `Refused(why)`: an operation or the rows after all break a rule, as in `apply`.
+    /// - `Memory`: memory ran out.
+    ///
+    /// After each the bench is as it was.
+    pub fn apply_kept<L: Ledger>(
+        &mut self,
+        alloc: Global,
+        group: &[Op],
+        steps: &mut Steps<L>,
+    ) -> Result<(Accepted, Patch), ApplyStop>
+        requires operations { All IsOp group.now }
+        requires few { length group.now ≤ group_limit }
+        ensures answer { AppliesAs (first_of result) (group_answer self.old.current group.now) self.old self.new }
+        ensures kept { IfOk result (λ made. Keeps made.1 self.new.current self.old.current) }
+        ensures counted { CountsAs (after_ops self.old.current 0 group.now) (bench_facts self.old) steps.old steps.new }
+    {
+        apply_kept(alloc, &mut self.release, &mut self.derivation, group, steps)
+    }
+
+    /// Goes a way back: its items come back to their places, with their bytes. The counter of steps rises by at most the
+    /// number of code points that depend on the change: no other code point is derived.
+    ///
+    /// - `Memory`: memory ran out. The bench is as it was.
+    pub fn revert<L: Ledger>(
+        &mut self,
+        alloc: Global,
+        way: &Patch,
+        steps: &mut Steps<L>,
+    ) -> Result<Accepted, Memory>
+        requires { IsValidWayBack way.now self.old.current }
+        ensures answer { RevertsAs result (back way.now self.old.current) self.old self.new }
+        ensures counted { CountsWithin (bench_facts self.old) (files_facts (back way.now self.old.current)) steps.old steps.new }
+    {
+        revert(alloc, &mut self.release, &mut self.derivation, way, steps)
     }
 
     /// The last code point of the stretch of equal records that `c` lies in. It takes time by the stretches that it

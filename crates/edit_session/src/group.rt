@@ -55,7 +55,7 @@ pub fn apply_group<L: Ledger>(
 
 /// Carries the operations out on what is prepared, and prepares what their rows give. It answers the code points whose
 /// records differ, ascending. It is the part of a group that can fail.
-fn prepare_group<L: Ledger>(
+pub fn prepare_group<L: Ledger>(
     alloc: Global,
     release: &mut Release,
     derivation: &mut Derivation,

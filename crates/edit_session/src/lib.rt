@@ -7,8 +7,10 @@ mod bench;
 mod derivation;
 mod first_points;
 mod group;
+mod kept_group;
 mod open_stop;
 mod questions;
+mod revert;
 
 pub use accepted::Accepted;
 pub use apply_stop::{ApplyStop, Refused};

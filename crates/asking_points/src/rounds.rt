@@ -1,7 +1,6 @@
 //! Questions of the folding rounds.
 
 ghost use Rattle.std.specs.Prelude.{◌≡◌, [], ◌∷◌, ◌++◌, ◌&&◌, true, false, IfOk, OnOk, Some};
-ghost use Rattle.std.specs.Str.{bytes_eq};
 ghost use Rattle.ucd_model.specs.Forms.{nfkc};
 ghost use Rattle.ucd_model.specs.declared.folding.Folding.{Folding};
 ghost use Rattle.fold_rounds.specs.Steps.{are_alike, IsCovered};
@@ -14,7 +13,7 @@ use crate::rows::put_rows;
 use case_derivation::folded;
 use fold_rounds::{LISTS, MOST_POINTS, are_alike, drop_ignorable};
 use std::alloc::Global;
-use ucd_model::{FactView, Folding, Memory, Point, Points, Query};
+use ucd_model::{FactView, Folding, Memory, Point, Points, Query, same_points};
 
 /// The list after a round, another one than the list before.
 #[derive(Drop)]
@@ -146,7 +145,7 @@ fn put_again<W: FactView>(
     ensures asked { OnOk result (asked.new.items ≡ asked.old.items ++ again_puts (W.facts_of view.now) s.now kept.now) }
     ensures form { IfOk result (λ found. found ≡ list_in (nfkc (W.facts_of view.now) kept.now)) }
 {
-    if is_same(kept, s) {
+    if same_points(kept, s) {
         let mut again = Points::new(alloc);
         again.append(form)?;
         return Ok(Some(again));
@@ -178,10 +177,10 @@ fn changed(next: Option<Points>, s: &[Point], kept: &[Point]) -> Option<After>
 {
     match next {
         Some(list) => {
-            if is_same(list.as_slice(), s) {
+            if same_points(list.as_slice(), s) {
                 None
             } else {
-                let known = is_same(kept, list.as_slice());
+                let known = same_points(kept, list.as_slice());
                 Some(After { list, known })
             }
         }
@@ -189,9 +188,3 @@ fn changed(next: Option<Points>, s: &[Point], kept: &[Point]) -> Option<After>
     }
 }
 
-/// Whether two lists are the same.
-fn is_same(a: &[Point], b: &[Point]) -> bool
-    ensures { result ≡ bytes_eq a.now b.now }
-{
-    a == b
-}

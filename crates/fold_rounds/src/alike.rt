@@ -5,8 +5,7 @@ ghost use Rattle.std.specs.List.{list_all};
 ghost use Rattle.ucd_model.specs.Shown.{shown_facts};
 ghost use Rattle.fold_rounds.specs.Steps.{is_alike, are_alike};
 
-use crate::rounds::is_same;
-use ucd_model::{FactView, FactsRef, Point};
+use ucd_model::{FactView, FactsRef, Point, same_points};
 
 /// Whether the full folding of each member of a list is its simple folding alone, so that both foldings give one list. It
 /// asks for the facts of each member once, and takes no memory. The Unicode Standard, section 5.18, Caseless Matching.
@@ -27,6 +26,6 @@ fn is_alike(c: Point, facts: &FactsRef<'_>) -> bool
 {
     match facts.fold {
         None => facts.simple_fold == c,
-        Some(points) => is_same(points, &[facts.simple_fold]),
+        Some(points) => same_points(points, &[facts.simple_fold]),
     }
 }

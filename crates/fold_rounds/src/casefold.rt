@@ -11,11 +11,11 @@ ghost use Rattle.ucd_model.specs.declared.image.Image.TheVariants.{Same, To};
 ghost use Rattle.fold_rounds.specs.Steps.{FoldsAs};
 
 use crate::ignorable::is_default_ignorable;
-use crate::rounds::{fixed, is_same};
+use crate::rounds::fixed;
 use crate::settled::is_own;
 use normalisation::nfkc;
 use std::alloc::Global;
-use ucd_model::{Bad, FactView, FactsRef, Folding, FormStop, Image, Point, Points};
+use ucd_model::{Bad, FactView, FactsRef, Folding, FormStop, Image, Point, Points, same_points};
 
 /// What a code point is folded to under NFKC, by one of the foldings.
 #[derive(Debug, Drop)]
@@ -90,7 +90,7 @@ pub fn casefold_of<W: FactView>(
     requires form { nfkc (W.facts_of view.now) (c ∷ []) ≡ Ok form.now }
     ensures { FoldsAs folding (W.facts_of view.now) c result }
 {
-    if is_own(c, facts) && is_same(form, &[c]) {
+    if is_own(c, facts) && same_points(form, &[c]) {
         return Ok(Folded {
             image: kept_or_dropped(alloc, c, facts),
             alike: true,

@@ -2,7 +2,6 @@
 
 ghost use Rattle.std.specs.Prelude.{◌≡◌, ◌&&◌, IfOk, Ok, Some, [], ◌∷◌};
 ghost use Rattle.std.specs.List.{list_all};
-ghost use Rattle.std.specs.Str.{bytes_eq};
 ghost use Rattle.ucd_model.specs.FoldRounds.{short, short_nfkc, short_fold, round, casefold};
 ghost use Rattle.ucd_model.specs.Forms.{nfkc};
 ghost use Rattle.ucd_model.specs.declared.folding.Folding.{Folding};
@@ -14,7 +13,7 @@ use crate::settled::is_settled;
 use case_derivation::folded;
 use normalisation::nfkc;
 use std::alloc::Global;
-use ucd_model::{FactView, Folding, FormStop, Memory, Point, Points};
+use ucd_model::{FactView, Folding, FormStop, Memory, Point, Points, same_points};
 
 /// The most code points that a list of a round may have (the longest result of a real release has 18).
 pub const MOST_POINTS: usize = 255;
@@ -94,7 +93,7 @@ fn fixed_by<W: FactView>(
         return Ok(None);
     };
     let found = Found { list, alike };
-    if settled && is_same(found.list.as_slice(), folded) {
+    if settled && same_points(found.list.as_slice(), folded) {
         return Ok(Some(found));
     }
     fixed_behind(alloc, view, folding, c, found)
@@ -111,7 +110,7 @@ fn fixed_behind<W: FactView>(
     requires { (k : Folding) → IsCovered folding first.alike k → round k (W.facts_of view.now) (c ∷ []) ≡ Some first.list }
     ensures { IfOk result (FoundBy folding (λ k. casefold k (W.facts_of view.now) c)) }
 {
-    if is_same(first.list.as_slice(), &[c]) {
+    if same_points(first.list.as_slice(), &[c]) {
         return Ok(Some(first));
     }
     let mut last = first;
@@ -120,7 +119,7 @@ fn fixed_behind<W: FactView>(
             return Ok(None);
         };
         let next = found.behind(last.alike);
-        if is_same(next.list.as_slice(), last.list.as_slice()) {
+        if same_points(next.list.as_slice(), last.list.as_slice()) {
             return Ok(Some(next));
         }
         last = next;
@@ -185,13 +184,6 @@ fn short_nfkc<W: FactView>(alloc: Global, view: &W, s: &[Point]) -> Result<Optio
         Err(FormStop::Bad(_)) => Ok(None),
         Err(FormStop::Memory) => Err(Memory),
     }
-}
-
-/// Whether two lists are the same.
-pub(crate) fn is_same(a: &[Point], b: &[Point]) -> bool
-    ensures { result ≡ bytes_eq a.now b.now }
-{
-    a == b
 }
 
 /// A list that is not too long.

@@ -47,6 +47,6 @@ pub use shown::same_facts;
 pub use steps::Steps;
 pub use ucd_points::{
     Copied, FILE_LIMIT, ListOf, Memory, Point, Points, SOURCE_FILES, SourceFile, Span, Spans, Text,
-    Texts, file_limit, point_count,
+    Texts, file_limit, point_count, same_points,
 };
 pub use view::{FactView, FactsRef};

@@ -10,7 +10,7 @@ mod point;
 mod span;
 
 pub use files::{FILE_LIMIT, SOURCE_FILES, SourceFile, file_limit};
-pub use list::{Copied, ListOf, Points, Spans, Text, Texts};
+pub use list::{Copied, ListOf, Points, Spans, Text, Texts, same_points};
 pub use memory::Memory;
 pub use point::{Point, point_count};
 pub use span::Span;

@@ -1,12 +1,20 @@
 //! Lists that grow on an allocator, and are copied item by item.
 
 ghost use Rattle.std.specs.Prelude.{◌≡◌, ◌<◌, ◌≤◌, List, [], ◌∷◌, ◌++◌, length, take, IfOk, OnOk, OnErr, slice_set};
+ghost use Rattle.std.specs.Str.{bytes_eq};
 
 use crate::memory::Memory;
 use crate::point::Point;
 use crate::span::Span;
 use std::alloc::Global;
 use std::marker::Model;
+
+/// Whether two lists of code points are the same.
+pub fn same_points(a: &[Point], b: &[Point]) -> bool
+    ensures { result ≡ bytes_eq a.now b.now }
+{
+    a == b
+}
 
 /// A value that can be copied where memory suffices.
 pub trait Copied: Sized {

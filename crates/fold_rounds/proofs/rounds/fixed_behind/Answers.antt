@@ -15,8 +15,8 @@ returns-in_default g c =
     let stops : round c.args.folding F c.rounds.last.list ≡ None = ap (round c.args.folding F) (sym c.as_slice-in-rounds.ensures) ∙ next in
     found_stop c.args.folding F c.args.c c.rounds.done c.rounds.last.list (c.rounds.invariant.list c.args.folding (inl refl)) stops c.rounds.invariant.before
 
-pub returns-then-is_same-2 : goal.returns-then-is_same-2
-returns-then-is_same-2 g c =
+pub returns-then-same_points-2 : goal.returns-then-same_points-2
+returns-then-same_points-2 g c =
     let F : ℕ → Facts = g.W.FactView.facts_of c.args.view.now in
     let found = subst (λ (r : Option Found). FoundBy c.args.folding (λ k. round k F c.as_slice-in-rounds.result.now) r) c.in-Some.is c.in_ok-found.ensures in
     let same : bytes_eq c.behind-next.result.list c.rounds.last.list ≡ true = cc in

@@ -11,8 +11,8 @@ returns-in_default g c =
     let none : short_nfkc F c.args.folded.now ≡ None = cc c.in_ok-list.ensures in
     found_first_none c.args.folding F c.args.c (c.requires.first c.args.folding (inl refl) ∙ none)
 
-pub returns-then-is_same : goal.returns-then-is_same
-returns-then-is_same g c =
+pub returns-then-same_points : goal.returns-then-same_points
+returns-then-same_points g c =
     let F : ℕ → Facts = g.W.FactView.facts_of c.args.view.now in
     let forms : short_nfkc F c.args.folded.now ≡ Some c.in-Some.list = cc c.in_ok-list.ensures in
     let same : bytes_eq c.in-Some.list c.args.folded.now ≡ true = cc in

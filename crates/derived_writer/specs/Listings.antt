@@ -2,14 +2,15 @@
 --
 -- check_name form     the name of the quick check of a form; check_value form R is its value in the record R
 -- listing_section l   the section that l stands for
+-- listings_of file    what the sections of a file stand for, in order
 -- listing_labels l R  the label of each code point in that section, over the records R
--- shown_label l kept  the label of the record that is kept
-use Rattle.std.specs.Prelude.{ℕ, List, codes}
-use Rattle.std.specs.Borrow.{Bor}
+use Rattle.std.specs.Prelude.{ℕ, List, [], ◌∷◌, map, codes}
 use Rattle.ucd_model.specs.Labels.{Label}
 use Rattle.ucd_model.specs.DerivedFiles.{Section, core_listing, category_listing, class_listing, type_listing, exclusion_listing, quick_listing, casefold_listing, simple_casefold_listing, changes_listing}
-use Rattle.ucd_model.specs.Records.{Record, kept_record}
-use Rattle.ucd_model.specs.declared.records.Record.{Record as Kept}
+use Rattle.ucd_model.specs.Predicates.{core_properties}
+use Rattle.ucd_model.specs.Records.{Record}
+use Rattle.ucd_model.specs.declared.files.DerivedFile.{DerivedFile}
+use Rattle.ucd_model.specs.declared.files.DerivedFile.TheVariants.{CoreProperties, NormalizationProps, GeneralCategory, CombiningClass, DecompositionType}
 use Rattle.ucd_model.specs.declared.form.Form.{Form}
 use Rattle.ucd_model.specs.declared.form.Form.TheVariants.{Nfd, Nfc, Nfkd, Nfkc}
 use Rattle.ucd_model.specs.declared.form.Quick.{Quick as QuickValue}
@@ -38,6 +39,13 @@ listing_section (Quick form) = quick_listing (check_name form) (check_value form
 listing_section Casefold = casefold_listing
 listing_section SimpleCasefold = simple_casefold_listing
 listing_section ChangesCasefold = changes_listing
+
+abbrev pub listings_of : DerivedFile → List Listing
+listings_of CoreProperties = map CoreListing core_properties
+listings_of NormalizationProps = Exclusion ∷ Quick Nfd ∷ Quick Nfc ∷ Quick Nfkd ∷ Quick Nfkc ∷ Casefold ∷ SimpleCasefold ∷ ChangesCasefold ∷ []
+listings_of GeneralCategory = Category ∷ []
+listings_of CombiningClass = Class ∷ []
+listings_of DecompositionType = Decomposition ∷ []
 
 abbrev pub listing_labels : Listing → (ℕ → Record) → ℕ → Label
 listing_labels listing R c = (listing_section listing).label (R c)

@@ -9,3 +9,4 @@ mod section;
 mod values;
 
 pub use file::{file_text, text_over};
+pub use listing::{Listing, file_listings};

@@ -4,8 +4,7 @@ ghost use Rattle.std.specs.Prelude.{◌≡◌, ◌≤◌, ◌<◌, ℕ, IsTrue, 
 ghost use Rattle.std.specs.Borrow.{Bor};
 ghost use Rattle.ucd_model.specs.DerivedFiles.{file_sections};
 ghost use Rattle.ucd_model.specs.Records.{kept_record};
-ghost use Rattle.ucd_model.specs.declared.records.Record.{Record as Kept};
-ghost use Rattle.derived_writer.specs.Listings.{listing_section, check_value, shown_label};
+ghost use Rattle.derived_writer.specs.Listings.{listing_section, listings_of, check_value};
 
 use crate::names::check_name;
 use crate::values::{set_binary, set_casefold, set_category, set_class, set_kind, set_quick};
@@ -73,7 +72,8 @@ const NORMALIZATION_LISTINGS: [Listing; 8] = [
 
 /// The sections of a file, in order.
 pub fn file_listings(file: DerivedFile) -> &'static [Listing]
-    ensures { map listing_section result.now ≡ file_sections file }
+    ensures listings { result.now ≡ listings_of file }
+    ensures sections { map listing_section result.now ≡ file_sections file }
 {
     match file {
         DerivedFile::CoreProperties => &CORE_LISTINGS,

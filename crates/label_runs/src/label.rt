@@ -103,7 +103,9 @@ impl LabelText {
 }
 
 /// Puts code points, each with a space before it.
-fn put_spaced(points: &[Point], text: &mut Text) -> Result<(), Memory>
+///
+/// - `Memory`: memory ran out. A part of them may stand at the end of the text then.
+pub fn put_spaced(points: &[Point], text: &mut Text) -> Result<(), Memory>
     ensures { OnOk result (text.new ≡ text.old ++ spaced points.now) }
 {
     'points: for point in points {

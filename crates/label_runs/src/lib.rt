@@ -5,5 +5,5 @@ mod label;
 mod run;
 mod section;
 
-pub use label::LabelText;
+pub use label::{LabelText, put_spaced};
 pub use section::OpenSection;

@@ -1,0 +1,3 @@
+mod PointLemmas
+mod Following
+mod LineLemmas

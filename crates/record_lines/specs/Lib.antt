@@ -1,0 +1,5 @@
+pub mod Values
+pub mod RecordTexts
+pub mod FileLines
+pub mod RowLines
+pub mod Earlier

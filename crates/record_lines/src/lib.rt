@@ -1,0 +1,16 @@
+//! The text of one code point: its record, the rows that speak of it, and what a change of its record changes.
+#![tactic(auto)]
+
+mod change;
+mod earlier;
+mod file_lines;
+pub mod laws;
+mod record_text;
+mod row_place;
+mod rows;
+mod value;
+
+pub use change::put_changes;
+pub use earlier::Earlier;
+pub use record_text::put_record;
+pub use rows::put_rows;

@@ -3,3 +3,4 @@ pub mod RecordTexts
 pub mod FileLines
 pub mod RowLines
 pub mod Earlier
+pub mod Examples

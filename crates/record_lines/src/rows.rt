@@ -1,6 +1,6 @@
 //! The rows of a release that speak of a code point, as they stand in their files.
 
-ghost use Rattle.std.specs.Prelude.{◌≡◌, ◌++◌, map, IfOk, OnOk};
+ghost use Rattle.std.specs.Prelude.{◌≡◌, [], ◌∷◌, ◌++◌, map, IfOk, OnOk};
 ghost use Rattle.ucd_points.specs.Bounds.{within};
 ghost use Rattle.release_rows.specs.OperationLaws.{speaks_of};
 ghost use Rattle.release_rows.specs.Releases.{items_now};

@@ -17,6 +17,8 @@ mod missing_rows;
 #[cfg(test)]
 mod pieces;
 #[cfg(test)]
+mod point_rows;
+#[cfg(test)]
 mod row_lines;
 #[cfg(test)]
 mod rows;

@@ -1,0 +1,88 @@
+//! The rows of a release that speak of a code point, as they stand in their files.
+
+use record_lines::put_rows;
+use release_rows::{LoadStop, Release};
+use std::alloc::Global;
+use std::test::Fail;
+use ucd_model::{Memory, Point, SourceFile, Text};
+
+/// Lines of files of Unicode 15.0.0, of which the first file has CR LF, and the second no line end behind its last line.
+const FILES: [(SourceFile, &[u8]); 4] = [
+    (
+        SourceFile::UnicodeData,
+        b"0041;LATIN CAPITAL LETTER A;Lu;0;L;;;;;N;;;;0061;\r\n3400;<CJK Ideograph Extension A, First>;Lo;0;L;;;;;N;;;;;\r\n4DBF;<CJK Ideograph Extension A, Last>;Lo;0;L;;;;;N;;;;;\r\n",
+    ),
+    (
+        SourceFile::Scripts,
+        b"# @missing: 0000..10FFFF; Unknown\n\n# comment\n3400..4DBF    ; Han # Lo [6592] CJK UNIFIED IDEOGRAPH-3400..CJK UNIFIED IDEOGRAPH-4DBF\n0041..005A    ; Latin # L&  [26] LATIN CAPITAL LETTER A..LATIN CAPITAL LETTER Z",
+    ),
+    (
+        SourceFile::WordBreakProperty,
+        b"0041..005A    ; ALetter # L&  [26] LATIN CAPITAL LETTER A..LATIN CAPITAL LETTER Z\n",
+    ),
+    (
+        SourceFile::PropertyValueAliases,
+        b"gc ; Lu ; Uppercase_Letter\n",
+    ),
+];
+
+/// Code points, and the rows that speak of each.
+const ROWS: [(u32, &[u8]); 4] = [
+    (
+        0x41,
+        b"UnicodeData.txt line 1: 0041;LATIN CAPITAL LETTER A;Lu;0;L;;;;;N;;;;0061;\n\
+          Scripts.txt line 1: # @missing: 0000..10FFFF; Unknown\n\
+          Scripts.txt line 5: 0041..005A    ; Latin # L&  [26] LATIN CAPITAL LETTER A..LATIN CAPITAL LETTER Z\n\
+          auxiliary/WordBreakProperty.txt line 1: 0041..005A    ; ALetter # L&  [26] LATIN CAPITAL LETTER A..LATIN CAPITAL LETTER Z\n",
+    ),
+    (
+        0x3401,
+        b"UnicodeData.txt line 2: 3400;<CJK Ideograph Extension A, First>;Lo;0;L;;;;;N;;;;;\n\
+          UnicodeData.txt line 3: 4DBF;<CJK Ideograph Extension A, Last>;Lo;0;L;;;;;N;;;;;\n\
+          Scripts.txt line 1: # @missing: 0000..10FFFF; Unknown\n\
+          Scripts.txt line 4: 3400..4DBF    ; Han # Lo [6592] CJK UNIFIED IDEOGRAPH-3400..CJK UNIFIED IDEOGRAPH-4DBF\n",
+    ),
+    (
+        0x0,
+        b"Scripts.txt line 1: # @missing: 0000..10FFFF; Unknown\n",
+    ),
+    (
+        0x10_FFFF,
+        b"Scripts.txt line 1: # @missing: 0000..10FFFF; Unknown\n",
+    ),
+];
+
+/// The release of these lines.
+fn release(alloc: Global) -> Result<Release, LoadStop> {
+    let mut release = Release::empty(alloc);
+    for (file, bytes) in &FILES {
+        let loaded = release.load_file(*file, bytes);
+        loaded?;
+    }
+    Ok(release)
+}
+
+/// Whether these are the rows of a code point.
+fn are_rows(
+    alloc: Global,
+    release: &Release,
+    point: Point,
+    expected: &[u8],
+) -> Result<bool, Memory> {
+    let mut text = Text::new(alloc);
+    put_rows(alloc, release, point, &mut text)?;
+    Ok(text.as_slice() == expected)
+}
+
+#[test]
+fn rows_of_code_points_by_file_and_line(rt: HostRuntime) -> Result<(), Fail> {
+    let release = release(rt.alloc())?;
+    for (number, expected) in &ROWS {
+        let point = Point::new(*number).ok_or("a code point")?;
+        assert!(rt;
+            are_rows(rt.alloc(), &release, point, expected)?,
+            "{number:X}"
+        );
+    }
+    Ok(())
+}

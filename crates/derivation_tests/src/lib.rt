@@ -18,8 +18,6 @@ mod folding;
 #[cfg(test)]
 mod forms;
 #[cfg(test)]
-mod record_text;
-#[cfg(test)]
 mod records;
 #[cfg(test)]
 mod sample;

@@ -6,25 +6,17 @@ use std::alloc::Global;
 use std::test::Fail;
 use ucd_model::{Memory, Point, SourceFile, Text};
 
-/// Lines of files of Unicode 15.0.0, of which the first file has CR LF, and the second no line end behind its last line.
-const FILES: [(SourceFile, &[u8]); 4] = [
-    (
-        SourceFile::UnicodeData,
-        b"0041;LATIN CAPITAL LETTER A;Lu;0;L;;;;;N;;;;0061;\r\n3400;<CJK Ideograph Extension A, First>;Lo;0;L;;;;;N;;;;;\r\n4DBF;<CJK Ideograph Extension A, Last>;Lo;0;L;;;;;N;;;;;\r\n",
-    ),
-    (
-        SourceFile::Scripts,
-        b"# @missing: 0000..10FFFF; Unknown\n\n# comment\n3400..4DBF    ; Han # Lo [6592] CJK UNIFIED IDEOGRAPH-3400..CJK UNIFIED IDEOGRAPH-4DBF\n0041..005A    ; Latin # L&  [26] LATIN CAPITAL LETTER A..LATIN CAPITAL LETTER Z",
-    ),
-    (
-        SourceFile::WordBreakProperty,
-        b"0041..005A    ; ALetter # L&  [26] LATIN CAPITAL LETTER A..LATIN CAPITAL LETTER Z\n",
-    ),
-    (
-        SourceFile::PropertyValueAliases,
-        b"gc ; Lu ; Uppercase_Letter\n",
-    ),
-];
+/// Lines of UnicodeData.txt of Unicode 15.0.0, with CR LF.
+const DATA: &[u8] =
+    b"0041;LATIN CAPITAL LETTER A;Lu;0;L;;;;;N;;;;0061;\r\n3400;<CJK Ideograph Extension A, First>;Lo;0;L;;;;;N;;;;;\r\n4DBF;<CJK Ideograph Extension A, Last>;Lo;0;L;;;;;N;;;;;\r\n";
+
+/// Lines of Scripts.txt, without a line end behind the last one.
+const SCRIPTS: &[u8] =
+    b"# @missing: 0000..10FFFF; Unknown\n\n# comment\n3400..4DBF    ; Han # Lo [6592] CJK UNIFIED IDEOGRAPH-3400..CJK UNIFIED IDEOGRAPH-4DBF\n0041..005A    ; Latin # L&  [26] LATIN CAPITAL LETTER A..LATIN CAPITAL LETTER Z";
+
+/// A line of WordBreakProperty.txt.
+const BREAKS: &[u8] =
+    b"0041..005A    ; ALetter # L&  [26] LATIN CAPITAL LETTER A..LATIN CAPITAL LETTER Z\n";
 
 /// Code points, and the rows that speak of each.
 const ROWS: [(u32, &[u8]); 4] = [
@@ -55,10 +47,9 @@ const ROWS: [(u32, &[u8]); 4] = [
 /// The release of these lines.
 fn release(alloc: Global) -> Result<Release, LoadStop> {
     let mut release = Release::empty(alloc);
-    for (file, bytes) in &FILES {
-        let loaded = release.load_file(*file, bytes);
-        loaded?;
-    }
+    release.load_file(SourceFile::UnicodeData, DATA)?;
+    release.load_file(SourceFile::Scripts, SCRIPTS)?;
+    release.load_file(SourceFile::WordBreakProperty, BREAKS)?;
     Ok(release)
 }
 
@@ -74,15 +65,20 @@ fn are_rows(
     Ok(text.as_slice() == expected)
 }
 
+/// Whether each code point has its rows.
+fn have_rows(alloc: Global, release: &Release) -> Result<bool, Fail> {
+    for (number, expected) in &ROWS {
+        let point = Point::new(*number).ok_or("a code point")?;
+        if !are_rows(alloc, release, point, expected)? {
+            return Ok(false);
+        }
+    }
+    Ok(true)
+}
+
 #[test]
 fn rows_of_code_points_by_file_and_line(rt: HostRuntime) -> Result<(), Fail> {
     let release = release(rt.alloc())?;
-    for (number, expected) in &ROWS {
-        let point = Point::new(*number).ok_or("a code point")?;
-        assert!(rt;
-            are_rows(rt.alloc(), &release, point, expected)?,
-            "{number:X}"
-        );
-    }
+    assert!(rt; have_rows(rt.alloc(), &release)?);
     Ok(())
 }

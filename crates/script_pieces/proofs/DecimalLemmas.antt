@@ -1,15 +1,18 @@
 -- Which words are numbers in decimal digits.
-use Rattle.std.proofs.Common.{◌≡◌, ◌≢◌, ℕ, zero, suc, ◌<◌, ◌^◌, Bool, true, false, not, ◌&&◌, ◌==◌, List, [], ◌∷◌, length, get_or, Result, Ok, Err, refl, sym, ap, subst, ◌∙◌, arith}
+use Rattle.std.proofs.Common.{◌≡◌, ◌≢◌, ℕ, zero, suc, ◌<◌, ◌^◌, Bool, true, false, not, ◌&&◌, ◌==◌, List, [], ◌∷◌, length, get_or, Option, Some, None, Result, Ok, Err, refl, sym, ap, subst, ◌∙◌, arith}
 use Rattle.std.specs.Fmt.{decimal}
 use Rattle.std.specs.Option.{MatchOption}
 use Rattle.std.specs.Result.{result_ok}
 use Rattle.std.specs.Str.{IsUtf8}
 use Rattle.std.specs.Str.Parse.{AllDigits, IsNumeral, ParsesUnsigned, digits_value, without_leading_plus}
-use Rattle.std.proofs.lemmas.Bool.{eq-eqb, ne_eqb}
+use Rattle.std.specs.Prelude.{nat_lt, if◌then◌else◌, ⊤}
+use Rattle.std.specs.Str.{bytes_eq}
+use Rattle.std.proofs.lemmas.Bool.{eq-eqb, ltb-true, lt-ltb, ne_eqb}
+use Rattle.std.proofs.lemmas.Slice.Eq.{bytes_eq-Decides}
 use Rattle.std.proofs.lemmas.Fmt.{IsAscii-decimal, decimal-digits_value, decimal_digit, decimal_is_IsNumeral, first_decimal, parse-decimal}
 use Rattle.std.proofs.lemmas.Str.{IsUtf8-from_ascii}
 use Rattle.std.proofs.lemmas.Str.Parse.{digit_from_value, numerals_by_value, tells_digits, without_leading_plus_none}
-use Rattle.script_pieces.specs.Decimals.{is_plain}
+use Rattle.script_pieces.specs.Decimals.{is_plain, number_of}
 
 -- ---- numbers are plain
 
@@ -59,3 +62,26 @@ read word (Ok n) plain h =
     let small : digits_value 10 word < 2 ^ 32 = subst (λ ds. digits_value 10 ds < 2 ^ 32) same h.0.1 in
     sym (decimal-digits_value (numerals_by_value _ tells_digits) word numeral.1 numeral.0 (zero_alone word plain) (omega (arith, small))) ∙ ap decimal value
 read word (Err e) plain h = λ n small is. let gives : Err e ≡ Ok n = parse-decimal 32 n word (Err e) small (omega arith) is h in absurd cc
+
+-- ---- the number is the value of its digits
+
+value_back : (n : ℕ) → n < 2 ^ 32 → digits_value 10 (decimal n) ≡ n
+value_back n small = (decimal_is_IsNumeral n (omega (arith, small))).1
+
+number_by : (word : List ℕ) (fits written : Bool) → nat_lt (digits_value 10 word) (2 ^ 32) ≡ fits → bytes_eq word (decimal (digits_value 10 word)) ≡ written
+    → number_of word ≡ (if fits && written then Some (digits_value 10 word) else None)
+number_by word fits written f w = rw (f, w) refl
+
+pub by_value : (word : List ℕ) (result : Option ℕ) → MatchOption result ⊤ (λ n. n < 2 ^ 32) → MatchOption result ((n : ℕ) → n < 2 ^ 32 → word ≢ decimal n) (λ n. word ≡ decimal n)
+    → result ≡ number_of word
+by_value word (Some n) small written =
+    let value : digits_value 10 word ≡ n = ap (digits_value 10) written ∙ value_back n small in
+    let fits : nat_lt (digits_value 10 word) (2 ^ 32) ≡ true = lt-ltb (digits_value 10 word) (2 ^ 32) (omega (arith, value, small)) in
+    let same : bytes_eq word (decimal (digits_value 10 word)) ≡ true = (bytes_eq-Decides word (decimal (digits_value 10 word))).1 (written ∙ ap decimal (sym value)) in
+    ap Some (sym value) ∙ sym (number_by word true true fits same)
+by_value word None small written = none_by (nat_lt (digits_value 10 word) (2 ^ 32)) (bytes_eq word (decimal (digits_value 10 word))) refl refl
+  where
+    none_by : (fits same : Bool) → nat_lt (digits_value 10 word) (2 ^ 32) ≡ fits → bytes_eq word (decimal (digits_value 10 word)) ≡ same → None ≡ number_of word
+    none_by true true f w = absurd (written (digits_value 10 word) (ltb-true (digits_value 10 word) (2 ^ 32) f) ((bytes_eq-Decides word (decimal (digits_value 10 word))).0 w))
+    none_by true false f w = sym (number_by word true false f w)
+    none_by false same f w = sym (number_by word false same f w)

@@ -1,13 +1,13 @@
--- The pieces have all lines, in order, and each lies in its file.
+-- The pieces have all lines, in order, each lies in its file, and they are few.
 use Rattle.std.proofs.Common.{◌≡◌, ◌≤◌, ℕ, ◌+◌, Bool, true, false, List, [], ◌∷◌, length, map, refl, ap, ◌∙◌, arith}
 use Rattle.std.specs.List.{All, flat_map}
 use Rattle.std.specs.Prelude.{if◌then◌else◌}
 use Rattle.std.proofs.lemmas.Grind.{flat_map-append}
-use Rattle.std.proofs.lemmas.List.{length-append}
+use Rattle.std.proofs.lemmas.List.{length-append, length-map}
 use Rattle.std.proofs.lemmas.List.Elements.{All-cons, All-nil}
 use Rattle.ucd_points.specs.Lines.{LineItem, item_bytes, items_of, joined}
 use Rattle.ucd_lines.specs.Laws.{AreLines, EndingsAreToldApart, ItemsJoin, NoLineFeedInside, OnlyTheLastIsUnended}
-use Rattle.script_pieces.specs.Pieces.{Cut, FitsBelow, Marked, cut, cut_lines, is_mark, marked_piece, PiecesAreWhole, PiecesFit}
+use Rattle.script_pieces.specs.Pieces.{Cut, FitsBelow, Marked, cut, cut_lines, is_mark, marked_piece, PiecesAreFew, PiecesAreWhole, PiecesFit}
 use Rattle.script_pieces.proofs.CutLemmas.{lines_behind, some_bytes}
 
 put_before : (n : ℕ) (line : LineItem) (behind : Cut) (t : Bool)
@@ -51,3 +51,24 @@ pieces_fit join feeds ends told bytes =
     let front : length (joined (cut 1 lines).front) ≤ length (joined lines) = front_within (cut 1 lines) lines (all_lines 1 lines) in
     All-cons (FitsBelow (1 + length bytes)) _ _ (omega (arith, same, front))
     (marked_fit (1 + length bytes) 1 lines (lines_behind bytes [] lines feeds ends told refl) (omega (arith, same)))
+
+-- ---- they are few
+
+few_lines : (lines : List LineItem) → AreLines lines → length lines ≤ length (joined lines)
+few_lines [] are = omega arith
+few_lines (line ∷ lines) are = omega (arith, some_bytes line lines are.0, few_lines lines are.1, length-append (item_bytes line) (joined lines))
+
+few_by : (n : ℕ) (line : LineItem) (behind : Cut) (t : Bool)
+    → length (marked_in (if t then record { front = []; marked = record { number = n; mark = line; lines = behind.front } ∷ behind.marked } else record { front = line ∷ behind.front; marked = behind.marked }))
+    ≤ 1 + length behind.marked
+few_by n line behind true = omega arith
+few_by n line behind false = omega arith
+
+few_marked : (n : ℕ) (lines : List LineItem) → length (cut n lines).marked ≤ length lines
+few_marked n [] = omega arith
+few_marked n (line ∷ lines) = omega (arith, few_by n line (cut (n + 1) lines) (is_mark line), few_marked (n + 1) lines)
+
+pub pieces_are_few : ItemsJoin → NoLineFeedInside → OnlyTheLastIsUnended → EndingsAreToldApart → PiecesAreFew
+pieces_are_few join feeds ends told bytes =
+    let lines : List LineItem = items_of bytes in
+    omega (arith, few_lines lines (lines_behind bytes [] lines feeds ends told refl), ap length (join bytes), few_marked 1 lines, length-map (cut 1 lines).marked marked_piece)

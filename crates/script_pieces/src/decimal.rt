@@ -1,13 +1,22 @@
 //! The numbers of marks.
 
-ghost use Rattle.std.specs.Prelude.{◌≡◌, ◌≢◌, ℕ, ◌<◌, ◌^◌};
+ghost use Rattle.std.specs.Prelude.{◌≡◌, ◌≢◌, ℕ, ◌<◌, ◌^◌, ⊤};
 ghost use Rattle.std.specs.Fmt.{decimal};
 ghost use Rattle.std.specs.Option.{MatchOption};
-ghost use Rattle.script_pieces.specs.Decimals.{is_plain};
+ghost use Rattle.script_pieces.specs.Decimals.{is_plain, number_of};
 
 /// The number below 2^32 that a word writes in decimal digits with no zero to spare; `None` exactly where it writes none.
 pub fn decimal_u32(word: &[u8]) -> Option<u32>
-    ensures { MatchOption result ((n : ℕ) → n < 2 ^ 32 → word.now ≢ decimal n) (λ n. word.now ≡ decimal n) }
+    ensures number { result ≡ number_of word.now }
+    ensures written { MatchOption result ((n : ℕ) → n < 2 ^ 32 → word.now ≢ decimal n) (λ n. word.now ≡ decimal n) }
+{
+    written_number(word)
+}
+
+/// The same number, by what writes it.
+fn written_number(word: &[u8]) -> Option<u32>
+    ensures small { MatchOption result ⊤ (λ n. n < 2 ^ 32) }
+    ensures written { MatchOption result ((n : ℕ) → n < 2 ^ 32 → word.now ≢ decimal n) (λ n. word.now ≡ decimal n) }
 {
     if !is_plain(word) {
         return None;

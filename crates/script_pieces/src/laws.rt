@@ -1,6 +1,6 @@
 //! Laws of pieces: each function here does nothing, and its contract is a law.
 
-ghost use Rattle.script_pieces.specs.Pieces.{PiecesAreWhole, PiecesFit};
+ghost use Rattle.script_pieces.specs.Pieces.{PiecesAreFew, PiecesAreWhole, PiecesFit};
 
 use ucd_lines::{
     endings_are_told_apart, items_join, no_line_feed_inside, only_the_last_is_unended,
@@ -17,6 +17,16 @@ pub fn pieces_are_whole()
 /// can be read with the lines of the file.
 pub fn pieces_fit()
     ensures { PiecesFit }
+{
+    items_join();
+    no_line_feed_inside();
+    only_the_last_is_unended();
+    endings_are_told_apart();
+}
+
+/// A file has at most one piece more than bytes.
+pub fn pieces_are_few()
+    ensures { PiecesAreFew }
 {
     items_join();
     no_line_feed_inside();

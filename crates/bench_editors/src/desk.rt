@@ -119,10 +119,10 @@ impl Desk {
         Ok(Replies::from_vec(replies))
     }
 
-    /// An editor comes.
+    /// An editor comes: [`Desk::step`] of [`Event::Enter`].
     ///
     /// - `Memory`: memory ran out. The desk is as it was.
-    fn enter(&mut self, editor: u32) -> Result<Reply, Memory>
+    pub fn enter(&mut self, editor: u32) -> Result<Reply, Memory>
         ensures reply { IfOk result (λ reply. (s : DeskState) → StandsFor self.old s → reply ≡ (answer s (Enter editor)).reply) }
         ensures state { OnOk result ((s : DeskState) → StandsFor self.old s → StandsFor self.new (answer s (Enter editor)).state) }
         ensures err { OnErr result (IsAsBefore self.old self.new) }
@@ -137,8 +137,8 @@ impl Desk {
         }
     }
 
-    /// An editor leaves.
-    fn leave(&mut self, editor: u32) -> Reply
+    /// An editor leaves: [`Desk::step`] of [`Event::Leave`].
+    pub fn leave(&mut self, editor: u32) -> Reply
         ensures reply { (s : DeskState) → StandsFor self.old s → result ≡ (answer s (Leave editor)).reply }
         ensures state { (s : DeskState) → StandsFor self.old s → StandsFor self.new (answer s (Leave editor)).state }
         ensures revision { desk_revision self.new ≡ desk_revision self.old }
@@ -150,10 +150,10 @@ impl Desk {
         }
     }
 
-    /// An editor proposes a group.
+    /// An editor proposes a group, which is lent: [`Desk::step`] of [`Event::Propose`].
     ///
     /// - `Memory`: memory ran out. The desk is as it was.
-    fn propose<L: Ledger>(
+    pub fn propose<L: Ledger>(
         &mut self,
         editor: u32,
         base: u32,

@@ -2,8 +2,8 @@
 --
 -- span_entry s             the line of a span: one code point, or the first and the last joined by `..`, and LF
 -- members_in spans         how many code points lie in the spans together
--- set_section line spans   the answer to the question on this line: `# line L`, a line for each span, `# total N` with the number
---                          of its members, and an empty line
+-- members_text spans       the members that a question is answered with: a line for each span, and `# total N` with their number
+-- set_section line spans   the answer to the question on this line: `# line L`, its members, and an empty line
 use Rattle.std.specs.Prelude.{ℕ, ◌+◌, ◌-◌, List, ◌++◌, codes, sum_by}
 use Rattle.std.specs.Fmt.{decimal}
 use Rattle.std.specs.List.{flat_map}
@@ -17,6 +17,8 @@ span_entry s = span_text s ++ line_end
 abbrev pub members_in : List Bounds → ℕ
 members_in spans = sum_by (λ s. s.hi + 1 - s.lo) spans
 
+abbrev pub members_text : List Bounds → List ℕ
+members_text spans = flat_map span_entry spans ++ codes "# total " ++ decimal (members_in spans) ++ line_end
+
 abbrev pub set_section : ℕ → List Bounds → List ℕ
-set_section line spans =
-    codes "# line " ++ decimal line ++ line_end ++ flat_map span_entry spans ++ codes "# total " ++ decimal (members_in spans) ++ line_end ++ line_end
+set_section line spans = codes "# line " ++ decimal line ++ line_end ++ members_text spans ++ line_end

@@ -11,4 +11,4 @@ pub use ask_stop::{AskFault, AskRule, AskStop};
 pub use asking::Asking;
 pub use refusals::put_refusal;
 pub use row_names::{RowNames, keep_names, let_go};
-pub use set_text::put_answer;
+pub use set_text::{put_answer, put_members};

@@ -5,7 +5,7 @@ ghost use Rattle.std.specs.Fmt.{decimal};
 ghost use Rattle.std.specs.List.{flat_map};
 ghost use Rattle.ucd_model.specs.DerivedText.{line_end};
 ghost use Rattle.ucd_points.specs.Limits.{point_count};
-ghost use Rattle.set_questions.specs.SetTexts.{members_in, set_section, span_entry};
+ghost use Rattle.set_questions.specs.SetTexts.{members_in, members_text, set_section, span_entry};
 
 use std::alloc::Global;
 use ucd_lines::{put_decimal, put_span, put_total};
@@ -26,9 +26,21 @@ pub fn put_answer(
     ensures count { IfOk result (λ count. count ≡ members_in spans.now) }
 {
     put_head(alloc, text, line)?;
+    let count = put_members(alloc, text, spans)?;
+    text.append(b"\n")?;
+    Ok(count)
+}
+
+/// Puts the members that a question is answered with, and answers how many they are: a line for each span, and `# total N`.
+///
+/// - `Memory`: memory ran out. A part of them may stand at the end of the text then.
+pub fn put_members(alloc: Global, text: &mut Text, spans: &[Span]) -> Result<usize, Memory>
+    requires { members_in spans.now ≤ point_count }
+    ensures text { OnOk result (text.new ≡ text.old ++ members_text spans.now) }
+    ensures count { IfOk result (λ count. count ≡ members_in spans.now) }
+{
     let count = put_spans(text, spans)?;
     put_total(alloc, count, text)?;
-    text.append(b"\n")?;
     Ok(count)
 }
 

@@ -52,8 +52,8 @@ impl Chain {
         })
     }
 
-    /// Puts the release of a bench behind the others, and answers what it breaks of the stability policies against the last
-    /// one; nothing if it is the first. A chain has room for 255 releases. Unicode Character Encoding Stability Policies.
+    /// Puts the release of a bench behind the others, and answers its breaks of the stability policies against the last
+    /// one; none if it is the first. A chain has room for 255 releases. Unicode Character Encoding Stability Policies.
     ///
     /// - `Memory`: memory ran out. The chain stays as it was, and the bench is dropped.
     pub fn add(&mut self, alloc: Global, bench: Bench) -> Result<Breaks, Memory>

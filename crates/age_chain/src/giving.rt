@@ -14,10 +14,10 @@ use std::alloc::Global;
 use ucd_model::{FactView, Memory, Point, Span};
 use uniform_facts::UniformFacts;
 
-/// The breaks of a bench against the last one; and the code points that are assigned in it, and have no age yet, have this
+/// The breaks of a bench against the last one. The code points that are assigned in it and have no age yet have this
 /// one next. Ages are numbers from 1, and 0 stands for none.
 ///
-/// - `Memory`: memory ran out. Nothing is prepared then.
+/// - `Memory`: memory ran out. Nothing is then prepared.
 pub fn prepare_next(
     alloc: Global,
     last: &Option<Bench>,
@@ -41,7 +41,7 @@ pub fn prepare_next(
     }
 }
 
-/// What the release of a bench breaks of the stability policies against the last one; nothing if there is none.
+/// The breaks of the stability policies by the release of a bench against the last one; none if there is no last one.
 ///
 /// - `Memory`: memory ran out.
 fn breaks_since(alloc: Global, last: &Option<Bench>, bench: &Bench) -> Result<Breaks, Memory>
@@ -53,7 +53,7 @@ fn breaks_since(alloc: Global, last: &Option<Bench>, bench: &Bench) -> Result<Br
     }
 }
 
-/// What the release of a bench breaks of the stability policies against that of an earlier one.
+/// The breaks of the stability policies by the release of a bench against that of an earlier bench.
 ///
 /// - `Memory`: memory ran out.
 fn breaks_between(alloc: Global, before: &Bench, bench: &Bench) -> Result<Breaks, Memory>
@@ -64,9 +64,9 @@ fn breaks_between(alloc: Global, before: &Bench, bench: &Bench) -> Result<Breaks
     report(alloc, before, old, bench, new)
 }
 
-/// Gives the code points that are assigned in a bench, and have no age, this one next.
+/// Gives this age next to the code points that are assigned in a bench and have none.
 ///
-/// - `Memory`: memory ran out. Some of them may have it next then.
+/// - `Memory`: memory ran out. Some of them may then have it next.
 fn give_ages(bench: &Bench, age: u8, ages: &mut RunTable<u8>) -> Result<(), Memory>
     requires still { SameValues (values_next ages.old) (values_now ages.old) }
     ensures now { SameValues (values_now ages.new) (values_now ages.old) }

@@ -4,9 +4,9 @@ ghost use Rattle.age_chain.specs.AgeLaws.{AgeIsOfTheFirst, FormsStayFrom};
 
 use stability_policies::forms_stay_through;
 
-/// The age of a code point is the number of a release in which it is assigned, and of none before it. A code point without
-/// an age is assigned in no release. An age stays, whatever release follows: also that of a code point that is removed, and of
-/// one that comes back.
+/// The age of a code point is the number of a release in which it is assigned, and of none before it. A code point
+/// without an age is assigned in no release. An age stays, whatever release follows: even that of a code point that is
+/// removed, or that comes back.
 pub fn age_is_of_the_first_release()
     ensures { AgeIsOfTheFirst }
 {}

@@ -15,7 +15,7 @@ use ucd_model::{Memory, Point, Text};
 /// Puts the section `Age`: a line for each maximal span of one age. Code points without an age are not listed.
 /// UAX #44, section 5.3.
 ///
-/// - `Memory`: memory ran out. A part of the section may stand at the end of the text then.
+/// - `Memory`: memory ran out. A part of the section may then stand at the end of the text.
 pub fn put_ages(alloc: Global, ages: &RunTable<u8>, text: &mut Text) -> Result<(), Memory>
     ensures { OnOk result (text.new ≡ text.old ++ section_text (codes "Age") point_count (λ c. age_label (ages_of (values_now ages.now) c))) }
 {
@@ -51,7 +51,7 @@ pub fn count_aged(ages: &RunTable<u8>) -> u32
 
 /// Makes it the label of an age, which is listed in decimal; 0 stands for none.
 ///
-/// - `Memory`: memory ran out. Nothing is told of the label then.
+/// - `Memory`: memory ran out. Nothing is then known of the label.
 fn set_age(alloc: Global, age: u8, label: &mut LabelText) -> Result<(), Memory>
     ensures { OnOk result (label.new ≡ age_label (age_of age)) }
 {

@@ -4,42 +4,42 @@ ghost use Rattle.asked_queries.specs.Answers.{QueriesAreTold};
 ghost use Rattle.asked_queries.specs.Laws.{TreeIsLeast, SameExpansions, SameForms, SameRounds, SameFoldings, AskedIsLocal, PlainAskOwn};
 ghost use Rattle.asked_queries.specs.Turns.{OthersStay, CollectedAreDependants, CollectedAreCounted, NextIsValid, NextIsBroken, NextKeepsAsked};
 
-/// The test of whether two questions are the same tells it.
+/// The test of whether two questions are the same tells whether they are.
 pub fn queries_are_told()
     ensures { QueriesAreTold }
 {}
 
-/// Where a code point has an expansion, the tree that it looks at is the least set of code points that holds it and, with
+/// If a code point has an expansion, the tree that it looks at is the least set of code points that holds it and, with
 /// each code point, the members of its mapping that counts.
 pub fn trees_are_least()
     ensures { TreeIsLeast }
 {}
 
-/// Facts that answer the rows of an expansion's tree alike give the same expansion, and the same tree. UAX #15,
-/// section 1.3.
+/// If facts answer alike what the rows of an expansion's tree are, they give the same expansion, and the same tree. UAX
+/// #15, section 1.3.
 pub fn expansions_are_local()
     ensures { SameExpansions }
 {}
 
-/// Facts that answer what a form of a list asks alike put the list in the same form, and ask the same. UAX #15,
+/// If facts answer alike what a form of a list asks, they put the list in the same form, and ask the same. UAX #15,
 /// section 1.3.
 pub fn forms_are_local()
     ensures { SameForms }
 {}
 
-/// Facts that answer what a folding round asks alike give the same round, and ask the same. The Unicode Standard,
+/// If facts answer alike what a folding round asks, they give the same round, and ask the same. The Unicode Standard,
 /// section 3.13.
 pub fn rounds_are_local()
     ensures { SameRounds }
 {}
 
-/// Facts that answer what all folding rounds of a code point ask alike give the same rounds up to the one after the
+/// If facts answer alike what all folding rounds of a code point ask, they give the same rounds up to the one after the
 /// last, the same last round, and ask the same.
 pub fn foldings_are_local()
     ensures { SameFoldings }
 {}
 
-/// A code point that has its record has the same one over all facts that answer what its derivation asks alike, and its
+/// A code point that has its record has the same one over all facts that answer alike what its derivation asks, and its
 /// derivation asks the same of them.
 pub fn asked_is_local()
     ensures { AskedIsLocal }
@@ -76,8 +76,8 @@ pub fn next_is_broken()
     ensures { NextIsBroken }
 {}
 
-/// What is kept of each code point is right after a turn, if it is anew of those code points, and as it was of the
-/// others.
+/// After a turn, what is kept of each code point is right if it is made anew for those code points and stays as it was
+/// for the others.
 pub fn next_keeps_asked()
     ensures { NextKeepsAsked }
 {}

@@ -34,8 +34,8 @@ pub struct Derived {
     pub asked: Queries,
 }
 
-/// Derives a code point with the questions that its derivation asks: its record, in one step, which is counted where an
-/// error comes too. UAX #44, section 5.3.
+/// Derives a code point with the questions that its derivation asks: its record, in one step, which is counted even if
+/// an error comes. UAX #44, section 5.3.
 ///
 /// - `Bad(rule)`: the code point breaks a rule of a valid release, and `rule`, V1 to V5, is the first that it breaks.
 /// - `Memory`: memory ran out.
@@ -93,8 +93,8 @@ pub fn questions_of<W: FactView>(alloc: Global, view: &W, c: Point) -> Result<Qu
     Ok(query_set(asked))
 }
 
-/// Puts the questions that the derivation of a code point asks beside its own at the end. Those of its Normalisation
-/// Form KC are the first ones of the folding rounds.
+/// Appends the questions that the derivation of a code point asks beside its own. Those of its Normalisation Form KC
+/// are the first ones of the folding rounds.
 fn put_more<W: FactView>(
     alloc: Global,
     view: &W,
@@ -112,8 +112,7 @@ fn put_more<W: FactView>(
     Ok(())
 }
 
-/// Puts what the rounds of a code point by both foldings ask at the end. If it is known that both ask the same, it is put
-/// once.
+/// Appends what the rounds of a code point by both foldings ask. If it is known that both ask the same, it is put once.
 fn put_foldings<W: FactView>(
     alloc: Global,
     view: &W,
@@ -129,8 +128,8 @@ fn put_foldings<W: FactView>(
     Ok(())
 }
 
-/// Puts what Normalisation Form C of a code point asks at the end, if a compatibility mapping is below it; if none is,
-/// Form KC asks the same. UAX #15, section 1.2.
+/// Appends what Normalisation Form C of a code point asks, if a compatibility mapping is below it; if none is, Form KC
+/// asks the same. UAX #15, section 1.2.
 fn put_canonical<W: FactView>(
     alloc: Global,
     view: &W,
@@ -145,8 +144,8 @@ fn put_canonical<W: FactView>(
     Ok(())
 }
 
-/// Puts the question for the primary composite of a code point's mapping at the end, where the code point is one itself.
-/// The Unicode Standard, section 3.11, D114.
+/// Appends the question for the primary composite of a code point's mapping, if the code point is one itself. The
+/// Unicode Standard, section 3.11, D114.
 fn put_composite<W: FactView>(
     view: &W,
     facts: &FactsRef<'_>,

@@ -15,8 +15,8 @@ use normalisation::{compose, nfd, nfkd};
 use std::alloc::Global;
 use ucd_model::{FactView, FormStop, Memory, Point, Points, Query};
 
-/// Puts what Normalisation Form C of a list asks at the end, or Form KC where `compat` holds; and the list in that form,
-/// or `None` where it has none. UAX #15, section 1.2.
+/// Appends what Normalisation Form C of a list asks, or Form KC if `compat` holds, and answers the list in that form,
+/// or `None` if it has none. UAX #15, section 1.2.
 ///
 /// - `Memory`: memory ran out.
 pub fn put_asks<W: FactView>(
@@ -36,7 +36,7 @@ pub fn put_asks<W: FactView>(
     Ok(form)
 }
 
-/// Puts what the composition of a decomposed list asks at the end, where there is one; and the list composed.
+/// Appends what the composition of a decomposed list asks, if there is such a list, and answers the list composed.
 fn put_form<W: FactView>(
     view: &W,
     form: Option<Points>,
@@ -54,7 +54,7 @@ fn put_form<W: FactView>(
     }
 }
 
-/// Puts what the composition of a list asks at the end: the pairs that are tried, and the facts of what is composed; and
+/// Appends what the composition of a list asks: the pairs that are tried, and the facts of what is composed. It answers
 /// the list composed.
 fn put_composing<W: FactView>(
     view: &W,
@@ -73,7 +73,7 @@ fn put_composing<W: FactView>(
     Ok(form)
 }
 
-/// Normalisation Form D of a list, or Form KD where `compat` holds; `None` where it has none.
+/// Normalisation Form D of a list, or Form KD if `compat` holds; `None` if it has none.
 fn decomposed<W: FactView>(
     alloc: Global,
     view: &W,

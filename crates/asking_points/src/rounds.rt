@@ -15,7 +15,7 @@ use fold_rounds::{LISTS, MOST_POINTS, are_alike, drop_ignorable};
 use std::alloc::Global;
 use ucd_model::{FactView, Folding, Memory, Point, Points, Query, same_points};
 
-/// The list after a round, another one than the list before.
+/// The list after a round, which differs from the list before.
 #[derive(Drop)]
 pub struct After {
     /// The list.
@@ -27,14 +27,15 @@ pub struct After {
 /// What a round gives.
 #[derive(Drop)]
 pub struct Round {
-    /// The list after it; `None` where there is none, or where it is the same.
+    /// The list after it; `None` if there is none, or if it is the same.
     pub after: Option<After>,
     /// Whether it is known that both foldings give that, and ask the same for it.
     pub alike: bool,
 }
 
 impl Round {
-    /// The same behind rounds of which it is told whether both foldings are known to give and to ask the same.
+    /// The same round behind others: both foldings are known to give and to ask the same only if `alike` says so of the
+    /// others too.
     fn behind(self, alike: bool) -> Round
         ensures after { result.after ≡ self.after }
         ensures alike { result.alike ≡ (alike && self.alike) }
@@ -46,7 +47,7 @@ impl Round {
     }
 }
 
-/// Puts what the rounds of a code point by either folding ask at the end, until a round gives no other list; and answers
+/// Appends what the rounds of a code point by either folding ask, until a round gives no other list, and answers
 /// whether it is known that the rounds by the other folding ask the same. The Unicode Standard, section 3.13,
 /// toNFKC_Casefold.
 ///
@@ -79,8 +80,8 @@ pub fn put_rounds<W: FactView>(
     Ok(alike)
 }
 
-/// Puts what a round from a list asks at the end, without what its Normalisation Form KC asks where the list is `known` to
-/// be that form; and what the round gives.
+/// Appends what a round from a list asks, without what its Normalisation Form KC asks if the list is `known` to be that
+/// form, and answers what the round gives.
 fn put_round<W: FactView>(
     alloc: Global,
     view: &W,
@@ -106,7 +107,8 @@ fn put_round<W: FactView>(
     }
 }
 
-/// Puts what a round from a list asks at the end, from the Normalisation Form KC of the list on; and what the round gives.
+/// Appends what a round from a list asks, from the Normalisation Form KC of the list on, and answers what the round
+/// gives.
 fn put_folding<W: FactView>(
     alloc: Global,
     view: &W,
@@ -130,8 +132,8 @@ fn put_folding<W: FactView>(
     Ok(Round { after, alike })
 }
 
-/// Puts what Normalisation Form KC of a list asks at the end, and answers that form. If the list is the one that the
-/// round began with, all of that stands there, and the form is known.
+/// Appends what Normalisation Form KC of a list asks, and answers that form. If the list is the one that the round
+/// began with, all of that is there already, and the form is known.
 #[tactic(auto, using(crate::specs::Rounds::form_again))]
 fn put_again<W: FactView>(
     alloc: Global,
@@ -154,7 +156,7 @@ fn put_again<W: FactView>(
     Ok(found)
 }
 
-/// The list after a round, where the lists of the round are not too long.
+/// The list after a round, if the lists of the round are not too long.
 fn short_round(form: &[Point], kept: &[Point], next: Option<Points>) -> Option<Points>
     ensures { result ≡ short_round form.now kept.now next }
 {
@@ -170,7 +172,7 @@ fn short_round(form: &[Point], kept: &[Point], next: Option<Points>) -> Option<P
     }
 }
 
-/// The list after a round, where it is another one than the list before. It is known if it is the list `kept`, whose
+/// The list after a round, if it differs from the list before. It is known if it is the list `kept`, whose
 /// Normalisation Form KC it is.
 fn changed(next: Option<Points>, s: &[Point], kept: &[Point]) -> Option<After>
     ensures { result ≡ after_at s.now kept.now next }
@@ -187,4 +189,3 @@ fn changed(next: Option<Points>, s: &[Point], kept: &[Point]) -> Option<After>
         None => None,
     }
 }
-

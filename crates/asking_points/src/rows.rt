@@ -10,7 +10,7 @@ ghost use Rattle.asking_points.specs.Members.{simple_members, image_members};
 
 use ucd_model::{FactsRef, Memory, Point, Query};
 
-/// Puts the questions for the facts of these code points at the end.
+/// Appends the questions for the facts of these code points.
 ///
 /// - `Memory`: memory ran out.
 pub fn put_rows(points: &[Point], asked: &mut Vec<Query>) -> Result<(), Memory>
@@ -22,8 +22,8 @@ pub fn put_rows(points: &[Point], asked: &mut Vec<Query>) -> Result<(), Memory>
     Ok(())
 }
 
-/// Puts the questions for the facts of the members of all mappings of a code point at the end: of its decomposition
-/// mapping, and of each simple and full case mapping and folding.
+/// Appends the questions for the facts of the members of all mappings of a code point: of its decomposition mapping,
+/// and of each simple and full case mapping and folding.
 ///
 /// - `Memory`: memory ran out.
 #[tactic(auto, using(crate::specs::Members::members_joined))]
@@ -37,7 +37,7 @@ pub fn put_members(c: Point, facts: &FactsRef<'_>, asked: &mut Vec<Query>) -> Re
     Ok(())
 }
 
-/// Puts the questions for the facts of the simple case mappings and the simple folding at the end.
+/// Appends the questions for the facts of the simple case mappings and the simple folding.
 fn put_simple(facts: &FactsRef<'_>, asked: &mut Vec<Query>) -> Result<(), Memory>
     ensures { OnOk result (asked.new.items
         ≡ asked.old.items ++ row_queries (simple_members (shown_facts facts.now))) }
@@ -52,7 +52,7 @@ fn put_simple(facts: &FactsRef<'_>, asked: &mut Vec<Query>) -> Result<(), Memory
     Ok(())
 }
 
-/// Puts the questions for the facts of the members of the full case mappings and the full folding at the end.
+/// Appends the questions for the facts of the members of the full case mappings and the full folding.
 #[tactic(auto, using(crate::specs::Members::images_joined))]
 fn put_images(c: Point, facts: &FactsRef<'_>, asked: &mut Vec<Query>) -> Result<(), Memory>
     ensures { OnOk result (asked.new.items
@@ -65,7 +65,7 @@ fn put_images(c: Point, facts: &FactsRef<'_>, asked: &mut Vec<Query>) -> Result<
     Ok(())
 }
 
-/// Puts the questions for the facts of the members of an image of a code point at the end.
+/// Appends the questions for the facts of the members of an image of a code point.
 fn put_image(c: Point, image: Option<&[Point]>, asked: &mut Vec<Query>) -> Result<(), Memory>
     ensures { OnOk result (asked.new.items
         ≡ asked.old.items ++ row_queries (image_points c (image_shown image.entry))) }

@@ -8,7 +8,7 @@ ghost use Rattle.asking_points.specs.Compat.{has_compat};
 use decomposition::{LEVELS, counted};
 use ucd_model::{FactView, Memory, Point, Query};
 
-/// Puts the questions for the facts of the code points that the expansions of these look at at the end.
+/// Appends the questions for the facts of the code points that the expansions of these look at.
 /// UAX #15, section 1.3.
 ///
 /// - `Memory`: memory ran out.
@@ -27,7 +27,7 @@ pub fn put_trees<W: FactView>(
     Ok(())
 }
 
-/// The same of one code point.
+/// The same for one code point.
 #[tactic(auto, unfolding(asked_queries::specs::Questions::whole_tree))]
 fn put_whole_tree<W: FactView>(
     view: &W,

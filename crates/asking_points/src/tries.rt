@@ -9,8 +9,8 @@ ghost use Rattle.asking_points.specs.Tries.{reached_point, tried_by, with_compos
 use normalisation::{Starter, passes, starter_behind};
 use ucd_model::{FactView, Memory, Point, Query};
 
-/// Puts the pairs that are tried while a list is composed at the end, whether they have a composite or not. It looks up
-/// at most one pair for each code point. The Unicode Standard, section 3.11, D117.
+/// Appends the pairs that are tried while a list is composed, whether they have a composite or not. It looks up at most
+/// one pair for each code point. The Unicode Standard, section 3.11, D117.
 ///
 /// - `Memory`: memory ran out.
 pub fn put_tries<W: FactView>(
@@ -28,7 +28,7 @@ pub fn put_tries<W: FactView>(
     Ok(())
 }
 
-/// Puts the pair that is tried at a code point behind this last starter at the end, where one is; and the last starter
+/// Appends the pair that is tried at a code point behind this last starter, if one is, and answers the last starter
 /// behind the code point.
 fn put_tried<W: FactView>(
     view: &W,
@@ -52,7 +52,7 @@ fn put_tried<W: FactView>(
     }
 }
 
-/// The last starter's code point, where one of this class is not blocked from it.
+/// The last starter's code point, if one of this class is not blocked from it.
 fn reached_point(starter: &Option<Starter<Point>>, class: u8) -> Option<Point>
     ensures { result ≡ reached_point starter.now class }
 {

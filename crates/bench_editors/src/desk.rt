@@ -62,16 +62,16 @@ impl Desk {
         &self.bench
     }
 
-    /// The last revision that touched the row with this key; 0 if none did. It takes no memory, and time by the number of
-    /// rows that were touched.
+    /// The last revision that touched the row with this key; 0 if none did. It takes no memory, and time in proportion
+    /// to the number of rows that were touched.
     pub fn touched(&self, file: SourceFile, key: &Key) -> u32
         ensures { result ≡ desk_last self.now (record { file = file; key = key.now }) }
     {
         self.rows.last_of(file, key)
     }
 
-    /// Handles one event. The counter of steps rises by at most the number of code points that depend on the change of a
-    /// proposal that comes to its operations, and not if one of them is refused, nor at any other event.
+    /// Handles one event. If it is a proposal that comes to its operations, and none of them is refused, the counter of
+    /// steps rises by at most the number of code points that depend on the change. Otherwise it does not rise.
     ///
     /// - `Memory`: memory ran out.
     ///
@@ -187,7 +187,7 @@ impl Desk {
         }
     }
 
-    /// Carries the operations of a group out, whose rows have these keys.
+    /// Carries out the operations of a group, whose rows have these keys.
     ///
     /// - `Memory`: memory ran out. The desk is as it was.
     fn carry_out<L: Ledger>(

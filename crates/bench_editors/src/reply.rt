@@ -24,7 +24,7 @@ pub enum Reply {
     Present,
     /// The editor who proposes or leaves is not present.
     Absent,
-    /// The proposal names a revision that there is not yet.
+    /// The proposal names a revision that does not exist yet.
     Ahead {
         /// The last revision; 0 before the first.
         revision: u32,

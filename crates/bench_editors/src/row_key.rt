@@ -15,7 +15,7 @@ use ucd_model::{Memory, Point, SourceFile, Text};
 pub struct RowKey {
     /// The place of the file among the source files, from 0.
     pub file: u8,
-    /// One more than the first code point of the row; 0 of a row of names.
+    /// One more than the first code point of the row; 0 for a row of names.
     pub start: u32,
     /// The names in the key, in order.
     pub names: Vec<Vec<u8>>,

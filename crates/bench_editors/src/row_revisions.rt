@@ -35,7 +35,7 @@ impl RowRevisions {
         self.last.get(key).copied().unwrap_or(0)
     }
 
-    /// The same of a row by its file and its key. It takes no memory, and time by the number of rows.
+    /// The same for a row by its file and its key. It takes no memory, and time in proportion to the number of rows.
     pub fn last_of(&self, file: SourceFile, key: &Key) -> u32
         ensures { result ≡ last_in self.now (row_parts (record { file = file; key = key.now })) }
     {

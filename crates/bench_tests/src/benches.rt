@@ -72,7 +72,7 @@ fn shows_letters(alloc: Global, bench: &Bench) -> Result<bool, Memory> {
     Ok(text.as_slice() == LETTERS && shows_facts(bench) && shows_pages(bench))
 }
 
-/// The same of a bench that is opened for it. A call lets the bench go, so that this function stays small.
+/// The same for a bench that is opened for it. A call lets the bench go, so that this function stays small.
 fn are_shown(alloc: Global) -> Result<bool, Fail> {
     let opened = bench_over(alloc, LETTERS)?;
     let shown = match &opened {

@@ -44,7 +44,7 @@ fn is_answered_alike(old: &Tables, new: &Tables, query: Query) -> bool {
     }
 }
 
-/// Whether the derivation of a code point asks a question that has another answer after.
+/// Whether the derivation of a code point asks a question that has another answer afterwards.
 fn depends<L: Ledger>(
     alloc: Global,
     old: &Tables,

@@ -153,7 +153,7 @@ fn each_answered<L: Ledger>(
     Ok(true)
 }
 
-/// The same of a bench over a release. A call lets the bench go, so that this function stays small.
+/// The same for a bench over a release. A call lets the bench go, so that this function stays small.
 fn all_answered<L: Ledger>(
     alloc: Global,
     release: Release,

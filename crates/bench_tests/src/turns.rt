@@ -221,7 +221,7 @@ fn are_changed(old: &Bench, new: &Bench, accepted: &Accepted) -> bool {
     changed.next().is_none()
 }
 
-/// Whether a bench that was told this of a group is as the one that is opened anew after it, or as before it.
+/// Whether a bench that answered a group so is like the one that is opened anew after the group, or as it was before.
 fn is_as_opened(
     bench: &Bench,
     before: &Bench,
@@ -235,7 +235,7 @@ fn is_as_opened(
     }
 }
 
-/// Applies a group, and answers the bench that is opened anew after it; `None` where the two do not agree.
+/// Applies a group, and answers the bench that is opened anew after it; `None` if the two do not agree.
 fn turned<L: Ledger>(
     alloc: Global,
     bench: &mut Bench,

@@ -52,8 +52,8 @@ fn main(rt: HostRuntime) -> Result<()> {
 
 /// Opens the release in a folder, and carries out the script on it.
 ///
-/// A bench counts on a ledger how many code points it derives. Contracts alone read it: when the program runs there is none. What is
-/// required says that the ledger is new, as `Blank::new(1)` makes it.
+/// A bench counts on a ledger how many code points it derives. Only contracts read it: when the program runs there is
+/// none. The requirement is that the ledger is new, as `Blank::new(1)` makes it.
 fn use_bench<L: Ledger>(rt: HostRuntime, folder: &[u8], blank: Blank) -> Result<()>
     requires name { blank.name ≡ L.name }
     requires parts { blank.parts ≡ L.parts }
@@ -92,8 +92,8 @@ fn told(stop: Stop) -> Error {
     }
 }
 
-/// The commands of the script. That its groups can be carried out is a law about scripts, which is called as a function is. That it
-/// is not longer than a file may be, the prover computes.
+/// The commands of the script. A law about scripts, which is called as a function is, says that its groups can be
+/// carried out. The prover computes that it is not longer than a file may be.
 #[tactic(auto, unfolding(ucd_points::specs::Limits::file_limit))]
 fn script(alloc: Global) -> Result<Commands, ScriptStop>
     ensures { IfOk result (All IsReady) }
@@ -121,7 +121,8 @@ fn carry_out<L: Ledger>(
     Ok(())
 }
 
-/// Carries out a group, and prints of which code points something else is derived now. If it is refused, the bench is as it was.
+/// Carries out a group, and prints the code points of which something else is derived now. If it is refused, the bench
+/// is as it was.
 fn edit<L: Ledger>(
     rt: &impl Print,
     alloc: Global,
@@ -148,7 +149,7 @@ fn refused(why: Refused) -> Error {
     }
 }
 
-/// Prints how many records changed, and those of which code points.
+/// Prints how many records changed, and the code points that they are of.
 fn print_changed(rt: &impl Print, points: &[Point]) -> Result<()> {
     println!(rt; "{} records changed:", points.len())?;
     for point in points {
@@ -173,9 +174,9 @@ fn answer(alloc: Global, bench: &Bench, text: &[u8]) -> Result<Spans> {
     Ok(members(alloc, bench, &set)?)
 }
 
-/// The members of a set. What names mean is told by the alias files of the release.
+/// The members of a set. The alias files of the release tell what names mean.
 ///
-/// Whoever asks more than once makes a [`unicodeset_eval::SetIndex`] once, and asks by [`unicodeset_eval::eval_over`].
+/// To ask more than once, make a [`unicodeset_eval::SetIndex`] once, and ask by [`unicodeset_eval::eval_over`].
 fn members(alloc: Global, bench: &Bench, set: &Expr) -> Result<Spans, EvalStop> {
     let release = bench.release();
     let aliases = Aliases::of(alloc, release)?;

@@ -9,17 +9,18 @@ pub fn casemaps_are_three()
     ensures { CasemapsAreThree }
 {}
 
-/// Two lists joined are in lower case the two joined: no member's mapping depends on its neighbours.
+/// Two joined lists in lower case are the two lists in lower case, joined: no member's mapping depends on its
+/// neighbours.
 pub fn lower_of_joined()
     ensures { LowerOfJoined }
 {}
 
-/// Two lists joined are in upper case the two joined.
+/// Two joined lists in upper case are the two lists in upper case, joined.
 pub fn upper_of_joined()
     ensures { UpperOfJoined }
 {}
 
-/// Two lists joined are folded the two joined.
+/// Two joined lists, folded, are the two folded lists, joined.
 pub fn fold_of_joined()
     ensures { FoldOfJoined }
 {}

@@ -103,7 +103,7 @@ fn image<'a>(casing: Casing, facts: &FactsRef<'a>) -> Option<&'a [Point]>
     }
 }
 
-/// Puts the points of an image of a code point at the end of a list.
+/// Appends the points of an image of a code point to a list.
 ///
 /// - `Memory`: memory ran out. The list stays as it was.
 pub(crate) fn put_image(c: Point, image: Option<&[Point]>, into: &mut Points) -> Result<(), Memory>

@@ -12,7 +12,7 @@ use crate::is_cased;
 use crate::titling::title_image;
 use ucd_model::{FactsRef, Point};
 
-/// What of a list is left for the images of the later members, by each mapping; `None` where the images so far are not
+/// What of a list is left for the images of the later members, by each mapping; `None` if the images so far are not
 /// the beginning of the list.
 #[derive(Clone, Copy)]
 pub(crate) struct Left<'a> {
@@ -66,7 +66,7 @@ pub(crate) fn left_behind<'a>(left: Left<'a>, c: Point, facts: &FactsRef<'_>) ->
     }
 }
 
-/// The rest behind the points of an image of a code point; `None` where they are not its beginning.
+/// The rest behind the points of an image of a code point; `None` if they are not its beginning.
 fn rest_behind<'a>(
     rest: Option<&'a [Point]>,
     c: Point,

@@ -28,7 +28,7 @@ pub fn title<W: FactView>(alloc: Global, view: &W, s: &[Point]) -> Result<Points
     Ok(points)
 }
 
-/// The image in a title of a code point with these facts; the title has begun where a Cased code point stands before
+/// The image in a title of a code point with these facts; the title has begun if a Cased code point stands before
 /// it.
 pub(crate) fn title_image<'a>(begun: bool, facts: &FactsRef<'a>) -> Option<&'a [Point]>
     ensures { image_shown result ≡ title_image begun (shown_facts facts.now) }

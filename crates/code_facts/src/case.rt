@@ -23,7 +23,7 @@ pub enum Case {
 }
 
 impl Case {
-    /// The code point and the image that a row gives it; `None` where the row gives none of this case.
+    /// The code point and the image that a row gives it; `None` if the row gives none of this case.
     pub fn image<'a>(self, row: &RowRef<'a>) -> Option<(Point, Mapping<'a>)>
         ensures { (c : ℕ) → given_to c result ≡ image_of_row self c (row_in row.now) }
     {

@@ -21,7 +21,7 @@ pub struct ThreeMaps {
     pub third: BTreeMap<Point, Points>,
 }
 
-/// The images of three cases that rows give. Of several rows that give a code point one, the first counts. Each row is read
+/// The images of three cases that rows give. If several rows give a code point one, the first counts. Each row is read
 /// once, and nothing but the images is copied.
 ///
 /// - `Memory`: memory ran out.

@@ -68,7 +68,7 @@ impl CaseMaps {
         })
     }
 
-    /// The images of a code point; `None` only where it has none.
+    /// The images of a code point; `None` only if it has none.
     ///
     /// - `Memory`: memory ran out.
     pub fn at(&self, alloc: Global, c: Point) -> Result<Option<Box<Cases>>, Memory>
@@ -148,8 +148,8 @@ fn image_in(alloc: Global, map: &BTreeMap<Point, Points>, c: Point) -> Result<Gi
     }
 }
 
-/// A code point up to which a map has the same from `c` on: `c` itself where it is a key, and else the last before the
-/// next one.
+/// A code point up to which a map has the same from `c` on: `c` itself if it is a key, or else the last before the next
+/// one.
 fn last_image(map: &BTreeMap<Point, Points>, c: Point) -> Point
     ensures { HoldsTo (λ d. found map.now d ≡ found map.now c) c result }
 {

@@ -5,7 +5,7 @@ ghost use Rattle.code_facts.specs.Rest.{no_cases};
 
 use crate::given_points::GivenPoints;
 
-/// The images that CaseFolding.txt and SpecialCasing.txt give to a code point, each where there is one.
+/// The images that CaseFolding.txt and SpecialCasing.txt give to a code point, each if there is one.
 #[derive(Drop)]
 pub struct Cases {
     /// The folding of status C.

@@ -1,4 +1,4 @@
-//! The questions that an edit answers otherwise.
+//! The questions that an edit answers differently.
 
 ghost use Rattle.std.specs.Prelude.{◌≡◌, ℕ, Bool, true, IfOk, OnOk};
 ghost use Rattle.std.specs.Bool.{Decides};
@@ -22,7 +22,7 @@ impl<T: Stretches<u64>> FactTables<T> {
     /// composite a pair has, and whether a code point is the second member of one's mapping. They ascend, each once. The
     /// Unicode Standard, section 3.11, D114.
     ///
-    /// It looks at the code points that were touched when next was prepared; without such it takes no time.
+    /// It looks at the code points that were touched when next was prepared; if there are none, it takes no time.
     ///
     /// - `Memory`: memory ran out.
     pub fn queries_changed(&self, alloc: Global) -> Result<Queries, Memory>
@@ -49,8 +49,9 @@ impl<T: Table<u64>> FactTables<T> {
         Ok(queries)
     }
 
-    /// Adds the questions on pairs and on their second members that are answered otherwise. A second member is asked about
-    /// once, whatever number of pairs has it: the code points that are listed under it are gone through for each question.
+    /// Adds the questions on pairs and on their second members that are answered differently. A second member is asked
+    /// about once, whatever number of pairs has it: the code points that are listed under it are gone through for each
+    /// question.
     fn put_composites(
         &self,
         alloc: Global,
@@ -68,7 +69,7 @@ impl<T: Table<u64>> FactTables<T> {
         self.put_seconds(queries, &seconds)
     }
 
-    /// Adds the questions on pairs that are answered otherwise.
+    /// Adds the questions on pairs that are answered differently.
     fn put_pairs(&self, queries: &mut Vec<Query>, pairs: &[(Point, Point)]) -> Result<(), Memory>
         ensures gathers { OnOk result (Gathers (tables_facts T.now self.now) (tables_next T.now self.now) queries.old.items queries.new.items) }
         ensures pairs { OnOk result ((s y : ℕ) → is_reached pairs.now s y ≡ true
@@ -81,7 +82,7 @@ impl<T: Table<u64>> FactTables<T> {
         Ok(())
     }
 
-    /// Adds the questions on second members that are answered otherwise.
+    /// Adds the questions on second members that are answered differently.
     fn put_seconds(&self, queries: &mut Vec<Query>, seconds: &[Point]) -> Result<(), Memory>
         ensures gathers { OnOk result (Gathers (tables_facts T.now self.now) (tables_next T.now self.now) queries.old.items queries.new.items) }
         ensures told { OnOk result ((y : ℕ) → is_among seconds.now y ≡ true
@@ -93,7 +94,7 @@ impl<T: Table<u64>> FactTables<T> {
         Ok(())
     }
 
-    /// Adds the question on a pair, if it is answered otherwise.
+    /// Adds the question on a pair, if it is answered differently.
     fn put_pair(&self, queries: &mut Vec<Query>, s: Point, y: Point) -> Result<(), Memory>
         ensures gathers { OnOk result (Gathers (tables_facts T.now self.now) (tables_next T.now self.now) queries.old.items queries.new.items) }
         ensures told { OnOk result (IsTold (tables_facts T.now self.now) (tables_next T.now self.now) queries.new.items (Query.Pair s y)) }
@@ -104,7 +105,7 @@ impl<T: Table<u64>> FactTables<T> {
         put_unless(queries, Query::Pair(s, y), same)
     }
 
-    /// Adds the question on a second member, if it is answered otherwise.
+    /// Adds the question on a second member, if it is answered differently.
     fn put_second(&self, queries: &mut Vec<Query>, y: Point) -> Result<(), Memory>
         ensures gathers { OnOk result (Gathers (tables_facts T.now self.now) (tables_next T.now self.now) queries.old.items queries.new.items) }
         ensures told { OnOk result (IsTold (tables_facts T.now self.now) (tables_next T.now self.now) queries.new.items (Query.Second y)) }

@@ -12,8 +12,8 @@ use range_table::Table;
 use ucd_model::{Kind, Point};
 
 impl<T: Table<u64>> FactTables<T> {
-    /// The least primary composite of a pair: the first that is listed under the pair and composes by the facts. Nothing
-    /// composes a first member with another class than 0. The Unicode Standard, section 3.11, D114.
+    /// The least primary composite of a pair: the first that is listed under the pair and composes by the facts. A
+    /// first member whose class is not 0 composes with nothing. The Unicode Standard, section 3.11, D114.
     pub(crate) fn composite(&self, version: Version, s: Point, y: Point) -> Option<Point>
         ensures { result ≡ pair_of (facts_at version self.now) s y }
     {
@@ -44,7 +44,7 @@ impl<T: Table<u64>> FactTables<T> {
         false
     }
 
-    /// The members of the mapping of a primary composite; `None` of every other code point.
+    /// The members of the mapping of a primary composite; `None` for every other code point.
     /// The Unicode Standard, section 3.11, D114.
     pub(crate) fn members(&self, version: Version, q: Point) -> Option<(Point, Point)>
         ensures pair { (s y : ℕ) → is_that s y result ≡ composes (facts_at version self.now) s y q }
@@ -104,7 +104,7 @@ pub fn is_candidate_word(word: u64) -> bool
     canonical && starts && !excluded
 }
 
-/// The members of a mapping that has two; `None` of every other one.
+/// The members of a mapping that has two; `None` for every other one.
 fn two_of(mapping: &[Point]) -> Option<(Point, Point)>
     ensures { result ≡ two_of mapping.now }
 {

@@ -23,9 +23,9 @@ use range_table::{RunTable, Table};
 use std::alloc::Global;
 use ucd_model::{Memory, Point, Span};
 
-/// Makes what is next in spans that of the tables of rows, and lists their code points.
+/// Makes what is next in spans the same as in the tables of rows, and lists their code points.
 ///
-/// - `Memory`: memory ran out. Nothing is told of what is next then; what was listed stays.
+/// - `Memory`: memory ran out. Nothing is then known of what is next; what was listed stays.
 pub fn put_spans<T: Table<u64>, S: Store<Rest>>(
     alloc: Global,
     words: &mut T,
@@ -46,9 +46,10 @@ pub fn put_spans<T: Table<u64>, S: Store<Rest>>(
     index.add(&keys)
 }
 
-/// Makes what is next in spans that of the tables of rows, and gathers the keys of the code points that may compose two members.
+/// Makes what is next in spans the same as in the tables of rows, and gathers the keys of the code points that may
+/// compose two members.
 ///
-/// - `Memory`: memory ran out. Nothing is told of what is next then.
+/// - `Memory`: memory ran out. Nothing is then known of what is next.
 pub fn copy_spans<T: Table<u64>, S: Store<Rest>>(
     alloc: Global,
     words: &mut T,
@@ -74,7 +75,7 @@ pub fn copy_spans<T: Table<u64>, S: Store<Rest>>(
 
 /// Makes the values of a span next those of a run table.
 ///
-/// - `Memory`: memory ran out. Nothing is told of what is next then.
+/// - `Memory`: memory ran out. Nothing is then known of what is next.
 pub fn put_words<T: Table<u64>>(
     into: &mut T,
     from: &RunTable<u64>,
@@ -101,9 +102,9 @@ pub fn put_words<T: Table<u64>>(
     Ok(())
 }
 
-/// Makes what is kept next beside the words of a span that of the tables.
+/// Makes what is kept next beside the words of a span the same as in the tables.
 ///
-/// - `Memory`: memory ran out. Nothing is told of what is next then.
+/// - `Memory`: memory ran out. Nothing is then known of what is next.
 pub fn put_rests<S: Store<Rest>>(
     alloc: Global,
     into: &mut S,
@@ -241,7 +242,7 @@ fn gather_twos(keys: &mut PairKeys, mappings: &PointLists, span: Span) -> Result
     Ok(())
 }
 
-/// Gathers the keys of the points of a span that have this mapping, where it has two members.
+/// If this mapping has two members, gathers the keys of the points of a span, which have it.
 fn gather_two(keys: &mut PairKeys, mapping: &[Point], part: Span) -> Result<(), Memory>
     ensures grows { (s y q : ℕ) → is_gathered keys.old s y q ≡ true → is_gathered keys.new s y q ≡ true }
     ensures listed { OnOk result ((q : ℕ) → part.lo ≤ q → q ≤ part.hi → HasKeys (is_gathered keys.new) mapping.now q) }

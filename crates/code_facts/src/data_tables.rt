@@ -72,7 +72,7 @@ impl DataTables {
         })
     }
 
-    /// Gives the points of these rows what the rows give, where no row has given them anything.
+    /// Gives the points of these rows what the rows give. No row has given them anything.
     fn add_rows(&mut self, alloc: Global, rows: &[RowText<'_>]) -> Result<(), Memory>
         requires apart { Apart rows.now }
         requires fresh { (c : ℕ) → c < 1114112 → data_next self.old c ≡ row_data c None }
@@ -139,7 +139,7 @@ fn add_word(words: &mut RunTable<u64>, row: &PointValues<'_>) -> Result<(), Memo
     Ok(())
 }
 
-/// Gives the points of a row its mapping, or that of a Hangul syllable, where they have none.
+/// Gives the points of a row its mapping, or that of a Hangul syllable. They have none yet.
 fn add_mapping(
     alloc: Global,
     mappings: &mut PointLists,
@@ -172,7 +172,7 @@ fn add_syllables(mappings: &mut PointLists, part: Span) -> Result<(), Memory>
     Ok(())
 }
 
-/// Gives the points of a span a simple mapping, where they have none.
+/// Gives the points of a span a simple mapping. They have none yet.
 fn add_simple(lists: &mut PointLists, span: Span, image: Option<Point>) -> Result<(), Memory>
     requires { AreEmpty (lists_next lists.old) span }
     ensures { OnOk result (SameValues (lists_next lists.new) (with_span (lists_next lists.old) span.lo span.hi (option_to_list image))) }
@@ -183,7 +183,7 @@ fn add_simple(lists: &mut PointLists, span: Span, image: Option<Point>) -> Resul
     }
 }
 
-/// Gives the points of a span a list, where theirs are empty. For no points nothing is done.
+/// Gives the points of a span a list. Their lists are empty so far. For no points nothing is done.
 fn put_list(lists: &mut PointLists, span: Span, points: &[Point]) -> Result<(), Memory>
     requires { AreEmpty (lists_next lists.old) span }
     ensures { OnOk result (SameValues (lists_next lists.new) (with_span (lists_next lists.old) span.lo span.hi points.now)) }

@@ -14,7 +14,7 @@ use ucd_model::Spans;
 /// The facts of all code points, now and next. The word of a code point lies in a table of type `T`, packed, and its
 /// mappings in a store over such a table.
 ///
-/// Facts are found by two look-ups, and composites in time by the logarithm of their number.
+/// Facts are found by two look-ups, and composites in time that grows with the logarithm of their number.
 #[derive(Drop)]
 pub struct FactTables<T: Table<u64>> {
     // the packed words

@@ -7,7 +7,7 @@ use std::alloc::Global;
 use std::marker::Model;
 use ucd_model::{Memory, Point, Points};
 
-/// The points that a row gives, where one gives some. A single point takes no memory of its own.
+/// The points that a row gives, if one gives some. A single point takes no memory of its own.
 #[derive(Drop)]
 pub struct GivenPoints {
     form: PointsForm,
@@ -53,7 +53,7 @@ impl GivenPoints {
         Ok(GivenPoints { form })
     }
 
-    /// The points, where some are given.
+    /// The points, if some are given.
     pub fn points(&self) -> Option<&[Point]>
         ensures { option_copied result ≡ self.now }
     {

@@ -20,7 +20,7 @@ const T_COUNT: u32 = 28;
 
 const N_COUNT: u32 = 588;
 
-/// The syllables of a span; `None` where it has none. The Unicode Standard, section 3.12.
+/// The syllables of a span; `None` if it has none. The Unicode Standard, section 3.12.
 pub fn syllables(span: Span) -> Option<Span>
     ensures { MatchOption result ((c : ℕ) → (within c span && is_hangul_syllable c) ≡ false)
         (λ part. (c : ℕ) → within c part ≡ (within c span && is_hangul_syllable c)) }
@@ -37,7 +37,7 @@ pub fn syllables(span: Span) -> Option<Span>
     }
 }
 
-/// The mapping of a syllable: LV and T, or L and V where there is no T. The Unicode Standard, section 3.12.
+/// The mapping of a syllable: LV and T, or L and V if there is no T. The Unicode Standard, section 3.12.
 pub fn hangul_mapping(syllable: Point) -> [Point; 2]
     requires { is_hangul_syllable syllable ≡ true }
     ensures { result ≡ hangul_mapping syllable }

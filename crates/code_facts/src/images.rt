@@ -8,7 +8,7 @@ ghost use Rattle.code_facts.specs.KeptFacts.{full_image};
 
 use ucd_model::Point;
 
-/// The first of the points, and the code point itself where there are none.
+/// The first of the points, or the code point itself if there are none.
 pub fn first_or(c: Point, points: &[Point]) -> Point
     ensures { result ≡ only_or c points.now }
 {
@@ -18,7 +18,7 @@ pub fn first_or(c: Point, points: &[Point]) -> Point
     }
 }
 
-/// The points, and the others where there are none.
+/// The points, or the others if there are none.
 pub fn first_list<'a>(points: &'a [Point], others: &'a [Point]) -> &'a [Point]
     ensures { (c : ℕ) → only_or c result.now ≡ only_or (only_or c others.now) points.now }
 {
@@ -36,7 +36,7 @@ pub fn shown_image(c: Point, points: &[Point]) -> Option<&[Point]>
     }
 }
 
-/// The image of a code point under the first of the points, where there are any; `None` for the point itself alone.
+/// The image of a code point under the first of the points, if there are any; `None` for the point itself alone.
 pub fn simple_image(c: Point, simple: &[Point]) -> Option<&[Point]>
     ensures { image_shown result ≡ image c (only_or c simple.now ∷ []) }
 {
@@ -47,7 +47,7 @@ pub fn simple_image(c: Point, simple: &[Point]) -> Option<&[Point]>
     }
 }
 
-/// The full image where there is one, and else the simple image; `None` for the point itself alone.
+/// The full image if there is one, or else the simple image; `None` for the point itself alone.
 pub fn full_image<'a>(
     c: Point,
     full: Option<&'a [Point]>,

@@ -8,7 +8,7 @@ ghost use Rattle.code_facts.specs.JoinedSpans.{is_in};
 use std::alloc::Global;
 use ucd_model::{Memory, Span, Spans};
 
-/// Spans of the same code points, which ascend, and between two of which is a code point of none.
+/// Spans of the same code points, which ascend. Between any two of them is a code point that lies in none.
 ///
 /// - `Memory`: memory ran out.
 pub fn joined(alloc: Global, spans: &[Span]) -> Result<Spans, Memory>

@@ -12,7 +12,7 @@ pub fn facts_stay()
     ensures { FactsStay }
 {}
 
-/// The facts are the same where the files that give some have the same rows.
+/// The facts are the same if the files that give some have the same rows.
 pub fn others_give_none()
     ensures { OthersGiveNone }
 {}

@@ -34,8 +34,9 @@ impl PointLists {
         &self.pool[place.start..place.end]
     }
 
-    /// The list of a code point now, and the end of a stretch from there on in which all code points have it. Equal lists
-    /// that were given apart may stand in two stretches. It is looked for behind the index `near` and there first.
+    /// The list of a code point now, and the end of a stretch from there on in which all code points have it. Equal
+    /// lists that were given apart may stand in two stretches. The index behind `near` and `near` itself are tried
+    /// first.
     pub fn run(&self, c: Point, near: usize) -> ListRun<'_>
         ensures points { result.points.now ≡ lists_now self.now c }
         ensures same { HoldsTo (λ k. lists_now self.now k ≡ lists_now self.now c) c result.last }
@@ -60,7 +61,7 @@ impl PointLists {
 
     /// Gives the points of a span a list next. What is now stays.
     ///
-    /// - `Memory`: memory ran out. Nothing is told of the lists then.
+    /// - `Memory`: memory ran out. Nothing is then known of the lists.
     pub fn prepare(&mut self, span: Span, points: &[Point]) -> Result<(), Memory>
         ensures current { OnOk result (SameValues (lists_now self.new) (lists_now self.old)) }
         ensures ok { OnOk result (SameValues (lists_next self.new) (with_span (lists_next self.old) span.lo span.hi points.now)) }

@@ -6,7 +6,7 @@ ghost use Rattle.code_facts.specs.Rest.{bare_rest, rest_of_all};
 use crate::cases::Cases;
 use ucd_model::{Point, Points};
 
-/// The mappings of a code point, each where there is one.
+/// The mappings of a code point, each if there is one.
 #[derive(Drop)]
 pub struct Mappings {
     /// The decomposition mapping.

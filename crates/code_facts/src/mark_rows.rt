@@ -75,7 +75,7 @@ fn excluded_span(row: &RowText<'_>) -> Option<Span>
     }
 }
 
-/// Puts the span, where there is one, at the end.
+/// Puts the span, if there is one, at the end.
 pub fn push_some(spans: &mut Vec<Span>, span: Option<Span>) -> Result<(), Memory>
     ensures { OnOk result ((c : ℕ) → list_any (within c) spans.new.items ≡ (list_any (within c) spans.old.items || covers c span)) }
 {

@@ -33,7 +33,7 @@ pub fn marks(alloc: Global, rows: &RowLists<'_>) -> Result<RunTable<u64>, Memory
     Ok(table)
 }
 
-/// The sum with one more mark. It takes no time where no row puts the mark.
+/// The sum with one more mark. It takes no time if no row puts the mark.
 fn with_mark(
     alloc: Global,
     table: RunTable<u64>,

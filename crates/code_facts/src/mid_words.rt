@@ -80,8 +80,8 @@ fn layered_mid_words(alloc: Global, rows: &[RowText<'_>]) -> Result<Vec<Span>, M
     spans_of_ones(alloc, &layers)
 }
 
-/// Layers of which the last one that covers a code point has the word 1 if it stands in the middle of a word, else 0: the
-/// missing rows in their order, and over them the other rows, the first of them last.
+/// Layers: the last one that covers a code point has the word 1 if it stands in the middle of a word, else 0. They are
+/// the missing rows in their order, and over them the other rows, the first of them last.
 fn all_layers(alloc: Global, rows: &[RowText<'_>]) -> Result<Vec<Layer>, Memory>
     ensures { IfOk result (λ layers. (c : ℕ) → word_at layers.items 0 c ≡ one_if (mid_word_at rows.now c)) }
 {
@@ -135,7 +135,7 @@ fn layer(span: Span, value: &[u8]) -> Layer
     Layer { word, span }
 }
 
-/// Puts a layer, where there is one, over the others.
+/// Puts a layer, if there is one, over the others.
 fn push_layer(layers: &mut Vec<Layer>, layer: Option<Layer>) -> Result<(), Memory>
     ensures { OnOk result ((c : ℕ) → word_at layers.new.items 0 c ≡ layer_over c layer (word_at layers.old.items 0 c)) }
 {

@@ -10,8 +10,8 @@ use key_set::KeySet;
 use std::alloc::Global;
 use ucd_model::{Memory, Point};
 
-/// Code points under the two members of their mappings, and under the second ones. Whether one of them is a primary
-/// composite is not told: that may change without the index.
+/// Code points under the two members of their mappings, and under the second ones. The index does not tell whether one
+/// of them is a primary composite: that may change while the index stays.
 #[derive(Drop)]
 pub struct PairIndex {
     /// The keys of the pairs.
@@ -43,7 +43,7 @@ impl PairIndex {
         insert_all(&mut self.seconds, &keys.seconds)
     }
 
-    /// The least code point at or above `from` that is listed under a pair; `None` where there is none.
+    /// The least code point at or above `from` that is listed under a pair; `None` if there is none.
     pub fn next_of_pair(&self, s: Point, y: Point, from: u32) -> Option<Point>
         ensures { MatchOption result (NoneFrom (λ k. has self.now.pairs (pair_key s y + k)) from 1114112)
             (λ q. (from ≤ q) × NoneFrom (λ k. has self.now.pairs (pair_key s y + k)) from q) }
@@ -51,7 +51,7 @@ impl PairIndex {
         next_listed(&self.pairs, pair_key(s, y), from)
     }
 
-    /// The same of a second member.
+    /// The same for a second member.
     pub fn next_of_second(&self, y: Point, from: u32) -> Option<Point>
         ensures { MatchOption result (NoneFrom (λ k. has self.now.seconds (second_key y + k)) from 1114112)
             (λ q. (from ≤ q) × NoneFrom (λ k. has self.now.seconds (second_key y + k)) from q) }
@@ -59,7 +59,7 @@ impl PairIndex {
         next_listed(&self.seconds, second_key(y), from)
     }
 
-    /// The least key at or above `from` of a pair that has `s` as its first member; `None` where there is none.
+    /// The least key at or above `from` of a pair that has `s` as its first member; `None` if there is none.
     pub fn next_of_first(&self, s: Point, from: u64) -> Option<u64>
         ensures { MatchOption result (NoneFrom (λ k. has self.now.pairs k) from (first_key s + 4398046511104))
             (λ key. (from ≤ key) × (key < first_key s + 4398046511104) × NoneFrom (λ k. has self.now.pairs k) from key) }
@@ -93,7 +93,7 @@ fn insert(keys: &mut KeySet, key: u64) -> Result<(), Memory>
     Ok(())
 }
 
-/// Where the keys of all pairs begin that have a code point as their first member.
+/// Where the keys of all pairs with this first member begin.
 pub fn first_key(s: Point) -> u64
     ensures value { result ≡ first_key s }
     ensures below { result < 9223372036850000000 }
@@ -101,7 +101,7 @@ pub fn first_key(s: Point) -> u64
     u64::from(s.number()) * 4_398_046_511_104
 }
 
-/// The code point that is listed under a key; `None` where its bits are those of no code point.
+/// The code point that is listed under a key; `None` if its bits are those of no code point.
 pub fn listed_point(key: u64) -> Option<Point>
     ensures { MatchOption result (1114112 ≤ key % 2097152) (λ q. q ≡ key % 2097152) }
 {
@@ -132,7 +132,7 @@ fn next_key(keys: &KeySet, start: u64) -> Option<u64>
     keys.next(start)
 }
 
-/// The least second member at or above a code point; `None` where there is none.
+/// The least second member at or above a code point; `None` if there is none.
 pub fn next_second(keys: &KeySet, c: Point) -> Option<u64>
     ensures { MatchOption result ((y k : ℕ) → c ≤ y → k < 1114112 → has keys.now (second_key y + k) ≡ false)
         (λ next. (c ≤ next) × ((y k : ℕ) → c ≤ y → y < next → k < 1114112 → has keys.now (second_key y + k) ≡ false)) }

@@ -13,7 +13,7 @@ use range_table::Stretches;
 use ucd_model::{FactView, FactsRef, Point};
 
 impl<T: Stretches<u64>> FactTables<T> {
-    /// A code point up to which none from `c` on has a mapping of any kind; `None` exactly where `c` has one. UAX #44,
+    /// A code point up to which none from `c` on has a mapping of any kind; `None` exactly if `c` has one. UAX #44,
     /// sections 5.6 and 5.7. It reaches as far as nothing is kept of mappings.
     pub(crate) fn last_plain(&self, c: Point) -> Option<Point>
         ensures plain { IsSome result ↔ IsPlain c (tables_facts T.now self.now c) }
@@ -28,7 +28,7 @@ impl<T: Stretches<u64>> FactTables<T> {
         self.plain(c)
     }
 
-    /// The code point, where it has no mapping.
+    /// The code point, if it has no mapping.
     fn plain(&self, c: Point) -> Option<Point>
         ensures plain { IsSome result ↔ IsPlain c (tables_facts T.now self.now c) }
         ensures stretch { IfSome result (HoldsTo (λ d. IsPlain d (tables_facts T.now self.now d)) c) }

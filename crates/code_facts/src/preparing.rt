@@ -33,10 +33,10 @@ use ucd_model::{FactView, Memory, Point, Span, Spans};
 impl<T: Table<u64>> FactTables<T> {
     /// The facts of the rows of a release now; next they are the same. UAX #44, sections 5.3, 5.6 and 5.7.
     ///
-    /// It takes time by the number of rows, and by its logarithm: no work is done for each code point of a span, but
-    /// for Hangul syllables, each of which has a mapping of its own, and for canonical mappings of two members. If a
-    /// missing row gives a Word_Break value in the middle of a word, each row of WordBreakProperty.txt takes time by the
-    /// blocks of 256 code points of its span too.
+    /// It takes time in proportion to the number of rows, and to its logarithm: no work is done for each code point of
+    /// a span, except for Hangul syllables, each of which has a mapping of its own, and for canonical mappings of two
+    /// members. If a missing row gives a Word_Break value in the middle of a word, each row of WordBreakProperty.txt
+    /// also takes time in proportion to the blocks of 256 code points of its span.
     /// Room that no value takes up is given back at the end.
     ///
     /// - `Memory`: memory ran out.
@@ -66,10 +66,10 @@ impl<T: Table<u64>> FactTables<T> {
         })
     }
 
-    /// Makes what is next the facts of the rows of a release next. Outside of the touched spans those are the facts now.
-    /// Where none is touched, nothing is done. Else the rows that speak of a touched code point are read; of every other
-    /// row only the bounds are compared. Spans that overlap or touch are put together first, so each code point is gone
-    /// through once.
+    /// Makes what is next the facts of the rows of a release next. Outside of the touched spans those are the facts
+    /// now. If none is touched, nothing is done. Otherwise the rows that speak of a touched code point are read; only
+    /// the bounds of every other row are compared. Spans that overlap or touch are joined first, so that each code
+    /// point is gone through once.
     ///
     /// - `Memory`: memory ran out. What is next stays.
     pub fn prepare(&mut self, alloc: Global, after: &Release, touched: &Spans) -> Result<(), Memory>
@@ -89,7 +89,7 @@ impl<T: Table<u64>> FactTables<T> {
         self.put(alloc, &made, spans.as_slice())
     }
 
-    /// Makes the facts next of the points of spans those of tables of rows.
+    /// Makes the facts next of the points of spans the same as in tables of rows.
     fn put(&mut self, alloc: Global, made: &RowTables, spans: &[Span]) -> Result<(), Memory>
         requires ready { tables_next T.now self.old ≡ tables_facts T.now self.old }
         requires words { Packs (word_in made.now) (made_facts made.now) }
@@ -136,8 +136,8 @@ impl<T: Table<u64>> FactTables<T> {
         self.touched.truncate(0);
     }
 
-    /// The table of the packed words: a word is the sum of 1 where a row of UnicodeData.txt covers the code point, 2
-    /// where CompositionExclusions.txt does, 4 where its Word_Break is MidLetter, MidNumLet or Single_Quote, 8 times the
+    /// The table of the packed words: a word is the sum of 1 if a row of UnicodeData.txt covers the code point, 2
+    /// if CompositionExclusions.txt does, 4 if its Word_Break is MidLetter, MidNumLet or Single_Quote, 8 times the
     /// place of its category, 256 times its class, 65,536 times the place of its kind, and 2 to the power of 24 and the
     /// place of each of its flags.
     pub fn packed(&self) -> &T
@@ -170,8 +170,8 @@ fn touching_tables(alloc: Global, release: &Release, spans: &[Span]) -> Result<R
     Ok(made)
 }
 
-/// Makes what is now and next that of tables of rows throughout, and lists their code points. Room that no value takes up
-/// is given back.
+/// Makes what is now and next the same as in tables of rows throughout, and lists their code points. Room that no value
+/// takes up is given back.
 ///
 /// - `Memory`: memory ran out.
 fn fill<T: Table<u64>, S: Store<Rest>>(

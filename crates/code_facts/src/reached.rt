@@ -2,7 +2,7 @@
 
 use ucd_model::{Point, Query};
 
-/// What was found so far of an edit: questions that are answered otherwise, and pairs that may be.
+/// What was found so far of an edit: questions that are answered differently, and pairs that may be.
 #[derive(Drop)]
 pub struct Reached {
     /// Questions that now and next do not answer alike.

@@ -1,4 +1,5 @@
-//! What an edit reaches: the questions about facts that it answers otherwise, and the pairs whose composite may differ.
+//! What an edit reaches: the questions about facts that it answers differently, and the pairs whose composite may
+//! differ.
 
 ghost use Rattle.std.specs.Prelude.{◌≡◌, ℕ, ◌%◌, ◌≤◌, true, ◌++◌, [], ◌∷◌, IfOk, IfSome, OnOk, if◌then◌else◌};
 ghost use Rattle.std.specs.Bool.{Decides};
@@ -77,7 +78,7 @@ impl<T: Stretches<u64>> FactTables<T> {
         Some(last)
     }
 
-    /// The same of the words.
+    /// The same for the words.
     fn last_same_word(&self, c: Point) -> Option<Point>
         ensures { IfSome result (HoldsTo (λ d. words_at Version.Now self.now d ≡ words_at Version.Next self.now d) c) }
     {
@@ -91,7 +92,7 @@ impl<T: Stretches<u64>> FactTables<T> {
         Some(lesser(now, next))
     }
 
-    /// The same of what is kept beside the words.
+    /// The same for what is kept beside the words.
     fn last_same_rest(&self, c: Point) -> Option<Point>
         ensures { IfSome result (HoldsTo (λ d. rests_at Version.Now self.now d ≡ rests_at Version.Next self.now d) c) }
     {
@@ -162,7 +163,7 @@ impl<T: Table<u64>> FactTables<T> {
         Ok(())
     }
 
-    /// Adds the pairs that a code point begins, if it has class 0 either now or next, and not both times.
+    /// Adds the pairs that a code point begins, if it has class 0 either now or next, but not both times.
     fn put_first(&self, pairs: &mut Vec<(Point, Point)>, s: Point) -> Result<(), Memory>
         ensures grows { OnOk result (Grows pairs.old.items pairs.new.items) }
         ensures first { OnOk result (first_differs (tables_facts T.now self.now) (tables_next T.now self.now) s ≡ true

@@ -10,7 +10,7 @@ use std::alloc::Global;
 use std::marker::Model;
 use ucd_model::{Memory, Point, Points};
 
-/// The mappings of a code point. Of most that have any it is a decomposition mapping of one or two members alone, which
+/// The mappings of a code point. Most that have any have only a decomposition mapping of one or two members, which
 /// takes no memory of its own.
 #[derive(Drop)]
 pub struct Rest {
@@ -177,7 +177,7 @@ impl Rest {
         }
     }
 
-    /// The images of CaseFolding.txt and SpecialCasing.txt, where there are any.
+    /// The images of CaseFolding.txt and SpecialCasing.txt, if there are any.
     fn cases(&self) -> Option<&Cases>
         ensures { cases_of (option_copied result) ≡ self.now.cases }
     {

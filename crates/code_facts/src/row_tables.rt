@@ -76,8 +76,8 @@ impl RowTables {
         })
     }
 
-    /// What is kept of a code point beside its word, where this is its decomposition mapping; `None` only where that is
-    /// nothing. Below `bare` code points have no more than a decomposition mapping, and nothing is looked up.
+    /// What is kept of a code point beside its word. `mapping` is its decomposition mapping. `None` only if nothing is
+    /// kept. Below `bare` code points have no more than a decomposition mapping, and nothing is looked up.
     ///
     /// - `Memory`: memory ran out.
     pub fn rest(
@@ -104,7 +104,7 @@ impl RowTables {
         Ok(Some(Rest::of(alloc, mappings)?))
     }
 
-    /// A code point up to which the same is kept beside the words from `c` on, where decomposition mappings are the same up
+    /// A code point up to which the same is kept beside the words from `c` on. Decomposition mappings are the same up
     /// to `mapping`. Below `bare` code points have no more than that, and nothing is looked up.
     pub fn last_rest(&self, c: Point, bare: u32, mapping: Point) -> Point
         requires bare { AreBare self.now c bare }
@@ -164,7 +164,7 @@ impl RowTables {
     }
 }
 
-/// What is kept of a code point that has no more than this decomposition mapping; `None` where it is empty.
+/// What is kept of a code point that has no more than this decomposition mapping; `None` if it is empty.
 ///
 /// - `Memory`: memory ran out.
 fn bare_rest(alloc: Global, mapping: &[Point]) -> Result<Option<Rest>, Memory>
@@ -176,7 +176,7 @@ fn bare_rest(alloc: Global, mapping: &[Point]) -> Result<Option<Rest>, Memory>
     Ok(Some(Rest::bare(alloc, mapping)?))
 }
 
-/// The first of the points, where there is one.
+/// The first of the points, if there is one.
 fn first_of(points: &[Point]) -> Option<Point>
     ensures { option_to_list result ≡ first_alone points.now }
 {

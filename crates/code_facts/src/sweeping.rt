@@ -7,8 +7,8 @@ use crate::fact_tables::FactTables;
 use range_table::Stretches;
 
 impl<T: Stretches<u64>> FactTables<T> {
-    /// Lets go of mappings that no code point has any more, now or next, once many were prepared since that was done last, as
-    /// far as there is memory to look for them. What is now and next stays.
+    /// If many mappings were prepared since this was done last, lets go of those that no code point has any more, now
+    /// or next, as far as there is memory to look for them. What is now and next stays.
     pub fn sweep(&mut self)
         ensures now { tables_facts T.now self.new ≡ tables_facts T.now self.old }
         ensures next { tables_next T.now self.new ≡ tables_next T.now self.old }

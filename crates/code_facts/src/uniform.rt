@@ -14,11 +14,11 @@ use ucd_model::{FactView, Point};
 
 impl<T: Stretches<u64>> FactTables<T> {
     /// A code point up to which all from `c` on are without a mapping of any kind and have the same other facts now, and
-    /// are second members of primary composites' mappings alike; `None` exactly where `c` has a mapping. UAX #44,
+    /// are second members of primary composites' mappings alike; `None` exactly if `c` has a mapping. UAX #44,
     /// sections 5.6 and 5.7; The Unicode Standard, section 3.11, D114.
     ///
-    /// It is found by a few look-ups, and need not be the last such code point: it ends also where a row maps a code
-    /// point to itself, and a second member is alone.
+    /// It is found by a few look-ups, and need not be the last such code point: the stretch also ends where a row maps
+    /// a code point to itself, and a second member is alone.
     pub fn last_uniform(&self, c: Point) -> Option<Point>
         ensures plain { IsSome result
             ↔ IsPlain c (⟦<FactTables<T> as FactView>⟧.facts_of self.now c) }
@@ -41,8 +41,8 @@ impl<T: Stretches<u64>> FactTables<T> {
         last
     }
 
-    /// A code point up to which all from `c` on are second members alike: `c` itself where one is listed under it, and
-    /// else the last before the next one.
+    /// A code point up to which all from `c` on are second members alike: `c` itself if one is listed under it, or else
+    /// the last before the next one.
     fn last_seconds(&self, c: Point) -> Point
         ensures { HoldsTo (λ d. second_of (tables_facts T.now self.now) d ≡ second_of (tables_facts T.now self.now) c) c result }
     {

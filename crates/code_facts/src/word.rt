@@ -20,7 +20,7 @@ use ucd_model::{Category, Flags, Kind};
 /// The word of a code point without a row in any file: category `Cn`, and nothing else.
 pub const NO_ROW: u64 = 8 * 29;
 
-/// The part of the word that a row of UnicodeData.txt with these values gives, where the mapping is of this kind.
+/// The part of the word that a row of UnicodeData.txt gives with these values and a mapping of this kind.
 pub fn data_word(values: &Values<'_>, kind: Kind) -> u64
     ensures value { result ≡ data_part true values.now.category values.now.class kind }
     ensures class { values.now.class < 256 }

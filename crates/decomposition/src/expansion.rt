@@ -14,7 +14,7 @@ pub const LEVELS: u8 = 8;
 /// The most code points that an expansion may have (the compatibility expansion of FDFA has 18).
 const MOST: usize = 64;
 
-/// The full decomposition of a code point before it is put in order: canonical, or compatibility where `compat` holds.
+/// The full decomposition of a code point before it is put in order: canonical, or compatibility if `compat` holds.
 /// UAX #15, section 1.3; The Unicode Standard, section 3.7, Decomposition.
 ///
 /// It takes few steps, unless there are more than 64 code points: then each mapping below the code point is looked at once
@@ -71,7 +71,7 @@ fn put_expansion<W: FactView>(
     Ok(())
 }
 
-/// The mapping of a code point where it counts: a canonical one always, a compatibility one where `compat` holds; else
+/// The mapping of a code point if it counts: a canonical one always, a compatibility one if `compat` holds; else
 /// no code points. UAX #15, section 1.3.
 pub fn counted<W: FactView>(view: &W, compat: bool, c: Point) -> &[Point]
     ensures { result.now ≡ counted (W.facts_of view.now) compat c }

@@ -16,10 +16,10 @@ use crate::number_set::next_point;
 use key_set::KeySet;
 use ucd_model::{Memory, Point, Queries, Query};
 
-/// Stands where a pair has its first code point, in the keys of rows.
+/// Stands in the keys of rows, in the place of a pair's first code point.
 const ROW: u64 = 0x11_0000;
 
-/// The same of second members.
+/// The same for second members.
 const SECOND: u64 = 0x11_0001;
 
 /// Lists a code point under each of the questions that are not its own ones.
@@ -104,7 +104,7 @@ fn query_key(query: &Query) -> u64
     (first * 2_097_152 + u64::from(last.number())) * 2_097_152
 }
 
-/// The plain code point whose own question this is, where it is at or above `from`.
+/// The plain code point whose own question this is, if it is at or above `from`.
 fn own_point(query: &Query, from: u32) -> Option<Point>
     ensures { MatchOption result (NoneFrom (is_own query.now) from 1114112) (λ c. (from ≤ c) × NoneFrom (is_own query.now) from c) }
 {

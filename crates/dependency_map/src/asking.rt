@@ -87,7 +87,7 @@ impl<S: Store<Option<Queries>>> DependencyMap<S> {
         }
     }
 
-    /// The questions that are kept for a code point now; `None` where it is plain.
+    /// The questions that are kept for a code point now; `None` if it is plain.
     fn list_of(&self, c: Point) -> Option<&Queries>
         ensures { option_copied result ≡ kept_at S.now self.now.lists c }
     {

@@ -19,7 +19,8 @@ pub struct DependencyMap<S: Store<Option<Queries>>> {
     pub(crate) alloc: Global,
     // the questions of the code points that are not plain, once there were any
     pub(crate) lists: Option<S>,
-    // the code points under the questions that they ask now or next, but for their own ones; they may be under others too
+    // the code points under the questions that they ask now or next, except their own ones; they may be under others
+    // too
     pub(crate) askers: KeySet,
     // how many questions were prepared since the code points were listed under all
     pub(crate) prepared: usize,
@@ -36,7 +37,7 @@ pub struct Listing<S: Store<Option<Queries>>> {
     pub(crate) alloc: Global,
     // the questions of the code points that are not plain, once there were any
     pub(crate) lists: Option<S>,
-    // the keys of the code points under the questions that they ask, but for their own ones; there may be others too
+    // the keys of the code points under the questions that they ask, except their own ones; there may be others too
     pub(crate) keys: Vec<u64>,
     ghost listed: { Lists (is_in keys.items) (kept_at S.next lists) },
 }

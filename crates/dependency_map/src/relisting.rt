@@ -12,7 +12,7 @@ use range_table::Stretches;
 use std::alloc::Global;
 use ucd_model::{Memory, Point, Queries};
 
-/// How many questions are prepared at least before the code points are listed anew.
+/// The least number of questions that are prepared before the code points are listed anew.
 pub const FEW: usize = 4096;
 
 /// How many prepared questions are few beside these keys.
@@ -20,8 +20,8 @@ pub fn few_beside(keys: &[u64]) -> usize {
     keys.len().saturating_add(FEW)
 }
 
-/// The keys of all code points under the questions that are kept for them, now or next, but for their own ones. Some may be
-/// there twice. It takes steps by the stretches of the table and by the questions.
+/// The keys of all code points under the questions that are kept for them, now or next, except their own ones. Some may
+/// be there twice. It takes steps in proportion to the stretches of the table and to the questions.
 ///
 /// - `Memory`: memory ran out.
 pub fn keys_of<T: Stretches<u64>>(
@@ -56,8 +56,8 @@ fn push_all<T: Stretches<u64>>(
     Ok(())
 }
 
-/// Puts the keys of a code point behind others, and answers one past it; if nothing is kept for it, one past the last code point
-/// of a run of such ones.
+/// Puts the keys of a code point behind others, and answers one past it; if nothing is kept for it, one past the last
+/// of a run of such code points.
 ///
 /// - `Memory`: memory ran out. The keys that were there stay.
 fn push_run<T: Stretches<u64>>(
@@ -79,7 +79,8 @@ fn push_run<T: Stretches<u64>>(
     }
 }
 
-/// One past the last code point of a run from a code point on, for which nothing is kept, if nothing is kept for it.
+/// One past the last code point of a run from this one on for which nothing is kept; `None` if something is kept for
+/// this one.
 fn plain_end<T: Stretches<u64>>(lists: &Kept<T, Option<Queries>>, c: Point) -> Option<u32>
     ensures from { IfSome result (λ end. c < end) }
     ensures now { IfSome result (λ end. (k : ℕ) → c ≤ k → k < end → values T.now lists.now k ≡ None) }

@@ -12,8 +12,8 @@ use range_table::Stretches;
 use ucd_model::Queries;
 
 impl<T: Stretches<u64>> DependencyMap<Kept<T, Option<Queries>>> {
-    /// Lets go of questions that no code point asks any more, now or next, once many were prepared since that was done last,
-    /// as far as there is memory to look for them. What is now and next stays.
+    /// If many questions were prepared since this was done last, lets go of those that no code point asks any more, now
+    /// or next, as far as there is memory to look for them. What is now and next stays.
     pub fn sweep(&mut self)
         ensures now { SameValues (asked_at (values T.now) self.new) (asked_at (values T.now) self.old) }
         ensures next { SameValues (asked_at (values T.next) self.new) (asked_at (values T.next) self.old) }

@@ -194,7 +194,7 @@ fn letters_are_mapped(rt: HostRuntime) -> Result<(), Fail> {
     Ok(())
 }
 
-/// Whether of each list just the wanted changes.
+/// Whether just the wanted changes of each list.
 fn are_changed(alloc: Global, list: &FactList, cases: &[ChangeCase]) -> Result<bool, Fail> {
     for (s, wanted) in cases {
         if changes(alloc, list, s)? != *wanted {
@@ -268,7 +268,7 @@ fn which_points_are_cased_and_ignored_around_them(rt: HostRuntime) -> Result<(),
     Ok(())
 }
 
-/// Of the facts of a code point: whether they are those of a Lowercase, an Uppercase, a Cased and a Case_Ignorable one.
+/// Whether the facts of a code point are those of a Lowercase, an Uppercase, a Cased and a Case_Ignorable one.
 fn shown_case<W: FactView>(view: &W, c: Point) -> [bool; 4] {
     let facts = view.facts(c);
     [

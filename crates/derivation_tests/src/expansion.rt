@@ -127,20 +127,20 @@ fn a_cycle_has_no_expansion(rt: HostRuntime) -> Result<(), Fail> {
 
 const TWO: [Row<'static>; 1] = [(0x1000, 0, COMPAT, &[0x0061, 0x0062])];
 
-/// Puts 2000, which maps to as many times 1000.
+/// Puts 2000, which maps to 1000 this many times.
 fn put_times(alloc: Global, list: &mut FactList, times: u32) -> Result<(), Fail> {
     let mapping = repeated(alloc, 0x1000, times)?;
     put(alloc, list, (0x2000, 0, COMPAT, mapping.as_slice()))
 }
 
-/// A list in which 2000 maps to as many times 1000, which maps to two code points.
+/// A list in which 2000 maps to 1000 this many times, and 1000 maps to two code points.
 fn doubled(alloc: Global, times: u32) -> Result<FactList, Fail> {
     let mut list = listed(alloc, &TWO)?;
     put_times(alloc, &mut list, times)?;
     Ok(list)
 }
 
-/// How many code points the expansion of 2000 has, if that maps to as many times 1000.
+/// How many code points the expansion of 2000 has, if it maps to 1000 this many times.
 fn expanded_length(alloc: Global, times: u32) -> Result<usize, Fail> {
     let list = doubled(alloc, times)?;
     Ok(expand(alloc, &list, true, point(0x2000)?)?.len())

@@ -10,7 +10,7 @@ use ucd_model::{
 /// A code point, its class, the kind of its mapping, and the mapping.
 pub type Row<'a> = (u32, u8, Kind, &'a [u32]);
 
-/// A code point, its category, class, kind and mapping, and its folding: no code points where that is the code point
+/// A code point, its category, class, kind and mapping, and its folding: no code points if that is the code point
 /// itself.
 pub type FoldedRow<'a> = (u32, Category, u8, Kind, &'a [u32], &'a [u32]);
 
@@ -40,7 +40,7 @@ pub fn points(alloc: Global, numbers: &[u32]) -> Result<Points, Fail> {
     Ok(points)
 }
 
-/// A list of one number as many times.
+/// A list of one number this many times.
 pub fn repeated(alloc: Global, number: u32, times: u32) -> Result<ListOf<u32>, Fail> {
     let mut numbers = ListOf::new(alloc);
     for _ in 0..times {

@@ -1,4 +1,5 @@
-//! Tests of what is derived of facts, and of its text. They stand above the crates that they test, so that each is proved once.
+//! Tests of what is derived from facts, and of its text. They stand above the crates that they test, so that each is
+//! proved once.
 #![tactic(auto)]
 
 #[cfg(test)]

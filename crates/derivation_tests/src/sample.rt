@@ -11,7 +11,7 @@ use ucd_model::{
     Category, Core, CoreSet, Image, Kind, ListOf, Point, Quick, Record, Records, Span,
 };
 
-/// Records of a few spans; of two that cover a code point the first one counts, and all others have the default.
+/// Records of a few spans. If two cover a code point, the first one counts; all other code points have the default.
 #[derive(Drop)]
 pub struct Sample {
     entries: ListOf<(Span, Record)>,

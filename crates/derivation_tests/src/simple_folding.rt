@@ -1,4 +1,4 @@
-//! Worked foldings of letters whose simple folding is another than the full one.
+//! Worked foldings of letters whose simple folding differs from the full one.
 
 use crate::asking::asks;
 use crate::facts::{COMPAT, FoldedRow, PLAIN, facts_of, point, points, rule_of};
@@ -51,7 +51,7 @@ fn each_folding_has_its_own_list(rt: HostRuntime) -> Result<(), Fail> {
     Ok(())
 }
 
-/// Two letters that CaseFolding.txt does not fold, but for the simple folding.
+/// Two letters that CaseFolding.txt folds by the simple folding alone.
 const SWAPPED: [(FoldedRow<'static>, u32); 2] = [
     ((0x0061, Category::Lo, 0, PLAIN, &[], &[]), 0x0062),
     ((0x0062, Category::Lo, 0, PLAIN, &[], &[]), 0x0061),
@@ -64,7 +64,7 @@ fn only_simple_is_endless(alloc: Global, list: &FactList, c: u32) -> Result<bool
     Ok(full.is_same(&Image::Same) && simple == Some(Bad::V5))
 }
 
-/// Whether so it is of both letters.
+/// Whether it is so for both letters.
 fn are_endless(alloc: Global, list: &FactList) -> Result<bool, Fail> {
     Ok(only_simple_is_endless(alloc, list, 0x0061)? && only_simple_is_endless(alloc, list, 0x0062)?)
 }

@@ -4,11 +4,14 @@
 -- listing_section l   the section that l stands for
 -- listings_of file    what the sections of a file stand for, in order
 -- listing_labels l R  the label of each code point in that section, over the records R
+-- shown_label l kept  the label of the record that is kept
 use Rattle.std.specs.Prelude.{ℕ, List, [], ◌∷◌, map, codes}
+use Rattle.std.specs.Borrow.{Bor}
 use Rattle.ucd_model.specs.Labels.{Label}
 use Rattle.ucd_model.specs.DerivedFiles.{Section, core_listing, category_listing, class_listing, type_listing, exclusion_listing, quick_listing, casefold_listing, simple_casefold_listing, changes_listing}
 use Rattle.ucd_model.specs.Predicates.{core_properties}
-use Rattle.ucd_model.specs.Records.{Record}
+use Rattle.ucd_model.specs.Records.{Record, kept_record}
+use Rattle.ucd_model.specs.declared.records.Record.{Record as Kept}
 use Rattle.ucd_model.specs.declared.files.DerivedFile.{DerivedFile}
 use Rattle.ucd_model.specs.declared.files.DerivedFile.TheVariants.{CoreProperties, NormalizationProps, GeneralCategory, CombiningClass, DecompositionType}
 use Rattle.ucd_model.specs.declared.form.Form.{Form}

@@ -23,8 +23,8 @@ pub fn file_text<B: Records>(alloc: Global, bench: &B, file: DerivedFile) -> Res
     text_over(alloc, bench, pieces.as_slice(), file)
 }
 
-/// The text of a derived file, over the pieces of equal records that [`equal_pieces`] gives: whoever writes several
-/// files has the records compared with one another once. UAX #44, section 5.3.
+/// The text of a derived file, over the pieces of equal records that [`equal_pieces`] gives: if several files are
+/// written, the records are compared with one another once. UAX #44, section 5.3.
 ///
 /// - `Memory`: memory ran out.
 #[tactic(auto, unfolding(ucd_model::specs::DerivedFiles::derived_text))]

@@ -4,7 +4,8 @@ ghost use Rattle.std.specs.Prelude.{◌≡◌, ◌≤◌, ◌<◌, ℕ, IsTrue, 
 ghost use Rattle.std.specs.Borrow.{Bor};
 ghost use Rattle.ucd_model.specs.DerivedFiles.{file_sections};
 ghost use Rattle.ucd_model.specs.Records.{kept_record};
-ghost use Rattle.derived_writer.specs.Listings.{listing_section, listings_of, check_value};
+ghost use Rattle.ucd_model.specs.declared.records.Record.{Record as Kept};
+ghost use Rattle.derived_writer.specs.Listings.{listing_section, listings_of, check_value, shown_label};
 
 use crate::names::check_name;
 use crate::values::{set_binary, set_casefold, set_category, set_class, set_kind, set_quick};
@@ -104,7 +105,7 @@ impl Listing {
 
     /// Makes `label` the label of a record in this section.
     ///
-    /// - `Memory`: memory ran out. Nothing is told of the label then.
+    /// - `Memory`: memory ran out. Nothing is then known of the label.
     pub fn set_label(
         self,
         alloc: Global,

@@ -16,7 +16,7 @@ use ucd_model::{Memory, Record, Records, Span, Text};
 /// number of code points listed, and an empty line. The records are those of the pieces of the bench. A label is made once for
 /// pieces of equal value that follow one another.
 ///
-/// - `Memory`: memory ran out. A part of the section may stand at the end of the text then.
+/// - `Memory`: memory ran out. A part of the section may then stand at the end of the text.
 pub fn put_section<B: Records>(
     alloc: Global,
     bench: &B,

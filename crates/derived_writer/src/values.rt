@@ -7,9 +7,9 @@ use label_runs::LabelText;
 use std::alloc::Global;
 use ucd_model::{Category, Image, Kind, Memory, Quick};
 
-/// A property of two values is listed by its name where it holds. UAX #44, section 5.3.
+/// A property of two values is listed by its name if it holds. UAX #44, section 5.3.
 ///
-/// - `Memory`: memory ran out. Nothing is told of the label then.
+/// - `Memory`: memory ran out. Nothing is then known of the label.
 pub fn set_binary(name: &[u8], holds: bool, label: &mut LabelText) -> Result<(), Memory>
     ensures { OnOk result (label.new ≡ binary_label name.now holds) }
 {
@@ -23,7 +23,7 @@ pub fn set_binary(name: &[u8], holds: bool, label: &mut LabelText) -> Result<(),
 
 /// A general category is listed by its two letters, unless it is `Cn`. UAX #44, section 5.7.1.
 ///
-/// - `Memory`: memory ran out. Nothing is told of the label then.
+/// - `Memory`: memory ran out. Nothing is then known of the label.
 pub fn set_category(category: Category, label: &mut LabelText) -> Result<(), Memory>
     ensures { OnOk result (label.new ≡ category_label category) }
 {
@@ -37,7 +37,7 @@ pub fn set_category(category: Category, label: &mut LabelText) -> Result<(), Mem
 
 /// A combining class is listed in decimal, unless it is 0. UAX #44, section 5.7.4.
 ///
-/// - `Memory`: memory ran out. Nothing is told of the label then.
+/// - `Memory`: memory ran out. Nothing is then known of the label.
 pub fn set_class(alloc: Global, class: u8, label: &mut LabelText) -> Result<(), Memory>
     ensures { OnOk result (label.new ≡ class_label class) }
 {
@@ -52,7 +52,7 @@ pub fn set_class(alloc: Global, class: u8, label: &mut LabelText) -> Result<(), 
 /// A decomposition type is listed as `canonical` or by the name of its tag, unless there is no mapping.
 /// UAX #44, section 5.7.3.
 ///
-/// - `Memory`: memory ran out. Nothing is told of the label then.
+/// - `Memory`: memory ran out. Nothing is then known of the label.
 pub fn set_kind(kind: Kind, label: &mut LabelText) -> Result<(), Memory>
     ensures { OnOk result (label.new ≡ kind_label kind) }
 {
@@ -68,7 +68,7 @@ pub fn set_kind(kind: Kind, label: &mut LabelText) -> Result<(), Memory>
 
 /// A quick check is listed by its name with `N` for No and `M` for Maybe, unless it is Yes. UAX #15, section 9.
 ///
-/// - `Memory`: memory ran out. Nothing is told of the label then.
+/// - `Memory`: memory ran out. Nothing is then known of the label.
 pub fn set_quick(name: &[u8], quick: Quick, label: &mut LabelText) -> Result<(), Memory>
     ensures { OnOk result (label.new ≡ quick_label name.now quick) }
 {
@@ -85,7 +85,7 @@ pub fn set_quick(name: &[u8], quick: Quick, label: &mut LabelText) -> Result<(),
 /// A folding is listed by its name, ` ;` and its code points, which may be none, unless it is the point itself.
 /// UAX #44, section 5.3.
 ///
-/// - `Memory`: memory ran out. Nothing is told of the label then.
+/// - `Memory`: memory ran out. Nothing is then known of the label.
 #[tactic(auto, using(crate::proofs::PointLemmas::casefold_is))]
 pub fn set_casefold(name: &[u8], image: &Image, label: &mut LabelText) -> Result<(), Memory>
     ensures { OnOk result (label.new ≡ casefold_label name.now image.now) }

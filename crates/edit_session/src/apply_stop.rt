@@ -30,11 +30,11 @@ pub enum Refused {
 pub enum ApplyStop {
     /// The group breaks a rule.
     Refused(Refused),
-    /// Memory was wanted, and there was none.
+    /// Memory ran out.
     Memory,
 }
 
-/// Want of memory is `ApplyStop::Memory`.
+/// Running out of memory is `ApplyStop::Memory`.
 impl From<Memory> for ApplyStop {
     ghost use Rattle.edit_session.specs.declared.apply_stop.ApplyStop.TheVariants.{Memory};
 

@@ -80,9 +80,9 @@ impl Bench {
         }
     }
 
-    /// Carries the operations of a group out, in order, or none of them. The rows between two operations need not be
+    /// Carries out the operations of a group, in order, or none of them. The rows between two operations need not be
     /// valid; those after the last one are. The counter of steps rises by at most the number of code points that depend
-    /// on the change, and not if an operation is refused: no other code point is derived.
+    /// on the change, and does not rise if an operation is refused: no other code point is derived.
     ///
     /// - `Refused(Key { rule, op })`: the first operation that breaks a rule on keys or spans, counted from 1.
     /// - `Refused(Valid { rule, point })`: the rows after the last operation are not valid. The least code point that
@@ -145,8 +145,9 @@ impl Bench {
         revert(alloc, &mut self.release, &mut self.derivation, way, steps)
     }
 
-    /// The last code point of the stretch of equal records that `c` lies in. It takes time by the stretches that it
-    /// passes: each ends where a record is held at another place, or at the end of a block of 256 code points.
+    /// The last code point of the stretch of equal records that `c` lies in. It takes time in proportion to the
+    /// stretches that it passes: each ends where a record is held at another place, or at the end of a block of 256
+    /// code points.
     pub fn last_alike(&self, c: Point) -> Point
         ensures from { c ≤ result }
         ensures same { (d : ℕ) → c ≤ d → d ≤ result → bench_record self.now d ≡ bench_record self.now c }
@@ -173,7 +174,7 @@ impl Bench {
     }
 
     /// The pool of pages in which the packed words of its facts lie, and in it the page of the block of 256 code points
-    /// that `c` is in; `None` exactly where all words of the block are equal.
+    /// that `c` is in; `None` exactly if all words of the block are equal.
     pub fn packed_page(&self, c: Point) -> Option<(&PagePool, u32)>
         ensures { MatchOption result (IsEvenBlock (bench_word self.now) (c / 256))
             (λ found. IsPageOf found.0.now (bench_word self.now) (c / 256) found.1) }

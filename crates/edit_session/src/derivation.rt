@@ -1,4 +1,4 @@
-//! What is derived of the facts of a release, now and next.
+//! What is derived from the facts of a release, now and next.
 
 ghost use Rattle.std.specs.Prelude.{◌≡◌, ℕ, ◌+◌, ◌≤◌, true, false, Ok, IfOk, IfErr, OnOk};
 ghost use Rattle.std.specs.List.{list_any};
@@ -25,8 +25,8 @@ use std::alloc::Global;
 use std::sync::ledger::Ledger;
 use ucd_model::{Points, Spans, Steps};
 
-/// The facts of a release, the records that are derived of them, and, once a group came, what each code point asks of them;
-/// now and next.
+/// The facts of a release, the records that are derived from them, and, once a group came, what each code point asks of
+/// them; now and next.
 #[derive(Drop)]
 pub struct Derivation {
     /// The facts.
@@ -38,7 +38,7 @@ pub struct Derivation {
 }
 
 impl Derivation {
-    /// What is derived of the rows of a release now; next it is the same. UAX #44, section 5.3.
+    /// What is derived from the rows of a release now; next it is the same. UAX #44, section 5.3.
     ///
     /// - `Invalid { rule, point }`: a code point breaks a rule of a valid release: the least one, with its first rule.
     /// - `Memory`: memory ran out.
@@ -59,9 +59,9 @@ impl Derivation {
         }
     }
 
-    /// Makes what is next that of the rows of a release next, and answers the code points whose records differ,
-    /// ascending. Only the code points that depend on the change are derived, and counted. Where no
-    /// code point is touched, no fact is another one, and nothing is listed.
+    /// Makes what is next follow from the rows of a release next, and answers the code points whose records differ,
+    /// ascending. Only the code points that depend on the change are derived, and counted. If no
+    /// code point is touched, no fact changes, and nothing is listed.
     ///
     /// - `Refused(Valid { rule, point })`: the rows next are not valid. The least code point that breaks a rule is named,
     ///   with its first rule.
@@ -92,7 +92,7 @@ impl Derivation {
         self.turn_listed(alloc, release, touched, steps)
     }
 
-    /// The same, once it was listed what the code points ask.
+    /// The same, once what the code points ask was listed.
     fn turn_listed<L: Ledger>(
         &mut self,
         alloc: Global,
@@ -171,7 +171,7 @@ fn boxed<T: Drop>(alloc: Global, value: T) -> Result<Box<T>, OpenStop>
     }
 }
 
-/// What is derived of the facts that tables have now; what the code points ask is not listed yet.
+/// What is derived from the facts that tables have now; what the code points ask is not listed yet.
 fn derive_over<L: Ledger>(
     alloc: Global,
     tables: FactTables<PagedTable>,

@@ -21,7 +21,7 @@ use std::alloc::Global;
 use std::sync::ledger::Ledger;
 use ucd_model::{FactView, FormStop, Point, Record, Span, Steps, point_count};
 
-/// The records that are derived of the facts of all code points. Code points that stand together and are uniform are
+/// The records that are derived from the facts of all code points. Code points that stand together and are uniform are
 /// derived in one step. UAX #44, section 5.3.
 ///
 /// - `Invalid { rule, point }`: a code point breaks a rule of a valid release: the least one, with its first rule.
@@ -68,8 +68,8 @@ fn derive_first<L: Ledger>(
     }
 }
 
-/// Derives a code point in one step, and gives it and those behind it that have the same record as far as few look-ups
-/// tell that record next. The answer is one past the last of them.
+/// Derives a code point in one step. It gives that record next to the code point and to those behind it that have the
+/// same record, as far as few look-ups tell. The answer is one past the last of them.
 fn derive_run<L: Ledger>(
     alloc: Global,
     tables: &FactTables<PagedTable>,
@@ -95,7 +95,7 @@ fn derive_run<L: Ledger>(
     }
 }
 
-/// The span from a code point up to a number, which is none of it.
+/// The span from a code point up to before a number.
 fn span_up_to(c: Point, end: u32) -> Span
     requires from { c < end }
     requires inside { end ≤ 1114112 }

@@ -1,4 +1,4 @@
-//! A group of operations, up to where nothing can fail any more.
+//! The part of a group of operations that can fail.
 
 ghost use Rattle.std.specs.Prelude.{◌≡◌, ℕ, ◌≤◌, ◌++◌, length, IfOk, OnOk, if◌then◌else◌};
 ghost use Rattle.std.specs.List.{All};
@@ -20,7 +20,7 @@ use std::alloc::Global;
 use std::sync::ledger::Ledger;
 use ucd_model::{Memory, Points, Spans, Steps};
 
-/// Carries the operations out on a release and on what is derived of it, or leaves both as they are.
+/// Carries out the operations on a release and on what is derived from it, or leaves both as they are.
 ///
 /// - `Refused(why)`: an operation or the rows after all break a rule.
 /// - `Memory`: memory ran out.
@@ -53,7 +53,7 @@ pub fn apply_group<L: Ledger>(
     }
 }
 
-/// Carries the operations out on what is prepared, and prepares what their rows give. It answers the code points whose
+/// Carries out the operations on what is prepared, and prepares what their rows give. It answers the code points whose
 /// records differ, ascending. It is the part of a group that can fail.
 pub fn prepare_group<L: Ledger>(
     alloc: Global,
@@ -80,7 +80,7 @@ pub fn prepare_group<L: Ledger>(
     Ok(changed)
 }
 
-/// Carries the operations out on what is prepared, in order, up to the first that stops the group. The code points that
+/// Carries out the operations on what is prepared, in order, up to the first that stops the group. The code points that
 /// they touch are put behind the others.
 fn prepare_rows(release: &mut Release, group: &[Op], touched: &mut Spans) -> Result<(), ApplyStop>
     requires operations { All IsOp group.now }
@@ -100,7 +100,7 @@ fn prepare_rows(release: &mut Release, group: &[Op], touched: &mut Spans) -> Res
     Ok(())
 }
 
-/// Carries an operation of this number out on what is prepared. The code points that it touches are put behind the
+/// Carries out an operation of this number on what is prepared. The code points that it touches are put behind the
 /// others, if rows of its file give facts.
 fn prepare_op(
     release: &mut Release,

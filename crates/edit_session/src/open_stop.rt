@@ -18,7 +18,7 @@ pub enum OpenStop {
     Memory,
 }
 
-/// Want of memory is `OpenStop::Memory`.
+/// Running out of memory is `OpenStop::Memory`.
 impl From<Memory> for OpenStop {
     ghost use Rattle.edit_session.specs.declared.open_stop.OpenStop.TheVariants.{Memory};
 

@@ -28,7 +28,7 @@ type QuestionLists = Kept<PagedTable, Option<Queries>>;
 /// What each code point asks, now and next, once it was listed. Before, it takes no room.
 #[derive(Drop)]
 pub struct Questions {
-    /// What the code points ask; of no meaning before it was listed.
+    /// What the code points ask; it means nothing before it was listed.
     pub map: QuestionMap,
     /// Whether it was listed.
     pub listed: bool,

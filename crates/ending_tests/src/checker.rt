@@ -36,7 +36,7 @@ pub fn check<S: Shelf, K: Sink, L: Ledger>(
     end_run(USAGE, planned, shelf, out)
 }
 
-/// The folder and the path that words name; `None` exactly where they have no listed form.
+/// The folder and the path that words name; `None` exactly if they have no listed form.
 fn named(words: &[Text]) -> Option<(&[u8], &[u8])>
     ensures { option_map (λ named. check_of named.0.now named.1.now) result ≡ form words.now }
 {
@@ -53,7 +53,7 @@ fn pair_of<'a>(folder: &'a Text, output: &'a Text) -> Option<(&'a [u8], &'a [u8]
     Some((folder.as_slice(), output.as_slice()))
 }
 
-/// Does all that the words ask for and that comes before the write; `None` where they have no listed form.
+/// Does all that the words ask for and that comes before the write; `None` if they have no listed form.
 fn plan_words<S: Shelf, L: Ledger>(
     alloc: Global,
     words: &Texts,
@@ -69,7 +69,7 @@ fn plan_words<S: Shelf, L: Ledger>(
     }
 }
 
-/// The same of a folder, and a path that is written.
+/// The same for a folder, and a path that is written.
 fn prepare<S: Shelf, L: Ledger>(
     alloc: Global,
     folder: &[u8],

@@ -1,4 +1,4 @@
-//! Questions that an edit of facts answers otherwise.
+//! Questions that an edit of facts answers differently.
 
 ghost use Rattle.std.specs.Prelude.{◌≡◌, ℕ, ◌<◌, true, IfOk};
 ghost use Rattle.std.specs.List.{list_any};

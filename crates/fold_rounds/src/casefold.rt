@@ -73,7 +73,7 @@ fn casefold_by<W: FactView>(
 }
 
 /// NFKC_Casefold or NFKC_Simple_Casefold, by the folding that is named, of a code point with these facts, whose
-/// Normalisation Form KC is `form`. It takes no memory where neither that form nor a folding changes the code point.
+/// Normalisation Form KC is `form`. It takes no memory if neither that form nor a folding changes the code point.
 /// The Unicode Standard, section 3.13, toNFKC_Casefold.
 ///
 /// - `Bad(V5)`: as for [`nfkc_casefold`]. No other rule comes.

@@ -31,7 +31,8 @@ pub struct Found {
 }
 
 impl Found {
-    /// The list after one more round, from a list of which it is told whether it is known that both foldings give it.
+    /// The same list behind another one: it is known that both foldings give it only if `alike` says so of the other
+    /// one too.
     fn behind(self, alike: bool) -> Found
         ensures list { result.list ≡ self.list }
         ensures alike { result.alike ≡ (alike && self.alike) }
@@ -44,7 +45,7 @@ impl Found {
 }
 
 /// The first list, after 0 to 7 rounds from a code point with this Normalisation Form KC, that one more round leaves as
-/// it is; `None` where there is none. The Unicode Standard, section 3.13, toNFKC_Casefold.
+/// it is; `None` if there is none. The Unicode Standard, section 3.13, toNFKC_Casefold.
 ///
 /// - `Memory`: memory ran out.
 pub(crate) fn fixed<W: FactView>(
@@ -73,8 +74,9 @@ pub(crate) fn fixed<W: FactView>(
     }
 }
 
-/// The same from the folded list of the first round, of which it is told whether both foldings give it, and whether it is
-/// settled. If it is settled, and its own Normalisation Form KC, one more round leaves it as it is, and is not made.
+/// The same from the folded list of the first round. `alike` says whether it is known that both foldings give it, and
+/// `settled` whether it is settled. If it is settled, and its own Normalisation Form KC, one more round leaves it as it
+/// is, and is not made.
 fn fixed_by<W: FactView>(
     alloc: Global,
     view: &W,
@@ -161,7 +163,7 @@ fn folded_form<W: FactView>(
     }
 }
 
-/// The folding of a list without ignorable code points; `None` where that is too long.
+/// The folding of a list without ignorable code points; `None` if that is too long.
 fn short_fold<W: FactView>(
     alloc: Global,
     view: &W,
@@ -175,7 +177,7 @@ fn short_fold<W: FactView>(
     Ok(short(points))
 }
 
-/// The Normalisation Form KC of a list; `None` where there is none, and where it is too long.
+/// The Normalisation Form KC of a list; `None` if there is none, or if it is too long.
 fn short_nfkc<W: FactView>(alloc: Global, view: &W, s: &[Point]) -> Result<Option<Points>, Memory>
     ensures { IfOk result (λ form. form ≡ short_nfkc (W.facts_of view.now) s.now) }
 {

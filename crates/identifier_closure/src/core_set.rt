@@ -9,8 +9,8 @@ ghost use Rattle.ucd_model.specs.declared.property.Core.{Core};
 use crate::predicates::{ToldByForms, holds};
 use ucd_model::{Core, CoreSet, FactsRef, Point};
 
-/// The core properties of a code point with these facts, of whose forms this is told. UAX #44, section 5.3. They are put
-/// in one by one, in the order of `Core`, so that each call knows its property.
+/// The core properties of a code point with these facts, whose forms have these consequences. UAX #44, section 5.3.
+/// They are put in one by one, in the order of `Core`, so that each call knows its property.
 #[tactic(auto, using(crate::proofs::CoreSteps::all_below))]
 pub fn core_set(c: Point, facts: &FactsRef<'_>, told: ToldByForms) -> CoreSet
     ensures { (core : Core) → has_core result core ≡ core_given c (shown_facts facts.now) told core }

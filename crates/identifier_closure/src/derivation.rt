@@ -22,7 +22,7 @@ use std::alloc::Global;
 use std::sync::ledger::Ledger;
 use ucd_model::{Bad, FactView, FactsRef, FormStop, Image, Kind, Point, Record, Steps};
 
-/// Derives a code point: its record alone, in one step, which is counted where an error comes too. UAX #44, section 5.3.
+/// Derives a code point: its record alone, in one step, which is counted even if an error comes. UAX #44, section 5.3.
 ///
 /// - `Bad(rule)`: the code point breaks a rule of a valid release, and `rule`, V1 to V5, is the first that it breaks.
 /// - `Memory`: memory ran out.
@@ -39,7 +39,7 @@ pub fn derive_record<W: FactView, L: Ledger>(
     record_or_rule(alloc, view, c)
 }
 
-/// The record of a code point, or the first rule that it breaks. Where it has no mapping, its forms are itself, and no
+/// The record of a code point, or the first rule that it breaks. If it has no mapping, its forms are itself, and no
 /// memory is taken for them.
 #[tactic(auto, using(crate::specs::RuleProofs::by_missing_row, crate::proofs::RecordLemmas::stopped))]
 fn record_or_rule<W: FactView>(alloc: Global, view: &W, c: Point) -> Result<Record, FormStop>

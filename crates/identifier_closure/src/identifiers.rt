@@ -24,7 +24,7 @@ pub fn id_continue<W: FactView>(view: &W, c: Point) -> bool
 }
 
 /// Whether a code point has XID_Start: it has ID_Start, and its Normalisation Form KC, which is handed in, begins with
-/// a code point that has ID_Start and goes on with such as have ID_Continue. UAX #31, section 5.1.
+/// a code point that has ID_Start and goes on with code points that have ID_Continue. UAX #31, section 5.1.
 #[tactic(auto, using(crate::proofs::IdentifierLemmas::form_is))]
 pub fn xid_start<W: FactView>(view: &W, c: Point, nfkc: &[Point]) -> bool
     requires { form_kc (W.facts_of view.now) (c ∷ []) ≡ Ok nfkc.now }
@@ -52,7 +52,7 @@ pub struct Closed {
     pub continues: bool,
 }
 
-/// Whether a code point with these facts and this Normalisation Form KC has XID_Start and XID_Continue. Where the form
+/// Whether a code point with these facts and this Normalisation Form KC has XID_Start and XID_Continue. If the form
 /// is the code point alone, its facts tell. UAX #31, section 5.1.
 #[tactic(auto, using(crate::proofs::IdentifierLemmas::form_is, crate::proofs::IdentifierLemmas::start_alone, crate::proofs::IdentifierLemmas::continue_alone))]
 pub fn closure_of<W: FactView>(view: &W, c: Point, facts: &FactsRef<'_>, form: &[Point]) -> Closed

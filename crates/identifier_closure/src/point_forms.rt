@@ -165,7 +165,7 @@ fn has_compat<W: FactView>(view: &W, points: &[Point]) -> bool
     false
 }
 
-/// The first rule that the expansions of a code point break, where the canonical one breaks this rule.
+/// The first rule that the expansions of a code point break. The canonical one breaks this rule.
 fn first_rule<W: FactView>(alloc: Global, view: &W, c: Point, rule: Bad) -> FormStop
     requires { expansion (W.facts_of view.now) false c ≡ Err rule }
     ensures { StopsBy (W.facts_of view.now) c result }

@@ -21,7 +21,7 @@ pub struct ToldByForms {
     pub xid_continue: bool,
 }
 
-/// Whether a code point with these facts, of whose forms this is told, has the property. UAX #44, section 5.3.
+/// Whether a code point with these facts, whose forms have these consequences, has the property. UAX #44, section 5.3.
 pub fn holds(core: Core, c: Point, facts: &FactsRef<'_>, told: ToldByForms) -> bool
     ensures { result ≡ core_given c (shown_facts facts.now) told core }
 {

@@ -13,8 +13,8 @@ use ucd_points::{Memory, Point, Span};
 
 /// A store that keeps its values one after another, and the place of each code point's value in a table of type `T`.
 ///
-/// To look a value up is one look-up in the table. Values that no code point has any more, also those that were prepared
-/// and discarded, stay until [`Kept::sweep`] lets them go.
+/// Looking a value up takes one look-up in the table. Values that no code point has any more, even those that were
+/// prepared and discarded, stay until [`Kept::sweep`] lets them go.
 #[derive(Drop)]
 pub struct Kept<T: Table<u64>, V: Drop> {
     // the place of each code point's value
@@ -93,9 +93,9 @@ impl<T: Table<u64>, V: Drop> Store<V> for Kept<T, V> {
 }
 
 impl<T: Stretches<u64>, V: Drop> Kept<T, V> {
-    /// Lets go of the values that no code point has, now or next, once many were held since that was done last; as far as
-    /// there is memory to look for them. It takes steps by the stretches of the table and the values. What is now and next
-    /// stays.
+    /// If many values were held since this was done last, lets go of those that no code point has, now or next, as far
+    /// as there is memory to look for them. It takes steps in proportion to the stretches of the table and to the
+    /// values. What is now and next stays.
     #[tactic(auto, using(crate::proofs::SlotSteps::held_same, crate::proofs::SlotSteps::values_same))]
     pub fn sweep(&mut self)
         ensures now { SameValues (⟦<Kept<T, V> as Store<V>>⟧.now self.new) (⟦<Kept<T, V> as Store<V>>⟧.now self.old) }
@@ -124,7 +124,7 @@ impl<T: Stretches<u64>, V: Drop> Kept<T, V> {
         self.places.last_of_stretch(c)
     }
 
-    /// The same of the values next.
+    /// The same for the values next.
     pub fn last_of_stretch_next(&self, c: Point) -> Point
         ensures from { c ≤ result }
         ensures same { (k : ℕ) → c ≤ k → k ≤ result

@@ -6,10 +6,10 @@ ghost use Rattle.kept_values.specs.Slots.{held_at, is_unused, value_at};
 use std::alloc::Global;
 use ucd_points::Memory;
 
-/// How many values are held at least before any is looked for that may be let go.
+/// The least number of values that are held before any is looked for that may be let go.
 const FEW: usize = 4096;
 
-/// Values at places: the first one at place 0, and others behind it. Places that hold no value any more are taken again.
+/// Values at places: the first one at place 0, and others behind it. Places that hold no value any more are used again.
 #[derive(Drop)]
 pub struct Slots<V: Drop> {
     alloc: Global,
@@ -37,7 +37,7 @@ impl<V: Drop> Slots<V> {
         }
     }
 
-    /// The value at a place; the first one where none is held.
+    /// The value at a place; the first one if none is held.
     pub fn get(&self, place: u64) -> &V
         ensures { result.now ≡ value_at self.now place }
     {
@@ -70,12 +70,12 @@ impl<V: Drop> Slots<V> {
         }
     }
 
-    /// Whether few values are held: less than twice those that the last call of `let_go` left, and some.
+    /// Whether few values are held: fewer than twice those that the last call of `let_go` left, and some more.
     pub fn are_few(&self) -> bool {
         self.count() < self.few
     }
 
-    /// For each place that it is unused.
+    /// A list that says of each place that it is unused.
     ///
     /// - `Memory`: memory ran out.
     pub fn all_unused(&self) -> Result<Vec<bool>, Memory> {
@@ -83,7 +83,8 @@ impl<V: Drop> Slots<V> {
         Ok(unused)
     }
 
-    /// Lets go of the values at unused places, but for the first one, and gives back the room behind the last one that is left.
+    /// Lets go of the values at unused places, except for the first one, and gives back the room behind the last one
+    /// that is left.
     pub fn let_go(&mut self, unused: &[bool])
         ensures { (p : ℕ) → is_unused unused.now p ≡ false → held_at self.new p ≡ held_at self.old p }
     {
@@ -154,7 +155,8 @@ fn end_of_values<V: Drop>(more: &[Option<V>]) -> usize
     end
 }
 
-/// Lists the places where no value is held, the last one first. Those that there is no memory to list are not taken again.
+/// Lists the places where no value is held, the last one first. Those that there is no memory to list are not used
+/// again.
 fn list_free<V: Drop>(more: &[Option<V>], free: &mut Vec<usize>) {
     free.clear();
     let mut at = more.len();

@@ -17,7 +17,7 @@ pub trait Store<V: Drop>: Sized + Drop {
 
     ghost next: { Self → ℕ → V };
 
-    // the value at a place, where one is held there
+    // the value at a place, if one is held there
     ghost held: { Self → ℕ → Option V };
 
     // the place of the value of each code point now, and next

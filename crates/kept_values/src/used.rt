@@ -19,7 +19,7 @@ pub fn spare_now<T: Stretches<u64>>(places: &T, unused: &mut [bool])
     }
 }
 
-/// The same of the places that they have next.
+/// The same for the places that they have next.
 pub fn spare_next<T: Stretches<u64>>(places: &T, unused: &mut [bool])
     ensures used { AreUsed unused.new (T.next places.now) }
     ensures others { (p : ℕ) → is_unused unused.old p ≡ false → is_unused unused.new p ≡ false }

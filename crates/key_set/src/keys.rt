@@ -40,7 +40,7 @@ impl KeySet {
         }
     }
 
-    /// Puts a key in. It takes time by the logarithm of the number of keys that were put in.
+    /// Puts a key in. Its time grows with the logarithm of the number of keys that were put in.
     ///
     /// - `Memory`: memory ran out. The set stays as it was.
     #[tactic(auto, unfolding(crate::specs::Keys::has))]
@@ -52,7 +52,7 @@ impl KeySet {
         Ok(())
     }
 
-    /// The least key at or above `start`. It takes time by the logarithm of the number of keys.
+    /// The least key at or above `start`. Its time grows with the logarithm of the number of keys.
     #[tactic(auto, unfolding(crate::specs::Keys::has))]
     pub fn next(&self, start: u64) -> Option<u64>
         ensures { IsNext (has self.now) start result }

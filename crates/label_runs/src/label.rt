@@ -48,7 +48,7 @@ impl LabelText {
 
     /// Makes it the label of a value: ` ; VALUE`.
     ///
-    /// - `Memory`: memory ran out. Nothing is told of the label then.
+    /// - `Memory`: memory ran out. Nothing is then known of the label.
     pub fn list(&mut self, value: &[u8]) -> Result<(), Memory>
         ensures { OnOk result (self.new ≡ listed value.now) }
     {
@@ -61,7 +61,7 @@ impl LabelText {
 
     /// Makes it the label of a value in two parts.
     ///
-    /// - `Memory`: memory ran out. Nothing is told of the label then.
+    /// - `Memory`: memory ran out. Nothing is then known of the label.
     pub fn list_parts(&mut self, front: &[u8], back: &[u8]) -> Result<(), Memory>
         ensures { OnOk result (self.new ≡ listed (front.now ++ back.now)) }
     {
@@ -71,7 +71,7 @@ impl LabelText {
 
     /// Makes it the label of a name, ` ;` and code points behind it, each with a space before it.
     ///
-    /// - `Memory`: memory ran out. Nothing is told of the label then.
+    /// - `Memory`: memory ran out. Nothing is then known of the label.
     pub fn list_points(&mut self, name: &[u8], points: &[Point]) -> Result<(), Memory>
         ensures { OnOk result (self.new ≡ listed (name.now ++ codes " ;" ++ spaced points.now)) }
     {

@@ -31,10 +31,11 @@ impl Run {
         }
     }
 
-    /// Goes on to `end`, with the label of what is there. Where that is another label, the line of the run so far is
+    /// Goes on to `end`, with the label of what is there. If that is another label, the line of the run so far is
     /// put, and a new run begins. The answer is how many code points the line lists.
     ///
-    /// - `Memory`: memory ran out. The run stays as it was, and a part of its line may stand at the end of the text then.
+    /// - `Memory`: memory ran out. The run stays as it was, and a part of its line may then stand at the end of the
+    ///   text.
     pub fn go_on(&mut self, label: &mut LabelText, end: u32, text: &mut Text) -> Result<u32, Memory>
         requires inside { self.old.end ≤ 1114112 }
         requires some { IsSome self.old.label → self.old.first < self.old.end }
@@ -67,7 +68,7 @@ impl Run {
 
     /// Puts the line of the last run, and answers how many code points it lists.
     ///
-    /// - `Memory`: memory ran out. A part of the line may stand at the end of the text then.
+    /// - `Memory`: memory ran out. A part of the line may then stand at the end of the text.
     pub fn end(self, text: &mut Text) -> Result<u32, Memory>
         requires inside { self.end ≤ 1114112 }
         requires some { IsSome self.label → self.first < self.end }
@@ -79,7 +80,7 @@ impl Run {
 
     /// Puts the line of the run, if it has a label, and answers how many code points the line lists.
     ///
-    /// - `Memory`: memory ran out. A part of the line may stand at the end of the text then.
+    /// - `Memory`: memory ran out. A part of the line may then stand at the end of the text.
     fn put(&self, text: &mut Text) -> Result<u32, Memory>
         requires inside { self.now.end ≤ 1114112 }
         requires some { IsSome self.now.label → self.now.first < self.now.end }

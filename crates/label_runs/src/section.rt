@@ -32,9 +32,9 @@ impl Model for OpenSection {
 }
 
 impl OpenSection {
-    /// Puts `# NAME`. The section is written up to before the first code point then.
+    /// Puts `# NAME`. The section is then written up to before the first code point.
     ///
-    /// - `Memory`: memory ran out. A part of the line may stand at the end of the text then.
+    /// - `Memory`: memory ran out. A part of the line may then stand at the end of the text.
     pub fn begin(alloc: Global, name: &[u8], text: &mut Text) -> Result<OpenSection, Memory>
         ensures end { IfOk result (λ section. section.end ≡ 0) }
         ensures written { IfOk result (λ section. (n : ℕ) (f : ℕ → Label) → IsWritten n f (text.old ++ section_head name.now) section text.new) }
@@ -51,8 +51,8 @@ impl OpenSection {
     /// Goes on to `end`, with the label of all code points up to there. The label is a buffer: another one may stand in
     /// its place afterwards.
     ///
-    /// - `Memory`: memory ran out. The section stays as it was, and a part of a line may stand at the end of the text
-    ///   then.
+    /// - `Memory`: memory ran out. The section stays as it was, and a part of a line may then stand at the end of the
+    ///   text.
     pub fn go_on(&mut self, label: &mut LabelText, end: u32, text: &mut Text) -> Result<(), Memory>
         requires ahead { self.old.end < end }
         requires inside { end ≤ 1114112 }
@@ -66,7 +66,7 @@ impl OpenSection {
 
     /// Puts the line of the last span, `# total N` and an empty line.
     ///
-    /// - `Memory`: memory ran out. A part of this may stand at the end of the text then.
+    /// - `Memory`: memory ran out. A part of this may then stand at the end of the text.
     #[tactic(auto, unfolding(ucd_model::specs::DerivedText::section_text))]
     pub fn end(self, alloc: Global, text: &mut Text) -> Result<(), Memory>
         ensures { OnOk result ((f : ℕ → Label) (before name : List ℕ) → IsWritten self.end f (before ++ section_head name) self text.old → text.new ≡ before ++ section_text name self.end f) }

@@ -28,7 +28,7 @@ fn stretches_of<T: Stretches<u64>>(alloc: Global, table: &T) -> Result<Vec<Layer
     Ok(pieces)
 }
 
-/// Layers that cover each code point with one word: that of the last of the given layers that covers it, and `base` where
+/// Layers that cover each code point with one word: that of the last of the given layers that covers it, and `base` if
 /// none does.
 ///
 /// - `Memory`: memory ran out.

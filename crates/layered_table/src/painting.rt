@@ -19,9 +19,10 @@ pub struct Layer {
     pub span: Span,
 }
 
-/// The table with the word of the last layer that covers a code point, and the word `base` where none does.
+/// The table with the word of the last layer that covers a code point, and the word `base` if none does.
 ///
-/// Each layer takes time by the blocks of its span, however wide the others are, and no memory but that of the table.
+/// Each layer takes time in proportion to the blocks of its span, however wide the others are, and no memory but that
+/// of the table.
 ///
 /// - `Memory`: memory ran out.
 pub fn layered(alloc: Global, base: u64, layers: &[Layer]) -> Result<PagedTable, Memory>

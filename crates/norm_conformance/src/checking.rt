@@ -70,7 +70,8 @@ fn put_points<W: FactView>(
     Ok(())
 }
 
-/// Puts what is missed of a code point, if it is assigned and not listed. Without a mapping it is each of its forms.
+/// Puts what is missed of a code point, if it is assigned and not listed. A code point without a mapping is each of its
+/// forms.
 ///
 /// - `Memory`: memory ran out.
 fn put_point<W: FactView>(

@@ -5,9 +5,10 @@ use ucd_model::{Form, ListOf, Point};
 /// An invariant of NormalizationTest.txt that a release misses. The head of that file, "CONFORMANCE".
 #[derive(Clone, Copy, Debug, PartialEq, Eq, Drop)]
 pub enum Miss {
-    /// Of the case on this line, this form of this column, from 1 to 5, is not the expected column. Invariant 1.
+    /// For the case on this line, this form of this column, from 1 to 5, is not the expected column. Invariant 1.
     Line { line: u32, form: Form, column: u8 },
-    /// Of this code point, which is assigned and not listed in part 1, this form is not the code point itself. Invariant 2.
+    /// This form of this code point, which is assigned and not listed in part 1, is not the code point itself.
+    /// Invariant 2.
     Point { point: Point, form: Form },
 }
 

@@ -13,10 +13,11 @@ use ucd_lines::items;
 
 /// The cases of NormalizationTest.txt, in order. The head of that file; UAX #44, section 4.2.
 ///
-/// Lines end by LF or CR LF. Blank lines are skipped, and lines whose first byte other than space and tab is `#`; of the others
-/// the first `#` and what follows it are cut off, and the line and its fields are trimmed. A line is `@Part` and a digit, which
-/// is the part of the lines behind it (before the first one it is 0), or a case: the five columns source, NFC, NFD, NFKC and
-/// NFKD, each ended by `;`, the last one maybe not. A column is one to 64 code points between white space.
+/// Lines end by LF or CR LF. Blank lines are skipped, and so are lines whose first byte other than space and tab is
+/// `#`. In the others the first `#` and what follows it are cut off, and the line and its fields are trimmed. A line is
+/// `@Part` and a digit, which is the part of the lines behind it (before the first one it is 0), or a case: the five
+/// columns source, NFC, NFD, NFKC and NFKD, each ended by `;`, which may be missing behind the last one. A column is
+/// one to 64 code points between white space.
 ///
 /// - `Fault { line, rule }`: the first line that breaks a rule, and the first rule that it breaks.
 /// - `Memory`: memory ran out.

@@ -30,7 +30,7 @@ pub enum CaseStop {
     Memory,
 }
 
-/// Want of memory is `CaseStop::Memory`.
+/// Running out of memory is `CaseStop::Memory`.
 impl From<Memory> for CaseStop {
     ghost use Rattle.norm_conformance.specs.declared.stop.CaseStop.TheVariants.{Memory};
 

@@ -70,7 +70,7 @@ fn put_next<W: FactView>(view: &W, s: &mut Points, so_far: SoFar, at: usize) -> 
     }
 }
 
-/// The composite of the last starter and a code point of this class, where there is one and the code point is not
+/// The composite of the last starter and a code point of this class, if there is one and the code point is not
 /// blocked.
 fn joined<W: FactView>(
     view: &W,

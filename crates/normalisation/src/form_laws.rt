@@ -12,33 +12,33 @@ pub fn nfkd_twice()
     ensures { NfkdTwice }
 {}
 
-/// Where every code point has a canonical expansion, Normalisation Form C of its own result is that result.
+/// If every code point has a canonical expansion, Normalisation Form C of its own result is that result.
 pub fn nfc_twice()
     ensures { NfcTwice }
 {}
 
-/// Where every code point has a compatibility expansion, Normalisation Form KC of its own result is that result.
+/// If every code point has a compatibility expansion, Normalisation Form KC of its own result is that result.
 pub fn nfkc_twice()
     ensures { NfkcTwice }
 {}
 
-/// Where every code point has a canonical expansion, Normalisation Form D is the same before and after composition.
+/// If every code point has a canonical expansion, Normalisation Form D is the same before and after composition.
 pub fn nfd_of_nfc()
     ensures { NfdOfNfc }
 {}
 
-/// Where every code point has a compatibility expansion, Normalisation Form KD is the same before and after
+/// If every code point has a compatibility expansion, Normalisation Form KD is the same before and after
 /// composition.
 pub fn nfkd_of_nfkc()
     ensures { NfkdOfNfkc }
 {}
 
-/// Where every code point has a canonical expansion, Normalisation Form C of a member of its result is that member.
+/// If every code point has a canonical expansion, Normalisation Form C of a member of its result is that member.
 pub fn nfc_of_members()
     ensures { NfcOfMembers }
 {}
 
-/// Where every code point has a compatibility expansion, Normalisation Form KC of a member of its result is that
+/// If every code point has a compatibility expansion, Normalisation Form KC of a member of its result is that
 /// member.
 pub fn nfkc_of_members()
     ensures { NfkcOfMembers }

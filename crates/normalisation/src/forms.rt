@@ -50,7 +50,7 @@ pub fn nfkc<W: FactView>(alloc: Global, view: &W, s: &[Point]) -> Result<Points,
     composed(alloc, view, true, s)
 }
 
-/// The decomposition of a list, canonical, or compatibility where `compat` holds.
+/// The decomposition of a list, canonical, or compatibility if `compat` holds.
 fn decomposed<W: FactView>(
     alloc: Global,
     view: &W,

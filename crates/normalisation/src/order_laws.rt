@@ -8,7 +8,7 @@ pub fn order_is_reached()
     ensures { OrderIsReached }
 {}
 
-/// Whatever such neighbours are exchanged, and in whatever turn: where none are left, the list is the ordered one.
+/// In whatever order such neighbours are exchanged, the list is the ordered one if none are left.
 pub fn order_is_only()
     ensures { OrderIsOnly }
 {}

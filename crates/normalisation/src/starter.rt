@@ -9,7 +9,7 @@ ghost use Rattle.normalisation.specs.SoFar.{passes, highest_with, starter_behind
 pub struct Starter<S> {
     /// Which starter it is: its place in the list, or its code point.
     pub which: S,
-    /// The greatest class behind it, from 0 to 255; `None` where nothing stands there.
+    /// The greatest class behind it, from 0 to 255; `None` if nothing stands there.
     pub highest: Option<u8>,
 }
 
@@ -24,7 +24,7 @@ pub fn passes(highest: Option<u8>, class: u8) -> bool
     }
 }
 
-/// The greater one of the greatest class so far and a class.
+/// The greater of the greatest class so far and a class.
 fn highest_with(highest: Option<u8>, class: u8) -> u8
     ensures { result ≡ highest_with highest class }
 {
@@ -34,8 +34,8 @@ fn highest_with(highest: Option<u8>, class: u8) -> u8
     }
 }
 
-/// The last starter once a code point of this class stands behind what is composed so far: of class 0 it is that code
-/// point, which `which` tells.
+/// The last starter once a code point of this class stands behind what is composed so far: if the class is 0, it is
+/// that code point, which `which` tells.
 pub fn starter_behind<S: Copy>(
     which: S,
     starter: &Option<Starter<S>>,

@@ -16,10 +16,10 @@ use std::alloc::Global;
 use std::marker::Model;
 use ucd_points::{Memory, Point, Span};
 
-/// A table of words that keeps the 256 values of a block in a page, or else, where they are equal, that value once.
+/// A table of words that keeps the 256 values of a block in a page, or, if they are all equal, keeps that value once.
 ///
-/// To look a value up takes two reads. `prepare` takes time by the blocks that its span touches; `commit` and `discard`
-/// by the blocks that were touched since the last of them.
+/// Looking a value up takes two reads. `prepare` takes time in proportion to the blocks that its span touches; `commit`
+/// and `discard` in proportion to the blocks that were touched since the last of them.
 #[derive(Drop)]
 pub struct PagedTable {
     // the pages of all blocks, now and next; a page that is the same in both is one page
@@ -52,7 +52,7 @@ impl PagedTable {
         &self.pool
     }
 
-    /// The page of the block of a code point, and `None` exactly where the values now of that block are all equal.
+    /// The page of the block of a code point, and `None` exactly if the values now of that block are all equal.
     /// The page is live in the table's pool, and its words are those values, in order.
     pub fn page(&self, c: Point) -> Option<u32>
         ensures { ShowsPage self.now.pool (⟦<PagedTable as Table<u64>>⟧.now self.now) (c / 256) result }

@@ -42,7 +42,7 @@ pub fn put_whole(pool: &mut PagePool, now: Block, next: Block, value: u64) -> Bl
     Block::One(value)
 }
 
-/// Gives back the page of `next`, where it has one that `now` does not have.
+/// Gives back the page of `next`, if it has one that `now` does not have.
 pub fn give_own(pool: &mut PagePool, now: Block, next: Block)
     requires { (p : ℕ) → is_page p next ≡ true → is_live pool.old p ≡ true }
     ensures now { (p : ℕ) → is_page p now ≡ true → is_live pool.new p ≡ is_live pool.old p }
@@ -76,7 +76,7 @@ fn is_outside(pool: &PagePool, page: u32, lo: u8, hi: u8, value: u64) -> bool
     ensures even { IsTrue result → IsOutside (word_of pool.now page) lo hi value }
     ensures uneven { IsOutside (word_of pool.now page) lo hi value → IsTrue result }
 {
-    // mostly a word beside them tells
+    // usually a word beside them tells
     if lo > 0 && pool.get(page, lo - 1) != value {
         return false;
     }

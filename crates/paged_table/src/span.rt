@@ -61,7 +61,7 @@ fn touch(
     ensures reached { OnOk result ((b : ℕ) → first ≤ b → b ≤ last → listed touched.new.items b ≡ true) }
 {
     for block in first..last + 1 {
-        // where the two differ, the block is listed already
+        // if the two differ, the block is listed already
         if now[block as usize].is_same(next[block as usize]) {
             touched.push(block)?;
         }

@@ -11,7 +11,7 @@ use crate::value::value_in;
 use page_pool::PagePool;
 use ucd_points::Point;
 
-/// How many blocks behind the block of a code point a stretch reaches at most.
+/// The greatest number of blocks that a stretch reaches behind the block of its code point.
 const REACH: usize = 16;
 
 /// The last code point of a stretch of equal values that begins at a code point. It ends where the value changes, or at

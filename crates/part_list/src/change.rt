@@ -41,7 +41,7 @@ pub fn drop_empty<T: Copy>(parts: &mut Vec<Part<T>>)
     parts.retain(|part| part.has_entries());
 }
 
-/// Cuts a part in two where it has grown long. Where there is no memory for that, it stays whole.
+/// Cuts a part in two if it has grown long. If there is no memory for that, it stays whole.
 pub fn split<T: Copy>(alloc: Global, parts: &mut Vec<Part<T>>, slot: usize)
     requires { slot < vec_len parts.old }
     ensures now { flat (parts_now parts.new.items) ≡ flat (parts_now parts.old.items) }
@@ -64,7 +64,7 @@ pub fn split<T: Copy>(alloc: Global, parts: &mut Vec<Part<T>>, slot: usize)
 }
 
 /// Keeps the first `half` entries next of an edited part, and puts a part with the others behind it.
-/// Where there is no memory for that, it changes nothing.
+/// If there is no memory for that, it changes nothing.
 fn put_behind<T: Copy>(parts: &mut Vec<Part<T>>, slot: usize, half: usize, behind: Part<T>)
     requires part { slot < vec_len parts.old }
     requires edited { (d : _) → (slice_index_or parts.old.items slot d).edited ≡ true }

@@ -53,7 +53,7 @@ fn splice<T: Copy>(
     parts[spot.slot].splice(alloc, spot.at, removed, put)
 }
 
-/// Puts entries next in the place of the `removed` ones from a spot on, and cuts the part in two where it has grown long.
+/// Puts entries next in the place of the `removed` ones from a spot on, and cuts the part in two if it has grown long.
 ///
 /// - `Memory`: memory ran out. The parts stay as they were.
 pub fn edit<T: Copy>(
@@ -74,7 +74,7 @@ pub fn edit<T: Copy>(
     Ok(())
 }
 
-/// Puts an entry at the end next, where there are no parts.
+/// Puts an entry next into a list without parts.
 ///
 /// - `Memory`: memory ran out. The parts stay as they were.
 pub fn begin<T: Copy>(

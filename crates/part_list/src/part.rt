@@ -24,7 +24,7 @@ const LOADED: usize = 256;
 #[derive(Debug, Drop)]
 pub struct Part<T: Copy> {
     kept: ListOf<Spanned<T>>,
-    /// What is next, where it was edited since the last `commit` or `discard`.
+    /// What is next, if it was edited since the last `commit` or `discard`.
     edit: Option<ListOf<Spanned<T>>>,
     /// It bounds the entries next, which are those that are looked at. Edits widen it; `truncate`, `commit` and `discard` make it
     /// as narrow as the entries are.
@@ -45,7 +45,7 @@ impl<T: Copy> Model for Part<T> {
     ghost invariant = { λ p. All (IsWithin p.reach) (unwrap_or p.edit p.kept) };
 }
 
-/// Puts an entry, where there is one, at the end.
+/// Puts an entry, if there is one, at the end.
 ///
 /// - `Memory`: memory ran out.
 fn push_some<T: Copy>(
@@ -81,7 +81,7 @@ fn spliced<T: Copy>(
     Ok(ListOf::from_vec(new))
 }
 
-/// The place from `from` on of the first entry that its bounds do not rule out; the length where they rule out all. The
+/// The place from `from` on of the first entry that its bounds do not rule out; the length if they rule out all. The
 /// loop calls nothing, so it is a few comparisons for each entry.
 fn next_candidate<T: Copy, S: Seek<T>>(entries: &[Spanned<T>], seek: &S, from: usize) -> usize
     requires from { from ≤ length entries.now }

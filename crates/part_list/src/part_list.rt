@@ -24,9 +24,9 @@ use ucd_points::Memory;
 /// A list of items, each with the code points that it speaks of, twice: the list now, and the list next. Edits change
 /// what is next, `commit` makes it what is now, and `discard` drops it. Contracts see the parts in which it is kept.
 ///
-/// An edit takes time by one part. A search looks at the bounds of each part, and at the entries of the parts that may
-/// have what it looks for. `commit` and `discard` take time by the number of parts and by the entries of those that were
-/// edited, and no memory.
+/// An edit takes time in proportion to the entries of one part. A search looks at the bounds of each part, and at the
+/// entries of the parts that may have what it looks for. `commit` and `discard` take time in proportion to the number
+/// of parts and to the entries of those that were edited, and no memory.
 #[derive(Debug, Drop)]
 pub struct PartList<T: Copy> {
     alloc: Global,
@@ -146,28 +146,28 @@ impl<T: Copy> PartList<T> {
         self.parts[spot.slot].next()[spot.at]
     }
 
-    /// The spot of the first entry next that passes; `None` where none passes.
+    /// The spot of the first entry next that passes; `None` if none passes.
     pub fn first<S: Seek<T>>(&self, seek: &S) -> Option<Spot>
         ensures { FirstAt result (S.passing seek.now) self.now.next }
     {
         first_spot(&self.parts, seek)
     }
 
-    /// The spot of the last entry next that passes; `None` where none passes.
+    /// The spot of the last entry next that passes; `None` if none passes.
     pub fn last<S: Seek<T>>(&self, seek: &S) -> Option<Spot>
         ensures { LastAt result (S.passing seek.now) self.now.next }
     {
         last_spot(&self.parts, seek)
     }
 
-    /// The entries next that pass, in order. Of a part whose bounds tell that no entry passes it looks at no entry.
+    /// The entries next that pass, in order. It looks at no entry of a part whose bounds tell that none passes.
     pub fn passing<'a, S: Seek<T>>(&'a self, seek: &'a S) -> Passing<'a, T, S>
         ensures { result ≡ filter (S.passing seek.now) (next_in self.now) }
     {
         Passing::new(&self.parts, seek)
     }
 
-    /// The spot of the entry next before another one; `None` where that one is the first.
+    /// The spot of the entry next before another one; `None` if that one is the first.
     pub fn before(&self, spot: Spot) -> Option<Spot>
         requires { IsEntry self.now.next spot }
         ensures { IsBefore result spot self.now.next }

@@ -12,7 +12,7 @@ use std::marker::Model;
 
 /// The entries next that pass and are left, in order. Contracts see the list of them.
 ///
-/// Of a part whose bounds tell that no entry passes it looks at no entry.
+/// It looks at no entry of a part whose bounds tell that none passes.
 #[derive(Drop)]
 pub struct Passing<'a, T: Copy, S: Seek<T>> {
     seek: &'a S,

@@ -42,7 +42,7 @@ impl Reach {
         }
     }
 
-    /// The reach with one more entry, where there is one.
+    /// The reach with one more entry, if there is one.
     pub fn with_some<T: Copy>(self, entry: Option<Spanned<T>>) -> Reach
         ensures entry { All (IsWithin result) (option_to_list entry) }
         ensures wider { IsWider self result }

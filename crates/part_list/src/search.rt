@@ -37,7 +37,7 @@ pub fn last_spot<T: Copy, S: Seek<T>>(parts: &[Part<T>], seek: &S) -> Option<Spo
     None
 }
 
-/// The spot of the entry next before another one; `None` where that one is the first.
+/// The spot of the entry next before another one; `None` if that one is the first.
 pub fn spot_before<T: Copy>(parts: &[Part<T>], spot: Spot) -> Option<Spot>
     requires { IsEntry (parts_next parts.now) spot }
     ensures { IsBefore result spot (parts_next parts.now) }

@@ -45,7 +45,7 @@ impl Aliases {
         &self.numbers
     }
 
-    /// The property of which this names what counts.
+    /// The property that a key names.
     fn property_by_key(&self, key: &[u8]) -> Option<Property>
         ensures { result ≡ property_key_in self.now key.now }
     {
@@ -82,7 +82,7 @@ impl Aliases {
         binary(self.property_by_key(key)?)
     }
 
-    /// The property that a name names, by loose matching; `None` where it names none. Where the name as it is names none,
+    /// The property that a name names, by loose matching; `None` if it names none. If the name as it is names none,
     /// and begins with `is`, what follows is tried. UAX #44, sections 5.8 and 5.9.3.
     ///
     /// - `Memory`: memory ran out.
@@ -100,7 +100,7 @@ impl Aliases {
         }
     }
 
-    /// The test that a name means as a value of a property, by loose matching; `None` where it names no value of it. Where
+    /// The test that a name means as a value of a property, by loose matching; `None` if it names no value of it. If
     /// the name as it is names none, and begins with `is`, what follows is tried. UAX #44, sections 5.7, 5.8 and 5.9.3.
     ///
     /// - `Memory`: memory ran out.
@@ -123,8 +123,8 @@ impl Aliases {
         }
     }
 
-    /// The test that a name means where it stands alone: a General_Category or a group of them, else a Script, else a
-    /// property that code points have or have not, else Any, ASCII or Assigned; `None` where it means none. Where the name
+    /// The test that a name means if it stands alone: a General_Category or a group of them, else a Script, else a
+    /// property that code points have or have not, else Any, ASCII or Assigned; `None` if it means none. If the name
     /// as it is means none, and begins with `is`, what follows is tried. UTS #35, "Unicode Sets".
     ///
     /// - `Memory`: memory ran out.
@@ -142,21 +142,21 @@ impl Aliases {
         }
     }
 
-    /// The name in PropList.txt of the listed property with this number; `None` where the number is not used.
+    /// The name in PropList.txt of the listed property with this number; `None` if the number is not used.
     pub fn listed_name(&self, number: u64) -> Option<&[u8]>
         ensures { option_map (λ n. n.now) result ≡ slice_get (listed_in self.now) number }
     {
         name_at(self.numbers.listed.names.as_slice(), number)
     }
 
-    /// The script with this number; 0 is Unknown. `None` where the number is not used.
+    /// The script with this number; 0 is Unknown. `None` if the number is not used.
     pub fn script_name(&self, number: u64) -> Option<&[u8]>
         ensures { option_map (λ n. n.now) result ≡ slice_get (scripts_in self.now) number }
     {
         name_at(self.numbers.scripts.names.as_slice(), number)
     }
 
-    /// The word break with this number; 0 is Other. `None` where the number is not used.
+    /// The word break with this number; 0 is Other. `None` if the number is not used.
     pub fn break_name(&self, number: u64) -> Option<&[u8]>
         ensures { option_map (λ n. n.now) result ≡ slice_get (breaks_in self.now) number }
     {

@@ -76,7 +76,8 @@ fn number_of(alloc: Global, names: &mut IndexSet<Vec<u8>>, value: &[u8]) -> Resu
     Ok(placed.0)
 }
 
-/// The number of a value, where the last row before has the number `last`: rows of one value mostly stand together.
+/// The number of a value. The last row before has the number `last`, which is tried first: rows of one value mostly
+/// stand together.
 ///
 /// - `Memory`: memory ran out.
 fn number_behind(
@@ -94,7 +95,7 @@ fn number_behind(
     number_of(alloc, names, value)
 }
 
-/// The number of the last row; 0 where there is none.
+/// The number of the last row; 0 if there is none.
 fn last_number(rows: &[NumberedRow]) -> usize {
     match rows {
         [.., last] => last.number,

@@ -36,7 +36,7 @@ pub(crate) fn loose(alloc: Global, name: &[u8]) -> Result<Vec<u8>, Memory>
     Ok(key)
 }
 
-/// What is behind `is`; `None` where a name does not begin so.
+/// What is behind `is`; `None` if a name does not begin so.
 pub(crate) fn without_is(key: &[u8]) -> Option<&[u8]>
     ensures { option_map (λ rest. rest.now) result ≡ (if has_is key.now then Some (drop 2 key.now) else None) }
 {

@@ -7,7 +7,8 @@ ghost use Rattle.property_aliases.specs.declared.property.Property.TheVariants.{
 use crate::property::{Group, Property, Test};
 use ucd_model::{Category, Form, Kind, Quick};
 
-/// The test for the value of a property whose name stands at a place; `None` where no name of its built-in ones does.
+/// The test for the value of a property whose name stands at a place; `None` if none of its built-in names stands
+/// there.
 pub(crate) fn test_at(property: Property, place: usize) -> Option<Test>
     ensures { result ≡ test_at property place }
 {

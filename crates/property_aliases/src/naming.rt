@@ -11,7 +11,7 @@ use crate::number_map::NumberMap;
 use std::alloc::Global;
 use ucd_model::{Memory, Text, Texts};
 
-/// The place of each name of a table, the first where two match.
+/// The place of each name of a table, the first if two match.
 ///
 /// - `Memory`: memory ran out.
 pub(crate) fn direct_of(alloc: Global, names: &[Text]) -> Result<NumberMap, Memory>
@@ -26,7 +26,7 @@ pub(crate) fn direct_of(alloc: Global, names: &[Text]) -> Result<NumberMap, Memo
     Ok(map)
 }
 
-/// The less of two numbers, of which each may be missing.
+/// The lesser of two numbers, each of which may be missing.
 pub(crate) fn less(first: Option<usize>, second: Option<usize>) -> Option<usize>
     ensures { result ≡ least first second }
 {
@@ -37,7 +37,7 @@ pub(crate) fn less(first: Option<usize>, second: Option<usize>) -> Option<usize>
     }
 }
 
-/// The less of a number and that of a name.
+/// The lesser of a number and that of a name.
 ///
 /// - `Memory`: memory ran out.
 fn with_name(

@@ -27,14 +27,14 @@ impl NumberMap {
         }
     }
 
-    /// The number of the names of which this counts.
+    /// The number of the names of which this is what counts.
     pub(crate) fn find(&self, key: &[u8]) -> Option<usize>
         ensures { result ≡ number_in self.now key.now }
     {
         self.map.get(key).copied()
     }
 
-    /// Gives the number to the names of which this counts, in the place of the one that they had.
+    /// Gives the number to the names of which this is what counts, in place of the one that they had.
     ///
     /// - `Memory`: memory ran out.
     fn put_key(&mut self, number: usize, key: Vec<u8>) -> Result<(), Memory>
@@ -61,7 +61,7 @@ impl NumberMap {
     }
 }
 
-/// The less of two numbers, of which the first may be missing.
+/// The lesser of two numbers, the first of which may be missing.
 fn lesser(old: Option<usize>, number: usize) -> usize
     ensures { least old (Some number) ≡ Some result }
 {

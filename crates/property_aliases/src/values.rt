@@ -72,14 +72,14 @@ impl ValueNames {
     }
 }
 
-/// The number of a key in a map; `None` where there is no such map.
+/// The number of a key in a map; `None` if there is no such map.
 fn number_at(maps: &[NumberMap], index: usize, key: &[u8]) -> Option<usize>
     ensures { result ≡ number_at maps.now index key.now }
 {
     maps.get(index)?.find(key)
 }
 
-/// The place of a property among all; `None` where it is 2^64 or above.
+/// The place of a property among all; `None` if it is 2^64 or above.
 fn index_of(property: Property) -> Option<usize>
     ensures { MatchOption result (2 ^ 64 ≤ index_of property) (λ index. index ≡ index_of property) }
 {

@@ -10,7 +10,7 @@ use normalisation::{nfc, nfkc};
 use std::alloc::Global;
 use ucd_model::{FactView, Form, FormStop, Kind, Point, Quick};
 
-/// The quick check of a code point. UAX #15, section 9. It takes no memory where the code point has no mapping that the
+/// The quick check of a code point. UAX #15, section 9. It takes no memory if the code point has no mapping that the
 /// form undoes.
 ///
 /// - `Bad(rule)`: the code point alone does not have the form, and `rule`, V2 or V3, is the one that its expansion
@@ -27,8 +27,8 @@ pub fn quick<W: FactView>(alloc: Global, view: &W, form: Form, c: Point) -> Resu
     }
 }
 
-/// NFD_Quick_Check of a code point with a mapping of this kind, or NFKD_Quick_Check where `compat` holds: `No` exactly
-/// where the form undoes the mapping. UAX #15, section 9.
+/// NFD_Quick_Check of a code point with a mapping of this kind, or NFKD_Quick_Check if `compat` holds: `No` exactly
+/// if the form undoes the mapping. UAX #15, section 9.
 pub fn quick_decomposed(kind: Kind, compat: bool) -> Quick
     ensures { result ≡ quick_decomposed kind compat }
 {
@@ -39,7 +39,7 @@ pub fn quick_decomposed(kind: Kind, compat: bool) -> Quick
     }
 }
 
-/// NFC_Quick_Check of a code point where `composed` is its Normalisation Form C alone, and NFKC_Quick_Check where it is
+/// NFC_Quick_Check of a code point if `composed` is its Normalisation Form C alone, and NFKC_Quick_Check if it is
 /// its Normalisation Form KC. UAX #15, section 9.
 pub fn quick_composed<W: FactView>(view: &W, c: Point, composed: &[Point]) -> Quick
     ensures { result ≡ quick_composed (W.facts_of view.now) c composed.now }
@@ -53,7 +53,7 @@ pub fn quick_composed<W: FactView>(view: &W, c: Point, composed: &[Point]) -> Qu
     }
 }
 
-/// The quick check of the decomposition, canonical, or compatibility where `compat` holds.
+/// The quick check of the decomposition, canonical, or compatibility if `compat` holds.
 fn decomposed_check<W: FactView>(
     alloc: Global,
     view: &W,
@@ -70,7 +70,7 @@ fn decomposed_check<W: FactView>(
     Ok(quick_decomposed(kind, compat))
 }
 
-/// The quick check of the composed decomposition, canonical, or compatibility where `compat` holds.
+/// The quick check of the composed decomposition, canonical, or compatibility if `compat` holds.
 fn composed_check<W: FactView>(
     alloc: Global,
     view: &W,

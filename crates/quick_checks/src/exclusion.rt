@@ -14,7 +14,7 @@ pub fn full_exclusion<W: FactView>(view: &W, c: Point) -> bool
     is_fully_excluded(view, c, &view.facts(c))
 }
 
-/// The same of a code point whose facts are at hand.
+/// The same for a code point whose facts are at hand.
 pub fn is_fully_excluded<W: FactView>(view: &W, c: Point, facts: &FactsRef<'_>) -> bool
     requires { shown_facts facts.now ≡ W.facts_of view.now c }
     ensures { result ≡ full_exclusion (W.facts_of view.now) c }

@@ -7,19 +7,18 @@ pub fn kinds_tell()
     ensures { KindsTell }
 {}
 
-/// A code point whose four forms are all itself, and that is no second member of a primary composite's mapping, has
-/// `Yes` in each quick check, where a mapping is never empty.
+/// If no mapping is empty, a code point whose four forms are all itself, and that is no second member of a primary
+/// composite's mapping, has `Yes` in each quick check.
 pub fn unchanged_is_yes()
     ensures { UnchangedIsYes }
 {}
 
-/// Where a quick check is `No`, the form of the code point is another list than the code point alone, where a mapping
-/// is never empty.
+/// If no mapping is empty, and a quick check is `No`, the form of the code point differs from the code point alone.
 pub fn no_is_other()
     ensures { NoIsOther }
 {}
 
-/// Where a quick check is not `No`, the form of the code point is the code point alone.
+/// If a quick check is not `No`, the form of the code point is the code point alone.
 pub fn others_are_same()
     ensures { OthersAreSame }
 {}

@@ -10,19 +10,19 @@ use ucd_points::Memory;
 /// What is to be done to a layout to give a span a value: some changes go, and up to two come in their place.
 #[derive(Clone, Copy)]
 pub struct Edit<V> {
-    /// The first value of the layout then.
+    /// The first value of the layout afterwards.
     pub first: V,
     /// The index of the first change that goes.
     pub from: usize,
-    /// The index behind the last change that goes; `from` where none goes.
+    /// The index behind the last change that goes; `from` if none goes.
     pub behind: usize,
-    /// The change at the beginning of the span, where there is to be one.
+    /// The change at the beginning of the span, if there is to be one.
     pub begins: Option<Change<V>>,
-    /// The change behind the end of the span, where there is to be one.
+    /// The change behind the end of the span, if there is to be one.
     pub ends: Option<Change<V>>,
 }
 
-/// What has to stand at `start` for values that are `before` up to there and `value` from there on; `None` where they
+/// What has to stand at `start` for values that are `before` up to there and `value` from there on; `None` if they
 /// are equal.
 pub fn change_to<V: Copy + Eq>(before: V, start: u32, value: V) -> Option<Change<V>>
     ensures { result ≡ (if V.eq before value then None else Some (record { start = start; value = value })) }
@@ -55,7 +55,7 @@ pub fn splice<V: Copy>(changes: &mut Vec<Change<V>>, edit: &Edit<V>) -> Result<(
     Ok(())
 }
 
-/// The same, where no change stays behind those that go.
+/// The same for an edit behind which no change stays.
 fn replace_last<V: Copy>(changes: &mut Vec<Change<V>>, edit: &Edit<V>) -> Result<(), Memory>
     requires ordered { edit.now.from ≤ edit.now.behind }
     requires within { edit.now.behind ≡ vec_len changes.old }
@@ -69,7 +69,7 @@ fn replace_last<V: Copy>(changes: &mut Vec<Change<V>>, edit: &Edit<V>) -> Result
     Ok(())
 }
 
-/// Puts the change, where there is one, at the end.
+/// Puts the change, if there is one, at the end.
 fn push_some<V: Copy>(changes: &mut Vec<Change<V>>, change: Option<Change<V>>)
     requires { vec_len changes.old < vec_capacity changes.old }
     ensures items { changes.new.items ≡ changes.old.items ++ option_to_list change }

@@ -79,8 +79,8 @@ impl<V: Copy + Eq> Layout<V> {
         Point::new(self.end_of_run(c) - 1).unwrap()
     }
 
-    /// The run of equal values that a code point lies in. It is looked for behind the index `near` and there first, and may
-    /// lie anywhere.
+    /// The run of equal values that a code point lies in. The index behind `near` and `near` itself are tried first,
+    /// but the run may lie anywhere.
     pub fn run(&self, c: Point, near: usize) -> Run<V>
         ensures value { result.value ≡ values self.now c }
         ensures from { c ≤ result.last }
@@ -98,7 +98,8 @@ impl<V: Copy + Eq> Layout<V> {
 
     /// Gives the points of a span the value.
     ///
-    /// It takes time by the number of changes behind the span, so each of many spans in ascending order costs the same.
+    /// It takes time in proportion to the number of changes behind the span, so each of many spans in ascending order
+    /// costs the same.
     ///
     /// - `Memory`: memory ran out. The layout stays as it was.
     pub fn set(&mut self, span: Span, value: V) -> Result<(), Memory>
@@ -149,7 +150,7 @@ impl<V: Copy + Eq> Layout<V> {
     }
 
     /// How many changes come before `start`.
-    /// The last two are looked at first: where spans come in ascending order, no search is needed.
+    /// The last two are looked at first: if spans come in ascending order, no search is needed.
     fn count_before(&self, start: u32) -> usize
         ensures { result ≡ count_before start self.now.changes }
     {
@@ -171,7 +172,7 @@ impl<V: Copy + Eq> Layout<V> {
         self.end_at(c, self.count_before(c.number() + 1))
     }
 
-    /// The same, where it is known how many changes come up to the code point.
+    /// The same, given how many changes come up to the code point.
     fn end_at(&self, c: Point, run: usize) -> u32
         requires { run ≡ count_before (c + 1) self.now.changes }
         ensures { IsEnd V.eq (values self.now) c result }

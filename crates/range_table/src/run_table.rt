@@ -13,13 +13,13 @@ use ucd_points::{Memory, Point, Span};
 
 /// A table that keeps each maximal run of equal values once.
 ///
-/// To look a value up takes time by the logarithm of the number of runs.
-/// The first `prepare` after a `commit` or a `discard` copies the runs. Each takes time by the runs that lie behind its
-/// span: spans in ascending order cost the same each, however many runs there are.
+/// The time to look a value up grows with the logarithm of the number of runs.
+/// The first `prepare` after a `commit` or a `discard` copies the runs. Each takes time in proportion to the runs that
+/// lie behind its span: each of several spans in ascending order costs the same, however many runs there are.
 #[derive(Drop)]
 pub struct RunTable<V: Copy + Eq> {
     committed: Layout<V>,
-    // what is next, where something was prepared since the last `commit` or `discard`
+    // what is next, if something was prepared since the last `commit` or `discard`
     prepared: Option<Layout<V>>,
 }
 
@@ -42,8 +42,9 @@ impl<V: Copy + Eq> RunTable<V> {
         self.committed.last_of_run(c)
     }
 
-    /// The maximal run of equal values now that a code point lies in. It is looked for behind the index `near` and there
-    /// first, and may lie anywhere: whoever goes from run to run with the index of each finds every next one at once.
+    /// The maximal run of equal values now that a code point lies in. The index behind `near` and `near` itself are
+    /// tried first, but the run may lie anywhere: whoever goes from run to run with the index of each finds every next
+    /// one at once.
     pub fn run(&self, c: Point, near: usize) -> Run<V>
         ensures value { result.value ≡ ⟦<RunTable<V> as Table<V>>⟧.now self.now c }
         ensures from { c ≤ result.last }

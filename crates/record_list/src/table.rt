@@ -36,9 +36,9 @@ impl RecordTable {
         })
     }
 
-    /// The last code point of the stretch of equal records that a code point lies in now. It takes time by the stretches
-    /// of the table of places that it passes: each ends where a record is held at another place, or at the end of a block
-    /// of 256 code points.
+    /// The last code point of the stretch of equal records that a code point lies in now. It takes time in proportion
+    /// to the stretches of the table of places that it passes: each ends where a record is held at another place, or at
+    /// the end of a block of 256 code points.
     pub fn last_alike(&self, c: Point) -> Point
         ensures from { c ≤ result }
         ensures inside { result < 1114112 }
@@ -72,8 +72,8 @@ impl RecordTable {
         Ok(())
     }
 
-    /// Gives code points these records next, in order; all others keep those that they have. Nothing may be prepared before.
-    /// It takes steps by the number of code points.
+    /// Gives code points these records next, in order; all others keep those that they have. Nothing may have been
+    /// prepared before. It takes steps in proportion to the number of code points.
     ///
     /// - `Memory`: memory ran out. What is next stays too.
     pub fn prepare(&mut self, points: &[Point], records: Vec<Record>) -> Result<(), Memory>
@@ -117,8 +117,8 @@ impl RecordTable {
         self.records.commit();
     }
 
-    /// Lets go of records that no code point has any more, now or next, once many were prepared since that was done last, as
-    /// far as there is memory to look for them. What is now and next stays.
+    /// If many records were prepared since this was done last, lets go of those that no code point has any more, now or
+    /// next, as far as there is memory to look for them. What is now and next stays.
     pub fn sweep(&mut self)
         ensures now { SameValues (record_now self.new) (record_now self.old) }
         ensures next { SameValues (record_next self.new) (record_next self.old) }

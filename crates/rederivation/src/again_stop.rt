@@ -19,7 +19,7 @@ pub enum AgainStop {
     Memory,
 }
 
-/// Want of memory is `AgainStop::Memory`.
+/// Running out of memory is `AgainStop::Memory`.
 impl From<Memory> for AgainStop {
     ghost use Rattle.rederivation.specs.declared.again_stop.AgainStop.TheVariants.{Memory};
 
@@ -30,7 +30,7 @@ impl From<Memory> for AgainStop {
     }
 }
 
-/// The same, of a call that hands back what it could not put; that is dropped.
+/// The same for a call that hands back what it could not put; that is dropped.
 impl<T: Drop> From<AllocFailed<T>> for AgainStop {
     ghost use Rattle.rederivation.specs.declared.again_stop.AgainStop.TheVariants.{Memory};
 

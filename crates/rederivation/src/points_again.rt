@@ -14,8 +14,8 @@ use std::alloc::Global;
 use std::sync::ledger::Ledger;
 use ucd_model::{FactView, FormStop, Memory, Point, Queries, Record, Records, Steps};
 
-/// Derives code points over facts: which of them have another record than before, in order. What each of them asks is
-/// prepared in the map. The counter of steps rises by at most their number.
+/// Derives code points over facts: which of them have a record that differs from the one before, in order. What each of
+/// them asks is prepared in the map. The counter of steps rises by at most their number.
 ///
 /// - `Broken { rule, point }`: a code point breaks a rule of a valid release: the first of them, with its first rule.
 /// - `Memory`: memory ran out.
@@ -67,7 +67,7 @@ fn derive_more<W: FactView, R: Records, S: Store<Option<Queries>>, L: Ledger>(
     }
 }
 
-/// Puts a code point and its record behind the others, where that is another than before.
+/// Puts a code point and its record behind the others, if the record differs from the one before.
 ///
 /// - `Memory`: memory ran out.
 fn put<R: Records>(records: &R, c: Point, value: Record, made: &mut Again) -> Result<(), Memory>

@@ -16,11 +16,11 @@ use std::alloc::Global;
 use std::sync::ledger::Ledger;
 use ucd_model::{FactView, Points, Queries, Steps};
 
-/// Derives code points that ask one of the questions over the facts of a view, prepares their records and what they ask,
-/// and answers those whose records differ, in ascending order. Nothing may be prepared before.
+/// Derives code points that ask one of the questions over the facts of a view, prepares their records and what they
+/// ask, and answers those whose records differ, in ascending order. Nothing may have been prepared before.
 ///
-/// The questions are those that the view does not answer as the facts did that the records and the map are of. The counter
-/// rises by at most the number of code points that depend on the change.
+/// The questions are those that the view answers differently from the facts that the records and the map are of. The
+/// counter rises by at most the number of code points that depend on the change.
 ///
 /// - `Broken { rule, point }`: the facts of the view are not valid. The least code point that breaks a rule is named, with
 ///   its first rule.

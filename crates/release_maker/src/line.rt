@@ -32,7 +32,7 @@ const COMPAT: u32 = 0x4_0000;
 
 /// Puts the line of the number `i` at the end of a text.
 ///
-/// - `Memory`: memory ran out. A part of the line may stand at the end of the text then.
+/// - `Memory`: memory ran out. A part of the line may then stand at the end of the text.
 pub fn put_line(series: Series, i: u32, text: &mut Text) -> Result<(), Memory>
     requires { i < 65536 }
     ensures { OnOk result (text.new ≡ text.old ++ line_text (line_of series i)) }

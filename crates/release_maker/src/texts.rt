@@ -11,13 +11,13 @@ use ucd_model::{Memory, Text};
 /// The row of the mark that the mappings of all others name.
 const MARK: &[u8] = b"0300;MARK;Mn;230;NSM;;;;;N;;;;;\n";
 
-/// How many bytes a row of each series takes together at most. Witness: 29, 43 and 49 bytes at 20000.
+/// The most bytes that one row of each series takes, together. Witness: 29, 43 and 49 bytes at 20000.
 const ROWS_LEN: usize = 128;
 
 /// How many commands a script has.
 const COMMANDS: u32 = 1000;
 
-/// How many bytes a command takes at most. Witness: 36 bytes.
+/// The most bytes that a command takes. Witness: 36 bytes.
 const COMMAND_LEN: usize = 40;
 
 /// The text of UnicodeData.txt with the mark and so many rows of each series. UAX #44, section 4.2.
@@ -58,7 +58,7 @@ fn with_room(alloc: Global, len: usize) -> Result<Text, Memory>
 
 /// Puts the lines of a series for the numbers below `count`.
 ///
-/// - `Memory`: memory ran out. A part of the lines may stand at the end of the text then.
+/// - `Memory`: memory ran out. A part of the lines may then stand at the end of the text.
 fn put_series(line: Series, count: u32, text: &mut Text) -> Result<(), Memory>
     requires { count ≤ 65536 }
     ensures { OnOk result (text.new ≡ text.old ++ series (line_of line) count) }

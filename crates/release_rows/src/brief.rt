@@ -11,13 +11,14 @@ ghost use Rattle.source_rows.specs.RowRefs.{row_in};
 use source_rows::{Decomposition, Mapping, PointValues, RowRef, Values};
 use ucd_model::{Category, Kind, Point, Row, Span};
 
-/// The category and the combining class that a row of UnicodeData.txt gives, if it gives no more. Of a row that also gives
-/// a mapping or a simple case mapping, of a row of another file and of trivia the category is `Cn`, which no row gives.
+/// The category and the combining class that a row of UnicodeData.txt gives, if it gives no more. For a row that also
+/// gives a mapping or a simple case mapping, for a row of another file and for trivia, the category is `Cn`, which no
+/// row gives.
 #[derive(Clone, Copy, Debug)]
 pub struct Brief {
-    /// The category; `Cn` where nothing is kept.
+    /// The category; `Cn` if nothing is kept.
     pub category: Category,
-    /// The combining class; 0 where nothing is kept.
+    /// The combining class; 0 if nothing is kept.
     pub class: u8,
 }
 
@@ -31,7 +32,7 @@ fn is_plain(kind: Kind, members: usize) -> bool
     }
 }
 
-/// Whether there is no mapping, if that is so of the decomposition mapping.
+/// Whether there is no mapping at all; `plain` says that there is no decomposition mapping.
 fn is_bare(plain: bool, upper: Option<Point>, lower: Option<Point>, title: Option<Point>) -> bool
     ensures { result ≡ is_bare plain upper lower title }
 {
@@ -94,7 +95,7 @@ impl Brief {
         }
     }
 
-    /// What the row of a code point gives of which this is kept; `None` where nothing is kept.
+    /// What the row of a code point gives, from what is kept of it; `None` if nothing is kept.
     pub fn values<'a>(self, point: Point) -> Option<PointValues<'a>>
         ensures some { IfSome result (λ given. self ≢ no_brief) }
         ensures gives { IfSome result (λ given. (row : DataValue) → self ≡ brief_of (Some (DataLine row)) → row.span ≡ record { lo = point; hi = point } → Gives given row) }

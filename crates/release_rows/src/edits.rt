@@ -78,7 +78,7 @@ pub fn gap_for(items: &PartList<Stretch>, search: &Search<'_>) -> Gap
     }
 }
 
-/// The entry, with a LF where it has no line end.
+/// The entry, with a LF if it has no line end.
 fn with_end(entry: Spanned<Stretch>) -> Spanned<Stretch>
     ensures item { (file : FileValue) (text : List ℕ) → stored_at file text result ≡ with_end (stored_at file text entry) }
     ensures stored { (file : FileValue) (text : List ℕ) → IsStored file text entry → IsStored file text result }
@@ -95,7 +95,7 @@ fn with_end(entry: Spanned<Stretch>) -> Spanned<Stretch>
     }
 }
 
-/// Puts an entry there next. The one before it has a line end then.
+/// Puts an entry there next. The one before it then has a line end.
 ///
 /// - `Memory`: memory ran out. The entries stay as they were.
 pub fn put_in(

@@ -42,8 +42,8 @@ impl EndMap {
         }
     }
 
-    /// Hands the place of a row back where the row, up to its last code point, breaks no rule against these extents,
-    /// and else answers the rule. It takes no memory.
+    /// Answers the place of a row if the row, up to its last code point, breaks no rule against these extents;
+    /// otherwise the rule. It takes no memory.
     pub fn checked_place(&self, place: Place, last: u32) -> Result<Place, Conflict>
         requires { place.code ≤ last }
         ensures { IsFree result place (conflict_with self.now (extent_at place last)) }
@@ -68,7 +68,7 @@ impl EndMap {
         })
     }
 
-    /// The rule that a row breaks that shares a code point with one of these extents.
+    /// The rule that a row breaks if it shares a code point with one of these extents.
     fn rule_at(&self, place: &Place) -> Conflict
         ensures { (last : ℕ) → list_any (meets (extent_at place.now last)) self.now ≡ true → conflict_with self.now (extent_at place.now last) ≡ Some result }
     {

@@ -32,8 +32,8 @@ use std::marker::Model;
 use ucd_lines::Ending;
 use ucd_model::{Memory, Row, SourceFile, Span, Spans, Text};
 
-/// A text that only grows, and where the items of a file stand in it, now and next. A row is kept as its bytes alone:
-/// they read as it. Contracts see the items.
+/// A text that only grows, and where the items of a file stand in it, now and next. A row is kept as its bytes alone,
+/// which are read as that row. Contracts see the items.
 #[derive(Debug, Drop)]
 pub struct FileText {
     file: SourceFile,
@@ -206,7 +206,7 @@ impl FileText {
         Ok(spans)
     }
 
-    /// Carries an operation on this file out, next, and answers what code points it touches.
+    /// Carries out an operation on this file, next, and answers what code points it touches.
     ///
     /// - `Key(rule)`: the rule that it breaks.
     /// - `Memory`: memory ran out, or the text would have 2^32 bytes or more.

@@ -1,4 +1,4 @@
-//! A file that is loaded piece by piece, whose rows are held against each other once all of them are there.
+//! A file that is loaded piece by piece, whose rows are compared with each other once all of them are there.
 
 ghost use Rattle.std.specs.Prelude.{◌≡◌, ◌+◌, ◌<◌, ◌^◌, ◌++◌, [], OnOk, IfOk, length};
 ghost use Rattle.std.specs.Option.{IfSome};
@@ -33,13 +33,13 @@ pub struct Gathering<'a> {
     end: u32,
     /// The keys and the spans of the rows, in the order of the rows.
     rows: Vec<Placed>,
-    /// The first code point of the last row; `None` where there is no row yet.
+    /// The first code point of the last row; `None` if there is no row yet.
     before: Option<u32>,
     /// How many lines the items have.
     lines: u32,
 }
 
-/// Puts the key of one more row behind the others, where there is one.
+/// Puts the key of one more row behind the others, if there is one.
 fn put_placed(rows: &mut Vec<Placed>, entry: Option<Entry>) -> Result<(), Memory>
     ensures { OnOk result (rows.new.items ≡ rows.old.items ++ placed_of entry) }
 {
@@ -67,7 +67,7 @@ impl<'a> Gathering<'a> {
         }
     }
 
-    /// Where the items stand in the text, each with the code points of its row; `None` where two rows have one key, or
+    /// Where the items stand in the text, each with the code points of its row; `None` if two rows have one key, or
     /// overlap.
     ///
     /// - `Memory`: memory ran out.
@@ -102,7 +102,8 @@ impl<'a> Gathering<'a> {
         Ok(())
     }
 
-    /// Takes one more piece, which stands in the text behind the items so far. Its row is not held against those above.
+    /// Takes one more piece, which stands in the text behind the items so far. Its row is not compared with those
+    /// above.
     ///
     /// - `Fault { line, rule }`: the piece breaks a rule by itself.
     /// - `Memory`: memory ran out.

@@ -16,8 +16,8 @@ use ucd_model::{Memory, SourceFile};
 
 /// The extents of rows whose keys differ and that do not overlap. Contracts see them in some order.
 ///
-/// A row that begins behind the ends of all of them has no conflict. In UnicodeData.txt each row that may stand does, so
-/// its rows are kept one behind the other: only a row that is a fault is held against each of them.
+/// A row that begins behind the ends of all of them has no conflict. In UnicodeData.txt each row that may stand does,
+/// so its rows are kept one behind the other: only a row that is a fault is compared with each of them.
 #[derive(Drop)]
 pub struct KeySet {
     /// Whether rows without names are kept as runs.
@@ -55,8 +55,8 @@ impl KeySet {
         }
     }
 
-    /// Hands the place of a row back where the row, up to its last code point, breaks no rule against these extents,
-    /// and else answers the rule. It takes no memory.
+    /// Answers the place of a row if the row, up to its last code point, breaks no rule against these extents;
+    /// otherwise the rule. It takes no memory.
     pub fn checked_place(&self, place: Place, last: u32) -> Result<Place, Conflict>
         requires { place.code ≤ last }
         ensures { IsFree result place (conflict_with self.now (extent_at place last)) }

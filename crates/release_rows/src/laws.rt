@@ -18,7 +18,7 @@ pub fn faults_are_first()
     ensures { FaultsAreFirst }
 {}
 
-/// A file is loaded exactly where no piece of it has a fault, and then its items are its pieces.
+/// A file is loaded exactly if no piece of it has a fault, and then its items are its pieces.
 pub fn loads_exactly()
     ensures { LoadsExactly }
 {}
@@ -30,8 +30,8 @@ pub fn bytes_are_kept()
     items_join();
 }
 
-/// The items of a loaded file are kept, ascend in UnicodeData.txt and are cut as lines are. None that LF alone ends ends
-/// in CR.
+/// The items of a loaded file are kept, ascend in UnicodeData.txt and are cut as lines are. The content of an item that
+/// LF alone ends does not end in CR.
 pub fn loaded_files_are_sound()
     ensures { LoadedFilesAreSound }
 {
@@ -48,20 +48,20 @@ pub fn reloads_the_same()
     rows_have_lines();
 }
 
-/// Where the items of a file are kept, they are so after an operation: each item is read from its content, keys differ,
-/// and rows do not overlap where the file forbids it.
+/// If the items of a file are kept, they still are after an operation: each item is read from its content, keys differ,
+/// and rows do not overlap if the file forbids it.
 pub fn operations_keep_rows()
     ensures { OperationsKeepRows }
 {
     rows_are_no_trivia();
 }
 
-/// Where the rows of UnicodeData.txt ascend, they do so after an operation.
+/// If the rows of UnicodeData.txt ascend, they still do after an operation.
 pub fn operations_keep_order()
     ensures { OperationsKeepOrder }
 {}
 
-/// Where the items of a file are cut as lines are, they are so after an operation.
+/// If the items of a file are cut as lines are, they still are after an operation.
 pub fn operations_keep_cuts()
     ensures { OperationsKeepCuts }
 {
@@ -89,15 +89,15 @@ pub fn rows_meet()
     ensures { RowsMeet }
 {}
 
-/// Everything but the operation's row keeps its bytes and its order, comments and empty lines among it. Only the item in
+/// Everything but the operation's row keeps its bytes and its order, comments and empty lines too. Only the item in
 /// front of an added row may differ: it has a LF if it had no line end. A changed row keeps its place and its line end,
 /// and each other file keeps its items.
 pub fn everything_else_stays()
     ensures { EverythingElseStays }
 {}
 
-/// No code point is covered by two of the rows that are kept of Scripts.txt, and none by two of WordBreakProperty.txt; by
-/// missing rows it may be.
+/// No code point is covered by two of the rows that are kept of Scripts.txt, or by two of WordBreakProperty.txt,
+/// missing rows aside.
 pub fn values_are_apart()
     ensures { ValuesAreApart }
 {}

@@ -48,7 +48,7 @@ fn gathered_items(
     gathering.into_items()
 }
 
-/// Where the items of a file stand in its text. Each row is held against those above it as it comes.
+/// Where the items of a file stand in its text. Each row is compared with those above it as it comes.
 ///
 /// - `Fault { line, rule }`: the first line that breaks a rule, counted from 1, and the first rule that it breaks.
 /// - `Memory`: memory ran out.
@@ -69,7 +69,7 @@ fn checked_items(
     Ok(loading.into_items())
 }
 
-/// Where the items of a file stand in its text. The rows of UnicodeData.txt ascend, so that each is held against those
+/// Where the items of a file stand in its text. The rows of UnicodeData.txt ascend, so that each is compared with those
 /// above it without a search.
 ///
 /// - `Fault { line, rule }`: the first line that breaks a rule, counted from 1, and the first rule that it breaks.

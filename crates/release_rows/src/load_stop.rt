@@ -39,7 +39,7 @@ pub enum LoadStop {
     Memory,
 }
 
-/// Want of memory is `LoadStop::Memory`.
+/// Running out of memory is `LoadStop::Memory`.
 impl From<Memory> for LoadStop {
     ghost use Rattle.release_rows.specs.declared.load_stop.LoadStop.TheVariants.{Memory};
 
@@ -50,7 +50,7 @@ impl From<Memory> for LoadStop {
     }
 }
 
-/// The same, of a call that hands back what it could not put; that is dropped.
+/// The same for a call that hands back what it could not put; that is dropped.
 impl<T: Drop> From<AllocFailed<T>> for LoadStop {
     ghost use Rattle.release_rows.specs.declared.load_stop.LoadStop.TheVariants.{Memory};
 

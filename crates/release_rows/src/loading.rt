@@ -39,13 +39,13 @@ pub struct Loading<'a> {
     end: u32,
     /// The keys and the spans of the rows.
     keys: KeySet,
-    /// The first code point of the last row; `None` where there is no row yet.
+    /// The first code point of the last row; `None` if there is no row yet.
     before: Option<u32>,
     /// How many lines the items have.
     lines: u32,
 }
 
-/// Takes up the extent of one more row, where there is one.
+/// Takes up the extent of one more row, if there is one.
 fn put_extent(keys: &mut KeySet, entry: Option<Entry>) -> Result<(), Memory>
     requires { IsFreeEntry keys.old entry }
     ensures { OnOk result ((p : Extent → Bool) → list_any p keys.new ≡ (list_any p (entry_extents entry) || list_any p keys.old)) }
@@ -56,7 +56,7 @@ fn put_extent(keys: &mut KeySet, entry: Option<Entry>) -> Result<(), Memory>
     }
 }
 
-/// The first code point of the last row, with one more row, where there is one.
+/// The first code point of the last row, with one more row, if there is one.
 pub fn start_with(before: Option<u32>, entry: &Option<Entry>) -> Option<u32>
     ensures { result ≡ start_of_entry before entry.now }
 {
@@ -145,8 +145,8 @@ impl<'a> Loading<'a> {
         self.items
     }
 
-    /// Hands what is kept of a row back where the row breaks no rule against the rows above it, and else answers the
-    /// rule. It takes no memory.
+    /// Answers what is kept of a row if the row breaks no rule against the rows above it; otherwise the rule. It takes
+    /// no memory.
     fn checked_entry(&self, entry: Entry) -> Result<Entry, LoadRule>
         requires sound { IsSound self.now }
         requires ordered { entry.place.code ≤ entry.last }
@@ -174,7 +174,7 @@ impl<'a> Loading<'a> {
         })
     }
 
-    /// The same of a row that may not be there.
+    /// The same for a row that may not be there.
     fn checked_optional(&self, entry: Option<Entry>) -> Result<Option<Entry>, LoadRule>
         requires sound { IsSound self.now }
         requires ordered { IsOrdered entry }

@@ -48,7 +48,7 @@ pub fn put(files: &mut NineFiles, file: SourceFile, items: FileText)
     files[file.place()] = items;
 }
 
-/// Carries an operation out on what is next in its file, and answers the code points that it touches.
+/// Carries out an operation on what is next in its file, and answers the code points that it touches.
 ///
 /// - `Key(rule)`: the rule that it breaks.
 /// - `Memory`: memory ran out, or the text of the file would have 2^32 bytes or more.

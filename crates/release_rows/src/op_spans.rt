@@ -13,7 +13,7 @@ use source_rows::{Key, rows_are_ok, rows_are_read};
 use std::alloc::Global;
 use ucd_model::{Memory, Point, Row, SourceFile, Span, Spans};
 
-/// The code point of a key, as a number; 0 where it has none.
+/// The code point of a key, as a number; 0 if it has none.
 pub fn code_of(key: &Key) -> u32
     ensures { result ≡ code_number key.now.code }
 {
@@ -33,7 +33,7 @@ pub fn has_code(file: SourceFile) -> bool
     )
 }
 
-/// The span of a row's code points; `None` of a row of names.
+/// The span of a row's code points; `None` for a row of names.
 fn span_of(row: &Row) -> Option<Span>
     ensures { option_to_list result ≡ row_spans row.now }
 {
@@ -48,7 +48,7 @@ fn span_of(row: &Row) -> Option<Span>
     }
 }
 
-/// What a row speaks of; nothing of a row of names.
+/// What a row speaks of; nothing for a row of names.
 pub fn row_spans(alloc: Global, row: &Row) -> Result<Spans, Memory>
     ensures { IfOk result (λ spans. spans ≡ row_spans row.now) }
 {
@@ -59,7 +59,7 @@ pub fn row_spans(alloc: Global, row: &Row) -> Result<Spans, Memory>
     Ok(spans)
 }
 
-/// The code points from one to another, as a list of one span; no span where they are none.
+/// The code points from one to another, as a list of one span; no span if there are none.
 fn one_span(alloc: Global, lo: u32, hi: u32) -> Result<Spans, Memory>
     ensures { lo ≤ hi → hi < 1114112 → IfOk result (λ spans. spans ≡ record { lo = lo; hi = hi } ∷ []) }
 {
@@ -72,7 +72,7 @@ fn one_span(alloc: Global, lo: u32, hi: u32) -> Result<Spans, Memory>
     Ok(spans)
 }
 
-/// What the row of an entry speaks of; nothing of a row of names.
+/// What the row of an entry speaks of; nothing for a row of names.
 pub fn entry_spans(
     alloc: Global,
     file: SourceFile,
@@ -88,7 +88,7 @@ pub fn entry_spans(
     one_span(alloc, entry.code, entry.last)
 }
 
-/// What the row of an entry speaks of, and then what the row does that takes its place.
+/// What the row of an entry speaks of, and then what the row speaks of that takes its place.
 pub fn both_spans(
     alloc: Global,
     file: SourceFile,

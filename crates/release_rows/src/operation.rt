@@ -72,7 +72,7 @@ impl From<KeyRule> for OpStop {
     }
 }
 
-/// Want of memory is `OpStop::Memory`.
+/// Running out of memory is `OpStop::Memory`.
 impl From<Memory> for OpStop {
     ghost use Rattle.release_rows.specs.declared.operation.OpStop.TheVariants.{Memory};
 
@@ -83,7 +83,7 @@ impl From<Memory> for OpStop {
     }
 }
 
-/// The same, of a call that hands back what it could not put; that is dropped.
+/// The same for a call that hands back what it could not put; that is dropped.
 impl<T: Drop> From<AllocFailed<T>> for OpStop {
     ghost use Rattle.release_rows.specs.declared.operation.OpStop.TheVariants.{Memory};
 

@@ -19,7 +19,7 @@ use ucd_model::SourceFile;
 pub struct Piece<'a> {
     /// The line, or the one that opens the range.
     pub first: Item<'a>,
-    /// The line behind one that opens a range; `None` of other lines, and where the file ends.
+    /// The line behind one that opens a range; `None` for other lines, and at the end of the file.
     pub last: Option<Item<'a>>,
 }
 
@@ -33,7 +33,7 @@ fn opens_range(file: SourceFile, content: &[u8]) -> bool
     }
 }
 
-/// Takes the first piece off the lines; `None` where there are no lines. UAX #44, section 4.2.3.
+/// Takes the first piece off the lines; `None` if there are no lines. UAX #44, section 4.2.3.
 pub fn next_piece<'a>(file: SourceFile, lines: &mut Items<'a>) -> Option<Piece<'a>>
     ensures piece { MatchOption result (pieces file lines.old ≡ []) (λ p. pieces file lines.old ≡ piece_of p ∷ pieces file lines.new) }
     ensures bytes { MatchOption result (joined lines.old ≡ []) (λ p. joined lines.old ≡ piece_bytes (piece_of p) ++ joined lines.new) }

@@ -33,7 +33,7 @@ fn row_points(row: &RowRef<'_>) -> (u32, u32)
     }
 }
 
-/// The first code point of a row, and the last one that no other row may have: of a missing row the first.
+/// The first code point of a row, and the last one that no other row may have: for a missing row, the first.
 fn row_extent(file: SourceFile, row: &RowRef<'_>) -> (u32, u32)
     ensures first { result.0 ≡ (row_span (row_in row.now)).lo }
     ensures last { result.1 ≡ row_end file (row_in row.now) }
@@ -64,7 +64,7 @@ fn entry_of(alloc: Global, file: SourceFile, row: RowRef<'_>) -> Result<Entry, R
     })
 }
 
-/// What is kept of a row of any file. Of its texts only those of the key are copied.
+/// What is kept of a row of any file. Only the texts of its key are copied.
 fn row_entry(alloc: Global, file: SourceFile, content: &[u8]) -> Result<Entry, RowStop>
     ensures { EntersAs file result (row_or_fault file content.now) }
 {

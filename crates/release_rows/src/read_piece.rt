@@ -40,10 +40,10 @@ fn stop_at(file: SourceFile, line: u32, piece: Piece<'_>, fault: RowFault) -> Lo
     LoadStop::Fault { line, rule }
 }
 
-/// What is kept of the row of a piece, whose first line has this number, and nothing where the piece is trivia.
+/// What is kept of the row of a piece, whose first line has this number, and nothing if the piece is trivia.
 ///
 /// - `Fault { line, rule }`: the piece is no row, and `rule` is the first rule that it breaks by itself. The line is
-///   this one, and the next one where the fault is that of the second line of a range.
+///   this one, and the next one if the fault is that of the second line of a range.
 /// - `Memory`: memory ran out.
 pub fn read_piece(
     alloc: Global,

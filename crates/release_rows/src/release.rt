@@ -32,7 +32,7 @@ const TOO_LONG: LoadStop = LoadStop::Fault {
 
 /// The source files of a release. Contracts see the items of each file, now and next.
 ///
-/// In each file keys differ, rows do not overlap where that is forbidden, and each row is read from its bytes. The rows of
+/// In each file keys differ, rows do not overlap if that is forbidden, and each row is read from its bytes. The rows of
 /// UnicodeData.txt ascend.
 #[derive(Debug, Drop)]
 pub struct Release {
@@ -100,8 +100,9 @@ impl Release {
         Ok(())
     }
 
-    /// The bytes of a file now. Of a file that was loaded they are the bytes that it was loaded from. Of an edited file
-    /// they are loaded as its items again, if they are within the limit and no content that LF alone ends ends in CR.
+    /// The bytes of a file now. For a file that was loaded, they are the bytes that it was loaded from. For an edited
+    /// file, they are loaded as its items again, if they are within the limit and no content that LF alone ends has a
+    /// CR at its end.
     ///
     /// - `Memory`: memory ran out.
     pub fn text(&self, alloc: Global, file: SourceFile) -> Result<Text, Memory>
@@ -147,12 +148,12 @@ impl Release {
         items_at(&self.files, file).next_rows_in(alloc, spans)
     }
 
-    /// Carries an operation out on what is prepared, and answers the code points that it touches. Outside of them the
+    /// Carries out an operation on what is prepared, and answers the code points that it touches. Outside of them the
     /// rows that speak of a code point stay (`rows_stay`).
     ///
     /// - `Key(K1)`: a row of the file has the key of the row that is added.
     /// - `Key(K2)`: no row has the key of the row that is changed, or the key that is withdrawn.
-    /// - `Key(K4)`: the row overlaps another one where the file forbids it.
+    /// - `Key(K4)`: the row overlaps another one, and the file forbids it.
     /// - `Memory`: memory ran out, or the text that the file is kept in would have 2^32 bytes or more.
     ///
     /// After each what is prepared is as it was.

@@ -70,7 +70,8 @@ pub fn has_spans(file: SourceFile) -> bool
     }
 }
 
-/// The last code point that no other row may have: of a row whose span may not overlap its own last one, else the first.
+/// The last code point that no other row may have: for a row whose span may not overlap, its last one; otherwise its
+/// first.
 pub fn row_end(file: SourceFile, row: &Row) -> u32
     ensures end { result ≡ row_end file row.now }
     ensures ordered { (row_span row.now).lo ≤ result }

@@ -87,7 +87,7 @@ impl<'a> RowText<'a> {
         self.row().into_row(alloc)
     }
 
-    /// What is kept of what the row gives, as what it gives; `None` where nothing is kept.
+    /// What the row gives, from what is kept of it; `None` if nothing is kept.
     fn kept_values(&self) -> Option<PointValues<'a>>
         ensures { IfSome result (λ given. ShowsGiven (Some given) self.now) }
     {
@@ -96,8 +96,8 @@ impl<'a> RowText<'a> {
         self.brief.values(Point::new(self.first)?)
     }
 
-    /// What a row of UnicodeData.txt gives to its code points, as it stands there; `None` of the rows of the other files.
-    /// A row that gives no more than a category and a combining class is not read for it.
+    /// What a row of UnicodeData.txt gives to its code points, as it stands there; `None` for the rows of the other
+    /// files. A row that gives no more than a category and a combining class is not read for it.
     pub fn point_values(&self) -> Option<PointValues<'a>>
         ensures { ShowsGiven result self.now }
     {
@@ -115,7 +115,8 @@ impl<'a> RowText<'a> {
         }
     }
 
-    /// A row of PropList.txt, Scripts.txt or WordBreakProperty.txt, as it stands there; `None` of the rows of the other files.
+    /// A row of PropList.txt, Scripts.txt or WordBreakProperty.txt, as it stands there; `None` for the rows of the
+    /// other files.
     pub fn valued(&self) -> Option<Valued<'a>>
         ensures { ShowsValued result self.now }
     {
@@ -130,8 +131,8 @@ impl<'a> RowText<'a> {
         }
     }
 
-    /// The code points and the value of a row of PropList.txt, Scripts.txt or WordBreakProperty.txt, as they stand there;
-    /// `None` of missing rows, and of the rows of the other files.
+    /// The code points and the value of a row of PropList.txt, Scripts.txt or WordBreakProperty.txt, as they stand
+    /// there; `None` for missing rows, and for the rows of the other files.
     pub fn value(&self) -> Option<ValueText<'a>>
         ensures { ShowsValue result self.now }
     {
@@ -141,8 +142,8 @@ impl<'a> RowText<'a> {
         }
     }
 
-    /// The code points and the value of a missing row of Scripts.txt or WordBreakProperty.txt, as they stand there; `None` of
-    /// every other row.
+    /// The code points and the value of a missing row of Scripts.txt or WordBreakProperty.txt, as they stand there;
+    /// `None` for every other row.
     pub fn missing(&self) -> Option<ValueText<'a>>
         ensures { ShowsMissing result self.now }
     {

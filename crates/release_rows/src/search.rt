@@ -19,7 +19,7 @@ use ucd_model::{SourceFile, Text};
 pub enum Test {
     /// It has the key that is looked for.
     SameKey,
-    /// It has another key, and overlaps the code points that are looked for where the file forbids it.
+    /// It has another key and overlaps the code points that are looked for, and the file forbids it.
     OverlapsAnother,
     /// It is of the group that is looked for, and has a greater key.
     Follows,
@@ -29,21 +29,21 @@ pub enum Test {
     Any,
 }
 
-/// Whether tags are the same, where they tell.
+/// Whether tags are the same, if they tell.
 fn tag_fits(told: bool, tag: u32, other: u32) -> bool
     ensures { result ≡ tag_fits told tag other }
 {
     !told || tag == other
 }
 
-/// Whether no tag within the bounds is this one, where tags tell.
+/// Whether no tag within the bounds is this one, if tags tell.
 fn misses_tag(told: bool, tag: u32, reach: Reach) -> bool
     ensures { result ≡ misses_tag told tag reach }
 {
     told && (tag < reach.least_tag || reach.most_tag < tag)
 }
 
-/// Whether no code point within the bounds is greater than this one, and each tag is less, where tags tell.
+/// Whether no code point within the bounds is greater than this one, and each tag is less, if tags tell.
 fn falls_short(told: bool, code: u32, tag: u32, reach: Reach) -> bool
     ensures { result ≡ falls_short told code tag reach }
 {
@@ -129,7 +129,7 @@ impl<'a> Search<'a> {
         has_spans(self.file) && !self.missing
     }
 
-    /// Whether the entry has another key, and overlaps what is looked for where the file forbids it.
+    /// Whether the entry has another key and overlaps what is looked for, and the file forbids it.
     fn meets_another(&self, entry: &Spanned<Stretch>) -> bool
         ensures { result ≡ meets_another self.now entry.now }
     {

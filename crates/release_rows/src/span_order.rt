@@ -95,7 +95,7 @@ impl SpanOrder {
     fn some_meet(&self, lo: u32, hi: u32) -> bool
         ensures { result ≡ list_any (spans_meet (record { lo = lo; hi = hi })) self.now }
     {
-        // of the spans that begin at the end or before it, the last one reaches as far as any
+        // the last of the spans that begin at or before the end reaches as far as any of them
         let begun = self
             .spans
             .as_slice()

@@ -22,7 +22,7 @@ pub struct Stretch {
     pub brief: Brief,
 }
 
-/// What stands behind the first `at` bytes; nothing where there are no more.
+/// What stands behind the first `at` bytes; nothing if there are no more.
 fn behind(text: &[u8], at: usize) -> &[u8]
     ensures { result.now ≡ drop at text.now }
 {
@@ -32,7 +32,7 @@ fn behind(text: &[u8], at: usize) -> &[u8]
     &text[at..]
 }
 
-/// The first `len` bytes; all where there are no more.
+/// The first `len` bytes; all if there are no more.
 fn front(text: &[u8], len: usize) -> &[u8]
     ensures { result.now ≡ take len text.now }
 {

@@ -19,7 +19,7 @@ fn digit(byte: u8) -> u32
     }
 }
 
-/// What the first byte is worth; 0 where there is none.
+/// What the first byte is worth; 0 if there is none.
 fn first_digit(text: &[u8]) -> u32
     ensures digit { result ≡ first_digit text.now }
     ensures few { result ≤ 76 }
@@ -40,7 +40,7 @@ fn behind_first(text: &[u8]) -> &[u8]
     }
 }
 
-/// A number for the first five bytes of a text. Of two texts, the one that comes behind the other has no lesser number.
+/// A number for the first five bytes of a text. A text that comes behind another one has no lesser number.
 fn number(text: &[u8]) -> u32
     ensures { result ≡ number text.now }
 {
@@ -55,7 +55,7 @@ fn number(text: &[u8]) -> u32
         + first_digit(fifth)
 }
 
-/// The last five bytes of a text; all where there are no more.
+/// The last five bytes of a text; all if there are no more.
 fn end_of(text: &[u8]) -> &[u8]
     ensures { result.now ≡ end_of text.now }
 {
@@ -65,7 +65,7 @@ fn end_of(text: &[u8]) -> &[u8]
     &text[text.len() - 5..]
 }
 
-/// The first name of a list; nothing where there is none.
+/// The first name of a list; nothing if there is none.
 fn first_text(names: &[Text]) -> &[u8]
     ensures { result.now ≡ field names.now 0 }
 {
@@ -75,7 +75,7 @@ fn first_text(names: &[Text]) -> &[u8]
     }
 }
 
-/// The second name of a list; nothing where there is none.
+/// The second name of a list; nothing if there is none.
 fn second_text(names: &[Text]) -> &[u8]
     ensures { result.now ≡ field names.now 1 }
 {
@@ -85,7 +85,7 @@ fn second_text(names: &[Text]) -> &[u8]
     }
 }
 
-/// The first one of the fields; nothing where there is none.
+/// The first one of the fields; nothing if there is none.
 fn first_field(mut fields: Fields<'_>) -> &[u8]
     ensures { result.now ≡ field fields.entry 0 }
 {
@@ -95,7 +95,7 @@ fn first_field(mut fields: Fields<'_>) -> &[u8]
     }
 }
 
-/// The second one of the fields; nothing where there is none.
+/// The second one of the fields; nothing if there is none.
 fn second_field(mut fields: Fields<'_>) -> &[u8]
     ensures { result.now ≡ field fields.entry 1 }
 {
@@ -151,7 +151,7 @@ pub fn content_tag(file: SourceFile, content: &[u8]) -> u32
     }
 }
 
-/// The tag of the rows whose key has these names, in a file where that tells it; else 0.
+/// The tag of the rows whose key has these names, if these tell it in the file; else 0.
 pub fn key_tag(file: SourceFile, names: &[Text]) -> u32
     ensures { result ≡ key_tag file names.now }
 {

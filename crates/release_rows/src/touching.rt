@@ -57,8 +57,8 @@ fn passing_rows<'a>(
     Ok(rows)
 }
 
-/// The rows of the entries next that speak of a code point in some of the spans, in order. Of a part whose bounds meet no
-/// span it looks at no entry.
+/// The rows of the entries next that speak of a code point in some of the spans, in order. It looks at no entry of a
+/// part whose bounds meet no span.
 ///
 /// - `Memory`: memory ran out.
 pub fn touching_rows<'a>(

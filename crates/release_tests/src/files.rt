@@ -6,7 +6,7 @@ use std::alloc::Global;
 use std::test::Fail;
 use ucd_model::{Memory, SourceFile, Text, file_limit};
 
-/// Whether a file is answered so, of its bytes and of its text, and keeps its bytes where it loads and none where it does
+/// Whether a file is answered so, of its bytes and of its text, and keeps its bytes if it loads and none if it does
 /// not.
 pub fn is_answered(
     alloc: Global,
@@ -33,7 +33,7 @@ fn bytes_are_answered(
     Ok(answered && release.text(alloc, file)?.as_slice() == kept)
 }
 
-/// The same of a text of these bytes that is moved into the release.
+/// The same for a text of these bytes that is moved into the release.
 fn text_is_answered(
     alloc: Global,
     file: SourceFile,

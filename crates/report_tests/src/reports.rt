@@ -108,8 +108,8 @@ fn are_assigned(bench: &Bench, points: &[Point]) -> bool
     points.iter().all(|c| bench.is_assigned(*c))
 }
 
-/// The forms that a list has in both, and its folding under NFKC; `None` where a break of one of their policies is listed,
-/// and where a code point is not assigned.
+/// The forms that a list has in both, and its folding under NFKC; `None` if a break of one of their policies is listed,
+/// or if a code point is not assigned.
 fn in_common(
     alloc: Global,
     old: &Bench,

@@ -47,7 +47,7 @@ pub fn end_run<S: Shelf, K: Sink>(
     }
 }
 
-/// Tells a line; where that fails, the status stays what it is.
+/// Tells a line; if that fails, the status stays what it is.
 fn tell<K: Sink>(out: &mut K, line: &[u8])
     ensures { Told line.now (sink_seen K.Sink out.old out.new) }
 {

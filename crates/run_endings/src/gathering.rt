@@ -21,7 +21,7 @@ fn unread_line(alloc: Global, paths: &[Text], at: usize) -> Result<Text, Memory>
     read_failed(alloc, paths[at].as_slice())
 }
 
-/// What a shelf holds at each of the paths, in order: the bytes, up to one more than a file may have; `None` where the
+/// What a shelf holds at each of the paths, in order: the bytes, up to one more than a file may have; `None` if the
 /// path is not held.
 ///
 /// - `ReadFailed(line)`: a file could not be read; the line names it.

@@ -6,7 +6,7 @@ ghost use Rattle.run_endings.specs.Printed.{read_failed, write_failed};
 use std::alloc::Global;
 use ucd_points::{Memory, Text};
 
-/// The line for want of memory.
+/// The line for running out of memory.
 pub const OUT_OF_MEMORY: &[u8] = b"out of memory\n";
 
 /// The line for a file that could not be read.

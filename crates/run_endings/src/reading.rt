@@ -20,7 +20,7 @@ pub enum ReadingStop {
     Memory,
 }
 
-/// What a shelf holds at each of the paths, in order: the bytes, up to one more than a file may have; `None` where the
+/// What a shelf holds at each of the paths, in order: the bytes, up to one more than a file may have; `None` if the
 /// path is not held.
 ///
 /// - `FailedAt(at)`: the path at this place could not be read.

@@ -17,7 +17,7 @@ pub enum Status {
     ReadFault,
     /// A file could not be written, or the summary could not be told.
     WriteFault,
-    /// Memory was wanted before the first write, and there was none.
+    /// Memory ran out before the first write.
     Memory,
 }
 

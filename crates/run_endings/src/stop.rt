@@ -15,7 +15,7 @@ pub enum Stop {
     Memory,
 }
 
-/// Want of memory is `Stop::Memory`.
+/// Running out of memory is `Stop::Memory`.
 impl From<Memory> for Stop {
     ghost use Rattle.run_endings.specs.declared.stop.Stop.TheVariants.{Memory};
 

@@ -6,7 +6,7 @@ ghost use Rattle.run_inputs.specs.Held.{held_at};
 
 use ucd_model::Text;
 
-/// What is held at a place; `None` where nothing is, and past the last.
+/// What is held at a place; `None` if nothing is, and past the last.
 pub fn held_at(held: &[Option<Text>], at: usize) -> Option<&[u8]>
     ensures { option_map (λ bytes. bytes.now) result ≡ held_at held.now at }
 {
@@ -16,7 +16,7 @@ pub fn held_at(held: &[Option<Text>], at: usize) -> Option<&[u8]>
     }
 }
 
-/// Takes what is held at a place; `None` where nothing is, and past the last. Nothing is held there any longer.
+/// Takes what is held at a place; `None` if nothing is, and past the last. Nothing is held there any longer.
 pub fn take_held(held: &mut Vec<Option<Text>>, at: usize) -> Option<Text>
     ensures taken { result ≡ held_at held.old.items at }
     ensures emptied { held_at held.new.items at ≡ None }

@@ -36,7 +36,7 @@ pub fn put_sources(
     Ok(())
 }
 
-/// Puts the files that are derived of a bench below a folder.
+/// Puts the files that are derived from a bench below a folder.
 ///
 /// - `Memory`: memory ran out.
 pub fn put_derived(

@@ -54,7 +54,7 @@ pub enum FolderStop {
     Memory,
 }
 
-/// Want of memory is `FolderStop::Memory`.
+/// Running out of memory is `FolderStop::Memory`.
 impl From<Memory> for FolderStop {
     ghost use Rattle.std.specs.Prelude.{◌≡◌};
     ghost use Rattle.run_inputs.specs.declared.refusal.FolderStop.TheVariants.{Memory};

@@ -14,7 +14,7 @@ use run_endings::Stop;
 use script_lines::{Commands, ScriptStop, commands, groups_are_ready};
 use std::alloc::Global;
 
-/// The commands of the script at this path, of which this is held.
+/// The commands of the script at this path, given what is held of it.
 ///
 /// - `Refused(line)`: the script is absent, too long, or breaks a rule.
 /// - `Memory`: memory ran out.

@@ -7,7 +7,7 @@ ghost use Rattle.run_inputs.specs.Verdict.{second_verdict};
 use crate::refusal::FileRule;
 use ucd_model::file_limit;
 
-/// The bytes of the file beside a folder, of which this is held.
+/// The bytes of the file beside a folder, given what is held of it.
 ///
 /// - `G01`: it is not there.
 /// - `G02`: it is longer than a file may be.

@@ -63,7 +63,7 @@ fn is_old(shelf: &MemoryShelf) -> bool {
         .all(|path| shelf.held(path) == Some(b"old".as_slice()))
 }
 
-/// Each read may fail. A failed read is told also where the release has a fault.
+/// Each read may fail. A failed read is told even if the release has a fault.
 #[test]
 fn each_failed_read_is_told(rt: HostRuntime) -> Result<(), Fail> {
     for nth in 1..20 {
@@ -114,7 +114,7 @@ fn is_written_to(shelf: &MemoryShelf, whole: &MemoryShelf, place: usize) -> bool
     (0..OUTPUT_PATHS.len()).all(|at| is_left(shelf, whole, place, at))
 }
 
-/// Whether the output at a place is as it should be, where the write at another one failed.
+/// Whether the output at a place is as it should be after the write at another one failed.
 fn is_left(shelf: &MemoryShelf, whole: &MemoryShelf, failed: usize, at: usize) -> bool {
     match OUTPUT_PATHS.get(at) {
         Some(path) if at < failed => shelf.held(path) == whole.held(path),
@@ -193,7 +193,7 @@ fn tells_in_part(alloc: Global, whole: &MemoryShelf, room: usize) -> Result<bool
     )
 }
 
-/// The same of three sinks, beside a shelf whose run is told whole.
+/// The same for three sinks, beside a shelf whose run is told whole.
 ///
 /// - `Memory`: memory ran out.
 fn tell_in_part(alloc: Global, whole: &mut MemoryShelf) -> Result<bool, Memory> {

@@ -299,7 +299,7 @@ fn refuses_a_long_file(alloc: Global, shelf: &mut MemoryShelf) -> Result<bool, M
     ends(alloc, &WORDS, shelf, 1000, (Status::LoadRefused, line))
 }
 
-/// The same of a shelf that was made for it.
+/// The same for a shelf that was made for it.
 fn refuses_a_long_earlier_file(alloc: Global) -> Result<bool, Memory> {
     let mut shelf = shelf_with(alloc, LATER, EARLIER, b"")?;
     refuses_a_long_file(alloc, &mut shelf)

@@ -90,7 +90,7 @@ fn files_are_refused_by_their_first_fault(rt: HostRuntime) -> Result<(), Fail> {
     Ok(())
 }
 
-/// Puts a row of a code point that maps to so many times another one.
+/// Puts a row of a code point that maps to another one so many times.
 ///
 /// - `Memory`: memory ran out.
 fn put_times(data: &mut Text, times: u32) -> Result<(), Memory> {
@@ -123,7 +123,7 @@ fn a_line_of_semicolons_alone_is_refused(rt: HostRuntime) -> Result<(), Fail> {
     Ok(())
 }
 
-/// From which source file to before which all are absent, and the line that is told.
+/// The first source file that is absent, the first one behind it that is not, and the line that is told.
 const ABSENT: [(usize, usize, &[u8]); 3] = [
     (1, 2, b"refused: d/PropList.txt line 0 G01\n"),
     (5, 6, b"refused: d/CaseFolding.txt line 0 G01\n"),
@@ -161,7 +161,7 @@ fn refuses_over(
     )
 }
 
-/// The first file that is absent is named, also where others behind it are.
+/// The first file that is absent is named, even if others behind it are absent too.
 #[test]
 fn an_absent_file_is_refused(rt: HostRuntime) -> Result<(), Fail> {
     for (from, to, line) in &ABSENT {
@@ -303,7 +303,7 @@ fn stops_at_second_read(
     )
 }
 
-/// A failed read is told also where a file that was read before it is refused or absent.
+/// A failed read is told even if a file that was read before it is refused or absent.
 #[test]
 fn a_failed_read_is_told_before_a_refusal(rt: HostRuntime) -> Result<(), Fail> {
     assert!(rt; tells_second_read(rt.alloc(), b"d/UnicodeData.txt")?);

@@ -9,7 +9,7 @@ use std::test::Fail;
 use ucd_model::{Memory, Text};
 use ucdshop_core::{Status, run};
 
-/// The core properties that are derived of the letters.
+/// The core properties that are derived from the letters.
 pub const LETTERS_CORE: &[u8] =
     b"# Math\n# total 0\n\n# Alphabetic\n0041 ; Alphabetic\n0061 ; Alphabetic\n# total 2\n\n# Lowercase\n0061 ; Lowercase\n# total 1\n\n# Uppercase\n0041 ; Uppercase\n# total 1\n\n# Cased\n0041 ; Cased\n0061 ; Cased\n# total 2\n\n# Case_Ignorable\n# total 0\n\n# Changes_When_Lowercased\n0041 ; Changes_When_Lowercased\n# total 1\n\n# Changes_When_Uppercased\n0061 ; Changes_When_Uppercased\n# total 1\n\n# Changes_When_Titlecased\n0061 ; Changes_When_Titlecased\n# total 1\n\n# Changes_When_Casefolded\n# total 0\n\n# Changes_When_Casemapped\n0041 ; Changes_When_Casemapped\n0061 ; Changes_When_Casemapped\n# total 2\n\n# ID_Start\n0041 ; ID_Start\n0061 ; ID_Start\n# total 2\n\n# ID_Continue\n0041 ; ID_Continue\n0061 ; ID_Continue\n# total 2\n\n# XID_Start\n0041 ; XID_Start\n0061 ; XID_Start\n# total 2\n\n# XID_Continue\n0041 ; XID_Continue\n0061 ; XID_Continue\n# total 2\n\n# Default_Ignorable_Code_Point\n# total 0\n\n# Grapheme_Extend\n# total 0\n\n# Grapheme_Base\n0041 ; Grapheme_Base\n0061 ; Grapheme_Base\n# total 2\n\n# Grapheme_Link\n# total 0\n\n";
 
@@ -31,13 +31,13 @@ const RANGE: &[u8] =
 const RANGE_CORE: &[u8] =
     b"# Math\n# total 0\n\n# Alphabetic\n4E00..9FFF ; Alphabetic\n# total 20992\n\n# Lowercase\n# total 0\n\n# Uppercase\n# total 0\n\n# Cased\n# total 0\n\n# Case_Ignorable\n# total 0\n\n# Changes_When_Lowercased\n# total 0\n\n# Changes_When_Uppercased\n# total 0\n\n# Changes_When_Titlecased\n# total 0\n\n# Changes_When_Casefolded\n# total 0\n\n# Changes_When_Casemapped\n# total 0\n\n# ID_Start\n4E00..9FFF ; ID_Start\n# total 20992\n\n# ID_Continue\n4E00..9FFF ; ID_Continue\n# total 20992\n\n# XID_Start\n4E00..9FFF ; XID_Start\n# total 20992\n\n# XID_Continue\n4E00..9FFF ; XID_Continue\n# total 20992\n\n# Default_Ignorable_Code_Point\n# total 0\n\n# Grapheme_Extend\n# total 0\n\n# Grapheme_Base\n4E00..9FFF ; Grapheme_Base\n# total 20992\n\n# Grapheme_Link\n# total 0\n\n";
 
-/// UnicodeData.txt and PropList.txt, and the core properties that are derived of them.
+/// UnicodeData.txt and PropList.txt, and the core properties that are derived from them.
 const FLAGGED: [(&[u8], &[u8], &[u8]); 2] = [
     (LETTERS, b"", LETTERS_CORE),
     (PROPERTIES_DATA, PROPERTIES, PROPERTIES_CORE),
 ];
 
-/// UnicodeData.txt, and the core properties that are derived of it alone.
+/// UnicodeData.txt, and the core properties that are derived from it alone.
 const BARE: [(&[u8], &[u8]); 2] = [(RANGE, RANGE_CORE), (b"", EMPTY_CORE)];
 
 /// Whether these core properties are derived, and the release stays.

@@ -40,7 +40,7 @@ const VALUES: [Asked; 3] = [
             (b"o/auxiliary/WordBreakProperty.txt", b""),
         ],
     },
-    // a row with another value hides such a line; where the row is taken out, the line is seen
+    // a row with another value hides such a line; if the row is taken out, the line is seen
     Asked {
         data: b"",
         read: &[(

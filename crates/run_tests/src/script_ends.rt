@@ -143,7 +143,7 @@ fn is_written_to(shelf: &MemoryShelf, whole: &MemoryShelf, place: usize) -> bool
     (0..OUTPUT_PATHS.len()).all(|at| is_left(shelf, whole, place, at))
 }
 
-/// Whether the output at a place is as it should be, where the write at another one failed.
+/// Whether the output at a place is as it should be after the write at another one failed.
 fn is_left(shelf: &MemoryShelf, whole: &MemoryShelf, failed: usize, at: usize) -> bool {
     match OUTPUT_PATHS.get(at) {
         Some(path) if at < failed => shelf.held(path) == whole.held(path),

@@ -209,7 +209,7 @@ fn is_clean(
     Ok(status_of(alloc, words, shelf)? == Status::Clean)
 }
 
-/// Whether foldings are derived of the rows that a script leaves.
+/// Whether foldings are derived from the rows that a script leaves.
 fn derives_after(alloc: Global, session: &Session) -> Result<bool, Memory> {
     let mut shelf = shelf_of(alloc, session.data[0], b"")?;
     Ok(is_clean(alloc, &WORDS, &mut shelf, session.script)? && has_foldings(&shelf))
@@ -224,7 +224,7 @@ fn has_foldings(shelf: &MemoryShelf) -> bool {
     text.windows(section.len()).any(|part| part == section)
 }
 
-/// What is derived is derived of the rows that the script leaves.
+/// What is derived is derived from the rows that the script leaves.
 #[test]
 fn files_are_derived_after_the_script(rt: HostRuntime) -> Result<(), Fail> {
     assert!(rt; derives_after(rt.alloc(), &FOLDING)?);
@@ -267,7 +267,7 @@ fn writes_long(alloc: Global, shelf: &mut MemoryShelf, long: &[u8]) -> Result<bo
     Ok(status == Status::Clean && holds(shelf, &[(b"o/Scripts.txt", long), (b"o/bench.log", b"")]))
 }
 
-/// The same of a shelf that was made for it.
+/// The same for a shelf that was made for it.
 fn writes_a_long_file(alloc: Global, long: &[u8]) -> Result<bool, Memory> {
     let mut shelf = shelf_of(alloc, LETTERS, b"# head\n")?;
     writes_long(alloc, &mut shelf, long)

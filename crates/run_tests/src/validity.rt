@@ -58,7 +58,7 @@ fn is_judged(alloc: Global, data: &[u8], line: &[u8]) -> Result<bool, Memory> {
     ends(alloc, &[b"derive", b"d", b"o"], &mut shelf, 1000, expected)
 }
 
-/// The same of the rows behind those of a letter and its composite.
+/// The same for the rows behind those of a letter and its composite.
 fn are_judged(alloc: Global, mark: &[u8], more: &[u8], line: &[u8]) -> Result<bool, Memory> {
     let mut data = Text::new(alloc);
     put_all(&mut data, &[GRAVE, mark, more])?;

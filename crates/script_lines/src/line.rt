@@ -36,7 +36,7 @@ pub enum Line<'a> {
     Other,
 }
 
-/// A row that is put, by the text behind the word for that.
+/// A row that is put, from the text behind the word of the command.
 fn row_line(put: Put, text: &[u8]) -> Line<'_>
     ensures { said_by result ≡ with_file (puts put) text.now }
 {
@@ -50,7 +50,7 @@ fn row_line(put: Put, text: &[u8]) -> Line<'_>
     }
 }
 
-/// A row that is taken out, by the text behind the word for that.
+/// A row that is taken out, from the text behind the word of the command.
 fn withdraw_line(text: &[u8]) -> Line<'_>
     ensures { said_by result ≡ with_file withdraws text.now }
 {
@@ -64,7 +64,7 @@ fn withdraw_line(text: &[u8]) -> Line<'_>
     }
 }
 
-/// What stands behind a word with which a text begins; `None` where it does not.
+/// What stands behind a word with which a text begins; `None` if it does not.
 fn behind<'a>(word: &[u8], content: &'a [u8]) -> Option<&'a [u8]>
     ensures { MatchOption result (behind word.now content.now ≡ None) (λ text. behind word.now content.now ≡ Some text.now) }
 {
@@ -113,7 +113,7 @@ pub fn line_of(content: &[u8]) -> Line<'_>
     word_line(content)
 }
 
-/// LINE, of a line `last LINE`; `None` of other lines.
+/// LINE, of a line `last LINE`; `None` for other lines.
 pub fn last_text(content: &[u8]) -> Option<&[u8]>
     ensures { MatchOption result (last_text content.now ≡ None) (λ text. last_text content.now ≡ Some text.now) }
 {

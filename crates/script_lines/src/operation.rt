@@ -12,7 +12,7 @@ use source_rows::{RowFault, RowStop, read_key, read_row, read_row_ref};
 use std::alloc::Global;
 use ucd_model::{Memory, Row, SourceFile, Text};
 
-/// What a row is read from: LINE, and behind a LF that of a `last` line where the next line is one.
+/// What a row is read from: LINE; and, if the next line is a `last` line, a LF and the LINE of that one behind it.
 fn row_text(alloc: Global, text: &[u8], next: Option<&[u8]>) -> Result<Text, Memory>
     ensures { IfOk result (λ bytes. bytes ≡ row_text text.now (option_map (λ n. n.now) next.entry)) }
 {
@@ -73,7 +73,7 @@ fn op_of(put: Put, file: SourceFile, row: Row, bytes: Text) -> Op
 
 /// The operation of a line that puts a row.
 ///
-/// - `Fault`: `E6`, where there is no row, with the first rule that it breaks. The line is that of `last` where the fault
+/// - `Fault`: `E6`, if there is no row, with the first rule that it breaks. The line is that of `last` if the fault
 ///   is that of the second line of a range.
 /// - `Memory`: memory ran out.
 pub fn row_op(
@@ -97,7 +97,7 @@ pub fn row_op(
 
 /// The operation of a line that takes a row out.
 ///
-/// - `Fault`: `E6`, where there is no key, with the first rule that it breaks.
+/// - `Fault`: `E6`, if there is no key, with the first rule that it breaks.
 /// - `Memory`: memory ran out.
 pub fn key_op(alloc: Global, line: u32, file: SourceFile, text: &[u8]) -> Result<Op, ScriptStop>
     ensures { OpAs result (key_op line file text.now) }

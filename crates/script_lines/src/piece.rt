@@ -11,12 +11,12 @@ use source_rows::begins_range;
 use ucd_lines::Items;
 use ucd_model::SourceFile;
 
-/// A line, and the one behind it where the first begins a range.
+/// A line, and the one behind it if the first begins a range.
 #[derive(Clone, Copy, Debug)]
 pub struct Piece<'a> {
     /// The content of the line.
     pub line: &'a [u8],
-    /// The content of the next line, where the first one begins a range and is not the last of the script.
+    /// The content of the next line, if the first one begins a range and is not the last of the script.
     pub next: Option<&'a [u8]>,
 }
 
@@ -30,7 +30,7 @@ fn opens_range(line: Line<'_>) -> bool
     }
 }
 
-/// Takes the first piece off the lines; `None` where there are no lines.
+/// Takes the first piece off the lines; `None` if there are no lines.
 pub fn next_piece<'a>(lines: &mut Items<'a>) -> Option<Piece<'a>>
     ensures piece { MatchOption result (script_pieces lines.old ≡ []) (λ p. script_pieces lines.old ≡ piece_of p ∷ script_pieces lines.new) }
     ensures lines { MatchOption result (lines.old ≡ []) (λ p. length lines.old ≡ piece_lines (piece_of p) + length lines.new) }

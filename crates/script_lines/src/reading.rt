@@ -69,14 +69,14 @@ fn closed(script: Script) -> Result<Commands, ScriptStop>
 
 /// The commands of an edit script, in order.
 ///
-/// Lines end by LF or CR LF. Blank lines are skipped, and lines whose first byte other than space and tab is `#`. The
-/// others are `add FILE LINE`, `change FILE LINE`, `withdraw FILE KEY`, `begin`, `end`, `set TEXT`, and `last LINE` behind
-/// an `add` or `change` of the first line of a range, whose second line it holds. FILE is the path of a source file below
-/// the folder of a release. Operations between `begin` and `end` are one group, any other is a group of its own. TEXT is
-/// the question of a UnicodeSet; whether it is the text of one is not looked at.
+/// Lines end by LF or CR LF. Blank lines are skipped, and so are lines whose first byte other than space and tab is
+/// `#`. The others are `add FILE LINE`, `change FILE LINE`, `withdraw FILE KEY`, `begin`, `end`, `set TEXT`, and `last
+/// LINE` behind an `add` or `change` of the first line of a range, whose second line it holds. FILE is the path of a
+/// source file below the folder of a release. Operations between `begin` and `end` are one group, any other is a group
+/// of its own. TEXT is the question of a UnicodeSet; whether it is the text of one is not looked at.
 ///
 /// - `Fault { line, rule }`: the first line that breaks a rule, and the first rule that it breaks: `E1`, `E3`, `E4`,
-///   `E5`, `E6`; where no line breaks one, `E2` with the line of the group that is open at the end.
+///   `E5`, `E6`; if no line breaks one, `E2` with the line of the group that is open at the end.
 /// - `Memory`: memory ran out.
 #[tactic(auto, unfolding(ucd_points::specs::Limits::file_limit))]
 pub fn commands(alloc: Global, bytes: &[u8]) -> Result<Commands, ScriptStop>

@@ -54,7 +54,7 @@ impl Script {
 
     /// Opens a group.
     ///
-    /// - `Fault`: `E3`, where one is open.
+    /// - `Fault`: `E3`, if one is open.
     pub fn begin(&mut self, alloc: Global, line: u32) -> Result<(), ScriptStop>
         ensures { StepsAs result self.new (begun line self.old) }
     {
@@ -73,7 +73,7 @@ impl Script {
 
     /// Closes the group.
     ///
-    /// - `Fault`: `E1`, where none is open.
+    /// - `Fault`: `E1`, if none is open.
     /// - `Memory`: memory ran out. The group is dropped.
     pub fn end(&mut self, line: u32) -> Result<(), ScriptStop>
         ensures { StepsAs result self.new (ended line self.old) }
@@ -93,7 +93,7 @@ impl Script {
 
     /// Puts a question.
     ///
-    /// - `Fault`: `E4`, where a group is open.
+    /// - `Fault`: `E4`, if a group is open.
     /// - `Memory`: memory ran out.
     pub fn ask(&mut self, alloc: Global, line: u32, text: &[u8]) -> Result<(), ScriptStop>
         ensures { StepsAs result self.new (asked line text.now self.old) }
@@ -117,7 +117,7 @@ impl Script {
         }
     }
 
-    /// Puts an operation into the open group, or as a group of its own where none is open.
+    /// Puts an operation into the open group, or as a group of its own if none is open.
     ///
     /// - `Memory`: memory ran out.
     pub fn put(&mut self, alloc: Global, line: u32, op: Op) -> Result<(), Memory>

@@ -5,7 +5,7 @@ ghost use Rattle.script_lines.specs.Lines.{file_named};
 
 use ucd_model::{SOURCE_FILES, SourceFile};
 
-/// The source file that lies at this path. `None` where none does.
+/// The source file that lies at this path. `None` if none does.
 pub fn file_named(path: &[u8]) -> Option<SourceFile>
     ensures { result ≡ file_named path.now }
 {

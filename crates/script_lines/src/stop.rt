@@ -7,7 +7,7 @@ use std::alloc::{AllocError, AllocFailed};
 use thiserror::Error;
 use ucd_model::Memory;
 
-/// The rule that a script breaks. On one line they are tested in this order; `E2` comes only where there is no other.
+/// The rule that a script breaks. On one line they are tested in this order; `E2` comes only if there is no other.
 #[derive(Clone, Copy, Debug, PartialEq, Eq, Drop, Error)]
 pub enum ScriptRule {
     /// The line is no command, its file is unknown, `end` closes no group, or `last` follows no first line of a range.
@@ -42,7 +42,7 @@ pub enum ScriptStop {
     Memory,
 }
 
-/// Want of memory is `ScriptStop::Memory`.
+/// Running out of memory is `ScriptStop::Memory`.
 impl From<Memory> for ScriptStop {
     ghost use Rattle.script_lines.specs.declared.stop.ScriptStop.TheVariants.{Memory};
 
@@ -64,7 +64,7 @@ impl From<AllocError> for ScriptStop {
     }
 }
 
-/// The same, of a call that hands back what it could not put; that is dropped.
+/// The same for a call that hands back what it could not put; that is dropped.
 impl<T: Drop> From<AllocFailed<T>> for ScriptStop {
     ghost use Rattle.script_lines.specs.declared.stop.ScriptStop.TheVariants.{Memory};
 

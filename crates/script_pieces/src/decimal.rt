@@ -5,7 +5,7 @@ ghost use Rattle.std.specs.Fmt.{decimal};
 ghost use Rattle.std.specs.Option.{MatchOption};
 ghost use Rattle.script_pieces.specs.Decimals.{is_plain, number_of};
 
-/// The number below 2^32 that a word writes in decimal digits with no zero to spare; `None` exactly where it writes none.
+/// The number below 2^32 that a word writes in decimal digits with no zero to spare; `None` exactly if it writes none.
 pub fn decimal_u32(word: &[u8]) -> Option<u32>
     ensures number { result ≡ number_of word.now }
     ensures written { MatchOption result ((n : ℕ) → n < 2 ^ 32 → word.now ≢ decimal n) (λ n. word.now ≡ decimal n) }

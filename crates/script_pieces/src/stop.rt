@@ -23,7 +23,7 @@ pub enum PieceStop {
     Memory,
 }
 
-/// Want of memory is `PieceStop::Memory`.
+/// Running out of memory is `PieceStop::Memory`.
 impl From<Memory> for PieceStop {
     ghost use Rattle.script_pieces.specs.declared.stop.PieceStop.TheVariants.{Memory};
 

@@ -46,7 +46,7 @@ impl RowNames {
     }
 }
 
-/// Whether names or values of questions are told by the rows of this file.
+/// Whether the rows of this file tell names or values of questions.
 fn gives_names(file: SourceFile) -> bool
     ensures { result ≡ gives_names file }
 {

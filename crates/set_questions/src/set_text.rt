@@ -14,7 +14,7 @@ use ucd_model::{Memory, Span, Text};
 /// Puts the answer to the question on this line, and answers how many members it has: `# line L`, a line for each span,
 /// `# total N`, and an empty line.
 ///
-/// - `Memory`: memory ran out. A part of the answer may stand at the end of the text then.
+/// - `Memory`: memory ran out. A part of the answer may then stand at the end of the text.
 pub fn put_answer(
     alloc: Global,
     text: &mut Text,

@@ -33,7 +33,7 @@ fn put_beside(path: &[u8], name: &mut [u8])
     back.copy_from_slice(ending());
 }
 
-/// The name beside a path, in this buffer, or `None` where it does not fit.
+/// The name beside a path, in this buffer, or `None` if it does not fit.
 pub fn beside_in<'a>(path: &[u8], buffer: &'a mut [u8]) -> Option<&'a str>
     requires { IsUtf8 path.now }
     ensures name { IfSome result (λ name. name.now ≡ beside path.now) }

@@ -19,12 +19,12 @@ use std::rt::Files;
 use std::str::from_utf8;
 use ucd_points::{Memory, Text};
 
-/// The files of a system. It tells what they hold where the system does, and counts what failed.
+/// The files of a system. It tells what they hold if the system does, and counts what failed.
 ///
-/// A write makes the folders that are missing. It writes a file beside its name, the path and `.ucdshop-new`, and renames
-/// that over the name, so a write that fails leaves the old file whole. What the system does not replace so, as a device,
-/// is written where it stands. Each read and write of a path that is not UTF-8 fails, and of a path that ends as the
-/// names beside others do.
+/// A write makes the folders that are missing. It writes a file beside its name, the path and `.ucdshop-new`, and
+/// renames that over the name, so a write that fails leaves the old file whole. What the system does not replace in
+/// this way, such as a device, is written where it stands. Each read and write of a path fails if the path is not
+/// UTF-8, or ends as the names beside others do.
 #[derive(Drop)]
 pub struct DiskShelf<S: System> {
     system: S,
@@ -67,7 +67,7 @@ impl<S: System> DiskShelf<S> {
     }
 }
 
-/// A path as a text, or `None` where it is not UTF-8, or is the name beside another path.
+/// A path as a text, or `None` if it is not UTF-8, or is the name beside another path.
 fn name_of(path: &[u8]) -> Option<&str>
     ensures { MatchOption result (¬ IsName path.now) (λ name. (name.now ≡ path.now) × IsName path.now) }
 {
@@ -176,7 +176,7 @@ fn write_file<S: System>(system: &mut S, path: &[u8], bytes: &[u8]) -> Result<()
 }
 
 /// Writes a file beside its name, in a folder that is there, and renames it over the name. What the system does not
-/// replace so is written where it stands.
+/// replace in this way is written where it stands.
 ///
 /// - `Failed`: a call of the system failed.
 fn write_beside<S: System>(
@@ -236,7 +236,7 @@ fn replace<S: System>(
 
 /// Replaces the bytes of a file where it stands, in a folder that is there.
 ///
-/// - `Failed`: a call of the system failed. The path then has anything.
+/// - `Failed`: a call of the system failed. The path may then hold anything.
 fn write_in_place<S: System>(system: &mut S, path: &str, bytes: &[u8]) -> Result<(), Failed>
     requires folder { IsTrue S.tells → IfSome (folder_of path.now) (λ folder. S.at system.old folder ≡ Folder) }
     ensures ok { IsTrue S.tells → OnOk result (files_of (S.at system.new) path.now ≡ Some bytes.now) }

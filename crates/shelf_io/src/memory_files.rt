@@ -35,7 +35,7 @@ impl Model for MemoryFiles {
     ghost view = { λ a. record { files = a.files.items; spare = vec_capacity a.files - vec_len a.files } };
 }
 
-/// The place of the first file of this path, or None where there is none.
+/// The place of the first file of this path, or `None` if there is none.
 fn place_of(files: &[File], path: &[u8]) -> Option<usize>
     ensures { result ≡ position (λ file. bytes_eq file.path path.now) files.now }
 {
@@ -53,7 +53,7 @@ impl MemoryFiles {
         }
     }
 
-    /// The bytes of this path, or `None` where it is not held.
+    /// The bytes of this path, or `None` if it is not held.
     pub fn held(&self, path: &[u8]) -> Option<&[u8]>
         ensures { option_copied result ≡ held_in self.now path.now }
     {
@@ -63,7 +63,7 @@ impl MemoryFiles {
             .map(|file| file.bytes.as_slice())
     }
 
-    /// Replaces `into` by the first `most` bytes of this path, and answers `Found`; or answers `Absent` where it is not
+    /// Replaces `into` by the first `most` bytes of this path, and answers `Found`; or answers `Absent` if it is not
     /// held, and leaves `into` as it was.
     ///
     /// - `Memory`: memory ran out, and `into` holds anything. It is the only stop: no read fails.

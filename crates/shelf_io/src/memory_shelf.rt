@@ -58,7 +58,7 @@ impl MemoryShelf {
         self.files.place(path, bytes)
     }
 
-    /// The bytes of this path, or `None` where it is not held. It counts as no read.
+    /// The bytes of this path, or `None` if it is not held. It counts as no read.
     pub fn held(&self, path: &[u8]) -> Option<&[u8]>
         ensures { option_copied result ≡ held_in self.now.folder path.now }
     {
@@ -66,7 +66,7 @@ impl MemoryShelf {
     }
 
     /// Makes the nth read fail, counted from 1 and from the making of the shelf. A number joins those that were given
-    /// before. A read that wanted memory does not count.
+    /// before. A read that ran out of memory does not count.
     ///
     /// - `Memory`: memory ran out. Nothing changes.
     pub fn fail_read(&mut self, nth: u32) -> Result<(), Memory>

@@ -46,7 +46,7 @@ impl PerfectShelf {
         self.files.place(path, bytes)
     }
 
-    /// The bytes of this path, or `None` where it is not held.
+    /// The bytes of this path, or `None` if it is not held.
     pub fn held(&self, path: &[u8]) -> Option<&[u8]>
         ensures { option_copied result ≡ held_in self.now path.now }
     {

@@ -36,7 +36,7 @@ fn remove_left<R: Files>(files: &R, path: &str) -> io::Result<()> {
     }
 }
 
-/// Creates a file where nothing is, which those may read and write who may read and write another one.
+/// Creates a file where nothing is. Whoever may read and write the other file may read and write it.
 fn create_like<R: Files>(files: &R, path: &str, other: &Metadata) -> io::Result<R::File> {
     let file = OpenOptions::new()
         .write(true)
@@ -64,7 +64,7 @@ fn create_beside<R: Files>(files: &R, path: &str, beside: &str) -> io::Result<Op
     }
 }
 
-/// The same, or `None` where the name is one of a link or a device, its folder takes no new file, or a new file cannot
+/// The same, or `None` if the name is one of a link or a device, its folder takes no new file, or a new file cannot
 /// have the owner of the old one.
 pub fn created_beside<R: Files>(
     files: &R,

@@ -53,10 +53,10 @@ pub trait Shelf {
     // the number of writes for which there is room
     ghost spare: { Self → ℕ };
 
-    /// Replaces `into` by the first `most` bytes of what `path` holds, and answers `Found`; or answers `Absent` where
+    /// Replaces `into` by the first `most` bytes of what `path` holds, and answers `Found`; or answers `Absent` if
     /// the path is not held, and leaves `into` as it was.
     ///
-    /// - `Failed`: the read failed. It comes only where the count of read faults rose.
+    /// - `Failed`: the read failed. It comes only if the count of read faults rose.
     /// - `Memory`: memory ran out.
     ///
     /// After either `into` holds anything.
@@ -87,7 +87,7 @@ pub trait Shelf {
 
     /// Replaces the bytes of `path`, and leaves every other path as it is. It takes no memory.
     ///
-    /// - `Failed`: the write failed. It comes only where the count of write faults rose; that path then holds anything,
+    /// - `Failed`: the write failed. It comes only if the count of write faults rose; that path then holds anything,
     ///   or is absent.
     fn write(&mut self, path: Text, bytes: Text) -> Result<(), Failed>
         requires { 0 < spare self.old }

@@ -19,7 +19,7 @@ pub trait Sink {
 
     /// Appends all bytes.
     ///
-    /// - `Failed`: the put failed. It comes only where the count of faults rose; a prefix of the bytes was then
+    /// - `Failed`: the put failed. It comes only if the count of faults rose; a prefix of the bytes was then
     ///   appended.
     fn put(&mut self, bytes: &[u8]) -> Result<(), Failed>
         ensures ok { IsTrue tells → OnOk result (written self.new ≡ written self.old ++ bytes.now) }

@@ -56,7 +56,7 @@ pub trait System {
         ensures failed_only { OnErr result (Rose (faults self.old) (faults self.new)) }
         ensures faults_never_fall { faults self.old ≤ faults self.new };
 
-    /// Makes a folder and the folders above it, where they are missing. No file changes.
+    /// Makes a folder and the folders above it, if they are missing. No file changes.
     ///
     /// - An error: the folder may be missing.
     fn make_folders(&mut self, path: &str) -> io::Result<()>
@@ -78,7 +78,7 @@ pub trait System {
         ensures faults_never_fall { faults self.old ≤ faults self.new };
 
     /// Creates an empty file at the name beside a path, which is to take the place of the file at the path; or answers
-    /// `None`, where that one is to be written where it stands. What was at the name beside is replaced, and every other
+    /// `None`, if that one is to be written where it stands. What was at the name beside is replaced, and every other
     /// file stays.
     ///
     /// - An error: what is at the name beside may have changed.
@@ -93,8 +93,8 @@ pub trait System {
         ensures failed_only { OnErr result (Rose (faults self.old) (faults self.new)) }
         ensures faults_never_fall { faults self.old ≤ faults self.new };
 
-    /// Writes the next bytes of a file that was created, and answers how many were taken. To take none of some bytes is
-    /// a fault.
+    /// Writes the next bytes of a file that was created, and answers how many were taken. It is a fault to take none of
+    /// some bytes.
     fn write(&mut self, file: &mut Self::Created, buf: &[u8]) -> io::Result<usize>
         ensures bound { WritesAtMost result buf.now }
         ensures bytes { WriteAppends (Self.Created.contents file.old) (Self.Created.contents file.new) result buf.now }

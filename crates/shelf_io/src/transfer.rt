@@ -13,7 +13,7 @@ use ucd_points::Memory;
 /// How many bytes are asked for at a time.
 const CHUNK: usize = 65536;
 
-/// Lengthens a buffer where it is full, to at most `most` bytes, and keeps what was filled.
+/// Lengthens a buffer if it is full, to at most `most` bytes, and keeps what was filled.
 fn lengthen(into: &mut Vec<u8>, filled: usize, most: usize) -> Result<(), Memory>
     requires within { filled ≤ vec_len into.old }
     requires at_most { vec_len into.old ≤ most }
@@ -28,7 +28,7 @@ fn lengthen(into: &mut Vec<u8>, filled: usize, most: usize) -> Result<(), Memory
     Ok(())
 }
 
-/// Fills a buffer from `at` on by one read, and answers how many bytes that took. Where the bytes of
+/// Fills a buffer from `at` on by one read, and answers how many bytes that took. If the bytes of
 /// the file are known, those in front of the new end are what it gave since any start at which this
 /// held of those in front of the old one.
 fn read_at<S: System>(

@@ -32,7 +32,7 @@ pub fn words_behind<A: Allocator>(alloc: Global, mut args: Args<A>) -> Result<Te
     texts_of(alloc, args)
 }
 
-/// The words after the program's name. Where one of them is not UTF-8 there are none.
+/// The words after the program's name. If one of them is not UTF-8, there are none.
 ///
 /// - `Memory`: memory ran out.
 pub fn words_of<R: Env + Alloc>(rt: &R, alloc: Global) -> Result<Texts, Memory> {

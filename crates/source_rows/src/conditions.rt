@@ -27,7 +27,7 @@ fn are_condition_bytes(text: &[u8]) -> bool
     text.iter().all(|b| is_condition_byte(*b))
 }
 
-/// Puts a word at the end, behind a space where it is not the first one.
+/// Puts a word at the end, behind a space if it is not the first one.
 fn put_word(spaced: &mut Text, word: &[u8]) -> Result<(), Memory>
     ensures { OnOk result (spaced.new ≡ with_word spaced.old word.now) }
 {
@@ -87,7 +87,7 @@ impl<'a> Conditions<'a> {
     }
 }
 
-/// The conditions that a text holds. `None` where a byte may not stand in one.
+/// The conditions that a text holds. `None` if a byte may not stand in one.
 #[tactic(auto, unfolding(ucd_model::specs::Mappings::conditions_of))]
 pub fn conditions_of(text: &[u8]) -> Option<Conditions<'_>>
     ensures { result ≡ conditions_of text.now }

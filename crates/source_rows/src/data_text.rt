@@ -17,11 +17,11 @@ pub struct DataText<'a> {
     pub span: Span,
     /// Whether it stands in two lines.
     pub range: bool,
-    /// Field 1, and of a range its label.
+    /// Field 1, or the label of a range.
     pub name: &'a [u8],
     /// What fields 2, 3, 5 and 12 to 14 hold.
     pub values: Values<'a>,
-    /// The fields, of a range those of its first line.
+    /// The fields; for a range those of its first line.
     pub line: DataFields<'a>,
 }
 

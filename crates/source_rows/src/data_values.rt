@@ -24,11 +24,11 @@ pub struct Values<'a> {
     pub class: u8,
     /// Field 5, Decomposition_Type and Decomposition_Mapping.
     pub decomposition: Decomposition<'a>,
-    /// Field 12, Simple_Uppercase_Mapping; `None` where the field is empty.
+    /// Field 12, Simple_Uppercase_Mapping; `None` if the field is empty.
     pub upper: Option<Point>,
-    /// Field 13, Simple_Lowercase_Mapping; `None` where the field is empty.
+    /// Field 13, Simple_Lowercase_Mapping; `None` if the field is empty.
     pub lower: Option<Point>,
-    /// Field 14, Simple_Titlecase_Mapping; `None` where the field is empty.
+    /// Field 14, Simple_Titlecase_Mapping; `None` if the field is empty.
     pub title: Option<Point>,
 }
 

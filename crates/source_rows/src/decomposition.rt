@@ -15,9 +15,9 @@ const CANONICAL: usize = 2;
 /// The kind and the mapping of a decomposition. UAX #44, section 5.7.3.
 #[derive(Drop)]
 pub struct Decomposition<'a> {
-    /// The kind; `Plain` where the field is empty.
+    /// The kind; `Plain` if the field is empty.
     pub kind: Kind,
-    /// The mapping: one or two code points of `Canonical`, 1 to 64 with a tag, and none of `Plain`.
+    /// The mapping: one or two code points for `Canonical`, 1 to 64 with a tag, and none for `Plain`.
     pub mapping: Mapping<'a>,
 }
 

@@ -4,7 +4,7 @@ ghost use Rattle.std.specs.Prelude.{◌≡◌};
 
 use std::alloc::AllocError;
 
-/// The rule of the format that a line breaks. Of several rules it is the first: the number of fields, then the
+/// The rule of the format that a line breaks. If it breaks several, this is the first: the number of fields, then the
 /// fields in order, then `G09`.
 #[derive(Clone, Copy, Debug, PartialEq, Eq)]
 pub enum RowFault {
@@ -51,7 +51,7 @@ impl From<RowFault> for RowStop {
     }
 }
 
-/// Want of memory, as an allocator answers it, is `RowStop::Memory`.
+/// Running out of memory, as an allocator reports it, is `RowStop::Memory`.
 impl From<AllocError> for RowStop {
     ghost use Rattle.source_rows.specs.declared.fault.RowStop.TheVariants.{Memory};
 
@@ -62,7 +62,7 @@ impl From<AllocError> for RowStop {
     }
 }
 
-/// Want of memory is `RowStop::Memory`.
+/// Running out of memory is `RowStop::Memory`.
 impl From<ucd_model::Memory> for RowStop {
     ghost use Rattle.source_rows.specs.declared.fault.RowStop.TheVariants.{Memory};
 

@@ -28,7 +28,7 @@ pub fn field_count(text: &[u8]) -> usize
     semicolon_count(text) + 1
 }
 
-/// The first field, and the text of the fields behind it, which is empty where there are none.
+/// The first field, and the text of the fields behind it, which is empty if there are none.
 pub fn first_field(text: &[u8]) -> (&[u8], &[u8])
     ensures first { result.0.now ≡ field (fields_of text.now) 0 }
     ensures others { (n : ℕ) → field (fields_of text.now) (n + 1) ≡ field (fields_of result.1.now) n }
@@ -40,8 +40,8 @@ pub fn first_field(text: &[u8]) -> (&[u8], &[u8])
     (trim(first), others)
 }
 
-/// What stands before the first `;`, and what stands behind it. Where there is none, the whole text and nothing. Byte by
-/// byte, so it is quick where the `;` is near.
+/// What stands before the first `;`, and what stands behind it. If there is none, the whole text and nothing. It goes
+/// byte by byte, so it is quick if the `;` is near.
 pub fn near_cut(text: &[u8]) -> (&[u8], &[u8])
     ensures before { result.0.now ≡ before_first is_semicolon text.now }
     ensures after { result.1.now ≡ after_first is_semicolon text.now }
@@ -76,7 +76,7 @@ pub fn first_short_field(text: &[u8]) -> (&[u8], &[u8])
     (trim_short(first), others)
 }
 
-/// The text of the fields behind the first ones, as many as `count`; it is empty where there are none.
+/// The text of the fields behind the first ones, as many as `count`; it is empty if there are none.
 pub fn behind_fields(text: &[u8], count: usize) -> &[u8]
     requires { 0 < count }
     ensures others { (n : ℕ) → field (fields_of text.now) (n + count) ≡ field (fields_of result.now) n }

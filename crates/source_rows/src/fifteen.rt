@@ -23,9 +23,9 @@ pub struct DataFields<'a> {
     pub f4: &'a [u8],
     /// Decomposition_Type and Decomposition_Mapping.
     pub f5: &'a [u8],
-    /// Numeric_Value where Numeric_Type is Decimal.
+    /// Numeric_Value if Numeric_Type is Decimal.
     pub f6: &'a [u8],
-    /// Numeric_Value where Numeric_Type is Decimal or Digit.
+    /// Numeric_Value if Numeric_Type is Decimal or Digit.
     pub f7: &'a [u8],
     /// Numeric_Value.
     pub f8: &'a [u8],

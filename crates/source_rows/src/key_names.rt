@@ -20,7 +20,7 @@ use std::cmp::Ordering;
 use ucd_lines::{Fields, compare_hex, missing_rest};
 use ucd_model::{Point, SourceFile, Text};
 
-/// How as many first bytes of a text as a part has compare with the part, and the bytes behind them.
+/// How the first bytes of a text, as many as a part has, compare with the part; and the bytes behind them.
 fn compare_part<'a>(text: &'a [u8], part: &[u8]) -> (Ordering, &'a [u8])
     ensures order { result.0 ≡ slice_cmp nat_cmp (take (length part.now) text.now) part.now }
     ensures rest { result.1.now ≡ drop (length part.now) text.now }
@@ -71,7 +71,7 @@ fn compare_none(names: &[Text]) -> Ordering
     }
 }
 
-/// How the first name compares with another, less where there is no name; and the names behind it.
+/// How the first name compares with another, less if there is no name; and the names behind it.
 fn compare_first<'a>(names: &'a [Text], name: &[u8]) -> (Ordering, &'a [Text])
     ensures { (more : List (List ℕ)) → names_cmp names.now (name.now ∷ more) ≡ ordering_then result.0 (names_cmp result.1.now more) }
 {
@@ -107,8 +107,8 @@ fn compare_missing(names: &[Text], last: Point) -> Ordering
     order.then(compare_point(others, last))
 }
 
-/// How names compare with those in the key of a row of Scripts.txt or WordBreakProperty.txt, which has none but of a
-/// missing row.
+/// How names compare with those in the key of a row of Scripts.txt or WordBreakProperty.txt, which has none unless the
+/// row is a missing row.
 fn compare_value(file: SourceFile, names: &[Text], content: &[u8]) -> Ordering
     ensures { result ≡ names_cmp names.now (if is_missing file content.now then span_names (span_of (field (row_fields file content.now) 0)) else []) }
 {
@@ -121,7 +121,7 @@ fn compare_value(file: SourceFile, names: &[Text], content: &[u8]) -> Ordering
     }
 }
 
-/// How names compare with conditions as one name, or with no name where there are no conditions.
+/// How names compare with conditions as one name, or with no name if there are no conditions.
 fn compare_conditions(names: &[Text], text: &[u8]) -> Ordering
     ensures { result ≡ names_cmp names.now (condition_names (spaced_words text.now)) }
 {
@@ -196,7 +196,7 @@ pub fn compare_names(file: SourceFile, names: &[Text], content: &[u8]) -> Orderi
     }
 }
 
-/// The value of a row of Scripts.txt or WordBreakProperty.txt; of a missing row `#`, which is in no value.
+/// The value of a row of Scripts.txt or WordBreakProperty.txt; for a missing row `#`, which is in no value.
 fn value_group(file: SourceFile, content: &[u8]) -> &[u8]
     ensures { result.now ≡ (if is_missing file content.now then no_value else field (row_fields file content.now) 1) }
 {
@@ -207,7 +207,8 @@ fn value_group(file: SourceFile, content: &[u8]) -> &[u8]
 }
 
 /// The name of the group of a row that stands in this content of the file: the value in PropList.txt, Scripts.txt and
-/// WordBreakProperty.txt, but `#` of a missing row, the property in PropertyValueAliases.txt; nothing in the other files. It takes no memory.
+/// WordBreakProperty.txt, but `#` for a missing row; the property in PropertyValueAliases.txt; nothing in the other
+/// files. It takes no memory.
 #[tactic(auto, unfolding(ucd_points::specs::Fields::fields, ucd_points::specs::MissingLines::missing_rest))]
 pub fn content_group(file: SourceFile, content: &[u8]) -> &[u8]
     ensures { result.now ≡ content_group file content.now }

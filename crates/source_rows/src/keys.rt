@@ -55,7 +55,7 @@ pub fn missing_names(alloc: Global, last: Point) -> Result<Texts, Memory>
     Ok(names)
 }
 
-/// The conditions as a name of a key, and no name where there are none.
+/// The conditions as a name of a key, and no name if there are none.
 pub fn condition_names(alloc: Global, conditions: Text) -> Result<Texts, Memory>
     ensures { IfOk result (λ names. names ≡ condition_names conditions) }
 {
@@ -214,8 +214,8 @@ fn read_alias_key(alloc: Global, count: usize, content: &[u8]) -> Result<Key, Ro
 /// The key that a text stands for, as a row of the file has it. The fields are cut and trimmed as those of a row are.
 /// UAX #44, section 4.2.
 ///
-/// UnicodeData.txt, Scripts.txt, WordBreakProperty.txt and CompositionExclusions.txt: `XXXX`, the first code point. Of a missing
-/// row `# @missing: XXXX..YYYY`, its span.
+/// UnicodeData.txt, Scripts.txt, WordBreakProperty.txt and CompositionExclusions.txt: `XXXX`, the first code point. For
+/// a missing row: `# @missing: XXXX..YYYY`, its span.
 /// PropList.txt: `XXXX ; Name`. CaseFolding.txt: `XXXX; S`. SpecialCasing.txt: `XXXX`, or `XXXX; conditions`.
 /// PropertyAliases.txt and PropertyValueAliases.txt: the first two names and the first three, with `;` between them.
 ///

@@ -8,12 +8,12 @@ ghost use Rattle.source_rows.specs.Ranges.{FirstLinesBegin};
 ghost use Rattle.source_rows.specs.RowLines.{RowsHaveLines};
 ghost use Rattle.source_rows.specs.Trivia.{RowsAreNoTrivia};
 
-/// The reader gives a row exactly where the grammar reads the bytes as that row.
+/// The reader gives a row exactly if the grammar reads the bytes as that row.
 pub fn rows_are_read()
     ensures { RowsAreRead }
 {}
 
-/// The reader gives a span exactly where the bytes spell it.
+/// The reader gives a span exactly if the bytes spell it.
 pub fn spans_are_spelled()
     ensures { SpansAreSpelled }
 {}
@@ -38,7 +38,7 @@ pub fn spellings_are_one()
     ensures { SpellingsAreOne }
 {}
 
-/// A key is given exactly where the text stands for that key.
+/// A key is given exactly if the text stands for that key.
 pub fn keys_are_read()
     ensures { KeysAreRead }
 {}

@@ -14,7 +14,7 @@ use ucd_model::{Memory, Point, Points};
 /// The greatest number of code points in a mapping.
 const LIMIT: usize = 64;
 
-/// The place of the first white space, and the length of the text where there is none.
+/// The place of the first white space, or the length of the text if there is none.
 fn first_blank(text: &[u8]) -> usize
     ensures place { result ≡ position_or_len is_blank text.now }
     ensures within { result ≤ length text.now }
@@ -140,7 +140,7 @@ impl<'a> Iterator for Mapping<'a> {
     }
 }
 
-/// The mapping that the words of a text spell. `None` where a word is no code point, and above 64 words.
+/// The mapping that the words of a text spell. `None` if a word is no code point, or if there are more than 64 words.
 pub fn mapping_of(text: &[u8]) -> Option<Mapping<'_>>
     ensures { result ≡ mapping_of text.now }
 {
@@ -163,7 +163,7 @@ pub fn mapping_of(text: &[u8]) -> Option<Mapping<'_>>
     Some(Mapping { text, count })
 }
 
-/// The same, of one code point or more. `None` also where there are none.
+/// The same, for a mapping of one code point or more: it is also `None` if there are none.
 pub fn some_mapping_of(text: &[u8]) -> Option<Mapping<'_>>
     ensures { result ≡ at_least_one (mapping_of text.now) }
 {

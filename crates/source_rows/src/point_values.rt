@@ -63,8 +63,9 @@ fn pair_values<'a>(front: &'a [u8], last: &[u8]) -> Result<PointValues<'a>, RowF
     Ok(PointValues { span, values })
 }
 
-/// What the row gives to its code points that [`read_row`](crate::read_row) reads from a line of UnicodeData.txt, or from
-/// the two lines of a range, as it stands there. The fields that give nothing are passed over, and no memory is taken.
+/// What a row gives to its code points, as it stands in a line of UnicodeData.txt, or in the two lines of a range: the
+/// row that [`read_row`](crate::read_row) reads from them. The fields that give nothing are passed over, and no memory
+/// is taken.
 ///
 /// A fault says that the bytes are no row, and is the first rule that they break.
 ///

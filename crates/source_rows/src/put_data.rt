@@ -147,7 +147,7 @@ fn put_range(alloc: Global, row: &DataRow, into: &mut Text) -> Result<(), Memory
 
 /// Appends a row: its line, or the two lines of a range.
 ///
-/// - `Memory`: memory ran out. A part may stand at the end of the text then.
+/// - `Memory`: memory ran out. A part may then stand at the end of the text.
 pub fn put_data(alloc: Global, row: &DataRow, into: &mut Text) -> Result<(), Memory>
     ensures { OnOk result (into.new ≡ into.old ++ data_text row.now) }
 {

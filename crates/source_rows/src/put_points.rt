@@ -20,7 +20,7 @@ fn put_spaced(points: &[Point], into: &mut Text) -> Result<(), Memory>
 
 /// Appends code points with one space between them.
 ///
-/// - `Memory`: memory ran out. A part may stand at the end of the text then.
+/// - `Memory`: memory ran out. A part may then stand at the end of the text.
 pub fn put_mapping(points: &[Point], into: &mut Text) -> Result<(), Memory>
     ensures { OnOk result (into.new ≡ into.old ++ mapping_text points.now) }
 {

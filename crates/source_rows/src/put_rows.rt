@@ -10,7 +10,7 @@ use ucd_model::{CasingRow, FoldRow, Memory, Text, ValueRow};
 
 /// Appends a span and a value.
 ///
-/// - `Memory`: memory ran out. A part may stand at the end of the text then.
+/// - `Memory`: memory ran out. A part may then stand at the end of the text.
 pub fn put_value(row: &ValueRow, into: &mut Text) -> Result<(), Memory>
     ensures { OnOk result (into.new ≡ into.old ++ value_text row.now) }
 {
@@ -21,7 +21,7 @@ pub fn put_value(row: &ValueRow, into: &mut Text) -> Result<(), Memory>
 
 /// Appends the mark of a missing row, its span and its value.
 ///
-/// - `Memory`: memory ran out. A part may stand at the end of the text then.
+/// - `Memory`: memory ran out. A part may then stand at the end of the text.
 pub fn put_missing(row: &ValueRow, into: &mut Text) -> Result<(), Memory>
     ensures { OnOk result (into.new ≡ into.old ++ missing_text row.now) }
 {
@@ -33,7 +33,7 @@ pub fn put_missing(row: &ValueRow, into: &mut Text) -> Result<(), Memory>
 
 /// Appends a folding.
 ///
-/// - `Memory`: memory ran out. A part may stand at the end of the text then.
+/// - `Memory`: memory ran out. A part may then stand at the end of the text.
 pub fn put_fold(row: &FoldRow, into: &mut Text) -> Result<(), Memory>
     ensures { OnOk result (into.new ≡ into.old ++ fold_text row.now) }
 {
@@ -45,7 +45,7 @@ pub fn put_fold(row: &FoldRow, into: &mut Text) -> Result<(), Memory>
     into.push(b';')
 }
 
-/// Appends conditions behind a space, where there are some.
+/// Appends conditions behind a space, if there are some.
 fn put_conditions(conditions: &[u8], into: &mut Text) -> Result<(), Memory>
     ensures { OnOk result (into.new ≡ into.old ++ conditions_text conditions.now) }
 {
@@ -61,7 +61,7 @@ fn put_conditions(conditions: &[u8], into: &mut Text) -> Result<(), Memory>
 
 /// Appends full case mappings and their conditions.
 ///
-/// - `Memory`: memory ran out. A part may stand at the end of the text then.
+/// - `Memory`: memory ran out. A part may then stand at the end of the text.
 pub fn put_casing(row: &CasingRow, into: &mut Text) -> Result<(), Memory>
     ensures { OnOk result (into.new ≡ into.old ++ casing_text row.now) }
 {
@@ -89,7 +89,7 @@ fn put_named(names: &[Text], into: &mut Text) -> Result<(), Memory>
 
 /// Appends names joined by ` ; `.
 ///
-/// - `Memory`: memory ran out. A part may stand at the end of the text then.
+/// - `Memory`: memory ran out. A part may then stand at the end of the text.
 pub fn put_names(names: &[Text], into: &mut Text) -> Result<(), Memory>
     ensures { OnOk result (into.new ≡ into.old ++ names_text names.now) }
 {

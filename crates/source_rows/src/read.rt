@@ -20,7 +20,7 @@ use ucd_model::{Row, SourceFile};
 /// The row that a line of a source file stands for, or the two lines of a range of UnicodeData.txt, as it stands there. It
 /// takes no memory. UAX #44, sections 4.2 and 5.3.
 ///
-/// The bytes are the content of the line, without what ends it. Of a range they are both lines, with LF or CR LF
+/// The bytes are the content of the line, without what ends it. For a range they are both lines, with LF or CR LF
 /// between them; all other bytes that hold a LF are `G03`.
 ///
 /// A fault says that the bytes are no row, and is the first rule that they break.

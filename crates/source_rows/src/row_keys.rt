@@ -8,7 +8,7 @@ use crate::keys::{condition_names, letter_name, missing_names, one_name};
 use std::alloc::Global;
 use ucd_model::{Memory, Point, Row, SourceFile, Texts};
 
-/// The first code point of a row; `None` of a row of names.
+/// The first code point of a row; `None` for a row of names.
 fn key_code(row: &Row) -> Option<Point>
     ensures { result ≡ key_code row.now }
 {

@@ -10,7 +10,7 @@ use std::alloc::Global;
 use ucd_lines::put_span;
 use ucd_model::{Memory, Row, SourceFile, Text};
 
-/// The text of a row, which [`read_row`](crate::read_row) reads as the same row. Of a range it is two lines with LF
+/// The text of a row, which [`read_row`](crate::read_row) reads as the same row. For a range it is two lines with LF
 /// between them; no other text holds a LF.
 ///
 /// - `Memory`: memory ran out.

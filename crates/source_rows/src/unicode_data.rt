@@ -71,7 +71,7 @@ fn read_single(content: &[u8]) -> Result<DataText<'_>, RowFault>
     text_or_fault(&line, false, line.f1, single_end(point, line.f1))
 }
 
-/// Whether a text begins with white space or `<`, as that of a name does that begins with `<`.
+/// Whether a text begins with white space or `<`, as the text of a name that begins with `<` does.
 fn may_open_name(text: &[u8]) -> bool
     ensures { result ≡ may_open_name text.now }
 {

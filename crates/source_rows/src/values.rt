@@ -75,7 +75,7 @@ pub fn read_value(content: &[u8]) -> Result<Valued<'_>, RowFault>
     }
 }
 
-/// The row of a line of Scripts.txt or WordBreakProperty.txt: a missing row where the line begins with the mark of one.
+/// The row of a line of Scripts.txt or WordBreakProperty.txt: a missing row if the line begins with the mark of one.
 ///
 /// - `G03`: there are not two fields.
 /// - `G04`: the first is no code point and no span.

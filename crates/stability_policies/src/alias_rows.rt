@@ -171,7 +171,7 @@ pub fn keeps_first(file: SourceFile, a: &[Text], b: &[Text]) -> bool
     }
 }
 
-/// Whether the first names are the same; where one row has no names, whether the other has none.
+/// Whether the first names are the same; if one row has no names, whether the other has none.
 fn has_same_first(a: &[Text], b: &[Text]) -> bool
     ensures { result ≡ same_first a.now b.now }
 {

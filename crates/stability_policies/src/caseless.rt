@@ -13,7 +13,7 @@ use normalisation::nfkc;
 use std::alloc::Global;
 use ucd_model::{FactView, FactsRef, FormStop, Kind, Memory, Point, Points};
 
-/// The full folding of the Normalisation Form KC of a list; `None` where a member has no expansion.
+/// The full folding of the Normalisation Form KC of a list; `None` if a member has no expansion.
 ///
 /// - `Memory`: memory ran out.
 pub fn caseless<W: FactView>(alloc: Global, view: &W, s: &[Point]) -> Result<Option<Points>, Memory>
@@ -29,7 +29,7 @@ pub fn caseless<W: FactView>(alloc: Global, view: &W, s: &[Point]) -> Result<Opt
     }
 }
 
-/// P10: assigned in old, with another folding under NFKC in new. No form is made where the code point has no mapping.
+/// P10: assigned in old, with another folding under NFKC in new. No form is made if the code point has no mapping.
 ///
 /// - `Memory`: memory ran out.
 pub fn changes_caseless<O: FactView, N: FactView>(

@@ -1,4 +1,4 @@
-//! What the two releases have in common where the report lists nothing of some policies.
+//! What the two releases have in common if the report lists nothing of some policies.
 
 ghost use Rattle.std.specs.Prelude.{◌≡◌, Ok, IfOk};
 ghost use Rattle.stability_policies.specs.CommonForms.{AllAssigned, KeepsForms, ListsNone};
@@ -16,7 +16,7 @@ use std::alloc::Global;
 use ucd_model::{FactView, Memory, Point, Points, Records};
 
 /// The four forms of a list of code points that were assigned in the old release: they are the same in both releases,
-/// where the report lists nothing of P01, P03, P04 and P05. UAX #15, section 3.
+/// if the report lists nothing of P01, P03, P04 and P05. UAX #15, section 3.
 ///
 /// - `Memory`: memory ran out.
 pub fn common_forms<O: Records + FactView, N: Records + FactView>(
@@ -42,7 +42,7 @@ pub fn common_forms<O: Records + FactView, N: Records + FactView>(
 }
 
 /// The full folding of the Normalisation Form KC of a list of code points that were assigned in the old release: it is the
-/// same in both releases, where the report lists nothing of P01, P03, P04, P05 and P10. UAX #31, section 5.1.
+/// same in both releases, if the report lists nothing of P01, P03, P04, P05 and P10. UAX #31, section 5.1.
 ///
 /// - `Memory`: memory ran out.
 pub fn common_caseless<O: Records + FactView, N: Records + FactView>(

@@ -9,7 +9,8 @@ use source_rows::RowRef;
 use std::alloc::Global;
 use ucd_model::Memory;
 
-/// Which of two rows are taken, of which one stands first in what is left of the old release, and one in that of the new.
+/// Which of two rows are taken: the first in what is left of the old release, and the first in what is left of the new
+/// one.
 #[derive(Clone, Copy, Debug)]
 pub enum Step {
     /// Both: they are the same row.
@@ -42,8 +43,8 @@ impl Step {
     }
 }
 
-/// Puts the names of the rows of both releases but for rows that stand in both in the same bytes: only the others are
-/// read. Both files ascend.
+/// Puts the names of the rows of both releases, except for rows that stand in both in the same bytes: only the others
+/// are read. Both files ascend.
 ///
 /// - `Memory`: memory ran out.
 pub fn put_differing(
@@ -94,8 +95,8 @@ fn take_one(
     Ok(Step::New)
 }
 
-/// Whether the first of two rows begins before the second, or where it does. It keeps the two files in step, so that rows
-/// that stand in both meet.
+/// Whether the first of two rows begins before the second, or at the same code point. It keeps the two files in step,
+/// so that rows that stand in both meet.
 fn begins_first(row: &RowText<'_>, other: &RowText<'_>) -> bool
     ensures { result ≡ begins_first row.now other.now }
 {

@@ -1,5 +1,5 @@
-//! The stability policies of the Unicode Standard: what a release breaks of them against an earlier one, and what it keeps
-//! where it breaks none. Unicode Character Encoding Stability Policies.
+//! The stability policies of the Unicode Standard: which of them a release breaks against an earlier one, and what it
+//! keeps if it breaks none. Unicode Character Encoding Stability Policies.
 #![tactic(auto)]
 
 mod alias_rows;

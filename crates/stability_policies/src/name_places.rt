@@ -96,8 +96,8 @@ impl<'a> NamePlaces<'a> {
         Some(place)
     }
 
-    /// The first place of a row that keeps the names; `None` if no row keeps them. It takes time by the names, by the
-    /// logarithm of all names, and by the rows that have the rarest of them.
+    /// The first place of a row that keeps the names; `None` if no row keeps them. Its time grows with the names, with
+    /// the logarithm of all names, and with the rows that have the rarest of them.
     pub fn kept_at(&self, file: SourceFile, names: &[Text]) -> Option<usize>
         ensures { is_some result ≡ list_any (keeps_names file names.now) self.now }
     {

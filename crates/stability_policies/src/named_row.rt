@@ -77,7 +77,7 @@ pub fn push_named(alloc: Global, row: &RowText<'_>, into: &mut Vec<NamedRow>) ->
     Ok(())
 }
 
-/// The name of a row of UnicodeData.txt; `None` of another row.
+/// The name of a row of UnicodeData.txt; `None` for another row.
 fn named_of(row: Row) -> Option<NamedRow>
     ensures { option_to_list result ≡ named_in row }
 {

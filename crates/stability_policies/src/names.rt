@@ -19,7 +19,7 @@ use release_rows::{Release, RowText};
 use std::alloc::Global;
 use ucd_model::{Memory, Point};
 
-/// Puts the breaks of P02, by code point: assigned in both, with other names.
+/// Puts the breaks of P02, by code point: assigned in both, with different names.
 ///
 /// - `Memory`: memory ran out.
 pub fn put_renamed(

@@ -10,7 +10,7 @@ ghost use Rattle.stability_policies.specs.ReportTexts.{policy_code};
 pub enum Policy {
     /// Assigned code points stay assigned.
     P01,
-    /// The name of an assigned code point stays; of a range of code points its label.
+    /// The name of an assigned code point stays; for a range of code points, its label.
     P02,
     /// The canonical combining class of an assigned code point stays.
     P03,

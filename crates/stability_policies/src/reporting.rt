@@ -19,7 +19,7 @@ use std::alloc::Global;
 use ucd_model::{Memory, Records, SourceFile};
 use uniform_facts::UniformFacts;
 
-/// All breaks of the stability policies by a new release against an old one: by policy, then by code point; of P17 by
+/// All breaks of the stability policies by a new release against an old one: by policy, then by code point; for P17 by
 /// file, then by line. What is uniform from code point to code point is looked at once.
 /// Unicode Character Encoding Stability Policies.
 ///

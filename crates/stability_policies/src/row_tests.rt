@@ -15,7 +15,7 @@ pub fn loses_its_row(old: &FactsRef<'_>, new: &FactsRef<'_>) -> bool
     old.assigned && !new.assigned
 }
 
-/// P03: assigned in both, with other classes.
+/// P03: assigned in both, with different classes.
 pub fn changes_class(old: &FactsRef<'_>, new: &FactsRef<'_>) -> bool
     ensures { result ≡ ((shown_facts old.now).assigned && ((shown_facts new.now).assigned
         && not ((shown_facts old.now).class == (shown_facts new.now).class))) }
@@ -23,7 +23,7 @@ pub fn changes_class(old: &FactsRef<'_>, new: &FactsRef<'_>) -> bool
     old.assigned && new.assigned && old.class != new.class
 }
 
-/// P04: assigned in both, with other mappings, or with mappings of another sort.
+/// P04: assigned in both, with different mappings, or with mappings of different sorts.
 pub fn changes_mapping(old: &FactsRef<'_>, new: &FactsRef<'_>) -> bool
     ensures { result ≡ ((shown_facts old.now).assigned && ((shown_facts new.now).assigned
         && not (same_mapping (shown_facts old.now) (shown_facts new.now)))) }
@@ -97,7 +97,7 @@ pub fn changes_pattern(old: &FactsRef<'_>, new: &FactsRef<'_>) -> bool
     )
 }
 
-/// P20: another class than 0, and no mark.
+/// P20: a class other than 0, and no mark.
 pub fn has_class_without_mark(facts: &FactsRef<'_>) -> bool
     ensures { result ≡ (not ((shown_facts facts.now).class == 0) && not (is_mark (shown_facts facts.now))) }
 {

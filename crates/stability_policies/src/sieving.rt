@@ -159,7 +159,7 @@ fn put_folding<O: UniformFacts, N: UniformFacts>(
     put_stretch(BrokenStretch { span, policies }, into)
 }
 
-/// A code point up to which all from `c` on break the policies that `c` breaks, and keep what `c` keeps; `c` itself where
+/// A code point up to which all from `c` on break the policies that `c` breaks, and keep what `c` keeps; `c` itself if
 /// it has a decomposition mapping.
 fn last_alike<O: UniformFacts, N: UniformFacts>(old: &O, new: &N, c: Point) -> Point
     ensures from { c ≤ result }

@@ -49,8 +49,8 @@ pub fn other_policies<O: Records + FactView, N: Records + FactView>(
     Ok(policies)
 }
 
-/// Whether a code point with these facts and core properties breaks a policy; never P02 and P17, which are of rows. Of P10
-/// nothing is told.
+/// Whether a code point with these facts and core properties breaks a policy; never P02 or P17, which are about rows.
+/// Nothing is said of P10.
 ///
 /// - `Memory`: memory ran out.
 fn is_broken<O: FactView, N: FactView>(

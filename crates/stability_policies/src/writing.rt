@@ -14,8 +14,8 @@ use std::alloc::Global;
 use ucd_lines::{put_decimal, put_hex, put_total};
 use ucd_model::{Memory, Point, SourceFile, Text};
 
-/// The text of a report: a line for each break, in order, with the code of the policy and the code point, or of P17 the
-/// path of the file and the number of the line; and a last line with how many there are.
+/// The text of a report: a line for each break, in order, with the code of the policy and the code point, or for P17
+/// the path of the file and the number of the line; and a last line with how many there are.
 ///
 /// - `Memory`: memory ran out.
 pub fn report_text(alloc: Global, breaks: &Breaks) -> Result<Text, Memory>

@@ -319,7 +319,7 @@ fn step(alloc: Global, map: &mut Map, plain: &mut Plain, state: u64) -> u64 {
     }
 }
 
-/// Where memory is refused, next stays.
+/// If memory is refused, next stays.
 fn prepare(alloc: Global, map: &mut Map, plain: &mut Plain, state: u64) -> u64 {
     let (at, state) = drawn(state, u64::from(POINTS));
     let mut asked = Queries::new(alloc);

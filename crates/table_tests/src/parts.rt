@@ -43,7 +43,7 @@ fn follows(number: u32) -> u32 {
 }
 
 /// Does one edit on both lists: the first entry of a code point is given another before it, replaced, replaced with
-/// another behind it, or removed. Where there is none, one is put at the end. Where one list has it and the other has
+/// another behind it, or removed. If there is none, one is put at the end. If one list has it and the other has
 /// not, they differ from then on.
 fn edit(list: &mut PartList<u32>, plain: &mut Vec<u32>, code: u32, how: u32) -> Result<(), Memory> {
     let code = code % 0x11_0000;

@@ -111,7 +111,7 @@ fn are_at(store: &Names, number: u32, place: u64) -> Option<(u64, u64)> {
     Some((u64::from(now), u64::from(next)))
 }
 
-/// Without a place the values are others than expected.
+/// Without a place the values differ from those expected.
 fn look_at_shares(rt: &impl Abort, store: &mut Names) {
     let place = share(store).unwrap_or(u64::MAX);
     for (number, value, shares) in &SHARED {
@@ -156,8 +156,8 @@ fn look_at_stretches(rt: &impl Abort, store: &mut Names) {
     }
 }
 
-/// Whether a code point that got many values, of which each second one was dropped before it was now, has the last one, at no high
-/// place; and its neighbour the one that it had at first.
+/// Whether a code point that got many values, every second of which was dropped before it was committed, has the last
+/// one, at no high place, and its neighbour has the one that it had at first.
 fn takes_places_again(store: &mut Names) -> Result<bool, Memory> {
     let c = Point::at(0x41);
     store.prepare(Span::one(Point::at(0x42)), named(7))?;
@@ -200,7 +200,7 @@ fn agree<S: Store<Name>>(rt: &impl Abort, store: &S, plain: &Plain) {
 }
 
 /// One step, drawn by lot: a span is prepared, what is next is committed or discarded, or room is given back.
-/// Where memory is refused, next stays.
+/// If memory is refused, next stays.
 fn step<S: Store<Name>>(store: &mut S, plain: &mut Plain, state: u64) -> u64 {
     let (kind, state) = drawn(state, 8);
     match kind {
@@ -237,7 +237,7 @@ fn prepare<S: Store<Name>>(store: &mut S, plain: &mut Plain, state: u64) -> u64 
     state
 }
 
-/// Prepares a value: where a code point of the span has it next, at its place.
+/// Prepares a value: if a code point of the span has it next, at its place.
 fn put<S: Store<Name>>(store: &mut S, span: Span, value: u64) -> Result<(), Memory> {
     if store.get_next(span.lo).number == value {
         let place = store.place_next(span.lo);

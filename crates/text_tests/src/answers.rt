@@ -1,5 +1,5 @@
-//! Sets of values by the rows of files, and answers, where no row of UnicodeData.txt stands beside them: every code point
-//! is unassigned.
+//! Sets of values by the rows of files, and answers, without rows of UnicodeData.txt beside them: every code point is
+//! unassigned.
 
 ghost use Rattle.std.specs.Prelude.{◌≡◌, [], IfOk};
 ghost use Rattle.property_aliases.specs.Found.{AreAliasesOf};

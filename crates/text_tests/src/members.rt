@@ -106,7 +106,7 @@ fn has_complement(
     has_spans(alloc, &others.complement(), spans)
 }
 
-/// The complement ends at 10FFFF, also where the set ends there, as the noncharacters of PropList.txt do.
+/// The complement ends at 10FFFF, even if the set ends there, as the noncharacters of PropList.txt do.
 #[test]
 fn complements_end_with_the_last_code_point(rt: HostRuntime) -> Result<(), Fail> {
     let last = [(0x10_FFFE, 0x10_FFFF)];

@@ -8,7 +8,7 @@ use ucd_lines::put_hex;
 use ucd_model::{Memory, Text};
 use unicodeset_parser::*;
 
-/// The fault of a text, where it has one.
+/// The fault of a text, if it has one.
 fn fault_of(alloc: Global, text: &[u8]) -> Result<Option<(SetRule, usize)>, Memory> {
     match parse(alloc, text) {
         Ok(_) => Ok(None),
@@ -103,7 +103,7 @@ fn nested(alloc: Global, open: usize, closed: usize) -> Result<Text, Memory> {
     Ok(text)
 }
 
-/// The fault of a text of so many `[`, and so many `]`, where it has one.
+/// The fault of a text of so many `[`, and so many `]`, if it has one.
 fn nested_fault(
     alloc: Global,
     open: usize,

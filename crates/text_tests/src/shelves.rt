@@ -81,7 +81,7 @@ fn put_both<K: Sink>(out: &mut K, first: &[u8], second: &[u8]) -> Result<(), Fai
     out.put(second)
 }
 
-/// Reads from a shelf of which no read is to fail. Want of memory is the only stop.
+/// Reads from a shelf of which no read is to fail. Running out of memory is the only stop.
 fn read_planned(shelf: &mut MemoryShelf, path: &[u8], into: &mut Vec<u8>) -> Result<Found, Memory>
     requires { shelf.old.reads.failing ≡ [] }
     ensures { shelf.new.reads.failing ≡ [] }
@@ -93,7 +93,7 @@ fn read_planned(shelf: &mut MemoryShelf, path: &[u8], into: &mut Vec<u8>) -> Res
     }
 }
 
-/// Reads from a shelf that never fails, and writes to it. Want of memory is the only stop.
+/// Reads from a shelf that never fails, and writes to it. Running out of memory is the only stop.
 fn move_perfectly(
     alloc: Global,
     shelf: &mut PerfectShelf,
@@ -121,7 +121,7 @@ fn are_bytes(held: Option<&[u8]>, bytes: &[u8]) -> bool {
     }
 }
 
-/// A path, how much of it is read, the answer, and what was read where the file is found.
+/// A path, how much of it is read, the answer, and what was read if the file is found.
 pub type ReadCase<'a> = (&'a [u8], usize, Result<Found, ReadStop>, &'a [u8]);
 
 /// Whether a read of this path gives this.
@@ -170,7 +170,7 @@ fn joins_two(alloc: Global, shelf: &mut MemoryShelf) -> Result<bool, Memory> {
     )
 }
 
-/// The same, of a shelf that was made for it.
+/// The same for a shelf that was made for it.
 fn joins_in_memory(alloc: Global) -> Result<bool, Memory> {
     joins_two(alloc, &mut MemoryShelf::new(alloc))
 }
@@ -196,7 +196,7 @@ fn joins_and_moves(alloc: Global, shelf: &mut PerfectShelf) -> Result<bool, Memo
     )
 }
 
-/// The same, of a shelf that was made for it.
+/// The same for a shelf that was made for it.
 fn joins_perfectly(alloc: Global) -> Result<bool, Memory> {
     joins_and_moves(alloc, &mut PerfectShelf::new(alloc))
 }
@@ -207,7 +207,7 @@ fn joins_files_that_never_fail(rt: HostRuntime) -> Result<(), Memory> {
     Ok(())
 }
 
-/// What a read of a new file answers, where no read is to fail.
+/// What a read of a new file answers. No read is to fail.
 fn read_placed(alloc: Global, shelf: &mut MemoryShelf) -> Result<Found, Memory>
     requires { shelf.old.reads.failing ≡ [] }
 {
@@ -215,7 +215,7 @@ fn read_placed(alloc: Global, shelf: &mut MemoryShelf) -> Result<Found, Memory>
     read_planned(shelf, b"a", &mut Vec::new(alloc))
 }
 
-/// The same, of a shelf that was made for it.
+/// The same for a shelf that was made for it.
 fn read_of_a_new_shelf(alloc: Global) -> Result<Found, Memory> {
     read_placed(alloc, &mut MemoryShelf::new(alloc))
 }
@@ -245,7 +245,7 @@ fn first_wrong_of_failing(alloc: Global, shelf: &mut MemoryShelf) -> Result<Opti
     Ok(first_wrong_read(alloc, shelf, &FAILING))
 }
 
-/// The same, of a shelf that was made for it.
+/// The same for a shelf that was made for it.
 fn first_wrong_in_memory(alloc: Global) -> Result<Option<usize>, Memory> {
     first_wrong_of_failing(alloc, &mut MemoryShelf::new(alloc))
 }
@@ -277,7 +277,7 @@ fn fails_second(alloc: Global, shelf: &mut MemoryShelf) -> Result<bool, Memory> 
     )
 }
 
-/// The same, of a shelf that was made for it.
+/// The same for a shelf that was made for it.
 fn fails_second_in_memory(alloc: Global) -> Result<bool, Memory> {
     fails_second(alloc, &mut MemoryShelf::new(alloc))
 }
@@ -296,7 +296,7 @@ fn takes_five(sink: &mut MemorySink) -> bool {
         && sink.written() == b"abcde".as_slice()
 }
 
-/// The same, of a sink that was made for it.
+/// The same for a sink that was made for it.
 fn takes_what_fits(alloc: Global) -> Result<bool, Memory> {
     Ok(takes_five(&mut MemorySink::new(alloc, 5)?))
 }

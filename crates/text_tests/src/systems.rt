@@ -16,7 +16,7 @@ use ucd_model::Memory;
 const FOLDER: &str = "shelf_io_files";
 
 /// Paths, what is written there one after the other, and the answer. A full device takes no byte, and no byte is
-/// written where a folder is, below a file, or where the path is no text.
+/// written at the path of a folder, below a file, or if the path is no text.
 const WRITES: [(&[u8], &[u8], Result<(), Failed>); 8] = [
     (b"shelf_io_files/deep/file", b"longer text", Ok(())),
     (b"shelf_io_files/deep/file", b"text", Ok(())),
@@ -135,7 +135,7 @@ struct Parts {
 }
 
 impl Parts {
-    /// A step of a write, which fails where it is the one to stop at.
+    /// A step of a write, which fails if it is the one to stop at.
     fn step(&mut self, number: u8) -> io::Result<()>
         ensures failed { OnErr result (Rose self.old.faults self.new.faults) }
         ensures never_falls { self.old.faults ≤ self.new.faults }
@@ -449,7 +449,7 @@ fn first_wrong_of_one(
     Ok(first_wrong_read(alloc, shelf, &found))
 }
 
-/// The same, of a system that was made for it.
+/// The same for a system that was made for it.
 fn first_wrong_of_a_system(alloc: Global) -> Result<Option<usize>, Memory> {
     let system = OneFile {
         alloc,

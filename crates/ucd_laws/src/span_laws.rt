@@ -27,7 +27,7 @@ pub fn spans_ascend()
     ensures { SpansAscend }
 {}
 
-/// Where the next span begins right after a span, their labels differ.
+/// If the next span begins right after a span, their labels differ.
 pub fn spans_do_not_touch()
     ensures { SpansDoNotTouch }
 {}

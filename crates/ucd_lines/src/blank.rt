@@ -26,7 +26,7 @@ pub fn leading_blanks(text: &[u8]) -> usize
     }
 }
 
-/// The place of the first byte that is no white space, and the length of the text where there is none.
+/// The place of the first byte that is no white space, or the length of the text if there is none.
 fn first_other(text: &[u8]) -> usize
     ensures place { result ≡ prefix_len is_blank text.now }
     ensures within { result ≤ length text.now }
@@ -44,7 +44,7 @@ fn trim_start(text: &[u8]) -> &[u8]
     &text[leading_blanks(text)..]
 }
 
-/// The place behind the last byte that is no white space, and 0 where there is none.
+/// The place behind the last byte that is no white space, or 0 if there is none.
 fn behind_last_other(text: &[u8]) -> usize
     ensures place { result ≡ length text.now - suffix_len is_blank text.now }
     ensures within { result ≤ length text.now }

@@ -19,7 +19,7 @@ fn digit_of(byte: u8) -> Option<u32>
     }
 }
 
-/// The number that at most eight hexadecimal digits of either case write, and 0 for no digits. `None` exactly where a
+/// The number that at most eight hexadecimal digits of either case write, and 0 for no digits. `None` exactly if a
 /// byte is no digit.
 pub fn hex_number(digits: &[u8]) -> Option<u32>
     requires { length digits.now ≤ 8 }

@@ -19,7 +19,7 @@ pub fn put_decimal(alloc: Global, number: usize, into: &mut Text) -> Result<(), 
 
 /// Appends the line `# total N`, ended by LF.
 ///
-/// - `Memory`: memory ran out. A part of the line may stand at the end of the text then.
+/// - `Memory`: memory ran out. A part of the line may then stand at the end of the text.
 pub fn put_total(alloc: Global, total: usize, into: &mut Text) -> Result<(), Memory>
     ensures { OnOk result (into.new ≡ into.old ++ codes "# total " ++ decimal total ++ 10 ∷ []) }
 {

@@ -52,7 +52,7 @@ impl<'a> Iterator for Fields<'a> {
     }
 }
 
-/// The first field, and the text of the fields behind it, `None` where there are none.
+/// The first field, and the text of the fields behind it, `None` if there are none.
 fn first_field(text: &[u8]) -> (&[u8], Option<&[u8]>)
     ensures { map trim (slice_split is_semicolon text.now) ≡ result.0.now ∷ fields_left result.1 }
 {

@@ -31,7 +31,7 @@ pub fn compare_hex(text: &[u8], c: Point) -> Ordering
 
 /// Appends a code point, or the first and the last one joined by `..`. UAX #44, section 4.2.
 ///
-/// - `Memory`: memory ran out. A part may stand at the end of the text then.
+/// - `Memory`: memory ran out. A part may then stand at the end of the text.
 #[tactic(auto, unfolding(ucd_points::specs::HexText::span_text))]
 pub fn put_span(span: Span, into: &mut Text) -> Result<(), Memory>
     ensures { OnOk result (into.new ≡ into.old ++ span_text span) }

@@ -27,7 +27,7 @@ pub fn endings_are_told_apart()
     ensures { EndingsAreToldApart }
 {}
 
-/// A text has no other lines: whatever lines keep these laws are the lines of what they give put together.
+/// A text has no other lines: any lines that keep these laws are the lines of the text that they give, put together.
 pub fn lines_are_unique()
     ensures { LinesAreUnique }
 {}

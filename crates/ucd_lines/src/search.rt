@@ -5,7 +5,7 @@ ghost use Rattle.std.specs.List.{position_or_len, before_first, after_first};
 
 use bstr::ByteSlice;
 
-/// The place of the first such byte, counted from 0, and the length of the text where there is none.
+/// The place of the first such byte, counted from 0, or the length of the text if there is none.
 pub fn first_at(text: &[u8], byte: u8) -> usize
     ensures place { result ≡ position_or_len (λ b. b == byte) text.now }
     ensures within { result ≤ length text.now }
@@ -16,7 +16,7 @@ pub fn first_at(text: &[u8], byte: u8) -> usize
     }
 }
 
-/// What stands before the first such byte, and what stands behind it. Where there is none, the whole text and nothing.
+/// What stands before the first such byte, and what stands behind it. If there is none, the whole text and nothing.
 pub fn cut(text: &[u8], byte: u8) -> (&[u8], &[u8])
     ensures before { result.0.now ≡ before_first (λ b. b == byte) text.now }
     ensures after { result.1.now ≡ after_first (λ b. b == byte) text.now }

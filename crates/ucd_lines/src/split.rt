@@ -24,8 +24,8 @@ pub fn items(bytes: &[u8]) -> Items<'_>
 }
 
 /// The fields of a line, in order and without a copy: what stands between the `;`, each without white space (space and
-/// tab) around it. In all files but UnicodeData.txt a comment, from the first `#` on, is cut off before; of a line
-/// `# @missing:` of Scripts.txt or WordBreakProperty.txt what stands behind that is read.
+/// tab) around it. In all files but UnicodeData.txt a comment, from the first `#` on, is cut off first; but what stands
+/// behind the `# @missing:` of such a line of Scripts.txt or WordBreakProperty.txt is read.
 /// There is always at least one field. UAX #44, section 4.2.
 #[tactic(auto, using(crate::proofs::FieldCuts::few_fields), unfolding(ucd_points::specs::Fields::fields))]
 pub fn fields(file: SourceFile, content: &[u8]) -> Fields<'_>
@@ -35,7 +35,8 @@ pub fn fields(file: SourceFile, content: &[u8]) -> Fields<'_>
     Fields::new(uncommented(file, content))
 }
 
-/// The line without its comment; of a line `# @missing:` the same of what stands behind that. UnicodeData.txt has no comments.
+/// The line without its comment; for a line `# @missing:`, what stands behind that without its comment. UnicodeData.txt
+/// has no comments.
 fn uncommented(file: SourceFile, content: &[u8]) -> &[u8]
     ensures text { result.now ≡ uncommented file content.now }
     ensures shorter { length result.now ≤ length content.now }

@@ -8,9 +8,9 @@ ghost use Rattle.ucd_points.specs.MissingLines.{takes_missing, mark, behind_mark
 use crate::blank::leading_blanks;
 use ucd_points::SourceFile;
 
-/// What stands behind the mark `# @missing:` of a line of Scripts.txt or WordBreakProperty.txt: a span and a value, which the
-/// code points of the span have that no other row covers. White space may stand before the `#` and behind it. `None` of
-/// every other line, and in every other file. UAX #44, section 4.2.10.
+/// What stands behind the mark `# @missing:` of a line of Scripts.txt or WordBreakProperty.txt: a span and a value,
+/// which the code points of the span have that no other row covers. White space may stand before the `#` and behind it.
+/// `None` for every other line, and in every other file. UAX #44, section 4.2.10.
 #[tactic(auto, unfolding(ucd_points::specs::MissingLines::missing_rest))]
 pub fn missing_rest(file: SourceFile, content: &[u8]) -> Option<&[u8]>
     ensures rest { option_map (λ rest. rest.now) result ≡ missing_rest file content.now }
@@ -25,7 +25,7 @@ pub fn missing_rest(file: SourceFile, content: &[u8]) -> Option<&[u8]>
     }
 }
 
-/// Whether a line holds no row: true exactly where its content is blank, or its first byte other than white space
+/// Whether a line holds no row: true exactly if its content is blank, or its first byte other than white space
 /// (space and tab) is `#` and it is no line `# @missing:` of Scripts.txt or WordBreakProperty.txt. UAX #44, sections 4.2 and
 /// 4.2.10.
 pub fn is_trivia(file: SourceFile, content: &[u8]) -> bool

@@ -2,7 +2,7 @@
 
 ghost use Rattle.ucd_model.specs.CompositeLaws.{PairIsLeast, PairIsOnly, SecondIsExact};
 
-/// The pair of two points is the least primary composite with their mapping, and there is none where no composite has
+/// The pair of two points is the least primary composite with their mapping, and there is none if no composite has
 /// it.
 pub fn pair_is_least()
     ensures { PairIsLeast }
@@ -13,7 +13,7 @@ pub fn pair_is_only()
     ensures { PairIsOnly }
 {}
 
-/// A point is a second member exactly where some primary composite's mapping ends with it.
+/// A point is a second member exactly if some primary composite's mapping ends with it.
 pub fn second_is_exact()
     ensures { SecondIsExact }
 {}

@@ -160,7 +160,7 @@ impl Kind {
         }
     }
 
-    /// Whether a mapping of this kind counts in an expansion: a canonical one always, a compatibility one where `compat`
+    /// Whether a mapping of this kind counts in an expansion: a canonical one always, a compatibility one if `compat`
     /// holds. UAX #15, section 1.3.
     pub fn counts(self, compat: bool) -> bool
         ensures { result ≡ counts compat self }

@@ -10,7 +10,7 @@ use crate::facts::Facts;
 use crate::view::{FactView, FactsRef};
 use ucd_points::{ListOf, Point, point_count};
 
-/// The facts of a few code points. Of two entries of one code point the first counts, and every code point without an
+/// The facts of a few code points. If two entries have one code point, the first counts; every code point without an
 /// entry has the facts of one without a row.
 pub type FactList = ListOf<(Point, Facts)>;
 

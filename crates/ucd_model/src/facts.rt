@@ -18,30 +18,30 @@ use ucd_points::{Point, Points};
 pub struct Facts {
     /// Whether a row of UnicodeData.txt covers the point.
     pub assigned: bool,
-    /// General_Category; `Cn` where there is no row.
+    /// General_Category; `Cn` if there is no row.
     pub category: Category,
-    /// Canonical_Combining_Class, from 0 to 254; 0 where there is no row.
+    /// Canonical_Combining_Class, from 0 to 254; 0 if there is no row.
     pub class: u8,
-    /// Decomposition_Type; `Plain` where there is no mapping, and `Canonical` of a Hangul syllable whose row has none.
+    /// Decomposition_Type; `Plain` if there is no mapping, and `Canonical` for a Hangul syllable whose row has none.
     pub kind: Kind,
-    /// Decomposition_Mapping; no code points where there is none. Of a Hangul syllable whose row has none it is that of
+    /// Decomposition_Mapping; no code points if there is none. For a Hangul syllable whose row has none, it is that of
     /// The Unicode Standard, section 3.12.
     pub mapping: Points,
-    /// Simple_Uppercase_Mapping; the point itself where there is none.
+    /// Simple_Uppercase_Mapping; the point itself if there is none.
     pub simple_upper: Point,
-    /// Simple_Lowercase_Mapping; the point itself where there is none.
+    /// Simple_Lowercase_Mapping; the point itself if there is none.
     pub simple_lower: Point,
-    /// Simple_Titlecase_Mapping; `simple_upper` where there is none.
+    /// Simple_Titlecase_Mapping; `simple_upper` if there is none.
     pub simple_title: Point,
-    /// Simple_Case_Folding: that of status S, else of C; the point itself where there is none.
+    /// Simple_Case_Folding: that of status S, else of C; the point itself if there is none.
     pub simple_fold: Point,
-    /// Uppercase_Mapping without conditions; `simple_upper` alone where SpecialCasing.txt has none.
+    /// Uppercase_Mapping without conditions; `simple_upper` alone if SpecialCasing.txt has none.
     pub upper: Image,
-    /// Lowercase_Mapping without conditions; `simple_lower` alone where SpecialCasing.txt has none.
+    /// Lowercase_Mapping without conditions; `simple_lower` alone if SpecialCasing.txt has none.
     pub lower: Image,
-    /// Titlecase_Mapping without conditions; `simple_title` alone where SpecialCasing.txt has none.
+    /// Titlecase_Mapping without conditions; `simple_title` alone if SpecialCasing.txt has none.
     pub title: Image,
-    /// Case_Folding: that of status F, else of C; the point itself where there is none.
+    /// Case_Folding: that of status F, else of C; the point itself if there is none.
     pub fold: Image,
     /// Which of the properties in `Flag` the point has.
     pub flags: Flags,

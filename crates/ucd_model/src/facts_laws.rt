@@ -2,7 +2,7 @@
 
 ghost use Rattle.ucd_model.specs.FactsLaws.{ImageIsSame, ImageIsOther, HangulComposesBack, FactsAreCut};
 
-/// An image is `Same` exactly where a code point is mapped to itself alone.
+/// An image is `Same` exactly if a code point is mapped to itself alone.
 pub fn image_is_same()
     ensures { ImageIsSame }
 {}

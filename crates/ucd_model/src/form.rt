@@ -42,8 +42,8 @@ pub enum Bad {
     V3,
     /// It is a primary composite, and a lesser primary composite has the same mapping.
     V4,
-    /// By one of the two foldings none of the lists after 0 to 7 rounds, of up to 255 code points each, stays as it is in
-    /// one more round.
+    /// By one of the two foldings, none of the lists after 0 to 7 rounds, of up to 255 code points each, stays as it is
+    /// in one more round.
     V5,
 }
 
@@ -65,7 +65,7 @@ pub enum FormStop {
     Memory,
 }
 
-/// Want of memory is `FormStop::Memory`.
+/// Running out of memory is `FormStop::Memory`.
 impl From<Memory> for FormStop {
     ghost use Rattle.ucd_model.specs.declared.form.FormStop.TheVariants.{Memory};
 

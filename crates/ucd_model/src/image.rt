@@ -6,7 +6,7 @@ ghost use Rattle.ucd_model.specs.Shown.{image_shown};
 
 use ucd_points::{Point, Points};
 
-/// What a code point is mapped to. `Same` stands exactly where that is the point itself alone.
+/// What a code point is mapped to. `Same` stands exactly if that is the point itself alone.
 #[derive(Debug, Drop)]
 pub enum Image {
     /// The point itself alone.
@@ -16,7 +16,7 @@ pub enum Image {
 }
 
 impl Image {
-    /// The image of a code point that is mapped to these: `Same` exactly where they are the point itself alone. It
+    /// The image of a code point that is mapped to these: `Same` exactly if they are the point itself alone. It
     /// takes no memory.
     pub fn of(c: Point, points: Points) -> Image
         ensures { result ≡ image c points }

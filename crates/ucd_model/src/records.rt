@@ -1,4 +1,4 @@
-//! What is derived of each code point.
+//! What is derived for each code point.
 
 ghost use Rattle.std.specs.Prelude.{◌≡◌, ℕ, IsTrue};
 ghost use Rattle.std.specs.Bool.{Decides};
@@ -18,7 +18,7 @@ pub struct Record {
     pub category: Category,
     /// Canonical_Combining_Class, from 0 to 254.
     pub class: u8,
-    /// Decomposition_Type; `Plain` where there is no mapping.
+    /// Decomposition_Type; `Plain` if there is no mapping.
     pub kind: Kind,
     /// The core properties that the code point has.
     pub core: CoreSet,
@@ -32,9 +32,9 @@ pub struct Record {
     pub nfkd: Quick,
     /// NFKC_Quick_Check.
     pub nfkc: Quick,
-    /// NFKC_Casefold; `Same` where it is the point itself alone.
+    /// NFKC_Casefold; `Same` if it is the point itself alone.
     pub casefold: Image,
-    /// NFKC_Simple_Casefold; `Same` where it is the point itself alone.
+    /// NFKC_Simple_Casefold; `Same` if it is the point itself alone.
     pub simple_casefold: Image,
     /// Changes_When_NFKC_Casefolded.
     pub changes_casefold: bool,

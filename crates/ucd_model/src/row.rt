@@ -14,9 +14,9 @@ use ucd_points::{Point, Points, Span, Text, Texts};
 pub struct Kept {
     /// Field 4, Bidi_Class.
     pub f4: Text,
-    /// Field 6, Numeric_Value where Numeric_Type is Decimal.
+    /// Field 6, Numeric_Value if Numeric_Type is Decimal.
     pub f6: Text,
-    /// Field 7, Numeric_Value where Numeric_Type is Decimal or Digit.
+    /// Field 7, Numeric_Value if Numeric_Type is Decimal or Digit.
     pub f7: Text,
     /// Field 8, Numeric_Value.
     pub f8: Text,
@@ -41,15 +41,15 @@ pub struct DataRow {
     pub category: Category,
     /// Field 3, Canonical_Combining_Class: 0 to 254.
     pub class: u8,
-    /// Field 5, Decomposition_Type; `Plain` where the field is empty.
+    /// Field 5, Decomposition_Type; `Plain` if the field is empty.
     pub kind: Kind,
-    /// Field 5, Decomposition_Mapping: one or two code points of a canonical one, else up to 64; none of `Plain`.
+    /// Field 5, Decomposition_Mapping: one or two code points for a canonical one, else up to 64; none for `Plain`.
     pub mapping: Points,
-    /// Field 12, Simple_Uppercase_Mapping; `None` where the field is empty.
+    /// Field 12, Simple_Uppercase_Mapping; `None` if the field is empty.
     pub upper: Option<Point>,
-    /// Field 13, Simple_Lowercase_Mapping; `None` where the field is empty.
+    /// Field 13, Simple_Lowercase_Mapping; `None` if the field is empty.
     pub lower: Option<Point>,
-    /// Field 14, Simple_Titlecase_Mapping; `None` where the field is empty.
+    /// Field 14, Simple_Titlecase_Mapping; `None` if the field is empty.
     pub title: Option<Point>,
     /// The other fields.
     pub kept: Kept,
@@ -79,7 +79,7 @@ pub enum FoldStatus {
     C,
     /// Full: of the full folding alone.
     F,
-    /// Simple: of the simple folding alone, where it differs from the full one.
+    /// Simple: of the simple folding alone, if it differs from the full one.
     S,
     /// Turkic: for Turkic languages alone. The facts leave it out.
     T,
@@ -121,7 +121,7 @@ pub struct CasingRow {
     pub title: Points,
     /// Its full upper case mapping: 0 to 64 code points.
     pub upper: Points,
-    /// The conditions, with one space between words; empty where there are none.
+    /// The conditions, with one space between words; empty if there are none.
     pub conditions: Text,
 }
 
@@ -148,13 +148,13 @@ pub enum Row {
     Casing(CasingRow),
     /// Of PropertyAliases.txt or PropertyValueAliases.txt.
     Alias(AliasRow),
-    /// A line `# @missing:` of Scripts.txt or WordBreakProperty.txt: the value of the code points that no other row covers.
-    /// Of several that cover a code point the last one counts. UAX #44, section 4.2.10.
+    /// A line `# @missing:` of Scripts.txt or WordBreakProperty.txt: the value of the code points that no other row
+    /// covers. If several cover a code point, the last one counts. UAX #44, section 4.2.10.
     Missing(ValueRow),
 }
 
 impl Row {
-    /// The code points that the row speaks of; `None` of a row of names.
+    /// The code points that the row speaks of; `None` for a row of names.
     pub fn span(&self) -> Option<Span>
         ensures { result ≡ span_in self.now }
     {

@@ -2,17 +2,17 @@
 
 ghost use Rattle.ucd_model.specs.Sameness.{MembersAreTold, RecordsAreTold, FactsAreTold, SetsAreTold, KeptRecordsAreTold};
 
-/// The members of a list of numbers are told.
+/// The test of whether a number is a member of a list tells whether it is.
 pub fn members_are_told()
     ensures { MembersAreTold }
 {}
 
-/// It is told whether two records are equal.
+/// The test of whether two records are equal tells whether they are.
 pub fn records_are_told()
     ensures { RecordsAreTold }
 {}
 
-/// It is told whether the facts of two code points are equal.
+/// The test of whether the facts of two code points are equal tells whether they are.
 pub fn facts_are_told()
     ensures { FactsAreTold }
 {}

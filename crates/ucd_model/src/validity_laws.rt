@@ -2,7 +2,7 @@
 
 ghost use Rattle.ucd_model.specs.ValidityLaws.{ValidIsUnbroken, BrokenIsLeast, ValidExpands, EndlessHasChain, HiddenHasLesser, ValidPairIsSingle};
 
-/// A release is valid, so each code point has its record, exactly where no code point is found that breaks a rule.
+/// A release is valid, so each code point has its record, exactly if no code point is found that breaks a rule.
 pub fn valid_is_unbroken()
     ensures { ValidIsUnbroken }
 {}
@@ -17,12 +17,12 @@ pub fn valid_expands()
     ensures { ValidExpands }
 {}
 
-/// A code point has no expansion exactly where a chain of eight mappings begins at it.
+/// A code point has no expansion exactly if a chain of eight mappings begins at it.
 pub fn endless_has_chain()
     ensures { EndlessHasChain }
 {}
 
-/// A code point is a hidden composite exactly where a lesser primary composite has its mapping.
+/// A code point is a hidden composite exactly if a lesser primary composite has its mapping.
 /// The Unicode Standard, section 3.11, D114.
 pub fn hidden_has_lesser()
     ensures { HiddenHasLesser }

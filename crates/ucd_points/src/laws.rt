@@ -7,7 +7,7 @@ pub fn hex_text_has_four_to_six_digits()
     ensures { HexTextHasFourToSixDigits }
 {}
 
-/// Where the text has more than four digits, the first is not `0`.
+/// If the text has more than four digits, the first is not `0`.
 pub fn hex_text_has_no_spare_digit()
     ensures { HexTextHasNoSpareDigit }
 {}

@@ -16,7 +16,7 @@ pub fn same_points(a: &[Point], b: &[Point]) -> bool
     a == b
 }
 
-/// A value that can be copied where memory suffices.
+/// A value that can be copied if memory suffices.
 pub trait Copied: Sized {
     /// The same value.
     ///
@@ -168,7 +168,7 @@ impl<T> ListOf<T> {
         self.items[at] = item;
     }
 
-    /// Keeps the first `len` items, or all where there are fewer. It takes no memory.
+    /// Keeps the first `len` items, or all if there are fewer. It takes no memory.
     pub fn truncate(&mut self, len: usize)
     where
         T: Drop,

@@ -1,4 +1,4 @@
-//! Want of memory.
+//! Running out of memory.
 
 ghost use Rattle.std.specs.Prelude.{◌≡◌};
 
@@ -19,14 +19,14 @@ impl fmt::Display for Memory {
 
 impl Error for Memory {}
 
-/// Want of memory, as an allocator answers it.
+/// Running out of memory, as an allocator reports it.
 impl From<AllocError> for Memory {
     fn from(_e: AllocError) -> Memory {
         Memory
     }
 }
 
-/// The same, of a call that hands back what it could not put; that is dropped.
+/// The same for a call that hands back what it could not put; that is dropped.
 impl<T: Drop> From<AllocFailed<T>> for Memory {
     fn from(_e: AllocFailed<T>) -> Memory {
         Memory

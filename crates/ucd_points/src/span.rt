@@ -30,7 +30,7 @@ impl Model for Span {
 }
 
 impl Span {
-    /// The span from `lo` to `hi`, and `None` exactly where `lo` is greater.
+    /// The span from `lo` to `hi`, and `None` exactly if `lo` is greater.
     pub fn new(lo: Point, hi: Point) -> Option<Span>
         ensures { SomeIff result (lo ≤ hi) (record { lo = lo; hi = hi }) }
     {

@@ -21,8 +21,9 @@ use set_questions::{AskStop, Asking, RowNames, keep_names};
 use std::alloc::Global;
 use ucd_model::{Memory, Span};
 
-/// Answers the question of this text, and those at the front of the commands that stand behind it, and answers the
-/// commands that are left. What answers them is made once; what it needs of the rows alone is taken from what is kept, and kept.
+/// Answers the question of this text, and the questions at the front of the commands behind it, and returns the
+/// commands that are left. What answers them is made once; what it needs of the rows alone is taken from what is kept,
+/// or else made and kept.
 ///
 /// - `Memory`: memory ran out.
 pub fn answer_run<'c>(
@@ -119,7 +120,7 @@ fn answer_first<'c>(
     answer_more(alloc, asking, behind, carried)
 }
 
-/// Answers the questions at the front of the commands, and answers the commands that are left.
+/// Answers the questions at the front of the commands, and returns the commands that are left.
 fn answer_more<'c>(
     alloc: Global,
     asking: &Asking<'_>,
@@ -138,7 +139,7 @@ fn answer_more<'c>(
     Ok(rest)
 }
 
-/// The line and the text of the first command and the commands behind it, where it is a question.
+/// The line and the text of the first command and the commands behind it, if it is a question.
 fn first_question(commands: &[Command]) -> Option<(u32, &[u8], &[Command])>
     ensures { MatchOption result ⊤ (λ q. commands.now ≡ question_command q.0 q.1.now ∷ q.2.now) }
 {

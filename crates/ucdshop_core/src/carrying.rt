@@ -62,8 +62,8 @@ fn carry_all<L: Ledger>(
     Ok(carried)
 }
 
-/// Carries out the first command, and if it is a question, all that stand directly behind it. It answers the commands
-/// that are left.
+/// Carries out the first command, and if it is a question, all questions that stand directly behind it. It returns the
+/// commands that are left.
 fn carry_some<'c, L: Ledger>(
     alloc: Global,
     bench: &mut Bench,

@@ -11,7 +11,8 @@ use ucd_model::{Memory, SOURCE_FILES, SourceFile, Text};
 /// The texts that a run works on.
 #[derive(Drop)]
 pub struct Given {
-    /// What is held at each path that is needed, in their order, `None` where a path is not held; or the texts that are made.
+    /// What is held at each path that is needed, in their order, with `None` for a path that is not held; or the texts
+    /// that are made.
     pub held: Vec<Option<Text>>,
     /// The release that is made, and its script.
     pub made: Option<Made>,

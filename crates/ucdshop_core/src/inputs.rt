@@ -26,9 +26,9 @@ use ucd_model::{SOURCE_FILES, Steps, Text};
 pub struct Inputs {
     /// The bench over the source files.
     pub bench: Bench,
-    /// The commands of the script; none where there is no script.
+    /// The commands of the script; none if there is no script.
     pub commands: Commands,
-    /// The bench over the source files of the earlier release, where there is one.
+    /// The bench over the source files of the earlier release, if there is one.
     pub earlier: Option<Bench>,
 }
 

@@ -14,7 +14,7 @@ use ucd_model::{Memory, SOURCE_FILES, Text};
 pub enum Part {
     /// The source files, as the commands of the script leave them.
     Sources,
-    /// The files that are derived of these.
+    /// The files that are derived from these.
     Derived,
     /// The log.
     Log,
@@ -84,8 +84,8 @@ impl<'a> Job<'a> {
         }
     }
 
-    /// `apply`: carry the script out on the files of the folder `input`. What they are then, and what is derived of them,
-    /// goes into the folder `output`.
+    /// `apply`: carry the script out on the files of the folder `input`. What they are then, and what is derived from
+    /// them, goes into the folder `output`.
     pub fn apply(input: &'a [u8], script: &'a [u8], output: &'a [u8]) -> Job<'a>
         ensures { job_of result ≡ apply_job input.now script.now output.now }
     {

@@ -56,7 +56,7 @@ fn carried_plan<L: Ledger>(
     plan_since(alloc, job, made, bench, commands, &earlier, steps)
 }
 
-/// The same of the bench and the commands, which are let go, and of the earlier bench.
+/// The same for the bench and the commands, which are let go, and of the earlier bench.
 fn plan_since<L: Ledger>(
     alloc: Global,
     job: Job<'_>,
@@ -84,7 +84,7 @@ fn plan_since<L: Ledger>(
     )
 }
 
-/// The same of the bench, the commands and the earlier bench that were read.
+/// The same for the bench, the commands and the earlier bench that were read.
 fn plan_after<L: Ledger>(
     alloc: Global,
     job: Job<'_>,
@@ -112,7 +112,7 @@ fn plan_after<L: Ledger>(
     plan_of(alloc, job, rows, work)
 }
 
-/// How many rows UnicodeData.txt has, if a release is made: the summary tells it then. Else 0.
+/// How many rows UnicodeData.txt has, if a release is made, since the summary then tells it. Otherwise 0.
 fn counted_rows(made: Option<u8>, bench: &Bench) -> Result<usize, Memory>
     ensures { IfOk result (λ rows. CountsRows made rows bench.now.current) }
 {
@@ -123,7 +123,7 @@ fn counted_rows(made: Option<u8>, bench: &Bench) -> Result<usize, Memory>
 }
 
 /// Judges what is given to a job, and does all that the job asks for but writing. The counter of steps rises by at
-/// most the number of code points where no script is carried out.
+/// most the number of code points if no script is carried out.
 ///
 /// - `Refused(line)`: a file, a code point or the script breaks a rule.
 /// - `Memory`: memory ran out.
@@ -179,7 +179,7 @@ fn read_texts<S: Shelf>(alloc: Global, job: Job<'_>, shelf: &mut S) -> Result<Gi
 }
 
 /// Does all of a job that comes before the first write. The counter of steps rises by at most the number of code
-/// points where no script is carried out.
+/// points if no script is carried out.
 ///
 /// - `Refused(line)`: a file is absent, too long, or breaks a rule, a code point breaks a rule of a valid release, or
 ///   the script is refused.

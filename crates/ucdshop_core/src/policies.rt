@@ -11,8 +11,8 @@ use stability_policies::{Breaks, report};
 use std::alloc::Global;
 use ucd_model::Memory;
 
-/// What the release of a bench breaks of the stability policies against an earlier one; nothing where there is none.
-/// Unicode Character Encoding Stability Policies.
+/// The breaks of the stability policies by the release of a bench against an earlier one; none if there is no earlier
+/// one. Unicode Character Encoding Stability Policies.
 ///
 /// - `Memory`: memory ran out.
 pub fn breaks_since(alloc: Global, earlier: &Option<Bench>, bench: &Bench) -> Result<Breaks, Memory>

@@ -25,7 +25,7 @@ use ucd_model::{Steps, Texts};
 /// are read before any is judged, and all texts are made before the first is written. Nothing is written unless the status
 /// is [`Status::Clean`], [`Status::Done`] or [`Status::WriteFault`].
 ///
-/// What is promised is what every program promises that ends by [`end_run`], of this program: `ucdshop` in `specs/Run.antt`.
+/// The promise is that of every program that ends by [`end_run`], for this program: `ucdshop` in `specs/Run.antt`.
 pub fn run<S: Shelf, K: Sink>(alloc: Global, words: &Texts, shelf: &mut S, out: &mut K) -> Status
     ensures { Promises ucdshop words.now (shelf_seen S.Shelf shelf.old shelf.new) (sink_seen K.Sink out.old out.new) result }
 {
@@ -68,7 +68,7 @@ pub fn run_counted<S: Shelf, K: Sink, L: Ledger>(
     end_run(USAGE, planned, shelf, out)
 }
 
-/// Does all that the words ask for and that comes before the first write; `None` where they have no listed form.
+/// Does all that the words ask for and that comes before the first write; `None` if they have no listed form.
 fn plan_words<S: Shelf, L: Ledger>(
     alloc: Global,
     words: &Texts,

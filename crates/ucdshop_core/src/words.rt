@@ -10,7 +10,7 @@ use crate::job::Job;
 use crate::release_number::number_of;
 use ucd_model::Text;
 
-/// What the words ask for, and `None` exactly where they have no listed form.
+/// What the words ask for, and `None` exactly if they have no listed form.
 pub fn job_of(words: &[Text]) -> Option<Job<'_>>
     ensures form { AsksFor result (form words.now) }
     ensures listed { MatchOption result ⊤ (λ job. IsListed (job_of job)) }

@@ -45,7 +45,7 @@ impl Chained {
 
     /// Puts the release of a bench behind the others, and if it is not the first, the step that leads to it.
     ///
-    /// - `Memory`: memory ran out, or there are 2^64 breaks or more. Nothing is told of the chain then.
+    /// - `Memory`: memory ran out, or there are 2^64 breaks or more. Nothing is then known of the chain.
     pub fn add(&mut self, alloc: Global, bench: Bench) -> Result<(), Memory>
         requires room { self.old.chain.count < 255 }
         ensures follows { OnOk result ((releases : List ReleaseItems) → Follows self.old releases → Follows self.new (releases ++ bench ∷ [])) }
@@ -72,14 +72,14 @@ fn sum(a: usize, b: usize) -> Result<usize, Memory>
     }
 }
 
-/// Chains the releases in these folders, where none is chained yet. Each is read, judged and put behind the others before a
-/// file of the next one is read, so that at most two are held.
+/// Chains the releases in these folders. None is chained before. Each is read, judged and put behind the others before
+/// a file of the next one is read, so that at most two are held.
 ///
 /// - `Refused(line)`: a file or a code point of a folder breaks a rule. The first such folder is refused.
 /// - `ReadFailed(line)`: a file could not be read.
 /// - `Memory`: memory ran out.
 ///
-/// After each nothing is told of the chain.
+/// After each, nothing is known of the chain.
 pub fn chain_folders<S: Shelf, L: Ledger>(
     alloc: Global,
     folders: &[Text],

@@ -28,7 +28,7 @@ pub enum Command<'a> {
     },
 }
 
-/// What the words ask for, and `None` exactly where they have no listed form.
+/// What the words ask for, and `None` exactly if they have no listed form.
 pub fn command_of(words: &[Text]) -> Option<Command<'_>>
     ensures form { AsksFor result (form words.now) }
     ensures listed { MatchOption result ⊤ (λ command. IsListed (job_of command)) }
@@ -45,7 +45,7 @@ pub fn command_of(words: &[Text]) -> Option<Command<'_>>
     }
 }
 
-/// `conform DATA TESTS OUT`, of the words behind `conform`.
+/// `conform DATA TESTS OUT`, from the words behind `conform`.
 fn conform_of(arguments: &[Text]) -> Option<Command<'_>>
     ensures form { AsksFor result (conform_form arguments.now) }
     ensures listed { MatchOption result ⊤ (λ command. IsListed (job_of command)) }
@@ -60,7 +60,7 @@ fn conform_of(arguments: &[Text]) -> Option<Command<'_>>
     })
 }
 
-/// `ages OUT DATA1 .. DATAn`, of the words behind `ages`.
+/// `ages OUT DATA1 .. DATAn`, from the words behind `ages`.
 fn ages_of(arguments: &[Text]) -> Option<Command<'_>>
     ensures form { AsksFor result (ages_form arguments.now) }
     ensures listed { MatchOption result ⊤ (λ command. IsListed (job_of command)) }

@@ -72,7 +72,7 @@ fn plan_of<S: Shelf, L: Ledger>(
     }
 }
 
-/// The same of `conform`.
+/// The same for `conform`.
 fn plan_conform<S: Shelf, L: Ledger>(
     alloc: Global,
     input: &[u8],
@@ -95,7 +95,7 @@ fn plan_conform<S: Shelf, L: Ledger>(
     }
 }
 
-/// The same of `ages`.
+/// The same for `ages`.
 fn plan_ages<S: Shelf, L: Ledger>(
     alloc: Global,
     output: &[u8],
@@ -116,7 +116,7 @@ fn plan_ages<S: Shelf, L: Ledger>(
     plan_chained(alloc, output, folders, shelf, steps, &mut chained)
 }
 
-/// The same, where the releases are chained here.
+/// The same. The releases are chained here.
 fn plan_chained<S: Shelf, L: Ledger>(
     alloc: Global,
     output: &[u8],

@@ -24,9 +24,8 @@ use ucd_model::{Steps, Texts};
 /// another: whatever fails in one is told before a file of the next is read. All texts are made before the first file is
 /// written. Nothing is written unless the status is [`Status::Clean`], [`Status::Done`] or [`Status::WriteFault`].
 ///
-/// What is promised is what every program promises that ends by [`end_run`], of this program: `ucdshop_more` in
-/// `specs/Run.antt`; and that with [`Status::ReadFault`] of `ages` none of the folders before the one
-/// that is named is refused.
+/// The promise is that of every program that ends by [`end_run`], for this program: `ucdshop_more` in `specs/Run.antt`;
+/// and that, if `ages` ends with [`Status::ReadFault`], none of the folders before the one that is named is refused.
 pub fn run_more<S: Shelf, K: Sink>(
     alloc: Global,
     words: &Texts,
@@ -58,7 +57,7 @@ fn run_anew<S: Shelf, K: Sink, L: Ledger>(
     end_run(USAGE, planned, shelf, out)
 }
 
-/// Does all that the words ask for and that comes before the first write; `None` where they have no listed form.
+/// Does all that the words ask for and that comes before the first write; `None` if they have no listed form.
 fn plan_words<S: Shelf, L: Ledger>(
     alloc: Global,
     words: &Texts,

@@ -12,7 +12,7 @@ use ucd_model::{Memory, Text};
 
 /// Puts the text of the step to the release with this number, which has these breaks: `# step K`, and its policy report.
 ///
-/// - `Memory`: memory ran out. A part of it may stand at the end of the text then.
+/// - `Memory`: memory ran out. A part of it may then stand at the end of the text.
 pub fn put_step(alloc: Global, number: u32, breaks: &Breaks, text: &mut Text) -> Result<(), Memory>
     ensures { OnOk result (text.new ≡ text.old ++ step_text number breaks.now) }
 {

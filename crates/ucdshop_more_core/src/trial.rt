@@ -99,7 +99,7 @@ fn judge_behind(
     }
 }
 
-/// The cases of the file at this path, of which this is held.
+/// The cases of the file at this path, given what is held of it.
 ///
 /// - `Refused(line)`: the file is absent, too long, or breaks a rule.
 /// - `Memory`: memory ran out.

@@ -23,7 +23,7 @@ use std::alloc::Global;
 use ucd_model::{Memory, Records, Span, point_count};
 use unicodeset_parser::Join;
 
-/// How the set of all code points is joined to those of a value, where they are wanted, or the others.
+/// How the set of all code points is joined to those of a value, to give these if they are wanted, or else the others.
 fn join_for(wanted: bool) -> Join
     ensures { (a b : Bool) → holds result a b ≡ (a && same_truth wanted b) }
 {
@@ -73,8 +73,9 @@ pub(crate) fn numbered_set(
 }
 
 impl<'b, B: Records> SetIndex<'b, B> {
-    /// The sets of all tests by the rows of a release now, and by what is derived of them: `pieces` are the pieces of equal
-    /// records of the bench, as [`equal_pieces`](ucd_model::equal_pieces) gives them, and `rows` the sets that the rows give.
+    /// The sets of all tests by the rows of a release now, and by what is derived from them: `pieces` are the pieces of
+    /// equal records of the bench, as [`equal_pieces`](ucd_model::equal_pieces) gives them, and `rows` the sets that
+    /// the rows give.
     ///
     /// - `Memory`: memory ran out.
     pub fn of(

@@ -7,7 +7,7 @@ use release_rows::Release;
 use source_rows::{rows_are_ok, rows_are_read};
 use ucd_model::SourceFile;
 
-/// A row of UnicodeData.txt covers a code point exactly where its category is not Cn.
+/// A row of UnicodeData.txt covers a code point exactly if its category is not Cn.
 pub(crate) fn assigned_have_categories(release: &Release)
     ensures { AssignedHaveCategories (rows_now release.now) }
 {

@@ -104,7 +104,7 @@ pub(crate) fn push_change(
     Ok(())
 }
 
-/// The members behind changes, where there were none before.
+/// The members behind changes that begin with no members.
 ///
 /// - `Memory`: memory ran out.
 pub(crate) fn gathered(alloc: Global, changes: &[Change]) -> Result<PointSet, Memory>

@@ -184,7 +184,7 @@ fn members_of<T: TestSets>(
 
 /// The members of a UnicodeSet as maximal ascending spans. UTS #35, "Unicode Sets".
 ///
-/// The time is that of the sets of its tests, and so long again as their edges are many, times how often the steps of a
+/// The time is that of the sets of its tests, plus a time in proportion to their edges times how often the steps of a
 /// bracket set can be halved.
 ///
 /// - `Fault`: the first name without meaning, in the order of the text. S8: no property has the name, or the name that

@@ -6,9 +6,9 @@ use crate::record_pieces::Piece;
 use crate::row_sets::RowSets;
 use ucd_model::Records;
 
-/// The sets of all tests by the rows of a release and what is derived of them. It is made once for a state of the records:
-/// then a test takes time by the pieces of equal records, or by the rows of its value. The sets that rows give alone are lent
-/// to it, since they stay while other rows change.
+/// The sets of all tests by the rows of a release and what is derived from them. It is made once for a state of the
+/// records: then a test takes time in proportion to the pieces of equal records, or to the rows of its value. The sets
+/// that rows give alone are lent to it, since they stay while other rows change.
 #[derive(Drop)]
 pub struct SetIndex<'b, B: Records> {
     pub(crate) bench: &'b B,

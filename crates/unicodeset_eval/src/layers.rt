@@ -19,7 +19,7 @@ use property_aliases::{FileValues, NumberedRow};
 use std::alloc::Global;
 use ucd_model::{Memory, Spans};
 
-/// Whether a row has another number than 0, that of the default.
+/// Whether a row has a number other than 0, that of the default.
 pub(crate) fn gives_others(rows: &[NumberedRow]) -> bool
     ensures { result ≡ list_any is_other rows.now }
 {

@@ -51,7 +51,7 @@ fn passed(at: u32, edges: &[u32]) -> &[u32]
     }
 }
 
-/// Puts an edge at the end where membership turns at it.
+/// Puts an edge at the end if membership turns at it.
 ///
 /// - `Memory`: memory ran out. The edges stay as they were.
 pub(crate) fn emit(edges: &mut Vec<u32>, before: bool, after: bool, at: u32) -> Result<(), Memory>
@@ -64,7 +64,7 @@ pub(crate) fn emit(edges: &mut Vec<u32>, before: bool, after: bool, at: u32) -> 
     Ok(())
 }
 
-/// The edges of what two sets are joined to; each set is told by whether 0 is in it, and by its edges above 0.
+/// The edges of what two sets are joined to; each set is given by whether 0 is in it, and by its edges above 0.
 ///
 /// - `Memory`: memory ran out.
 pub(crate) fn merge(

@@ -15,8 +15,8 @@ use unicodeset_parser::Join;
 
 /// A set of code points. Contracts see its edges, by which each number is in or not. UTS #35, "Unicode Sets".
 ///
-/// It is kept as an inversion list: the numbers at which membership turns. A complement has all numbers that the set has
-/// not, also those past 10FFFF, which no span of a set has.
+/// It is kept as an inversion list: the numbers at which membership turns. A complement has all numbers that the set
+/// has not, even those past 10FFFF, which no span of a set has.
 #[derive(Debug, Drop)]
 pub struct PointSet {
     /// Whether 0 is in.
@@ -46,7 +46,7 @@ impl PointSet {
         }
     }
 
-    /// The set that is told by whether 0 is in, and by its edges above 0. It takes no memory.
+    /// The set that is given by whether 0 is in, and by its edges above 0. It takes no memory.
     pub(crate) fn of_edges(starts: bool, edges: Vec<u32>) -> PointSet
         requires { Rises 1 edges.items }
         ensures { result ≡ record { starts = starts; edges = edges.items } }

@@ -23,8 +23,8 @@ use std::alloc::Global;
 use ucd_model::{Records, Spans, equal_pieces};
 use unicodeset_parser::Expr;
 
-/// The members of a UnicodeSet as maximal ascending spans, by the rows of a release now and by what is derived of them.
-/// UTS #35, "Unicode Sets". Whoever asks more than once makes the index once, and asks by [`eval_over`].
+/// The members of a UnicodeSet as maximal ascending spans, by the rows of a release now and by what is derived from
+/// them. UTS #35, "Unicode Sets". To ask more than once, make the index once, and ask by [`eval_over`].
 ///
 /// - `Fault`: the first name without meaning, in the order of the text. S8: no property has the name, or the name that
 ///   stands alone means nothing. S9: the property has no such value. The place is where the property begins.

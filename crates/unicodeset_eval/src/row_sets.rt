@@ -96,8 +96,8 @@ fn add_at(
     Ok(())
 }
 
-/// The sets of the values of a file whose missing rows give the default alone: number 0, the default, has besides what no row
-/// covers.
+/// The sets of the values of a file whose missing rows give the default alone: number 0, the default, also has what no
+/// row covers.
 ///
 /// - `Memory`: memory ran out.
 fn plain_sets(alloc: Global, values: &FileValues) -> Result<Vec<PointSet>, Memory>
@@ -139,7 +139,7 @@ fn sets_behind(alloc: Global, values: &FileValues) -> Result<Vec<PointSet>, Memo
         let sets = layered_sets(alloc, values)?;
         return Ok(sets);
     }
-    // mostly they give the default, and nothing need be painted
+    // usually they give the default, and nothing needs to be painted
     let sets = plain_sets(alloc, values)?;
     Ok(sets)
 }

@@ -7,7 +7,7 @@ ghost use Rattle.unicodeset_eval.specs.Pieces.{piece, pieces};
 use std::alloc::Global;
 use ucd_model::{Memory, Point, Span, Spans, point_count};
 
-/// Puts the code points from `from` to before `end` at the end as a span, where there are some and they are in.
+/// Puts the code points from `from` to before `end` at the end as a span, if there are some and they are in.
 ///
 /// - `Memory`: memory ran out. The spans stay as they were.
 fn put_piece(spans: &mut Spans, inside: bool, from: u32, end: u32) -> Result<(), Memory>
@@ -25,7 +25,7 @@ fn put_piece(spans: &mut Spans, inside: bool, from: u32, end: u32) -> Result<(),
     Ok(())
 }
 
-/// The spans of a set, which is told by whether 0 is in it, and by its edges above 0.
+/// The spans of a set, which is given by whether 0 is in it, and by its edges above 0.
 ///
 /// - `Memory`: memory ran out.
 pub(crate) fn spans_of(alloc: Global, starts: bool, edges: &[u32]) -> Result<Spans, Memory>

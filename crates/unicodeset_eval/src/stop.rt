@@ -28,7 +28,7 @@ pub enum EvalStop {
     Memory,
 }
 
-/// Want of memory is `EvalStop::Memory`.
+/// Running out of memory is `EvalStop::Memory`.
 impl From<Memory> for EvalStop {
     ghost use Rattle.unicodeset_eval.specs.declared.stop.EvalStop.TheVariants.{Memory};
 
@@ -50,7 +50,7 @@ impl From<AllocError> for EvalStop {
     }
 }
 
-/// The same, of a call that hands back what it could not put; that is dropped.
+/// The same for a call that hands back what it could not put; that is dropped.
 impl<T: Drop> From<AllocFailed<T>> for EvalStop {
     ghost use Rattle.unicodeset_eval.specs.declared.stop.EvalStop.TheVariants.{Memory};
 

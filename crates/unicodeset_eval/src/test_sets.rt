@@ -9,7 +9,7 @@ use property_aliases::Test;
 use std::alloc::Global;
 use ucd_model::Memory;
 
-/// The sets of tests, by some rows and by what is derived of them.
+/// The sets of tests, by some rows and by what is derived from them.
 pub trait TestSets {
     // of which numbers a test holds
     ghost holds: { Self → Test → ℕ → Bool };

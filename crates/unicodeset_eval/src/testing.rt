@@ -1,4 +1,4 @@
-//! Tests of what is derived of each code point, and their sets.
+//! Tests of what is derived for each code point, and their sets.
 
 ghost use Rattle.std.specs.Prelude.{◌≡◌, ℕ, ◌&&◌, map, nat_lt, IfOk};
 ghost use Rattle.ucd_points.specs.Limits.{point_count};
@@ -69,7 +69,7 @@ fn check_of(form: Form, shown: &PropertyValues) -> Quick
     }
 }
 
-/// What a test says of a code point with these values, where it is Assigned or a test of derived properties; else false.
+/// What a test says of a code point with these values, if it is Assigned or a test of derived properties; else false.
 fn tells(test: Test, shown: &PropertyValues) -> bool
     ensures { result ≡ tells test (values_record shown.now) }
 {

@@ -11,7 +11,7 @@ use std::alloc::Global;
 use ucd_model::{Memory, Span};
 use unicodeset_parser::Join;
 
-/// The code points of spans in any order. Its time is that of n for n spans that rise, and of n log n for others.
+/// The code points of spans in any order. Its time grows with n for n spans that rise, and as n log n for others.
 ///
 /// - `Memory`: memory ran out.
 pub(crate) fn union_of(alloc: Global, spans: &[Span]) -> Result<PointSet, Memory>

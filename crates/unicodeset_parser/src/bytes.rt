@@ -17,7 +17,7 @@ pub(crate) fn begins_with(text: &[u8], byte: u8) -> bool
     }
 }
 
-/// What stands behind so many bytes; nothing where there are fewer.
+/// What stands behind so many bytes; nothing if there are fewer.
 #[inline]
 pub(crate) fn behind(text: &[u8], count: usize) -> &[u8]
     ensures { result.now ≡ drop count text.now }

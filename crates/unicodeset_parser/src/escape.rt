@@ -72,7 +72,7 @@ pub(crate) fn any_digits(count: usize, text: &[u8]) -> Lexeme
     }
 }
 
-/// What a letter behind `\` stands for, where it is one of `abtnvfr`.
+/// What a letter behind `\` stands for, if it is one of `abtnvfr`.
 #[tactic(auto, unfolding(crate::specs::Escapes::control_of))]
 fn control_of(character: char) -> Option<u32>
     ensures value { result ≡ control_of character }

@@ -1,4 +1,4 @@
-//! The rule that a token breaks which stands in no text, by the place where it stands.
+//! The rule that a token breaks which may stand in no text. It depends on the place where the token stands.
 
 ghost use Rattle.std.specs.Prelude.{◌≡◌, ℕ};
 ghost use Rattle.unicodeset_parser.specs.Machine.{fault, set_fault, element_fault, range_fault, late_fault};

@@ -5,7 +5,7 @@ ghost use Rattle.unicodeset_parser.specs.Laws.{ReadsExactly, OneTree, FaultsAreF
 ghost use Rattle.unicodeset_parser.specs.Spelling.{TextsReadBack, ReadTreesCanBeWritten, ReadTreesAreText, ReadTreesReadBack};
 ghost use Rattle.unicodeset_parser.specs.TreeNames.{PlacesAscend};
 
-/// Tokens are read as a tree exactly where the grammar spells that tree.
+/// Tokens are read as a tree exactly if the grammar spells that tree.
 pub fn reads_exactly()
     ensures { ReadsExactly }
 {}
@@ -21,7 +21,7 @@ pub fn faults_are_first()
     ensures { FaultsAreFirst }
 {}
 
-/// The rule of what is refused is told by what may stand behind the tokens before it: a set, a character, both or
+/// The rule of what is refused follows from what may stand behind the tokens before it: a set, a character, both or
 /// neither.
 pub fn faults_are_named()
     ensures { FaultsAreNamed }

@@ -43,7 +43,7 @@ pub enum SetStop {
     Memory,
 }
 
-/// Want of memory is `SetStop::Memory`.
+/// Running out of memory is `SetStop::Memory`.
 impl From<Memory> for SetStop {
     ghost use Rattle.unicodeset_parser.specs.declared.stop.SetStop.TheVariants.{Memory};
 
@@ -65,7 +65,7 @@ impl From<AllocError> for SetStop {
     }
 }
 
-/// The same, of a call that hands back what it could not put; that is dropped.
+/// The same for a call that hands back what it could not put; that is dropped.
 impl<T: Drop> From<AllocFailed<T>> for SetStop {
     ghost use Rattle.unicodeset_parser.specs.declared.stop.SetStop.TheVariants.{Memory};
 

@@ -3,7 +3,7 @@
 use crate::expr::Expr;
 use ucd_points::Point;
 
-/// What stands in no text. By the place where it stands it breaks one rule or another.
+/// What may stand in no text. Which rule it breaks depends on the place where it stands.
 #[derive(Clone, Copy, Debug)]
 pub(crate) enum Wrong {
     /// A property that is never closed, or a `\p` or `\P` at the end of the text.
@@ -18,14 +18,14 @@ pub(crate) enum Wrong {
     Special,
     /// A `\` at the end of the text.
     Cut,
-    /// Any other character that stands for itself nowhere: `}`, and `^` in another place than behind `[`.
+    /// Any other character that stands for itself nowhere: `}`, and `^` anywhere but behind `[`.
     Other,
 }
 
 /// A token. White space is no part of it.
 #[derive(Debug, Drop)]
 pub(crate) enum Token {
-    /// `[`, or `[^` where it is negated.
+    /// `[`, or `[^` if it is negated.
     Open(bool),
     /// `]`
     Close,

@@ -9,7 +9,7 @@ use ucd_model::{FactView, Point};
 /// call takes memory. UAX #44, sections 5.6 and 5.7.
 pub trait UniformFacts: FactView {
     /// A code point up to which all from `c` on are without a mapping of any kind and have the same other facts; `c`
-    /// itself where it has a mapping. It need not be the last such code point.
+    /// itself if it has a mapping. It need not be the last such code point.
     fn last_uniform(&self, c: Point) -> Point
         ensures from { c ≤ result }
         ensures plain { c < result → IsPlain c (Self.facts_of self.now c) }

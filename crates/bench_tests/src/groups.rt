@@ -14,7 +14,7 @@ use std::test::Fail;
 use ucd_model::{Bad, ListOf, Point, SourceFile, Steps};
 
 /// A letter with a mark, and its parts.
-const GRAVE: &[u8] =
+pub const GRAVE: &[u8] =
     b"0041;LATIN CAPITAL LETTER A;Lu;0;L;;;;;N;;;;;\n00C0;LATIN CAPITAL LETTER A WITH GRAVE;Lu;0;L;0041 0300;;;;N;;;;;\n0300;COMBINING GRAVE ACCENT;Mn;230;NSM;;;;;N;;;;;\n";
 
 /// A letter of two cases.
@@ -23,7 +23,7 @@ const LETTERS: &[u8] =
 
 /// An operation, as a script writes it.
 #[derive(Clone, Copy)]
-enum Edit {
+pub enum Edit {
     /// The row of these bytes is added.
     Add(SourceFile, &'static [u8]),
     /// The row that has this key is taken out.
@@ -78,7 +78,7 @@ fn op_of(alloc: Global, edit: Edit) -> Result<Op, Fail>
 }
 
 /// The edits of a group as operations.
-fn group_of(alloc: Global, edits: &[Edit]) -> Result<Ops, Fail>
+pub fn group_of(alloc: Global, edits: &[Edit]) -> Result<Ops, Fail>
     ensures { IfOk result (All IsOp) }
 {
     let mut ops = Ops::new(alloc);

@@ -6,6 +6,10 @@ mod benches;
 #[cfg(test)]
 mod dependants;
 #[cfg(test)]
+mod drawn_events;
+#[cfg(test)]
+mod editors;
+#[cfg(test)]
 mod groups;
 #[cfg(test)]
 mod turns;

@@ -1,15 +1,11 @@
 //! Runs of `conform` that write their file, and those whose file of cases is refused.
 
-use crate::runs::{ends, place_release};
+use crate::runs::{GRAVE, ends, place_release};
 use shelf_io::MemoryShelf;
 use std::alloc::Global;
 use std::test::Fail;
 use ucd_model::Memory;
 use ucdshop_more_core::Status;
-
-/// A letter, a mark, and their composite.
-const GRAVE: &[u8] =
-    b"0041;LATIN CAPITAL LETTER A;Lu;0;L;;;;;N;;;;;\n00C0;LATIN CAPITAL LETTER A WITH GRAVE;Lu;0;L;0041 0300;;;;N;;;;;\n0300;COMBINING GRAVE ACCENT;Mn;230;NSM;;;;;N;;;;;\n";
 
 /// The words of each run.
 const WORDS: &[&[u8]] = &[b"conform", b"d", b"t", b"o"];

@@ -6,6 +6,12 @@ mod ages;
 #[cfg(test)]
 mod conform;
 #[cfg(test)]
+mod desk;
+#[cfg(test)]
+mod desk_failures;
+#[cfg(test)]
+mod desk_marks;
+#[cfg(test)]
 mod faults;
 #[cfg(test)]
 mod refusals;

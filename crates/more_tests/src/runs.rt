@@ -13,6 +13,10 @@ pub const EARLIER: &[u8] =
 pub const LATER: &[u8] =
     b"0061;LATIN SMALL LETTER A;Ll;0;L;;;;;N;;;;;\n00E0;LATIN SMALL LETTER A WITH GRAVE;Ll;0;L;0061 0300;;;;N;;;;;\n0300;COMBINING GRAVE ACCENT;Mn;220;NSM;;;;;N;;;;;\n0301;COMBINING ACUTE ACCENT;Mn;230;NSM;;;;;N;;;;;\n";
 
+/// A letter, a mark, and their composite.
+pub const GRAVE: &[u8] =
+    b"0041;LATIN CAPITAL LETTER A;Lu;0;L;;;;;N;;;;;\n00C0;LATIN CAPITAL LETTER A WITH GRAVE;Lu;0;L;0041 0300;;;;N;;;;;\n0300;COMBINING GRAVE ACCENT;Mn;230;NSM;;;;;N;;;;;\n";
+
 /// A path, and what it holds.
 pub type File = (&'static [u8], &'static [u8]);
 

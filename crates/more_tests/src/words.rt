@@ -7,13 +7,15 @@ use ucd_model::Memory;
 use ucdshop_more_core::Status;
 
 /// Words that have no listed form.
-const BAD_WORDS: [&[&[u8]]; 7] = [
+const BAD_WORDS: [&[&[u8]]; 9] = [
     &[],
     &[b"ages"],
     &[b"ages", b"o"],
     &[b"age", b"o", b"p"],
     &[b"Ages", b"o", b"p"],
     &[b"derive", b"p", b"o"],
+    &[b"desk", b"p", b"o"],
+    &[b"desk", b"p", b"t", b"o", b"o"],
     &[b"", b"o", b"p"],
 ];
 
@@ -30,7 +32,7 @@ fn are_bad(alloc: Global, words: &[&[u8]]) -> Result<bool, Memory> {
     let mut shelf = shelf_of(alloc, EARLIER, LATER)?;
     shelf.fail_read(1)?;
     let usage =
-        b"usage: ucdshop_more conform DATA TESTS OUT | ages OUT DATA1 .. DATAn\n".as_slice();
+        b"usage: ucdshop_more desk DATA EVENTS OUT | conform DATA TESTS OUT | ages OUT DATA1 .. DATAn\n".as_slice();
     let expected = (Status::BadWords, usage);
     Ok(ends(alloc, words, &mut shelf, 1000, expected)? && is_untouched(&shelf))
 }

@@ -2,6 +2,10 @@ pub mod StepLemmas
 pub mod FolderLemmas
 pub mod ChainLemmas
 pub mod EndingLemmas
+pub mod BesideLemmas
 pub mod ReadingLemmas
 pub mod StoppingLemmas
 pub mod TrialLemmas
+pub mod SittingLemmas
+pub mod SessionLemmas
+pub mod DeskPlanLemmas

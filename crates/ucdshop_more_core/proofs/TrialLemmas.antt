@@ -1,21 +1,16 @@
 -- What `conform` reads and judges.
-use Rattle.std.proofs.Common.{◌≡◌, ℕ, Bool, List, [], ◌∷◌, ◌++◌, map, Option, Result, Ok, Err, sym, ap, subst, ◌∙◌, arith}
-use Rattle.std.specs.Prelude.{IfOk}
+use Rattle.std.proofs.Common.{◌≡◌, ℕ, List, map, Option, Result, Ok, sym, ap, ◌∙◌, arith}
 use Rattle.release_rows.specs.FileItems.{FileItem}
 use Rattle.release_rows.specs.Releases.{ReleaseItems}
 use Rattle.norm_conformance.specs.declared.case.Cases.{Cases}
 use Rattle.edit_session.specs.Benches.{HasNothingPrepared}
-use Rattle.run_endings.specs.Endings.{Contents, IsSeen, Seen, Sees}
-use Rattle.run_endings.specs.Outcome.{LastFailedStays, ShelfSeen}
-use Rattle.run_endings.specs.Planning.{OnRefused, UnreadAs}
-use Rattle.run_endings.specs.Reading.{IsRead, cut}
+use Rattle.run_endings.specs.Endings.{Seen}
+use Rattle.run_endings.specs.Reading.{cut}
 use Rattle.run_endings.specs.ReadingProofs.{held_cut}
 use Rattle.run_endings.specs.declared.stop.Stop.{Stop}
-use Rattle.run_endings.specs.declared.stop.Stop.TheVariants.{Refused, ReadFailed, Memory}
 use Rattle.run_inputs.specs.CutProofs.{cut_folder, cut_second}
 use Rattle.run_inputs.specs.Held.{StayOutside, held_at, source_held}
 use Rattle.run_inputs.specs.Judging.{ToldAs}
-use Rattle.run_inputs.specs.Paths.{sources_in}
 use Rattle.run_inputs.specs.Refusals.{folder_verdict}
 use Rattle.run_inputs.specs.Verdict.{and_then, release_items, second_verdict}
 use Rattle.ucdshop_more_core.proofs.FolderLemmas.{still_items}
@@ -29,7 +24,7 @@ from_both files cases = and_then files (λ items. with_cases (release_items item
 cut_cases : (tests : List ℕ) (seen : Seen) → cases_told tests (held_at (map cut seen) 9) ≡ cases_told tests (held_at seen 9)
 cut_cases tests seen = ap (cases_of tests) (ap second_verdict (held_cut seen 9) ∙ cut_second (held_at seen 9))
 
-cut_trial : (input tests : List ℕ) (seen : Seen) → trial_verdict input tests (map cut seen) ≡ trial_verdict input tests seen
+pub cut_trial : (input tests : List ℕ) (seen : Seen) → trial_verdict input tests (map cut seen) ≡ trial_verdict input tests seen
 cut_trial input tests seen =
     ap (λ (files : Result (List (List FileItem)) (List ℕ)). from_both files (cases_told tests (held_at (map cut seen) 9))) (cut_folder input seen 0)
     ∙ ap (from_both (folder_verdict input (source_held seen 0))) (cut_cases tests seen)
@@ -44,29 +39,3 @@ judged_behind input tests old new bench files still others =
 
 abbrev pub TriedAs : Result Trial Stop → Result Trial (List ℕ) → Type 0
 TriedAs result verdict = ToldAs (λ (trial : Trial). trial) result verdict
-
-module _ (tells : Bool) (holds : Contents) (input tests : List ℕ) (paths : List (List ℕ)) (read : Seen) (are : paths ≡ sources_in input ++ tests ∷ []) (held : IsRead tells holds paths read) where
-  seen_verdict : trial_verdict input tests held.0 ≡ trial_verdict input tests read
-  seen_verdict = sym (cut_trial input tests held.0) ∙ ap (trial_verdict input tests) (sym held.2)
-
-  seen_files : IsSeen tells holds (sources_in input ++ tests ∷ []) held.0
-  seen_files = subst (λ (ps : List (List ℕ)). IsSeen tells holds ps held.0) are held.1
-
-  pub given_as : (result : Result Trial Stop) → TriedAs result (trial_verdict input tests read)
-      → IfOk result (λ trial. Sees tells holds (sources_in input ++ tests ∷ []) (λ seen. trial_verdict input tests seen ≡ Ok trial))
-  given_as (Ok trial) told = (held.0, seen_files, seen_verdict ∙ told)
-  given_as (Err stop) told = tt
-
-  pub refused_as : (result : Result Trial Stop) → TriedAs result (trial_verdict input tests read)
-      → OnRefused result (λ line. Sees tells holds (sources_in input ++ tests ∷ []) (λ seen. trial_verdict input tests seen ≡ Err line))
-  refused_as (Ok trial) told = tt
-  refused_as (Err (Refused line)) told = (held.0, seen_files, seen_verdict ∙ told)
-  refused_as (Err (ReadFailed line)) told = tt
-  refused_as (Err Memory) told = tt
-
--- no read fails once all files are read
-pub judged_unread : (result : Result Trial Stop) (verdict : Result Trial (List ℕ)) (paths : List (List ℕ)) (shelf : ShelfSeen) → TriedAs result verdict → LastFailedStays shelf → UnreadAs result paths shelf
-judged_unread (Ok trial) verdict paths shelf told stays = stays
-judged_unread (Err (Refused line)) verdict paths shelf told stays = stays
-judged_unread (Err (ReadFailed line)) verdict paths shelf told stays = absurd told
-judged_unread (Err Memory) verdict paths shelf told stays = tt

@@ -4,11 +4,12 @@
 -- AsksFor command form    the command is there exactly where the form is, and stands for its job
 -- IsListed job            it is one that words ask for: of `ages` there are not more folders than may be
 use Rattle.std.specs.Prelude.{◌≡◌, ◌≤◌, length, Option, Some, None, ⊤}
-use Rattle.ucdshop_more_core.specs.Run.{Job, Ages, Conform}
+use Rattle.ucdshop_more_core.specs.Run.{Job, Ages, Conform, Desk}
 use Rattle.ucdshop_more_core.specs.declared.command.Command.{Command}
-use Rattle.ucdshop_more_core.specs.declared.command.Command.TheVariants.{Ages as AgesWords, Conform as ConformWords}
+use Rattle.ucdshop_more_core.specs.declared.command.Command.TheVariants.{Ages as AgesWords, Conform as ConformWords, Desk as DeskWords}
 
 abbrev pub job_of : Command → Job
+job_of (DeskWords input events output) = Desk input.now events.now output.now
 job_of (ConformWords input tests output) = Conform input.now tests.now output.now
 job_of (AgesWords output folders) = Ages output.now folders.now
 
@@ -17,5 +18,6 @@ AsksFor None form = form ≡ None
 AsksFor (Some command) form = form ≡ Some (job_of command)
 
 abbrev pub IsListed : Job → Type 0
+IsListed (Desk input events output) = ⊤
 IsListed (Conform input tests output) = ⊤
 IsListed (Ages output folders) = length folders ≤ 16

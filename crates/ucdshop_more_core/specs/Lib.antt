@@ -3,7 +3,12 @@ pub mod Paths
 pub mod Steps
 pub mod Trials
 pub mod MissTexts
+pub mod Marks
+pub mod Turns
+pub mod DeskTexts
+pub mod Sessions
 pub mod Run
+pub mod Logging
 pub mod Commands
 pub mod Chaining
 pub mod Order

@@ -1,10 +1,16 @@
 -- The files that a run writes lie at paths of their own.
 --
+-- DeskFilesHoldTheirBytes once the files of `desk` are put, the path of each holds its bytes: none takes the place of another
 -- AgesHoldTheirBytes      once both files of `ages` are put, the path of each holds its bytes: neither takes the place of the other
 use Rattle.std.specs.Prelude.{◌≡◌, ℕ, List, All, Some}
 use Rattle.release_rows.specs.Releases.{ReleaseItems}
 use Rattle.run_endings.specs.Endings.{Contents, NewFile, after}
-use Rattle.ucdshop_more_core.specs.Run.{ages_ending}
+use Rattle.ucdshop_more_core.specs.Run.{ages_ending, desk_ending}
+use Rattle.ucdshop_more_core.specs.Sessions.{Session}
+
+abbrev pub DeskFilesHoldTheirBytes : Type 0
+DeskFilesHoldTheirBytes = (output : List ℕ) (session : Session) (holds : Contents)
+    → All (λ (file : NewFile). after (desk_ending output session).files holds file.path ≡ Some file.bytes) (desk_ending output session).files
 
 abbrev pub AgesHoldTheirBytes : Type 0
 AgesHoldTheirBytes = (output : List ℕ) (releases : List ReleaseItems) (holds : Contents)

@@ -3,6 +3,7 @@
 -- forms                    the forms of the words, in order
 -- barred texts             the texts, with a space, a bar and a space between two of them
 -- usage                    of words that have no listed form: it names the forms
+-- desk_summary accepted refused   the line that says how many groups were carried out at a desk, and how often an editor was turned away
 -- conform_summary cases misses   the line that says how many cases there are, and how many misses
 -- AgeCounts                how many releases there are, how many code points have an age, and how many breaks of policies all steps
 --                          have
@@ -12,7 +13,7 @@ use Rattle.std.specs.Fmt.{decimal}
 use Rattle.ucd_model.specs.DerivedText.{line_end}
 
 abbrev pub forms : List (List ℕ)
-forms = codes "conform DATA TESTS OUT" ∷ codes "ages OUT DATA1 .. DATAn" ∷ []
+forms = codes "desk DATA EVENTS OUT" ∷ codes "conform DATA TESTS OUT" ∷ codes "ages OUT DATA1 .. DATAn" ∷ []
 
 abbrev pub barred : List (List ℕ) → List ℕ
 barred [] = []
@@ -21,6 +22,9 @@ barred (text ∷ next ∷ later) = text ++ codes " | " ++ barred (next ∷ later
 
 abbrev pub usage : List ℕ
 usage = codes "usage: ucdshop_more " ++ barred forms ++ line_end
+
+abbrev pub desk_summary : ℕ → ℕ → List ℕ
+desk_summary accepted refused = codes "desk: " ++ decimal accepted ++ codes " accepted, " ++ decimal refused ++ codes " refused" ++ line_end
 
 abbrev pub conform_summary : ℕ → ℕ → List ℕ
 conform_summary cases misses = codes "conform: " ++ decimal cases ++ codes " cases, " ++ decimal misses ++ codes " misses" ++ line_end

@@ -1,9 +1,12 @@
 -- What a run is to do, by its words and by what the shelf holds.
 --
--- Job                              what is asked for: Conform input tests output, to write into a folder what the release of a folder
+-- Job                              what is asked for: Desk input events output, to let editors work on the release of a folder as a file of
+--                                  events says, and to write what its files are then, and what was replied, into another folder;
+--                                  Conform input tests output, to write into a folder what the release of a folder
 --                                  misses of the cases in a file; Ages output folders, to write the ages of code points over the releases of these
 --                                  folders, in order, and what each step from a release to the next breaks, into another folder
 -- folder_limit                     the greatest number of folders
+-- desk_form arguments              what the words behind `desk` ask for: DATA, EVENTS and OUT
 -- conform_form arguments           what the words behind `conform` ask for: DATA, TESTS and OUT
 -- ages_form arguments              what the words behind `ages` ask for: OUT, and one folder or more, up to the limit
 -- form words                       what the words ask for; None where they have no listed form
@@ -14,6 +17,13 @@
 --                                  refuses the first folder that is refused: by a file, or by a code point
 --
 -- What is written
+-- events_of turns                  the events of turns, in order
+-- lines_of turns                   the lines of their marks
+-- desk_log_file folder text        the log: its path below the folder, with its text
+-- desk_ending_by output files text accepted refused   the ending of `desk`: the source files as they are then, and the log; how many
+--                                  groups were carried out, and how often an editor was turned away: then something is refused
+-- desk_ending_from output s turns  the ending of `desk` on a desk of this state, by what the turns leave and what is replied to them
+-- desk_ending output session       the ending of `desk` on a new desk
 -- misses_file folder misses        what is missed: its path below the folder, with its text
 -- conform_ending output trial      the ending of `conform` on this trial: something is broken where something is missed
 -- ages_file folder releases        the ages: their path below the folder, with their text
@@ -25,21 +35,29 @@
 -- finished ending verdict          Finishes with the ending on what was judged; or Refuses with the line that refuses it
 -- expected_of job seen             what is expected of a job, by what was seen at the paths that it needs
 -- ucdshop_more                     this program
-use Rattle.std.specs.Prelude.{ℕ, ◌&&◌, List, [], ◌∷◌, ◌++◌, length, drop, Option, Some, None, Result, Ok, Err, nat_le, nat_lt, if◌then◌else◌, codes}
-use Rattle.std.specs.List.{flat_map}
+use Rattle.std.specs.Prelude.{ℕ, ◌&&◌, List, [], ◌∷◌, ◌++◌, length, map, drop, Option, Some, None, Result, Ok, Err, nat_le, nat_lt, if◌then◌else◌, codes}
+use Rattle.std.specs.List.{count_by, flat_map}
 use Rattle.std.specs.Str.{bytes_eq}
+use Rattle.release_rows.specs.FileItems.{FileItem}
 use Rattle.release_rows.specs.Releases.{ReleaseItems}
 use Rattle.ucd_points.specs.Limits.{point_count}
+use Rattle.ucd_points.specs.SourceFiles.{source_files}
 use Rattle.ucd_model.specs.Labels.{labelled}
 use Rattle.age_chain.specs.Ages.{age, age_label, age_text}
+use Rattle.bench_editors.specs.Desks.{DeskState, after_events, replies, started}
+use Rattle.bench_editors.specs.declared.event.Event.{Event}
 use Rattle.run_endings.specs.Endings.{NewFile, Ending, Expected, Finishes, Program, Refuses, Seen}
+use Rattle.run_inputs.specs.Files.{source_file}
 use Rattle.run_inputs.specs.Held.{source_held}
 use Rattle.run_inputs.specs.Paths.{sources_in}
 use Rattle.run_inputs.specs.Refusals.{folder_verdict}
 use Rattle.run_inputs.specs.Verdict.{and_then, release_items}
-use Rattle.ucdshop_more_core.specs.Paths.{ages_in, misses_in, steps_in}
-use Rattle.ucdshop_more_core.specs.Printed.{AgeCounts, ages_summary, conform_summary, usage}
+use Rattle.ucdshop_more_core.specs.DeskTexts.{desk_log, is_accepted, is_turned_away}
+use Rattle.ucdshop_more_core.specs.Paths.{ages_in, desk_log_in, misses_in, steps_in}
+use Rattle.ucdshop_more_core.specs.Printed.{AgeCounts, ages_summary, conform_summary, desk_summary, usage}
+use Rattle.ucdshop_more_core.specs.Sessions.{Session, session_verdict}
 use Rattle.ucdshop_more_core.specs.Trials.{trial_verdict}
+use Rattle.ucdshop_more_core.specs.Turns.{Turn}
 use Rattle.ucdshop_more_core.specs.declared.trial.Trial.{Trial}
 use Rattle.ucdshop_more_core.specs.MissTexts.{misses_of, misses_text}
 use Rattle.norm_conformance.specs.declared.miss.Miss.{Miss}
@@ -48,11 +66,16 @@ use Rattle.ucdshop_more_core.specs.Steps.{breaks_in, steps_of, steps_text}
 -- ---- the words
 
 pub data Job : Type 0 where
+  Desk : (input events output : List ℕ) → Job
   Conform : (input tests output : List ℕ) → Job
   Ages : (output : List ℕ) (folders : List (List ℕ)) → Job
 
 abbrev pub folder_limit : ℕ
 folder_limit = 16
+
+abbrev pub desk_form : List (List ℕ) → Option Job
+desk_form (input ∷ events ∷ output ∷ []) = Some (Desk input events output)
+desk_form _ = None
 
 abbrev pub conform_form : List (List ℕ) → Option Job
 conform_form (input ∷ tests ∷ output ∷ []) = Some (Conform input tests output)
@@ -64,11 +87,16 @@ ages_form (output ∷ folders) = if nat_lt 0 (length folders) && nat_le (length 
 
 abbrev pub form : List (List ℕ) → Option Job
 form [] = None
-form (word ∷ arguments) = if bytes_eq word (codes "conform") then conform_form arguments else (if bytes_eq word (codes "ages") then ages_form arguments else None)
+form (word ∷ arguments) =
+    if bytes_eq word (codes "desk") then desk_form arguments
+    else (if bytes_eq word (codes "conform") then conform_form arguments
+    else (if bytes_eq word (codes "ages") then ages_form arguments
+    else None))
 
 -- ---- what is read
 
 abbrev pub needed : Job → List (List ℕ)
+needed (Desk input events output) = sources_in input ++ events ∷ []
 needed (Conform input tests output) = sources_in input ++ tests ∷ []
 needed (Ages output folders) = flat_map sources_in folders
 
@@ -81,6 +109,30 @@ folders_verdict (folder ∷ later) seen =
     and_then (folder_verdict folder (source_held seen 0)) (λ files. and_then (folders_verdict later (drop 9 seen)) (λ releases. Ok (release_items files ∷ releases)))
 
 -- ---- what is written
+
+abbrev pub events_of : List Turn → List Event
+events_of turns = map (λ (turn : Turn). turn.event) turns
+
+abbrev pub lines_of : List Turn → List ℕ
+lines_of turns = map (λ (turn : Turn). turn.line) turns
+
+abbrev pub desk_log_file : List ℕ → List ℕ → NewFile
+desk_log_file folder text = record { path = desk_log_in folder; bytes = text }
+
+abbrev pub desk_ending_by : List ℕ → List (List FileItem) → List ℕ → ℕ → ℕ → Ending
+desk_ending_by output files text accepted refused = record {
+  files = map (source_file output files) source_files ++ desk_log_file output text ∷ [];
+  summary = desk_summary accepted refused;
+  done = nat_lt 0 refused;
+}
+
+abbrev pub desk_ending_from : List ℕ → DeskState → List Turn → Ending
+desk_ending_from output s turns =
+    let answers = replies s (events_of turns) in
+    desk_ending_by output (after_events s (events_of turns)).files (desk_log (lines_of turns) answers) (count_by is_accepted answers) (count_by is_turned_away answers)
+
+abbrev pub desk_ending : List ℕ → Session → Ending
+desk_ending output session = desk_ending_from output (started session.files) session.turns
 
 abbrev pub misses_file : List ℕ → List Miss → NewFile
 misses_file folder misses = record { path = misses_in folder; bytes = misses_text misses }
@@ -112,6 +164,7 @@ ages_ending output releases = record {
 }
 
 abbrev pub output_paths : Job → List (List ℕ)
+output_paths (Desk input events output) = sources_in output ++ desk_log_in output ∷ []
 output_paths (Conform input tests output) = misses_in output ∷ []
 output_paths (Ages output folders) = ages_in output ∷ steps_in output ∷ []
 
@@ -120,6 +173,7 @@ finished ending (Ok value) = Finishes (ending value)
 finished ending (Err line) = Refuses line
 
 abbrev pub expected_of : Job → Seen → Expected
+expected_of (Desk input events output) seen = finished (desk_ending output) (session_verdict input events seen)
 expected_of (Conform input tests output) seen = finished (conform_ending output) (trial_verdict input tests seen)
 expected_of (Ages output folders) seen = finished (ages_ending output) (folders_verdict folders seen)
 

@@ -3,7 +3,7 @@
 ghost use Rattle.std.specs.Prelude.{◌≡◌, ⊤};
 ghost use Rattle.std.specs.Option.{MatchOption};
 ghost use Rattle.ucdshop_more_core.specs.Commands.{AsksFor, IsListed, job_of};
-ghost use Rattle.ucdshop_more_core.specs.Run.{ages_form, conform_form, form};
+ghost use Rattle.ucdshop_more_core.specs.Run.{ages_form, conform_form, desk_form, form};
 
 use ucd_model::Text;
 
@@ -13,6 +13,13 @@ const FOLDER_LIMIT: usize = 16;
 /// What the words of a run ask for.
 #[derive(Clone, Copy, Debug)]
 pub enum Command<'a> {
+    /// Let editors work on the release of the folder `input` as the file `events` says, and write what it is then, and what was
+    /// replied, into the folder `output`.
+    Desk {
+        input: &'a [u8],
+        events: &'a [u8],
+        output: &'a [u8],
+    },
     /// Write what the release of the folder `input` misses of the cases in the file `tests` into the folder `output`.
     Conform {
         input: &'a [u8],
@@ -36,13 +43,30 @@ pub fn command_of(words: &[Text]) -> Option<Command<'_>>
     let [word, arguments @ ..] = words else {
         return None;
     };
-    if word.as_slice() == b"conform".as_slice() {
+    if word.as_slice() == b"desk".as_slice() {
+        desk_of(arguments)
+    } else if word.as_slice() == b"conform".as_slice() {
         conform_of(arguments)
     } else if word.as_slice() == b"ages".as_slice() {
         ages_of(arguments)
     } else {
         None
     }
+}
+
+/// `desk DATA EVENTS OUT`, of the words behind `desk`.
+fn desk_of(arguments: &[Text]) -> Option<Command<'_>>
+    ensures form { AsksFor result (desk_form arguments.now) }
+    ensures listed { MatchOption result ⊤ (λ command. IsListed (job_of command)) }
+{
+    let [input, events, output] = arguments else {
+        return None;
+    };
+    Some(Command::Desk {
+        input: input.as_slice(),
+        events: events.as_slice(),
+        output: output.as_slice(),
+    })
 }
 
 /// `conform DATA TESTS OUT`, from the words behind `conform`.

@@ -1,9 +1,14 @@
 //! The run of the second program: what it reads, judges, chains, writes and prints.
 #![tactic(auto)]
 
+mod beside;
 mod chaining;
 mod command;
 mod conform_plan;
+mod desk_log;
+mod desk_mark;
+mod desk_plan;
+mod desk_session;
 pub mod laws;
 mod miss_text;
 mod outputs;
@@ -11,6 +16,8 @@ mod planning;
 mod printed;
 mod program;
 mod reading;
+mod requests;
+mod sitting;
 mod step_text;
 mod trial;
 

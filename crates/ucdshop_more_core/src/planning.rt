@@ -7,12 +7,14 @@ ghost use Rattle.run_endings.specs.Promises.{shelf_seen};
 ghost use Rattle.ucdshop_more_core.specs.Chaining.{Follows};
 ghost use Rattle.ucdshop_more_core.specs.Commands.{IsListed, job_of};
 ghost use Rattle.ucdshop_more_core.specs.Order.{ComesTo, NamesPath, OnUnread};
-ghost use Rattle.ucdshop_more_core.specs.Run.{Ages, Conform, expected_of, needed};
+ghost use Rattle.ucdshop_more_core.specs.Run.{Ages, Conform, Desk, expected_of, needed};
 
 use crate::chaining::{Chained, chain_folders};
 use crate::command::Command;
 use crate::conform_plan::conform_plan;
+use crate::desk_plan::desk_plan;
 use crate::outputs::ages_plan;
+use crate::sitting::read_sitting;
 use crate::trial::read_trial;
 use run_endings::{Plan, Stop, make_room};
 use shelf_io::Shelf;
@@ -63,12 +65,40 @@ fn plan_of<S: Shelf, L: Ledger>(
     ensures only_read { OnlyRead (shelf_seen S.Shelf shelf.old shelf.new) }
 {
     match command {
+        Command::Desk {
+            input,
+            events,
+            output,
+        } => plan_desk(alloc, input, events, output, shelf, steps),
         Command::Conform {
             input,
             tests,
             output,
         } => plan_conform(alloc, input, tests, output, shelf, steps),
         Command::Ages { output, folders } => plan_ages(alloc, output, folders, shelf, steps),
+    }
+}
+
+/// The same for `desk`.
+fn plan_desk<S: Shelf, L: Ledger>(
+    alloc: Global,
+    input: &[u8],
+    events: &[u8],
+    output: &[u8],
+    shelf: &mut S,
+    steps: &mut Steps<L>,
+) -> Result<Plan, Stop>
+    ensures planned { IfOk result (λ plan. Sees S.tells (S.holds shelf.old) (needed (Desk input.now events.now output.now)) (λ seen.
+        IsPlanOf plan (expected_of (Desk input.now events.now output.now) seen))) }
+    ensures refused { OnRefused result (λ line. Sees S.tells (S.holds shelf.old) (needed (Desk input.now events.now output.now)) (λ seen.
+        expected_of (Desk input.now events.now output.now) seen ≡ Refuses line)) }
+    ensures unread { UnreadAs result (needed (Desk input.now events.now output.now)) (shelf_seen S.Shelf shelf.old shelf.new) }
+    ensures in_order { OnUnread result (NamesPath (ComesTo (Desk input.now events.now output.now) S.tells (S.holds shelf.old)) (shelf_seen S.Shelf shelf.old shelf.new)) }
+    ensures only_read { OnlyRead (shelf_seen S.Shelf shelf.old shelf.new) }
+{
+    match read_sitting(alloc, input, events, shelf, steps) {
+        Ok(sitting) => Ok(desk_plan(alloc, output, sitting, steps)?),
+        Err(stop) => Err(stop),
     }
 }
 

@@ -1,14 +1,30 @@
 //! The lines that a run prints.
 
 ghost use Rattle.std.specs.Prelude.{◌≡◌, IfOk};
-ghost use Rattle.ucdshop_more_core.specs.Printed.{ages_summary, conform_summary};
+ghost use Rattle.ucdshop_more_core.specs.Printed.{ages_summary, conform_summary, desk_summary};
 
 use std::alloc::Global;
 use ucd_lines::put_decimal;
 use ucd_model::{Memory, Text};
 
 /// The line for words that have no listed form.
-pub const USAGE: &[u8] = b"usage: ucdshop_more conform DATA TESTS OUT | ages OUT DATA1 .. DATAn\n";
+pub const USAGE: &[u8] =
+    b"usage: ucdshop_more desk DATA EVENTS OUT | conform DATA TESTS OUT | ages OUT DATA1 .. DATAn\n";
+
+/// The line of a run of `desk` that wrote all files.
+///
+/// - `Memory`: memory ran out.
+pub fn desk_summary(alloc: Global, accepted: usize, refused: usize) -> Result<Text, Memory>
+    ensures { IfOk result (λ text. text ≡ desk_summary accepted refused) }
+{
+    let mut text = Text::new(alloc);
+    text.append(b"desk: ")?;
+    put_decimal(alloc, accepted, &mut text)?;
+    text.append(b" accepted, ")?;
+    put_decimal(alloc, refused, &mut text)?;
+    text.append(b" refused\n")?;
+    Ok(text)
+}
 
 /// The line of a run of `conform` that wrote its file.
 ///

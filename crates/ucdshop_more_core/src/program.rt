@@ -19,8 +19,8 @@ use ucd_model::{Steps, Texts};
 /// Runs the program on its words, without the program's name: reads what they name from the shelf, writes the files
 /// that it makes to it, and tells one line to the sink.
 ///
-/// The words are `conform DATA TESTS OUT`, or `ages OUT DATA1 .. DATAn` with 1 to 16 folders. `conform` reads its ten files
-/// and then judges them: the folder first, then the file of cases. The folders of `ages` are read and judged one after
+/// The words are `desk DATA EVENTS OUT`, `conform DATA TESTS OUT`, or `ages OUT DATA1 .. DATAn` with 1 to 16 folders. `desk` and
+/// `conform` read their ten files and then judge them: the folder first, then the file of events or of cases. The folders of `ages` are read and judged one after
 /// another: whatever fails in one is told before a file of the next is read. All texts are made before the first file is
 /// written. Nothing is written unless the status is [`Status::Clean`], [`Status::Done`] or [`Status::WriteFault`].
 ///

@@ -11,14 +11,15 @@ ghost use Rattle.run_inputs.specs.Paths.{sources_in};
 ghost use Rattle.run_inputs.specs.Printed.{refused};
 ghost use Rattle.ucdshop_more_core.specs.Trials.{TellsLine, case_rule_code, cases_told, trial_verdict, with_cases};
 
+use crate::beside::{paths_with, refusal};
 use edit_session::Bench;
 use norm_conformance::{CaseRule, CaseStop, Cases, read_cases};
 use run_endings::{Stop, gather};
-use run_inputs::{file_rule_code, held_at, open_folder, refused, second_file, source_paths};
+use run_inputs::{file_rule_code, held_at, open_folder, second_file};
 use shelf_io::Shelf;
 use std::alloc::Global;
 use std::sync::ledger::Ledger;
-use ucd_model::{Memory, SOURCE_FILES, Steps, Text, Texts};
+use ucd_model::{SOURCE_FILES, Steps, Text};
 
 /// A release, and the cases that it is tried on.
 #[derive(Drop)]
@@ -48,20 +49,9 @@ pub fn read_trial<S: Shelf, L: Ledger>(
     ensures unread { UnreadAs result (sources_in input.now ++ tests.now ∷ []) (shelf_seen S.Shelf shelf.old shelf.new) }
     ensures only_read { OnlyRead (shelf_seen S.Shelf shelf.old shelf.new) }
 {
-    let paths = trial_paths(alloc, input, tests)?;
+    let paths = paths_with(alloc, input, tests)?;
     let mut held = gather(alloc, shelf, paths.as_slice())?;
     judge_trial(alloc, input, tests, &mut held, steps)
-}
-
-/// The paths of the source files of a folder, in their order, and that of a file.
-///
-/// - `Memory`: memory ran out.
-fn trial_paths(alloc: Global, input: &[u8], tests: &[u8]) -> Result<Texts, Memory>
-    ensures { IfOk result (λ paths. paths ≡ sources_in input.now ++ tests.now ∷ []) }
-{
-    let mut paths = source_paths(alloc, input)?;
-    paths.push(Text::of(alloc, tests)?)?;
-    Ok(paths)
 }
 
 /// Judges the source files of a folder, and behind them the file of cases.
@@ -116,16 +106,6 @@ fn judge_cases(alloc: Global, path: &[u8], held: Option<&[u8]>) -> Result<Cases,
             Err(refusal(alloc, path, line as usize, case_rule_code(rule)))
         }
         Err(CaseStop::Memory) => Err(Stop::Memory),
-    }
-}
-
-/// The refusal of a file by this line of it, and the rule with this code.
-fn refusal(alloc: Global, path: &[u8], line: usize, rule: &[u8]) -> Stop
-    ensures { TellsLine result (refused path.now line rule.now) }
-{
-    match refused(alloc, path, line, rule) {
-        Ok(told) => Stop::Refused(told),
-        Err(_) => Stop::Memory,
     }
 }
 

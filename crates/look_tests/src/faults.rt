@@ -1,0 +1,107 @@
+//! Runs that are refused, and runs in which a read or a print fails.
+
+use crate::runs::{LETTERS, SOURCE_NAMES, ends, joined, shelf_of};
+use std::alloc::Global;
+use std::test::Fail;
+use ucd_model::Memory;
+use ucdshop_look_core::Status;
+
+/// The words of a run, its UnicodeData.txt, and the line that refuses it.
+#[derive(Clone, Copy)]
+struct Refused {
+    words: &'static [&'static [u8]],
+    data: &'static [u8],
+    line: &'static [u8],
+}
+
+/// A row out of the grammar, and one whose mapping has no row.
+const NO_ROW: &[u8] = b"0041\n";
+
+const NO_MEMBER: &[u8] = b"1000;X;Lo;0;L;1001;;;;N;;;;;\n";
+
+/// The first fault is told, by the line that refuses `derive`.
+const REFUSED: [Refused; 4] = [
+    Refused {
+        words: &[b"ask", b"d", b"[a]"],
+        data: NO_ROW,
+        line: b"refused: d/UnicodeData.txt line 1 G03\n",
+    },
+    Refused {
+        words: &[b"ask", b"d", b"[a-"],
+        data: NO_MEMBER,
+        line: b"refused: d point 1000 V1\n",
+    },
+    Refused {
+        words: &[b"ask", b"q", b"[a]"],
+        data: LETTERS,
+        line: b"refused: q/UnicodeData.txt line 0 G01\n",
+    },
+    Refused {
+        words: &[b"show", b"d", b"0041"],
+        data: NO_MEMBER,
+        line: b"refused: d point 1000 V1\n",
+    },
+];
+
+/// Whether a run is refused by its line.
+///
+/// - `Memory`: memory ran out.
+fn is_refused(alloc: Global, refused: &Refused) -> Result<bool, Memory> {
+    let mut shelf = shelf_of(alloc, refused.data)?;
+    let expected = (Status::LoadRefused, refused.line);
+    ends(alloc, refused.words, &mut shelf, 1000, expected)
+}
+
+#[test]
+fn each_fault_is_told(rt: HostRuntime) -> Result<(), Fail> {
+    for refused in &REFUSED {
+        assert!(rt; is_refused(rt.alloc(), refused)?);
+    }
+    Ok(())
+}
+
+/// Whether a run of these words is told that a read failed, counted from 1, by this file.
+///
+/// - `Memory`: memory ran out.
+fn tells_read(alloc: Global, words: &[&[u8]], nth: u32, name: &[u8]) -> Result<bool, Memory> {
+    let mut shelf = shelf_of(alloc, NO_ROW)?;
+    shelf.fail_read(nth)?;
+    let line = joined(alloc, [b"read failed: d/", name, b"\n"])?;
+    let expected = (Status::ReadFault, line.as_slice());
+    ends(alloc, words, &mut shelf, 1000, expected)
+}
+
+/// All files are read before any is judged.
+#[test]
+fn each_failed_read_is_told(rt: HostRuntime) -> Result<(), Fail> {
+    let ask: [&[u8]; 3] = [b"ask", b"d", b"[a]"];
+    for nth in 1..10 {
+        let name = SOURCE_NAMES.get(nth - 1).copied().unwrap_or(b"");
+        assert!(rt;
+            tells_read(rt.alloc(), &ask, nth as u32, name)?,
+            "read {nth}"
+        );
+    }
+    Ok(())
+}
+
+/// What the run below tells.
+const TOLD: &[u8] = b"# [b-c]\n0062..0063\n# total 2\n";
+
+/// Whether a run into a sink with room for so many bytes tells a beginning of its text.
+///
+/// - `Memory`: memory ran out.
+fn tells_in_part(alloc: Global, room: usize) -> Result<bool, Memory> {
+    let mut shelf = shelf_of(alloc, LETTERS)?;
+    let words: [&[u8]; 3] = [b"ask", b"d", b"[b-c]"];
+    let told = TOLD.get(..room).unwrap_or(b"");
+    ends(alloc, &words, &mut shelf, room, (Status::WriteFault, told))
+}
+
+#[test]
+fn a_short_sink_has_a_beginning(rt: HostRuntime) -> Result<(), Fail> {
+    for room in [0, 1, TOLD.len() / 2, TOLD.len() - 1] {
+        assert!(rt; tells_in_part(rt.alloc(), room)?);
+    }
+    Ok(())
+}

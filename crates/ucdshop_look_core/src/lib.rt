@@ -1,0 +1,13 @@
+//! The run of the third program: what is asked of a release, and what it answers, with no file written.
+#![tactic(auto)]
+
+mod answering;
+mod command;
+mod planning;
+mod points;
+mod printed;
+mod program;
+mod showing;
+
+pub use program::run_look;
+pub use run_endings::{OUT_OF_MEMORY, Status};

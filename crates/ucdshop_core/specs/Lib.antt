@@ -13,4 +13,5 @@ pub mod Counting
 pub mod Carrying
 pub mod Answering
 pub mod Planning
+pub mod CutProofs
 pub mod RunExamples

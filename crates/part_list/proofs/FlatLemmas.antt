@@ -123,18 +123,6 @@ pub flat-kept_next : {A : Type 0} (ps : List (PartValue A)) → flat (parts_next
 flat-kept_next [] = refl
 flat-kept_next (p ∷ ps) = kept-next p (filter has_entries ps) ∙ ap (λ rest. p.next ++ rest) (flat-kept_next ps)
 
-pub flat-now_committed : {A : Type 0} (ps : List (PartValue A)) → flat (parts_now (filter has_entries (map committed ps))) ≡ flat (parts_next ps)
-flat-now_committed ps = flat-kept_now (map committed ps) ∙ ap flat (parts_now-committed ps)
-
-pub flat-next_committed : {A : Type 0} (ps : List (PartValue A)) → flat (parts_next (filter has_entries (map committed ps))) ≡ flat (parts_next ps)
-flat-next_committed ps = flat-kept_next (map committed ps) ∙ ap flat (parts_next-committed ps)
-
-pub flat-now_discarded : {A : Type 0} (ps : List (PartValue A)) → flat (parts_now (filter has_entries (map discarded ps))) ≡ flat (parts_now ps)
-flat-now_discarded ps = flat-kept_now (map discarded ps) ∙ ap flat (parts_now-discarded ps)
-
-pub flat-next_discarded : {A : Type 0} (ps : List (PartValue A)) → flat (parts_next (filter has_entries (map discarded ps))) ≡ flat (parts_now ps)
-flat-next_discarded ps = flat-kept_next (map discarded ps) ∙ ap flat (parts_next-discarded ps)
-
 -- one more part is done
 pub more_done : {P : Type 0} (f : P → P) (xs ys : List P) (k : ℕ) (x new : P) → ys ≡ map f (take k xs) ++ drop k xs → k ≤ length xs → k < length ys → x ≡ get_or ys k x → new ≡ f x → (k < length xs) × (set ys k new ≡ map f (take (k + 1) xs) ++ drop (k + 1) xs)
 more_done f xs ys k x new so_far le lt read is =

@@ -3,3 +3,4 @@ pub mod FlatLemmas
 pub mod BeforeLemmas
 pub mod FindLemmas
 pub mod PassingLemmas
+pub mod GuideLemmas

@@ -1,10 +1,7 @@
 -- The entries that pass.
-use Rattle.std.proofs.Common.{◌≡◌, ℕ, zero, suc, ◌+◌, ◌-◌, ◌<◌, ◌≤◌, Bool, true, false, List, [], ◌∷◌, ◌++◌, length, take, drop, get_or, refl, sym, ap, ◌∙◌, arith}
+use Rattle.std.proofs.Common.{◌≡◌, ℕ, zero, suc, ◌+◌, ◌<◌, Bool, true, false, List, [], ◌∷◌, ◌++◌, length, drop, get_or, refl, sym, ap, ◌∙◌, arith}
 use Rattle.std.specs.List.{All, filter, position_or_len}
-use Rattle.std.proofs.lemmas.List.{take_all}
 use Rattle.std.proofs.lemmas.List.Elements.{filter-append}
-use Rattle.part_list.specs.Parts.{flat}
-use Rattle.part_list.specs.PartValues.{PartValue, parts_next}
 
 pub none_pass : {A : Type 0} (p : A → Bool) (xs : List A) → All (λ x. p x ≡ false) xs → filter p xs ≡ []
 none_pass p [] h = refl
@@ -45,23 +42,5 @@ next_left p xs ys behind left at d is lt first rest =
     ∙ ap (λ zs. get_or xs at d ∷ zs) (sym (filter-append p (drop (at + 1) xs) ys) ∙ ap (λ zs. filter p (zs ++ ys)) (sym rest))
 
 -- none of the entries of the part that was begun is left
-behind_left : {A : Type 0} (p : A → Bool) (xs ys left : List A) → filter p (xs ++ ys) ≡ left → position_or_len p xs ≡ length xs → left ≡ filter p ys
+pub behind_left : {A : Type 0} (p : A → Bool) (xs ys left : List A) → filter p (xs ++ ys) ≡ left → position_or_len p xs ≡ length xs → left ≡ filter p ys
 behind_left p xs ys left is none = sym is ∙ filter-append p xs ys ∙ ap (λ zs. zs ++ filter p ys) (none_found p xs none)
-
--- no part is left
-pub none_left : {A : Type 0} (p : A → Bool) (xs : List A) (parts : List (PartValue A)) (left : List A) → filter p (xs ++ flat (parts_next parts)) ≡ left → position_or_len p xs ≡ length xs → length parts < 1 → (left ≡ []) × (filter p (xs ++ flat (parts_next parts)) ≡ [])
-none_left p xs [] left is none few =
-    let empty = behind_left p xs [] left is none in
-    (empty, is ∙ empty)
-none_left p xs (q ∷ parts) left is none few = absurd (omega arith)
-
--- the next part is begun
-pub part_begun : {A : Type 0} (p : A → Bool) (xs : List A) (parts : List (PartValue A)) (part : PartValue A) (begun left : List A) → filter p (xs ++ flat (parts_next parts)) ≡ left → position_or_len p xs ≡ length xs → 1 ≤ length parts → part ≡ get_or parts 0 part → filter p begun ≡ filter p part.next → filter p (begun ++ flat (parts_next (take (length parts - 1) (drop 1 parts)))) ≡ left
-part_begun p xs [] part begun left is none some first same = absurd (omega arith)
-part_begun p xs (q ∷ parts) part begun left is none some first same =
-    let rest = take_all (length (q ∷ parts) - 1) parts (omega arith) in
-    ap (λ ps. filter p (begun ++ flat (parts_next ps))) rest
-    ∙ filter-append p begun (flat (parts_next parts))
-    ∙ ap (λ zs. zs ++ filter p (flat (parts_next parts))) (same ∙ ap (λ (r : PartValue _). filter p r.next) first)
-    ∙ sym (filter-append p q.next (flat (parts_next parts)))
-    ∙ sym (behind_left p xs (q.next ++ flat (parts_next parts)) left is none)

@@ -1,6 +1,6 @@
 //! Puts entries into parts.
 
-ghost use Rattle.std.specs.Prelude.{◌≡◌, ◌+◌, ◌<◌, ◌≤◌, [], ◌∷◌, ◌++◌, length, vec_len, OnOk, OnErr};
+ghost use Rattle.std.specs.Prelude.{◌≡◌, ℕ, ◌+◌, ◌<◌, ◌≤◌, [], ◌∷◌, ◌++◌, length, vec_len, OnOk, OnErr};
 ghost use Rattle.part_list.specs.Parts.{flat, part_at, place, spliced};
 ghost use Rattle.part_list.specs.PartValues.{parts_now, parts_next};
 ghost use Rattle.part_list.specs.Puts.{put_entries};
@@ -47,6 +47,7 @@ fn splice<T: Copy>(
     requires within { spot.at + removed ≤ length (part_at (parts_next parts.old.items) spot.slot) }
     ensures len { vec_len parts.new ≡ vec_len parts.old }
     ensures now { parts_now parts.new.items ≡ parts_now parts.old.items }
+    ensures others { (k : ℕ) → (k ≡ spot.slot → ⊥) → part_at (parts_next parts.new.items) k ≡ part_at (parts_next parts.old.items) k }
     ensures ok { OnOk result (flat (parts_next parts.new.items) ≡ spliced (flat (parts_next parts.old.items)) (place (parts_next parts.old.items) spot) removed (put_entries put)) }
     ensures err { OnErr result (parts.new.items ≡ parts.old.items) }
 {
@@ -66,6 +67,7 @@ pub fn edit<T: Copy>(
     requires part { spot.slot < length (parts_next parts.old.items) }
     requires within { spot.at + removed ≤ length (part_at (parts_next parts.old.items) spot.slot) }
     ensures now { flat (parts_now parts.new.items) ≡ flat (parts_now parts.old.items) }
+    ensures others { vec_len parts.new ≡ vec_len parts.old → (k : ℕ) → (k ≡ spot.slot → ⊥) → part_at (parts_next parts.new.items) k ≡ part_at (parts_next parts.old.items) k }
     ensures ok { OnOk result (flat (parts_next parts.new.items) ≡ spliced (flat (parts_next parts.old.items)) (place (parts_next parts.old.items) spot) removed (put_entries put)) }
     ensures err { OnErr result (parts.new.items ≡ parts.old.items) }
 {

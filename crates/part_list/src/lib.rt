@@ -4,6 +4,7 @@
 mod change;
 mod entries;
 mod fill;
+mod guides;
 mod part;
 mod part_list;
 mod passing;

@@ -1,12 +1,13 @@
 //! A part of a list, now and next.
 
 ghost use Rattle.std.specs.Prelude.{◌≡◌, ◌+◌, ◌<◌, ◌≤◌, [], ◌∷◌, ◌++◌, true, false, length, take, drop, IfOk, OnOk, OnErr};
-ghost use Rattle.std.specs.List.{filter, position_or_len};
+ghost use Rattle.std.specs.List.{All, filter, position_or_len};
 ghost use Rattle.part_list.specs.Parts.{spliced};
 ghost use Rattle.std.specs.Option.{option_to_list};
 ghost use Rattle.part_list.specs.Finds.{FirstIn, LastIn};
 ghost use Rattle.part_list.specs.PartValues.{committed, discarded, has_entries, shown};
 ghost use Rattle.part_list.specs.Puts.{put_entries};
+ghost use Rattle.part_list.specs.Reaches.{IsWithin};
 
 use crate::put::Put;
 use crate::reach::Reach;
@@ -17,8 +18,8 @@ use std::alloc::Global;
 use std::marker::Model;
 use ucd_points::{ListOf, Memory};
 
-/// How many entries a part is loaded with. A file of a release has up to 35,000 rows, so it has up to 140 parts.
-const LOADED: usize = 256;
+/// How many entries a part is loaded with. A file of a release has up to 35,000 rows, so it has up to 280 parts.
+const LOADED: usize = 128;
 
 /// Some entries of a list that stand together. Contracts see the entries now and next.
 #[derive(Debug, Drop)]
@@ -180,6 +181,13 @@ impl<T: Copy> Part<T> {
             Some(edit) => edit.as_slice(),
             None => self.kept.as_slice(),
         }
+    }
+
+    /// Bounds of the entries next.
+    pub fn reach(&self) -> Reach
+        ensures { All (IsWithin result) self.now.next }
+    {
+        self.reach
     }
 
     /// Whether what is next is kept apart from what is now.

@@ -1,17 +1,20 @@
 //! Lists that can be edited.
 
-ghost use Rattle.std.specs.Prelude.{◌≡◌, ◌+◌, ◌<◌, [], ◌∷◌, ◌++◌, length, slice_index_or, slice_set, OnOk, OnErr};
+ghost use Rattle.std.specs.Prelude.{◌≡◌, ◌+◌, ◌<◌, ◌≤◌, [], ◌∷◌, ◌++◌, length, slice_index_or, slice_set, OnOk, OnErr};
 ghost use Rattle.std.specs.List.{filter, insert, remove};
 ghost use Rattle.std.specs.Option.{MatchOption};
-ghost use Rattle.part_list.specs.Parts.{IsEntry, IsGap, now_in, next_in, part_at, place};
+ghost use Rattle.part_list.specs.Parts.{IsEntry, IsGap, now_in, next_in, part_at, place, spliced};
 ghost use Rattle.part_list.specs.Finds.{FirstAt, IsBefore, LastAt, StandsAt};
+ghost use Rattle.part_list.specs.Puts.{put_entries};
 
-use crate::change::{commit_all, discard_all, drop_empty};
+use crate::change::{commit_all, discard_all, tidy};
 use crate::entries::Entries;
 use crate::fill::{begin, edit, push};
+use crate::guides::{renew, renew_all};
 use crate::part::Part;
 use crate::passing::Passing;
 use crate::put::Put;
+use crate::reach::Reach;
 use crate::search::{first_spot, last_spot, spot_at, spot_before};
 use crate::seek::Seek;
 use crate::spanned::Spanned;
@@ -24,23 +27,34 @@ use ucd_points::Memory;
 /// A list of items, each with the code points that it speaks of, twice: the list now, and the list next. Edits change
 /// what is next, `commit` makes it what is now, and `discard` drops it. Contracts see the parts in which it is kept.
 ///
-/// An edit takes time in proportion to the entries of one part. A search looks at the bounds of each part, and at the
-/// entries of the parts that may have what it looks for. `commit` and `discard` take time in proportion to the number
-/// of parts and to the entries of those that were edited, and no memory.
+/// An edit takes time in proportion to the entries of one part; if a part is cut in two, to the number of parts. A search looks at the
+/// bounds of each block of 16 parts, at those of the parts of blocks that may have what it looks for, and at the entries of such
+/// parts. `commit` and `discard` take no memory. If something was edited they take time in proportion to the number of parts and to the
+/// entries of those that were edited; otherwise they do nothing.
 #[derive(Debug, Drop)]
 pub struct PartList<T: Copy> {
     alloc: Global,
     parts: Vec<Part<T>>,
+    /// Bounds of the first blocks of the parts, by which searches pass many at once.
+    guides: Vec<Reach>,
+    /// Whether there may be a part whose entries next are others than now.
+    edited: bool,
+    /// Whether an entry was taken out of what is next since the last `commit` or `discard`.
+    shrunk: bool,
 }
 
 impl<T: Copy> Model for PartList<T> {
     ghost use Rattle.part_list.specs.declared.spanned.Spanned.{Spanned as Entry};
+    ghost use Rattle.std.specs.Prelude.{◌≡◌, false};
+    ghost use Rattle.part_list.specs.Guides.{Covers};
     ghost use Rattle.part_list.specs.Parts.{PartLists};
     ghost use Rattle.part_list.specs.PartValues.{parts_now, parts_next};
 
     ghost Value = { PartLists (Entry T) };
 
     ghost view = { λ l. record { now = parts_now l.parts.items; next = parts_next l.parts.items } };
+
+    ghost invariant = { λ l. Covers l.guides.items (parts_next l.parts.items) × (l.edited ≡ false → parts_now l.parts.items ≡ parts_next l.parts.items) };
 }
 
 impl<T: Copy> PartList<T> {
@@ -51,6 +65,9 @@ impl<T: Copy> PartList<T> {
         PartList {
             alloc,
             parts: Vec::new(alloc),
+            guides: Vec::new(alloc),
+            edited: false,
+            shrunk: false,
         }
     }
 
@@ -62,6 +79,8 @@ impl<T: Copy> PartList<T> {
         ensures next { OnOk result (next_in self.new ≡ next_in self.old ++ entry ∷ []) }
         ensures err { OnErr result (self.new ≡ self.old) }
     {
+        self.edited = true;
+        self.guides.clear();
         push(self.alloc, &mut self.parts, entry)
     }
 
@@ -73,14 +92,34 @@ impl<T: Copy> PartList<T> {
         ensures ok { OnOk result (next_in self.new ≡ next_in self.old ++ entry ∷ []) }
         ensures err { OnErr result (self.new ≡ self.old) }
     {
-        match self.parts.len().checked_sub(1) {
-            None => begin(self.alloc, &mut self.parts, entry),
-            Some(slot) => {
-                let at = self.parts[slot].next().len();
-                let spot = Spot { slot, at };
-                edit(self.alloc, &mut self.parts, spot, 0, Put::one(entry))
-            }
+        let Some(slot) = self.parts.len().checked_sub(1) else {
+            self.edited = true;
+            self.guides.clear();
+            return begin(self.alloc, &mut self.parts, entry);
+        };
+        let at = self.parts[slot].next().len();
+        self.edit(Spot { slot, at }, 0, Put::one(entry))
+    }
+
+    /// Puts entries next in the place of the `removed` ones from a spot on.
+    ///
+    /// - `Memory`: memory ran out. The list stays as it was.
+    fn edit(&mut self, spot: Spot, removed: usize, put: Put<T>) -> Result<(), Memory>
+        requires part { spot.slot < length self.old.next }
+        requires within { spot.at + removed ≤ length (part_at self.old.next spot.slot) }
+        ensures now { now_in self.new ≡ now_in self.old }
+        ensures ok { OnOk result (next_in self.new ≡ spliced (next_in self.old) (place self.old.next spot) removed (put_entries put)) }
+        ensures err { OnErr result (self.new ≡ self.old) }
+    {
+        self.edited = true;
+        let count = self.parts.len();
+        edit(self.alloc, &mut self.parts, spot, removed, put)?;
+        if self.parts.len() == count && self.guides.len() > 0 {
+            renew(&mut self.guides, &self.parts, spot.slot);
+        } else {
+            renew_all(&mut self.guides, &self.parts);
         }
+        Ok(())
     }
 
     /// Puts an entry next before the one at a spot, or at the end of the spot's part.
@@ -92,7 +131,7 @@ impl<T: Copy> PartList<T> {
         ensures ok { OnOk result (next_in self.new ≡ insert (next_in self.old) (place self.old.next spot) entry) }
         ensures err { OnErr result (self.new ≡ self.old) }
     {
-        edit(self.alloc, &mut self.parts, spot, 0, Put::one(entry))
+        self.edit(spot, 0, Put::one(entry))
     }
 
     /// Puts an entry next in the place of the one at a spot.
@@ -104,7 +143,7 @@ impl<T: Copy> PartList<T> {
         ensures ok { OnOk result (next_in self.new ≡ slice_set (next_in self.old) (place self.old.next spot) entry) }
         ensures err { OnErr result (self.new ≡ self.old) }
     {
-        edit(self.alloc, &mut self.parts, spot, 1, Put::one(entry))
+        self.edit(spot, 1, Put::one(entry))
     }
 
     /// Puts an entry next in the place of the one at a spot, and another one behind it.
@@ -122,8 +161,7 @@ impl<T: Copy> PartList<T> {
             OnOk result (next_in self.new ≡ insert (slice_set (next_in self.old) at entry) (at + 1) behind) }
         ensures err { OnErr result (self.new ≡ self.old) }
     {
-        let put = Put::two(entry, behind);
-        edit(self.alloc, &mut self.parts, spot, 1, put)
+        self.edit(spot, 1, Put::two(entry, behind))
     }
 
     /// Takes the entry at a spot out of what is next.
@@ -135,7 +173,8 @@ impl<T: Copy> PartList<T> {
         ensures ok { OnOk result (next_in self.new ≡ remove (next_in self.old) (place self.old.next spot)) }
         ensures err { OnErr result (self.new ≡ self.old) }
     {
-        edit(self.alloc, &mut self.parts, spot, 1, Put::none())
+        self.shrunk = true;
+        self.edit(spot, 1, Put::none())
     }
 
     /// The entry next at a spot.
@@ -150,7 +189,7 @@ impl<T: Copy> PartList<T> {
     pub fn first<S: Seek<T>>(&self, seek: &S) -> Option<Spot>
         ensures { FirstAt result (S.passing seek.now) self.now.next }
     {
-        first_spot(&self.parts, seek)
+        first_spot(&self.parts, &self.guides, seek)
     }
 
     /// The spot of the last entry next that passes; `None` if none passes.
@@ -164,7 +203,7 @@ impl<T: Copy> PartList<T> {
     pub fn passing<'a, S: Seek<T>>(&'a self, seek: &'a S) -> Passing<'a, T, S>
         ensures { result ≡ filter (S.passing seek.now) (next_in self.now) }
     {
-        Passing::new(&self.parts, seek)
+        Passing::new(&self.parts, &self.guides, seek)
     }
 
     /// The spot of the entry next before another one; `None` if that one is the first.
@@ -231,8 +270,13 @@ impl<T: Copy> PartList<T> {
         ensures now { now_in self.new ≡ next_in self.old }
         ensures next { next_in self.new ≡ next_in self.old }
     {
+        if !self.edited {
+            return;
+        }
         commit_all(&mut self.parts);
-        drop_empty(&mut self.parts);
+        tidy(&mut self.parts, &mut self.guides, self.shrunk);
+        self.edited = false;
+        self.shrunk = false;
     }
 
     /// Makes what is now what is next. It takes no memory.
@@ -240,7 +284,13 @@ impl<T: Copy> PartList<T> {
         ensures now { now_in self.new ≡ now_in self.old }
         ensures next { next_in self.new ≡ now_in self.old }
     {
+        if !self.edited {
+            return;
+        }
+        self.guides.clear();
         discard_all(&mut self.parts);
-        drop_empty(&mut self.parts);
+        tidy(&mut self.parts, &mut self.guides, true);
+        self.edited = false;
+        self.shrunk = false;
     }
 }

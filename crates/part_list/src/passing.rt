@@ -2,10 +2,13 @@
 
 ghost use Rattle.std.specs.Prelude.{◌≡◌, ◌+◌, ◌<◌, [], ◌∷◌, drop, length};
 ghost use Rattle.std.specs.List.{filter};
+ghost use Rattle.part_list.specs.Guides.{Covers};
 ghost use Rattle.part_list.specs.Parts.{flat};
 ghost use Rattle.part_list.specs.PartValues.{parts_next};
 
+use crate::guides::next_slot;
 use crate::part::{Part, first_in};
+use crate::reach::Reach;
 use crate::seek::Seek;
 use crate::spanned::Spanned;
 use std::marker::Model;
@@ -19,18 +22,25 @@ pub struct Passing<'a, T: Copy, S: Seek<T>> {
     /// The entries of the part that was begun.
     entries: &'a [Spanned<T>],
     parts: &'a [Part<T>],
+    /// Bounds of blocks of the parts.
+    guides: &'a [Reach],
+    /// The next part to begin, counted from 0.
+    slot: usize,
 }
 
 impl<'a, T: Copy, S: Seek<T>> Model for Passing<'a, T, S> {
-    ghost use Rattle.std.specs.Prelude.{List, ◌++◌};
+    ghost use Rattle.std.specs.Prelude.{List, ◌++◌, drop};
     ghost use Rattle.std.specs.List.{filter};
     ghost use Rattle.part_list.specs.declared.spanned.Spanned.{Spanned as Entry};
+    ghost use Rattle.part_list.specs.Guides.{Covers};
     ghost use Rattle.part_list.specs.Parts.{flat};
     ghost use Rattle.part_list.specs.PartValues.{parts_next};
 
     ghost Value = { List (Entry T) };
 
-    ghost view = { λ p. filter (S.passing p.seek.now) (p.entries.now ++ flat (parts_next p.parts.now)) };
+    ghost view = { λ p. filter (S.passing p.seek.now) (p.entries.now ++ flat (drop p.slot (parts_next p.parts.now))) };
+
+    ghost invariant = { λ p. Covers p.guides.now (parts_next p.parts.now) };
 }
 
 /// The entries behind the one at a place.
@@ -42,14 +52,17 @@ fn behind<T: Copy>(entries: &[Spanned<T>], at: usize) -> &[Spanned<T>]
 }
 
 impl<'a, T: Copy, S: Seek<T>> Passing<'a, T, S> {
-    /// The entries next of these parts that pass.
-    pub(crate) fn new(parts: &'a [Part<T>], seek: &'a S) -> Passing<'a, T, S>
+    /// The entries next of these parts that pass. The guides bound blocks of the parts.
+    pub(crate) fn new(parts: &'a [Part<T>], guides: &'a [Reach], seek: &'a S) -> Passing<'a, T, S>
+        requires { Covers guides.now (parts_next parts.now) }
         ensures { result ≡ filter (S.passing seek.now) (flat (parts_next parts.now)) }
     {
         Passing {
             seek,
             entries: &[],
             parts,
+            guides,
+            slot: 0,
         }
     }
 }
@@ -70,11 +83,12 @@ impl<'a, T: Copy, S: Seek<T>> Iterator for Passing<'a, T, S> {
                 self.entries = behind(self.entries, at);
                 return Some(entry);
             }
-            let [part, rest @ ..] = self.parts else {
+            let slot = next_slot(self.guides, self.parts, self.seek, self.slot);
+            if slot >= self.parts.len() {
                 return None;
-            };
-            self.entries = part.candidates(self.seek);
-            self.parts = rest;
+            }
+            self.entries = self.parts[slot].candidates(self.seek);
+            self.slot = slot + 1;
         }
     }
 }

@@ -42,6 +42,19 @@ impl Reach {
         }
     }
 
+    /// The reach of both.
+    pub fn join(self, other: Reach) -> Reach
+        ensures wider { IsWider self result }
+        ensures other { IsWider other result }
+    {
+        Reach {
+            least: self.least.min(other.least),
+            most: self.most.max(other.most),
+            least_tag: self.least_tag.min(other.least_tag),
+            most_tag: self.most_tag.max(other.most_tag),
+        }
+    }
+
     /// The reach with one more entry, if there is one.
     pub fn with_some<T: Copy>(self, entry: Option<Spanned<T>>) -> Reach
         ensures entry { All (IsWithin result) (option_to_list entry) }

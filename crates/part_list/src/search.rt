@@ -1,23 +1,31 @@
 //! Searches over all parts of a list.
 
 ghost use Rattle.part_list.specs.Finds.{FirstAt, IsBefore, LastAt, StandsAt};
+ghost use Rattle.part_list.specs.Guides.{Covers};
 ghost use Rattle.part_list.specs.Parts.{IsEntry};
 ghost use Rattle.part_list.specs.PartValues.{parts_next};
 
+use crate::guides::next_slot;
 use crate::part::Part;
+use crate::reach::Reach;
 use crate::seek::Seek;
 use crate::spot::Spot;
 
-/// The spot of the first entry next that passes.
-pub fn first_spot<T: Copy, S: Seek<T>>(parts: &[Part<T>], seek: &S) -> Option<Spot>
+/// The spot of the first entry next that passes. The guides bound blocks of the parts.
+pub fn first_spot<T: Copy, S: Seek<T>>(
+    parts: &[Part<T>],
+    guides: &[Reach],
+    seek: &S,
+) -> Option<Spot>
+    requires { Covers guides.now (parts_next parts.now) }
     ensures { FirstAt result (S.passing seek.now) (parts_next parts.now) }
 {
-    let mut slot = 0;
+    let mut slot = next_slot(guides, parts, seek, 0);
     'parts: while slot < parts.len() {
         if let Some(at) = parts[slot].first(seek) {
             return Some(Spot { slot, at });
         }
-        slot += 1;
+        slot = next_slot(guides, parts, seek, slot + 1);
     }
     None
 }

@@ -1,8 +1,17 @@
-use Rattle.part_list.proofs.FlatLemmas.{flat-now_discarded, flat-next_discarded}
+use Rattle.std.proofs.Common.{◌≡◌, map, sym, ap, subst, ◌∙◌}
+use Rattle.part_list.specs.Parts.{flat, now_in}
+use Rattle.part_list.specs.PartValues.{committed, parts_now, parts_next}
+use Rattle.part_list.proofs.FlatLemmas.{parts_now-discarded, parts_next-discarded}
+use Rattle.part_list.proofs.GuideLemmas.{settled_discarded}
 use Rattle.part_list.proofs.part_list.PartList.discard.Goals as goal
 
+pub tidy-requires-clause-settled : goal.tidy-requires-clause-settled
+tidy-requires-clause-settled g c = subst (λ ps. map committed ps ≡ ps) (sym c.discard_all.ensures) (settled_discarded c.self.inside.parts.items)
+
 pub returns-clause-now : goal.returns-clause-now
-returns-clause-now g c = rw (← c.self.view_is, c.drop_empty.ensures, c.discard_all.ensures) (flat-now_discarded c.self.inside.parts.items)
+returns-clause-now g c =
+    c.tidy.ensures.now ∙ ap (λ ps. flat (parts_now ps)) c.discard_all.ensures ∙ ap flat (parts_now-discarded c.self.inside.parts.items) ∙ ap now_in c.self.view_is
 
 pub returns-clause-next : goal.returns-clause-next
-returns-clause-next g c = rw (← c.self.view_is, c.drop_empty.ensures, c.discard_all.ensures) (flat-next_discarded c.self.inside.parts.items)
+returns-clause-next g c =
+    c.tidy.ensures.next ∙ ap (λ ps. flat (parts_next ps)) c.discard_all.ensures ∙ ap flat (parts_next-discarded c.self.inside.parts.items) ∙ ap now_in c.self.view_is

@@ -17,7 +17,8 @@
 -- read_as file content      the row that the content is read as, by row_or_none
 -- HasRow file content e      the content reads as a row, and the entry has its code points and what is kept of what it gives
 -- IsBriefOf b file row first   the row has one code point, and this is kept of what it gives
--- IsRowText file content b first   the content reads as a row, and what is kept, if anything is, is kept of a row of one code point
+-- IsRowText file content b first last   the content reads as a row from the first to the last of these, and what is kept, if anything is, is kept
+--                           of a row of one code point
 -- ShowsValued value row     the value is the row, which is one of a file that gives values; None of other rows
 -- ShowsValue value row      the value is that of a row of a span and a value; None of other rows, missing rows among them
 -- ShowsMissing value row    the value is that of a missing row; None of other rows
@@ -102,8 +103,9 @@ pub record HasRow (file : SourceFile) (content : List ℕ) (e : Spanned Stretch)
 abbrev pub IsBriefOf : Brief → SourceFile → Row → ℕ → Type 0
 IsBriefOf b file row first = (b ≡ brief_of (Some row)) × HasSpan (Some row) first first
 
-pub record IsRowText (file : SourceFile) (content : List ℕ) (b : Brief) (first : ℕ) : Type 0 where
+pub record IsRowText (file : SourceFile) (content : List ℕ) (b : Brief) (first last : ℕ) : Type 0 where
   pub read : row_or_fault file content ≡ Ok (read_as file content)
+  pub span : HasSpan (Some (read_as file content)) first last
   pub brief : b ≢ no_brief → IsBriefOf b file (read_as file content) first
 
 abbrev pub ShowsValued : Option Valued → Row → Type 0

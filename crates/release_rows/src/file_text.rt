@@ -2,6 +2,7 @@
 
 ghost use Rattle.std.specs.Prelude.{◌≡◌, ◌<◌, ◌≤◌, ◌^◌, [], filter, length, map, Ok, IfOk, OnOk};
 ghost use Rattle.std.specs.List.{All, insert, remove};
+ghost use Rattle.std.specs.Option.{IfSome};
 ghost use Rattle.part_list.specs.Parts.{now_in, next_in};
 ghost use Rattle.source_rows.specs.Faults.{row_or_fault};
 ghost use Rattle.release_rows.specs.Back.{LeadsOn};
@@ -103,6 +104,16 @@ impl FileText {
             return Ok(text);
         }
         joined(alloc, self.file, self.text.as_slice(), self.items.entries())
+    }
+
+    /// The bytes of the file now, if they are kept as one text: the file was not edited. `None` of another.
+    pub fn whole_text(&self) -> Option<&[u8]>
+        ensures { IfSome result (λ bytes. bytes.now ≡ bytes_of self.now.now) }
+    {
+        if self.whole {
+            return Some(self.text.as_slice());
+        }
+        None
     }
 
     /// The rows of the file now, in order, each with the number of its first line.

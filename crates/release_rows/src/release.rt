@@ -1,6 +1,7 @@
 //! The source files of a release.
 
 ghost use Rattle.std.specs.Prelude.{◌≡◌, ◌≢◌, [], filter, Ok, IfOk, OnOk};
+ghost use Rattle.std.specs.Option.{IfSome};
 ghost use Rattle.ucd_points.specs.declared.files.SourceFile.{SourceFile as FileValue};
 ghost use Rattle.release_rows.specs.Cuts.{Ascends};
 ghost use Rattle.release_rows.specs.FileItems.{bytes_of, rows_in};
@@ -109,6 +110,13 @@ impl Release {
         ensures { IfOk result (λ text. text ≡ bytes_of (items_now self.now file)) }
     {
         items_at(&self.files, file).text(alloc)
+    }
+
+    /// The bytes of a file now, without a copy, if they are kept as one text: the file was not edited. `None` of another.
+    pub fn whole_text(&self, file: SourceFile) -> Option<&[u8]>
+        ensures { IfSome result (λ bytes. bytes.now ≡ bytes_of (items_now self.now file)) }
+    {
+        items_at(&self.files, file).whole_text()
     }
 
     /// The rows of a file now, in the order of the file, each with the number of its first line.

@@ -2,6 +2,8 @@
 
 ghost use Rattle.std.specs.Prelude.{◌≡◌, Some, IfOk, IsTrue};
 ghost use Rattle.std.specs.Option.{IfSome};
+ghost use Rattle.ucd_points.specs.Bounds.{within};
+ghost use Rattle.source_rows.specs.Keys.{row_span};
 ghost use Rattle.source_rows.specs.RowRefs.{row_in};
 ghost use Rattle.release_rows.specs.Given.{ShowsGiven};
 ghost use Rattle.release_rows.specs.StoredItems.{HasRow, ShowsMissing, ShowsValue, ShowsValued, read_as};
@@ -25,6 +27,8 @@ pub struct RowText<'a> {
     brief: Brief,
     /// The first code point.
     first: u32,
+    /// The last code point.
+    last: u32,
     content: &'a [u8],
 }
 
@@ -36,7 +40,7 @@ impl<'a> Model for RowText<'a> {
 
     ghost view = { λ t. read_as t.file t.content.now };
 
-    ghost invariant = { λ t. IsRowText t.file t.content.now t.brief t.first };
+    ghost invariant = { λ t. IsRowText t.file t.content.now t.brief t.first t.last };
 }
 
 impl<'a> RowText<'a> {
@@ -54,8 +58,16 @@ impl<'a> RowText<'a> {
             file,
             brief,
             first: entry.code,
+            last: entry.last,
             content,
         }
+    }
+
+    /// Whether a code point is one from the first to the last one of the row, which is not read for it. For a row of names both are 0.
+    pub fn covers(&self, point: Point) -> bool
+        ensures { result ≡ within point (row_span self.now) }
+    {
+        self.first <= point.number() && point.number() <= self.last
     }
 
     /// Whether another row stands in the same bytes of the same file: then it is the same row. Neither is read.

@@ -1,7 +1,8 @@
 //! Lines of a file, put with where they stand.
 
-ghost use Rattle.std.specs.Prelude.{◌≡◌, ◌++◌, map, Some, IfOk, OnOk};
+ghost use Rattle.std.specs.Prelude.{◌≡◌, ◌+◌, ◌++◌, slice_get, None, Some, OnOk};
 ghost use Rattle.std.specs.List.{flat_map};
+ghost use Rattle.std.specs.Option.{MatchOption};
 ghost use Rattle.ucd_points.specs.Lines.{contents};
 ghost use Rattle.record_lines.specs.FileLines.{line_text, numbered_line, place_lines};
 
@@ -22,24 +23,10 @@ pub fn put_places(
 ) -> Result<(), Memory>
     ensures { OnOk result (text.new ≡ text.old ++ flat_map (place_lines file (contents bytes.now)) places.now) }
 {
-    let lines = lines_of(alloc, bytes)?;
     'places: for place in places {
-        put_place(alloc, file, lines.as_slice(), *place, text)?;
+        put_place(alloc, file, bytes, *place, text)?;
     }
     Ok(())
-}
-
-/// The contents of the lines of a file.
-///
-/// - `Memory`: memory ran out.
-fn lines_of(alloc: Global, bytes: &[u8]) -> Result<Vec<&[u8]>, Memory>
-    ensures { IfOk result (λ lines. map (λ line. line.now) lines.items ≡ contents bytes.now) }
-{
-    let mut lines = Vec::new(alloc);
-    'items: for item in items(bytes) {
-        lines.push(item.content)?;
-    }
-    Ok(lines)
 }
 
 /// Puts the line of a row, or the two lines of a range.
@@ -48,18 +35,37 @@ fn lines_of(alloc: Global, bytes: &[u8]) -> Result<Vec<&[u8]>, Memory>
 fn put_place(
     alloc: Global,
     file: SourceFile,
-    lines: &[&[u8]],
+    bytes: &[u8],
     place: RowPlace,
     text: &mut Text,
 ) -> Result<(), Memory>
-    ensures { OnOk result (text.new ≡ text.old ++ place_lines file (map (λ line. line.now) lines.now) place) }
+    ensures { OnOk result (text.new ≡ text.old ++ place_lines file (contents bytes.now) place) }
 {
     let number = place.line as usize;
-    put_line(alloc, file, lines, number, text)?;
-    if place.range && number < lines.len() {
-        put_line(alloc, file, lines, number + 1, text)?;
+    put_line(alloc, file, bytes, number, text)?;
+    if place.range {
+        return put_next(alloc, file, bytes, number, text);
     }
     Ok(())
+}
+
+/// Puts the line behind the one with this number, if there is one.
+///
+/// - `Memory`: memory ran out. A part of it may stand at the end of the text then.
+fn put_next(
+    alloc: Global,
+    file: SourceFile,
+    bytes: &[u8],
+    number: usize,
+    text: &mut Text,
+) -> Result<(), Memory>
+    ensures { OnOk result (text.new ≡ text.old ++ numbered_line file (contents bytes.now) (number + 1)) }
+{
+    // a file has no more lines than bytes
+    if number >= bytes.len() {
+        return Ok(());
+    }
+    put_line(alloc, file, bytes, number + 1, text)
 }
 
 /// Puts the line with this number, if there is one.
@@ -68,16 +74,31 @@ fn put_place(
 fn put_line(
     alloc: Global,
     file: SourceFile,
-    lines: &[&[u8]],
+    bytes: &[u8],
     number: usize,
     text: &mut Text,
 ) -> Result<(), Memory>
-    ensures { OnOk result (text.new ≡ text.old ++ numbered_line file (map (λ line. line.now) lines.now) number) }
+    ensures { OnOk result (text.new ≡ text.old ++ numbered_line file (contents bytes.now) number) }
 {
-    match lines.get(number.saturating_sub(1)) {
+    match line_at(bytes, number.saturating_sub(1)) {
         Some(content) => put_content(alloc, file, number, content, text),
         None => Ok(()),
     }
+}
+
+/// The content of the line at a place, counted from 0; `None` if there is no such line. It passes over those before it.
+fn line_at(bytes: &[u8], place: usize) -> Option<&[u8]>
+    ensures { MatchOption result (slice_get (contents bytes.now) place ≡ None) (λ content. slice_get (contents bytes.now) place ≡ Some content.now) }
+{
+    let mut left = items(bytes);
+    let mut before = place;
+    'lines: while let Some(item) = left.next() {
+        if before == 0 {
+            return Some(item.content);
+        }
+        before -= 1;
+    }
+    None
 }
 
 /// Puts a content with where it stands.

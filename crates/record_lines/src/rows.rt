@@ -18,7 +18,7 @@ use ucd_model::{Memory, Point, SourceFile, Span, Text};
 /// folder of a release, ` line `, the number of the line, `: `, and the line as it stands there. A range has two lines. Missing
 /// rows are among them; rows of names are not. UAX #44, section 4.2.
 ///
-/// Each call goes once over the rows of the nine files, and once more over the lines of each file that has such a row.
+/// Each call passes once over the rows of the nine files, of which it reads those of the code point alone, and over the lines before them.
 ///
 /// - `Memory`: memory ran out. A part of the rows may stand at the end of the text then.
 pub fn put_rows(
@@ -51,6 +51,9 @@ fn put_file(
     if places.is_empty() {
         return Ok(());
     }
+    if let Some(bytes) = release.whole_text(file) {
+        return put_places(alloc, file, bytes, places.as_slice(), text);
+    }
     let bytes = release.text(alloc, file)?;
     put_places(alloc, file, bytes.as_slice(), places.as_slice(), text)
 }
@@ -80,6 +83,9 @@ fn put_place(
 ) -> Result<(), Memory>
     ensures { OnOk result (places.new.items ≡ places.old.items ++ map place_of (speaking point ((line, row.now) ∷ []))) }
 {
+    if !row.covers(point) {
+        return Ok(());
+    }
     let row = row.row();
     if speaks_of(point, &row) {
         let range = is_range(&row);

@@ -47,7 +47,7 @@ const ASKED: [Asked; 5] = [
 ///
 /// - `Memory`: memory ran out.
 fn is_told(alloc: Global, asked: &Asked) -> Result<bool, Memory> {
-    let mut shelf = shelf_of(alloc, LETTERS)?;
+    let mut shelf = shelf_of(alloc, LETTERS, b"")?;
     ends(
         alloc,
         asked.words,

@@ -6,11 +6,12 @@ use std::test::Fail;
 use ucd_model::Memory;
 use ucdshop_look_core::Status;
 
-/// The words of a run, its UnicodeData.txt, and the line that refuses it.
+/// The words of a run, its UnicodeData.txt and its script, and the line that refuses it.
 #[derive(Clone, Copy)]
 struct Refused {
     words: &'static [&'static [u8]],
     data: &'static [u8],
+    script: &'static [u8],
     line: &'static [u8],
 }
 
@@ -19,26 +20,66 @@ const NO_ROW: &[u8] = b"0041\n";
 
 const NO_MEMBER: &[u8] = b"1000;X;Lo;0;L;1001;;;;N;;;;;\n";
 
-/// The first fault is told, by the line that refuses `derive`.
-const REFUSED: [Refused; 4] = [
+/// The first fault is told, by the line that refuses `derive` and `apply`.
+const REFUSED: [Refused; 10] = [
     Refused {
         words: &[b"ask", b"d", b"[a]"],
         data: NO_ROW,
+        script: b"",
         line: b"refused: d/UnicodeData.txt line 1 G03\n",
     },
     Refused {
         words: &[b"ask", b"d", b"[a-"],
         data: NO_MEMBER,
+        script: b"",
         line: b"refused: d point 1000 V1\n",
     },
     Refused {
         words: &[b"ask", b"q", b"[a]"],
         data: LETTERS,
+        script: b"",
         line: b"refused: q/UnicodeData.txt line 0 G01\n",
     },
     Refused {
         words: &[b"show", b"d", b"0041"],
         data: NO_MEMBER,
+        script: b"",
+        line: b"refused: d point 1000 V1\n",
+    },
+    Refused {
+        words: &[b"check", b"d"],
+        data: NO_MEMBER,
+        script: b"ad\n",
+        line: b"refused: d point 1000 V1\n",
+    },
+    Refused {
+        words: &[b"check", b"d", b"q"],
+        data: LETTERS,
+        script: b"",
+        line: b"refused: q line 0 G01\n",
+    },
+    Refused {
+        words: &[b"check", b"d", b"s", b"q"],
+        data: NO_ROW,
+        script: b"ad\n",
+        line: b"refused: d/UnicodeData.txt line 1 G03\n",
+    },
+    Refused {
+        words: &[b"check", b"d", b"s", b"q"],
+        data: LETTERS,
+        script: b"set [a]\nad\n",
+        line: b"refused: s line 2 E1\n",
+    },
+    Refused {
+        words: &[b"check", b"d", b"s", b"q"],
+        data: LETTERS,
+        script: b"",
+        line: b"refused: q/UnicodeData.txt line 0 G01\n",
+    },
+    Refused {
+        words: &[b"check", b"p", b"s", b"d"],
+        data: NO_MEMBER,
+        script: b"",
         line: b"refused: d point 1000 V1\n",
     },
 ];
@@ -47,7 +88,7 @@ const REFUSED: [Refused; 4] = [
 ///
 /// - `Memory`: memory ran out.
 fn is_refused(alloc: Global, refused: &Refused) -> Result<bool, Memory> {
-    let mut shelf = shelf_of(alloc, refused.data)?;
+    let mut shelf = shelf_of(alloc, refused.data, refused.script)?;
     let expected = (Status::LoadRefused, refused.line);
     ends(alloc, refused.words, &mut shelf, 1000, expected)
 }
@@ -60,13 +101,20 @@ fn each_fault_is_told(rt: HostRuntime) -> Result<(), Fail> {
     Ok(())
 }
 
-/// Whether a run of these words is told that a read failed, counted from 1, by this file.
+/// Whether a run of these words is told that a read failed, counted from 1, by this path.
 ///
 /// - `Memory`: memory ran out.
-fn tells_read(alloc: Global, words: &[&[u8]], nth: u32, name: &[u8]) -> Result<bool, Memory> {
-    let mut shelf = shelf_of(alloc, NO_ROW)?;
+fn tells_read(
+    alloc: Global,
+    words: &[&[u8]],
+    nth: u32,
+    folder: &[u8],
+    name: &[u8],
+) -> Result<bool, Memory> {
+    let mut shelf = shelf_of(alloc, NO_ROW, b"ad\n")?;
     shelf.fail_read(nth)?;
-    let line = joined(alloc, [b"read failed: d/", name, b"\n"])?;
+    let path = joined(alloc, [b"read failed: ", folder, name])?;
+    let line = joined(alloc, [path.as_slice(), b"\n", b""])?;
     let expected = (Status::ReadFault, line.as_slice());
     ends(alloc, words, &mut shelf, 1000, expected)
 }
@@ -78,30 +126,44 @@ fn each_failed_read_is_told(rt: HostRuntime) -> Result<(), Fail> {
     for nth in 1..10 {
         let name = SOURCE_NAMES.get(nth - 1).copied().unwrap_or(b"");
         assert!(rt;
-            tells_read(rt.alloc(), &ask, nth as u32, name)?,
+            tells_read(rt.alloc(), &ask, nth as u32, b"d/", name)?,
             "read {nth}"
         );
     }
+    let check: [&[u8]; 4] = [b"check", b"d", b"s", b"p"];
+    assert!(rt; tells_read(rt.alloc(), &check, 10, b"s", b"")?);
+    assert!(rt; tells_read(rt.alloc(), &check, 19, b"p/", b"PropertyValueAliases.txt")?);
     Ok(())
 }
 
-/// What the run below tells.
-const TOLD: &[u8] = b"# [b-c]\n0062..0063\n# total 2\n";
+/// Words, and what a run of them tells.
+const TOLD: [(&[&[u8]], &[u8]); 2] = [
+    (
+        &[b"ask", b"d", b"[b-c]"],
+        b"# [b-c]\n0062..0063\n# total 2\n",
+    ),
+    (
+        &[b"check", b"d", b"s"],
+        b"ucdshop: 0 groups accepted, 1 commands refused, 0 sets answered, 0 policy breaks\n\
+          1 refused S2 byte 1\n",
+    ),
+];
 
-/// Whether a run into a sink with room for so many bytes tells a beginning of its text.
+/// Whether a run of these words into a sink with room for so many bytes tells a beginning of this text.
 ///
 /// - `Memory`: memory ran out.
-fn tells_in_part(alloc: Global, room: usize) -> Result<bool, Memory> {
-    let mut shelf = shelf_of(alloc, LETTERS)?;
-    let words: [&[u8]; 3] = [b"ask", b"d", b"[b-c]"];
-    let told = TOLD.get(..room).unwrap_or(b"");
-    ends(alloc, &words, &mut shelf, room, (Status::WriteFault, told))
+fn tells_in_part(alloc: Global, words: &[&[u8]], text: &[u8], room: usize) -> Result<bool, Memory> {
+    let mut shelf = shelf_of(alloc, LETTERS, b"set [\n")?;
+    let told = text.get(..room).unwrap_or(b"");
+    ends(alloc, words, &mut shelf, room, (Status::WriteFault, told))
 }
 
 #[test]
 fn a_short_sink_has_a_beginning(rt: HostRuntime) -> Result<(), Fail> {
-    for room in [0, 1, TOLD.len() / 2, TOLD.len() - 1] {
-        assert!(rt; tells_in_part(rt.alloc(), room)?);
+    for (words, text) in &TOLD {
+        for room in [0, 1, text.len() / 2, text.len() - 1] {
+            assert!(rt; tells_in_part(rt.alloc(), words, text, room)?);
+        }
     }
     Ok(())
 }

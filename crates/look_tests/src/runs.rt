@@ -6,8 +6,15 @@ use ucd_model::{Memory, Text, Texts};
 use ucdshop_look_core::{Status, run_look};
 
 /// Letters and marks, as UnicodeData.txt has them but for case mappings.
-pub const LETTERS: &[u8] =
-    b"0041;LATIN CAPITAL LETTER A;Lu;0;L;;;;;N;;;;;\n0061;LATIN SMALL LETTER A;Ll;0;L;;;;;N;;;;;\n0300;COMBINING GRAVE ACCENT;Mn;230;NSM;;;;;N;;;;;\n0301;COMBINING ACUTE ACCENT;Mn;230;NSM;;;;;N;;;;;\n";
+pub const LETTERS: &[u8] = b"0041;LATIN CAPITAL LETTER A;Lu;0;L;;;;;N;;;;;\n\
+      0061;LATIN SMALL LETTER A;Ll;0;L;;;;;N;;;;;\n\
+      0300;COMBINING GRAVE ACCENT;Mn;230;NSM;;;;;N;;;;;\n\
+      0301;COMBINING ACUTE ACCENT;Mn;230;NSM;;;;;N;;;;;\n";
+
+/// The same without a letter, and with another class of a mark.
+const EARLIER: &[u8] = b"0061;LATIN SMALL LETTER A;Ll;0;L;;;;;N;;;;;\n\
+      0300;COMBINING GRAVE ACCENT;Mn;220;NSM;;;;;N;;;;;\n\
+      0301;COMBINING ACUTE ACCENT;Mn;230;NSM;;;;;N;;;;;\n";
 
 /// The name of a value that questions ask for.
 const VALUES: &[u8] = b"gc ; Ll ; Lowercase_Letter\ngc ; Lu ; Uppercase_Letter\n";
@@ -77,13 +84,24 @@ fn place_in(
     shelf.place(path.as_slice(), bytes)
 }
 
-/// A shelf with the release of this UnicodeData.txt in `d`.
+/// A shelf with the release of this UnicodeData.txt in `d`, an earlier one in `p`, and this script in `s`.
 ///
 /// - `Memory`: memory ran out.
-pub fn shelf_of(alloc: Global, data: &[u8]) -> Result<Box<MemoryShelf>, Memory> {
+pub fn shelf_of(alloc: Global, data: &[u8], script: &[u8]) -> Result<Box<MemoryShelf>, Memory> {
     let mut shelf = Box::new(alloc, MemoryShelf::new(alloc))?;
-    place_release(alloc, &mut shelf, b"d", data)?;
+    place_all(alloc, &mut shelf, data, script)?;
     Ok(shelf)
+}
+
+fn place_all(
+    alloc: Global,
+    shelf: &mut MemoryShelf,
+    data: &[u8],
+    script: &[u8],
+) -> Result<(), Memory> {
+    place_release(alloc, shelf, b"p", EARLIER)?;
+    place_release(alloc, shelf, b"d", data)?;
+    shelf.place(b"s", script)
 }
 
 /// The words of a run.

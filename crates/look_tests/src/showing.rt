@@ -23,7 +23,7 @@ const GRAVES: [&[u8]; 3] = [b"00300", b"U+0300", b"\xCC\x80"];
 ///
 /// - `Memory`: memory ran out.
 fn is_told(alloc: Global, word: &[u8], text: &[u8]) -> Result<bool, Memory> {
-    let mut shelf = shelf_of(alloc, LETTERS)?;
+    let mut shelf = shelf_of(alloc, LETTERS, b"")?;
     let words: [&[u8]; 3] = [b"show", b"d", word];
     ends(alloc, &words, &mut shelf, 2000, (Status::Clean, text))
 }

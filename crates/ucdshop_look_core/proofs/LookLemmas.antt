@@ -1,5 +1,5 @@
 -- What is judged is what was seen, and what is then to be told.
-use Rattle.std.proofs.Common.{◌≡◌, ◌≤◌, ℕ, Bool, List, [], length, map, Result, Ok, Err, sym, ap, subst, ◌∙◌, arith}
+use Rattle.std.proofs.Common.{◌≡◌, ◌≤◌, ℕ, Bool, List, length, map, Result, Ok, Err, sym, ap, subst, ◌∙◌, arith}
 use Rattle.std.proofs.lemmas.List.{length-map}
 use Rattle.std.specs.Prelude.{IfOk}
 use Rattle.run_endings.specs.Endings.{Contents, Ending, NewFile, Refuses, Seen, Sees}
@@ -12,9 +12,11 @@ use Rattle.run_endings.specs.declared.stop.Stop.{Stop}
 use Rattle.run_endings.specs.declared.stop.Stop.TheVariants.{Refused, ReadFailed, Memory}
 use Rattle.run_inputs.specs.CutProofs.{cut_folder}
 use Rattle.run_inputs.specs.Judging.{ToldAs}
+use Rattle.ucdshop_core.specs.CutProofs.{cut_verdict}
 use Rattle.ucdshop_look_core.proofs.NothingWritten.{ends_without_files}
 use Rattle.ucdshop_look_core.specs.Answers.{ask_ending}
-use Rattle.ucdshop_look_core.specs.Jobs.{Job, Ask, Show, needed}
+use Rattle.ucdshop_look_core.specs.Checks.{check_ending}
+use Rattle.ucdshop_look_core.specs.Jobs.{Job, Ask, Check, Show, needed}
 use Rattle.ucdshop_look_core.specs.Run.{expected_of, finished}
 use Rattle.ucdshop_look_core.specs.Shown.{show_ending}
 
@@ -22,6 +24,7 @@ use Rattle.ucdshop_look_core.specs.Shown.{show_ending}
 cut_seen : (job : Job) (seen : Seen) → expected_of job (map cut seen) ≡ expected_of job seen
 cut_seen (Ask folder questions) seen = ap (finished (ask_ending questions)) (cut_folder folder seen 0)
 cut_seen (Show folder points) seen = ap (finished (show_ending points)) (cut_folder folder seen 0)
+cut_seen (Check run) seen = ap (finished check_ending) (cut_verdict run seen)
 
 module _ (tells : Bool) (holds : Contents) (job : Job) (items : Seen) (read : IsRead tells holds (needed job) items) where
   same : expected_of job items ≡ expected_of job read.0

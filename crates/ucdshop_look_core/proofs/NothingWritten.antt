@@ -10,8 +10,10 @@ use Rattle.run_endings.specs.declared.status.Status.{Status}
 use Rattle.run_endings.specs.declared.status.Status.TheVariants.{Clean, Done, BadWords, LoadRefused, ReadFault, WriteFault, Memory}
 use Rattle.run_inputs.specs.Held.{source_held}
 use Rattle.run_inputs.specs.Refusals.{folder_verdict}
+use Rattle.ucdshop_core.specs.Run.{inputs_verdict}
 use Rattle.ucdshop_look_core.specs.Answers.{ask_ending}
-use Rattle.ucdshop_look_core.specs.Jobs.{Job, Ask, Show, form}
+use Rattle.ucdshop_look_core.specs.Checks.{check_ending}
+use Rattle.ucdshop_look_core.specs.Jobs.{Job, Ask, Check, Show, form}
 use Rattle.ucdshop_look_core.specs.Run.{expected_of, finished, ucdshop_look}
 use Rattle.ucdshop_look_core.specs.Shown.{show_ending}
 
@@ -22,6 +24,7 @@ ended_without ending none (Err line) end e = absurd (refuses_finishes (Refuses l
 pub ends_without_files : (job : Job) (seen : Seen) (ending : Ending) → expected_of job seen ≡ Finishes ending → ending.files ≡ []
 ends_without_files (Ask folder questions) seen ending e = ended_without (ask_ending questions) (λ files. refl) (folder_verdict folder (source_held seen 0)) ending e
 ends_without_files (Show folder points) seen ending e = ended_without (show_ending points) (λ files. refl) (folder_verdict folder (source_held seen 0)) ending e
+ends_without_files (Check run) seen ending e = ended_without check_ending (λ inputs. refl) (inputs_verdict run seen) ending e
 
 pub writes_its_paths : WritesItsPaths ucdshop_look
 writes_its_paths job seen ending e = ap (λ (files : List NewFile). map (λ (file : NewFile). file.path) files) (ends_without_files job seen ending e)

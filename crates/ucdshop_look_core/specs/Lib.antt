@@ -3,6 +3,8 @@ pub mod Points
 pub mod Jobs
 pub mod Answers
 pub mod Shown
+pub mod Checks
 pub mod Run
 pub mod Commands
+pub mod CheckLaws
 pub mod LookExamples

@@ -2,12 +2,15 @@
 
 ghost use Rattle.std.specs.Prelude.{◌≡◌};
 ghost use Rattle.std.specs.List.{list_all};
+ghost use Rattle.std.specs.Option.{option_map};
+ghost use Rattle.ucdshop_core.specs.JobWords.{job_of, path_at};
 ghost use Rattle.ucdshop_look_core.specs.Commands.{AsksFor};
-ghost use Rattle.ucdshop_look_core.specs.Jobs.{are_some, ask_form, form, is_one_line, show_form};
+ghost use Rattle.ucdshop_look_core.specs.Jobs.{are_some, ask_form, check_form, check_job, form, is_one_line, show_form};
 ghost use Rattle.ucdshop_look_core.specs.Points.{names_point};
 
 use crate::points::named_point;
 use ucd_model::Text;
+use ucdshop_core::{Job, Place};
 
 /// The greatest number of questions of `ask`, and of code points of `show`.
 const ASKED_LIMIT: usize = 64;
@@ -27,6 +30,8 @@ pub enum Command<'a> {
         /// From 1 to 64 words, each of which names a code point.
         points: &'a [Text],
     },
+    /// Tell how this run of the first program would end, which writes nothing.
+    Check(Job<'a>),
 }
 
 /// What the words ask for, and `None` exactly if they have no listed form.
@@ -40,6 +45,8 @@ pub fn command_of(words: &[Text]) -> Option<Command<'_>>
         ask_of(arguments)
     } else if word.as_slice() == b"show".as_slice() {
         show_of(arguments)
+    } else if word.as_slice() == b"check".as_slice() {
+        check_of(arguments)
     } else {
         None
     }
@@ -76,6 +83,40 @@ fn show_of(arguments: &[Text]) -> Option<Command<'_>>
         })
     } else {
         None
+    }
+}
+
+/// `check DATA [SCRIPT [PREVIOUS]]`, of the words behind `check`.
+fn check_of(arguments: &[Text]) -> Option<Command<'_>>
+    ensures { AsksFor result (check_form arguments.now) }
+{
+    match arguments {
+        [folder] => Some(Command::Check(check_job(folder.as_slice(), None, None))),
+        [folder, script] => Some(Command::Check(check_job(
+            folder.as_slice(),
+            Some(Place::Named(script.as_slice())),
+            None,
+        ))),
+        [folder, script, previous] => Some(Command::Check(check_job(
+            folder.as_slice(),
+            Some(Place::Named(script.as_slice())),
+            Some(previous.as_slice()),
+        ))),
+        _ => None,
+    }
+}
+
+/// The run that `check` stands for, which writes nothing.
+fn check_job<'a>(folder: &'a [u8], script: Option<Place<'a>>, previous: Option<&'a [u8]>) -> Job<'a>
+    ensures { job_of result ≡ check_job folder.now (option_map path_at script.entry) (option_map (λ folder. folder.now) previous.entry) }
+{
+    Job {
+        made: None,
+        folder,
+        script,
+        previous,
+        output: b"",
+        parts: &[],
     }
 }
 

@@ -2,11 +2,14 @@
 #![tactic(auto)]
 
 mod answering;
+mod checking;
 mod command;
+pub mod laws;
 mod planning;
 mod points;
 mod printed;
 mod program;
+mod refusals;
 mod showing;
 
 pub use program::run_look;

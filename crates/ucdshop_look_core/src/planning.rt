@@ -7,7 +7,10 @@ ghost use Rattle.run_endings.specs.Promises.{shelf_seen};
 ghost use Rattle.run_endings.specs.Reading.{IsRead};
 ghost use Rattle.run_inputs.specs.Held.{source_held};
 ghost use Rattle.run_inputs.specs.Refusals.{folder_verdict};
+ghost use Rattle.ucdshop_core.specs.JobWords.{job_of as run_of};
+ghost use Rattle.ucdshop_core.specs.Run.{inputs_verdict};
 ghost use Rattle.ucdshop_look_core.specs.Answers.{ask_ending};
+ghost use Rattle.ucdshop_look_core.specs.Checks.{check_ending};
 ghost use Rattle.ucdshop_look_core.specs.Commands.{job_of};
 ghost use Rattle.ucdshop_look_core.specs.Jobs.{needed};
 ghost use Rattle.ucdshop_look_core.specs.Points.{points_in};
@@ -15,6 +18,7 @@ ghost use Rattle.ucdshop_look_core.specs.Run.{expected_of, finished};
 ghost use Rattle.ucdshop_look_core.specs.Shown.{show_ending};
 
 use crate::answering::answers_plan;
+use crate::checking::check_plan;
 use crate::command::Command;
 use crate::showing::shown_plan;
 use run_endings::{Plan, Stop, gather};
@@ -23,10 +27,12 @@ use shelf_io::Shelf;
 use std::alloc::Global;
 use std::sync::ledger::Ledger;
 use ucd_model::{Memory, Steps, Text, Texts};
+use ucdshop_core::{Job, judge_inputs, needed_paths};
 
 /// Does all of a command that comes before its text is told: all files are read before any is judged.
 ///
-/// - `Refused(line)`: a file is absent, too long, or breaks a rule, or a code point breaks a rule of a valid release.
+/// - `Refused(line)`: a file is absent, too long, or breaks a rule, a code point breaks a rule of a valid release, or the
+///   script is refused.
 /// - `ReadFailed(line)`: a file could not be read.
 /// - `Memory`: memory ran out.
 pub fn prepare<S: Shelf, L: Ledger>(
@@ -70,6 +76,7 @@ fn command_paths(alloc: Global, command: Command<'_>) -> Result<Texts, Memory>
     match command {
         Command::Ask { folder, .. } => source_paths(alloc, folder),
         Command::Show { folder, .. } => source_paths(alloc, folder),
+        Command::Check(job) => needed_paths(alloc, job),
     }
 }
 
@@ -88,6 +95,7 @@ fn held_plan<L: Ledger>(
     match command {
         Command::Ask { folder, questions } => plan_ask(alloc, folder, questions, held, steps),
         Command::Show { folder, points } => plan_show(alloc, folder, points, held, steps),
+        Command::Check(job) => plan_check(alloc, job, held, steps),
     }
 }
 
@@ -119,6 +127,21 @@ fn plan_show<L: Ledger>(
 {
     match open_folder(alloc, folder, held, 0, steps) {
         Ok(bench) => Ok(shown_plan(alloc, &bench, points)?),
+        Err(stop) => Err(stop),
+    }
+}
+
+/// The same of `check`.
+fn plan_check<L: Ledger>(
+    alloc: Global,
+    job: Job<'_>,
+    held: &mut Vec<Option<Text>>,
+    steps: &mut Steps<L>,
+) -> Result<Plan, Stop>
+    ensures { PlansAs result (finished check_ending (inputs_verdict (run_of job.entry) held.old.items)) }
+{
+    match judge_inputs(alloc, job, held, steps) {
+        Ok(inputs) => Ok(check_plan(alloc, inputs, steps)?),
         Err(stop) => Err(stop),
     }
 }

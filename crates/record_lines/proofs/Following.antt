@@ -1,11 +1,7 @@
 -- Records that follow a bench: what is written at some points, and what is left where two functions agree.
-use Rattle.std.proofs.Common.{◌≡◌, ◌≢◌, ℕ, ◌<◌, Bool, true, false, not, ◌&&◌, List, [], ◌∷◌, map, filter, ◌==◌, if◌then◌else◌, refl, sym, ap, subst, ◌∙◌, arith, inl, inr}
-use Rattle.std.specs.List.{range_with_len}
+use Rattle.std.proofs.Common.{◌≡◌, ◌≢◌, ℕ, ◌<◌, Bool, true, false, not, List, [], ◌∷◌, map, if◌then◌else◌, refl, sym, ap, subst, ◌∙◌, arith, inl, inr}
 use Rattle.std.proofs.lemmas.Bool.{cases_eq}
 use Rattle.std.proofs.lemmas.Bool.Decides.{nat_tests}
-use Rattle.std.proofs.lemmas.List.Folds.{list_any_at}
-use Rattle.std.proofs.lemmas.List.FromFn.{get_or-range_with_len, length-range_with_len}
-use Rattle.std.proofs.lemmas.Map.Views.{any-filter_same}
 use Rattle.range_table.specs.Values.{with_span, point_count-is}
 use Rattle.record_list.specs.Records.{written}
 use Rattle.ucd_points.specs.Limits.{point_count}
@@ -14,6 +10,7 @@ use Rattle.ucd_model.specs.Sameness.{is_in, same_record}
 use Rattle.ucd_model.specs.SamenessProofs.{records_are_told}
 use Rattle.ucd_model.specs.declared.records.Record.{Record as KeptRecord}
 use Rattle.record_lines.specs.Earlier.{updated, FollowingCatchesUp}
+use Rattle.record_lines.specs.KeptProofs.{in_kept}
 
 -- ---- what is written
 
@@ -53,23 +50,6 @@ written_is (p ∷ points) (r ∷ records) S R c is =
 
 -- ---- what is left
 
--- each number below n is in the list of them
-in_range : (n c : ℕ) → c < n → is_in (range_with_len 0 n) c ≡ true
-in_range n c lt =
-    list_any_at (λ x. x == c) (range_with_len 0 n) c c (subst (λ m. c < m) (sym (length-range_with_len 0 n)) lt)
-    (let at = get_or-range_with_len 0 n c c lt in grind (arith, nat_tests))
-
-found_same : (p : ℕ → Bool) (c k : ℕ) → (k == c) ≡ true → p k ≡ p c
-found_same p c k h = let same : k ≡ c = grind (arith, nat_tests) in ap p same
-
-in_filter : (p : ℕ → Bool) (n c : ℕ) → c < n → is_in (filter p (range_with_len 0 n)) c ≡ p c
-in_filter p n c lt =
-    any-filter_same (λ x. x == c) p (p c) (λ k h. found_same p c k h) (range_with_len 0 n) ∙ ap (λ b. p c && b) (in_range n c lt) ∙ and_true (p c)
-  where
-    and_true : (b : Bool) → (b && true) ≡ b
-    and_true true = refl
-    and_true false = refl
-
 caught : (e r s : Record) (b : Bool) → same_record r s ≡ b → e ≡ r → (if not b then s else e) ≡ s
 caught e r s true same is = is ∙ (records_are_told r s).0 same
 caught e r s false same is = refl
@@ -78,5 +58,5 @@ pub catches_up : FollowingCatchesUp
 catches_up E R S points same is c lt =
     let below : c < point_count = subst (λ n. c < n) (sym point_count-is) lt in
     ap (λ (xs : List ℕ). if is_in xs c then S c else E c) is
-    ∙ ap (λ b. if b then S c else E c) (in_filter (λ k. not (same_record (R k) (S k))) point_count c below)
+    ∙ ap (λ b. if b then S c else E c) (in_kept (λ k. not (same_record (R k) (S k))) point_count c below)
     ∙ caught (E c) (R c) (S c) (same_record (R c) (S c)) refl (same c lt)

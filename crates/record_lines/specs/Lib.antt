@@ -3,4 +3,5 @@ pub mod RecordTexts
 pub mod FileLines
 pub mod RowLines
 pub mod Earlier
+pub mod KeptProofs
 pub mod Examples

@@ -77,6 +77,24 @@ const REFUSED: [Refused; 10] = [
         line: b"refused: q/UnicodeData.txt line 0 G01\n",
     },
     Refused {
+        words: &[b"changes", b"d", b"s"],
+        data: NO_ROW,
+        script: b"ad\n",
+        line: b"refused: d/UnicodeData.txt line 1 G03\n",
+    },
+    Refused {
+        words: &[b"changes", b"d", b"s"],
+        data: LETTERS,
+        script: b"set [a]\nset\n",
+        line: b"refused: s line 2 E1\n",
+    },
+    Refused {
+        words: &[b"changes", b"d", b"r"],
+        data: LETTERS,
+        script: b"",
+        line: b"refused: r line 0 G01\n",
+    },
+    Refused {
         words: &[b"check", b"p", b"s", b"d"],
         data: NO_MEMBER,
         script: b"",
@@ -133,36 +151,54 @@ fn each_failed_read_is_told(rt: HostRuntime) -> Result<(), Fail> {
     let check: [&[u8]; 4] = [b"check", b"d", b"s", b"p"];
     assert!(rt; tells_read(rt.alloc(), &check, 10, b"s", b"")?);
     assert!(rt; tells_read(rt.alloc(), &check, 19, b"p/", b"PropertyValueAliases.txt")?);
+    let changes: [&[u8]; 3] = [b"changes", b"d", b"s"];
+    assert!(rt; tells_read(rt.alloc(), &changes, 10, b"s", b"")?);
     Ok(())
 }
 
-/// Words, and what a run of them tells.
-const TOLD: [(&[&[u8]], &[u8]); 2] = [
-    (
-        &[b"ask", b"d", b"[b-c]"],
-        b"# [b-c]\n0062..0063\n# total 2\n",
-    ),
-    (
-        &[b"check", b"d", b"s"],
-        b"ucdshop: 0 groups accepted, 1 commands refused, 0 sets answered, 0 policy breaks\n\
+/// The words of a run, its script, and what it tells.
+#[derive(Clone, Copy)]
+struct Told {
+    words: &'static [&'static [u8]],
+    script: &'static [u8],
+    text: &'static [u8],
+}
+
+const TOLD: [Told; 3] = [
+    Told {
+        words: &[b"ask", b"d", b"[b-c]"],
+        script: b"",
+        text: b"# [b-c]\n0062..0063\n# total 2\n",
+    },
+    Told {
+        words: &[b"check", b"d", b"s"],
+        script: b"set [\n",
+        text: b"ucdshop: 0 groups accepted, 1 commands refused, 0 sets answered, 0 policy breaks\n\
           1 refused S2 byte 1\n",
-    ),
+    },
+    Told {
+        words: &[b"changes", b"d", b"s"],
+        script: b"withdraw UnicodeData.txt 0099\nchange UnicodeData.txt 0061;A;Lo;0;L;;;;;N;;;;;\n",
+        text: b"1 refused K2 operation 1\n# line 2\n0061\n# total 1\n0061 ; Lowercase ; Y -> N\n0061 ; Cased ; Y -> N\n0061 ; General_Category ; Ll -> Lo\n",
+    },
 ];
 
 /// Whether a run of these words into a sink with room for so many bytes tells a beginning of this text.
 ///
 /// - `Memory`: memory ran out.
-fn tells_in_part(alloc: Global, words: &[&[u8]], text: &[u8], room: usize) -> Result<bool, Memory> {
-    let mut shelf = shelf_of(alloc, LETTERS, b"set [\n")?;
-    let told = text.get(..room).unwrap_or(b"");
-    ends(alloc, words, &mut shelf, room, (Status::WriteFault, told))
+fn tells_in_part(alloc: Global, whole: &Told, room: usize) -> Result<bool, Memory> {
+    let mut shelf = shelf_of(alloc, LETTERS, whole.script)?;
+    let told = whole.text.get(..room).unwrap_or(b"");
+    let expected = (Status::WriteFault, told);
+    ends(alloc, whole.words, &mut shelf, room, expected)
 }
 
 #[test]
 fn a_short_sink_has_a_beginning(rt: HostRuntime) -> Result<(), Fail> {
-    for (words, text) in &TOLD {
-        for room in [0, 1, text.len() / 2, text.len() - 1] {
-            assert!(rt; tells_in_part(rt.alloc(), words, text, room)?);
+    for told in &TOLD {
+        let len = told.text.len();
+        for room in [0, 1, len / 2, len - 1] {
+            assert!(rt; tells_in_part(rt.alloc(), told, room)?);
         }
     }
     Ok(())

@@ -8,13 +8,15 @@ use ucdshop_look_core::Status;
 
 /// Words that have no listed form: among them a question of two lines, words that name no code point, and one question more than
 /// there may be.
-const BAD_WORDS: [&[&[u8]]; 16] = [
+const BAD_WORDS: [&[&[u8]]; 18] = [
     &[],
     &[b"ask"],
     &[b"ask", b"d"],
     &[b"Ask", b"d", b"[a]"],
     &[b"check"],
     &[b"check", b"d", b"s", b"p", b"q"],
+    &[b"changes", b"d"],
+    &[b"changes", b"d", b"s", b"p"],
     &[b"derive", b"d", b"o"],
     &[b"ask", b"d", b"[a]", b"[\n]"],
     &[b"show", b"d"],
@@ -40,7 +42,7 @@ fn are_bad(alloc: Global, words: &[&[u8]]) -> Result<bool, Memory> {
     let mut shelf = shelf_of(alloc, LETTERS, b"")?;
     shelf.fail_read(1)?;
     let usage =
-        b"usage: ucdshop_look ask DATA SET .. | show DATA POINT .. | check DATA [SCRIPT [PREVIOUS]]\n".as_slice();
+        b"usage: ucdshop_look ask DATA SET .. | show DATA POINT .. | check DATA [SCRIPT [PREVIOUS]] | changes DATA SCRIPT\n".as_slice();
     ends(alloc, words, &mut shelf, 1000, (Status::BadWords, usage))
 }
 

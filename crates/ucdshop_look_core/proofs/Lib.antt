@@ -1,3 +1,7 @@
 pub mod LookLemmas
 pub mod NothingWritten
 pub mod CheckEnds
+pub mod RangeLemmas
+pub mod PointSpanLemmas
+pub mod OrderLemmas
+pub mod ChangeLemmas

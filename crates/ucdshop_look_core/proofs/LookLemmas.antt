@@ -15,8 +15,9 @@ use Rattle.run_inputs.specs.Judging.{ToldAs}
 use Rattle.ucdshop_core.specs.CutProofs.{cut_verdict}
 use Rattle.ucdshop_look_core.proofs.NothingWritten.{ends_without_files}
 use Rattle.ucdshop_look_core.specs.Answers.{ask_ending}
+use Rattle.ucdshop_look_core.specs.Changes.{changes_ending}
 use Rattle.ucdshop_look_core.specs.Checks.{check_ending}
-use Rattle.ucdshop_look_core.specs.Jobs.{Job, Ask, Check, Show, needed}
+use Rattle.ucdshop_look_core.specs.Jobs.{Job, Ask, Changes, Check, Show, needed}
 use Rattle.ucdshop_look_core.specs.Run.{expected_of, finished}
 use Rattle.ucdshop_look_core.specs.Shown.{show_ending}
 
@@ -25,6 +26,7 @@ cut_seen : (job : Job) (seen : Seen) → expected_of job (map cut seen) ≡ expe
 cut_seen (Ask folder questions) seen = ap (finished (ask_ending questions)) (cut_folder folder seen 0)
 cut_seen (Show folder points) seen = ap (finished (show_ending points)) (cut_folder folder seen 0)
 cut_seen (Check run) seen = ap (finished check_ending) (cut_verdict run seen)
+cut_seen (Changes run) seen = ap (finished changes_ending) (cut_verdict run seen)
 
 module _ (tells : Bool) (holds : Contents) (job : Job) (items : Seen) (read : IsRead tells holds (needed job) items) where
   same : expected_of job items ≡ expected_of job read.0

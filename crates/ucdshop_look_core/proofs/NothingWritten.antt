@@ -12,8 +12,9 @@ use Rattle.run_inputs.specs.Held.{source_held}
 use Rattle.run_inputs.specs.Refusals.{folder_verdict}
 use Rattle.ucdshop_core.specs.Run.{inputs_verdict}
 use Rattle.ucdshop_look_core.specs.Answers.{ask_ending}
+use Rattle.ucdshop_look_core.specs.Changes.{changes_ending}
 use Rattle.ucdshop_look_core.specs.Checks.{check_ending}
-use Rattle.ucdshop_look_core.specs.Jobs.{Job, Ask, Check, Show, form}
+use Rattle.ucdshop_look_core.specs.Jobs.{Job, Ask, Changes, Check, Show, form}
 use Rattle.ucdshop_look_core.specs.Run.{expected_of, finished, ucdshop_look}
 use Rattle.ucdshop_look_core.specs.Shown.{show_ending}
 
@@ -25,6 +26,7 @@ pub ends_without_files : (job : Job) (seen : Seen) (ending : Ending) → expecte
 ends_without_files (Ask folder questions) seen ending e = ended_without (ask_ending questions) (λ files. refl) (folder_verdict folder (source_held seen 0)) ending e
 ends_without_files (Show folder points) seen ending e = ended_without (show_ending points) (λ files. refl) (folder_verdict folder (source_held seen 0)) ending e
 ends_without_files (Check run) seen ending e = ended_without check_ending (λ inputs. refl) (inputs_verdict run seen) ending e
+ends_without_files (Changes run) seen ending e = ended_without changes_ending (λ inputs. refl) (inputs_verdict run seen) ending e
 
 pub writes_its_paths : WritesItsPaths ucdshop_look
 writes_its_paths job seen ending e = ap (λ (files : List NewFile). map (λ (file : NewFile). file.path) files) (ends_without_files job seen ending e)

@@ -4,7 +4,10 @@ pub mod Jobs
 pub mod Answers
 pub mod Shown
 pub mod Checks
+pub mod PointSpans
+pub mod Changes
 pub mod Run
 pub mod Commands
 pub mod CheckLaws
+pub mod ChangeLaws
 pub mod LookExamples

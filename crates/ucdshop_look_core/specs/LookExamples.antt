@@ -1,12 +1,21 @@
 -- What a run is asked for, and what it tells, at small examples.
 --
 -- words                    the words of a command line, cut at its spaces
-use Rattle.std.proofs.Common.{◌≡◌, ℕ, List, [], ◌∷◌, map, Some, None, ◌==◌, refl, codes}
+use Rattle.std.proofs.Common.{◌≡◌, ℕ, List, [], ◌∷◌, ◌++◌, map, Some, None, Err, ◌==◌, refl, codes}
 use Rattle.std.specs.List.{slice_split}
 use Rattle.ucd_points.specs.Fields.{point_of}
 use Rattle.ucd_points.specs.Lines.{items_of}
+use Rattle.ucd_model.specs.Sameness.{is_in}
+use Rattle.release_rows.specs.FileItems.{FileItem}
+use Rattle.release_rows.specs.declared.key_rule.KeyRule.TheVariants.{K1}
+use Rattle.script_lines.specs.declared.command.What.TheVariants.{Question}
+use Rattle.edit_session.specs.declared.apply_stop.Refused.TheVariants.{Key}
+use Rattle.unicodeset_eval.specs.Members.{member_spans}
+use Rattle.set_questions.specs.SetTexts.{members_text}
+use Rattle.ucdshop_core.specs.Carrying.{question_command}
+use Rattle.ucdshop_look_core.specs.Changes.{group_told, stage_on, stages, told}
 use Rattle.ucdshop_look_core.specs.Checks.{refusals}
-use Rattle.ucdshop_look_core.specs.Jobs.{Ask, Check, Show, check_job, form}
+use Rattle.ucdshop_look_core.specs.Jobs.{Ask, Changes, Check, Show, check_job, form}
 
 abbrev words : List ℕ → List (List ℕ)
 words line = slice_split (λ b. b == 32) line
@@ -21,9 +30,12 @@ shows = refl
 checks : form (words (codes "check data s old")) ≡ Some (Check (check_job (codes "data") (Some (codes "s")) (Some (codes "old"))))
 checks = refl
 
+changes : form (words (codes "changes data script.txt")) ≡ Some (Changes (check_job (codes "data") (Some (codes "script.txt")) None))
+changes = refl
+
 no_forms : map (λ line. form (words line)) (codes "" ∷ codes "ask data" ∷ codes "ask data [a\n]" ∷ codes "show data" ∷ codes "show data 0C0"
-    ∷ codes "show data 110000" ∷ codes "check" ∷ codes "check data s old out" ∷ [])
-    ≡ None ∷ None ∷ None ∷ None ∷ None ∷ None ∷ None ∷ None ∷ []
+    ∷ codes "show data 110000" ∷ codes "check" ∷ codes "check data s old out" ∷ codes "changes data" ∷ codes "changes data s p" ∷ [])
+    ≡ None ∷ None ∷ None ∷ None ∷ None ∷ None ∷ None ∷ None ∷ None ∷ None ∷ []
 unfolding point_of
 no_forms = refl
 
@@ -31,3 +43,14 @@ told_refusals : refusals (codes "1 accepted 2\n4 refused K1 operation 1\n9 set 1
     ≡ codes "4 refused K1 operation 1\n11 refused S9 byte 0\n"
 unfolding items_of
 told_refusals = refl
+
+-- neighbours are one span
+told_spans : members_text (member_spans 10 (is_in (2 ∷ 3 ∷ 5 ∷ []))) ≡ codes "0002..0003\n0005\n# total 3\n"
+told_spans = refl
+
+told_refused : (files : List (List FileItem)) → group_told 4 files (Err (Key K1 2)) ≡ codes "4 refused K1 operation 2\n"
+told_refused files = refl
+
+-- questions leave the files, and nothing is told of them
+told_questions : (files : List (List FileItem)) → map told (stages files (question_command 1 (codes "[a]") ∷ question_command 2 (codes "[") ∷ [])) ≡ [] ∷ [] ∷ []
+told_questions files = refl

@@ -11,8 +11,9 @@ use Rattle.run_inputs.specs.Held.{source_held}
 use Rattle.run_inputs.specs.Refusals.{folder_verdict}
 use Rattle.ucdshop_core.specs.Run.{inputs_verdict}
 use Rattle.ucdshop_look_core.specs.Answers.{ask_ending}
+use Rattle.ucdshop_look_core.specs.Changes.{changes_ending}
 use Rattle.ucdshop_look_core.specs.Checks.{check_ending}
-use Rattle.ucdshop_look_core.specs.Jobs.{Job, Ask, Check, Show, form, needed}
+use Rattle.ucdshop_look_core.specs.Jobs.{Job, Ask, Changes, Check, Show, form, needed}
 use Rattle.ucdshop_look_core.specs.Printed.{usage}
 use Rattle.ucdshop_look_core.specs.Shown.{show_ending}
 
@@ -24,6 +25,7 @@ abbrev pub expected_of : Job → Seen → Expected
 expected_of (Ask folder questions) seen = finished (ask_ending questions) (folder_verdict folder (source_held seen 0))
 expected_of (Show folder points) seen = finished (show_ending points) (folder_verdict folder (source_held seen 0))
 expected_of (Check run) seen = finished check_ending (inputs_verdict run seen)
+expected_of (Changes run) seen = finished changes_ending (inputs_verdict run seen)
 
 abbrev pub ucdshop_look : Program Job
 ucdshop_look = record { usage = usage; form = form; needed = needed; written = λ job. []; expected = expected_of }

@@ -5,7 +5,7 @@ ghost use Rattle.std.specs.List.{list_all};
 ghost use Rattle.std.specs.Option.{option_map};
 ghost use Rattle.ucdshop_core.specs.JobWords.{job_of, path_at};
 ghost use Rattle.ucdshop_look_core.specs.Commands.{AsksFor};
-ghost use Rattle.ucdshop_look_core.specs.Jobs.{are_some, ask_form, check_form, check_job, form, is_one_line, show_form};
+ghost use Rattle.ucdshop_look_core.specs.Jobs.{are_some, ask_form, changes_form, check_form, check_job, form, is_one_line, show_form};
 ghost use Rattle.ucdshop_look_core.specs.Points.{names_point};
 
 use crate::points::named_point;
@@ -32,6 +32,8 @@ pub enum Command<'a> {
     },
     /// Tell how this run of the first program would end, which writes nothing.
     Check(Job<'a>),
+    /// Tell which records the groups of the script of this run change, which writes nothing.
+    Changes(Job<'a>),
 }
 
 /// What the words ask for, and `None` exactly if they have no listed form.
@@ -47,6 +49,8 @@ pub fn command_of(words: &[Text]) -> Option<Command<'_>>
         show_of(arguments)
     } else if word.as_slice() == b"check".as_slice() {
         check_of(arguments)
+    } else if word.as_slice() == b"changes".as_slice() {
+        changes_of(arguments)
     } else {
         None
     }
@@ -101,6 +105,20 @@ fn check_of(arguments: &[Text]) -> Option<Command<'_>>
             folder.as_slice(),
             Some(Place::Named(script.as_slice())),
             Some(previous.as_slice()),
+        ))),
+        _ => None,
+    }
+}
+
+/// `changes DATA SCRIPT`, of the words behind `changes`.
+fn changes_of(arguments: &[Text]) -> Option<Command<'_>>
+    ensures { AsksFor result (changes_form arguments.now) }
+{
+    match arguments {
+        [folder, script] => Some(Command::Changes(check_job(
+            folder.as_slice(),
+            Some(Place::Named(script.as_slice())),
+            None,
         ))),
         _ => None,
     }

@@ -2,6 +2,7 @@
 #![tactic(auto)]
 
 mod answering;
+mod changing;
 mod checking;
 mod command;
 pub mod laws;
@@ -11,6 +12,7 @@ mod printed;
 mod program;
 mod refusals;
 mod showing;
+mod spanning;
 
 pub use program::run_look;
 pub use run_endings::{OUT_OF_MEMORY, Status};

@@ -10,6 +10,7 @@ ghost use Rattle.run_inputs.specs.Refusals.{folder_verdict};
 ghost use Rattle.ucdshop_core.specs.JobWords.{job_of as run_of};
 ghost use Rattle.ucdshop_core.specs.Run.{inputs_verdict};
 ghost use Rattle.ucdshop_look_core.specs.Answers.{ask_ending};
+ghost use Rattle.ucdshop_look_core.specs.Changes.{changes_ending};
 ghost use Rattle.ucdshop_look_core.specs.Checks.{check_ending};
 ghost use Rattle.ucdshop_look_core.specs.Commands.{job_of};
 ghost use Rattle.ucdshop_look_core.specs.Jobs.{needed};
@@ -18,6 +19,7 @@ ghost use Rattle.ucdshop_look_core.specs.Run.{expected_of, finished};
 ghost use Rattle.ucdshop_look_core.specs.Shown.{show_ending};
 
 use crate::answering::answers_plan;
+use crate::changing::changes_plan;
 use crate::checking::check_plan;
 use crate::command::Command;
 use crate::showing::shown_plan;
@@ -77,6 +79,7 @@ fn command_paths(alloc: Global, command: Command<'_>) -> Result<Texts, Memory>
         Command::Ask { folder, .. } => source_paths(alloc, folder),
         Command::Show { folder, .. } => source_paths(alloc, folder),
         Command::Check(job) => needed_paths(alloc, job),
+        Command::Changes(job) => needed_paths(alloc, job),
     }
 }
 
@@ -96,6 +99,7 @@ fn held_plan<L: Ledger>(
         Command::Ask { folder, questions } => plan_ask(alloc, folder, questions, held, steps),
         Command::Show { folder, points } => plan_show(alloc, folder, points, held, steps),
         Command::Check(job) => plan_check(alloc, job, held, steps),
+        Command::Changes(job) => plan_changes(alloc, job, held, steps),
     }
 }
 
@@ -142,6 +146,21 @@ fn plan_check<L: Ledger>(
 {
     match judge_inputs(alloc, job, held, steps) {
         Ok(inputs) => Ok(check_plan(alloc, inputs, steps)?),
+        Err(stop) => Err(stop),
+    }
+}
+
+/// The same of `changes`.
+fn plan_changes<L: Ledger>(
+    alloc: Global,
+    job: Job<'_>,
+    held: &mut Vec<Option<Text>>,
+    steps: &mut Steps<L>,
+) -> Result<Plan, Stop>
+    ensures { PlansAs result (finished changes_ending (inputs_verdict (run_of job.entry) held.old.items)) }
+{
+    match judge_inputs(alloc, job, held, steps) {
+        Ok(inputs) => Ok(changes_plan(alloc, inputs, steps)?),
         Err(stop) => Err(stop),
     }
 }

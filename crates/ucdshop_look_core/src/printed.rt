@@ -2,4 +2,4 @@
 
 /// The line for words that have no listed form.
 pub const USAGE: &[u8] =
-    b"usage: ucdshop_look ask DATA SET .. | show DATA POINT .. | check DATA [SCRIPT [PREVIOUS]]\n";
+    b"usage: ucdshop_look ask DATA SET .. | show DATA POINT .. | check DATA [SCRIPT [PREVIOUS]] | changes DATA SCRIPT\n";

@@ -19,9 +19,9 @@ use ucd_model::{Steps, Texts};
 /// Runs the program on its words, without the program's name: reads what they name from the shelf, and tells what it comes
 /// to, in one text, to the sink. It writes nothing to the shelf, whatever its status.
 ///
-/// The words are `ask DATA SET ..` with 1 to 64 questions, each of one line, `show DATA POINT ..` with 1 to 64 code points, or
-/// `check DATA [SCRIPT [PREVIOUS]]`. All files are read before any is judged, and the whole text is made before it is told. If
-/// the sink fails half way, what was told is a beginning of it, and the status is [`Status::WriteFault`].
+/// The words are `ask DATA SET ..` with 1 to 64 questions, each of one line, `show DATA POINT ..` with 1 to 64 code points,
+/// `check DATA [SCRIPT [PREVIOUS]]`, or `changes DATA SCRIPT`. All files are read before any is judged, and the whole text is made
+/// before it is told. If the sink fails half way, what was told is a beginning of it, and the status is [`Status::WriteFault`].
 ///
 /// What is promised is what every program promises that ends by [`end_run`], of this program: `ucdshop_look` in `specs/Run.antt`.
 pub fn run_look<S: Shelf, K: Sink>(

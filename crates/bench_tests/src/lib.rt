@@ -12,4 +12,6 @@ mod editors;
 #[cfg(test)]
 mod groups;
 #[cfg(test)]
+mod histories;
+#[cfg(test)]
 mod turns;

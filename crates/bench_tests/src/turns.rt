@@ -18,7 +18,7 @@ use std::test::Fail;
 use ucd_model::{FactView, Point, Records, SourceFile, Steps, file_limit, same_facts};
 
 /// Letters, marks and their composites, to begin with.
-const DATA: &[u8] =
+pub const DATA: &[u8] =
     b"0061;LATIN SMALL LETTER A;Ll;0;L;;;;;N;;;;;\n00E0;LATIN SMALL LETTER A WITH GRAVE;Ll;0;L;0061 0300;;;;N;;;;;\n0300;COMBINING GRAVE ACCENT;Mn;230;NSM;;;;;N;;;;;\n0301;COMBINING ACUTE ACCENT;Mn;230;NSM;;;;;N;;;;;\nFB00;X;Lo;0;L;<compat> 0061 0300;;;;N;;;;;\n";
 
 /// Lines that a group is made of. Some of them break a rule, by themselves or beside others.
@@ -56,12 +56,12 @@ const LINES: [&[u8]; 30] = [
 ];
 
 /// The number that follows in a row of numbers that look random.
-fn follows(number: u32) -> u32 {
+pub fn follows(number: u32) -> u32 {
     (number % 0x1_0000) * 25_173 % 0x1_0000 + 13_849
 }
 
 /// A script of one group, of one to four lines by a number.
-fn script(alloc: Global, number: u32) -> Result<Vec<u8>, Fail> {
+pub fn script(alloc: Global, number: u32) -> Result<Vec<u8>, Fail> {
     let mut text = Vec::new(alloc);
     text.extend_from_slice(b"begin\n")?;
     let mut drawn = number;
@@ -134,7 +134,7 @@ fn as_told(stop: OpenStop) -> ApplyStop {
 }
 
 /// A bench that is opened on a release, or why there is none.
-fn opened<L: Ledger>(
+pub fn opened<L: Ledger>(
     alloc: Global,
     release: Release,
     steps: &mut Steps<L>,
@@ -148,7 +148,7 @@ fn opened<L: Ledger>(
 }
 
 /// The bench that is opened anew after operations on the rows of another, or why there is none.
-fn anew<L: Ledger>(
+pub fn anew<L: Ledger>(
     alloc: Global,
     bench: &Bench,
     ops: &[Op],
@@ -166,7 +166,7 @@ fn anew<L: Ledger>(
 
 /// Whether two benches have the same records of all code points, and show the same facts, pairs and second members of
 /// the first ones.
-fn are_same(a: &Bench, b: &Bench) -> bool {
+pub fn are_same(a: &Bench, b: &Bench) -> bool {
     let mut number = 0;
     'pieces: while number < 0x11_0000 {
         let c = Point::at(number);
@@ -207,7 +207,7 @@ fn come_next(points: &mut Iter<'_, Point>, from: u32, to: u32) -> bool
 }
 
 /// Whether just these code points have other records.
-fn are_changed(old: &Bench, new: &Bench, accepted: &Accepted) -> bool {
+pub fn are_changed(old: &Bench, new: &Bench, accepted: &Accepted) -> bool {
     let mut changed = accepted.changed.as_slice().iter();
     let mut number = 0;
     'pieces: while number < 0x11_0000 {
@@ -222,7 +222,7 @@ fn are_changed(old: &Bench, new: &Bench, accepted: &Accepted) -> bool {
 }
 
 /// Whether a bench that answered a group so is like the one that is opened anew after the group, or as it was before.
-fn is_as_opened(
+pub fn is_as_opened(
     bench: &Bench,
     before: &Bench,
     told: &Result<Accepted, ApplyStop>,

@@ -18,4 +18,8 @@ mod refusals;
 #[cfg(test)]
 mod runs;
 #[cfg(test)]
+mod undo;
+#[cfg(test)]
+mod undo_marks;
+#[cfg(test)]
 mod words;

@@ -7,7 +7,7 @@ use ucd_model::Memory;
 use ucdshop_more_core::Status;
 
 /// Words that have no listed form.
-const BAD_WORDS: [&[&[u8]]; 9] = [
+const BAD_WORDS: [&[&[u8]]; 17] = [
     &[],
     &[b"ages"],
     &[b"ages", b"o"],
@@ -16,6 +16,14 @@ const BAD_WORDS: [&[&[u8]]; 9] = [
     &[b"derive", b"p", b"o"],
     &[b"desk", b"p", b"o"],
     &[b"desk", b"p", b"t", b"o", b"o"],
+    &[b"undo", b"p", b"t", b"o"],
+    &[b"undo", b"p", b"t", b"o", b"1", b"1"],
+    &[b"undo", b"p", b"t", b"o", b""],
+    &[b"undo", b"p", b"t", b"o", b"0"],
+    &[b"undo", b"p", b"t", b"o", b"01"],
+    &[b"undo", b"p", b"t", b"o", b"+1"],
+    &[b"undo", b"p", b"t", b"o", b"1025"],
+    &[b"undo", b"p", b"t", b"o", b"4294967297"],
     &[b"", b"o", b"p"],
 ];
 
@@ -32,7 +40,7 @@ fn are_bad(alloc: Global, words: &[&[u8]]) -> Result<bool, Memory> {
     let mut shelf = shelf_of(alloc, EARLIER, LATER)?;
     shelf.fail_read(1)?;
     let usage =
-        b"usage: ucdshop_more desk DATA EVENTS OUT | conform DATA TESTS OUT | ages OUT DATA1 .. DATAn\n".as_slice();
+        b"usage: ucdshop_more desk DATA EVENTS OUT | undo DATA SCRIPT OUT DEPTH | conform DATA TESTS OUT | ages OUT DATA1 .. DATAn\n".as_slice();
     let expected = (Status::BadWords, usage);
     Ok(ends(alloc, words, &mut shelf, 1000, expected)? && is_untouched(&shelf))
 }

@@ -12,7 +12,8 @@ use Rattle.run_endings.specs.declared.status.Status.TheVariants.{ReadFault}
 use Rattle.run_endings.specs.declared.stop.Stop.{Stop}
 use Rattle.run_endings.specs.declared.stop.Stop.TheVariants as stops
 use Rattle.ucdshop_more_core.specs.Order.{PlansInOrder, ReadsInOrder}
-use Rattle.ucdshop_more_core.specs.Run.{Ages, Conform, Desk, ages_ending, conform_ending, desk_ending, finished, folders_verdict, output_paths, ucdshop_more}
+use Rattle.ucdshop_more_core.specs.Drafts.{draft_verdict}
+use Rattle.ucdshop_more_core.specs.Run.{Ages, Conform, Desk, Undo, ages_ending, conform_ending, desk_ending, finished, folders_verdict, output_paths, ucdshop_more, undo_ending}
 use Rattle.ucdshop_more_core.specs.Sessions.{session_verdict}
 use Rattle.ucdshop_more_core.specs.Trials.{trial_verdict}
 
@@ -30,6 +31,8 @@ ended_paths ending paths each (Err line) end e = absurd (refuses_finishes (Refus
 pub writes_its_paths : WritesItsPaths ucdshop_more
 writes_its_paths (Desk input events output) seen end e =
     ended_paths (desk_ending output) (output_paths (Desk input events output)) (λ session. refl) (session_verdict input events seen) end e
+writes_its_paths (Undo input script output depth) seen end e =
+    ended_paths (undo_ending output depth) (output_paths (Undo input script output depth)) (λ draft. refl) (draft_verdict input script seen) end e
 writes_its_paths (Conform input tests output) seen end e =
     ended_paths (conform_ending output) (output_paths (Conform input tests output)) (λ trial. refl) (trial_verdict input tests seen) end e
 writes_its_paths (Ages output folders) seen end e =

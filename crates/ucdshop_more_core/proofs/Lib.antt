@@ -9,3 +9,4 @@ pub mod TrialLemmas
 pub mod SittingLemmas
 pub mod SessionLemmas
 pub mod DeskPlanLemmas
+pub mod DraftLemmas

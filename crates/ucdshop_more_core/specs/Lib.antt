@@ -7,6 +7,9 @@ pub mod Marks
 pub mod Turns
 pub mod DeskTexts
 pub mod Sessions
+pub mod Moves
+pub mod Drafts
+pub mod Undoing
 pub mod Run
 pub mod Logging
 pub mod Commands

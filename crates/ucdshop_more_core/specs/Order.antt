@@ -3,7 +3,8 @@
 -- OnUnread result P               P of the line, where a file could not be read
 -- IsReached tells holds folders path   the path is that of a file of one of the folders, and by what was seen none of the folders
 --                                 before it is refused
--- ComesTo job tells holds path    the path is one that the job comes to: of `ages` it is reached; `desk` and `conform` read all before they judge
+-- ComesTo job tells holds path    the path is one that the job comes to: of `ages` it is reached; `desk`, `undo` and `conform` read all before they
+--                                 judge
 -- NamesPath P shelf line          the line names a path as one that could not be read, which is the last failed one where that is
 --                                 told; and P of the path
 -- PlansInOrder words planned shelf   where a file could not be read, the line names a path that the job of the words comes to
@@ -17,7 +18,7 @@ use Rattle.run_endings.specs.declared.stop.Stop.{Stop}
 use Rattle.run_endings.specs.declared.stop.Stop.TheVariants.{Refused, ReadFailed, Memory}
 use Rattle.run_inputs.specs.Paths.{sources_in}
 use Rattle.ucdshop_more_core.specs.Chaining.{AreFine}
-use Rattle.ucdshop_more_core.specs.Run.{Job, Ages, Conform, Desk, form}
+use Rattle.ucdshop_more_core.specs.Run.{Job, Ages, Conform, Desk, Undo, form}
 
 abbrev pub OnUnread : {A : Type 0} → Result A Stop → (List ℕ → Type 0) → Type 0
 OnUnread (Ok _) P = ⊤
@@ -36,6 +37,7 @@ pub record IsReached (tells : Bool) (holds : Contents) (folders : List (List ℕ
 
 abbrev pub ComesTo : Job → Bool → Contents → List ℕ → Type 0
 ComesTo (Desk input events output) tells holds path = ⊤
+ComesTo (Undo input script output depth) tells holds path = ⊤
 ComesTo (Conform input tests output) tells holds path = ⊤
 ComesTo (Ages output folders) tells holds path = IsReached tells holds folders path
 

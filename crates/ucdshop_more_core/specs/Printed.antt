@@ -4,6 +4,7 @@
 -- barred texts             the texts, with a space, a bar and a space between two of them
 -- usage                    of words that have no listed form: it names the forms
 -- desk_summary accepted refused   the line that says how many groups were carried out at a desk, and how often an editor was turned away
+-- undo_summary accepted undone   the line that says how many groups were carried out on a history, and how many were taken back
 -- conform_summary cases misses   the line that says how many cases there are, and how many misses
 -- AgeCounts                how many releases there are, how many code points have an age, and how many breaks of policies all steps
 --                          have
@@ -13,7 +14,7 @@ use Rattle.std.specs.Fmt.{decimal}
 use Rattle.ucd_model.specs.DerivedText.{line_end}
 
 abbrev pub forms : List (List ℕ)
-forms = codes "desk DATA EVENTS OUT" ∷ codes "conform DATA TESTS OUT" ∷ codes "ages OUT DATA1 .. DATAn" ∷ []
+forms = codes "desk DATA EVENTS OUT" ∷ codes "undo DATA SCRIPT OUT DEPTH" ∷ codes "conform DATA TESTS OUT" ∷ codes "ages OUT DATA1 .. DATAn" ∷ []
 
 abbrev pub barred : List (List ℕ) → List ℕ
 barred [] = []
@@ -25,6 +26,9 @@ usage = codes "usage: ucdshop_more " ++ barred forms ++ line_end
 
 abbrev pub desk_summary : ℕ → ℕ → List ℕ
 desk_summary accepted refused = codes "desk: " ++ decimal accepted ++ codes " accepted, " ++ decimal refused ++ codes " refused" ++ line_end
+
+abbrev pub undo_summary : ℕ → ℕ → List ℕ
+undo_summary accepted undone = codes "undo: " ++ decimal accepted ++ codes " accepted, " ++ decimal undone ++ codes " undone" ++ line_end
 
 abbrev pub conform_summary : ℕ → ℕ → List ℕ
 conform_summary cases misses = codes "conform: " ++ decimal cases ++ codes " cases, " ++ decimal misses ++ codes " misses" ++ line_end

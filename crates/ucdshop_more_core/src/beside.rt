@@ -3,10 +3,13 @@
 ghost use Rattle.std.specs.Prelude.{◌≡◌, ◌∷◌, [], ◌++◌, IfOk};
 ghost use Rattle.run_inputs.specs.Paths.{sources_in};
 ghost use Rattle.run_inputs.specs.Printed.{refused};
+ghost use Rattle.run_inputs.specs.Refusals.{script_line};
 ghost use Rattle.ucdshop_more_core.specs.Trials.{TellsLine};
+ghost use Rattle.ucdshop_more_core.specs.Turns.{piece_rule_code};
 
 use run_endings::Stop;
-use run_inputs::{refused, source_paths};
+use run_inputs::{ScriptRefusal, refused, script_line, source_paths};
+use script_pieces::PieceRule;
 use std::alloc::Global;
 use ucd_model::{Memory, Text, Texts};
 
@@ -26,6 +29,26 @@ pub fn refusal(alloc: Global, path: &[u8], line: usize, rule: &[u8]) -> Stop
     ensures { TellsLine result (refused path.now line rule.now) }
 {
     match refused(alloc, path, line, rule) {
+        Ok(told) => Stop::Refused(told),
+        Err(_) => Stop::Memory,
+    }
+}
+
+/// The refusal of a file of scripts between marks by this line of it, and this rule.
+pub fn piece_refusal(alloc: Global, path: &[u8], line: u32, rule: PieceRule) -> Stop
+    ensures { TellsLine result (refused path.now line (piece_rule_code rule)) }
+{
+    match rule {
+        PieceRule::E7 => refusal(alloc, path, line as usize, b"E7"),
+        PieceRule::Script(rule) => script_refusal(alloc, path, ScriptRefusal::Line { line, rule }),
+    }
+}
+
+/// The refusal of a file by the script in it.
+fn script_refusal(alloc: Global, path: &[u8], why: ScriptRefusal) -> Stop
+    ensures { TellsLine result (script_line path.now why) }
+{
+    match script_line(alloc, path, why) {
         Ok(told) => Stop::Refused(told),
         Err(_) => Stop::Memory,
     }

@@ -5,6 +5,7 @@ ghost use Rattle.std.specs.Fmt.{decimal};
 ghost use Rattle.run_inputs.specs.GroupLines.{log_line};
 ghost use Rattle.ucdshop_more_core.specs.DeskTexts.{is_accepted, is_turned_away, reply_line};
 
+use crate::log_lines::{put_head, put_number, put_word};
 use bench_editors::Reply;
 use run_inputs::put_refused;
 use std::alloc::Global;
@@ -76,49 +77,23 @@ fn put_reply(alloc: Global, line: u32, reply: &Reply, text: &mut Text) -> Result
     ensures { OnOk result (text.new ≡ text.old ++ reply_line line reply.now) }
 {
     match reply {
-        Reply::Entered { revision } => put_number(alloc, line, b"opened ", *revision, text),
+        Reply::Entered { revision } => put_number(
+            alloc,
+            line,
+            b"opened ",
+            *revision as usize,
+            text,
+        ),
         Reply::Accepted { revision, changed } => {
             put_accepted(alloc, line, *revision, changed.len(), text)
         }
         Reply::Left => put_word(alloc, line, b"left", text),
         Reply::Present => put_word(alloc, line, b"present", text),
         Reply::Absent => put_word(alloc, line, b"absent", text),
-        Reply::Ahead { revision } => put_number(alloc, line, b"ahead ", *revision, text),
+        Reply::Ahead { revision } => put_number(alloc, line, b"ahead ", *revision as usize, text),
         Reply::Stale { revision, op } => put_stale(alloc, line, *revision, *op, text),
         Reply::Refused(why) => put_refused(alloc, text, line, *why),
     }
-}
-
-/// Puts what a line begins with: the number of the mark's line, a space, and a word.
-fn put_head(alloc: Global, line: u32, word: &[u8], text: &mut Text) -> Result<(), Memory>
-    ensures { OnOk result (text.new ≡ text.old ++ decimal line ++ codes " " ++ word.now) }
-{
-    put_decimal(alloc, line as usize, text)?;
-    text.append(b" ")?;
-    text.append(word)
-}
-
-/// Puts a line of one word.
-fn put_word(alloc: Global, line: u32, word: &[u8], text: &mut Text) -> Result<(), Memory>
-    ensures { OnOk result (text.new ≡ text.old ++ log_line line word.now) }
-{
-    put_head(alloc, line, word, text)?;
-    text.append(b"\n")
-}
-
-/// Puts a line of a word and a number.
-fn put_number(
-    alloc: Global,
-    line: u32,
-    word: &[u8],
-    number: u32,
-    text: &mut Text,
-) -> Result<(), Memory>
-    ensures { OnOk result (text.new ≡ text.old ++ log_line line (word.now ++ decimal number)) }
-{
-    put_head(alloc, line, word, text)?;
-    put_decimal(alloc, number as usize, text)?;
-    text.append(b"\n")
 }
 
 /// Puts the line of a group that was carried out: its revision, and how many code points have another record.

@@ -5,10 +5,11 @@ ghost use Rattle.std.specs.List.{All};
 ghost use Rattle.std.specs.Option.{MatchOption};
 ghost use Rattle.script_lines.specs.Groups.{AreReady, IsReady};
 ghost use Rattle.script_lines.specs.Lines.{behind};
-ghost use Rattle.ucdshop_more_core.specs.Marks.{are_a_group, fits, mark_of, ops_in, ops_of, proposal_of};
+ghost use Rattle.ucdshop_more_core.specs.Marks.{are_a_group, fits, mark_of, ops_of, proposal_of};
 
+use crate::groups::{is_group, ops_in};
 use release_rows::Op;
-use script_lines::{Command, What};
+use script_lines::Command;
 use script_pieces::decimal_u32;
 use ucd_lines::cut;
 
@@ -84,7 +85,7 @@ fn are_a_group(commands: &[Command]) -> bool
     ensures { result ≡ are_a_group commands.now }
 {
     match commands {
-        [command] => matches!(command.what, What::Group(_)),
+        [command] => is_group(command),
         _ => false,
     }
 }
@@ -96,17 +97,7 @@ pub fn ops_of(commands: &[Command]) -> &[Op]
     ensures ready { AreReady result.now }
 {
     match commands {
-        [first, ..] => ops_in(&first.what),
+        [first, ..] => ops_in(first),
         [] => &[],
-    }
-}
-
-/// The operations of a group; none of a question.
-fn ops_in(what: &What) -> &[Op]
-    ensures { result.now ≡ ops_in what.now }
-{
-    match what {
-        What::Group(ops) => ops.as_slice(),
-        What::Question(_) => &[],
     }
 }

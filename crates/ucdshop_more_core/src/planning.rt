@@ -7,15 +7,17 @@ ghost use Rattle.run_endings.specs.Promises.{shelf_seen};
 ghost use Rattle.ucdshop_more_core.specs.Chaining.{Follows};
 ghost use Rattle.ucdshop_more_core.specs.Commands.{IsListed, job_of};
 ghost use Rattle.ucdshop_more_core.specs.Order.{ComesTo, NamesPath, OnUnread};
-ghost use Rattle.ucdshop_more_core.specs.Run.{Ages, Conform, Desk, expected_of, needed};
+ghost use Rattle.ucdshop_more_core.specs.Run.{Ages, Conform, Desk, Undo, expected_of, needed};
 
 use crate::chaining::{Chained, chain_folders};
 use crate::command::Command;
 use crate::conform_plan::conform_plan;
 use crate::desk_plan::desk_plan;
+use crate::draft::read_draft;
 use crate::outputs::ages_plan;
 use crate::sitting::read_sitting;
 use crate::trial::read_trial;
+use crate::undo_plan::undo_plan;
 use run_endings::{Plan, Stop, make_room};
 use shelf_io::Shelf;
 use std::alloc::Global;
@@ -70,6 +72,12 @@ fn plan_of<S: Shelf, L: Ledger>(
             events,
             output,
         } => plan_desk(alloc, input, events, output, shelf, steps),
+        Command::Undo {
+            input,
+            script,
+            output,
+            depth,
+        } => plan_undo(alloc, input, script, output, depth, shelf, steps),
         Command::Conform {
             input,
             tests,
@@ -98,6 +106,32 @@ fn plan_desk<S: Shelf, L: Ledger>(
 {
     match read_sitting(alloc, input, events, shelf, steps) {
         Ok(sitting) => Ok(desk_plan(alloc, output, sitting, steps)?),
+        Err(stop) => Err(stop),
+    }
+}
+
+/// The same for `undo`.
+fn plan_undo<S: Shelf, L: Ledger>(
+    alloc: Global,
+    input: &[u8],
+    script: &[u8],
+    output: &[u8],
+    depth: u32,
+    shelf: &mut S,
+    steps: &mut Steps<L>,
+) -> Result<Plan, Stop>
+    requires some { 1 ≤ depth }
+    requires few { depth ≤ 1024 }
+    ensures planned { IfOk result (λ plan. Sees S.tells (S.holds shelf.old) (needed (Undo input.now script.now output.now depth)) (λ seen.
+        IsPlanOf plan (expected_of (Undo input.now script.now output.now depth) seen))) }
+    ensures refused { OnRefused result (λ line. Sees S.tells (S.holds shelf.old) (needed (Undo input.now script.now output.now depth)) (λ seen.
+        expected_of (Undo input.now script.now output.now depth) seen ≡ Refuses line)) }
+    ensures unread { UnreadAs result (needed (Undo input.now script.now output.now depth)) (shelf_seen S.Shelf shelf.old shelf.new) }
+    ensures in_order { OnUnread result (NamesPath (ComesTo (Undo input.now script.now output.now depth) S.tells (S.holds shelf.old)) (shelf_seen S.Shelf shelf.old shelf.new)) }
+    ensures only_read { OnlyRead (shelf_seen S.Shelf shelf.old shelf.new) }
+{
+    match read_draft(alloc, input, script, shelf, steps) {
+        Ok(drafted) => Ok(undo_plan(alloc, output, drafted, depth, steps)?),
         Err(stop) => Err(stop),
     }
 }

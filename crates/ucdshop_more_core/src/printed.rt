@@ -1,7 +1,7 @@
 //! The lines that a run prints.
 
 ghost use Rattle.std.specs.Prelude.{◌≡◌, IfOk};
-ghost use Rattle.ucdshop_more_core.specs.Printed.{ages_summary, conform_summary, desk_summary};
+ghost use Rattle.ucdshop_more_core.specs.Printed.{ages_summary, conform_summary, desk_summary, undo_summary};
 
 use std::alloc::Global;
 use ucd_lines::put_decimal;
@@ -9,7 +9,7 @@ use ucd_model::{Memory, Text};
 
 /// The line for words that have no listed form.
 pub const USAGE: &[u8] =
-    b"usage: ucdshop_more desk DATA EVENTS OUT | conform DATA TESTS OUT | ages OUT DATA1 .. DATAn\n";
+    b"usage: ucdshop_more desk DATA EVENTS OUT | undo DATA SCRIPT OUT DEPTH | conform DATA TESTS OUT | ages OUT DATA1 .. DATAn\n";
 
 /// The line of a run of `desk` that wrote all files.
 ///
@@ -23,6 +23,21 @@ pub fn desk_summary(alloc: Global, accepted: usize, refused: usize) -> Result<Te
     text.append(b" accepted, ")?;
     put_decimal(alloc, refused, &mut text)?;
     text.append(b" refused\n")?;
+    Ok(text)
+}
+
+/// The line of a run of `undo` that wrote all files.
+///
+/// - `Memory`: memory ran out.
+pub fn undo_summary(alloc: Global, accepted: usize, undone: usize) -> Result<Text, Memory>
+    ensures { IfOk result (λ text. text ≡ undo_summary accepted undone) }
+{
+    let mut text = Text::new(alloc);
+    text.append(b"undo: ")?;
+    put_decimal(alloc, accepted, &mut text)?;
+    text.append(b" accepted, ")?;
+    put_decimal(alloc, undone, &mut text)?;
+    text.append(b" undone\n")?;
     Ok(text)
 }
 

@@ -8,18 +8,15 @@ ghost use Rattle.run_endings.specs.Promises.{shelf_seen};
 ghost use Rattle.run_inputs.specs.Held.{held_at};
 ghost use Rattle.run_inputs.specs.Judging.{ToldAs};
 ghost use Rattle.run_inputs.specs.Paths.{sources_in};
-ghost use Rattle.run_inputs.specs.Printed.{refused};
-ghost use Rattle.run_inputs.specs.Refusals.{script_line};
 ghost use Rattle.ucdshop_more_core.specs.Sessions.{AreFew, AreReady, session_of, session_verdict, with_turns};
-ghost use Rattle.ucdshop_more_core.specs.Trials.{TellsLine};
-ghost use Rattle.ucdshop_more_core.specs.Turns.{piece_rule_code, request_turns, turns_told};
+ghost use Rattle.ucdshop_more_core.specs.Turns.{request_turns, turns_told};
 
-use crate::beside::{paths_with, refusal};
+use crate::beside::{paths_with, piece_refusal, refusal};
 use crate::requests::{Requests, read_requests};
 use edit_session::Bench;
 use run_endings::{Stop, gather};
-use run_inputs::{ScriptRefusal, file_rule_code, held_at, open_folder, script_line, second_file};
-use script_pieces::{PieceRule, PieceStop};
+use run_inputs::{file_rule_code, held_at, open_folder, second_file};
+use script_pieces::PieceStop;
 use shelf_io::Shelf;
 use std::alloc::Global;
 use std::sync::ledger::Ledger;
@@ -116,25 +113,5 @@ fn judge_requests(alloc: Global, path: &[u8], held: Option<&[u8]>) -> Result<Req
         Ok(requests) => Ok(requests),
         Err(PieceStop::Fault { line, rule }) => Err(piece_refusal(alloc, path, line, rule)),
         Err(PieceStop::Memory) => Err(Stop::Memory),
-    }
-}
-
-/// The refusal of a file of events by this line of it, and this rule.
-fn piece_refusal(alloc: Global, path: &[u8], line: u32, rule: PieceRule) -> Stop
-    ensures { TellsLine result (refused path.now line (piece_rule_code rule)) }
-{
-    match rule {
-        PieceRule::E7 => refusal(alloc, path, line as usize, b"E7"),
-        PieceRule::Script(rule) => script_refusal(alloc, path, ScriptRefusal::Line { line, rule }),
-    }
-}
-
-/// The refusal of a file by the script in it.
-fn script_refusal(alloc: Global, path: &[u8], why: ScriptRefusal) -> Stop
-    ensures { TellsLine result (script_line path.now why) }
-{
-    match script_line(alloc, path, why) {
-        Ok(told) => Stop::Refused(told),
-        Err(_) => Stop::Memory,
     }
 }

@@ -1,0 +1,16 @@
+use Rattle.std.proofs.Common.{◌+◌, List, length, sym, ap, subst, ◌∙◌}
+use Rattle.std.specs.List.{All}
+use Rattle.std.proofs.lemmas.List.Elements.{All-tail}
+use Rattle.script_pieces.specs.Pieces.{FitsBelow, Piece}
+use Rattle.script_pieces.specs.Views.{piece_of}
+use Rattle.ucdshop_more_core.specs.Moves.{all_moves, moves_of, onto}
+use Rattle.ucdshop_more_core.proofs.sections.read_sections.Goals as goal
+
+pub pieces-preserved : goal.pieces-preserved
+pieces-preserved c =
+    let steps = c.in-Some.ensures.steps in
+    record {
+      whole = sym (c.in_ok-put_section.ensures.moves (moves_of c.next.new.self)) ∙ ap (λ (left : List Piece). onto (all_moves c.pieces.sections) (moves_of left)) (sym steps) ∙ c.pieces.invariant.whole;
+      fits = All-tail (FitsBelow (1 + length c.args.bytes.now)) (piece_of c.in-Some.piece) c.next.new.self (subst (All (FitsBelow (1 + length c.args.bytes.now))) steps c.pieces.invariant.fits);
+      ready = c.in_ok-put_section.ensures.ready c.pieces.invariant.ready;
+    }

@@ -6,7 +6,7 @@ ghost use Rattle.release_rows.specs.Operations.{IsOp};
 
 use crate::turns::{DATA, anew, are_changed, are_same, follows, is_as_opened, opened, script};
 use bench_undo::{History, Undone};
-use edit_session::Bench;
+use edit_session::{ApplyStop, Bench};
 use release_rows::{Op, Release};
 use script_lines::{What, commands, groups_are_ready};
 use std::alloc::Global;
@@ -75,6 +75,30 @@ struct Copied {
 }
 
 impl Copied {
+    /// A history with no earlier state, and a copy of its state.
+    fn new<L: Ledger>(alloc: Global, depth: u32, steps: &mut Steps<L>) -> Result<Box<Copied>, Fail>
+        requires some { 1 ≤ depth }
+        requires few { depth ≤ 1024 }
+    {
+        let history = history(alloc, depth, steps)?;
+        Copied::of(alloc, history, copy(alloc, steps)?, depth)
+    }
+
+    /// This history with this copy of its state.
+    fn of(
+        alloc: Global,
+        history: Box<History>,
+        present: Box<Bench>,
+        depth: u32,
+    ) -> Result<Box<Copied>, Fail> {
+        let copied = Copied {
+            history,
+            copies: vec![in alloc; present]?,
+            depth,
+        };
+        Ok(Box::new(alloc, copied)?)
+    }
+
     /// Applies a group, and says whether the history is as the bench that is opened anew after it, or as before.
     fn apply<L: Ledger>(
         &mut self,
@@ -89,13 +113,36 @@ impl Copied {
             return Ok(false);
         };
         let expected = anew(alloc, present, ops, steps)?;
-        let told = self.history.apply(alloc, ops, steps);
-        if !is_as_opened(self.history.bench(), present, &told, &expected) {
+        if !self.answers(alloc, ops, &expected, steps) {
             return Ok(false);
         }
-        if let Ok(after) = expected {
-            self.copies.push(after)?;
+        match expected {
+            Ok(after) => self.keep(after),
+            Err(_) => Ok(true),
         }
+    }
+
+    /// Applies a group, and says whether the history answers this, and is then as it says.
+    fn answers<L: Ledger>(
+        &mut self,
+        alloc: Global,
+        ops: &[Op],
+        expected: &Result<Box<Bench>, ApplyStop>,
+        steps: &mut Steps<L>,
+    ) -> bool
+        requires operations { All IsOp ops.now }
+        requires few { length ops.now ≤ 4096 }
+    {
+        let Some(present) = self.copies.last() else {
+            return false;
+        };
+        let told = self.history.apply(alloc, ops, steps);
+        is_as_opened(self.history.bench(), present, &told, expected)
+    }
+
+    /// Puts a copy behind the others, and lets the first go if there are too many.
+    fn keep(&mut self, present: Box<Bench>) -> Result<bool, Fail> {
+        self.copies.push(present)?;
         if self.copies.len() > self.depth as usize + 1 {
             self.copies.remove(0);
         }
@@ -139,6 +186,37 @@ impl Copied {
         Ok(are_same(self.history.bench(), before) && are_changed(&after, before, &accepted))
     }
 
+    /// Applies a group or undoes, by a number, and says whether the history is as its copies are.
+    fn moves_alike<L: Ledger>(
+        &mut self,
+        alloc: Global,
+        number: u32,
+        steps: &mut Steps<L>,
+    ) -> Result<bool, Fail> {
+        match number / 16 % 3 {
+            0 => self.undo(alloc, steps),
+            _ => self.apply_by(alloc, number, steps),
+        }
+    }
+
+    /// Whether it is so after each of so many groups and undos at random.
+    fn stays_alike<L: Ledger>(
+        &mut self,
+        alloc: Global,
+        count: u32,
+        first: u32,
+        steps: &mut Steps<L>,
+    ) -> Result<bool, Fail> {
+        let mut number = first;
+        for _ in 0..count {
+            number = follows(number);
+            if !self.moves_alike(alloc, number, steps)? || !self.is_kept(alloc)? {
+                return Ok(false);
+            }
+        }
+        Ok(true)
+    }
+
     /// Whether as many earlier states are kept as there are copies, and the bytes are those of the last copy.
     fn is_kept(&self, alloc: Global) -> Result<bool, Fail> {
         let Some(present) = self.copies.last() else {
@@ -164,23 +242,8 @@ fn all_agree<L: Ledger>(
     requires one { blank.parts ≡ 1 }
 {
     let mut steps = Steps::<L>::new(blank);
-    let mut copied = Copied {
-        history: history(alloc, depth, &mut steps)?,
-        copies: vec![in alloc; copy(alloc, &mut steps)?]?,
-        depth,
-    };
-    let mut number = first;
-    for _ in 0..count {
-        number = follows(number);
-        let agrees = match number / 16 % 3 {
-            0 => copied.undo(alloc, &mut steps)?,
-            _ => copied.apply_by(alloc, number, &mut steps)?,
-        };
-        if !agrees || !copied.is_kept(alloc)? {
-            return Ok(false);
-        }
-    }
-    Ok(true)
+    let mut copied = Copied::new(alloc, depth, &mut steps)?;
+    copied.stays_alike(alloc, count, first, &mut steps)
 }
 
 /// Whether they do, on a ledger of their own.

@@ -21,7 +21,7 @@ const NO_ROW: &[u8] = b"0041\n";
 const NO_MEMBER: &[u8] = b"1000;X;Lo;0;L;1001;;;;N;;;;;\n";
 
 /// The first fault is told, by the line that refuses `derive` and `apply`.
-const REFUSED: [Refused; 10] = [
+const REFUSED: [Refused; 13] = [
     Refused {
         words: &[b"ask", b"d", b"[a]"],
         data: NO_ROW,
@@ -122,19 +122,20 @@ fn each_fault_is_told(rt: HostRuntime) -> Result<(), Fail> {
 /// Whether a run of these words is told that a read failed, counted from 1, by this path.
 ///
 /// - `Memory`: memory ran out.
-fn tells_read(
-    alloc: Global,
-    words: &[&[u8]],
-    nth: u32,
-    folder: &[u8],
-    name: &[u8],
-) -> Result<bool, Memory> {
+fn tells_read(alloc: Global, words: &[&[u8]], nth: u32, path: &[u8]) -> Result<bool, Memory> {
     let mut shelf = shelf_of(alloc, NO_ROW, b"ad\n")?;
     shelf.fail_read(nth)?;
-    let path = joined(alloc, [b"read failed: ", folder, name])?;
-    let line = joined(alloc, [path.as_slice(), b"\n", b""])?;
+    let line = joined(alloc, [b"read failed: ", path, b"\n"])?;
     let expected = (Status::ReadFault, line.as_slice());
     ends(alloc, words, &mut shelf, 1000, expected)
+}
+
+/// The same by a file of the folder `d`.
+///
+/// - `Memory`: memory ran out.
+fn tells_file(alloc: Global, words: &[&[u8]], nth: u32, name: &[u8]) -> Result<bool, Memory> {
+    let path = joined(alloc, [b"d/", name, b""])?;
+    tells_read(alloc, words, nth, path.as_slice())
 }
 
 /// All files are read before any is judged.
@@ -144,15 +145,15 @@ fn each_failed_read_is_told(rt: HostRuntime) -> Result<(), Fail> {
     for nth in 1..10 {
         let name = SOURCE_NAMES.get(nth - 1).copied().unwrap_or(b"");
         assert!(rt;
-            tells_read(rt.alloc(), &ask, nth as u32, b"d/", name)?,
+            tells_file(rt.alloc(), &ask, nth as u32, name)?,
             "read {nth}"
         );
     }
     let check: [&[u8]; 4] = [b"check", b"d", b"s", b"p"];
-    assert!(rt; tells_read(rt.alloc(), &check, 10, b"s", b"")?);
-    assert!(rt; tells_read(rt.alloc(), &check, 19, b"p/", b"PropertyValueAliases.txt")?);
+    assert!(rt; tells_read(rt.alloc(), &check, 10, b"s")?);
+    assert!(rt; tells_read(rt.alloc(), &check, 19, b"p/PropertyValueAliases.txt")?);
     let changes: [&[u8]; 3] = [b"changes", b"d", b"s"];
-    assert!(rt; tells_read(rt.alloc(), &changes, 10, b"s", b"")?);
+    assert!(rt; tells_read(rt.alloc(), &changes, 10, b"s")?);
     Ok(())
 }
 

@@ -99,31 +99,34 @@ fn scripts_are_refused_by_their_first_fault(rt: HostRuntime) -> Result<(), Fail>
     Ok(())
 }
 
-/// A release with a fault is told before a fault of the script, which may be absent; and a read that fails before both.
+/// A release with a fault is told before a fault of the script, and a read that fails before both.
 ///
 /// - `Memory`: memory ran out.
-fn are_in_order(alloc: Global) -> Result<bool, Memory> {
-    let mut broken = shelf_of(alloc, b"@\n")?;
-    place_release(alloc, &mut broken, b"d", b"0041\n")?;
+fn is_release_first(alloc: Global) -> Result<bool, Memory> {
+    let mut shelf = shelf_of(alloc, b"@\n")?;
+    place_release(alloc, &mut shelf, b"d", b"0041\n")?;
     let line = b"refused: d/UnicodeData.txt line 1 G03\n";
-    let first = is_told(alloc, &mut broken, Status::LoadRefused, line)?;
-    broken.fail_read(11)?;
-    let unread = is_told(
-        alloc,
-        &mut broken,
-        Status::ReadFault,
-        b"read failed: d/UnicodeData.txt\n",
-    )?;
-    let mut absent = Box::new(alloc, MemoryShelf::new(alloc))?;
-    place_release(alloc, &mut absent, b"d", b"")?;
-    absent.place(b"o/undo.log", b"old")?;
+    let judged = is_told(alloc, &mut shelf, Status::LoadRefused, line)?;
+    shelf.fail_read(11)?;
+    let line = b"read failed: d/UnicodeData.txt\n";
+    Ok(judged && is_told(alloc, &mut shelf, Status::ReadFault, line)?)
+}
+
+/// A script that is not there is refused as a whole.
+///
+/// - `Memory`: memory ran out.
+fn is_absent_told(alloc: Global) -> Result<bool, Memory> {
+    let mut shelf = Box::new(alloc, MemoryShelf::new(alloc))?;
+    place_release(alloc, &mut shelf, b"d", b"")?;
+    shelf.place(b"o/undo.log", b"old")?;
     let line = b"refused: t line 0 G01\n";
-    Ok(first && unread && is_told(alloc, &mut absent, Status::LoadRefused, line)?)
+    is_told(alloc, &mut shelf, Status::LoadRefused, line)
 }
 
 #[test]
 fn the_release_is_judged_first(rt: HostRuntime) -> Result<(), Fail> {
-    assert!(rt; are_in_order(rt.alloc())?);
+    assert!(rt; is_release_first(rt.alloc())?);
+    assert!(rt; is_absent_told(rt.alloc())?);
     Ok(())
 }
 

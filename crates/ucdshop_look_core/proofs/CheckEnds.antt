@@ -49,7 +49,8 @@ told_line files = summary (counts_of (started files) [])
 tells_alone : (folder output : List ℕ) (verdict : Result (List (List FileItem)) (List ℕ))
     → TellsAlone (finished check_ending (alone verdict)) (judged (derive_job folder output) (alone verdict))
 tells_alone folder output (Ok files) =
-    (refl, append-nil (told_line files ++ refusals []) ∙ ap (λ (told : List ℕ). told_line files ++ told) no_refusals ∙ append-nil (told_line files))
+    let told : List ℕ = told_line files in
+    (refl, append-nil (told ++ refusals []) ∙ ap (λ (more : List ℕ). told ++ more) no_refusals ∙ append-nil told)
 tells_alone folder output (Err line) = refl
 
 pub ends_as_derive : CheckEndsAsDerive

@@ -13,7 +13,8 @@ returns c =
     let none = c.new.ensures.items in
     let carried = c.args.carried.now in
     let bench = c.args.bench.now in
-    let broken : c.in_ok-breaks.breaks ≡ breaks_since (option_map (λ before. before.current) c.args.earlier.now) bench.current = c.in_ok-breaks.ensures in
+    let earlier = option_map (λ before. before.current) c.args.earlier.now in
+    let broken : c.in_ok-breaks.breaks ≡ breaks_since earlier bench.current = c.in_ok-breaks.ensures in
     record {
       files = ap files_of none;
       lines = subst HaveLines (sym none) refl;

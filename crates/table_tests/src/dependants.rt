@@ -143,19 +143,25 @@ fn askers_after_sweeps(rt: HostRuntime) -> Result<(), Fail> {
 fn sweep_letters(rt: &impl Abort, alloc: Global, map: &mut Map) -> Result<(), Fail> {
     put(alloc, map, acute().ok_or("a letter")?)?;
     for round in 0..1_000 {
-        put(
-            alloc,
-            map,
-            letter(0xC0, 0x41, 0x310 + round % 8).ok_or("a letter")?,
-        )?;
-        map.commit();
-        map.sweep();
+        sweep_letter(alloc, map, 0x310 + round % 8)?;
     }
+    look_at_swept(rt, map);
+    Ok(())
+}
+
+/// A with grave gets this mark.
+fn sweep_letter(alloc: Global, map: &mut Map, mark: u32) -> Result<(), Fail> {
+    put(alloc, map, letter(0xC0, 0x41, mark).ok_or("a letter")?)?;
+    map.commit();
+    map.sweep();
+    Ok(())
+}
+
+fn look_at_swept(rt: &impl Abort, map: &Map) {
     expect(rt, map, row(0x41), &[0x41, 0xC0, 0xC1]);
     expect(rt, map, row(0x301), &[0xC1, 0x301]);
     expect(rt, map, row(0x310), &[0x310]);
     expect(rt, map, row(0x317), &[0xC0, 0x317]);
-    Ok(())
 }
 
 #[test]

@@ -300,6 +300,16 @@ fn answers_alike<L: Ledger>(
     steps: &mut Steps<L>,
 ) -> Result<bool, Fail> {
     let mut desk = Desk::new(alloc, bench);
+    desk_answers_alike(alloc, &mut desk, count, steps)
+}
+
+/// The same of a new desk.
+fn desk_answers_alike<L: Ledger>(
+    alloc: Global,
+    desk: &mut Desk,
+    count: u32,
+    steps: &mut Steps<L>,
+) -> Result<bool, Fail> {
     let mut draws = Draws(48);
     let mut plain = Plain {
         editors: 0,
@@ -308,16 +318,27 @@ fn answers_alike<L: Ledger>(
         groups: Vec::new(alloc),
     };
     for _ in 0..count {
-        let drawn = drawn_event(&mut draws, plain.revision);
-        let expected = plain.answer(&drawn)?;
-        if reply_to(alloc, &mut desk, &drawn, steps)? != expected {
-            return Ok(false);
-        }
-        if !are_touched_alike(alloc, &desk, &plain)? {
+        if !event_is_alike(alloc, desk, &mut plain, &mut draws, steps)? {
             return Ok(false);
         }
     }
     Ok(plain.revision > count / 20)
+}
+
+/// Whether a desk answers one more drawn event as the model does, and both are alike behind it.
+fn event_is_alike<L: Ledger>(
+    alloc: Global,
+    desk: &mut Desk,
+    plain: &mut Plain,
+    draws: &mut Draws,
+    steps: &mut Steps<L>,
+) -> Result<bool, Fail> {
+    let drawn = drawn_event(draws, plain.revision);
+    let expected = plain.answer(&drawn)?;
+    if reply_to(alloc, desk, &drawn, steps)? != expected {
+        return Ok(false);
+    }
+    are_touched_alike(alloc, desk, plain)
 }
 
 /// The same of a desk over a release with no row.

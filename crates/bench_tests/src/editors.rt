@@ -116,18 +116,27 @@ fn answers_so<L: Ledger>(
     steps: &mut Steps<L>,
 ) -> Result<bool, Fail> {
     let mut desk = Desk::new(alloc, bench);
+    desk_answers(alloc, &mut desk, acts, expected, steps)
+}
+
+/// Whether a desk at which nobody was yet answers the events so.
+fn desk_answers<L: Ledger>(
+    alloc: Global,
+    desk: &mut Desk,
+    acts: &[(Act, &[Edit])],
+    expected: &[Told],
+    steps: &mut Steps<L>,
+) -> Result<bool, Fail> {
     let events = events_of(alloc, acts)?;
     if desk.revision() > 0 || events.len() > 4096 {
         return Ok(false);
     }
     let replies = desk.run_events(events.as_slice(), steps)?;
-    Ok(
-        replies
-            .as_slice()
-            .iter()
-            .map(in_words)
-            .eq(expected.iter().copied()),
-    )
+    Ok(are_told(replies.as_slice(), expected))
+}
+
+fn are_told(replies: &[Reply], expected: &[Told]) -> bool {
+    replies.iter().map(in_words).eq(expected.iter().copied())
 }
 
 /// The same of a desk over these lines of UnicodeData.txt, with all other files empty.

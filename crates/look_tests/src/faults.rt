@@ -149,6 +149,11 @@ fn each_failed_read_is_told(rt: HostRuntime) -> Result<(), Fail> {
             "read {nth}"
         );
     }
+    Ok(())
+}
+
+#[test]
+fn failed_reads_beside_the_folder_are_told(rt: HostRuntime) -> Result<(), Fail> {
     let check: [&[u8]; 4] = [b"check", b"d", b"s", b"p"];
     assert!(rt; tells_read(rt.alloc(), &check, 10, b"s")?);
     assert!(rt; tells_read(rt.alloc(), &check, 19, b"p/PropertyValueAliases.txt")?);

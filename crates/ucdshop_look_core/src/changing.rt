@@ -64,7 +64,7 @@ fn plan_over<L: Ledger>(
     plan_from(alloc, &mut bench, earlier, commands.as_slice(), steps)
 }
 
-/// The same of a bench and its records, which are let go. The text is made once, and moves into the plan.
+/// The same of a bench and its records, which are let go.
 fn plan_from<L: Ledger>(
     alloc: Global,
     bench: &mut Bench,
@@ -77,8 +77,23 @@ fn plan_from<L: Ledger>(
     ensures { IfOk result (HasPlan (stages_ending (stages bench.old.current commands.now))) }
 {
     let mut earlier = earlier;
+    plan_beside(alloc, bench, &mut earlier, commands, steps)
+}
+
+/// The same of a bench and its records, which follow it. The text is made once, and moves into the plan.
+fn plan_beside<L: Ledger>(
+    alloc: Global,
+    bench: &mut Bench,
+    earlier: &mut Earlier,
+    commands: &[Command],
+    steps: &mut Steps<L>,
+) -> Result<Plan, Memory>
+    requires ready { All IsReady commands.now }
+    requires earlier { SameValues (earlier_record earlier.old) (bench_record bench.old) }
+    ensures { IfOk result (HasPlan (stages_ending (stages bench.old.current commands.now))) }
+{
     let mut text = Text::new(alloc);
-    let refused = tell_all(alloc, bench, &mut earlier, commands, &mut text, steps)?;
+    let refused = tell_all(alloc, bench, earlier, commands, &mut text, steps)?;
     Ok(Plan {
         outputs: Vec::new(alloc),
         summary: text,

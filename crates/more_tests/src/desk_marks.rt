@@ -129,17 +129,24 @@ fn files_of_events_are_refused_by_their_first_fault(rt: HostRuntime) -> Result<(
 ///
 /// - `Memory`: memory ran out.
 fn are_in_order(alloc: Global) -> Result<bool, Memory> {
+    Ok(tells_the_release(alloc)? && tells_an_absent_file(alloc)?)
+}
+
+fn tells_the_release(alloc: Global) -> Result<bool, Memory> {
     let mut broken = shelf_of(alloc, b"@\n")?;
     place_release(alloc, &mut broken, b"d", b"0041\n")?;
-    let first = is_told(
+    is_told(
         alloc,
         &mut broken,
         b"refused: d/UnicodeData.txt line 1 G03\n",
-    )?;
+    )
+}
+
+fn tells_an_absent_file(alloc: Global) -> Result<bool, Memory> {
     let mut absent = Box::new(alloc, MemoryShelf::new(alloc))?;
     place_release(alloc, &mut absent, b"d", b"")?;
     absent.place(b"o/desk.log", b"old")?;
-    Ok(first && is_told(alloc, &mut absent, b"refused: t line 0 G01\n")?)
+    is_told(alloc, &mut absent, b"refused: t line 0 G01\n")
 }
 
 #[test]

@@ -11,9 +11,9 @@
 -- cases_from part lines         what the lines hold, of which the first stands in this part
 -- cases_or_fault bytes          what the file holds: its first line stands in part 0
 -- onto before result            the cases behind those of `before`
--- CasesAs result expected       the cases, or the fault, are what was expected; want of memory says nothing
+-- CasesAs result expected       the cases, or the fault, are what was expected; no claim if memory ran out
 -- LineAs result n part old new said   line n was put to the cases before it: `result` is the part of the lines behind it, or the rule
---                               that the line breaks; want of memory says nothing
+--                               that the line breaks; no claim if memory ran out
 use Rattle.std.specs.Prelude.{◌≡◌, ℕ, ◌+◌, false, ◌||◌, List, [], ◌∷◌, ◌++◌, Result, Ok, Err, ◌==◌, ⊤}
 use Rattle.ucd_points.specs.Lines.{LineItem, items_of}
 use Rattle.norm_conformance.specs.Lines.{said}

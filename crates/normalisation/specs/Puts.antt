@@ -1,5 +1,5 @@
 -- PutsExpansion old new result value   the value, a list of points or the rule in its place, was put behind the old list;
---                                      want of memory says nothing
+--                                      no claim if memory ran out
 use Rattle.std.specs.Prelude.{◌≡◌, ℕ, List, Result, Ok, Err, ⊤}
 use Rattle.ucd_model.specs.declared.form.Bad.{Bad as Rule}
 use Rattle.ucd_model.specs.declared.form.FormStop.{FormStop}

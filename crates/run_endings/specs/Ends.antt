@@ -4,7 +4,7 @@
 --
 -- Untouched shelf                 nothing of the shelf changed
 -- IsPlanned p job answer shelf    what was seen at the paths that the job needs gives the plan, or the line that refuses; a read that
---                                 failed, and want of memory, say nothing
+--                                 failed says nothing; no claim if memory ran out
 -- Prepares p job answer shelf     so it is, and the shelf was only read: with a read that failed the line names a path that the
 --                                 job needs
 -- Plans p words planned shelf     the words have no form, and the shelf is untouched; or they have one, and its job was prepared

@@ -11,7 +11,7 @@ pub enum Stop {
     Refused(Text),
     /// A file could not be read.
     ReadFailed(Text),
-    /// Memory was wanted, and there was none.
+    /// Memory ran out.
     Memory,
 }
 

@@ -25,7 +25,7 @@ pub enum Found {
 pub enum ReadStop {
     /// The read failed, and was counted as a fault.
     Failed,
-    /// Memory was wanted, and there was none.
+    /// Memory ran out.
     Memory,
 }
 

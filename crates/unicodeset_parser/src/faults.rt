@@ -48,7 +48,7 @@ pub(crate) fn range_fault(end: usize, at: usize, wrong: Wrong) -> SetStop
     }
 }
 
-/// Behind the whole set, where nothing may stand, so that no name is looked at.
+/// The fault of such a token after the whole set: nothing may stand there, so no name is looked at.
 pub(crate) fn late_fault(at: usize, wrong: Wrong) -> SetStop
     ensures { result ≡ stop_of (late_fault at wrong) }
 {

@@ -1,7 +1,8 @@
 //! Stores over a table of places.
 
-ghost use Rattle.std.specs.Prelude.{◌≡◌, ◌≢◌, ℕ, ◌+◌, ◌%◌, ◌<◌, ◌≤◌};
+ghost use Rattle.std.specs.Prelude.{◌≡◌, ◌≢◌, ℕ, ◌+◌, ◌%◌, ◌<◌, ◌≤◌, IfOk};
 ghost use Rattle.range_table.specs.Values.{SameValues};
+ghost use Rattle.kept_values.specs.Copies.{Copies};
 ghost use Rattle.kept_values.specs.Slots.{AreHeld};
 
 use crate::slots::Slots;
@@ -9,7 +10,7 @@ use crate::store::Store;
 use crate::used::{spare_next, spare_now};
 use range_table::{Stretches, Table};
 use std::alloc::Global;
-use ucd_points::{Memory, Point, Span};
+use ucd_points::{Copied, Memory, Point, Span};
 
 /// A store that keeps its values one after another, and the place of each code point's value in a table of type `T`.
 ///
@@ -89,6 +90,27 @@ impl<T: Table<u64>, V: Drop> Store<V> for Kept<T, V> {
     fn shrink_to_fit(&mut self) {
         self.places.shrink_to_fit();
         self.slots.shrink_to_fit();
+    }
+}
+
+impl<T: Table<u64> + Copied, V: Drop> Kept<T, V> {
+    /// The same values at the same places, now and next, each of them as `copy` makes it.
+    ///
+    /// - `Memory`: memory ran out.
+    pub fn copied<F: Fn(&V) -> Result<V, Memory>>(
+        &self,
+        alloc: Global,
+        copy: F,
+    ) -> Result<Kept<T, V>, Memory>
+        requires callable { F.IsAlwaysCallable copy }
+        requires copies { Copies (F.post copy) }
+        ensures now { IfOk result (λ kept. ⟦<Kept<T, V> as Store<V>>⟧.now kept ≡ ⟦<Kept<T, V> as Store<V>>⟧.now self.now) }
+        ensures next { IfOk result (λ kept. ⟦<Kept<T, V> as Store<V>>⟧.next kept ≡ ⟦<Kept<T, V> as Store<V>>⟧.next self.now) }
+    {
+        Ok(Kept {
+            places: self.places.copied(alloc)?,
+            slots: self.slots.copied(alloc, copy)?,
+        })
     }
 }
 

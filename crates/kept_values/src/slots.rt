@@ -1,6 +1,7 @@
 //! Values at places, of which some may be let go.
 
 ghost use Rattle.std.specs.Prelude.{◌≡◌, ℕ, ◌+◌, ◌≤◌, true, false, None, Some, is_some, length, slice_get, slice_index_or, IfOk, IfSome};
+ghost use Rattle.kept_values.specs.Copies.{Copies};
 ghost use Rattle.kept_values.specs.Slots.{held_at, is_unused, value_at};
 
 use std::alloc::Global;
@@ -35,6 +36,30 @@ impl<V: Drop> Slots<V> {
             free: Vec::new(alloc),
             few: FEW,
         }
+    }
+
+    /// The same values at the same places, each of them as `copy` makes it.
+    ///
+    /// - `Memory`: memory ran out.
+    pub fn copied<F: Fn(&V) -> Result<V, Memory>>(
+        &self,
+        alloc: Global,
+        copy: F,
+    ) -> Result<Slots<V>, Memory>
+        requires callable { F.IsAlwaysCallable copy }
+        requires copies { Copies (F.post copy) }
+        ensures first { IfOk result (λ slots. slots.first ≡ self.now.first) }
+        ensures more { IfOk result (λ slots. slots.more.items ≡ self.now.more.items) }
+    {
+        let first = copy(&self.first)?;
+        let more = copied_all(alloc, &self.more, copy)?;
+        Ok(Slots {
+            alloc,
+            first,
+            more,
+            free: Vec::from_slice(alloc, &self.free)?,
+            few: self.few,
+        })
     }
 
     /// The value at a place; the first one if none is held.
@@ -166,4 +191,27 @@ fn list_free<V: Drop>(more: &[Option<V>], free: &mut Vec<usize>) {
             return;
         }
     }
+}
+
+/// Copies of the values at places, as `copy` makes them.
+///
+/// - `Memory`: memory ran out.
+fn copied_all<V: Drop, F: Fn(&V) -> Result<V, Memory>>(
+    alloc: Global,
+    values: &[Option<V>],
+    copy: F,
+) -> Result<Vec<Option<V>>, Memory>
+    requires callable { F.IsAlwaysCallable copy }
+    requires copies { Copies (F.post copy) }
+    ensures { IfOk result (λ copies. copies.items ≡ values.now) }
+{
+    let mut copies = Vec::with_capacity(alloc, values.len())?;
+    'values: for value in values {
+        let made = match value {
+            Some(value) => Some(copy(value)?),
+            None => None,
+        };
+        copies.push(made)?;
+    }
+    Ok(copies)
 }

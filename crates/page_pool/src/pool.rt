@@ -8,7 +8,7 @@ use crate::block::{WORDS, clear, copy_words, put, read};
 use crate::free::{add_free, give_free, take_free};
 use std::alloc::Global;
 use std::marker::Model;
-use ucd_points::Memory;
+use ucd_points::{Copied, Memory};
 
 /// Pages of 256 words, in one block of memory. A page that is taken is live until it is given back.
 /// Contracts see the words, and which pages are live. The block is freed with the pool.
@@ -141,5 +141,15 @@ impl PagePool {
             from as usize * WORDS,
             to as usize * WORDS,
         );
+    }
+}
+
+impl Copied for PagePool {
+    fn copied(&self, alloc: Global) -> Result<PagePool, Memory> {
+        let words = Vec::from_slice(alloc, &self.words)?;
+        let live = Vec::from_slice(alloc, &self.live)?;
+        let mut free = Vec::with_capacity(alloc, self.live.len())?;
+        free.extend_from_slice(&self.free)?;
+        Ok(PagePool { words, live, free })
     }
 }

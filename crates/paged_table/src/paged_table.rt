@@ -14,7 +14,7 @@ use page_pool::PagePool;
 use range_table::{Stretches, Table};
 use std::alloc::Global;
 use std::marker::Model;
-use ucd_points::{Memory, Point, Span};
+use ucd_points::{Copied, Memory, Point, Span};
 
 /// A table of words that keeps the 256 values of a block in a page, or, if they are all equal, keeps that value once.
 ///
@@ -150,6 +150,21 @@ impl Stretches<u64> for PagedTable {
 
     fn last_of_stretch_next(&self, c: Point) -> Point {
         last_alike(&self.pool, &self.prepared, c)
+    }
+}
+
+impl Copied for PagedTable {
+    fn copied(&self, alloc: Global) -> Result<PagedTable, Memory> {
+        let pool = self.pool.copied(alloc)?;
+        let committed = Vec::from_slice(alloc, &self.committed)?;
+        let prepared = Vec::from_slice(alloc, &self.prepared)?;
+        let touched = Vec::from_slice(alloc, &self.touched)?;
+        Ok(PagedTable {
+            pool,
+            committed,
+            prepared,
+            touched,
+        })
     }
 }
 

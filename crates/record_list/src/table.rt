@@ -6,6 +6,8 @@ ghost use Rattle.range_table.specs.Values.{SameValues, with_span};
 ghost use Rattle.ucd_model.specs.Records.{kept_record};
 ghost use Rattle.record_list.specs.Records.{record_next, record_now, written};
 
+use crate::copy::copied_record;
+use crate::witnesses::{Witnesses, slot_of};
 use kept_values::{Kept, Store};
 use paged_table::PagedTable;
 use std::alloc::Global;
@@ -14,11 +16,12 @@ use ucd_model::{Memory, Point, Record, Records, Span};
 /// The records of all code points, twice: those now, and those next. `prepare` and `prepare_span` change what is next,
 /// `commit` makes it what is now, and `discard` drops it.
 ///
-/// A record is held once for neighbours that have it, if they got it one after another. Records that no code point has any
-/// more stay until [`RecordTable::sweep`] lets them go.
+/// A record is held once for neighbours that have it, if they got it one after another, and mostly once for all code points
+/// that have it. Records that no code point has any more stay until [`RecordTable::sweep`] lets them go.
 #[derive(Drop)]
 pub struct RecordTable {
     records: HeldRecords,
+    witnesses: Witnesses,
 }
 
 type HeldRecords = Kept<PagedTable, Record>;
@@ -31,9 +34,25 @@ impl RecordTable {
         ensures now { IfOk result (λ table. SameValues (record_now table) (λ _. kept_record value)) }
         ensures next { IfOk result (λ table. SameValues (record_next table) (λ _. kept_record value)) }
     {
+        let witnesses = Witnesses::new(alloc)?;
         Ok(RecordTable {
             records: HeldRecords::filled(alloc, value)?,
+            witnesses,
         })
+    }
+
+    /// The same records, now and next. A record that is held once is held once in the copy.
+    ///
+    /// - `Memory`: memory ran out.
+    pub fn copied(&self, alloc: Global) -> Result<RecordTable, Memory>
+        ensures now { IfOk result (λ table. SameValues (record_now table) (record_now self.now)) }
+        ensures next { IfOk result (λ table. SameValues (record_next table) (record_next self.now)) }
+    {
+        let witnesses = Witnesses::new(alloc)?;
+        let records = self
+            .records
+            .copied(alloc, |record| copied_record(alloc, record))?;
+        Ok(RecordTable { records, witnesses })
     }
 
     /// The last code point of the stretch of equal records that a code point lies in now. It takes time in proportion
@@ -65,10 +84,12 @@ impl RecordTable {
         ensures ok { OnOk result (SameValues (record_next self.new) (with_span (record_next self.old) span.lo span.hi (kept_record value))) }
         ensures err { OnErr result (SameValues (record_next self.new) (record_next self.old)) }
     {
-        match place_before(&self.records, span, &value) {
+        let slot = slot_of(&value);
+        match place_of(&self.records, span, self.witnesses.point(slot), &value) {
             Some(place) => self.records.prepare_held(span, place)?,
             None => self.records.prepare(span, value)?,
         }
+        self.witnesses.put(slot, span.lo);
         Ok(())
     }
 
@@ -143,16 +164,25 @@ impl Records for RecordTable {
     }
 }
 
-/// The place of a record, if the code point in front of a span has it next.
-fn place_before(records: &HeldRecords, span: Span, value: &Record) -> Option<u64>
+/// The place of a record, if the code point in front of a span or a witness has it next.
+fn place_of(records: &HeldRecords, span: Span, witness: Point, value: &Record) -> Option<u64>
     ensures { IfSome result (λ place. held records.now place ≡ Some value.now) }
 {
-    if span.first() == 0 {
-        return None;
+    if span.first() > 0 {
+        let before = Point::at(span.first() - 1);
+        if let Some(place) = place_at(records, before, value) {
+            return Some(place);
+        }
     }
-    let before = Point::at(span.first() - 1);
-    if records.get_next(before).is_same(value) {
-        Some(records.place_next(before))
+    place_at(records, witness, value)
+}
+
+/// The place of a record, if a code point has it next.
+fn place_at(records: &HeldRecords, c: Point, value: &Record) -> Option<u64>
+    ensures { IfSome result (λ place. held records.now place ≡ Some value.now) }
+{
+    if records.get_next(c).is_same(value) {
+        Some(records.place_next(c))
     } else {
         None
     }

@@ -4,7 +4,7 @@
 -- differs R G c            c has another record over G than that of R
 -- AsksAnew G points A B    B gives what each of the points asks of G, and of every other code point what A gives
 -- IsFound G c result       the result is the record of c over G and what c asks; or in its place c with the first rule that it
---                          breaks; want of memory says nothing
+--                          breaks; no claim if memory ran out
 -- IsPut R c value old new  c is put behind the others with this record, where that is another than that of R
 -- IsAdded R G c old new A B   c has a record over G, which is put behind the others where it is another; and B gives what c asks of
 --                          G, and of every other code point what A gives

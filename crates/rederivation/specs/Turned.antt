@@ -6,8 +6,8 @@
 --                            next, is the same, and Q are the questions that F and G do not answer alike
 -- IsTurned F G S B points    after: all code points have a record over G, S is these records, B what the code points ask, and the
 --                            points are those whose records differ
--- StopsTurn G stop           the stop names the least code point that breaks a rule over G, with its first rule; want of memory says
---                            nothing
+-- StopsTurn G stop           the stop names the least code point that breaks a rule over G, with its first rule; no claim if memory
+--                            ran out
 -- CountsWithin F G old new   the counter rises by at most the number of code points that depend on the change
 use Rattle.std.specs.Prelude.{◌≡◌, ℕ, ◌+◌, ◌<◌, ◌≤◌, not, List, filter, Some, ⊤}
 use Rattle.std.specs.List.{range_with_len}

@@ -15,7 +15,7 @@ pub enum AgainStop {
         /// The first of the code points that breaks a rule.
         point: Point,
     },
-    /// Memory was wanted, and there was none.
+    /// Memory ran out.
     Memory,
 }
 

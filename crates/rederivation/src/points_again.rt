@@ -1,7 +1,7 @@
 //! The derivation of some code points, which is counted.
 
 ghost use Rattle.std.specs.Prelude.{◌≡◌, ◌+◌, ◌≤◌, length, Err, IfErr, IfOk, OnOk};
-ghost use Rattle.range_table.specs.Values.{SameValues};
+ghost use Rattle.range_table.specs.Values.{SameValues, with_span};
 ghost use Rattle.dependency_map.specs.Maps.{asked_at};
 ghost use Rattle.rederivation.specs.Again.{AsksAnew, IsAdded, IsAgain, IsFound, IsPut, StopsAt};
 
@@ -58,13 +58,27 @@ fn derive_more<W: FactView, R: Records, S: Store<Option<Queries>>, L: Ledger>(
     ensures step { steps.new ≡ steps.old + 1 }
 {
     match derive_asked(alloc, view, c, steps) {
-        Ok(found) => {
-            map.prepare(c, &found.asked)?;
-            put(records, c, found.value, made)?;
-            Ok(())
-        }
+        Ok(found) => Ok(put_found(records, c, found, made, map)?),
         Err(stop) => Err(stop),
     }
+}
+
+/// Prepares what a code point asks, and puts it and its record behind the others, if the record differs from the one before.
+///
+/// - `Memory`: memory ran out. What it asks may be prepared.
+fn put_found<R: Records, S: Store<Option<Queries>>>(
+    records: &R,
+    c: Point,
+    found: Derived,
+    made: &mut Again,
+    map: &mut DependencyMap<S>,
+) -> Result<(), Memory>
+    ensures put { OnOk result (IsPut (R.record_of records.now) c found.value made.old made.new) }
+    ensures asked { OnOk result (SameValues (asked_at S.next map.new) (with_span (asked_at S.next map.old) c c found.asked)) }
+    ensures now { SameValues (asked_at S.now map.new) (asked_at S.now map.old) }
+{
+    map.prepare(c, &found.asked)?;
+    put(records, c, found.value, made)
 }
 
 /// Puts a code point and its record behind the others, if the record differs from the one before.

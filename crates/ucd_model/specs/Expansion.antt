@@ -12,8 +12,8 @@
 -- full F compat c         the expansion with 8 levels, so along chains of at most 7 mappings (real releases need 3)
 -- judged expansion        V2 where there is none; V3 where it has more than 64 points (NFKD of FDFA has 18)
 -- expansion F compat c    the full expansion of c, or the rule that c breaks
--- rule_of stop            the rule that a code point breaks; None for want of memory
--- FormAnswers r value     r is the value, or the rule in its place; want of memory says nothing
+-- rule_of stop            the rule that a code point breaks; None if memory ran out
+-- FormAnswers r value     r is the value, or the rule in its place; no claim if memory ran out
 use Rattle.std.specs.Prelude.{◌≡◌, ℕ, zero, suc, Bool, true, false, List, [], ◌∷◌, ◌++◌, length, nat_lt, Option, Some, None, Result, Ok, Err, if◌then◌else◌}
 use Rattle.ucd_points.specs.Answers.{AnswersBy}
 use Rattle.ucd_model.specs.Facts.{Facts}

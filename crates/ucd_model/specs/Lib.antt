@@ -25,6 +25,7 @@ pub mod Validity
 pub mod ValidityLaws
 pub mod ValidityProofs
 pub mod Uniform
+pub mod Unmapped
 pub mod Cuts
 pub mod CutLemmas
 pub mod Labels
@@ -36,6 +37,7 @@ pub mod Enumerations
 pub mod EnumerationProofs
 pub mod Sameness
 pub mod SamenessProofs
+pub mod KeptNumbers
 pub mod NameLaws
 pub mod NameProofs
 pub mod FactsLaws

@@ -4,6 +4,7 @@ ghost use Rattle.std.specs.Prelude.{◌≡◌};
 ghost use Rattle.ucd_model.specs.Facts.{unassigned};
 ghost use Rattle.ucd_model.specs.FactList.{kept_facts};
 ghost use Rattle.ucd_model.specs.Shown.{shown_facts};
+ghost use Rattle.ucd_model.specs.Unmapped.{is_unmapped};
 
 use crate::category::Category;
 use crate::decomposition::Kind;
@@ -126,5 +127,12 @@ impl FactsRef<'_> {
             mid_word: false,
             excluded: false,
         }
+    }
+
+    /// Whether the point is its own image by each full case mapping, and by the folding. UAX #44, section 5.6.
+    pub fn is_unmapped(&self) -> bool
+        ensures { result ≡ is_unmapped (shown_facts self.now) }
+    {
+        self.lower.is_none() && self.upper.is_none() && self.title.is_none() && self.fold.is_none()
     }
 }

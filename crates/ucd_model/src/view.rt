@@ -2,7 +2,9 @@
 
 ghost use Rattle.std.specs.Prelude.{◌≡◌, ℕ};
 ghost use Rattle.ucd_model.specs.Facts.{Facts};
-ghost use Rattle.ucd_model.specs.Shown.{shown_facts};
+ghost use Rattle.ucd_model.specs.Sets.{has_flag};
+ghost use Rattle.ucd_model.specs.Shown.{image_shown, shown_facts};
+ghost use Rattle.ucd_model.specs.Unmapped.{is_unmapped};
 ghost use Rattle.ucd_model.specs.Composites.{pair_of, second_of};
 
 use crate::category::Category;
@@ -94,5 +96,40 @@ pub trait FactView {
         ensures { result.now ≡ (facts_of self.now c).mapping }
     {
         self.facts(c).mapping
+    }
+
+    /// The category of a code point. UAX #44, section 5.7.1.
+    fn category(&self, c: Point) -> Category
+        ensures { result ≡ (facts_of self.now c).category }
+    {
+        self.facts(c).category
+    }
+
+    /// Which of the properties in `Flag` a code point has. UAX #44, section 5.3.
+    fn flags(&self, c: Point) -> Flags
+        ensures { has_flag result ≡ (facts_of self.now c).flag }
+    {
+        self.facts(c).flags
+    }
+
+    /// The full folding of a code point; `None` stands for the point itself alone. UAX #44, section 5.6.
+    fn folding(&self, c: Point) -> Option<&[Point]>
+        ensures { image_shown result ≡ (facts_of self.now c).fold }
+    {
+        self.facts(c).fold
+    }
+
+    /// The simple folding of a code point; the point itself if there is none. UAX #44, section 5.6.
+    fn simple_folding(&self, c: Point) -> Point
+        ensures { result ≡ (facts_of self.now c).simple_fold }
+    {
+        self.facts(c).simple_fold
+    }
+
+    /// Whether a code point is its own image by each full case mapping, and by the folding. UAX #44, section 5.6.
+    fn is_unmapped(&self, c: Point) -> bool
+        ensures { result ≡ is_unmapped (facts_of self.now c) }
+    {
+        self.facts(c).is_unmapped()
     }
 }

@@ -57,7 +57,7 @@ flat-cut_by f xs k v w h e =
 pub get_or-flat : {A : Type 0} (xs : List (List A)) (k at : ℕ) (d : A) → k < length xs → at < length (part_at xs k) → get_or (flat xs) (before xs k + at) d ≡ get_or (part_at xs k) at d
 get_or-flat xs k at d lt h = get_or-flat_map (λ part. part) xs k at [] d lt h
 
-part_by : {A B : Type 0} (f : A → List B) (ps : List A) (k : ℕ) (part : A) → k < length ps → part ≡ get_or ps k part → part_at (map f ps) k ≡ f part
+pub part_by : {A B : Type 0} (f : A → List B) (ps : List A) (k : ℕ) (part : A) → k < length ps → part ≡ get_or ps k part → part_at (map f ps) k ≡ f part
 part_by f ps k part h e = get_or-map f ps k part [] h ∙ ap f (sym e)
 
 -- what is next of a part

@@ -4,3 +4,5 @@ pub mod BeforeLemmas
 pub mod FindLemmas
 pub mod PassingLemmas
 pub mod GuideLemmas
+pub mod TagLemmas
+pub mod OrderLemmas

@@ -5,3 +5,5 @@ pub mod Guides
 pub mod PartValues
 pub mod Puts
 pub mod SpotLaws
+pub mod Tags
+pub mod Orders

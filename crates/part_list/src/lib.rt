@@ -2,9 +2,11 @@
 #![tactic(auto)]
 
 mod change;
+mod copy;
 mod entries;
 mod fill;
 mod guides;
+mod order;
 mod part;
 mod part_list;
 mod passing;
@@ -14,6 +16,7 @@ mod search;
 mod seek;
 mod spanned;
 mod spot;
+mod tags;
 mod version;
 
 pub use entries::Entries;

@@ -5,10 +5,12 @@ ghost use Rattle.std.specs.List.{All, filter, position_or_len};
 ghost use Rattle.part_list.specs.Parts.{spliced};
 ghost use Rattle.std.specs.Option.{option_to_list};
 ghost use Rattle.part_list.specs.Finds.{FirstIn, LastIn};
+ghost use Rattle.part_list.specs.Orders.{IsWindow};
 ghost use Rattle.part_list.specs.PartValues.{committed, discarded, has_entries, shown};
 ghost use Rattle.part_list.specs.Puts.{put_entries};
 ghost use Rattle.part_list.specs.Reaches.{IsWithin};
 
+use crate::order::{goes_on, is_ordered, is_ordered_around, window};
 use crate::put::Put;
 use crate::reach::Reach;
 use crate::seek::Seek;
@@ -16,7 +18,7 @@ use crate::spanned::Spanned;
 use crate::version::Version;
 use std::alloc::Global;
 use std::marker::Model;
-use ucd_points::{ListOf, Memory};
+use ucd_points::{Copied, ListOf, Memory};
 
 /// How many entries a part is loaded with. A file of a release has up to 35,000 rows, so it has up to 280 parts.
 const LOADED: usize = 128;
@@ -30,12 +32,16 @@ pub struct Part<T: Copy> {
     /// It bounds the entries next, which are those that are looked at. Edits widen it; `truncate`, `commit` and `discard` make it
     /// as narrow as the entries are.
     reach: Reach,
+    /// Whether it is known that neither first nor last code points descend from one entry next to the next.
+    ordered: bool,
 }
 
 impl<T: Copy> Model for Part<T> {
     ghost use Rattle.std.specs.Option.{is_some, unwrap_or};
     ghost use Rattle.part_list.specs.declared.spanned.Spanned.{Spanned as Entry};
     ghost use Rattle.std.specs.List.{All};
+    ghost use Rattle.std.specs.Prelude.{◌≡◌, true};
+    ghost use Rattle.part_list.specs.Orders.{IsOrdered};
     ghost use Rattle.part_list.specs.PartValues.{PartValue};
     ghost use Rattle.part_list.specs.Reaches.{IsWithin};
 
@@ -43,7 +49,7 @@ impl<T: Copy> Model for Part<T> {
 
     ghost view = { λ p. record { now = p.kept; next = unwrap_or p.edit p.kept; edited = is_some p.edit } };
 
-    ghost invariant = { λ p. All (IsWithin p.reach) (unwrap_or p.edit p.kept) };
+    ghost invariant = { λ p. All (IsWithin p.reach) (unwrap_or p.edit p.kept) × (p.ordered ≡ true → IsOrdered (unwrap_or p.edit p.kept)) };
 }
 
 /// Puts an entry, if there is one, at the end.
@@ -148,6 +154,7 @@ impl<T: Copy> Part<T> {
             kept: ListOf::from_vec(kept),
             edit: None,
             reach: Reach::NONE.with(&entry),
+            ordered: true,
         })
     }
 
@@ -156,10 +163,12 @@ impl<T: Copy> Part<T> {
         ensures { result ≡ record { now = []; next = entries; edited = true } }
     {
         let reach = Reach::NONE.with_all(entries.as_slice());
+        let ordered = is_ordered(entries.as_slice());
         Part {
             kept: ListOf::new(alloc),
             edit: Some(entries),
             reach,
+            ordered,
         }
     }
 
@@ -220,8 +229,10 @@ impl<T: Copy> Part<T> {
         ensures ok { OnOk result (self.new ≡ record { now = self.old.now ++ entry ∷ []; next = self.old.next ++ entry ∷ []; edited = false }) }
         ensures err { OnErr result (self.new ≡ self.old) }
     {
+        let ordered = self.ordered & goes_on(self.kept.as_slice(), &entry);
         self.kept.push(entry)?;
         self.reach = self.reach.with(&entry);
+        self.ordered = ordered;
         Ok(())
     }
 
@@ -242,6 +253,7 @@ impl<T: Copy> Part<T> {
     {
         let edit = spliced(alloc, self.next(), at, removed, put)?;
         self.reach = self.reach.with_some(put.first).with_some(put.second);
+        self.ordered = self.ordered & is_ordered_around(edit.as_slice(), at);
         self.edit = Some(edit);
         Ok(())
     }
@@ -254,6 +266,7 @@ impl<T: Copy> Part<T> {
         if let Some(mut front) = self.edit.take() {
             front.truncate(len);
             self.reach = Reach::NONE.with_all(front.as_slice());
+            self.ordered = is_ordered(front.as_slice());
             self.edit = Some(front);
         }
     }
@@ -275,17 +288,33 @@ impl<T: Copy> Part<T> {
     {
         if self.edit.take().is_some() {
             self.reach = Reach::NONE.with_all(self.kept.as_slice());
+            self.ordered = is_ordered(self.kept.as_slice());
         }
+    }
+
+    /// The places among which all entries next stand that pass, as far as bounds tell: from the first one up to the second one.
+    fn window<S: Seek<T>>(&self, seek: &S) -> (usize, usize)
+        ensures { IsWindow (S.passing seek.now) self.now.next result.0 result.1 }
+    {
+        let entries = self.next();
+        if seek.skips(self.reach) {
+            return (0, 0);
+        }
+        if self.ordered {
+            return window(entries, self.reach, seek);
+        }
+        (0, entries.len())
     }
 
     /// The place of the first entry next that passes.
     pub fn first<S: Seek<T>>(&self, seek: &S) -> Option<usize>
         ensures { FirstIn result (S.passing seek.now) self.now.next }
     {
-        if seek.skips(self.reach) {
-            return None;
+        let (from, to) = self.window(seek);
+        match first_in(&self.next()[from..to], seek) {
+            Some(at) => Some(from + at),
+            None => None,
         }
-        first_in(self.next(), seek)
     }
 
     /// The place of the last entry next that passes.
@@ -298,13 +327,27 @@ impl<T: Copy> Part<T> {
         last_in(self.next(), seek)
     }
 
-    /// The entries next, or none if the bounds tell that no entry passes.
+    /// Entries next that stand together, among which are all that pass.
     pub fn candidates<S: Seek<T>>(&self, seek: &S) -> &[Spanned<T>]
         ensures { filter (S.passing seek.now) result.now ≡ filter (S.passing seek.now) self.now.next }
     {
-        if !seek.skips(self.reach) {
-            return self.next();
-        }
-        &[]
+        let (from, to) = self.window(seek);
+        &self.next()[from..to]
+    }
+}
+
+impl<T: Copy> Copied for Part<T> {
+    fn copied(&self, alloc: Global) -> Result<Part<T>, Memory> {
+        let kept = ListOf::of(alloc, self.kept.as_slice())?;
+        let edit = match &self.edit {
+            Some(edit) => Some(ListOf::of(alloc, edit.as_slice())?),
+            None => None,
+        };
+        Ok(Part {
+            kept,
+            edit,
+            reach: self.reach,
+            ordered: self.ordered,
+        })
     }
 }

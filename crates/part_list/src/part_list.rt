@@ -8,6 +8,7 @@ ghost use Rattle.part_list.specs.Finds.{FirstAt, IsBefore, LastAt, StandsAt};
 ghost use Rattle.part_list.specs.Puts.{put_entries};
 
 use crate::change::{commit_all, discard_all, tidy};
+use crate::copy::copied_parts;
 use crate::entries::Entries;
 use crate::fill::{begin, edit, push};
 use crate::guides::{renew, renew_all};
@@ -19,17 +20,19 @@ use crate::search::{first_spot, last_spot, spot_at, spot_before};
 use crate::seek::Seek;
 use crate::spanned::Spanned;
 use crate::spot::Spot;
+use crate::tags::Tags;
 use crate::version::Version;
 use std::alloc::Global;
 use std::marker::Model;
-use ucd_points::Memory;
+use ucd_points::{Copied, Memory};
 
 /// A list of items, each with the code points that it speaks of, twice: the list now, and the list next. Edits change
 /// what is next, `commit` makes it what is now, and `discard` drops it. Contracts see the parts in which it is kept.
 ///
-/// An edit takes time in proportion to the entries of one part; if a part is cut in two, to the number of parts. A search looks at the
-/// bounds of each block of 16 parts, at those of the parts of blocks that may have what it looks for, and at the entries of such
-/// parts. `commit` and `discard` take no memory. If something was edited they take time in proportion to the number of parts and to the
+/// An edit takes time in proportion to the entries of one part; if a part is cut in two, to the number of parts. The first edit, and later
+/// one after as many as half of the entries, also gathers the tags of all. A search for a tag that no entry has ends at once. Another one
+/// looks at the bounds of each block of 16 parts, at those of the parts of blocks that may have what it looks for, and at the entries of
+/// such parts; if these are in order, at those that bounds of halves do not rule out. `commit` and `discard` take no memory. If something was edited they take time in proportion to the number of parts and to the
 /// entries of those that were edited; otherwise they do nothing.
 #[derive(Debug, Drop)]
 pub struct PartList<T: Copy> {
@@ -37,6 +40,8 @@ pub struct PartList<T: Copy> {
     parts: Vec<Part<T>>,
     /// Bounds of the first blocks of the parts, by which searches pass many at once.
     guides: Vec<Reach>,
+    /// Tags, of which each entry has one now and next, by which searches for another one end at once.
+    tags: Tags,
     /// Whether there may be a part whose entries next are others than now.
     edited: bool,
     /// Whether an entry was taken out of what is next since the last `commit` or `discard`.
@@ -46,15 +51,17 @@ pub struct PartList<T: Copy> {
 impl<T: Copy> Model for PartList<T> {
     ghost use Rattle.part_list.specs.declared.spanned.Spanned.{Spanned as Entry};
     ghost use Rattle.std.specs.Prelude.{◌≡◌, false};
+    ghost use Rattle.std.specs.List.{All};
     ghost use Rattle.part_list.specs.Guides.{Covers};
-    ghost use Rattle.part_list.specs.Parts.{PartLists};
+    ghost use Rattle.part_list.specs.Parts.{PartLists, flat};
     ghost use Rattle.part_list.specs.PartValues.{parts_now, parts_next};
+    ghost use Rattle.part_list.specs.Tags.{IsKnown};
 
     ghost Value = { PartLists (Entry T) };
 
     ghost view = { λ l. record { now = parts_now l.parts.items; next = parts_next l.parts.items } };
 
-    ghost invariant = { λ l. Covers l.guides.items (parts_next l.parts.items) × (l.edited ≡ false → parts_now l.parts.items ≡ parts_next l.parts.items) };
+    ghost invariant = { λ l. Covers l.guides.items (parts_next l.parts.items) × (l.edited ≡ false → parts_now l.parts.items ≡ parts_next l.parts.items) × All (IsKnown l.tags) (flat (parts_now l.parts.items)) × All (IsKnown l.tags) (flat (parts_next l.parts.items)) };
 }
 
 impl<T: Copy> PartList<T> {
@@ -66,6 +73,7 @@ impl<T: Copy> PartList<T> {
             alloc,
             parts: Vec::new(alloc),
             guides: Vec::new(alloc),
+            tags: Tags::unknown(),
             edited: false,
             shrunk: false,
         }
@@ -81,6 +89,7 @@ impl<T: Copy> PartList<T> {
     {
         self.edited = true;
         self.guides.clear();
+        self.tags = Tags::unknown();
         push(self.alloc, &mut self.parts, entry)
     }
 
@@ -95,6 +104,7 @@ impl<T: Copy> PartList<T> {
         let Some(slot) = self.parts.len().checked_sub(1) else {
             self.edited = true;
             self.guides.clear();
+            self.tags = Tags::unknown();
             return begin(self.alloc, &mut self.parts, entry);
         };
         let at = self.parts[slot].next().len();
@@ -112,6 +122,7 @@ impl<T: Copy> PartList<T> {
         ensures err { OnErr result (self.new ≡ self.old) }
     {
         self.edited = true;
+        self.tags.note(self.alloc, &self.parts, put);
         let count = self.parts.len();
         edit(self.alloc, &mut self.parts, spot, removed, put)?;
         if self.parts.len() == count && self.guides.len() > 0 {
@@ -189,6 +200,9 @@ impl<T: Copy> PartList<T> {
     pub fn first<S: Seek<T>>(&self, seek: &S) -> Option<Spot>
         ensures { FirstAt result (S.passing seek.now) self.now.next }
     {
+        if self.tags.lacks(seek) {
+            return None;
+        }
         first_spot(&self.parts, &self.guides, seek)
     }
 
@@ -196,6 +210,9 @@ impl<T: Copy> PartList<T> {
     pub fn last<S: Seek<T>>(&self, seek: &S) -> Option<Spot>
         ensures { LastAt result (S.passing seek.now) self.now.next }
     {
+        if self.tags.lacks(seek) {
+            return None;
+        }
         last_spot(&self.parts, seek)
     }
 
@@ -292,5 +309,20 @@ impl<T: Copy> PartList<T> {
         tidy(&mut self.parts, &mut self.guides, true);
         self.edited = false;
         self.shrunk = false;
+    }
+}
+
+impl<T: Copy> Copied for PartList<T> {
+    fn copied(&self, alloc: Global) -> Result<PartList<T>, Memory> {
+        let parts = copied_parts(alloc, &self.parts)?;
+        let guides = Vec::from_slice(alloc, &self.guides)?;
+        Ok(PartList {
+            alloc,
+            parts,
+            guides,
+            tags: Tags::unknown(),
+            edited: self.edited,
+            shrunk: self.shrunk,
+        })
     }
 }

@@ -1,6 +1,7 @@
 //! What is looked for in a list.
 
 ghost use Rattle.std.specs.Prelude.{◌≡◌, Bool, true};
+ghost use Rattle.std.specs.Option.{IfSome};
 ghost use Rattle.part_list.specs.Reaches.{Skips};
 ghost use Rattle.part_list.specs.declared.spanned.Spanned.{Spanned as Entry};
 
@@ -19,4 +20,11 @@ pub trait Seek<T: Copy> {
     /// Whether it is certain that no entry within these bounds passes.
     fn skips(&self, reach: Reach) -> bool
         ensures { result ≡ true → Skips (passing self.now) reach };
+
+    /// The tag that every entry has that passes; `None` if that is not known.
+    fn tag(&self) -> Option<u32>
+        ensures { IfSome result (λ tag. (entry : Entry T) → passing self.now entry ≡ true → entry.tag ≡ tag) }
+    {
+        None
+    }
 }

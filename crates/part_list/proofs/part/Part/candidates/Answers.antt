@@ -1,8 +1,6 @@
-use Rattle.std.proofs.Common.{sym}
-use Rattle.part_list.proofs.PassingLemmas.{none_pass}
-use Rattle.part_list.proofs.ReachLemmas.{skipped}
+use Rattle.part_list.proofs.OrderLemmas.{left_in}
 use Rattle.part_list.proofs.part.Part.candidates.Goals as goal
 
--- no entry within the reach passes
+-- no entry outside of the window passes
 pub returns : goal.returns
-returns g c = rw (← c.self.view_is) (sym (none_pass _ _ (skipped (g.S.Seek.passing c.args.seek.now) c.self.inside.reach _ (c.skips.ensures c.if-not-skips.false) c.self.invariant)))
+returns g c = rw c.next.ensures (left_in (g.S.Seek.passing c.args.seek.now) c.args.self.now.next c.window-from.result.0 c.window-from.result.1 c.window-from.ensures)

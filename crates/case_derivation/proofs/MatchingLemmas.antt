@@ -1,16 +1,19 @@
 -- One more member, matched.
-use Rattle.std.proofs.Common.{◌≡◌, ◌≢◌, ℕ, ◌+◌, ◌<◌, Bool, true, false, ◌==◌, ◌||◌, ◌&&◌, List, [], ◌∷◌, ◌++◌, Option, Some, None, if◌then◌else◌, length, drop, get_or, refl, sym, ap, ◌∙◌, arith}
+use Rattle.std.proofs.Common.{◌≡◌, ◌≢◌, ℕ, ◌+◌, ◌<◌, Bool, true, false, ◌==◌, ◌||◌, ◌&&◌, List, [], ◌∷◌, ◌++◌, Option, Some, None, if◌then◌else◌, length, take, drop, get_or, refl, sym, ap, ◌∙◌, arith}
 use Rattle.std.specs.Borrow.{Bor}
-use Rattle.std.specs.List.{flat_map}
+use Rattle.std.specs.List.{flat_map, list_any}
 use Rattle.std.specs.Option.{MatchOption}
 use Rattle.std.specs.Str.{bytes_eq}
 use Rattle.std.proofs.lemmas.Slice.Eq.{bytes_eq-Decides}
 use Rattle.std.proofs.lemmas.Bool.Decides.{nat_tests}
 use Rattle.std.proofs.lemmas.List.{at_drop_more}
+use Rattle.std.proofs.lemmas.List.Folds.{list_any_more}
 use Rattle.ucd_model.specs.Casing.{lower, title, title_of}
 use Rattle.ucd_model.specs.Facts.{Facts, image_points}
 use Rattle.ucd_model.specs.Predicates.{cased}
-use Rattle.ucd_model.specs.declared.image.Image.TheVariants.{Same}
+use Rattle.ucd_model.specs.Unmapped.{is_same, is_unmapped}
+use Rattle.ucd_model.specs.declared.image.Image.{Image}
+use Rattle.ucd_model.specs.declared.image.Image.TheVariants.{Same, To}
 use Rattle.case_derivation.specs.Matching.{matches}
 use Rattle.case_derivation.specs.Steps.{titled, title_image}
 
@@ -49,10 +52,13 @@ titled_step F false c rest = first_step F c rest (cased (F c))
 
 -- ---- the members of a list in turn
 
+next : (s : List ℕ) (i c : ℕ) → i < length s → c ≡ get_or s i c → drop i s ≡ c ∷ drop (i + 1) s
+next s i c lt is = at_drop_more (λ xs. xs) s i c lt ∙ ap (λ x. x ∷ drop (i + 1) s) (sym is)
+
 module _ (s : List ℕ) (i c : ℕ) (lt : i < length s) (is : c ≡ get_or s i c) (left new : Option (Bor (List ℕ))) (image : List ℕ)
     (step : (mapped : List ℕ) → matches new mapped ≡ matches left (image ++ mapped)) where
   more : drop i s ≡ c ∷ drop (i + 1) s
-  more = at_drop_more (λ xs. xs) s i c lt ∙ ap (λ x. x ∷ drop (i + 1) s) (sym is)
+  more = next s i c lt is
 
   pub mapped_more : (f : ℕ → List ℕ) → image ≡ f c → matches new (flat_map f (drop (i + 1) s)) ≡ matches left (flat_map f (drop i s))
   mapped_more f e =
@@ -64,3 +70,54 @@ module _ (s : List ℕ) (i c : ℕ) (lt : i < length s) (is : c ≡ get_or s i c
       let rest : List ℕ = drop (i + 1) s in
       step (titled F new_begun rest) ∙ ap (λ x. matches left (image ++ titled F x rest)) b ∙ ap (λ xs. matches left (xs ++ titled F (begun || cased (F c)) rest)) e
       ∙ ap (matches left) (sym (titled_step F begun c rest)) ∙ ap (λ xs. matches left (titled F begun xs)) (sym more)
+
+-- ---- members that stay
+
+same_image : (i : Image) → is_same i ≡ true → i ≡ Same
+same_image Same e = refl
+same_image (To points) e = cc
+
+both_true : (t u : Bool) → (t && u) ≡ true → (t ≡ true) × (u ≡ true)
+both_true true u e = (refl, e)
+both_true false u e = cc
+
+pub record StaysBy (G : Facts) : Type 0 where
+  pub lower : G.lower ≡ Same
+  pub upper : G.upper ≡ Same
+  pub title : G.title ≡ Same
+  pub fold : G.fold ≡ Same
+
+pub unmapped_stays : (G : Facts) → is_unmapped G ≡ true → StaysBy G
+unmapped_stays G e =
+    let first = both_true (is_same G.lower) (is_same G.upper && (is_same G.title && is_same G.fold)) e in
+    let second = both_true (is_same G.upper) (is_same G.title && is_same G.fold) first.1 in
+    let third = both_true (is_same G.title) (is_same G.fold) second.1 in
+    record { lower = same_image G.lower first.0; upper = same_image G.upper second.0; title = same_image G.title third.0; fold = same_image G.fold third.1 }
+
+if_same : (t : Bool) (i : Image) → i ≡ Same → (if t then i else Same) ≡ Same
+if_same true i e = e
+if_same false i e = refl
+
+title_stays : (begun : Bool) (G : Facts) → StaysBy G → title_image begun G ≡ Same
+title_stays true G stays = stays.lower
+title_stays false G stays = if_same (cased G) G.title stays.title
+
+pub mapped_stays : (f : ℕ → List ℕ) (s : List ℕ) (i c : ℕ) → i < length s → c ≡ get_or s i c → f c ≡ c ∷ []
+    → bytes_eq (flat_map f (drop (i + 1) s)) (drop (i + 1) s) ≡ bytes_eq (flat_map f (drop i s)) (drop i s)
+mapped_stays f s i c lt is e =
+    let rest : List ℕ = drop (i + 1) s in
+    sym (same_head c (flat_map f rest) rest)
+    ∙ sym (ap (λ (xs : List ℕ). bytes_eq (xs ++ flat_map f rest) (c ∷ rest)) e)
+    ∙ sym (ap (λ (xs : List ℕ). bytes_eq (flat_map f xs) xs) (next s i c lt is))
+
+pub titled_stays : (F : ℕ → Facts) (s : List ℕ) (i c : ℕ) → i < length s → c ≡ get_or s i c → StaysBy (F c)
+    → bytes_eq (titled F (list_any (λ x. cased (F x)) (take (i + 1) s)) (drop (i + 1) s)) (drop (i + 1) s) ≡ bytes_eq (titled F (list_any (λ x. cased (F x)) (take i s)) (drop i s)) (drop i s)
+titled_stays F s i c lt is stays =
+    let rest : List ℕ = drop (i + 1) s in
+    let begun : Bool = list_any (λ x. cased (F x)) (take i s) in
+    let more : list_any (λ x. cased (F x)) (take (i + 1) s) ≡ (begun || cased (F c)) = list_any_more (λ x. cased (F x)) s i c lt ∙ ap (λ x. begun || cased (F x)) (sym is) in
+    ap (λ b. bytes_eq (titled F b rest) rest) more
+    ∙ sym (same_head c (titled F (begun || cased (F c)) rest) rest)
+    ∙ sym (ap (λ (j : Image). bytes_eq (image_points c j ++ titled F (begun || cased (F c)) rest) (c ∷ rest)) (title_stays begun (F c) stays))
+    ∙ sym (ap (λ (xs : List ℕ). bytes_eq xs (c ∷ rest)) (titled_step F begun c rest))
+    ∙ sym (ap (λ (xs : List ℕ). bytes_eq (titled F begun xs) xs) (next s i c lt is))

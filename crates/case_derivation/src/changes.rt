@@ -1,14 +1,15 @@
 //! What changes when a list is mapped.
 
 ghost use Rattle.std.specs.Prelude.{◌≡◌, ◌||◌, not};
+ghost use Rattle.std.specs.List.{list_any};
 ghost use Rattle.ucd_model.specs.Casing.{lower, upper, fold, lowers, uppers, titles, folds, casemaps};
-ghost use Rattle.ucd_model.specs.Shown.{shown_facts};
-ghost use Rattle.case_derivation.specs.Matching.{matches, is_unmapped};
+ghost use Rattle.ucd_model.specs.Predicates.{cased};
+ghost use Rattle.case_derivation.specs.Matching.{matches};
 ghost use Rattle.case_derivation.specs.Steps.{titled};
 
-use crate::is_cased;
+use crate::cased;
 use crate::matching::{Left, all_left, is_changed, left_behind};
-use ucd_model::{FactView, FactsRef, Point};
+use ucd_model::{FactView, Point};
 
 /// Which mappings change a list. The Unicode Standard, section 3.13, D139 to D143.
 #[derive(Clone, Copy, Debug, PartialEq, Eq)]
@@ -29,8 +30,8 @@ pub struct Changes {
 /// Changes_When_Lowercased, Changes_When_Uppercased, Changes_When_Titlecased, Changes_When_Casefolded and
 /// Changes_When_Casemapped: UAX #44, section 5.3; The Unicode Standard, section 3.13, D139 to D143.
 ///
-/// It takes no memory, and asks for the facts of each member once: each image is matched with the list in place, and
-/// nothing is matched before the first member that a mapping changes.
+/// It takes no memory: each image is matched with the list in place, and nothing is matched, nor the facts of a member as a
+/// whole asked for, before the first member that a mapping changes.
 pub fn changes_when<W: FactView>(view: &W, nfd: &[Point]) -> Changes
     ensures lowered { result.lowered ≡ lowers (W.facts_of view.now) nfd.now }
     ensures uppered { result.uppered ≡ uppers (W.facts_of view.now) nfd.now }
@@ -38,14 +39,12 @@ pub fn changes_when<W: FactView>(view: &W, nfd: &[Point]) -> Changes
     ensures folded { result.folded ≡ folds (W.facts_of view.now) nfd.now }
     ensures mapped { result.mapped ≡ casemaps (W.facts_of view.now) nfd.now }
 {
-    let mut begun = false;
     'unmapped: for (at, c) in nfd.iter().enumerate() {
-        let facts = view.facts(*c);
-        if !is_unmapped(&facts) {
-            let left = left_behind(all_left(&nfd[at..], begun), *c, &facts);
+        if !view.is_unmapped(*c) {
+            let begun = has_cased(view, &nfd[..at]);
+            let left = left_behind(all_left(&nfd[at..], begun), *c, &view.facts(*c));
             return changes_behind(view, left, &nfd[at + 1..]);
         }
-        begun = begun || is_cased(&facts);
     }
     Changes {
         lowered: false,
@@ -56,11 +55,16 @@ pub fn changes_when<W: FactView>(view: &W, nfd: &[Point]) -> Changes
     }
 }
 
-/// Whether a code point with these facts is the image of itself by each mapping.
-fn is_unmapped(facts: &FactsRef<'_>) -> bool
-    ensures { result ≡ is_unmapped (shown_facts facts.now) }
+/// Whether a list has a Cased member.
+fn has_cased<W: FactView>(view: &W, s: &[Point]) -> bool
+    ensures { result ≡ list_any (λ x. cased (W.facts_of view.now x)) s.now }
 {
-    facts.lower.is_none() && facts.upper.is_none() && facts.title.is_none() && facts.fold.is_none()
+    'members: for c in s {
+        if cased(view, *c) {
+            return true;
+        }
+    }
+    false
 }
 
 /// What is changed once the members in `s` are mapped too.

@@ -3,12 +3,12 @@
 ghost use Rattle.std.specs.Prelude.{◌≡◌, ◌++◌, IfOk, OnOk, OnErr};
 ghost use Rattle.ucd_model.specs.Casing.{lower, upper, fold, folded};
 ghost use Rattle.ucd_model.specs.Facts.{image_points};
-ghost use Rattle.ucd_model.specs.Shown.{image_shown, shown_facts};
+ghost use Rattle.ucd_model.specs.Shown.{image_shown};
 ghost use Rattle.ucd_model.specs.declared.folding.Folding.TheVariants.{Simple};
 ghost use Rattle.case_derivation.specs.Steps.{image_of, mapped_by};
 
 use std::alloc::Global;
-use ucd_model::{FactView, FactsRef, Folding, Memory, Point, Points};
+use ucd_model::{FactView, Folding, Memory, Point, Points};
 
 /// A full mapping that each code point takes by itself.
 #[derive(Clone, Copy)]
@@ -71,7 +71,7 @@ fn simply_folded<W: FactView>(alloc: Global, view: &W, s: &[Point]) -> Result<Po
 {
     let mut points = Points::new(alloc);
     'members: for c in s {
-        points.push(view.facts(*c).simple_fold)?;
+        points.push(view.simple_folding(*c))?;
     }
     Ok(points)
 }
@@ -87,19 +87,19 @@ fn mapped<W: FactView>(
 {
     let mut points = Points::new(alloc);
     'members: for c in s {
-        put_image(*c, image(casing, &view.facts(*c)), &mut points)?;
+        put_image(*c, image(view, casing, *c), &mut points)?;
     }
     Ok(points)
 }
 
-/// The image of a code point with these facts.
-fn image<'a>(casing: Casing, facts: &FactsRef<'a>) -> Option<&'a [Point]>
-    ensures { image_shown result ≡ image_of casing (shown_facts facts.now) }
+/// The image of a code point.
+fn image<W: FactView>(view: &W, casing: Casing, c: Point) -> Option<&[Point]>
+    ensures { image_shown result ≡ image_of casing (W.facts_of view.now c) }
 {
     match casing {
-        Casing::Lower => facts.lower,
-        Casing::Upper => facts.upper,
-        Casing::Fold => facts.fold,
+        Casing::Lower => view.facts(c).lower,
+        Casing::Upper => view.facts(c).upper,
+        Casing::Fold => view.folding(c),
     }
 }
 

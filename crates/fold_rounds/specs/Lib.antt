@@ -1,4 +1,5 @@
 pub mod Steps
+pub mod ComposedProofs
 pub mod AlikeProofs
 pub mod RoundLaws
 pub mod RoundProofs

@@ -6,6 +6,7 @@
 -- found_same      where i rounds, at most 7, give a list, and one more round a list with the same members, that list is found
 -- found_first_none   if the first round gives no list, no list is found
 -- found_settled   if it gives the NFKC of a settled list, and that is the same list, it is found
+-- found_form      if the NFKC of c is settled, and no member of it has a canonical mapping, that NFKC is found
 -- folded_round    the first round is the NFKC of the short_fold of the NFKC of c
 -- settled_round   if that NFKC is settled, the first round is the NFKC of it
 -- alone_image     where NFKC and the folding leave c alone as it is, its image is the empty list, if c is ignorable, and else Same
@@ -33,8 +34,9 @@ use Rattle.ucd_model.specs.declared.form.Bad.{Bad as Rule}
 use Rattle.ucd_model.specs.declared.image.Image.{Image}
 use Rattle.ucd_model.specs.declared.image.Image.TheVariants.{Same, To}
 use Rattle.ucd_model.specs.declared.view.FactsRef.{FactsRef}
-use Rattle.case_derivation.specs.Matching.{is_same}
-use Rattle.fold_rounds.specs.Steps.{folded_form, is_own, is_settled}
+use Rattle.ucd_model.specs.Unmapped.{is_same}
+use Rattle.fold_rounds.specs.ComposedProofs.{form_twice}
+use Rattle.fold_rounds.specs.Steps.{folded_form, has_composite, is_own, is_settled}
 use Rattle.fold_rounds.specs.RoundLaws.{IsFixed, FixedIsFound, FoundIsFixed}
 
 -- ---- lists
@@ -211,6 +213,12 @@ module _ (folding : Folding) (F : ℕ → Facts) (c : ℕ) where
       let folds : short_fold folding F list ≡ Some list = ap (short_fold folding F) (sym same) ∙ ap short (settled_fold folding F folded settled) ∙ ap short same ∙ form_is_short (nfkc F folded) list k in
       let again : round folding F list ≡ Some list = ap (λ r. option_and_then (short_nfkc F) (option_and_then (short_fold folding F) r)) own ∙ ap (option_and_then (short_nfkc F)) folds ∙ own in
       found_is list 1 (omega arith) r again
+
+  pub found_form : (form : List ℕ) → nfkc F (c ∷ []) ≡ Ok form → length form ≤ 255 → list_all (λ x. is_settled x (F x)) form ≡ true → has_composite F form ≡ false → casefold folding F c ≡ Some form
+  found_form form e few settled none =
+      let test : nat_le (length form) 255 ≡ true = grind (arith, nat_tests) in
+      let own : short_nfkc F form ≡ Some form = ap short_form (form_twice F (c ∷ []) form e none) ∙ ap (λ b. cond b (Some form) None) test in
+      found_settled form form (settled_round folding F c form e few settled ∙ own) own settled (same_bytes form form refl)
 
   found_fixed : (s : List ℕ) → casefold folding F c ≡ Some s → (i : ℕ) × IsFixed folding F c i s
   found_fixed s e =

@@ -5,26 +5,28 @@
 --                              two is
 -- is_own c G                   a point c with the facts G is its own folding, by either folding
 -- is_settled c G               it is, and it is not ignorable
+-- has_composite F s            a member of s has a canonical mapping
 -- is_one c i x                 the image i of c is the point x alone
 -- is_alike c G                 the full folding of a point c with the facts G is its simple one alone
 -- are_alike F s                this holds of each member of s, so both foldings give one folded list
 -- IsCovered folding alike k    what is said of `folding` is said of k too: k is that folding, or `alike` holds
 -- FoundBy folding lists r      r is the list that `lists` has for each folding that r covers; None if it has none for `folding`
 -- FoldsAs folding F c r        r is the image of c by each folding that r covers, or V5 in its place, if there is none by
---                              `folding`; want of memory says nothing
+--                              `folding`; no claim if memory ran out
 use Rattle.std.specs.Prelude.{◌≡◌, ℕ, Bool, true, ◌&&◌, ◌==◌, not, List, [], ◌∷◌, Option, Some, None, Result, Ok, Err, ◌⊎◌}
-use Rattle.std.specs.List.{list_all}
+use Rattle.std.specs.List.{list_all, list_any}
 use Rattle.std.specs.Option.{option_and_then}
 use Rattle.std.specs.Str.{bytes_eq}
+use Rattle.ucd_model.specs.Composites.{is_canonical}
 use Rattle.ucd_model.specs.Facts.{Facts}
 use Rattle.ucd_model.specs.Expansion.{FormAnswers}
 use Rattle.ucd_model.specs.FoldRounds.{short_nfkc, short_fold, casefold_image}
 use Rattle.ucd_model.specs.Predicates.{default_ignorable}
+use Rattle.ucd_model.specs.Unmapped.{is_same}
 use Rattle.ucd_model.specs.declared.folding.Folding.{Folding}
 use Rattle.ucd_model.specs.declared.form.FormStop.{FormStop}
 use Rattle.ucd_model.specs.declared.image.Image.{Image}
 use Rattle.ucd_model.specs.declared.image.Image.TheVariants.{Same, To}
-use Rattle.case_derivation.specs.Matching.{is_same}
 use Rattle.fold_rounds.specs.declared.casefold.Folded.{Folded}
 use Rattle.fold_rounds.specs.declared.rounds.Found.{Found}
 
@@ -36,6 +38,9 @@ is_own c G = is_same G.fold && (G.simple_fold == c)
 
 abbrev pub is_settled : ℕ → Facts → Bool
 is_settled c G = is_own c G && not (default_ignorable c G)
+
+abbrev pub has_composite : (ℕ → Facts) → List ℕ → Bool
+has_composite F s = list_any (λ x. is_canonical (F x).kind) s
 
 abbrev pub is_one : ℕ → Image → ℕ → Bool
 is_one c Same x = x == c

@@ -1,29 +1,38 @@
 //! Code points that are ignored by default.
 
 ghost use Rattle.std.specs.Prelude.{◌≡◌};
+ghost use Rattle.ucd_model.specs.Facts.{Facts};
 ghost use Rattle.ucd_model.specs.FoldRounds.{drop_ignorable};
 ghost use Rattle.ucd_model.specs.Predicates.{is_visible_format, default_ignorable};
+ghost use Rattle.ucd_model.specs.Sets.{has_flag};
 ghost use Rattle.ucd_model.specs.Shown.{shown_facts};
 
-use ucd_model::{Category, FactView, FactsRef, Flag, Point, Points};
+use ucd_model::{Category, FactView, FactsRef, Flag, Flags, Point, Points};
 
 /// Whether a code point is a Default_Ignorable_Code_Point. UAX #44, section 5.3, table 9.
 pub fn default_ignorable<W: FactView>(view: &W, c: Point) -> bool
     ensures { result ≡ default_ignorable c (W.facts_of view.now c) }
 {
-    is_default_ignorable(c, &view.facts(c))
+    is_ignorable_by(c, view.category(c), view.flags(c))
 }
 
 /// Whether a code point with these facts is a Default_Ignorable_Code_Point. UAX #44, section 5.3, table 9.
 pub fn is_default_ignorable(c: Point, facts: &FactsRef<'_>) -> bool
     ensures { result ≡ default_ignorable c (shown_facts facts.now) }
 {
-    let ignored = matches!(facts.category, Category::Cf)
-        || facts.flags.has(Flag::OtherDefaultIgnorableCodePoint)
-        || facts.flags.has(Flag::VariationSelector);
+    is_ignorable_by(c, facts.category, facts.flags)
+}
+
+/// The same of a code point with this category and these properties.
+fn is_ignorable_by(c: Point, category: Category, flags: Flags) -> bool
+    ensures { (G : Facts) → G.category ≡ category → G.flag ≡ has_flag flags → result ≡ default_ignorable c G }
+{
+    let ignored = matches!(category, Category::Cf)
+        || flags.has(Flag::OtherDefaultIgnorableCodePoint)
+        || flags.has(Flag::VariationSelector);
     let shown = is_visible_format(c)
-        || facts.flags.has(Flag::WhiteSpace)
-        || facts.flags.has(Flag::PrependedConcatenationMark);
+        || flags.has(Flag::WhiteSpace)
+        || flags.has(Flag::PrependedConcatenationMark);
     ignored && !shown
 }
 

@@ -1,6 +1,6 @@
 //! The rounds of folding.
 
-ghost use Rattle.std.specs.Prelude.{◌≡◌, ◌&&◌, IfOk, Ok, Some, [], ◌∷◌};
+ghost use Rattle.std.specs.Prelude.{◌≡◌, ◌≤◌, ◌&&◌, true, length, IfOk, Ok, Some, [], ◌∷◌};
 ghost use Rattle.std.specs.List.{list_all};
 ghost use Rattle.ucd_model.specs.FoldRounds.{short, short_nfkc, short_fold, round, casefold};
 ghost use Rattle.ucd_model.specs.Forms.{nfkc};
@@ -9,7 +9,7 @@ ghost use Rattle.fold_rounds.specs.Steps.{folded_form, is_settled, FoundBy, IsCo
 
 use crate::alike::are_alike;
 use crate::ignorable::drop_ignorable;
-use crate::settled::is_settled;
+use crate::settled::{has_composite, is_settled};
 use case_derivation::folded;
 use normalisation::nfkc;
 use std::alloc::Global;
@@ -62,7 +62,7 @@ pub(crate) fn fixed<W: FactView>(
         return Ok(None);
     }
     if is_settled(view, form) {
-        return fixed_by(alloc, view, folding, c, form, true, true);
+        return fixed_settled(alloc, view, folding, c, form);
     }
     let alike = are_alike(view, form);
     match short_fold(alloc, view, folding, form)? {
@@ -72,6 +72,27 @@ pub(crate) fn fixed<W: FactView>(
         }
         None => Ok(None),
     }
+}
+
+/// The same from a settled form. If no member has a canonical mapping, it is its own Normalisation Form KC, which is not
+/// made again.
+fn fixed_settled<W: FactView>(
+    alloc: Global,
+    view: &W,
+    folding: Folding,
+    c: Point,
+    form: &[Point],
+) -> Result<Option<Found>, Memory>
+    requires form { nfkc (W.facts_of view.now) (c ∷ []) ≡ Ok form.now }
+    requires few { length form.now ≤ 255 }
+    requires settled { list_all (λ x. is_settled x (W.facts_of view.now x)) form.now ≡ true }
+    ensures { IfOk result (FoundBy folding (λ k. casefold k (W.facts_of view.now) c)) }
+{
+    if has_composite(view, form) {
+        return fixed_by(alloc, view, folding, c, form, true, true);
+    }
+    let list = Points::of(alloc, form)?;
+    Ok(Some(Found { list, alike: true }))
 }
 
 /// The same from the folded list of the first round. `alike` says whether it is known that both foldings give it, and

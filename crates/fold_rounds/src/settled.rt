@@ -3,13 +3,13 @@
 ghost use Rattle.std.specs.Prelude.{◌≡◌};
 ghost use Rattle.std.specs.List.{list_all};
 ghost use Rattle.ucd_model.specs.Shown.{shown_facts};
-ghost use Rattle.fold_rounds.specs.Steps.{is_own, is_settled};
+ghost use Rattle.fold_rounds.specs.Steps.{has_composite, is_own, is_settled};
 
-use crate::ignorable::is_default_ignorable;
-use ucd_model::{FactView, FactsRef, Point};
+use crate::ignorable::default_ignorable;
+use ucd_model::{FactView, FactsRef, Kind, Point};
 
 /// Whether each member of a list is settled: it is its own folding, by either folding, and not ignored by default. It
-/// asks for the facts of each member once, and takes no memory.
+/// takes no memory.
 pub(crate) fn is_settled<W: FactView>(view: &W, s: &[Point]) -> bool
     ensures { result ≡ list_all (λ x. is_settled x (W.facts_of view.now x)) s.now }
 {
@@ -25,14 +25,19 @@ pub(crate) fn is_settled<W: FactView>(view: &W, s: &[Point]) -> bool
 fn is_settled_point<W: FactView>(view: &W, c: Point) -> bool
     ensures { result ≡ is_settled c (W.facts_of view.now c) }
 {
-    shows_settled(c, &view.facts(c))
+    view.folding(c).is_none() && view.simple_folding(c) == c && !default_ignorable(view, c)
 }
 
-/// Whether a code point with these facts is settled.
-fn shows_settled(c: Point, facts: &FactsRef<'_>) -> bool
-    ensures { result ≡ is_settled c (shown_facts facts.now) }
+/// Whether a member of a list has a canonical mapping. It takes no memory.
+pub(crate) fn has_composite<W: FactView>(view: &W, s: &[Point]) -> bool
+    ensures { result ≡ has_composite (W.facts_of view.now) s.now }
 {
-    is_own(c, facts) && !is_default_ignorable(c, facts)
+    'members: for x in s {
+        if matches!(view.kind(*x), Kind::Canonical) {
+            return true;
+        }
+    }
+    false
 }
 
 /// Whether a code point with these facts is its own folding, by either folding.

@@ -1,4 +1,5 @@
 pub mod FormLemmas
+pub mod HiddenLemmas
 pub mod CompatLemmas
 pub mod IdentifierLemmas
 pub mod CoreSteps

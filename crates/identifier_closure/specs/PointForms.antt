@@ -8,10 +8,10 @@
 -- composed_form F s            the list s in canonical order, composed
 -- compat_of both               the compatibility expansion that is kept; if none is kept apart, the canonical one
 -- ExpandTo F c p q             the canonical expansion of c is p, the compatibility expansion q, and they break no rule
--- ExpansionsAnswer F c r       r is both expansions of c, or in their place the first rule that they break; want of memory says
---                              nothing
--- StopsBy F c stop             the stop is the first rule that the expansions of c break; want of memory says nothing
--- FormsAnswer F c r            r is the forms of c alone, or in their place that rule; want of memory says nothing
+-- ExpansionsAnswer F c r       r is both expansions of c, or in their place the first rule that they break; no claim if memory
+--                              ran out
+-- StopsBy F c stop             the stop is the first rule that the expansions of c break; no claim if memory ran out
+-- FormsAnswer F c r            r is the forms of c alone, or in their place that rule; no claim if memory ran out
 use Rattle.std.specs.Prelude.{◌≡◌, ℕ, true, false, List, [], ◌∷◌, Option, Some, None, unwrap_or, Result, Ok, Err, if◌then◌else◌, ⊤}
 use Rattle.ucd_model.specs.CanonicalOrder.{class_of, order}
 use Rattle.ucd_model.specs.Casing.{lowers, uppers, titles, folds, casemaps, changes_when}

@@ -76,7 +76,7 @@ fn recorded<W: FactView>(
     requires expansions { expansion_rule (W.facts_of view.now) c ≡ None }
     ensures { RecordAnswers result (derived (W.facts_of view.now) c) }
 {
-    if is_hidden(view, c, facts) {
+    if is_hidden(view, c, facts, forms.nfc) {
         return Err(FormStop::Bad(Bad::V4));
     }
     match casefolds_of(alloc, view, c, facts, forms.nfkc) {

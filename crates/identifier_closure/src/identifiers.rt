@@ -6,21 +6,21 @@ ghost use Rattle.ucd_model.specs.Identifiers.{continues, starts, xid_start, xid_
 ghost use Rattle.ucd_model.specs.Predicates.{id_start, id_continue};
 ghost use Rattle.ucd_model.specs.Shown.{shown_facts};
 
-use crate::predicates::{is_id_continue, is_id_start};
+use crate::predicates::{continues_by, is_id_continue, is_id_start, starts_by};
 use ucd_model::{FactView, FactsRef, Point};
 
 /// Whether a code point has ID_Start. UAX #31, section 2, table 2.
 pub fn id_start<W: FactView>(view: &W, c: Point) -> bool
     ensures { result ≡ id_start (W.facts_of view.now c) }
 {
-    is_id_start(&view.facts(c))
+    starts_by(view.category(c), view.flags(c))
 }
 
 /// Whether a code point has ID_Continue. UAX #31, section 2, table 2.
 pub fn id_continue<W: FactView>(view: &W, c: Point) -> bool
     ensures { result ≡ id_continue (W.facts_of view.now c) }
 {
-    is_id_continue(&view.facts(c))
+    continues_by(view.category(c), view.flags(c))
 }
 
 /// Whether a code point has XID_Start: it has ID_Start, and its Normalisation Form KC, which is handed in, begins with

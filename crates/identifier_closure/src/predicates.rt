@@ -3,12 +3,14 @@
 ghost use Rattle.std.specs.Prelude.{◌≡◌, [], ◌∷◌};
 ghost use Rattle.ucd_model.specs.declared.category.Category.TheVariants.{Lu, Ll, Lt, Lm, Lo, Nl};
 ghost use Rattle.identifier_closure.specs.CoreSets.{core_given};
+ghost use Rattle.ucd_model.specs.Facts.{Facts};
+ghost use Rattle.ucd_model.specs.Sets.{has_flag};
 ghost use Rattle.ucd_model.specs.Shown.{shown_facts};
 ghost use Rattle.ucd_model.specs.Predicates.{is_one_of, math, alphabetic, in_pattern, id_start, id_continue, grapheme_extend, grapheme_base, grapheme_link};
 
 use case_derivation::{Changes, is_case_ignorable, is_cased, is_lowercase, is_uppercase};
 use fold_rounds::is_default_ignorable;
-use ucd_model::{Category, Core, FactsRef, Flag, Point};
+use ucd_model::{Category, Core, FactsRef, Flag, Flags, Point};
 
 /// What follows from the forms of a code point alone. UAX #44, section 5.3; UAX #31, section 5.1.
 #[derive(Clone, Copy)]
@@ -66,26 +68,33 @@ fn is_alphabetic(facts: &FactsRef<'_>) -> bool
         || facts.flags.has(Flag::OtherAlphabetic)
 }
 
-/// Whether the code point is kept for the syntax of patterns. UAX #31, section 4.
-fn is_in_pattern(facts: &FactsRef<'_>) -> bool
-    ensures { result ≡ in_pattern (shown_facts facts.now) }
+/// Whether a code point with these properties is kept for the syntax of patterns. UAX #31, section 4.
+fn is_in_pattern(flags: Flags) -> bool
+    ensures { (G : Facts) → G.flag ≡ has_flag flags → result ≡ in_pattern G }
 {
-    facts.flags.has(Flag::PatternSyntax) || facts.flags.has(Flag::PatternWhiteSpace)
+    flags.has(Flag::PatternSyntax) || flags.has(Flag::PatternWhiteSpace)
 }
 
 /// Whether a code point with these facts has ID_Start. UAX #31, section 2, table 2.
 pub fn is_id_start(facts: &FactsRef<'_>) -> bool
     ensures { result ≡ id_start (shown_facts facts.now) }
 {
-    (is_letter(facts) || facts.flags.has(Flag::OtherIdStart)) && !is_in_pattern(facts)
+    starts_by(facts.category, facts.flags)
+}
+
+/// The same of a code point with this category and these properties.
+pub fn starts_by(category: Category, flags: Flags) -> bool
+    ensures { (G : Facts) → G.category ≡ category → G.flag ≡ has_flag flags → result ≡ id_start G }
+{
+    (is_letter(category) || flags.has(Flag::OtherIdStart)) && !is_in_pattern(flags)
 }
 
 /// Whether the category is that of a letter or of a letter number.
-fn is_letter(facts: &FactsRef<'_>) -> bool
-    ensures { result ≡ is_one_of (Lu ∷ Ll ∷ Lt ∷ Lm ∷ Lo ∷ Nl ∷ []) facts.now.category }
+fn is_letter(category: Category) -> bool
+    ensures { result ≡ is_one_of (Lu ∷ Ll ∷ Lt ∷ Lm ∷ Lo ∷ Nl ∷ []) category }
 {
     matches!(
-        facts.category,
+        category,
         Category::Lu | Category::Ll | Category::Lt | Category::Lm | Category::Lo | Category::Nl
     )
 }
@@ -94,12 +103,19 @@ fn is_letter(facts: &FactsRef<'_>) -> bool
 pub fn is_id_continue(facts: &FactsRef<'_>) -> bool
     ensures { result ≡ id_continue (shown_facts facts.now) }
 {
+    continues_by(facts.category, facts.flags)
+}
+
+/// The same of a code point with this category and these properties.
+pub fn continues_by(category: Category, flags: Flags) -> bool
+    ensures { (G : Facts) → G.category ≡ category → G.flag ≡ has_flag flags → result ≡ id_continue G }
+{
     let continues = matches!(
-        facts.category,
+        category,
         Category::Mn | Category::Mc | Category::Nd | Category::Pc
     );
-    (is_id_start(facts) || continues || facts.flags.has(Flag::OtherIdContinue))
-        && !is_in_pattern(facts)
+    (starts_by(category, flags) || continues || flags.has(Flag::OtherIdContinue))
+        && !is_in_pattern(flags)
 }
 
 fn is_grapheme_extend(facts: &FactsRef<'_>) -> bool

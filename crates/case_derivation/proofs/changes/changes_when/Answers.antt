@@ -1,4 +1,4 @@
-use Rattle.std.proofs.Common.{◌≡◌, ℕ, Bool, List, ap, not, ◌∙◌, ◌||◌, ◌+◌, ◌-◌, length, take, drop, length-drop, arith}
+use Rattle.std.proofs.Common.{◌≡◌, ℕ, Bool, List, ap, sym, not, ◌∙◌, ◌||◌, ◌+◌, ◌-◌, length, take, drop, length-drop, arith}
 use Rattle.std.proofs.lemmas.List.{take_all}
 use Rattle.std.specs.Str.{bytes_eq}
 use Rattle.ucd_model.specs.Casing.{lower, upper, fold, lower_of, upper_of, fold_of}
@@ -7,7 +7,7 @@ use Rattle.ucd_model.specs.Predicates.{cased}
 use Rattle.ucd_model.specs.Shown.{shown_facts}
 use Rattle.case_derivation.specs.Matching.{matches}
 use Rattle.case_derivation.specs.Steps.{titled, title_image}
-use Rattle.case_derivation.proofs.MatchingLemmas.{mapped_more, titled_more}
+use Rattle.case_derivation.proofs.MatchingLemmas.{mapped_more, mapped_stays, StaysBy, titled_more, titled_stays, unmapped_stays}
 use Rattle.case_derivation.proofs.changes.changes_when.Goals as goal
 
 whole : (s : List ℕ) (i : ℕ) → take (length s - i) (drop i s) ≡ drop i s
@@ -16,6 +16,21 @@ whole s i = take_all (length s - i) (drop i s) (omega (arith, length-drop i s))
 either : (a b c x y z all : Bool) → a ≡ x → b ≡ y → c ≡ z → all ≡ (a || (b || c)) → all ≡ (x || (y || z))
 either a b c x y z all p q r e = cc
 
+pub unmapped-preserved : goal.unmapped-preserved
+unmapped-preserved g c =
+    let F : ℕ → Facts = g.W.FactView.facts_of c.args.view.now in
+    let s : List ℕ = c.args.nfd.now in
+    let i : ℕ = c.unmapped.at in
+    let x : ℕ = c.index-nfd-at.result in
+    let is = c.index-nfd-at.is in
+    let stays : StaysBy (F x) = unmapped_stays (F x) (sym c.is_unmapped.ensures ∙ c.if-not-is_unmapped.false) in
+    record {
+      lowered = mapped_stays (lower_of F) s i x (omega arith) is (ap (image_points x) stays.lower) ∙ c.unmapped.invariant.lowered;
+      uppered = mapped_stays (upper_of F) s i x (omega arith) is (ap (image_points x) stays.upper) ∙ c.unmapped.invariant.uppered;
+      titled = titled_stays F s i x (omega arith) is stays ∙ c.unmapped.invariant.titled;
+      folded = mapped_stays (fold_of F) s i x (omega arith) is (ap (image_points x) stays.fold) ∙ c.unmapped.invariant.folded;
+    }
+
 pub returns-then-not-is_unmapped : goal.returns-then-not-is_unmapped
 returns-then-not-is_unmapped g c =
     let F : ℕ → Facts = g.W.FactView.facts_of c.args.view.now in
@@ -23,8 +38,8 @@ returns-then-not-is_unmapped g c =
     let i : ℕ = c.unmapped.at in
     let x : ℕ = c.index-nfd-at.result in
     let is = c.index-nfd-at.is in
-    let G : Facts = shown_facts c.facts-facts.result in
-    let shown : G ≡ F x = c.facts-facts.ensures in
+    let G : Facts = shown_facts c.facts.result in
+    let shown : G ≡ F x = c.facts.ensures in
     let all = c.all_left in
     let put = c.left_behind-left in
     let found = c.changes_behind.ensures in
@@ -34,7 +49,7 @@ returns-then-not-is_unmapped g c =
     ∙ all.ensures.uppered _ ∙ ap (bytes_eq (upper F (drop i s))) (whole s i) ∙ c.unmapped.invariant.uppered) in
     let titles = found.titled ∙ ap (λ xs. not (matches put.result.titled (titled F put.result.begun xs))) (whole s (i + 1)) ∙ ap not (titled_more s i x (omega arith) is all.result.titled put.result.titled (image_points x (title_image all.result.begun G)) put.ensures.titled F all.result.begun put.result.begun
     (ap (λ (f : Facts). image_points x (title_image all.result.begun f)) shown) (put.ensures.begun ∙ ap (λ (f : Facts). all.result.begun || cased f) shown)
-    ∙ all.ensures.titled _ ∙ ap (bytes_eq (titled F all.result.begun (drop i s))) (whole s i) ∙ ap (λ b. bytes_eq (titled F b (drop i s)) (drop i s)) all.ensures.begun ∙ c.unmapped.invariant.titled) in
+    ∙ all.ensures.titled _ ∙ ap (bytes_eq (titled F all.result.begun (drop i s))) (whole s i) ∙ ap (λ b. bytes_eq (titled F b (drop i s)) (drop i s)) all.ensures.begun ∙ ap (λ b. bytes_eq (titled F b (drop i s)) (drop i s)) c.has_cased-begun.ensures ∙ c.unmapped.invariant.titled) in
     let folded = found.folded ∙ ap (λ xs. not (matches put.result.folded (fold F xs))) (whole s (i + 1)) ∙ ap not (mapped_more s i x (omega arith) is all.result.folded put.result.folded (image_points x G.fold) put.ensures.folded (fold_of F) (ap (λ (f : Facts). image_points x f.fold) shown)
     ∙ all.ensures.folded _ ∙ ap (bytes_eq (fold F (drop i s))) (whole s i) ∙ c.unmapped.invariant.folded) in
     record { lowered = lowered; uppered = uppered; titled = titles; folded = folded; mapped = either _ _ _ _ _ _ _ lowered uppered titles found.mapped }

@@ -1,6 +1,8 @@
-use Rattle.std.proofs.Common.{◌≡◌, drop}
+use Rattle.std.proofs.Common.{◌≡◌, drop, take}
+use Rattle.std.specs.List.{list_any}
 use Rattle.std.specs.Str.{bytes_eq}
 use Rattle.ucd_model.specs.Casing.{lower, upper, title, fold}
+use Rattle.ucd_model.specs.Predicates.{cased}
 use Rattle.case_derivation.specs.Steps.{titled}
 use Rattle.case_derivation.proofs.changes.changes_when.Given as goal
 
@@ -9,6 +11,6 @@ abbrev pub invariant-unmapped : goal.invariant-unmapped
 invariant-unmapped g l = record {
   lowered : bytes_eq (lower (g.W.FactView.facts_of l.view) (drop l.at l.nfd)) (drop l.at l.nfd) ≡ bytes_eq (lower (g.W.FactView.facts_of l.view) l.nfd) l.nfd;
   uppered : bytes_eq (upper (g.W.FactView.facts_of l.view) (drop l.at l.nfd)) (drop l.at l.nfd) ≡ bytes_eq (upper (g.W.FactView.facts_of l.view) l.nfd) l.nfd;
-  titled : bytes_eq (titled (g.W.FactView.facts_of l.view) l.begun (drop l.at l.nfd)) (drop l.at l.nfd) ≡ bytes_eq (title (g.W.FactView.facts_of l.view) l.nfd) l.nfd;
+  titled : bytes_eq (titled (g.W.FactView.facts_of l.view) (list_any (λ x. cased (g.W.FactView.facts_of l.view x)) (take l.at l.nfd)) (drop l.at l.nfd)) (drop l.at l.nfd) ≡ bytes_eq (title (g.W.FactView.facts_of l.view) l.nfd) l.nfd;
   folded : bytes_eq (fold (g.W.FactView.facts_of l.view) (drop l.at l.nfd)) (drop l.at l.nfd) ≡ bytes_eq (fold (g.W.FactView.facts_of l.view) l.nfd) l.nfd;
 }

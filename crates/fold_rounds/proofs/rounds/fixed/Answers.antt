@@ -3,16 +3,11 @@ use Rattle.ucd_model.specs.Facts.{Facts}
 use Rattle.ucd_model.specs.FoldRounds.{drop_ignorable, short, short_fold, short_nfkc}
 use Rattle.fold_rounds.specs.AlikeProofs.{folded_covered}
 use Rattle.fold_rounds.specs.Steps.{IsCovered}
-use Rattle.fold_rounds.specs.RoundProofs.{folded_round, settled_round, found_first_none}
+use Rattle.fold_rounds.specs.RoundProofs.{folded_round, found_first_none}
 use Rattle.fold_rounds.proofs.rounds.fixed.Goals as goal
 
 pub fixed_by-requires-clause-first : goal.fixed_by-requires-clause-first
 fixed_by-requires-clause-first g c =
-    let few : length c.args.form.now ≤ 255 = omega arith in
-    λ k covered. settled_round k (g.W.FactView.facts_of c.args.view.now) c.args.c c.args.form.now c.requires few (sym c.is_settled.ensures ∙ c.if-is_settled.true)
-
-pub fixed_by-requires-in-Some-clause-first : goal.fixed_by-requires-in-Some-clause-first
-fixed_by-requires-in-Some-clause-first g c =
     let F : ℕ → Facts = g.W.FactView.facts_of c.args.view.now in
     let few : length c.args.form.now ≤ 255 = omega arith in
     let folds : short_fold c.args.folding F c.args.form.now ≡ Some c.in-Some.folded = cc c.in_ok-folded.ensures in

@@ -1,0 +1,14 @@
+use Rattle.std.proofs.Common.{◌≡◌, ℕ, Some, sym, ap, ◌∙◌}
+use Rattle.ucd_model.specs.Facts.{Facts}
+use Rattle.fold_rounds.specs.RoundProofs.{found_form, settled_round}
+use Rattle.fold_rounds.proofs.rounds.fixed_settled.Goals as goal
+
+pub fixed_by-requires-clause-first : goal.fixed_by-requires-clause-first
+fixed_by-requires-clause-first g c =
+    λ k covered. settled_round k (g.W.FactView.facts_of c.args.view.now) c.args.c c.args.form.now c.requires.form c.requires.few c.requires.settled
+
+pub returns : goal.returns
+returns g c =
+    let F : ℕ → Facts = g.W.FactView.facts_of c.args.view.now in
+    λ k covered.
+    found_form k F c.args.c c.args.form.now c.requires.form c.requires.few c.requires.settled (sym c.has_composite.ensures ∙ c.if-has_composite.false) ∙ ap (λ xs. Some xs) (sym c.in_ok-list.ensures)

@@ -1,0 +1,6 @@
+use Rattle.std.proofs.Common.{refl}
+use Rattle.ucd_model.specs.Shown.{shown_facts}
+use Rattle.identifier_closure.proofs.predicates.is_id_continue.Goals as goal
+
+pub returns : goal.returns
+returns c = c.continues_by.ensures (shown_facts c.args.facts.now) refl refl

@@ -16,7 +16,8 @@ use Rattle.code_facts.specs.Word.{packed, assigned_of_word, excluded_of_word, mi
 use Rattle.code_facts.specs.Rows.{PointData, row_data, upper_list, lower_list, title_list}
 use Rattle.code_facts.specs.Marks.{marks_at}
 use Rattle.code_facts.specs.PointLists.{lists_now}
-use Rattle.code_facts.specs.CaseMaps.{KeepsImages}
+use Rattle.code_facts.specs.CaseImages.{KeepsImages}
+use Rattle.code_facts.specs.declared.cases.Cases.{Cases}
 use Rattle.code_facts.specs.Rest.{RestOf}
 use Rattle.code_facts.specs.RowTables.{word_in, rest_in, first_alone, ShowsRows}
 use Rattle.code_facts.specs.KeptFacts.{full_image, kept_at, all_kept}
@@ -221,12 +222,12 @@ row_shown t rows c d marked is sum marks mapping upper lower title small images 
       class = small;
     } in
     let cases : KeepsCases (rest_in t c) rows c = record {
-      common = images.common c;
-      full = images.full c;
-      simple = images.simple c;
-      lower = images.lower c;
-      title = images.title c;
-      upper = images.upper c;
+      common = ap (λ (k : Cases). k.common) (images c);
+      full = ap (λ (k : Cases). k.full) (images c);
+      simple = ap (λ (k : Cases). k.simple) (images c);
+      lower = ap (λ (k : Cases). k.lower) (images c);
+      title = ap (λ (k : Cases). k.title) (images c);
+      upper = ap (λ (k : Cases). k.upper) (images c);
     } in
     record {
       facts = kept_given (word_in t c) (rest_in t c) rows c keeps cases;

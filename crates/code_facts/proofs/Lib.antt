@@ -1,4 +1,5 @@
 pub mod WordLemmas
+mod WordRunLemmas
 pub mod PaintLemmas
 pub mod RowLemmas
 pub mod DataLemmas

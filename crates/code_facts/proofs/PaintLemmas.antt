@@ -1,13 +1,11 @@
 -- Painting point by point.
-use Rattle.std.proofs.Common.{◌≡◌, ℕ, ◌+◌, ◌<◌, ◌≤◌, Bool, true, false, cond, ◌&&◌, ◌||◌, leb, ltb, List, [], length, take, get_or, refl, sym, ap, ◌∙◌, arith, inl, inr}
+use Rattle.std.proofs.Common.{◌≡◌, ℕ, ◌+◌, ◌<◌, ◌≤◌, Bool, true, false, cond, ◌&&◌, ◌||◌, leb, ltb, List, length, take, get_or, refl, sym, ap, ◌∙◌, arith, inl, inr}
 use Rattle.std.proofs.lemmas.Bool.{cases_lt}
 use Rattle.std.proofs.lemmas.Bool.Decides.{nat_tests}
 use Rattle.std.proofs.lemmas.List.Folds.{list_any_more}
 use Rattle.std.specs.List.{list_any}
 use Rattle.ucd_points.specs.Bounds.{Bounds}
 use Rattle.ucd_model.specs.Facts.{within}
-use Rattle.range_table.specs.Values.{SameValues, with_span}
-use Rattle.code_facts.specs.DataTables.{AreEmpty}
 
 test_true : {A : Type 0} (b : Bool) (x y : A) → b ≡ true → cond b x y ≡ x
 test_true b x y e = rw e refl
@@ -82,11 +80,3 @@ pub span_more : {A : Type 0} (spans : List Bounds) (i : ℕ) (d : Bounds) (c : �
     → new ≡ cond (list_any (within c) (take (i + 1) spans)) value first
 span_more spans i d c value new old first lt is was =
     span_by (list_any (within c) (take i spans)) (within c (get_or spans i d)) (list_any (within c) (take (i + 1) spans)) value new old first (list_any_more (within c) spans i d lt) is was
-
--- no points in the place of none
-nothing_at : (b : Bool) (now points : List ℕ) → (b ≡ true → now ≡ []) → points ≡ [] → now ≡ cond b points now
-nothing_at true now points empty none = empty refl ∙ sym none
-nothing_at false now points empty none = refl
-
-pub nothing_put : (lists : ℕ → List ℕ) (span : Bounds) (points : List ℕ) → AreEmpty lists span → points ≡ [] → SameValues lists (with_span lists span.lo span.hi points)
-nothing_put lists span points empty none = λ c lt. nothing_at (within c span) (lists c) points (empty c lt) none

@@ -1,30 +1,31 @@
 -- Where nothing is kept of mappings, a code point has none.
-use Rattle.std.proofs.Common.{◌≡◌, ℕ, ◌<◌, ◌≤◌, IsTrue, Bool, true, false, List, [], ◌∷◌, Option, Some, None, refl, ap, subst, sym, ◌∙◌, arith}
+use Rattle.std.proofs.Common.{◌≡◌, ℕ, ◌<◌, ◌≤◌, IsTrue, Bool, true, false, List, [], ◌∷◌, Option, Some, None, refl, ap, subst, sym, ◌∙◌, ◌&&◌, arith}
 use Rattle.std.specs.Option.{IsSome}
 use Rattle.std.specs.Ordering.{nat_cmp, is_gt}
 use Rattle.std.proofs.lemmas.Slice.Eq.{bytes_eq-Decides}
 use Rattle.std.proofs.lemmas.Map.Keys.{le_from_not_gt}
 use Rattle.std.proofs.lemmas.Bool.Decides.{nat_tests}
-use Rattle.std.specs.BTreeMap.{BTreeMap}
+use Rattle.std.specs.BTreeMap.{BTreeMap, get}
 use Rattle.std.specs.BTreeMap.Range.{IsLeBy}
 use Rattle.ucd_model.specs.Facts.{image}
 use Rattle.ucd_model.specs.Uniform.{IsPlain}
+use Rattle.ucd_model.specs.Unmapped.{is_same, is_unmapped}
+use Rattle.ucd_model.specs.declared.image.Image.{Image}
 use Rattle.ucd_model.specs.declared.image.Image.TheVariants.{Same}
-use Rattle.code_facts.specs.Found.{found}
 use Rattle.code_facts.specs.KeptFacts.{kept_at, all_kept}
-use Rattle.code_facts.specs.Rest.{RestOf, no_rest}
+use Rattle.code_facts.specs.Rest.{RestOf, bare_rest, no_rest}
 use Rattle.code_facts.proofs.FactLemmas.{kept_point}
 
 pub not_gt : (a b : ℕ) → a ≤ b → is_gt (nat_cmp a b) ≡ false
 not_gt a b le = grind (arith, nat_tests)
 
-none_is : (o : Option (List ℕ)) → (IsSome o → ⊥) → o ≡ None
+none_is : {V : Type 0} (o : Option V) → (IsSome o → ⊥) → o ≡ None
 none_is None h = refl
 none_is (Some x) h = absurd (h refl)
 
 -- before the least of the keys from some point on, there is none
-pub absent_before : (map : BTreeMap ℕ (List ℕ)) (next d : ℕ) → d < next → (IsSome (found map d) → IsLeBy nat_cmp next d) → found map d ≡ None
-absent_before map next d lt least = none_is (found map d) (λ some. omega (arith, le_from_not_gt next d (least some)))
+pub absent_before : {V : Type 0} (map : BTreeMap ℕ V) (next d : ℕ) → d < next → (IsSome (get nat_cmp map d) → IsLeBy nat_cmp next d) → get nat_cmp map d ≡ None
+absent_before map next d lt least = none_is (get nat_cmp map d) (λ some. omega (arith, le_from_not_gt next d (least some)))
 
 not_true : (b : Bool) → (IsTrue b → ⊥) → b ≡ false
 not_true false h = refl
@@ -54,3 +55,14 @@ none_plain c word = record {
 pub unmapped_plain : (words : ℕ → ℕ) (rests : ℕ → RestOf) (c : ℕ) → c < 1114112 → rests c ≡ no_rest → IsPlain c (all_kept words rests c)
 unmapped_plain words rests c inside none =
     subst (IsPlain c) (sym (kept_point words rests c inside ∙ ap (kept_at c (words c)) none)) (none_plain c (words c))
+
+-- a code point that has no more than a decomposition mapping is its own image
+four_same : (a b d e : Image) → a ≡ Same → b ≡ Same → d ≡ Same → e ≡ Same → (is_same a && (is_same b && (is_same d && is_same e))) ≡ true
+four_same a b d e p q r t = rw (p, q, r, t) refl
+
+bare_is_unmapped : (c word : ℕ) (m : List ℕ) → is_unmapped (kept_at c word (bare_rest m)) ≡ true
+bare_is_unmapped c word m = four_same _ _ _ _ (itself c) (itself c) (itself c) (itself c)
+
+pub bare_unmapped : (words : ℕ → ℕ) (rests : ℕ → RestOf) (c : ℕ) (m : List ℕ) → c < 1114112 → rests c ≡ bare_rest m → is_unmapped (all_kept words rests c) ≡ true
+bare_unmapped words rests c m inside bare =
+    ap is_unmapped (kept_point words rests c inside ∙ ap (kept_at c (words c)) bare) ∙ bare_is_unmapped c (words c) m

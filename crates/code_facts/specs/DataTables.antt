@@ -1,6 +1,7 @@
 -- What the tables of UnicodeData.txt keep for each code point.
 --
--- data_now t c, data_next t c   now and next
+-- data_now t c             what the tables keep for c
+-- data_next given c        what was given to c so far
 -- HasNoneNext l c               each list of c is empty next
 -- AreEmpty lists span           the lists of the points of the span are empty
 -- given_row given          a row with the code points and the values that are given, and nothing else
@@ -15,10 +16,12 @@ use Rattle.ucd_model.specs.declared.row.DataRow.{DataRow}
 use Rattle.ucd_model.specs.declared.row.Row.{Row}
 use Rattle.ucd_model.specs.declared.row.Row.TheVariants.{Unit as DataLine}
 use Rattle.source_rows.specs.declared.point_values.PointValues.{PointValues}
-use Rattle.range_table.specs.RunTable.{values_now, values_next}
+use Rattle.range_table.specs.RunTable.{values_now}
+use Rattle.code_facts.specs.WordRuns.{words_next}
 use Rattle.code_facts.specs.Rows.{PointData, row_data}
 use Rattle.code_facts.specs.PointLists.{lists_now, lists_next}
 use Rattle.code_facts.specs.declared.data_lists.DataLists.{DataLists}
+use Rattle.code_facts.specs.declared.data_tables.DataRuns.{DataRuns}
 use Rattle.code_facts.specs.declared.data_tables.DataTables.{DataTables}
 
 abbrev pub data_now : DataTables → ℕ → PointData
@@ -30,13 +33,13 @@ data_now t c = record {
   title = lists_now t.lists.value.titles c;
 }
 
-abbrev pub data_next : DataTables → ℕ → PointData
-data_next t c = record {
-  word = values_next t.words c;
-  mapping = lists_next t.lists.value.mappings c;
-  upper = lists_next t.lists.value.uppers c;
-  lower = lists_next t.lists.value.lowers c;
-  title = lists_next t.lists.value.titles c;
+abbrev pub data_next : DataRuns → ℕ → PointData
+data_next given c = record {
+  word = words_next given.words c;
+  mapping = lists_next given.lists.value.mappings c;
+  upper = lists_next given.lists.value.uppers c;
+  lower = lists_next given.lists.value.lowers c;
+  title = lists_next given.lists.value.titles c;
 }
 
 pub record HasNoneNext (l : DataLists) (c : ℕ) : Type 0 where

@@ -1,6 +1,5 @@
--- The images that rows of CaseFolding.txt and SpecialCasing.txt give, kept in maps.
+-- The images that rows of CaseFolding.txt and SpecialCasing.txt give.
 --
--- found map c               the value of c in the map; None where it has none
 -- first_some a b            a where it is there, else b
 -- passes case c row         the row gives c an image of this case; a row with conditions does not
 -- image_in case row         the image that the row gives; None where there is no row, and for a row of another file
@@ -10,15 +9,10 @@
 --                           is there
 use Rattle.std.specs.Prelude.{ℕ, Bool, List, Option, Some, None, ◌==◌, find, if◌then◌else◌}
 use Rattle.std.specs.Option.{option_map}
-use Rattle.std.specs.Ordering.{nat_cmp}
-use Rattle.std.specs.BTreeMap.{BTreeMap, get}
 use Rattle.ucd_model.specs.Facts.{is_folding_of, folding_in, is_casing_of, casing_in}
 use Rattle.ucd_model.specs.declared.row.Row.{Row}
 use Rattle.code_facts.specs.declared.case.Case.{Case}
 use Rattle.code_facts.specs.declared.case.Case.TheVariants.{Fold, Lower, Title, Upper}
-
-abbrev pub found : BTreeMap ℕ (List ℕ) → ℕ → Option (List ℕ)
-found map c = get nat_cmp map c
 
 abbrev pub first_some : Option (List ℕ) → Option (List ℕ) → Option (List ℕ)
 first_some (Some x) other = Some x

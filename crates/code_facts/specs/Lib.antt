@@ -1,4 +1,5 @@
 pub mod Word
+pub mod WordRuns
 pub mod Lists
 pub mod PointLists
 pub mod Rows
@@ -10,7 +11,7 @@ pub mod MidWords
 pub mod Marks
 pub mod MarkRows
 pub mod Found
-pub mod CaseMaps
+pub mod CaseImages
 pub mod GivenPoints
 pub mod Rest
 pub mod RestForm

@@ -2,8 +2,6 @@
 --
 -- word_in t c         the word of c
 -- first_alone xs      the first of a list alone; of an empty list nothing
--- cases_in maps c     the images of c in the maps
--- with_foldings a b   the foldings of a, and the casings of b
 -- rest_in t c         what is kept of c beside its word
 -- others_in t c       the same, without the decomposition mapping
 -- IsBare t c          c has no more than a decomposition mapping; AreBare t c end: so it is of all from c to before the end
@@ -12,13 +10,11 @@
 use Rattle.std.specs.Prelude.{◌≡◌, ℕ, ◌<◌, ◌≤◌, List, [], ◌∷◌}
 use Rattle.range_table.specs.RunTable.{values_now}
 use Rattle.ucd_model.specs.Facts.{Sources, Facts, given}
-use Rattle.code_facts.specs.Found.{found}
+use Rattle.code_facts.specs.CaseImages.{cases_at}
 use Rattle.code_facts.specs.KeptFacts.{kept_at}
 use Rattle.code_facts.specs.PointLists.{lists_now}
 use Rattle.code_facts.specs.Rest.{RestOf, no_rest}
 use Rattle.code_facts.specs.Word.{packed}
-use Rattle.code_facts.specs.declared.case_maps.CaseMaps.{CaseMaps}
-use Rattle.code_facts.specs.declared.cases.Cases.{Cases}
 use Rattle.code_facts.specs.declared.row_tables.RowTables.{RowTables}
 
 abbrev pub word_in : RowTables → ℕ → ℕ
@@ -28,33 +24,13 @@ abbrev pub first_alone : List ℕ → List ℕ
 first_alone [] = []
 first_alone (c ∷ cs) = c ∷ []
 
-abbrev pub cases_in : CaseMaps → ℕ → Cases
-cases_in maps c = record {
-  common = found maps.common c;
-  full = found maps.full c;
-  simple = found maps.simple c;
-  lower = found maps.lower c;
-  title = found maps.title c;
-  upper = found maps.upper c;
-}
-
-abbrev pub with_foldings : Cases → Cases → Cases
-with_foldings a b = record {
-  common = a.common;
-  full = a.full;
-  simple = a.simple;
-  lower = b.lower;
-  title = b.title;
-  upper = b.upper;
-}
-
 abbrev pub rest_in : RowTables → ℕ → RestOf
 rest_in t c = record {
   mapping = lists_now t.lists.value.mappings c;
   upper = first_alone (lists_now t.lists.value.uppers c);
   lower = first_alone (lists_now t.lists.value.lowers c);
   title = first_alone (lists_now t.lists.value.titles c);
-  cases = cases_in t.cases.value c;
+  cases = cases_at t.cases.value.images c;
 }
 
 abbrev pub others_in : RowTables → ℕ → RestOf
@@ -63,7 +39,7 @@ others_in t c = record {
   upper = first_alone (lists_now t.lists.value.uppers c);
   lower = first_alone (lists_now t.lists.value.lowers c);
   title = first_alone (lists_now t.lists.value.titles c);
-  cases = cases_in t.cases.value c;
+  cases = cases_at t.cases.value.images c;
 }
 
 abbrev pub IsBare : RowTables → ℕ → Type 0

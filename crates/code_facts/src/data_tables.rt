@@ -3,7 +3,7 @@
 ghost use Rattle.std.specs.Prelude.{◌≡◌, ℕ, ◌<◌, true, Some, None, IfOk, OnOk, if◌then◌else◌};
 ghost use Rattle.std.specs.Option.{option_to_list};
 ghost use Rattle.range_table.specs.Values.{SameValues, with_span};
-ghost use Rattle.range_table.specs.RunTable.{values_next};
+ghost use Rattle.code_facts.specs.WordRuns.{words_next};
 ghost use Rattle.ucd_model.specs.Facts.{within, mapping_in, data_row, class_in, is_hangul_syllable, hangul_mapping};
 ghost use Rattle.ucd_points.specs.declared.files.SourceFile.TheVariants.{UnicodeData};
 ghost use Rattle.ucd_model.specs.declared.row.Row.TheVariants.{Unit as DataLine};
@@ -18,9 +18,10 @@ use crate::point_lists::PointLists;
 use crate::points::point;
 use crate::row_lists::RowLists;
 use crate::word::{NO_ROW, data_word};
-use range_table::{RunTable, Table};
+use crate::word_runs::WordRuns;
+use range_table::RunTable;
 use release_rows::RowText;
-use source_rows::PointValues;
+use source_rows::{Mapping, PointValues};
 use std::alloc::Global;
 use ucd_model::{Kind, Memory, Point, Span};
 
@@ -55,19 +56,29 @@ impl DataTables {
             → data_now tables c ≡ row_data c (data_row rows.now c)) }
         ensures class { OnOk result ((c : ℕ) → class_in (data_row rows.now c) < 256) }
     {
-        let mut tables = DataTables::new(alloc)?;
-        tables.add_rows(alloc, rows)?;
-        tables.commit();
-        Ok(tables)
+        let mut given = DataRuns::new(alloc)?;
+        given.add_rows(alloc, rows)?;
+        given.into_tables()
     }
+}
 
-    /// The tables of no rows.
-    fn new(alloc: Global) -> Result<DataTables, Memory>
-        ensures { IfOk result (λ tables. (c : ℕ) → c < 1114112 → data_next tables c ≡ row_data c None) }
+/// The same, while rows are added.
+#[derive(Drop)]
+pub struct DataRuns {
+    /// The parts of the packed words.
+    pub words: WordRuns,
+    /// The mappings.
+    pub lists: Box<DataLists>,
+}
+
+impl DataRuns {
+    /// What no rows give.
+    fn new(alloc: Global) -> Result<DataRuns, Memory>
+        ensures { IfOk result (λ given. (c : ℕ) → c < 1114112 → data_next given c ≡ row_data c None) }
     {
         let lists = Box::new(alloc, DataLists::new(alloc)?)?;
-        Ok(DataTables {
-            words: RunTable::filled(alloc, NO_ROW)?,
+        Ok(DataRuns {
+            words: WordRuns::filled(alloc, NO_ROW)?,
             lists,
         })
     }
@@ -111,30 +122,36 @@ impl DataTables {
         add_simple(&mut self.lists.titles, row.span, row.values.title)
     }
 
-    /// What is next becomes now. It takes no memory.
-    fn commit(&mut self)
-        ensures { (c : ℕ) → c < 1114112 → data_now self.new c ≡ data_next self.old c }
+    /// The tables of what was given.
+    ///
+    /// - `Memory`: memory ran out.
+    fn into_tables(self) -> Result<DataTables, Memory>
+        ensures { IfOk result (λ tables. (c : ℕ) → c < 1114112 → data_now tables c ≡ data_next self c) }
     {
-        self.words.commit();
-        self.lists.mappings.commit();
-        self.lists.uppers.commit();
-        self.lists.lowers.commit();
-        self.lists.titles.commit();
+        let DataRuns { words, mut lists } = self;
+        lists.mappings.commit();
+        lists.uppers.commit();
+        lists.lowers.commit();
+        lists.titles.commit();
+        Ok(DataTables {
+            words: words.into_table()?,
+            lists,
+        })
     }
 }
 
 /// Gives the points of a row its part of the word.
-fn add_word(words: &mut RunTable<u64>, row: &PointValues<'_>) -> Result<(), Memory>
-    ensures word { OnOk result ((c : ℕ) → c < 1114112 → values_next words.new c
-        ≡ (if within c row.now.span then (row_data c (Some (given_row row.now))).word else values_next words.old c)) }
+fn add_word(words: &mut WordRuns, row: &PointValues<'_>) -> Result<(), Memory>
+    ensures word { OnOk result ((c : ℕ) → c < 1114112 → words_next words.new c
+        ≡ (if within c row.now.span then (row_data c (Some (given_row row.now))).word else words_next words.old c)) }
     ensures class { row.now.values.class < 256 }
 {
     let kind = row.values.decomposition.kind;
-    words.prepare(row.span, data_word(&row.values, kind))?;
+    words.put(row.span, data_word(&row.values, kind))?;
     if let Kind::Plain = kind
         && let Some(part) = syllables(row.span)
     {
-        words.prepare(part, data_word(&row.values, Kind::Canonical))?;
+        words.put(part, data_word(&row.values, Kind::Canonical))?;
     }
     Ok(())
 }
@@ -149,14 +166,31 @@ fn add_mapping(
     ensures { OnOk result ((c : ℕ) → c < 1114112 → lists_next mappings.new c
         ≡ (if within c row.now.span then mapping_in c (Some (given_row row.now)) else lists_next mappings.old c)) }
 {
-    let points = row.values.decomposition.mapping.again().copied(alloc)?;
-    put_list(mappings, row.span, points.as_slice())?;
+    let mapping = row.values.decomposition.mapping.again();
+    put_mapping(alloc, mappings, row.span, mapping)?;
     if let Kind::Plain = row.values.decomposition.kind
         && let Some(part) = syllables(row.span)
     {
         add_syllables(mappings, part)?;
     }
     Ok(())
+}
+
+/// Gives the points of a span a copy of a mapping. They have none yet. For an empty one nothing is done.
+fn put_mapping(
+    alloc: Global,
+    mappings: &mut PointLists,
+    span: Span,
+    mapping: Mapping<'_>,
+) -> Result<(), Memory>
+    requires { AreEmpty (lists_next mappings.old) span }
+    ensures { OnOk result (SameValues (lists_next mappings.new) (with_span (lists_next mappings.old) span.lo span.hi mapping.entry)) }
+{
+    if mapping.len() == 0 {
+        return Ok(());
+    }
+    let points = mapping.copied(alloc)?;
+    mappings.prepare(span, points.as_slice())
 }
 
 /// Gives each syllable of a span its mapping.
@@ -178,18 +212,7 @@ fn add_simple(lists: &mut PointLists, span: Span, image: Option<Point>) -> Resul
     ensures { OnOk result (SameValues (lists_next lists.new) (with_span (lists_next lists.old) span.lo span.hi (option_to_list image))) }
 {
     match image {
-        Some(image) => put_list(lists, span, &[image]),
-        None => put_list(lists, span, &[]),
+        Some(image) => lists.prepare(span, &[image]),
+        None => Ok(()),
     }
-}
-
-/// Gives the points of a span a list. Their lists are empty so far. For no points nothing is done.
-fn put_list(lists: &mut PointLists, span: Span, points: &[Point]) -> Result<(), Memory>
-    requires { AreEmpty (lists_next lists.old) span }
-    ensures { OnOk result (SameValues (lists_next lists.new) (with_span (lists_next lists.old) span.lo span.hi points.now)) }
-{
-    if points.is_empty() {
-        return Ok(());
-    }
-    lists.prepare(span, points)
 }

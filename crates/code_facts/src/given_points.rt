@@ -3,9 +3,10 @@
 ghost use Rattle.std.specs.Prelude.{◌≡◌, Some, None, IfOk};
 ghost use Rattle.std.specs.Option.{option_copied};
 
+use source_rows::Mapping;
 use std::alloc::Global;
 use std::marker::Model;
-use ucd_model::{Memory, Point, Points};
+use ucd_model::{Copied, Memory, Point, Points};
 
 /// The points that a row gives, if one gives some. A single point takes no memory of its own.
 #[derive(Drop)]
@@ -53,6 +54,16 @@ impl GivenPoints {
         Ok(GivenPoints { form })
     }
 
+    /// Copies of the points of a mapping.
+    ///
+    /// - `Memory`: memory ran out.
+    pub fn of_mapping(alloc: Global, mapping: Mapping<'_>) -> Result<GivenPoints, Memory>
+        ensures { IfOk result (λ given. given ≡ Some mapping.entry) }
+    {
+        let points = mapping.copied(alloc)?;
+        GivenPoints::of(alloc, points.as_slice())
+    }
+
     /// The points, if some are given.
     pub fn points(&self) -> Option<&[Point]>
         ensures { option_copied result ≡ self.now }
@@ -61,6 +72,15 @@ impl GivenPoints {
             PointsForm::Absent => None,
             PointsForm::Single(points) => Some(points),
             PointsForm::Listed(points) => Some(points.as_slice()),
+        }
+    }
+}
+
+impl Copied for GivenPoints {
+    fn copied(&self, alloc: Global) -> Result<GivenPoints, Memory> {
+        match self.points() {
+            Some(points) => GivenPoints::of(alloc, points),
+            None => Ok(GivenPoints::none()),
         }
     }
 }

@@ -2,8 +2,8 @@
 #![tactic(auto)]
 
 mod case;
-mod case_map;
-mod case_maps;
+mod case_images;
+mod case_rows;
 mod cases;
 mod changes;
 mod composing;
@@ -41,10 +41,12 @@ mod row_lists;
 mod row_tables;
 mod shown;
 mod sweeping;
+mod table_copy;
 mod uniform;
 mod version;
 mod view;
 mod word;
+mod word_runs;
 
 pub use fact_tables::FactTables;
 pub use giving_files::gives_facts;

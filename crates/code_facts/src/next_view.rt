@@ -7,7 +7,7 @@ ghost use Rattle.code_facts.specs.NextView.{facts_next};
 use crate::fact_tables::FactTables;
 use crate::version::Version;
 use range_table::Table;
-use ucd_model::{FactView, FactsRef, Kind, Point};
+use ucd_model::{Category, FactView, FactsRef, Flags, Kind, Point};
 
 /// The facts of code points next.
 #[derive(Clone, Copy)]
@@ -53,5 +53,25 @@ impl<T: Table<u64>> FactView for NextView<'_, T> {
 
     fn mapping(&self, c: Point) -> &[Point] {
         self.tables.mapping_in(Version::Next, c)
+    }
+
+    fn category(&self, c: Point) -> Category {
+        self.tables.category_in(Version::Next, c)
+    }
+
+    fn flags(&self, c: Point) -> Flags {
+        self.tables.flags_in(Version::Next, c)
+    }
+
+    fn folding(&self, c: Point) -> Option<&[Point]> {
+        self.tables.folding_in(Version::Next, c)
+    }
+
+    fn simple_folding(&self, c: Point) -> Point {
+        self.tables.simple_folding_in(Version::Next, c)
+    }
+
+    fn is_unmapped(&self, c: Point) -> bool {
+        self.tables.is_unmapped_in(Version::Next, c)
     }
 }

@@ -1,6 +1,6 @@
 //! The index of the code points that may compose the two members of their mapping.
 
-ghost use Rattle.std.specs.Prelude.{◌≡◌, ℕ, ◌+◌, ◌%◌, ◌<◌, ◌≤◌, true, false, OnOk, MatchOption};
+ghost use Rattle.std.specs.Prelude.{◌≡◌, ℕ, ◌+◌, ◌%◌, ◌<◌, ◌≤◌, true, false, IfOk, OnOk, MatchOption};
 ghost use Rattle.key_set.specs.Keys.{has, is_in};
 ghost use Rattle.code_facts.specs.Index.{pair_key, first_key, second_key, is_listed, is_gathered, NoneFrom};
 
@@ -30,6 +30,18 @@ impl PairIndex {
             pairs: KeySet::of(alloc, pairs),
             seconds: KeySet::of(alloc, seconds),
         }
+    }
+
+    /// The same index.
+    ///
+    /// - `Memory`: memory ran out.
+    pub fn copied(&self, alloc: Global) -> Result<PairIndex, Memory>
+        ensures { IfOk result (λ copy. (a b r : ℕ) → is_listed copy a b r ≡ is_listed self.now a b r) }
+    {
+        Ok(PairIndex {
+            pairs: self.pairs.copied(alloc)?,
+            seconds: self.seconds.copied(alloc)?,
+        })
     }
 
     /// Lists the code points of these keys too.

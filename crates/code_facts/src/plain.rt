@@ -20,10 +20,14 @@ impl<T: Stretches<u64>> FactTables<T> {
         ensures stretch { IfSome result (HoldsTo (λ d. IsPlain d (tables_facts T.now self.now d)) c) }
     {
         let _first = c.number();
-        if self.rests.get(c).is_none() {
+        let rest = self.rests.get(c);
+        if rest.is_none() {
             let last = self.rests.last_of_stretch(c);
             let _last = last.number();
             return Some(last);
+        }
+        if !rest.mapping().is_empty() {
+            return None;
         }
         self.plain(c)
     }

@@ -1,17 +1,20 @@
 //! Reading the facts of tables, now or next.
 
 ghost use Rattle.std.specs.Prelude.{◌≡◌};
-ghost use Rattle.ucd_model.specs.Shown.{shown_facts};
+ghost use Rattle.ucd_model.specs.Sets.{has_flag};
+ghost use Rattle.ucd_model.specs.Shown.{image_shown, shown_facts};
+ghost use Rattle.ucd_model.specs.Unmapped.{is_unmapped};
 ghost use Rattle.code_facts.specs.FactTables.{words_at, rests_at, facts_at};
 
 use crate::fact_tables::FactTables;
+use crate::images::{folding, simple_folding};
 use crate::rest::Rest;
 use crate::shown::shown;
 use crate::version::Version;
-use crate::word::{class_of, is_assigned, kind_of};
+use crate::word::{category_of, class_of, flags_of, is_assigned, kind_of};
 use kept_values::Store;
 use range_table::Table;
-use ucd_model::{FactsRef, Kind, Point};
+use ucd_model::{Category, FactsRef, Flags, Kind, Point};
 
 impl<T: Table<u64>> FactTables<T> {
     /// The packed word of a code point.
@@ -72,5 +75,51 @@ impl<T: Table<u64>> FactTables<T> {
     {
         let _number = c.number();
         self.rest(version, c).mapping()
+    }
+
+    /// The category of a code point.
+    pub(crate) fn category_in(&self, version: Version, c: Point) -> Category
+        ensures { result ≡ (facts_at version self.now c).category }
+    {
+        let _number = c.number();
+        category_of(self.word(version, c))
+    }
+
+    /// Which of the properties in `Flag` a code point has.
+    pub(crate) fn flags_in(&self, version: Version, c: Point) -> Flags
+        ensures { has_flag result ≡ (facts_at version self.now c).flag }
+    {
+        let _number = c.number();
+        flags_of(self.word(version, c))
+    }
+
+    /// The full folding of a code point; `None` for the point itself alone.
+    pub(crate) fn folding_in(&self, version: Version, c: Point) -> Option<&[Point]>
+        ensures { image_shown result ≡ (facts_at version self.now c).fold }
+    {
+        let _number = c.number();
+        let rest = self.rest(version, c);
+        folding(c, rest.full_folding(), rest.common_folding())
+    }
+
+    /// The simple folding of a code point.
+    pub(crate) fn simple_folding_in(&self, version: Version, c: Point) -> Point
+        ensures { result ≡ (facts_at version self.now c).simple_fold }
+    {
+        let _number = c.number();
+        let rest = self.rest(version, c);
+        simple_folding(c, rest.simple_folding(), rest.common_folding())
+    }
+
+    /// Whether a code point is its own image by each full case mapping, and by the folding. One that has no more than a
+    /// decomposition mapping, as most have, is so at once.
+    pub(crate) fn is_unmapped_in(&self, version: Version, c: Point) -> bool
+        ensures { result ≡ is_unmapped (facts_at version self.now c) }
+    {
+        let _number = c.number();
+        match self.rest(version, c).bare_mapping() {
+            Some(_) => true,
+            None => self.shown(version, c).is_unmapped(),
+        }
     }
 }

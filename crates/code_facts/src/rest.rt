@@ -1,14 +1,15 @@
 //! What is kept of the facts of a code point beside its word.
 
 ghost use Rattle.std.specs.Prelude.{◌≡◌, IfOk, IfSome, IsTrue};
-ghost use Rattle.std.specs.Option.{option_copied};
+ghost use Rattle.std.specs.Box.{box_value};
+ghost use Rattle.std.specs.Option.{option_copied, option_map};
 ghost use Rattle.code_facts.specs.Rest.{no_rest, bare_rest, cases_of, rest_of_all};
 
 use crate::cases::Cases;
 use crate::mappings::Mappings;
 use std::alloc::Global;
 use std::marker::Model;
-use ucd_model::{Memory, Point, Points};
+use ucd_model::{Copied, Memory, Point, Points};
 
 /// The mappings of a code point. Most that have any have only a decomposition mapping of one or two members, which
 /// takes no memory of its own.
@@ -197,7 +198,7 @@ impl Rest {
             && has_same_casings(self, other)
     }
 
-    /// The decomposition mapping, where it is kept that there is no other one; `None` where others may be too.
+    /// The decomposition mapping, if it is kept that there is no other one; `None` if others may be too.
     pub fn bare_mapping(&self) -> Option<&[Point]>
         ensures { IfSome result (λ mapping. self.now ≡ bare_rest mapping.now) }
     {
@@ -268,4 +269,51 @@ fn is_same_list(a: &[Point], b: &[Point]) -> bool
     ensures { IsTrue result → a.now ≡ b.now }
 {
     a == b
+}
+
+impl Copied for Rest {
+    fn copied(&self, alloc: Global) -> Result<Rest, Memory> {
+        match &self.form {
+            RestForm::Empty => Ok(Rest::none()),
+            RestForm::One(points) => Ok(Rest {
+                form: RestForm::One(*points),
+            }),
+            RestForm::Two(points) => Ok(Rest {
+                form: RestForm::Two(*points),
+            }),
+            RestForm::All(all) => copied_mappings(alloc, all),
+        }
+    }
+}
+
+/// What is kept of the same mappings.
+///
+/// - `Memory`: memory ran out.
+fn copied_mappings(alloc: Global, all: &Mappings) -> Result<Rest, Memory>
+    ensures { IfOk result (λ rest. rest ≡ rest_of_all all.now) }
+{
+    let mapping = Points::of(alloc, all.mapping.as_slice())?;
+    let cases = copied_cases(alloc, all.cases.as_deref())?;
+    Rest::of(
+        alloc,
+        Mappings {
+            mapping,
+            upper: all.upper,
+            lower: all.lower,
+            title: all.title,
+            cases,
+        },
+    )
+}
+
+/// The same images, if there are any.
+///
+/// - `Memory`: memory ran out.
+fn copied_cases(alloc: Global, cases: Option<&Cases>) -> Result<Option<Box<Cases>>, Memory>
+    ensures { IfOk result (λ copies. option_map box_value copies ≡ option_copied cases.entry) }
+{
+    match cases {
+        Some(cases) => Ok(Some(Box::new(alloc, cases.copied(alloc)?)?)),
+        None => Ok(None),
+    }
 }

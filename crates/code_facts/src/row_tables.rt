@@ -15,7 +15,7 @@ ghost use Rattle.code_facts.specs.RowLists.{sources_of};
 ghost use Rattle.code_facts.specs.Rows.{Apart, row_data};
 ghost use Rattle.code_facts.specs.RowTables.{ShowsRows, AreBare, IsBare, first_alone, others_in, rest_in};
 
-use crate::case_maps::CaseMaps;
+use crate::case_images::CaseImages;
 use crate::data_lists::DataLists;
 use crate::data_tables::DataTables;
 use crate::mappings::Mappings;
@@ -36,7 +36,7 @@ pub struct RowTables {
     /// The mappings that the rows of UnicodeData.txt give.
     pub lists: Box<DataLists>,
     /// The images of CaseFolding.txt and SpecialCasing.txt.
-    pub cases: Box<CaseMaps>,
+    pub cases: Box<CaseImages>,
 }
 
 impl RowTables {
@@ -67,7 +67,7 @@ impl RowTables {
         requires marks { (c : ℕ) → c < 1114112 → values_now marked.now c ≡ marks_at (sources_of rows.now) c }
         ensures { IfOk result (λ made. (c : ℕ) → c < 1114112 → ShowsRows made (sources_of rows.now) c) }
     {
-        let cases = Box::new(alloc, CaseMaps::of(alloc, rows)?)?;
+        let cases = Box::new(alloc, CaseImages::of(alloc, rows)?)?;
         let words = summed(alloc, data_words, marked)?;
         Ok(RowTables {
             words,

@@ -7,7 +7,7 @@ ghost use Rattle.code_facts.specs.NowView.{facts_now};
 use crate::fact_tables::FactTables;
 use crate::version::Version;
 use range_table::Table;
-use ucd_model::{FactView, FactsRef, Kind, Point};
+use ucd_model::{Category, FactView, FactsRef, Flags, Kind, Point};
 
 /// The facts of code points now.
 #[derive(Clone, Copy)]
@@ -44,6 +44,26 @@ impl<T: Table<u64>> FactView for FactTables<T> {
 
     fn mapping(&self, c: Point) -> &[Point] {
         self.mapping_in(Version::Now, c)
+    }
+
+    fn category(&self, c: Point) -> Category {
+        self.category_in(Version::Now, c)
+    }
+
+    fn flags(&self, c: Point) -> Flags {
+        self.flags_in(Version::Now, c)
+    }
+
+    fn folding(&self, c: Point) -> Option<&[Point]> {
+        self.folding_in(Version::Now, c)
+    }
+
+    fn simple_folding(&self, c: Point) -> Point {
+        self.simple_folding_in(Version::Now, c)
+    }
+
+    fn is_unmapped(&self, c: Point) -> bool {
+        self.is_unmapped_in(Version::Now, c)
     }
 }
 
@@ -85,5 +105,25 @@ impl<T: Table<u64>> FactView for NowView<'_, T> {
 
     fn mapping(&self, c: Point) -> &[Point] {
         self.tables.mapping(c)
+    }
+
+    fn category(&self, c: Point) -> Category {
+        self.tables.category(c)
+    }
+
+    fn flags(&self, c: Point) -> Flags {
+        self.tables.flags(c)
+    }
+
+    fn folding(&self, c: Point) -> Option<&[Point]> {
+        self.tables.folding(c)
+    }
+
+    fn simple_folding(&self, c: Point) -> Point {
+        self.tables.simple_folding(c)
+    }
+
+    fn is_unmapped(&self, c: Point) -> bool {
+        self.tables.is_unmapped(c)
     }
 }

@@ -3,8 +3,8 @@ use Rattle.ucd_model.specs.Facts.{data_row}
 use Rattle.ucd_points.specs.declared.files.SourceFile.TheVariants.{UnicodeData}
 use Rattle.code_facts.specs.RowLists.{sources_of}
 use Rattle.code_facts.specs.DataTables.{data_now}
-use Rattle.code_facts.specs.CaseMaps.{KeepsImages}
-use Rattle.code_facts.specs.declared.case_maps.CaseMaps.{CaseMaps}
+use Rattle.code_facts.specs.CaseImages.{KeepsImages}
+use Rattle.code_facts.specs.declared.case_images.CaseImages.{CaseImages}
 use Rattle.code_facts.specs.Marks.{all_marks}
 use Rattle.code_facts.proofs.MarkLemmas.{marks_small}
 use Rattle.code_facts.proofs.FactLemmas.{row_shown, word_small}
@@ -23,4 +23,4 @@ returns c k lt =
     let sources = sources_of c.args.rows.now in
     row_shown _ sources k (data_now (record { words = c.args.data_words.now; lists = c.args.lists }) k) _ (c.requires.gives k lt)
     (c.in_ok-words.ensures k lt) (c.requires.marks k lt) refl refl refl refl (c.requires.class k)
-    (subst (λ (maps : CaseMaps). KeepsImages maps sources) (sym c.in_ok-cases.ensures.ok) c.in_ok-of.ensures)
+    (subst (λ (maps : CaseImages). KeepsImages maps sources) (sym c.in_ok-cases.ensures.ok) c.in_ok-of.ensures)

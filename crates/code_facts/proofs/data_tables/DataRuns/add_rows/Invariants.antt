@@ -1,6 +1,6 @@
 use Rattle.code_facts.proofs.DataLemmas.{RowsGive}
 use Rattle.code_facts.specs.DataTables.{data_next}
-use Rattle.code_facts.proofs.data_tables.DataTables.add_rows.Given as goal
+use Rattle.code_facts.proofs.data_tables.DataRuns.add_rows.Given as goal
 
 -- what the rows before this one give
 abbrev pub invariant-rows : goal.invariant-rows

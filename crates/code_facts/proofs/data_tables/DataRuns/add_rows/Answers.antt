@@ -2,7 +2,7 @@ use Rattle.std.proofs.Common.{◌<◌, ◌≤◌, sym, subst, arith, length}
 use Rattle.ucd_model.specs.declared.row.Row.{Row}
 use Rattle.code_facts.specs.DataTables.{IsFresh, data_next}
 use Rattle.code_facts.proofs.DataLemmas.{row_is_fresh, rows_none, rows_added, rows_all}
-use Rattle.code_facts.proofs.data_tables.DataTables.add_rows.Goals as goal
+use Rattle.code_facts.proofs.data_tables.DataRuns.add_rows.Goals as goal
 
 pub rows-init : goal.rows-init
 rows-init c = rows_none c.args.rows.now (data_next c.args.self.now) c.requires.fresh

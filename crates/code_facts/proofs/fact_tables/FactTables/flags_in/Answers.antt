@@ -1,0 +1,12 @@
+use Rattle.std.proofs.Common.{ap, sym, ◌∙◌, arith}
+use Rattle.ucd_model.specs.Facts.{Facts}
+use Rattle.ucd_model.specs.Sets.{has_flag}
+use Rattle.code_facts.specs.FactTables.{words_at, rests_at}
+use Rattle.code_facts.specs.Word.{flags_of_word}
+use Rattle.code_facts.proofs.FactLemmas.{kept_point}
+use Rattle.code_facts.proofs.fact_tables.FactTables.flags_in.Goals as goal
+
+pub returns : goal.returns
+returns g c =
+    let kept = kept_point (words_at c.args.version c.args.self.now) (rests_at c.args.version c.args.self.now) c.args.c (omega arith) in
+    ap has_flag (c.flags_of.ensures ∙ ap flags_of_word c.word.ensures) ∙ ap (λ (F : Facts). F.flag) (sym kept)

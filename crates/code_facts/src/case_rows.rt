@@ -1,0 +1,152 @@
+//! The images that rows give, gathered under their code points.
+
+ghost use Rattle.std.specs.Prelude.{◌≡◌, ℕ, ◌==◌, None, Some, List, [], false, IfOk, OnOk, if◌then◌else◌};
+ghost use Rattle.std.specs.Box.{box_value};
+ghost use Rattle.source_rows.specs.RowRefs.{row_in};
+ghost use Rattle.code_facts.specs.CaseImages.{all_images, cases_at, with_casings, with_foldings, with_image};
+ghost use Rattle.code_facts.specs.Found.{image_of_row};
+ghost use Rattle.ucd_model.specs.declared.row.Row.{Row};
+
+use crate::case::Case;
+use crate::cases::Cases;
+use crate::given_points::GivenPoints;
+use release_rows::RowText;
+use source_rows::{Mapping, RowRef};
+use std::alloc::Global;
+use std::collections::BTreeMap;
+use ucd_model::{FoldStatus, Memory, Point};
+
+/// The foldings of the statuses C, F and S that rows give. If several rows give a code point one, the first counts. Each
+/// row is read once.
+///
+/// - `Memory`: memory ran out.
+pub fn foldings_of(
+    alloc: Global,
+    rows: &[RowText<'_>],
+) -> Result<BTreeMap<Point, Box<Cases>>, Memory>
+    ensures { IfOk result (λ images. (c : ℕ) → cases_at images c ≡ all_images rows.now [] c) }
+{
+    let mut images = BTreeMap::new(alloc);
+    'rows: for text in rows {
+        put_foldings(alloc, &mut images, &text.row())?;
+    }
+    Ok(images)
+}
+
+/// These foldings, and beside them the casings without conditions that rows give, likewise.
+///
+/// - `Memory`: memory ran out.
+pub fn casings_over(
+    alloc: Global,
+    foldings: BTreeMap<Point, Box<Cases>>,
+    rows: &[RowText<'_>],
+) -> Result<BTreeMap<Point, Box<Cases>>, Memory>
+    ensures { (given : List Row) → ((c : ℕ) → cases_at foldings c ≡ all_images given [] c)
+        → IfOk result (λ images. (c : ℕ) → cases_at images c ≡ all_images given rows.now c) }
+{
+    let mut images = foldings;
+    'rows: for text in rows {
+        put_casings(alloc, &mut images, &text.row())?;
+    }
+    Ok(images)
+}
+
+/// Gives the code point of a row the foldings that it has not yet.
+fn put_foldings(
+    alloc: Global,
+    images: &mut BTreeMap<Point, Box<Cases>>,
+    row: &RowRef<'_>,
+) -> Result<(), Memory>
+    ensures { OnOk result ((c : ℕ) → cases_at images.new c ≡ with_foldings c (row_in row.now) (cases_at images.old c)) }
+{
+    put_first(alloc, images, row, Case::Fold(FoldStatus::C))?;
+    put_first(alloc, images, row, Case::Fold(FoldStatus::F))?;
+    put_first(alloc, images, row, Case::Fold(FoldStatus::S))
+}
+
+/// Gives the code point of a row the casings that it has not yet.
+fn put_casings(
+    alloc: Global,
+    images: &mut BTreeMap<Point, Box<Cases>>,
+    row: &RowRef<'_>,
+) -> Result<(), Memory>
+    ensures { OnOk result ((c : ℕ) → cases_at images.new c ≡ with_casings c (row_in row.now) (cases_at images.old c)) }
+{
+    put_first(alloc, images, row, Case::Lower)?;
+    put_first(alloc, images, row, Case::Title)?;
+    put_first(alloc, images, row, Case::Upper)
+}
+
+/// Gives the code point of a row its image of a case, unless it has one.
+#[tactic(auto, using(crate::proofs::CaseLemmas::nothing_more))]
+fn put_first(
+    alloc: Global,
+    images: &mut BTreeMap<Point, Box<Cases>>,
+    row: &RowRef<'_>,
+    case: Case,
+) -> Result<(), Memory>
+    ensures { OnOk result ((c : ℕ) → cases_at images.new c ≡ with_image case (cases_at images.old c) (image_of_row case c (row_in row.now))) }
+{
+    match case.image(row) {
+        Some((code, mapping)) => put_copy(alloc, images, code, case, mapping),
+        None => Ok(()),
+    }
+}
+
+/// Gives a code point a copy of an image, unless it has one of this case.
+fn put_copy(
+    alloc: Global,
+    images: &mut BTreeMap<Point, Box<Cases>>,
+    code: Point,
+    case: Case,
+    mapping: Mapping<'_>,
+) -> Result<(), Memory>
+    ensures { OnOk result ((c : ℕ) → cases_at images.new c ≡ with_image case (cases_at images.old c) (if code == c then Some mapping.entry else None)) }
+{
+    let image = GivenPoints::of_mapping(alloc, mapping)?;
+    put_image(alloc, images, code, case, image)
+}
+
+/// Gives a code point an image, unless it has one of this case.
+fn put_image(
+    alloc: Global,
+    images: &mut BTreeMap<Point, Box<Cases>>,
+    code: Point,
+    case: Case,
+    image: GivenPoints,
+) -> Result<(), Memory>
+    ensures { OnOk result ((c : ℕ) → cases_at images.new c ≡ with_image case (cases_at images.old c) (if code == c then image else None)) }
+{
+    let mut cases = taken(alloc, images, code)?;
+    cases.put(case, image);
+    set(images, code, cases)?;
+    Ok(())
+}
+
+/// Takes the images of a code point out.
+fn taken(
+    alloc: Global,
+    images: &mut BTreeMap<Point, Box<Cases>>,
+    code: Point,
+) -> Result<Box<Cases>, Memory>
+    ensures taken { IfOk result (λ cases. box_value cases ≡ cases_at images.old code) }
+    ensures others { (c : ℕ) → (code == c) ≡ false → cases_at images.new c ≡ cases_at images.old c }
+{
+    if let Some(cases) = images.remove(&code) {
+        return Ok(cases);
+    }
+    let none = Box::new(alloc, Cases::none())?;
+    Ok(none)
+}
+
+/// Gives a code point these images in place of its own.
+fn set(
+    images: &mut BTreeMap<Point, Box<Cases>>,
+    code: Point,
+    cases: Box<Cases>,
+) -> Result<(), Memory>
+    ensures { OnOk result ((c : ℕ) → cases_at images.new c ≡ (if code == c then box_value cases else cases_at images.old c)) }
+{
+    images.insert(code, cases)?;
+    Ok(())
+}

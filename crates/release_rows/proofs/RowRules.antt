@@ -8,15 +8,10 @@ use Rattle.release_rows.specs.Extents.{Extent, same_start, meets, conflict_with}
 use Rattle.release_rows.specs.Places.{names_in, extent_at}
 use Rattle.source_rows.specs.Keys.{row_span, key_names}
 use Rattle.release_rows.specs.Keys.{row_end, has_spans, same_key, overlaps, key_rule, extent_in, is_back, last_start, falls_back}
-use Rattle.release_rows.specs.FileItems.{FileItem, rows_in}
-use Rattle.release_rows.specs.Loading.{row_rule, load_rule}
-use Rattle.release_rows.specs.Entries.{EntersSome}
-use Rattle.release_rows.specs.Progress.{BreaksNoRule, IsFreeEntry}
-use Rattle.release_rows.specs.declared.entry.Entry.{Entry}
+use Rattle.release_rows.specs.Loading.{row_rule, rule_by, load_rule}
 use Rattle.release_rows.specs.declared.place.Place.{Place}
 use Rattle.release_rows.specs.declared.conflict.Conflict.{Conflict}
 use Rattle.release_rows.specs.declared.conflict.Conflict.TheVariants.{K1, K4}
-use Rattle.release_rows.specs.declared.load_stop.LoadRule.TheVariants.{K5}
 
 pub extent_is : (file : SourceFile) (row : Row) (place : Place) (last : ℕ) → names_in place ≡ key_names file row → place.code ≡ (row_span row).lo → last ≡ row_end file row → extent_at place last ≡ extent_in file row
 extent_is file row place last names code end = rw (names, code, end) refl
@@ -62,13 +57,6 @@ rules_by file row above false h =
 pub by_extents : (file : SourceFile) (row : Row) (above : List Row) → conflict_with (map (extent_in file) above) (extent_in file row) ≡ key_rule file above row
 by_extents file row above = rules_by file row above (has_spans file) refl
 
--- the rule that is told of keys and spans, and else of the order
-pub rule_from : (file : SourceFile) (row : Row) (above : List Row) (rule : Conflict) → Some rule ≡ key_rule file above row → Some (load_rule rule) ≡ row_rule file above row
-rule_from file row above rule h = rw (← h) refl
-
-pub back_from : (file : SourceFile) (row : Row) (above : List Row) (back : Bool) → None ≡ key_rule file above row → back ≡ falls_back file above row → cond back (Some K5) None ≡ row_rule file above row
-back_from file row above back h k = rw (← h, ← k) refl
-
 pub back_is : (file : SourceFile) (row : Row) (above : List Row) (before : Option ℕ) (code : ℕ) (back : Bool) → back ≡ is_back file before code → before ≡ last_start above → code ≡ (row_span row).lo → back ≡ falls_back file above row
 back_is file row above before code back h start same = h ∙ rw (start, same) refl
 
@@ -76,19 +64,11 @@ pub no_key_rule : (o : Option Conflict) (back : Bool) (file : SourceFile) (row :
 no_key_rule None back file row above h k = refl
 no_key_rule (Some rule) back file row above h k = absurd (let e : Some (load_rule rule) ≡ None = rw h at k in cc)
 
--- a row that breaks no rule has no extent against it
-pub free : (file : SourceFile) (row : Row) (above : List Row) → row_rule file above row ≡ None → conflict_with (map (extent_in file) above) (extent_in file row) ≡ None
-free file row above h = by_extents file row above ∙ no_key_rule (key_rule file above row) false file row above refl h
+pub no_conflict : (o : Option Conflict) (back : Bool) → rule_by o back ≡ None → o ≡ None
+no_conflict None back h = refl
+no_conflict (Some rule) back h = absurd (let e : Some (load_rule rule) ≡ None = h in cc)
 
 -- what is kept of the rows above tells the rule of keys and spans
 pub rule_told : (file : SourceFile) (row : Row) (above : List Row) (kept : List Extent) (place : Place) (last : ℕ) → ((p : Extent → Bool) → list_any p kept ≡ list_any p (map (extent_in file) above)) → names_in place ≡ key_names file row → place.code ≡ (row_span row).lo → last ≡ row_end file row → conflict_with kept (extent_at place last) ≡ key_rule file above row
 rule_told file row above kept place last same names code end =
     ap (conflict_with kept) (extent_is file row place last names code end) ∙ same_conflicts kept (map (extent_in file) above) (extent_in file row) same ∙ by_extents file row above
-
--- a row that breaks no rule, where there is one, has no extent against it
-pub may_stand : (file : SourceFile) (items : List FileItem) (row : Option Row) (kept : List Extent) (entry : Option Entry) → ((p : Extent → Bool) → list_any p kept ≡ list_any p (map (extent_in file) (rows_in items))) → EntersSome file entry row → BreaksNoRule file items row → IsFreeEntry kept entry
-may_stand file items None kept None same enters rule = tt
-may_stand file items (Some row) kept (Some e) same enters rule =
-    (enters.ordered, ap (conflict_with kept) (extent_is file row e.place e.last enters.names enters.code enters.last) ∙ same_conflicts kept (map (extent_in file) (rows_in items)) (extent_in file row) same ∙ free file row (rows_in items) rule)
-may_stand file items (Some row) kept None same enters rule = absurd enters
-may_stand file items None kept (Some e) same enters rule = absurd enters

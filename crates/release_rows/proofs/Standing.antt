@@ -1,6 +1,5 @@
 -- Where the items of a file stand in its text.
-use Rattle.std.proofs.Common.{◌≡◌, ℕ, ◌+◌, ◌≤◌, Bool, ◌||◌, List, [], ◌∷◌, ◌++◌, length, take, drop, map, Option, Some, None, Ok, refl, sym, ap, subst, ◌∙◌, arith, append_assoc, length-append, length-drop}
-use Rattle.std.specs.List.{list_any}
+use Rattle.std.proofs.Common.{◌≡◌, ℕ, ◌+◌, ◌≤◌, List, [], ◌∷◌, ◌++◌, length, take, drop, map, Option, Some, None, Ok, refl, sym, ap, subst, ◌∙◌, arith, append_assoc, length-append, length-drop}
 use Rattle.std.proofs.Math.Seq.{take-append_seam, drop-append_seam}
 use Rattle.std.proofs.lemmas.List.{append-nil, map-append, length-take, length_push}
 use Rattle.std.proofs.lemmas.List.Elements.{All-nil, All-cons, All-append}
@@ -13,15 +12,14 @@ use Rattle.part_list.specs.Parts.{PartLists, now_in, next_in}
 use Rattle.part_list.specs.declared.spanned.Spanned.{Spanned}
 use Rattle.release_rows.specs.Pieces.{Lines, piece_content, piece_ending, piece_lines}
 use Rattle.release_rows.specs.Entries.{EntersSome}
-use Rattle.release_rows.specs.Extents.{Extent}
-use Rattle.release_rows.specs.FileItems.{FileItem, bytes_of, file_item_bytes}
-use Rattle.release_rows.specs.Loading.{content_row, file_item, piece_fault}
-use Rattle.release_rows.specs.Progress.{Stands, IsLoading, IsProgress, BreaksNoRule, entry_extents, start_of_entry}
+use Rattle.release_rows.specs.FileItems.{FileItem, bytes_of, file_item_bytes, lines_of, rows_in}
+use Rattle.release_rows.specs.Loading.{at_line, content_row, file_item, piece_fault}
+use Rattle.release_rows.specs.Progress.{Stands, IsLoading, rule_of, start_of_entry}
 use Rattle.release_rows.specs.StoredItems.{content_at, item_at, stored_at, IsItem, IsStored, HasSpan}
 use Rattle.release_rows.specs.Tags.{content_tag}
 use Rattle.release_rows.specs.declared.entry.Entry.{Entry}
 use Rattle.release_rows.specs.declared.stretch.Stretch.{Stretch}
-use Rattle.release_rows.proofs.Growing.{grows}
+use Rattle.release_rows.proofs.Growing.{lines_with, start_after}
 
 part_is : (front content ending rest : List ℕ) → take (length content) (drop (length front) (front ++ ((content ++ ending) ++ rest))) ≡ content
 part_is front content ending rest =
@@ -46,8 +44,8 @@ item_length : (file : SourceFile) (text : List ℕ) (s : Stretch) → s.start + 
 item_length file text s fits = length-append (content_at text s) (ending_bytes (ending_of s.ending)) ∙ ap (λ (n : ℕ). n + length (ending_bytes (ending_of s.ending))) (length_content text s fits)
 
 -- one more item behind those that are loaded
-pub loads : (file : SourceFile) (text : List ℕ) (old all : PartLists (Spanned Stretch)) (e : Spanned Stretch) (s : Stretch) (kept kept' : List Extent) (start : Option ℕ) (count end : ℕ) (entry : Option Entry) → IsLoading file text old kept start count end → e.item ≡ s → now_in all ≡ now_in old ++ e ∷ [] → next_in all ≡ next_in old ++ e ∷ [] → IsItem file text s → HasSpan (item_at file text s).row e.code e.last → e.tag ≡ content_tag file (content_at text s) → EntersSome file entry (item_at file text s).row → ((p : Extent → Bool) → list_any p kept' ≡ (list_any p (entry_extents entry) || list_any p kept)) → IsLoading file text all kept' (start_of_entry start entry) (count + s.lines) (end + (s.len + length (ending_bytes (ending_of s.ending))))
-loads file text old all e s kept kept' start count end entry h is now next item span tag enters more =
+pub loads : (file : SourceFile) (text : List ℕ) (old all : PartLists (Spanned Stretch)) (e : Spanned Stretch) (s : Stretch) (start : Option ℕ) (count end : ℕ) (entry : Option Entry) → IsLoading file text old start count end → e.item ≡ s → now_in all ≡ now_in old ++ e ∷ [] → next_in all ≡ next_in old ++ e ∷ [] → IsItem file text s → HasSpan (item_at file text s).row e.code e.last → e.tag ≡ content_tag file (content_at text s) → EntersSome file entry (item_at file text s).row → IsLoading file text all (start_of_entry start entry) (count + s.lines) (end + (s.len + length (ending_bytes (ending_of s.ending))))
+loads file text old all e s start count end entry h is now next item span tag enters =
     let items = map (stored_at file text) (now_in old) in
     let new = item_at file text s in
     let by : Stretch → FileItem = λ x. item_at file text x in
@@ -59,20 +57,20 @@ loads file text old all e s kept kept' start count end entry h is now next item 
     let count_old = h.few in
     let one = item.some in
     let longer : length (now_in all) ≡ length (now_in old) + 1 = ap length now ∙ length_push (now_in old) e in
-    let rows : IsProgress file (items ++ new ∷ []) kept' (start_of_entry start entry) (count + s.lines) = grows file items new kept kept' start count entry h.rows enters more in
     let bytes : length (bytes_of (items ++ new ∷ [])) ≡ length (bytes_of items) + length (file_item_bytes new) = ap length (bytes_with items new) ∙ length-append (bytes_of items) (file_item_bytes new) in
     record {
       each = rw now (All-append (IsStored file text) (now_in old) (e ∷ []) h.each (All-cons (IsStored file text) e [] stored (All-nil (IsStored file text))));
       same = rw (now, next, h.same) refl;
       few = omega arith;
-      rows = rw pushed rows;
+      before = rw pushed (start_after file items new start entry h.before enters);
+      lines = rw pushed (ap (λ (n : ℕ). n + s.lines) h.lines ∙ sym (lines_with items new));
       ends = rw pushed (omega (arith, h.ends, bytes, item_length file text s item.fits));
       small = h.small;
     }
 
 -- ---- a piece
 
--- a piece whose row breaks no rule has no fault
-pub no_fault : (file : SourceFile) (items : List FileItem) (p : Lines) (row : Option Row) → content_row file (piece_content p) ≡ Ok row → BreaksNoRule file items row → piece_fault file items p ≡ None
-no_fault file items p None read rule = rw read refl
-no_fault file items p (Some row) read rule = rw (read, rule) refl
+-- the fault of a piece that reads as this row
+pub fault_is : (file : SourceFile) (items : List FileItem) (p : Lines) (row : Option Row) → content_row file (piece_content p) ≡ Ok row → piece_fault file items p ≡ at_line (lines_of items + 1) (rule_of file (rows_in items) row)
+fault_is file items p None read = rw read refl
+fault_is file items p (Some row) read = rw read refl

@@ -4,7 +4,7 @@
 -- IsFree result place rule     the place is handed back where there is no rule, else the result is the rule
 -- IsEntry file row e           e has the names of the row's key, its first code point, the last one that may not be shared, the last one
 --                              of all, and what is kept of what the row gives
--- EntersAs file result row     the result is what is kept of the row, or the fault; want of memory says nothing
+-- EntersAs file result row     the result is what is kept of the row, or the fault; no claim if memory ran out
 -- EntersSome file o row        o is what is kept of the row, where there is one; None where there is none
 use Rattle.std.specs.Prelude.{◌≡◌, ◌≤◌, Option, Some, None, Result, Ok, Err}
 use Rattle.ucd_points.specs.declared.files.SourceFile.{SourceFile}

@@ -26,7 +26,7 @@ abbrev pub progress_of : Loading → Progress
 progress_of l = record { file = l.file; text = l.text.now; items = items_above l }
 
 abbrev pub IsSound : Loading → Type 0
-IsSound l = IsLoading l.file l.text.now l.items l.keys l.before l.lines l.end
+IsSound l = IsLoading l.file l.text.now l.items l.before l.lines l.end
 
 pub record IsLoaded (file : SourceFile) (text : List ℕ) (items : PartLists (Spanned Stretch)) : Type 0 where
   pub answer : file_or_fault file text ≡ Ok (map (stored_at file text) (now_in items))

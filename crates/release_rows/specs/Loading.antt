@@ -81,14 +81,14 @@ abbrev pub load_rule : Conflict → LoadRule
 load_rule K1 = KeyTwice
 load_rule K4 = Overlap
 
-abbrev rule_by : Option Conflict → Bool → Option LoadRule
+abbrev pub rule_by : Option Conflict → Bool → Option LoadRule
 rule_by (Some rule) back = Some (load_rule rule)
 rule_by None back = if back then Some K5 else None
 
 abbrev pub row_rule : SourceFile → List Row → Row → Option LoadRule
 row_rule file above row = rule_by (key_rule file above row) (falls_back file above row)
 
-abbrev at_line : ℕ → Option LoadRule → Option LoadFault
+abbrev pub at_line : ℕ → Option LoadRule → Option LoadFault
 at_line line (Some rule) = Some (record { line = line; rule = rule })
 at_line line None = None
 

@@ -27,19 +27,20 @@
 -- IsOp op                      the operation's row can be a row of its file, and is read from its bytes
 -- row_spans row                the code points that the row speaks of; none of a row of names
 -- AnswersOp result expected spans old new   what an operation answers and what is next then: these spans and what is expected; the
---                              rule that is expected, or want of memory, and what was next
+--                              rule that is expected and what was next; what was next if memory ran out
 -- touched items op             those of the rows with the operation's key that are taken out, and then those of its row
 use Rattle.std.specs.Prelude.{◌≡◌, ℕ, ◌+◌, ◌-◌, Bool, false, ◌&&◌, not, List, [], ◌∷◌, ◌++◌, map, take, drop, length, filter, Option, Some, None, Result, Ok, Err, count_by, if◌then◌else◌}
 use Rattle.std.specs.List.{list_any, position_or_len, suffix_len, flat_map}
+use Rattle.std.specs.Option.{option_to_list}
 use Rattle.std.specs.Str.{bytes_eq}
 use Rattle.ucd_points.specs.Bounds.{Bounds}
 use Rattle.ucd_points.specs.Lines.{LineEnding, unended, lf, cr_lf, is_lf}
+use Rattle.ucd_model.specs.RowSpans.{span_in}
 use Rattle.ucd_model.specs.RowValues.{RowOk}
 use Rattle.ucd_points.specs.declared.files.SourceFile.{SourceFile}
 use Rattle.ucd_model.specs.declared.row.Row.{Row}
-use Rattle.ucd_model.specs.declared.row.Row.TheVariants.{Alias as AliasLine}
 use Rattle.source_rows.specs.Faults.{row_or_fault}
-use Rattle.source_rows.specs.Keys.{row_span, key_of, equal_keys, is_before}
+use Rattle.source_rows.specs.Keys.{key_of, equal_keys, is_before}
 use Rattle.source_rows.specs.KeyNames.{group_of}
 use Rattle.source_rows.specs.declared.key.Key.{Key}
 use Rattle.release_rows.specs.FileItems.{FileItem}
@@ -151,8 +152,7 @@ IsOp (Withdraw file key) = Unit {0}
 -- ---- what it touches
 
 abbrev pub row_spans : Row → List Bounds
-row_spans (AliasLine row) = []
-row_spans row = row_span row ∷ []
+row_spans row = option_to_list (span_in row)
 
 abbrev pub spans_of : Option Row → List Bounds
 spans_of None = []

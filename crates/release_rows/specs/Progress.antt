@@ -1,31 +1,23 @@
 -- How far a file is loaded.
 --
 -- Progress                      the file, its text, and its items so far
--- IsProgress file items kept start count   what is kept beside the items, by their rows: extents of which some pass a test
---                               exactly where some of the rows' do, the first code point of the last row, and the number of lines
--- IsLoading file text items kept start count end   the items stand in the text, now and next, each with the code points of its
---                               row; what is kept beside them is IsProgress, and they end at this place; there are no more than
---                               lines, and the text has fewer than 2^32 bytes
+-- IsLoading file text items start count end   the items stand in the text, now and next, each with the code points of its row;
+--                               beside them are kept the first code point of the last row, the number of lines, and where they
+--                               end; there are no more than lines, and the text has fewer than 2^32 bytes
+-- HoldsRows file rows kept      of the extents that are kept some pass a test exactly if some of the rows' do
 -- Stands text items p           in the text the piece stands behind the items
 -- item_by file line p result    the item of a piece whose content is read so, or the fault on its line
 -- item_or_fault file line p     the item of a piece whose first line has this number, by itself, or its fault
--- ReadsPiece file line p result   the result is what is kept of the piece's row, or its fault; want of memory says nothing
--- StopsAs stop fault            the stop is that fault; want of memory says nothing
+-- ReadsPiece file line p result   the result is what is kept of the piece's row, or its fault; no claim if memory ran out
+-- StopsAs stop fault            the stop is that fault; no claim if memory ran out
 -- with_item above item          the same file and text, with one more item behind the others
 -- TakesPiece result above next p   the piece has no fault below the items so far, and next has its item behind them; or the result
---                               is its fault; want of memory says nothing
--- LoadsItems result expected    the result has the items that were expected, now and next, or is the fault; want of memory says
---                               nothing
--- entry_extents entry           the extent of a row, by what is kept of it; none where there is no row
+--                               is its fault; no claim if memory ran out
+-- LoadsItems result expected    the result has the items that were expected, now and next, or is the fault; no claim if memory
+--                               ran out
 -- start_of_entry before entry   the first code point of the last row, with one more row or none
--- BreaksNoRule file above row   the row breaks none of K1, K4 and K5 against the rows of the items above; so it is where there is
---                               no row
--- IsOrdered entry               the extent of a row does not end before it begins; so it is where there is no row
--- IsFreeEntry kept entry        the extent of a row does not end before it begins, and breaks no rule against those that are kept; so
---                               it is where there is no row
--- IsFreeOf result entry rule    the entry is handed back where there is no rule, else the result is the rule
--- FreesSome file above row result entry   the same of the rule that a row breaks below the items above it; where there is no row,
---                               there is no rule
+-- rule_of file above row        the rule that a row breaks against the rows above; None where there is no row
+-- TakesRow file above row kept rule   the rule is that one; where there is none, the row's extent is kept with those above
 use Rattle.std.specs.Prelude.{◌≡◌, ℕ, ◌<◌, ◌≤◌, ◌^◌, Bool, List, [], ◌∷◌, ◌++◌, length, map, Option, Some, None, Result, Ok, Err}
 use Rattle.std.specs.List.{list_any, All}
 use Rattle.ucd_points.specs.declared.files.SourceFile.{SourceFile}
@@ -33,12 +25,11 @@ use Rattle.ucd_model.specs.declared.row.Row.{Row}
 use Rattle.source_rows.specs.declared.fault.RowFault.{RowFault}
 use Rattle.part_list.specs.Parts.{PartLists, now_in, next_in}
 use Rattle.part_list.specs.declared.spanned.Spanned.{Spanned}
-use Rattle.release_rows.specs.Extents.{Extent, conflict_with}
+use Rattle.release_rows.specs.Extents.{Extent}
 use Rattle.release_rows.specs.Entries.{EntersSome}
 use Rattle.release_rows.specs.Keys.{extent_in, last_start}
 use Rattle.release_rows.specs.Pieces.{Lines, piece_bytes, piece_content, piece_ending, piece_lines}
-use Rattle.release_rows.specs.Places.{extent_at}
-use Rattle.release_rows.specs.FileItems.{FileItem, FileLists, bytes_of, rows_in, lines_of}
+use Rattle.release_rows.specs.FileItems.{FileItem, FileLists, bytes_of, onto_rows, rows_in, lines_of}
 use Rattle.release_rows.specs.Loading.{LoadFault, content_row, file_item, fault_line, piece_fault, row_rule}
 use Rattle.release_rows.specs.StoredItems.{stored_at, IsStored}
 use Rattle.release_rows.specs.declared.entry.Entry.{Entry}
@@ -53,18 +44,17 @@ pub record Progress : Type 0 where
   pub text : List ℕ
   pub items : List FileItem
 
-pub record IsProgress (file : SourceFile) (items : List FileItem) (kept : List Extent) (start : Option ℕ) (count : ℕ) : Type 0 where
-  pub keys : (p : Extent → Bool) → list_any p kept ≡ list_any p (map (extent_in file) (rows_in items))
-  pub before : start ≡ last_start (rows_in items)
-  pub lines : count ≡ lines_of items
-
-pub record IsLoading (file : SourceFile) (text : List ℕ) (items : PartLists (Spanned Stretch)) (kept : List Extent) (start : Option ℕ) (count end : ℕ) : Type 0 where
+pub record IsLoading (file : SourceFile) (text : List ℕ) (items : PartLists (Spanned Stretch)) (start : Option ℕ) (count end : ℕ) : Type 0 where
   pub each : All (IsStored file text) (now_in items)
   pub same : next_in items ≡ now_in items
   pub few : length (now_in items) ≤ count
-  pub rows : IsProgress file (map (stored_at file text) (now_in items)) kept start count
+  pub before : start ≡ last_start (rows_in (map (stored_at file text) (now_in items)))
+  pub lines : count ≡ lines_of (map (stored_at file text) (now_in items))
   pub ends : end ≡ length (bytes_of (map (stored_at file text) (now_in items)))
   pub small : length text < 2 ^ 32
+
+abbrev pub HoldsRows : SourceFile → List Row → List Extent → Type 0
+HoldsRows file rows kept = (p : Extent → Bool) → list_any p kept ≡ list_any p (map (extent_in file) rows)
 
 abbrev pub Stands : List ℕ → List FileItem → Lines → Type 0
 Stands text items p = (rest : List ℕ) × (text ≡ bytes_of items ++ (piece_bytes p ++ rest))
@@ -98,33 +88,15 @@ LoadsItems (Ok lists) expected = (expected ≡ Ok lists.now) × (lists.next ≡ 
 LoadsItems (Err (Fault line rule)) expected = expected ≡ Err (record { line = line; rule = rule })
 LoadsItems (Err Memory) expected = Unit {0}
 
--- ---- one more item
-
-abbrev pub entry_extents : Option Entry → List Extent
-entry_extents None = []
-entry_extents (Some e) = extent_at e.place e.last ∷ []
+-- ---- one more row
 
 abbrev pub start_of_entry : Option ℕ → Option Entry → Option ℕ
 start_of_entry before None = before
 start_of_entry before (Some e) = Some e.place.code
 
-abbrev pub BreaksNoRule : SourceFile → List FileItem → Option Row → Type 0
-BreaksNoRule file above None = Unit {0}
-BreaksNoRule file above (Some row) = row_rule file (rows_in above) row ≡ None
+abbrev pub rule_of : SourceFile → List Row → Option Row → Option LoadRule
+rule_of file above None = None
+rule_of file above (Some row) = row_rule file above row
 
-abbrev pub IsOrdered : Option Entry → Type 0
-IsOrdered None = Unit {0}
-IsOrdered (Some e) = e.place.code ≤ e.last
-
-abbrev pub IsFreeEntry : List Extent → Option Entry → Type 0
-IsFreeEntry kept None = Unit {0}
-IsFreeEntry kept (Some e) = (e.place.code ≤ e.last) × (conflict_with kept (extent_at e.place e.last) ≡ None)
-
-abbrev pub IsFreeOf : Result Entry LoadRule → Entry → Option LoadRule → Type 0
-IsFreeOf (Ok free) entry rule = (free ≡ entry) × (rule ≡ None)
-IsFreeOf (Err broken) entry rule = rule ≡ Some broken
-
-abbrev pub FreesSome : SourceFile → List FileItem → Option Row → Result (Option Entry) LoadRule → Option Entry → Type 0
-FreesSome file above row (Ok free) entry = (free ≡ entry) × BreaksNoRule file above row
-FreesSome file above (Some row) (Err broken) entry = row_rule file (rows_in above) row ≡ Some broken
-FreesSome file above None (Err broken) entry = ⊥
+abbrev pub TakesRow : SourceFile → List Row → Option Row → List Extent → Option LoadRule → Type 0
+TakesRow file above row kept rule = (rule ≡ rule_of file above row) × (rule ≡ None → HoldsRows file (above ++ onto_rows row []) kept)

@@ -31,7 +31,7 @@ use source_rows::{Key, row_key};
 use std::alloc::Global;
 use std::marker::Model;
 use ucd_lines::Ending;
-use ucd_model::{Memory, Row, SourceFile, Span, Spans, Text};
+use ucd_model::{Copied, Memory, Row, SourceFile, Span, Spans, Text};
 
 /// A text that only grows, and where the items of a file stand in it, now and next. A row is kept as its bytes alone,
 /// which are read as that row. Contracts see the items.
@@ -304,5 +304,19 @@ impl FileText {
         put_at(&mut self.items, at, copy)?;
         self.added = added;
         Ok(())
+    }
+}
+
+impl Copied for FileText {
+    fn copied(&self, alloc: Global) -> Result<FileText, Memory> {
+        let text = Text::of(alloc, self.text.as_slice())?;
+        let items = self.items.copied(alloc)?;
+        Ok(FileText {
+            file: self.file,
+            text,
+            items,
+            whole: self.whole,
+            added: self.added,
+        })
     }
 }

@@ -1,6 +1,6 @@
 //! The extents of the rows of a file so far.
 
-ghost use Rattle.std.specs.Prelude.{◌≡◌, ◌≤◌, ◌||◌, Bool, None, OnOk, OnErr};
+ghost use Rattle.std.specs.Prelude.{◌≡◌, ◌≤◌, ◌||◌, Bool, None, IfOk, OnOk, OnErr};
 ghost use Rattle.std.specs.List.{list_any};
 ghost use Rattle.release_rows.specs.Extents.{Extent, conflict_with};
 ghost use Rattle.release_rows.specs.Places.{extent_at};
@@ -57,7 +57,7 @@ impl KeySet {
 
     /// Answers the place of a row if the row, up to its last code point, breaks no rule against these extents;
     /// otherwise the rule. It takes no memory.
-    pub fn checked_place(&self, place: Place, last: u32) -> Result<Place, Conflict>
+    fn checked_place(&self, place: Place, last: u32) -> Result<Place, Conflict>
         requires { place.code ≤ last }
         ensures { IsFree result place (conflict_with self.now (extent_at place last)) }
     {
@@ -77,7 +77,7 @@ impl KeySet {
     /// Takes up the extent of a row that breaks no rule.
     ///
     /// - `Memory`: memory ran out. The set stays as it was.
-    pub fn insert(&mut self, place: Place, last: u32) -> Result<(), Memory>
+    fn insert(&mut self, place: Place, last: u32) -> Result<(), Memory>
         requires ordered { place.code ≤ last }
         requires apart { conflict_with self.old (extent_at place last) ≡ None }
         ensures ok { OnOk result ((p : Extent → Bool) → list_any p self.new ≡ (p (extent_at place last) || list_any p self.old)) }
@@ -95,5 +95,23 @@ impl KeySet {
         self.ends.insert(place, last)?;
         self.end = end;
         Ok(())
+    }
+
+    /// Takes up the extent of a row; or answers the rule that the row breaks, and stays as it was.
+    ///
+    /// - `Memory`: memory ran out. The set stays as it was.
+    pub fn take(&mut self, place: Place, last: u32) -> Result<Option<Conflict>, Memory>
+        requires { place.code ≤ last }
+        ensures rule { IfOk result (λ rule. rule ≡ conflict_with self.old (extent_at place last)) }
+        ensures keys { OnOk result (conflict_with self.old (extent_at place last) ≡ None → (p : Extent → Bool) → list_any p self.new ≡ (p (extent_at place last) || list_any p self.old)) }
+        ensures err { OnErr result (self.new ≡ self.old) }
+    {
+        match self.checked_place(place, last) {
+            Ok(place) => {
+                self.insert(place, last)?;
+                Ok(None)
+            }
+            Err(rule) => Ok(Some(rule)),
+        }
     }
 }

@@ -11,11 +11,12 @@ ghost use Rattle.release_rows.specs.Progress.{LoadsItems};
 ghost use Rattle.release_rows.specs.Releases.{AreSound};
 
 use crate::file_text::FileText;
-use crate::gathering::Gathering;
+use crate::key_set::KeySet;
 use crate::laws::loaded_files_are_sound;
 use crate::load_stop::LoadStop;
 use crate::loading::Loading;
 use crate::piece::next_piece;
+use crate::placed::are_apart;
 use crate::stretch::Stretch;
 use part_list::PartList;
 use std::alloc::Global;
@@ -37,15 +38,20 @@ fn gathered_items(
     ensures { IfOk result (λ found. IfSome found (λ items. IsLoaded file bytes.now items)) }
 {
     let mut lines = items(bytes);
-    let mut gathering = Gathering::new(alloc, file, bytes);
+    let mut loading = Loading::new(alloc, file, bytes);
+    let mut rows = Vec::new(alloc);
     'pieces: while let Some(piece) = next_piece(file, &mut lines) {
-        match gathering.take(alloc, piece) {
+        match loading.gather(alloc, &mut rows, piece) {
             Ok(()) => {}
             Err(LoadStop::Fault { .. }) => return Ok(None),
             Err(LoadStop::Memory) => return Err(Memory),
         }
     }
-    gathering.into_items()
+    let apart = are_apart(rows)?;
+    if apart {
+        return Ok(Some(loading.into_items()));
+    }
+    Ok(None)
 }
 
 /// Where the items of a file stand in its text. Each row is compared with those above it as it comes.
@@ -63,8 +69,9 @@ fn checked_items(
 {
     let mut lines = items(bytes);
     let mut loading = Loading::new(alloc, file, bytes);
+    let mut keys = KeySet::new(alloc, file);
     'pieces: while let Some(piece) = next_piece(file, &mut lines) {
-        loading.take(alloc, piece)?;
+        loading.check(alloc, &mut keys, piece)?;
     }
     Ok(loading.into_items())
 }

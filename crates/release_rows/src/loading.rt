@@ -1,34 +1,34 @@
 //! A file that is loaded piece by piece.
 
-ghost use Rattle.std.specs.Prelude.{◌≡◌, ◌+◌, ◌<◌, ◌≤◌, ◌^◌, ◌||◌, [], Bool, OnOk, Option, length, map};
-ghost use Rattle.std.specs.List.{list_any, All};
+ghost use Rattle.std.specs.Prelude.{◌≡◌, ◌+◌, ◌<◌, ◌^◌, [], OnOk, Option, length, map};
+ghost use Rattle.std.specs.List.{All};
 ghost use Rattle.ucd_points.specs.declared.files.SourceFile.{SourceFile as FileValue};
 ghost use Rattle.ucd_model.specs.declared.row.Row.{Row as RowValue};
 ghost use Rattle.release_rows.specs.Briefs.{brief_of, no_brief};
-ghost use Rattle.release_rows.specs.Extents.{Extent};
-ghost use Rattle.release_rows.specs.Entries.{IsEntry, EntersSome};
-ghost use Rattle.release_rows.specs.Keys.{is_back};
+ghost use Rattle.release_rows.specs.Entries.{EntersSome};
+ghost use Rattle.release_rows.specs.Gathered.{AreGathered};
 ghost use Rattle.release_rows.specs.Pieces.{piece_lines};
 ghost use Rattle.release_rows.specs.FileItems.{bytes_of, file_item_bytes, rows_in, lines_of};
-ghost use Rattle.release_rows.specs.Loading.{row_rule};
-ghost use Rattle.release_rows.specs.Progress.{TakesPiece, with_item, Stands, BreaksNoRule, IsFreeEntry, IsFreeOf, IsOrdered, FreesSome, entry_extents, start_of_entry};
+ghost use Rattle.release_rows.specs.Loading.{file_item};
+ghost use Rattle.release_rows.specs.Progress.{HoldsRows, ReadsPiece, Stands, TakesPiece, start_of_entry, with_item};
 ghost use Rattle.release_rows.specs.Loaders.{IsSound, progress_of, items_above};
 ghost use Rattle.part_list.specs.Parts.{now_in, next_in};
 ghost use Rattle.release_rows.specs.StoredItems.{piece_of, item_at, stored_at, IsItem, IsStored, HasSpan};
 
-use crate::conflict::Conflict;
 use crate::entry::Entry;
 use crate::key_set::KeySet;
-use crate::load_stop::{LoadRule, LoadStop};
+use crate::load_stop::LoadStop;
 use crate::piece::{Piece, content_of, ending_len, stretch_of};
+use crate::placed::{Placed, put_placed};
 use crate::read_piece::read_piece;
+use crate::row_rule::take_row;
 use crate::stretch::{Stretch, content_in};
 use crate::tag::content_tag;
 use part_list::{PartList, Spanned};
 use std::alloc::Global;
 use ucd_model::{Memory, SourceFile};
 
-/// The items of a file so far, and what is kept of their rows. After an error it is of no more use, and nothing is known
+/// The items of a file so far. After an error it is of no more use, and nothing is known
 /// of it.
 #[derive(Drop)]
 pub struct Loading<'a> {
@@ -37,27 +37,14 @@ pub struct Loading<'a> {
     items: PartList<Stretch>,
     /// Where the items end in the text.
     end: u32,
-    /// The keys and the spans of the rows.
-    keys: KeySet,
     /// The first code point of the last row; `None` if there is no row yet.
     before: Option<u32>,
     /// How many lines the items have.
     lines: u32,
 }
 
-/// Takes up the extent of one more row, if there is one.
-fn put_extent(keys: &mut KeySet, entry: Option<Entry>) -> Result<(), Memory>
-    requires { IsFreeEntry keys.old entry }
-    ensures { OnOk result ((p : Extent → Bool) → list_any p keys.new ≡ (list_any p (entry_extents entry) || list_any p keys.old)) }
-{
-    match entry {
-        Some(Entry { place, last, .. }) => keys.insert(place, last),
-        None => Ok(()),
-    }
-}
-
 /// The first code point of the last row, with one more row, if there is one.
-pub fn start_with(before: Option<u32>, entry: &Option<Entry>) -> Option<u32>
+fn start_with(before: Option<u32>, entry: &Option<Entry>) -> Option<u32>
     ensures { result ≡ start_of_entry before entry.now }
 {
     match entry {
@@ -67,7 +54,7 @@ pub fn start_with(before: Option<u32>, entry: &Option<Entry>) -> Option<u32>
 }
 
 /// A stretch with the code points of its row, and with a tag. Trivia has the first code point of the last row.
-pub fn spanned(
+fn spanned(
     stretch: Stretch,
     tag: u32,
     entry: &Option<Entry>,
@@ -90,7 +77,7 @@ pub fn spanned(
 }
 
 /// The stretch of a row, with what is kept of what the row gives; a stretch of trivia as it is.
-pub fn with_brief(stretch: Stretch, entry: &Option<Entry>) -> Stretch
+fn with_brief(stretch: Stretch, entry: &Option<Entry>) -> Stretch
     ensures start { result.start ≡ stretch.start }
     ensures len { result.len ≡ stretch.len }
     ensures ending { result.ending ≡ stretch.ending }
@@ -106,16 +93,6 @@ pub fn with_brief(stretch: Stretch, entry: &Option<Entry>) -> Stretch
     }
 }
 
-/// Whether a code point is less than the first one of the row before, in a file where that is a fault.
-fn is_back(file: SourceFile, before: Option<u32>, code: u32) -> bool
-    ensures { result ≡ is_back file before code }
-{
-    match (file, before) {
-        (SourceFile::UnicodeData, Some(before)) => code < before,
-        _ => false,
-    }
-}
-
 impl<'a> Loading<'a> {
     /// No items yet. It takes no memory.
     pub fn new(alloc: Global, file: SourceFile, text: &'a [u8]) -> Loading<'a>
@@ -128,7 +105,6 @@ impl<'a> Loading<'a> {
             text,
             items: PartList::new(alloc),
             end: 0,
-            keys: KeySet::new(alloc, file),
             before: None,
             lines: 0,
         }
@@ -145,91 +121,91 @@ impl<'a> Loading<'a> {
         self.items
     }
 
-    /// Answers what is kept of a row if the row breaks no rule against the rows above it; otherwise the rule. It takes
-    /// no memory.
-    fn checked_entry(&self, entry: Entry) -> Result<Entry, LoadRule>
-        requires sound { IsSound self.now }
-        requires ordered { entry.place.code ≤ entry.last }
-        ensures { (row : RowValue) → IsEntry self.now.file row entry → IsFreeOf result entry (row_rule self.now.file (rows_in (items_above self.now)) row) }
-    {
-        let Entry {
-            place,
-            last,
-            reach,
-            brief,
-        } = entry;
-        let place = match self.keys.checked_place(place, last) {
-            Ok(place) => place,
-            Err(Conflict::K1) => return Err(LoadRule::K1),
-            Err(Conflict::K4) => return Err(LoadRule::K4),
-        };
-        if is_back(self.file, self.before, place.code) {
-            return Err(LoadRule::K5);
-        }
-        Ok(Entry {
-            place,
-            last,
-            reach,
-            brief,
-        })
-    }
-
-    /// The same for a row that may not be there.
-    fn checked_optional(&self, entry: Option<Entry>) -> Result<Option<Entry>, LoadRule>
-        requires sound { IsSound self.now }
-        requires ordered { IsOrdered entry }
-        ensures { (row : Option RowValue) → EntersSome self.now.file entry row → FreesSome self.now.file (items_above self.now) row result entry }
-    {
-        match entry {
-            None => Ok(None),
-            Some(entry) => match self.checked_entry(entry) {
-                Ok(entry) => Ok(Some(entry)),
-                Err(rule) => Err(rule),
-            },
-        }
-    }
-
-    /// Puts one more item behind the others, whose row breaks no rule.
-    fn put(&mut self, stretch: Stretch, entry: Option<Entry>) -> Result<(), Memory>
+    /// Puts one more item behind the others.
+    fn put(&mut self, stretch: Stretch, entry: &Option<Entry>) -> Result<(), Memory>
         requires sound { IsSound self.old }
         requires item { IsItem self.old.file self.old.text.now stretch }
         requires ends { length (bytes_of (items_above self.old)) + length (file_item_bytes (item_at self.old.file self.old.text.now stretch)) < 2 ^ 32 }
         requires fits { lines_of (items_above self.old) + stretch.lines < 2 ^ 32 }
-        requires enters { EntersSome self.old.file entry (item_at self.old.file self.old.text.now stretch).row }
-        requires rule { BreaksNoRule self.old.file (items_above self.old) (item_at self.old.file self.old.text.now stretch).row }
+        requires enters { EntersSome self.old.file entry.now (item_at self.old.file self.old.text.now stretch).row }
         ensures sound { OnOk result (IsSound self.new) }
         ensures progress { OnOk result (progress_of self.new ≡ with_item (progress_of self.old) (item_at self.old.file self.old.text.now stretch)) }
     {
         let tag = content_tag(self.file, content_in(self.text, stretch));
-        let item = spanned(stretch, tag, &entry, self.before);
-        self.before = start_with(self.before, &entry);
+        let item = spanned(stretch, tag, entry, self.before);
+        self.before = start_with(self.before, entry);
         self.end += stretch.len + ending_len(stretch.ending);
         self.lines += u32::from(stretch.lines);
-        put_extent(&mut self.keys, entry)?;
         self.items.push(item)?;
         Ok(())
     }
 
-    /// Takes one more piece, which stands in the text behind the items so far.
+    /// Takes one more piece, which stands in the text behind the items so far. Answers what is kept of its row, which
+    /// is not compared with those above.
     ///
-    /// - `Fault { line, rule }`: the piece breaks a rule: the row's own come first, then K1, K4 and K5. The line is
-    ///   counted from 1.
+    /// - `Fault { line, rule }`: the piece breaks a rule by itself. The line is counted from 1.
     /// - `Memory`: memory ran out.
-    pub fn take(&mut self, alloc: Global, piece: Piece<'_>) -> Result<(), LoadStop>
+    fn take(&mut self, alloc: Global, piece: Piece<'_>) -> Result<Option<Entry>, LoadStop>
         requires sound { IsSound self.old }
         requires fits { lines_of (items_above self.old) + piece_lines (piece_of piece) + 1 < 2 ^ 32 }
         requires stands { Stands self.old.text.now (items_above self.old) (piece_of piece) }
         ensures sound { OnOk result (IsSound self.new) }
-        ensures piece { TakesPiece result (progress_of self.old) (progress_of self.new) (piece_of piece.entry) }
+        ensures progress { OnOk result (progress_of self.new ≡ with_item (progress_of self.old) (file_item self.old.file (piece_of piece.entry))) }
+        ensures piece { ReadsPiece self.old.file (self.old.lines + 1) (piece_of piece.entry) result }
     {
-        let line = self.lines + 1;
         let unread = stretch_of(self.end, piece);
         let content = content_of(self.text, unread, piece);
-        let entry = read_piece(alloc, self.file, line, piece, content)?;
-        let stretch = with_brief(unread, &entry);
-        match self.checked_optional(entry) {
-            Ok(entry) => Ok(self.put(stretch, entry)?),
-            Err(rule) => Err(LoadStop::Fault { line, rule }),
+        let entry = read_piece(alloc, self.file, self.lines + 1, piece, content)?;
+        self.put(with_brief(unread, &entry), &entry)?;
+        Ok(entry)
+    }
+
+    /// Takes one more piece, and gathers the key of its row, which is not compared with those above.
+    ///
+    /// - `Fault { line, rule }`: the piece breaks a rule by itself.
+    /// - `Memory`: memory ran out.
+    pub fn gather(
+        &mut self,
+        alloc: Global,
+        rows: &mut Vec<Placed>,
+        piece: Piece<'_>,
+    ) -> Result<(), LoadStop>
+        requires sound { IsSound self.old }
+        requires rows { AreGathered self.old.file (rows_in (items_above self.old)) rows.old.items }
+        requires fits { lines_of (items_above self.old) + piece_lines (piece_of piece) + 1 < 2 ^ 32 }
+        requires stands { Stands self.old.text.now (items_above self.old) (piece_of piece) }
+        ensures sound { OnOk result (IsSound self.new) }
+        ensures rows { OnOk result (AreGathered self.old.file (rows_in (items_above self.new)) rows.new.items) }
+        ensures piece { OnOk result (progress_of self.new ≡ with_item (progress_of self.old) (file_item self.old.file (piece_of piece.entry))) }
+    {
+        let entry = self.take(alloc, piece)?;
+        Ok(put_placed(rows, entry)?)
+    }
+
+    /// Takes one more piece, and holds its row against those above, whose keys these are.
+    ///
+    /// - `Fault { line, rule }`: the piece breaks a rule: the row's own come first, then K1, K4 and K5. The line is
+    ///   counted from 1.
+    /// - `Memory`: memory ran out.
+    pub fn check(
+        &mut self,
+        alloc: Global,
+        keys: &mut KeySet,
+        piece: Piece<'_>,
+    ) -> Result<(), LoadStop>
+        requires sound { IsSound self.old }
+        requires keys { HoldsRows self.old.file (rows_in (items_above self.old)) keys.old }
+        requires fits { lines_of (items_above self.old) + piece_lines (piece_of piece) + 1 < 2 ^ 32 }
+        requires stands { Stands self.old.text.now (items_above self.old) (piece_of piece) }
+        ensures sound { OnOk result (IsSound self.new) }
+        ensures keys { OnOk result (HoldsRows self.old.file (rows_in (items_above self.new)) keys.new) }
+        ensures piece { TakesPiece result (progress_of self.old) (progress_of self.new) (piece_of piece.entry) }
+    {
+        let (file, line, before) = (self.file, self.lines + 1, self.before);
+        let entry = self.take(alloc, piece)?;
+        match take_row(keys, file, before, entry)? {
+            None => Ok(()),
+            Some(rule) => Err(LoadStop::Fault { line, rule }),
         }
     }
 }

@@ -1,6 +1,6 @@
 //! The items of the nine source files.
 
-ghost use Rattle.std.specs.Prelude.{◌≡◌, map, slice_set};
+ghost use Rattle.std.specs.Prelude.{◌≡◌, map, slice_set, IfOk};
 ghost use Rattle.ucd_points.specs.SourceFiles.{file_place, source_files};
 ghost use Rattle.release_rows.specs.Operations.{AnswersOp, IsOp, op_file, op_or_rule, touched};
 ghost use Rattle.release_rows.specs.Releases.{AllAreKept, committed, discarded, items_at, files_now, files_next, no_items};
@@ -9,7 +9,7 @@ use crate::file_text::FileText;
 use crate::laws::{operations_keep_cuts, operations_keep_order, operations_keep_rows};
 use crate::operation::{Op, OpStop};
 use std::alloc::Global;
-use ucd_model::{SourceFile, Spans};
+use ucd_model::{Copied, Memory, SourceFile, Spans};
 
 /// The items of each source file, at its place in the order in which the files are read.
 pub type NineFiles = [FileText; 9];
@@ -31,6 +31,21 @@ pub fn no_items(alloc: Global) -> NineFiles
         FileText::empty(alloc, SourceFile::PropertyAliases),
         FileText::empty(alloc, SourceFile::PropertyValueAliases),
     ]
+}
+
+/// The same items in each file, now and next.
+///
+/// - `Memory`: memory ran out.
+pub fn copied_files(alloc: Global, files: &NineFiles) -> Result<NineFiles, Memory>
+    ensures { IfOk result (λ copies. copies ≡ files.now) }
+{
+    let mut copies = no_items(alloc);
+    let mut at = 0;
+    'files: while at < 9 {
+        copies[at] = files[at].copied(alloc)?;
+        at += 1;
+    }
+    Ok(copies)
 }
 
 /// The items of a file.

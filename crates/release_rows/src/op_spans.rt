@@ -1,7 +1,6 @@
 //! What code points an operation touches.
 
 ghost use Rattle.std.specs.Prelude.{◌≡◌, ◌<◌, ◌≤◌, ℕ, List, [], ◌∷◌, ◌++◌, true, is_some, IfOk};
-ghost use Rattle.std.specs.Option.{option_to_list};
 ghost use Rattle.source_rows.specs.Keys.{code_number};
 ghost use Rattle.source_rows.specs.KeyNames.{has_code};
 ghost use Rattle.release_rows.specs.StoredItems.{IsStored, stored_at};
@@ -33,27 +32,12 @@ pub fn has_code(file: SourceFile) -> bool
     )
 }
 
-/// The span of a row's code points; `None` for a row of names.
-fn span_of(row: &Row) -> Option<Span>
-    ensures { option_to_list result ≡ row_spans row.now }
-{
-    match row {
-        Row::Unit(row) => Some(row.span),
-        Row::Value(row) => Some(row.span),
-        Row::Exclusion(row) => Some(row.span),
-        Row::Fold(row) => Some(Span::one(row.code)),
-        Row::Casing(row) => Some(Span::one(row.code)),
-        Row::Alias(_) => None,
-        Row::Missing(row) => Some(row.span),
-    }
-}
-
 /// What a row speaks of; nothing for a row of names.
 pub fn row_spans(alloc: Global, row: &Row) -> Result<Spans, Memory>
     ensures { IfOk result (λ spans. spans ≡ row_spans row.now) }
 {
     let mut spans = Spans::new(alloc);
-    if let Some(span) = span_of(row) {
+    if let Some(span) = row.span() {
         spans.push(span)?;
     }
     Ok(spans)

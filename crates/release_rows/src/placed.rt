@@ -1,9 +1,11 @@
 //! Rows whose keys are compared once all of them are there.
 
-ghost use Rattle.std.specs.Prelude.{◌≡◌, true, IfOk, IsTrue};
+ghost use Rattle.std.specs.Prelude.{◌≡◌, ◌++◌, true, IfOk, IsTrue, OnOk};
 ghost use Rattle.std.specs.List.{All, IsDistinct};
 ghost use Rattle.release_rows.specs.Chains.{IsChain, IsOrderedPlace, ends_before, places_meet};
+ghost use Rattle.release_rows.specs.Gathered.{placed_of};
 
+use crate::entry::Entry;
 use crate::place::Place;
 use std::cmp::Ordering;
 use ucd_model::Memory;
@@ -15,6 +17,18 @@ pub struct Placed {
     pub place: Place,
     /// The last code point, not less than the first.
     pub last: u32,
+}
+
+/// Puts the key of one more row behind the others, if there is one.
+///
+/// - `Memory`: memory ran out.
+pub fn put_placed(rows: &mut Vec<Placed>, entry: Option<Entry>) -> Result<(), Memory>
+    ensures { OnOk result (rows.new.items ≡ rows.old.items ++ placed_of entry) }
+{
+    if let Some(Entry { place, last, .. }) = entry {
+        rows.push(Placed { place, last })?;
+    }
+    Ok(())
 }
 
 /// Whether a row's names come before those of another one, or are the same and its code points end before that begins.

@@ -16,14 +16,16 @@ use crate::back::undo_all;
 use crate::laws::reloads_the_same;
 use crate::load_items::load_items;
 use crate::load_stop::{LoadRule, LoadStop};
-use crate::nine_files::{NineFiles, commit_all, discard_all, items_at, no_items, prepare_in, put};
+use crate::nine_files::{
+    NineFiles, commit_all, copied_files, discard_all, items_at, no_items, prepare_in, put,
+};
 use crate::operation::{Op, OpStop};
 use crate::patch::{Patch, way_back};
 use crate::row_iter::Rows;
 use crate::row_text::RowText;
 use std::alloc::Global;
 use std::marker::Model;
-use ucd_model::{Memory, SourceFile, Span, Spans, Text, file_limit};
+use ucd_model::{Copied, Memory, SourceFile, Span, Spans, Text, file_limit};
 
 /// The answer to a file above the limit.
 const TOO_LONG: LoadStop = LoadStop::Fault {
@@ -222,5 +224,12 @@ impl Release {
         ensures { AllAreKept self.now.current }
     {
         let _files = &self.files;
+    }
+}
+
+impl Copied for Release {
+    fn copied(&self, alloc: Global) -> Result<Release, Memory> {
+        let files = copied_files(alloc, &self.files)?;
+        Ok(Release { alloc, files })
     }
 }

@@ -210,4 +210,13 @@ impl<'a> Seek<Stretch> for Search<'a> {
             Test::Any => false,
         }
     }
+
+    fn tag(&self) -> Option<u32> {
+        let told = match self.test {
+            Test::SameKey | Test::OverlapsAnother => tells_key(self.file),
+            Test::Follows | Test::SameGroup => tells_group(self.file),
+            Test::Any => false,
+        };
+        told.then_some(self.tag)
+    }
 }

@@ -85,54 +85,18 @@ fn second_text(names: &[Text]) -> &[u8]
     }
 }
 
-/// The first one of the fields; nothing if there is none.
-fn first_field(mut fields: Fields<'_>) -> &[u8]
-    ensures { result.now ≡ field fields.entry 0 }
+/// The field with this number, counted from 0; nothing if there is none.
+fn field_at(mut fields: Fields<'_>, number: usize) -> &[u8]
+    ensures { result.now ≡ field fields.entry number }
 {
-    match fields.next() {
-        Some(first) => first,
-        None => &[],
+    let mut left = number;
+    'fields: while let Some(field) = fields.next() {
+        if left == 0 {
+            return field;
+        }
+        left -= 1;
     }
-}
-
-/// The second one of the fields; nothing if there is none.
-fn second_field(mut fields: Fields<'_>) -> &[u8]
-    ensures { result.now ≡ field fields.entry 1 }
-{
-    match fields.next() {
-        Some(_) => first_field(fields),
-        None => &[],
-    }
-}
-
-/// The third one of the fields; nothing where there is none.
-fn third_field(mut fields: Fields<'_>) -> &[u8]
-    ensures { result.now ≡ field fields.entry 2 }
-{
-    match fields.next() {
-        Some(_) => second_field(fields),
-        None => &[],
-    }
-}
-
-/// The fourth one of the fields; nothing where there is none.
-fn fourth_field(mut fields: Fields<'_>) -> &[u8]
-    ensures { result.now ≡ field fields.entry 3 }
-{
-    match fields.next() {
-        Some(_) => third_field(fields),
-        None => &[],
-    }
-}
-
-/// The fifth one of the fields; nothing where there is none.
-fn fifth_field(mut fields: Fields<'_>) -> &[u8]
-    ensures { result.now ≡ field fields.entry 4 }
-{
-    match fields.next() {
-        Some(_) => fourth_field(fields),
-        None => &[],
-    }
+    &[]
 }
 
 /// The tag of a row that stands in this content of the file.
@@ -144,9 +108,9 @@ pub fn content_tag(file: SourceFile, content: &[u8]) -> u32
         SourceFile::PropList | SourceFile::Scripts | SourceFile::WordBreakProperty => {
             number(end_of(content_group(file, content)))
         }
-        SourceFile::SpecialCasing => number(fifth_field(fields(file, content))),
-        SourceFile::PropertyAliases => number(first_field(fields(file, content))),
-        SourceFile::PropertyValueAliases => number(second_field(fields(file, content))),
+        SourceFile::SpecialCasing => number(field_at(fields(file, content), 4)),
+        SourceFile::PropertyAliases => number(field_at(fields(file, content), 0)),
+        SourceFile::PropertyValueAliases => number(field_at(fields(file, content), 1)),
         _ => 0,
     }
 }

@@ -1,6 +1,6 @@
 //! NormalizationTest.txt: its cases, and its faults.
 
-use norm_conformance::{CaseRule, CaseStop, Cases, read_cases};
+use norm_conformance::{Case, CaseRule, CaseStop, Cases, read_cases};
 use std::alloc::Global;
 use std::test::Fail;
 use ucd_model::{Point, file_limit};
@@ -96,19 +96,31 @@ fn are(points: &[Point], numbers: &[u32]) -> bool {
             .all(|(point, number)| point.number() == *number)
 }
 
+/// Whether these are the two cases of `LINES`.
+fn are_told(cases: &[Case]) -> bool {
+    let [first, second] = cases else {
+        return false;
+    };
+    (first.line, first.part) == (5, 0)
+        && has_columns(first)
+        && (second.line, second.part) == (9, 1)
+        && are(second.c4.as_slice(), &[0x20])
+}
+
+/// Whether a case has the columns of the first one of `LINES`.
+fn has_columns(case: &Case) -> bool {
+    are(case.c1.as_slice(), &[0x1E0A, 0x323])
+        && are(case.c2.as_slice(), &[0x1E0C, 0x307])
+        && are(case.c3.as_slice(), &[0x44, 0x323, 0x307])
+        && are(case.c4.as_slice(), &[0x1E0C, 0x307])
+        && are(case.c5.as_slice(), &[0x44, 0x323, 0x307])
+}
+
 #[test]
 fn columns_of_a_case(rt: HostRuntime) -> Result<(), Fail> {
     let cases = cases_in(rt.alloc(), LINES)?;
-    let [first, second] = cases.list.as_slice() else {
-        return Err(Fail::from("two cases"));
-    };
-    assert!(rt; (first.line, first.part) == (5, 0));
-    assert!(rt; are(first.c1.as_slice(), &[0x1E0A, 0x323]));
-    assert!(rt; are(first.c2.as_slice(), &[0x1E0C, 0x307]));
-    assert!(rt; are(first.c3.as_slice(), &[0x44, 0x323, 0x307]));
-    assert!(rt; are(first.c4.as_slice(), &[0x1E0C, 0x307]));
-    assert!(rt; are(first.c5.as_slice(), &[0x44, 0x323, 0x307]));
-    assert!(rt; (second.line, second.part) == (9, 1));
-    assert!(rt; are(second.c4.as_slice(), &[0x20]));
+    let told = are_told(cases.list.as_slice());
+    drop(cases);
+    assert!(rt; told);
     Ok(())
 }

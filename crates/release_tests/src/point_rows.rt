@@ -1,10 +1,10 @@
 //! The rows of a release that speak of a code point, as they stand in their files.
 
-use record_lines::put_rows;
+use record_lines::{PointText, put_rows};
 use release_rows::{LoadStop, Release};
 use std::alloc::Global;
 use std::test::Fail;
-use ucd_model::{Memory, Point, SourceFile, Text};
+use ucd_model::{Point, SourceFile, Text};
 
 /// Lines of UnicodeData.txt of Unicode 15.0.0, with CR LF.
 const DATA: &[u8] =
@@ -53,32 +53,33 @@ fn release(alloc: Global) -> Result<Release, LoadStop> {
     Ok(release)
 }
 
-/// Whether these are the rows of a code point.
-fn are_rows(
-    alloc: Global,
-    release: &Release,
-    point: Point,
-    expected: &[u8],
-) -> Result<bool, Memory> {
-    let mut text = Text::new(alloc);
-    put_rows(alloc, release, point, &mut text)?;
-    Ok(text.as_slice() == expected)
+/// The code points of the rows, with nothing told of them.
+fn untold(alloc: Global) -> Result<Vec<PointText>, Fail> {
+    let mut told = Vec::new(alloc);
+    for (number, _) in &ROWS {
+        let point = Point::new(*number).ok_or("a code point")?;
+        let text = Text::new(alloc);
+        told.push(PointText { point, text })?;
+    }
+    Ok(told)
 }
 
-/// Whether each code point has its rows.
-fn have_rows(alloc: Global, release: &Release) -> Result<bool, Fail> {
-    for (number, expected) in &ROWS {
-        let point = Point::new(*number).ok_or("a code point")?;
-        if !are_rows(alloc, release, point, expected)? {
-            return Ok(false);
+/// Whether each code point is told its rows.
+fn have_rows(told: &[PointText]) -> bool {
+    for (one, (_, expected)) in told.iter().zip(&ROWS) {
+        if one.text.as_slice() != *expected {
+            return false;
         }
     }
-    Ok(true)
+    told.len() == ROWS.len()
 }
 
 #[test]
 fn rows_of_code_points_by_file_and_line(rt: HostRuntime) -> Result<(), Fail> {
-    let release = release(rt.alloc())?;
-    assert!(rt; have_rows(rt.alloc(), &release)?);
+    let alloc = rt.alloc();
+    let release = release(alloc)?;
+    let mut told = untold(alloc)?;
+    put_rows(alloc, &release, told.as_mut_slice())?;
+    assert!(rt; have_rows(told.as_slice()));
     Ok(())
 }

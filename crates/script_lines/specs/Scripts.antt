@@ -28,9 +28,9 @@
 -- closed result                the commands, or the fault; E2 where a group is open at the end
 -- script_from n bytes          the commands of a script whose first line has the number n, or its first fault
 -- script_or_fault bytes        the same of a script whose first line has the number 1
--- StepsAs result new expected  a result and what it leaves are what was expected; want of memory says nothing
--- OpAs result expected         an operation, or the fault, is what was expected; want of memory says nothing
--- CommandsAs result expected   the commands, or the fault, are what was expected; want of memory says nothing
+-- StepsAs result new expected  a result and what it leaves are what was expected; no claim if memory ran out
+-- OpAs result expected         an operation, or the fault, is what was expected; no claim if memory ran out
+-- CommandsAs result expected   the commands, or the fault, are what was expected; no claim if memory ran out
 use Rattle.std.specs.Prelude.{◌≡◌, ℕ, ◌+◌, Bool, false, ◌&&◌, List, [], ◌∷◌, ◌++◌, length, Option, Some, None, is_some, Result, Ok, Err, ◌==◌, if◌then◌else◌}
 use Rattle.ucd_points.specs.Lines.{LineItem, items_of}
 use Rattle.ucd_points.specs.declared.files.SourceFile.{SourceFile}

@@ -5,7 +5,7 @@
 -- first_line_of commands n    the line of the first of these commands; n where there are none
 -- misfit_line piece commands  where the piece does not fit its mark, the line that says so: the mark's, or where it has none that
 --                             of its first command
--- PieceCommandsAs result expected   the commands, or the fault, are what was expected; want of memory says nothing
+-- PieceCommandsAs result expected   the commands, or the fault, are what was expected; no claim if memory ran out
 use Rattle.std.specs.Prelude.{◌≡◌, ℕ, List, [], ◌∷◌, Option, Some, None, Result, Ok, Err, ⊤}
 use Rattle.script_lines.specs.Scripts.{ScriptFault, script_from}
 use Rattle.script_lines.specs.declared.command.Command.{Command}

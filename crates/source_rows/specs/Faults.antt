@@ -6,7 +6,7 @@
 --                                  behind, and in every other file
 -- row_or_fault file bytes          of the bytes; bytes with a LF have G03, but for two lines of UnicodeData.txt of which the
 --                                  first one is that of a range. One CR before that LF is no part of the line
--- ReadsAs result expected          a result is what was expected; want of memory says nothing
+-- ReadsAs result expected          a result is what was expected; no claim if memory ran out
 use Rattle.std.specs.Prelude.{◌≡◌, ℕ, List, Result, Ok, Err, if◌then◌else◌}
 use Rattle.std.specs.List.{before_first, after_first}
 use Rattle.ucd_points.specs.Lines.{is_lf, holds_line_feed, without_return}

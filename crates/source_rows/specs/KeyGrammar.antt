@@ -16,7 +16,7 @@
 --                               and then the fields in order, each with the rule that it has in a row
 -- key_line_or_fault file bytes  the same, by the file
 -- key_or_fault file bytes       the same of a text; bytes with a LF have G03
--- ReadsKeyAs result expected    a result is what was expected; want of memory says nothing
+-- ReadsKeyAs result expected    a result is what was expected; no claim if memory ran out
 -- KeysAreRead                   a key is given exactly where the text stands for that key
 use Rattle.std.specs.Prelude.{◌≡◌, ◌↔◌, ℕ, ◌≤◌, Bool, true, false, List, [], ◌∷◌, length, Some, None, Result, Ok, Err, ◌==◌, nat_le, if◌then◌else◌}
 use Rattle.std.specs.List.{list_all}

@@ -1,4 +1,5 @@
 pub mod Loose
+pub mod LooseNames
 pub mod Sources
 pub mod Tables
 pub mod Properties
@@ -9,3 +10,4 @@ pub mod NumberMaps
 pub mod Kinds
 pub mod Numbers
 pub mod Found
+pub mod Edits

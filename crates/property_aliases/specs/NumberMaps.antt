@@ -1,19 +1,21 @@
 -- Numbers by what counts of names.
 --
--- number_in m key             the number of a key; None where it has none
+-- number_in m key             the number of the names of which this is what counts; None where they have none
 -- found_in direct rows key    the less of the numbers of a key in two maps
 -- index_in_names n key        which property a key names, by a table of the names of properties
 use Rattle.std.specs.Prelude.{ℕ, List, Option}
 use Rattle.std.specs.Str.{bytes_eq}
 use Rattle.std.specs.Option.{option_map}
 use Rattle.indexmap.specs.IndexMap.{get_by}
+use Rattle.property_aliases.specs.Loose.{loose}
+use Rattle.property_aliases.specs.LooseNames.{name_bytes}
 use Rattle.property_aliases.specs.Properties.{index_at}
 use Rattle.property_aliases.specs.ResolvingLaws.{least}
 use Rattle.property_aliases.specs.declared.naming.Names.{Names}
 use Rattle.property_aliases.specs.declared.number_map.NumberMap.{NumberMap}
 
 abbrev pub number_in : NumberMap → List ℕ → Option ℕ
-number_in m key = get_by (λ k. bytes_eq key k.items) m.map
+number_in m key = get_by (λ name. bytes_eq key (loose (name_bytes name))) m.map
 
 abbrev pub found_in : NumberMap → NumberMap → List ℕ → Option ℕ
 found_in direct rows key = least (number_in direct key) (number_in rows key)

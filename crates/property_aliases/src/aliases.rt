@@ -1,15 +1,18 @@
 //! The names of a release.
 
-ghost use Rattle.std.specs.Prelude.{◌≡◌, map, slice_get, IfOk};
+ghost use Rattle.std.specs.Prelude.{◌≡◌, map, slice_get, IfOk, OnOk};
 ghost use Rattle.std.specs.Option.{option_map};
+ghost use Rattle.property_aliases.specs.Edits.{AreKeptBut};
 ghost use Rattle.property_aliases.specs.Found.{AreAliasesOf, breaks_in, listed_in, lone_in, lone_key_in, property_in, property_key_in, scripts_in, value_in, value_key_in};
+ghost use Rattle.property_aliases.specs.Loose.{loose};
 ghost use Rattle.property_aliases.specs.Numbers.{AreNumbersOf};
 ghost use Rattle.property_aliases.specs.Sources.{sources_of};
 ghost use Rattle.property_aliases.specs.Values.{binary};
 ghost use Rattle.release_rows.specs.Releases.{rows_now};
 
+use crate::edited::Edited;
 use crate::indexing::{index_in, property_by};
-use crate::loose::{loose, without_is};
+use crate::loose::without_is;
 use crate::meaning::{binary, other, test_at};
 use crate::places::Places;
 use crate::property::{Property, Test};
@@ -34,8 +37,51 @@ impl Aliases {
         ensures numbers { IfOk result (λ aliases. AreNumbersOf aliases.numbers (rows_now release.now)) }
     {
         let numbers = ValueNumbers::of(alloc, release)?;
+        Aliases::with_numbers(alloc, release, numbers)
+    }
+
+    /// The same by the numbers of the values that the rows give.
+    fn with_numbers(
+        alloc: Global,
+        release: &Release,
+        numbers: ValueNumbers,
+    ) -> Result<Aliases, Memory>
+        requires { AreNumbersOf numbers (rows_now release.now) }
+        ensures aliases { IfOk result (λ aliases. AreAliasesOf aliases (sources_of release.now)) }
+        ensures numbers { IfOk result (λ aliases. AreNumbersOf aliases.numbers (rows_now release.now)) }
+    {
         let places = Places::of(alloc, release, &numbers)?;
         Ok(Aliases { numbers, places })
+    }
+
+    /// What names mean by the rows of a release now, if these are the names by rows of which only the edited files have others.
+    /// Only the rows of edited files are read, and those of alias files only if another name is numbered.
+    ///
+    /// - `Memory`: memory ran out.
+    pub fn again(self, alloc: Global, release: &Release, edited: Edited) -> Result<Aliases, Memory>
+        requires { AreKeptBut self edited (rows_now release.now) }
+        ensures aliases { IfOk result (λ aliases. AreAliasesOf aliases (sources_of release.now)) }
+        ensures numbers { IfOk result (λ aliases. AreNumbersOf aliases.numbers (rows_now release.now)) }
+    {
+        let mut aliases = self;
+        aliases.renew(alloc, release, edited)?;
+        Ok(aliases)
+    }
+
+    /// Makes names mean what they mean by the rows of a release now.
+    ///
+    /// - `Memory`: memory ran out. Nothing is then known of the names.
+    fn renew(&mut self, alloc: Global, release: &Release, edited: Edited) -> Result<(), Memory>
+        requires { AreKeptBut self.old edited (rows_now release.now) }
+        ensures aliases { OnOk result (AreAliasesOf self.new (sources_of release.now)) }
+        ensures numbers { OnOk result (AreNumbersOf self.new.numbers (rows_now release.now)) }
+    {
+        let same = self.numbers.renew(alloc, release, edited)?;
+        if same && !edited.aliases {
+            return Ok(());
+        }
+        self.places = Places::of(alloc, release, &self.numbers)?;
+        Ok(())
     }
 
     /// The values that rows give, by the numbers that the tests have.
@@ -45,101 +91,75 @@ impl Aliases {
         &self.numbers
     }
 
-    /// The property that a key names.
-    fn property_by_key(&self, key: &[u8]) -> Option<Property>
-        ensures { result ≡ property_key_in self.now key.now }
+    /// The property that a name names as it is.
+    fn property_as_is(&self, name: &[u8]) -> Option<Property>
+        ensures { result ≡ property_key_in self.now (loose name.now) }
     {
-        Some(property_by(index_in(&self.places.properties, key)?))
+        Some(property_by(index_in(&self.places.properties, name)?))
     }
 
-    /// The test that a key means as a value of a property.
-    fn value_by_key(&self, property: Property, key: &[u8]) -> Option<Test>
-        ensures { result ≡ value_key_in self.now property key.now }
+    /// The test that a name means as a value of a property, as it is.
+    fn value_as_is(&self, property: Property, name: &[u8]) -> Option<Test>
+        ensures { result ≡ value_key_in self.now property (loose name.now) }
     {
-        test_at(property, self.places.values.find(property, key)?)
+        test_at(property, self.places.values.find(property, name)?)
     }
 
-    /// The test that a key means alone.
-    fn lone_by_key(&self, key: &[u8]) -> Option<Test>
-        ensures { result ≡ lone_key_in self.now key.now }
+    /// The test that a name means alone, as it is.
+    fn lone_as_is(&self, name: &[u8]) -> Option<Test>
+        ensures { result ≡ lone_key_in self.now (loose name.now) }
     {
-        if let Some(test) = self.value_by_key(Property::Category, key) {
+        if let Some(test) = self.value_as_is(Property::Category, name) {
             return Some(test);
         }
-        if let Some(test) = self.value_by_key(Property::Script, key) {
+        if let Some(test) = self.value_as_is(Property::Script, name) {
             return Some(test);
         }
-        match self.binary_by_key(key) {
+        match self.binary_as_is(name) {
             Some(test) => Some(test),
-            None => other(key),
+            None => other(name),
         }
     }
 
-    /// The test for code points that have the property that a key names.
-    fn binary_by_key(&self, key: &[u8]) -> Option<Test>
-        ensures { result ≡ binary (property_key_in self.now key.now) }
+    /// The test for code points that have the property that a name names as it is.
+    fn binary_as_is(&self, name: &[u8]) -> Option<Test>
+        ensures { result ≡ binary (property_key_in self.now (loose name.now)) }
     {
-        binary(self.property_by_key(key)?)
+        binary(self.property_as_is(name)?)
     }
 
     /// The property that a name names, by loose matching; `None` if it names none. If the name as it is names none,
     /// and begins with `is`, what follows is tried. UAX #44, sections 5.8 and 5.9.3.
-    ///
-    /// - `Memory`: memory ran out.
-    pub fn property(&self, alloc: Global, name: &[u8]) -> Result<Option<Property>, Memory>
-        ensures { IfOk result (λ property. property ≡ property_in self.now name.now) }
+    pub fn property(&self, name: &[u8]) -> Option<Property>
+        ensures { result ≡ property_in self.now name.now }
     {
-        let key = loose(alloc, name)?;
-        let key = key.as_slice();
-        if let Some(property) = self.property_by_key(key) {
-            return Ok(Some(property));
+        if let Some(property) = self.property_as_is(name) {
+            return Some(property);
         }
-        match without_is(key) {
-            Some(rest) => Ok(self.property_by_key(rest)),
-            None => Ok(None),
-        }
+        self.property_as_is(without_is(name)?)
     }
 
     /// The test that a name means as a value of a property, by loose matching; `None` if it names no value of it. If
     /// the name as it is names none, and begins with `is`, what follows is tried. UAX #44, sections 5.7, 5.8 and 5.9.3.
-    ///
-    /// - `Memory`: memory ran out.
-    pub fn value(
-        &self,
-        alloc: Global,
-        property: Property,
-        name: &[u8],
-    ) -> Result<Option<Test>, Memory>
-        ensures { IfOk result (λ test. test ≡ value_in self.now property name.now) }
+    pub fn value(&self, property: Property, name: &[u8]) -> Option<Test>
+        ensures { result ≡ value_in self.now property name.now }
     {
-        let key = loose(alloc, name)?;
-        let key = key.as_slice();
-        if let Some(test) = self.value_by_key(property, key) {
-            return Ok(Some(test));
+        if let Some(test) = self.value_as_is(property, name) {
+            return Some(test);
         }
-        match without_is(key) {
-            Some(rest) => Ok(self.value_by_key(property, rest)),
-            None => Ok(None),
-        }
+        self.value_as_is(property, without_is(name)?)
     }
 
     /// The test that a name means if it stands alone: a General_Category or a group of them, else a Script, else a
     /// property that code points have or have not, else Any, ASCII or Assigned; `None` if it means none. If the name
     /// as it is means none, and begins with `is`, what follows is tried. UTS #35, "Unicode Sets".
-    ///
-    /// - `Memory`: memory ran out.
-    pub fn lone(&self, alloc: Global, name: &[u8]) -> Result<Option<Test>, Memory>
-        ensures { IfOk result (λ test. test ≡ lone_in self.now name.now) }
+    pub fn lone(&self, name: &[u8]) -> Option<Test>
+        ensures { result ≡ lone_in self.now name.now }
     {
-        let key = loose(alloc, name)?;
-        let key = key.as_slice();
-        if let Some(test) = self.lone_by_key(key) {
-            return Ok(Some(test));
+        if let Some(test) = self.lone_as_is(name) {
+            return Some(test);
         }
-        match without_is(key) {
-            Some(rest) => Ok(self.lone_by_key(rest)),
-            None => Ok(None),
-        }
+        self.lone_as_is(without_is(name)?)
     }
 
     /// The name in PropList.txt of the listed property with this number; `None` if the number is not used.

@@ -1,6 +1,7 @@
 //! Properties by their places.
 
 ghost use Rattle.std.specs.Prelude.{◌≡◌};
+ghost use Rattle.property_aliases.specs.Loose.{loose};
 ghost use Rattle.property_aliases.specs.NumberMaps.{index_in_names};
 ghost use Rattle.property_aliases.specs.Properties.{built_in, index_at, property_by};
 
@@ -56,11 +57,11 @@ fn index_at(place: usize) -> usize
     if place < 60 { place / 2 } else { place - 30 }
 }
 
-/// Which property a key names by a table of the names of properties.
-pub(crate) fn index_in(properties: &Names, key: &[u8]) -> Option<usize>
-    ensures { result ≡ index_in_names properties.now key.now }
+/// Which property a name names by a table of the names of properties.
+pub(crate) fn index_in(properties: &Names, name: &[u8]) -> Option<usize>
+    ensures { result ≡ index_in_names properties.now (loose name.now) }
 {
-    let place = find_in(&properties.direct, &properties.rows, key)?;
+    let place = find_in(&properties.direct, &properties.rows, name)?;
     Some(index_at(place))
 }
 

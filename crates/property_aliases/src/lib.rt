@@ -2,15 +2,18 @@
 #![tactic(auto)]
 
 mod aliases;
+mod edited;
 mod file_values;
 mod indexing;
 mod kinds;
 mod loose;
+mod loose_name;
 mod meaning;
 mod naming;
 mod number_map;
 mod places;
 mod property;
+mod renewing;
 mod rows;
 mod tables;
 mod value_numbers;
@@ -18,6 +21,7 @@ mod value_rows;
 mod values;
 
 pub use aliases::Aliases;
+pub use edited::Edited;
 pub use file_values::{FileValues, NumberedRow};
 pub use property::{Group, Property, Test};
 pub use value_numbers::ValueNumbers;

@@ -1,9 +1,11 @@
 //! What code points are tested for by names of values, and by names that stand alone.
 
 ghost use Rattle.std.specs.Prelude.{◌≡◌, Some, slice_get};
+ghost use Rattle.property_aliases.specs.Loose.{loose};
 ghost use Rattle.property_aliases.specs.Values.{binary, groups, other_key, test_at};
 ghost use Rattle.property_aliases.specs.declared.property.Property.TheVariants.{Category as OfCategory, Class as OfClass, Decomposition as OfDecomposition, Quick as OfQuick};
 
+use crate::loose::is_same;
 use crate::property::{Group, Property, Test};
 use ucd_model::{Category, Form, Kind, Quick};
 
@@ -97,14 +99,14 @@ pub(crate) fn binary(property: Property) -> Option<Test>
 }
 
 /// The test that `Any`, `ASCII` or `Assigned` means.
-pub(crate) fn other(key: &[u8]) -> Option<Test>
-    ensures { result ≡ other_key key.now }
+pub(crate) fn other(name: &[u8]) -> Option<Test>
+    ensures { result ≡ other_key (loose name.now) }
 {
-    if key == b"any".as_slice() {
+    if is_same(name, b"Any") {
         Some(Test::Any)
-    } else if key == b"ascii".as_slice() {
+    } else if is_same(name, b"ASCII") {
         Some(Test::Ascii)
-    } else if key == b"assigned".as_slice() {
+    } else if is_same(name, b"Assigned") {
         Some(Test::Assigned)
     } else {
         None

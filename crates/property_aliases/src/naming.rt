@@ -6,7 +6,6 @@ ghost use Rattle.property_aliases.specs.NumberMaps.{found_in, number_in};
 ghost use Rattle.property_aliases.specs.Resolving.{number_of};
 ghost use Rattle.property_aliases.specs.ResolvingLaws.{direct, least, put, row_number, rows_number};
 
-use crate::loose::loose;
 use crate::number_map::NumberMap;
 use std::alloc::Global;
 use ucd_model::{Memory, Text, Texts};
@@ -37,32 +36,15 @@ pub(crate) fn less(first: Option<usize>, second: Option<usize>) -> Option<usize>
     }
 }
 
-/// The lesser of a number and that of a name.
-///
-/// - `Memory`: memory ran out.
-fn with_name(
-    alloc: Global,
-    direct: &NumberMap,
-    number: Option<usize>,
-    name: &[u8],
-) -> Result<Option<usize>, Memory>
-    ensures { IfOk result (λ n. n ≡ least number (number_in direct.now (loose name.now))) }
-{
-    let key = loose(alloc, name)?;
-    Ok(less(number, direct.find(key.as_slice())))
-}
-
 /// The least place to which a name of a row leads.
-///
-/// - `Memory`: memory ran out.
-fn row_number(alloc: Global, direct: &NumberMap, row: &[Text]) -> Result<Option<usize>, Memory>
-    ensures { IfOk result (λ n. n ≡ row_number (number_in direct.now) row.now) }
+fn row_number(direct: &NumberMap, row: &[Text]) -> Option<usize>
+    ensures { result ≡ row_number (number_in direct.now) row.now }
 {
     let mut number = None;
     'names: for name in row {
-        number = with_name(alloc, direct, number, name.as_slice())?;
+        number = less(number, direct.find(name.as_slice()));
     }
-    Ok(number)
+    number
 }
 
 /// Gives a number to each name of a row, unless it has a lesser one.
@@ -90,7 +72,7 @@ pub(crate) fn add_row(
     ensures { OnOk result ((key : List ℕ) → number_in rows.new key
         ≡ least (number_in rows.old key) (put row.now key (row_number (number_in direct.now) row.now))) }
 {
-    match row_number(alloc, direct, row)? {
+    match row_number(direct, row) {
         Some(number) => put_row(alloc, rows, number, row),
         None => Ok(()),
     }
@@ -134,8 +116,8 @@ impl Names {
 }
 
 /// The place of the first name that this names.
-pub(crate) fn find_in(direct: &NumberMap, rows: &NumberMap, key: &[u8]) -> Option<usize>
-    ensures { result ≡ found_in direct.now rows.now key.now }
+pub(crate) fn find_in(direct: &NumberMap, rows: &NumberMap, name: &[u8]) -> Option<usize>
+    ensures { result ≡ found_in direct.now rows.now (loose name.now) }
 {
-    less(direct.find(key), rows.find(key))
+    less(direct.find(name), rows.find(name))
 }

@@ -2,19 +2,20 @@
 
 ghost use Rattle.std.specs.Str.{bytes_eq};
 ghost use Rattle.std.specs.Prelude.{◌≡◌, cond, Some, None, List, ℕ, OnOk, OnErr};
-ghost use Rattle.property_aliases.specs.Loose.{is_name};
+ghost use Rattle.property_aliases.specs.Loose.{is_name, loose};
 ghost use Rattle.property_aliases.specs.NumberMaps.{number_in};
 ghost use Rattle.property_aliases.specs.ResolvingLaws.{least};
 
 use crate::loose::loose;
+use crate::loose_name::LooseName;
 use indexmap::IndexMap;
 use std::alloc::Global;
 use ucd_model::Memory;
 
-/// A number for each of some names, of which only what counts is kept.
+/// A number for each of some names, which are told by what counts of them.
 #[derive(Drop)]
 pub(crate) struct NumberMap {
-    map: IndexMap<Vec<u8>, usize>,
+    map: IndexMap<LooseName<'static>, usize>,
 }
 
 impl NumberMap {
@@ -27,21 +28,21 @@ impl NumberMap {
         }
     }
 
-    /// The number of the names of which this is what counts.
-    pub(crate) fn find(&self, key: &[u8]) -> Option<usize>
-        ensures { result ≡ number_in self.now key.now }
+    /// The number of a name, by what counts of it.
+    pub(crate) fn find(&self, name: &[u8]) -> Option<usize>
+        ensures { result ≡ number_in self.now (loose name.now) }
     {
-        self.map.get(key).copied()
+        self.map.get(&LooseName::Asked(name)).copied()
     }
 
-    /// Gives the number to the names of which this is what counts, in place of the one that they had.
+    /// Gives a name the number in place of the one that it had.
     ///
     /// - `Memory`: memory ran out.
-    fn put_key(&mut self, number: usize, key: Vec<u8>) -> Result<(), Memory>
-        ensures { OnOk result ((other : List ℕ)
-            → number_in self.new other ≡ cond (bytes_eq other key.items) (Some number) (number_in self.old other)) }
+    fn put_name(&mut self, number: usize, name: Vec<u8>) -> Result<(), Memory>
+        ensures { OnOk result ((key : List ℕ)
+            → number_in self.new key ≡ cond (bytes_eq key (loose name.items)) (Some number) (number_in self.old key)) }
     {
-        self.map.insert(key, number)?;
+        self.map.insert(LooseName::Kept(name), number)?;
         Ok(())
     }
 
@@ -56,8 +57,8 @@ impl NumberMap {
         if key.is_empty() {
             return Ok(());
         }
-        let number = lesser(self.find(key.as_slice()), number);
-        self.put_key(number, key)
+        let number = lesser(self.find(name), number);
+        self.put_name(number, key)
     }
 }
 

@@ -1,11 +1,15 @@
 //! The values that rows give, by numbers.
 
-ghost use Rattle.std.specs.Prelude.{◌≡◌, IfOk};
+ghost use Rattle.std.specs.Prelude.{◌≡◌, IfOk, OnOk, IsTrue};
+ghost use Rattle.property_aliases.specs.Edits.{AreSameBut, HasSameNames};
 ghost use Rattle.property_aliases.specs.Numbers.{AreNumbersOf};
+ghost use Rattle.ucd_model.specs.Facts.{Sources as AllRows};
 ghost use Rattle.ucd_model.specs.Values.{default_script, default_word_break};
 ghost use Rattle.release_rows.specs.Releases.{rows_now};
 
+use crate::edited::Edited;
 use crate::file_values::{FileValues, values_behind, values_of};
+use crate::renewing::{renew_behind, renew_values};
 use release_rows::Release;
 use std::alloc::Global;
 use ucd_model::{Memory, SourceFile};
@@ -53,6 +57,46 @@ impl ValueNumbers {
             scripts,
             breaks,
         })
+    }
+
+    /// Makes the values those of the rows now, if they are those of rows of which only the edited files have others; and answers
+    /// whether they have the names that they had, by the same numbers. Only the rows of edited files are read.
+    ///
+    /// - `Memory`: memory ran out. Some of the values may be those of the rows now.
+    pub(crate) fn renew(
+        &mut self,
+        alloc: Global,
+        release: &Release,
+        edited: Edited,
+    ) -> Result<bool, Memory>
+        ensures numbers { OnOk result ((old : AllRows) → AreNumbersOf self.old old → AreSameBut edited old (rows_now release.now)
+            → AreNumbersOf self.new (rows_now release.now)) }
+        ensures same { IfOk result (λ same. IsTrue same → HasSameNames self.new self.old) }
+    {
+        let listed = renew_values(
+            alloc,
+            release,
+            SourceFile::PropList,
+            edited.listed,
+            &mut self.listed,
+        )?;
+        let scripts = renew_behind(
+            alloc,
+            default_script(),
+            release,
+            SourceFile::Scripts,
+            edited.scripts,
+            &mut self.scripts,
+        )?;
+        let breaks = renew_behind(
+            alloc,
+            default_word_break(),
+            release,
+            SourceFile::WordBreakProperty,
+            edited.breaks,
+            &mut self.breaks,
+        )?;
+        Ok(listed && scripts && breaks)
     }
 
     /// The names of PropList.txt.

@@ -10,23 +10,19 @@ ghost use Rattle.property_aliases.specs.Values.{behind, first_index};
 
 use crate::indexing::{index_in, property_by};
 use crate::kinds::kind_of;
-use crate::loose::loose;
 use crate::naming::{Names, add_row};
 use crate::number_map::NumberMap;
 use std::alloc::Global;
 use ucd_model::{Memory, Text, Texts};
 
 /// The property that the first name of a row names.
-///
-/// - `Memory`: memory ran out.
-fn first_index(alloc: Global, properties: &Names, row: &[Text]) -> Result<Option<usize>, Memory>
-    ensures { IfOk result (λ index. index ≡ first_index (index_in_names properties.now) row.now) }
+fn first_index(properties: &Names, row: &[Text]) -> Option<usize>
+    ensures { result ≡ first_index (index_in_names properties.now) row.now }
 {
-    let [name, ..] = row else {
-        return Ok(None);
-    };
-    let key = loose(alloc, name.as_slice())?;
-    Ok(index_in(properties, key.as_slice()))
+    match row {
+        [name, ..] => index_in(properties, name.as_slice()),
+        [] => None,
+    }
 }
 
 /// The names of a row behind the first.
@@ -86,7 +82,7 @@ fn add_value_row(
     ensures { OnOk result ((i : ℕ) (key : List ℕ) → number_at maps.new.items i key ≡ least (number_at maps.old.items i key)
         (rows_number (number_at kinds.now (kind_of (property_by i))) (behind (index_in_names properties.now) i row.now) key)) }
 {
-    match first_index(alloc, properties, row)? {
+    match first_index(properties, row) {
         Some(index) => add_at(alloc, kinds, maps, index, later(row)),
         None => Ok(()),
     }

@@ -4,6 +4,7 @@ ghost use Rattle.std.specs.Prelude.{◌≡◌, ◌+◌, ◌^◌, ◌≤◌, ℕ,
 ghost use Rattle.std.specs.List.{flat_map};
 ghost use Rattle.property_aliases.specs.Found.{place_in};
 ghost use Rattle.property_aliases.specs.Kinds.{kind_names, kind_of, number_at};
+ghost use Rattle.property_aliases.specs.Loose.{loose};
 ghost use Rattle.property_aliases.specs.Numbers.{names_in};
 ghost use Rattle.property_aliases.specs.NumberMaps.{index_in_names};
 ghost use Rattle.property_aliases.specs.Resolving.{number_of};
@@ -56,27 +57,27 @@ impl ValueNames {
         Ok(ValueNames { kinds, rows })
     }
 
-    /// The place of the first name of a value of a property that a key names.
-    pub(crate) fn find(&self, property: Property, key: &[u8]) -> Option<usize>
-        ensures { result ≡ place_in self.now property key.now }
+    /// The place of the first name of a value of a property that a name names.
+    pub(crate) fn find(&self, property: Property, name: &[u8]) -> Option<usize>
+        ensures { result ≡ place_in self.now property (loose name.now) }
     {
-        let direct = number_at(self.kinds.as_slice(), kind_of(property), key);
-        less(direct, self.find_in_rows(property, key))
+        let direct = number_at(self.kinds.as_slice(), kind_of(property), name);
+        less(direct, self.find_in_rows(property, name))
     }
 
-    /// The place to which rows tie a key.
-    fn find_in_rows(&self, property: Property, key: &[u8]) -> Option<usize>
-        ensures { result ≡ number_at self.now.rows.items (index_of property) key.now }
+    /// The place to which rows tie a name.
+    fn find_in_rows(&self, property: Property, name: &[u8]) -> Option<usize>
+        ensures { result ≡ number_at self.now.rows.items (index_of property) (loose name.now) }
     {
-        number_at(self.rows.as_slice(), index_of(property)?, key)
+        number_at(self.rows.as_slice(), index_of(property)?, name)
     }
 }
 
-/// The number of a key in a map; `None` if there is no such map.
-fn number_at(maps: &[NumberMap], index: usize, key: &[u8]) -> Option<usize>
-    ensures { result ≡ number_at maps.now index key.now }
+/// The number of a name in a map; `None` if there is no such map.
+fn number_at(maps: &[NumberMap], index: usize, name: &[u8]) -> Option<usize>
+    ensures { result ≡ number_at maps.now index (loose name.now) }
 {
-    maps.get(index)?.find(key)
+    maps.get(index)?.find(name)
 }
 
 /// The place of a property among all; `None` if it is 2^64 or above.

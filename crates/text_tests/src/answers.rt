@@ -19,7 +19,7 @@ use std::test::Fail;
 use ucd_model::{
     Category, CoreSet, Image, Kind, Point, Quick, Record, Records, SourceFile, equal_pieces,
 };
-use unicodeset_eval::{RowSets, SetIndex, TestSets, eval};
+use unicodeset_eval::{RecordPieces, RowSets, SetIndex, TestSets, eval};
 use unicodeset_parser::parse;
 
 /// One record for all code points.
@@ -164,8 +164,9 @@ fn sets_of_record(
     requires unassigned { items_now release.now UnicodeData ≡ [] }
     requires rows { AreRowSets rows.now (rows_now release.now) }
 {
-    let pieces = equal_pieces(alloc, bench)?;
-    let index = SetIndex::of(alloc, bench, pieces.as_slice(), release, rows)?;
+    let spans = equal_pieces(alloc, bench)?;
+    let pieces = RecordPieces::of(alloc, bench, spans.as_slice())?;
+    let index = SetIndex::of(bench, &pieces, release, rows);
     sets_are_found(rt, alloc, &index, sets)
 }
 

@@ -91,17 +91,17 @@ enum Look {
 
 fn on_aliases(rt: &impl Abort, alloc: Global, look: Look) -> Result<(), Fail> {
     let aliases = aliases(alloc)?;
-    let looked = look_at(rt, alloc, &aliases, look);
+    let looked = look_at(rt, &aliases, look);
     drop(aliases);
     looked
 }
 
-fn look_at(rt: &impl Abort, alloc: Global, aliases: &Aliases, look: Look) -> Result<(), Fail> {
+fn look_at(rt: &impl Abort, aliases: &Aliases, look: Look) -> Result<(), Fail> {
     match look {
-        Look::Properties => properties_are_found(rt, alloc, aliases),
+        Look::Properties => properties_are_found(rt, aliases),
         Look::Numbers => numbers_are_found(rt, aliases),
-        Look::Values => values_are_found(rt, alloc, aliases),
-        Look::Lone => lone_names_are_found(rt, alloc, aliases),
+        Look::Values => values_are_found(rt, aliases),
+        Look::Lone => lone_names_are_found(rt, aliases),
     }
 }
 
@@ -130,9 +130,9 @@ fn names_match_loosely(rt: HostRuntime) -> Result<(), Fail> {
     on_aliases(&rt, rt.alloc(), Look::Properties)
 }
 
-fn properties_are_found(rt: &impl Abort, alloc: Global, aliases: &Aliases) -> Result<(), Fail> {
+fn properties_are_found(rt: &impl Abort, aliases: &Aliases) -> Result<(), Fail> {
     for (name, property) in &PROPERTY_CASES {
-        assert_eq!(rt; aliases.property(alloc, name)?, *property);
+        assert_eq!(rt; aliases.property(name), *property);
     }
     Ok(())
 }
@@ -209,9 +209,9 @@ fn values_have_names(rt: HostRuntime) -> Result<(), Fail> {
     on_aliases(&rt, rt.alloc(), Look::Values)
 }
 
-fn values_are_found(rt: &impl Abort, alloc: Global, aliases: &Aliases) -> Result<(), Fail> {
+fn values_are_found(rt: &impl Abort, aliases: &Aliases) -> Result<(), Fail> {
     for (property, name, test) in &VALUE_CASES {
-        assert!(rt; aliases.value(alloc, *property, name)? == *test);
+        assert!(rt; aliases.value(*property, name) == *test);
     }
     Ok(())
 }
@@ -240,9 +240,9 @@ fn names_stand_alone(rt: HostRuntime) -> Result<(), Fail> {
     on_aliases(&rt, rt.alloc(), Look::Lone)
 }
 
-fn lone_names_are_found(rt: &impl Abort, alloc: Global, aliases: &Aliases) -> Result<(), Fail> {
+fn lone_names_are_found(rt: &impl Abort, aliases: &Aliases) -> Result<(), Fail> {
     for (name, test) in &LONE_CASES {
-        assert!(rt; aliases.lone(alloc, name)? == *test);
+        assert!(rt; aliases.lone(name) == *test);
     }
     Ok(())
 }

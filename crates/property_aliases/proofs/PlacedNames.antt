@@ -1,7 +1,8 @@
+-- What names mean by numbers and by places that rows give.
 use Rattle.std.proofs.Common.{◌≡◌, ℕ, List, Option, None, ◌++◌, refl, ap, ◌∙◌}
 use Rattle.std.specs.List.{flat_map}
 use Rattle.std.specs.Option.{option_map, option_map_or}
-use Rattle.property_aliases.specs.Found.{breaks_in, index_in, lone_in, lone_key_in, place_in, property_in, property_key_in, scripts_in, value_in, value_key_in}
+use Rattle.property_aliases.specs.Found.{breaks_in, index_in, listed_in, lone_in, lone_key_in, place_in, property_in, property_key_in, scripts_in, value_in, value_key_in}
 use Rattle.property_aliases.specs.Kinds.{kind_names, kind_of}
 use Rattle.property_aliases.specs.NumberMaps.{index_in_names}
 use Rattle.property_aliases.specs.Properties.{index_at, index_named, property_by, property_key, property_of}
@@ -13,7 +14,8 @@ use Rattle.property_aliases.specs.declared.aliases.Aliases.{Aliases}
 use Rattle.property_aliases.specs.declared.property.Property.{Property}
 use Rattle.property_aliases.specs.declared.property.Property.TheVariants.{Category, Script}
 use Rattle.property_aliases.proofs.PropertyLaws.{kind_names_are}
-use Rattle.property_aliases.proofs.aliases.Aliases.of.Goals as goal
+use Rattle.property_aliases.specs.Found.{AreAliasesOf}
+use Rattle.property_aliases.specs.Numbers.{AreNumbersOf}
 
 module _ (a : Aliases) (s : Sources) (named : (key : List ℕ) → index_in a key ≡ index_named s key) where
   key_is : (key : List ℕ) → property_key_in a key ≡ property_key s key
@@ -45,17 +47,14 @@ module _ (a : Aliases) (s : Sources) (named : (key : List ℕ) → index_in a ke
     lone_is : (name : List ℕ) → lone_in a name ≡ lone_of s name
     lone_is name = ap (λ f. or_is f name) (λ i key. lone_key_is key i)
 
-pub returns-clause-aliases : goal.returns-clause-aliases
-returns-clause-aliases c =
-    let s = sources_of c.args.release.now in
-    let a : Aliases = record { numbers = c.in_ok-numbers.numbers; places = c.in_ok-places.places } in
-    let named : (key : List ℕ) → index_in a key ≡ index_named s key = λ key.
-    ap (option_map index_at) (c.in_ok-places.ensures.properties key ∙ ap (λ (names : List (List ℕ)). number_of (built_in_names ++ names) s.properties key) c.in_ok-numbers.ensures.listed.names_are) in
-    record {
-      property = property_is a s named;
-      value = value_is a s named c.in_ok-numbers.ensures.scripts.names_are c.in_ok-numbers.ensures.breaks.names_are c.in_ok-places.ensures.values;
-      lone = lone_is a s named c.in_ok-numbers.ensures.scripts.names_are c.in_ok-numbers.ensures.breaks.names_are c.in_ok-places.ensures.values;
-      listed = c.in_ok-numbers.ensures.listed.names_are;
-      scripts = c.in_ok-numbers.ensures.scripts.names_are;
-      breaks = c.in_ok-numbers.ensures.breaks.names_are;
-    }
+pub placed : (a : Aliases) (s : Sources) → ((key : List ℕ) → index_in a key ≡ index_named s key) → listed_in a ≡ s.listed → scripts_in a ≡ s.scripts → breaks_in a ≡ s.breaks
+    → ((p : Property) (key : List ℕ) → place_in a.places.values p key ≡ number_of (kind_names (scripts_in a) (breaks_in a) (kind_of p)) (flat_map (behind (index_in_names a.places.properties) (index_of p)) s.values) key)
+    → AreAliasesOf a s
+placed a s named listed scripts breaks values = record {
+  property = property_is a s named;
+  value = value_is a s named scripts breaks values;
+  lone = lone_is a s named scripts breaks values;
+  listed = listed;
+  scripts = scripts;
+  breaks = breaks;
+}

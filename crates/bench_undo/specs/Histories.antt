@@ -8,9 +8,9 @@
 -- back_to h earlier          the state after an undo, where these are the earlier states; the same where there is none
 -- undone h                   the state after an undo
 -- AppliesIn result expected old new   what a group is answered and what it leaves: the files that are expected, and the code points
---                            whose records differ; or the rule that is expected, or want of memory, and what was
+--                            whose records differ; or the rule that is expected and what was; what was if memory ran out
 -- UndoesAs result earlier old new   what an undo is answered and what it leaves: the latest earlier state, and the code points whose
---                            records differ; nothing exactly where there is none; after want of memory what was
+--                            records differ; nothing exactly if there is none; what was if memory ran out
 -- UndoCounts earlier h old new   the counter rises by at most the number of code points that depend on the change to the latest earlier
 --                            state, and not where there is none
 -- IsSound files              a release keeps these files, and their rows are valid

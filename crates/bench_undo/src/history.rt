@@ -118,7 +118,7 @@ impl History {
     pub fn bench(&self) -> &Bench
         ensures { result.now ≡ record { current = self.now.files; prepared = self.now.files } }
     {
-        let _release = self.bench.release();
+        self.bench.is_still();
         &self.bench
     }
 

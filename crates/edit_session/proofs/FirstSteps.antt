@@ -1,27 +1,33 @@
 -- The records of the first code points, and of more of them.
-use Rattle.std.proofs.Common.{◌≡◌, ℕ, ◌+◌, ◌-◌, ◌<◌, ◌≤◌, Option, Some, None, Ok, Err, sym, ap, subst, ◌∙◌, arith, inl, inr}
+use Rattle.std.proofs.Common.{◌≡◌, ℕ, ◌+◌, ◌-◌, ◌<◌, ◌≤◌, Option, Some, None, Ok, Err, refl, sym, ap, subst, ◌∙◌, arith, inl, inr}
 use Rattle.std.proofs.lemmas.Bool.{cases_lt}
 use Rattle.std.proofs.lemmas.Bool.Decides.{nat_tests}
 use Rattle.ucd_model.specs.Facts.{Facts}
 use Rattle.ucd_points.specs.Limits.{point_count}
 use Rattle.ucd_model.specs.Predicates.{is_visible_format}
-use Rattle.ucd_model.specs.Records.{Record, record_at, record_or_rule, derived}
+use Rattle.ucd_model.specs.Records.{Record, kept_record, record_at, record_or_rule, derived}
 use Rattle.ucd_model.specs.Uniform.{IsPlain, Uniform}
 use Rattle.ucd_model.specs.Validity.{broken}
 use Rattle.ucd_model.specs.ValidityLaws.{IsValid}
 use Rattle.ucd_model.specs.ValidityProofs.{broken_is_least}
 use Rattle.ucd_model.specs.declared.form.Bad.{Bad as Rule}
+use Rattle.ucd_points.specs.Bounds.{Bounds}
 use Rattle.ucd_points.specs.Stretches.{HoldsTo}
 use Rattle.identifier_closure.specs.UniformProofs.{uniform_derived}
 use Rattle.range_table.specs.Values.{SameValues, with_span}
 use Rattle.edit_session.specs.Benches.{NamesBroken}
-use Rattle.edit_session.specs.FirstRecords.{DerivedBelow, IsFound, SameRecords}
+use Rattle.edit_session.specs.FirstRecords.{DerivedBelow, IsFound, IsRun, IsValidBelow, SameRecords}
+use Rattle.edit_session.specs.declared.first_points.Run.{Run}
 use Rattle.edit_session.specs.declared.open_stop.OpenStop.{OpenStop}
 use Rattle.edit_session.specs.declared.open_stop.OpenStop.TheVariants.{Invalid, Memory}
 
 pub is_point : (c number : ℕ) → number ≡ c → number < 1114112 → c < point_count
 unfolding point_count
 is_point c number same lt = omega (arith, same, lt)
+
+pub all_count : 1114112 ≡ point_count
+unfolding point_count
+all_count = refl
 
 -- ---- records
 
@@ -30,19 +36,58 @@ first_below R F here is same = λ c lt.
     let zero : c ≡ 0 = omega (arith, lt) in
     ap (derived F) zero ∙ is ∙ ap (λ (S : Record). Ok S) (sym (same c (omega (arith, lt))))
 
-pub run_below : (old new : ℕ → Record) (n end : ℕ) (F : ℕ → Facts) (here : Record) → n < end → end ≤ 1114112 → DerivedBelow old n F → SameValues new (with_span old n (end - 1) here)
-    → ((c : ℕ) → n ≤ c → c < end → derived F c ≡ Ok here) → DerivedBelow new end F
-run_below old new n end F here some inside holds put same = λ c lt.
-    elim (cases_lt c n) [
+-- ---- runs
+
+pub run_is : (F : ℕ → Facts) (c end : ℕ) (here : Record) (run : Run) → run.span ≡ record { lo = c; hi = end - 1 } → kept_record run.value ≡ here → c < end → end ≤ 1114112
+    → ((d : ℕ) → c ≤ d → d < end → derived F d ≡ Ok here) → IsRun F run
+run_is F c end here run span record_is some inside same =
+    let lo : run.span.lo ≡ c = ap (λ (s : Bounds). s.lo) span in
+    let hi : run.span.hi ≡ end - 1 = ap (λ (s : Bounds). s.hi) span in
+    record {
+      ordered = omega arith;
+      inside = omega arith;
+      records = λ d from to. same d (omega (arith, from)) (omega (arith, to)) ∙ ap (λ (R : Record). Ok R) (sym record_is);
+    }
+
+-- a run is put behind what is derived already
+pub run_put : (old new : ℕ → Record) (F : ℕ → Facts) (run : Run) → IsRun F run → DerivedBelow old run.span.lo F → SameValues new (with_span old run.span.lo run.span.hi (kept_record run.value)) → DerivedBelow new (run.span.hi + 1) F
+run_put old new F run is holds put = λ c lt.
+    let inside : run.span.hi < 1114112 = is.inside in
+    elim (cases_lt c run.span.lo) [
       | inl less ↦ holds c less ∙ ap (λ (R : Record). Ok R) (sym (put c (omega (arith, lt, inside)) ∙ outside c less))
-      | inr past ↦ same c past lt ∙ ap (λ (R : Record). Ok R) (sym (put c (omega (arith, lt, inside)) ∙ within c past lt))
+      | inr past ↦ is.records c past (omega (arith, lt)) ∙ ap (λ (R : Record). Ok R) (sym (put c (omega (arith, lt, inside)) ∙ within c past lt))
     ]
   where
-    outside : (c : ℕ) → c < n → with_span old n (end - 1) here c ≡ old c
+    outside : (c : ℕ) → c < run.span.lo → with_span old run.span.lo run.span.hi (kept_record run.value) c ≡ old c
     outside c less = grind (arith, nat_tests)
 
-    within : (c : ℕ) → n ≤ c → c < end → with_span old n (end - 1) here c ≡ here
+    within : (c : ℕ) → run.span.lo ≤ c → c < run.span.hi + 1 → with_span old run.span.lo run.span.hi (kept_record run.value) c ≡ kept_record run.value
     within c past lt = grind (arith, nat_tests)
+
+-- no point up to the end of a run breaks a rule
+pub run_valid : (R : ℕ → Record) (F : ℕ → Facts) (run : Run) (end : ℕ) → IsRun F run → DerivedBelow R run.span.lo F → end ≡ run.span.hi + 1 → IsValidBelow F end
+run_valid R F run end is holds past = λ c lt.
+    elim (cases_lt c run.span.lo) [
+      | inl less ↦ (R c, holds c less)
+      | inr here ↦ (kept_record run.value, is.records c here (omega (arith, lt, past)))
+    ]
+
+-- two runs of one record are one
+pub run_joined : (F : ℕ → Facts) (run next left : Run) → IsRun F run → IsRun F next → next.span.lo ≡ run.span.hi + 1 → kept_record run.value ≡ kept_record next.value
+    → left.span.lo ≡ run.span.lo → left.span.hi ≡ next.span.hi → kept_record left.value ≡ kept_record run.value → IsRun F left
+run_joined F run next left is then follows same lo hi record_is =
+    let low : run.span.lo ≤ run.span.hi = is.ordered in
+    let high : next.span.lo ≤ next.span.hi = then.ordered in
+    let inside : next.span.hi < 1114112 = then.inside in
+    record {
+      ordered = omega arith;
+      inside = omega arith;
+      records = λ c from to.
+          elim (cases_lt c next.span.lo) [
+            | inl less ↦ is.records c (omega (arith, from)) (omega (arith, less)) ∙ ap (λ (R : Record). Ok R) (sym record_is)
+            | inr past ↦ then.records c past (omega (arith, to)) ∙ ap (λ (R : Record). Ok R) (sym (record_is ∙ same))
+          ];
+    }
 
 ok_is : (R S : Record) (b : Option Rule) → record_or_rule R b ≡ Ok S → R ≡ S
 ok_is R S None e = cc
@@ -57,15 +102,15 @@ all_records R S n F all holds same = λ c lt. same c lt ∙ sym (ok_is (record_a
 
 -- ---- a point without a record
 
-pub stops : (R : ℕ → Record) (n : ℕ) (F : ℕ → Facts) (stop : OpenStop) → n < 1114112 → DerivedBelow R n F → IsFound F n (Err stop) → NamesBroken stop F
+pub stops : (n : ℕ) (F : ℕ → Facts) (stop : OpenStop) → n < 1114112 → IsValidBelow F n → IsFound F n (Err stop) → NamesBroken stop F
 unfolding point_count
-stops R n F (Invalid rule point) lt holds found =
+stops n F (Invalid rule point) lt holds found =
     (broken_is_least F (record { point = point; rule = rule })).1
-    (record { point = subst (λ k. k < point_count) (sym found.0) lt; rule = ap (derived F) found.0 ∙ found.1; least = λ c below. (R c, holds c (subst (λ k. c < k) found.0 below)) })
-stops R n F Memory lt holds found = tt
+    (record { point = subst (λ k. k < point_count) (sym found.0) lt; rule = ap (derived F) found.0 ∙ found.1; least = λ c below. holds c (subst (λ k. c < k) found.0 below) })
+stops n F Memory lt holds found = tt
 
 pub stops_first : (F : ℕ → Facts) (stop : OpenStop) → IsFound F 0 (Err stop) → NamesBroken stop F
-stops_first F stop found = stops (record_at F) 0 F stop (omega arith) (λ c lt. absurd (omega (arith, lt))) found
+stops_first F stop found = stops 0 F stop (omega arith) (λ c lt. absurd (omega (arith, lt))) found
 
 -- ---- points that stand together
 

@@ -6,3 +6,4 @@ mod CountLemmas
 mod GroupLemmas
 mod PageLemmas
 mod BackLemmas
+mod CutLemmas

@@ -3,13 +3,17 @@
 -- F is the facts of each code point.
 -- SameRecords R S              the records of the code points are the same
 -- DerivedBelow R n F           R gives each point below n the record that is derived of it
--- IsFound F c result           the result is the record of c, or in its place c with the first rule that it breaks; want of memory
---                              says nothing
-use Rattle.std.specs.Prelude.{◌≡◌, ℕ, ◌<◌, Result, Ok, Err, ⊤}
+-- IsValidBelow F n             no point below n breaks a rule
+-- IsRun F run                  the points of the run have its record
+-- StandsBehind F R left end    R gives each point before the run `left` the record that is derived of it, and the run goes up to `end`
+-- IsFound F c result           the result is the record of c, or in its place c with the first rule that it breaks; no claim if
+--                              memory ran out
+use Rattle.std.specs.Prelude.{◌≡◌, ℕ, ◌<◌, ◌≤◌, Result, Ok, Err, ⊤}
 use Rattle.ucd_model.specs.Facts.{Facts}
 use Rattle.ucd_points.specs.Limits.{point_count}
 use Rattle.ucd_model.specs.Records.{Record, derived, kept_record}
 use Rattle.ucd_model.specs.declared.records.Record.{Record as KeptRecord}
+use Rattle.edit_session.specs.declared.first_points.Run.{Run}
 use Rattle.edit_session.specs.declared.open_stop.OpenStop.{OpenStop}
 use Rattle.edit_session.specs.declared.open_stop.OpenStop.TheVariants.{Invalid, Memory}
 
@@ -18,6 +22,19 @@ SameRecords R S = (c : ℕ) → c < point_count → R c ≡ S c
 
 abbrev pub DerivedBelow : (ℕ → Record) → ℕ → (ℕ → Facts) → Type 0
 DerivedBelow R n F = (c : ℕ) → c < n → derived F c ≡ Ok (R c)
+
+abbrev pub IsValidBelow : (ℕ → Facts) → ℕ → Type 0
+IsValidBelow F n = (c : ℕ) → c < n → (R : Record) × (derived F c ≡ Ok R)
+
+pub record IsRun (F : ℕ → Facts) (run : Run) : Type 0 where
+  pub ordered : run.span.lo ≤ run.span.hi
+  pub inside : run.span.hi < 1114112
+  pub records : (c : ℕ) → run.span.lo ≤ c → c ≤ run.span.hi → derived F c ≡ Ok (kept_record run.value)
+
+pub record StandsBehind (F : ℕ → Facts) (R : ℕ → Record) (left : Run) (end : ℕ) : Type 0 where
+  pub below : DerivedBelow R left.span.lo F
+  pub run : IsRun F left
+  pub ends : left.span.hi ≡ end
 
 abbrev pub IsFound : (ℕ → Facts) → ℕ → Result KeptRecord OpenStop → Type 0
 IsFound F c (Ok value) = derived F c ≡ Ok (kept_record value)

@@ -16,11 +16,12 @@
 -- HasTouched old new before after   outside of the spans behind, the facts of the rows are the same of both files; and the spans
 --                              behind reach all that those before reach
 -- AnswersAs result expected next   what operations are answered, and the files that are next then: those that are expected; or the
---                              rule that is expected; want of memory says nothing
+--                              rule that is expected; no claim if memory ran out
 -- CountsAs expected F old new   the counter rises by at most the number of code points that depend on the change from the facts F
---                              to those of the expected files, and not where an operation is refused
+--                              to those of the expected files, and not if an operation is refused
 -- AppliesAs result expected old new   what a group is answered and what it leaves: the files that are expected, now and next, and
---                              the code points whose records differ; or the rule that is expected, or want of memory, and what was
+--                              the code points whose records differ; or the rule that is expected and what was; what was if memory ran
+--                              out
 use Rattle.std.specs.Prelude.{◌≡◌, ℕ, ◌+◌, false, not, List, [], ◌∷◌, Option, Some, None, Result, Ok, Err, filter}
 use Rattle.std.specs.List.{list_any, range_with_len}
 use Rattle.ucd_points.specs.Bounds.{Bounds}

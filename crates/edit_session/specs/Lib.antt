@@ -3,6 +3,7 @@ pub mod Benches
 pub mod Questions
 pub mod Derivations
 pub mod Groups
+pub mod Unchanged
 pub mod Standing
 pub mod CountProofs
 pub mod Reverts

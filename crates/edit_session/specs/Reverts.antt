@@ -4,7 +4,7 @@
 -- Keeps patch after before     the patch leads from the files after a group back to those before it, and is such a way
 -- first_of result              the first of two answers; or why there is none
 -- RevertsAs result files old new   what a revert is answered and what it leaves: these files, now and next, and the code points whose
---                              records differ; after want of memory all is as it was
+--                              records differ; all is as it was if memory ran out
 use Rattle.std.specs.Prelude.{◌≡◌, List, None, Result, Ok, Err}
 use Rattle.ucd_points.specs.declared.memory.Memory.{Memory}
 use Rattle.ucd_model.specs.Validity.{first_broken}

@@ -10,6 +10,7 @@ ghost use Rattle.paged_table.specs.Pages.{IsEvenBlock, IsPageOf};
 ghost use Rattle.rederivation.specs.Turned.{CountsWithin};
 ghost use Rattle.release_rows.specs.Operations.{IsOp};
 ghost use Rattle.release_rows.specs.Patches.{back};
+ghost use Rattle.ucd_model.specs.Cuts.{IsCut};
 ghost use Rattle.ucd_points.specs.Limits.{point_count};
 ghost use Rattle.edit_session.specs.Benches.{bench_facts, bench_record, bench_word, HasNothingPrepared, IsUnbroken, NamesBroken};
 ghost use Rattle.edit_session.specs.Groups.{AppliesAs, CountsAs, after_ops, files_facts, group_answer, group_limit};
@@ -29,7 +30,10 @@ use release_rows::{Op, Patch, Release};
 use std::alloc::Global;
 use std::marker::Model;
 use std::sync::ledger::Ledger;
-use ucd_model::{FactView, FactsRef, Kind, Memory, Point, Record, Records, Steps};
+use ucd_model::{
+    Category, Copied, FactView, FactsRef, Flags, Kind, Memory, Point, Record, Records, Span, Spans,
+    Steps,
+};
 use uniform_facts::UniformFacts;
 
 /// A valid release, with the facts of its rows, the records of all code points and, once a group came, what each of them
@@ -82,7 +86,7 @@ impl Bench {
 
     /// Carries out the operations of a group, in order, or none of them. The rows between two operations need not be
     /// valid; those after the last one are. The counter of steps rises by at most the number of code points that depend
-    /// on the change, and does not rise if an operation is refused: no other code point is derived.
+    /// on the change, and does not rise if an operation is refused.
     ///
     /// - `Refused(Key { rule, op })`: the first operation that breaks a rule on keys or spans, counted from 1.
     /// - `Refused(Valid { rule, point })`: the rows after the last operation are not valid. The least code point that
@@ -129,7 +133,7 @@ impl Bench {
     }
 
     /// Goes a way back: its items come back to their places, with their bytes. The counter of steps rises by at most the
-    /// number of code points that depend on the change: no other code point is derived.
+    /// number of code points that depend on the change.
     ///
     /// - `Memory`: memory ran out. The bench is as it was.
     pub fn revert<L: Ledger>(
@@ -156,6 +160,24 @@ impl Bench {
         self.derivation.records.last_alike(c)
     }
 
+    /// Spans that follow one another over all code points, in each of which the records are equal. Records are compared only
+    /// where a stretch ends that is held as one.
+    ///
+    /// - `Memory`: memory ran out.
+    pub fn pieces(&self, alloc: Global) -> Result<Spans, Memory>
+        ensures { IfOk result (λ pieces. IsCut (bench_record self.now) 0 point_count pieces) }
+    {
+        let mut pieces = Spans::new(alloc);
+        let mut number = 0;
+        'pieces: while number < Point::COUNT {
+            let lo = Point::at(number);
+            let hi = self.last_alike(lo);
+            pieces.push(Span { lo, hi })?;
+            number = hi.number() + 1;
+        }
+        Ok(pieces)
+    }
+
     /// The release, which is valid.
     pub fn release(&self) -> &Release
         ensures same { result.now ≡ self.now }
@@ -163,6 +185,13 @@ impl Bench {
         ensures still { HasNothingPrepared result.now }
     {
         &self.release
+    }
+
+    /// A law: between two calls nothing is prepared, so what is next is what is now.
+    pub fn is_still(&self)
+        ensures { HasNothingPrepared self.now }
+    {
+        self.release();
     }
 
     /// The tables of the facts of its rows, now and next.
@@ -185,6 +214,18 @@ impl Bench {
             Some(page) => Some((words.pool(), page)),
             None => None,
         }
+    }
+}
+
+/// A bench over the same release, with its facts and records. No code point is derived, so no step is counted.
+impl Copied for Bench {
+    fn copied(&self, alloc: Global) -> Result<Bench, Memory> {
+        let release = self.release.copied(alloc)?;
+        let derivation = self.derivation.copied(alloc)?;
+        Ok(Bench {
+            release,
+            derivation,
+        })
     }
 }
 
@@ -226,6 +267,26 @@ impl FactView for Bench {
 
     fn mapping(&self, c: Point) -> &[Point] {
         self.derivation.tables.mapping(c)
+    }
+
+    fn category(&self, c: Point) -> Category {
+        self.derivation.tables.category(c)
+    }
+
+    fn flags(&self, c: Point) -> Flags {
+        self.derivation.tables.flags(c)
+    }
+
+    fn folding(&self, c: Point) -> Option<&[Point]> {
+        self.derivation.tables.folding(c)
+    }
+
+    fn simple_folding(&self, c: Point) -> Point {
+        self.derivation.tables.simple_folding(c)
+    }
+
+    fn is_unmapped(&self, c: Point) -> bool {
+        self.derivation.tables.is_unmapped(c)
     }
 }
 

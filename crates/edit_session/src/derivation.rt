@@ -23,7 +23,7 @@ use rederivation::turn;
 use release_rows::Release;
 use std::alloc::Global;
 use std::sync::ledger::Ledger;
-use ucd_model::{Points, Spans, Steps};
+use ucd_model::{Memory, Points, Spans, Steps};
 
 /// The facts of a release, the records that are derived from them, and, once a group came, what each code point asks of
 /// them; now and next.
@@ -57,6 +57,31 @@ impl Derivation {
             Ok(made) => boxed(alloc, made),
             Err(stop) => Err(stop),
         }
+    }
+
+    /// The same facts and records, now and next. What the code points ask is listed anew once a group comes.
+    ///
+    /// - `Memory`: memory ran out.
+    pub fn copied(&self, alloc: Global) -> Result<Box<Derivation>, Memory>
+        ensures now { IfOk result (λ copy. (F : ℕ → Facts) → IsNow F self.now → IsNow F copy.value) }
+        ensures still { IfOk result (λ copy. IsStill self.now → IsStill copy.value) }
+    {
+        let copy = self.unboxed_copy(alloc)?;
+        Ok(Box::new(alloc, copy)?)
+    }
+
+    /// The same, not in a box.
+    fn unboxed_copy(&self, alloc: Global) -> Result<Derivation, Memory>
+        ensures now { IfOk result (λ copy. (F : ℕ → Facts) → IsNow F self.now → IsNow F copy) }
+        ensures still { IfOk result (λ copy. IsStill self.now → IsStill copy) }
+    {
+        let tables = self.tables.copied(alloc)?;
+        let records = self.records.copied(alloc)?;
+        Ok(Derivation {
+            tables,
+            records,
+            questions: Questions::new(alloc),
+        })
     }
 
     /// Makes what is next follow from the rows of a release next, and answers the code points whose records differ,

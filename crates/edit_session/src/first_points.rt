@@ -1,16 +1,17 @@
 //! The derivation of all code points, from the first one on.
 
-ghost use Rattle.std.specs.Prelude.{◌≡◌, ℕ, ◌+◌, ◌-◌, ◌<◌, ◌≤◌, Ok, IfOk, IfErr, OnOk};
+ghost use Rattle.std.specs.Prelude.{◌≡◌, ℕ, ◌+◌, ◌-◌, ◌<◌, ◌≤◌, Ok, IfOk, IfErr, IsTrue, OnOk};
 ghost use Rattle.code_facts.specs.FactTables.{tables_facts};
 ghost use Rattle.paged_table.specs.Paged.{values_now};
 ghost use Rattle.range_table.specs.Values.{SameValues};
 ghost use Rattle.record_list.specs.Records.{record_next, record_now};
 ghost use Rattle.ucd_points.specs.Limits.{point_count};
+ghost use Rattle.ucd_model.specs.Facts.{Facts};
 ghost use Rattle.ucd_model.specs.Predicates.{is_visible_format};
-ghost use Rattle.ucd_model.specs.Records.{derived, record_at};
+ghost use Rattle.ucd_model.specs.Records.{derived, kept_record, record_at};
 ghost use Rattle.ucd_model.specs.ValidityLaws.{IsValid};
 ghost use Rattle.edit_session.specs.Benches.{NamesBroken};
-ghost use Rattle.edit_session.specs.FirstRecords.{DerivedBelow, IsFound, SameRecords};
+ghost use Rattle.edit_session.specs.FirstRecords.{DerivedBelow, IsFound, IsRun, IsValidBelow, SameRecords, StandsBehind};
 
 use crate::open_stop::OpenStop;
 use code_facts::FactTables;
@@ -19,7 +20,14 @@ use paged_table::PagedTable;
 use record_list::RecordTable;
 use std::alloc::Global;
 use std::sync::ledger::Ledger;
-use ucd_model::{FactView, FormStop, Point, Record, Span, Steps, point_count};
+use ucd_model::{FactView, FormStop, Memory, Point, Record, Span, Steps};
+
+/// Code points that stand together, and the record that each of them has.
+#[derive(Drop)]
+struct Run {
+    span: Span,
+    value: Record,
+}
 
 /// The records that are derived from the facts of all code points. Code points that stand together and are uniform are
 /// derived in one step. UAX #44, section 5.3.
@@ -37,14 +45,8 @@ pub fn derive_all<L: Ledger>(
     ensures invalid { IfErr result (λ stop. NamesBroken stop (tables_facts values_now tables.now)) }
     ensures steps { steps.new ≤ steps.old + point_count }
 {
-    let count = point_count();
     let mut table = derive_first(alloc, tables, steps)?;
-    let mut number = 1;
-    'runs: while number < count {
-        let c = Point::at(number);
-        let end = derive_run(alloc, tables, c, &mut table, steps)?;
-        number = end;
-    }
+    derive_behind(alloc, tables, &mut table, steps)?;
     table.commit();
     Ok(table)
 }
@@ -68,19 +70,39 @@ fn derive_first<L: Ledger>(
     }
 }
 
-/// Derives a code point in one step. It gives that record next to the code point and to those behind it that have the
-/// same record, as far as few look-ups tell. The answer is one past the last of them.
+/// Gives the code points behind the first one the records that are derived of them, next. Runs that follow one another and
+/// have one record, as those of Hangul syllables, are given it together.
+fn derive_behind<L: Ledger>(
+    alloc: Global,
+    tables: &FactTables<PagedTable>,
+    table: &mut RecordTable,
+    steps: &mut Steps<L>,
+) -> Result<(), OpenStop>
+    requires { DerivedBelow (record_next table.old) 1 (tables_facts values_now tables.now) }
+    ensures records { OnOk result (DerivedBelow (record_next table.new) 1114112 (tables_facts values_now tables.now)) }
+    ensures invalid { IfErr result (λ stop. NamesBroken stop (tables_facts values_now tables.now)) }
+    ensures steps { steps.new + 1 ≤ steps.old + 1114112 }
+{
+    let mut run = derive_run(alloc, tables, Point::at(1), steps)?;
+    'runs: while run.span.last() + 1 < Point::COUNT {
+        let next = derive_run(alloc, tables, Point::at(run.span.last() + 1), steps)?;
+        run = put_behind(table, run, next)?;
+    }
+    table.prepare_span(run.span, run.value)?;
+    Ok(())
+}
+
+/// Derives a code point in one step. The answer is its record, with the code points from it on that have the same record,
+/// as far as few look-ups tell.
 fn derive_run<L: Ledger>(
     alloc: Global,
     tables: &FactTables<PagedTable>,
     c: Point,
-    table: &mut RecordTable,
     steps: &mut Steps<L>,
-) -> Result<u32, OpenStop>
-    requires { DerivedBelow (record_next table.old) c (tables_facts values_now tables.now) }
-    ensures from { IfOk result (λ end. c < end) }
-    ensures inside { IfOk result (λ end. end ≤ 1114112) }
-    ensures records { IfOk result (λ end. DerivedBelow (record_next table.new) end (tables_facts values_now tables.now)) }
+) -> Result<Run, OpenStop>
+    requires { IsValidBelow (tables_facts values_now tables.now) c }
+    ensures first { IfOk result (λ run. run.span.lo ≡ c) }
+    ensures run { IfOk result (IsRun (tables_facts values_now tables.now)) }
     ensures invalid { IfErr result (λ stop. NamesBroken stop (tables_facts values_now tables.now)) }
     ensures step { steps.new ≡ steps.old + 1 }
 {
@@ -88,10 +110,49 @@ fn derive_run<L: Ledger>(
     match derive_one(alloc, tables, c, steps) {
         Ok(value) => {
             let end = end_of_alike(tables, c);
-            table.prepare_span(span_up_to(c, end), value)?;
-            Ok(end)
+            Ok(Run {
+                span: span_up_to(c, end),
+                value,
+            })
         }
         Err(stop) => Err(stop),
+    }
+}
+
+/// Two runs that follow one another as one, if they have one record. Else the first is given its record next, and the
+/// answer is the second.
+///
+/// - `Memory`: memory ran out. What is next stays.
+fn put_behind(table: &mut RecordTable, run: Run, next: Run) -> Result<Run, Memory>
+    requires { next.span.lo ≡ run.span.hi + 1 }
+    ensures { IfOk result (λ left. (F : ℕ → Facts) → IsRun F run → IsRun F next → DerivedBelow (record_next table.old) run.span.lo F
+        → StandsBehind F (record_next table.new) left next.span.hi) }
+{
+    if has_one_record(&run, &next) {
+        return Ok(Run {
+            span: joined(run.span, next.span),
+            value: run.value,
+        });
+    }
+    table.prepare_span(run.span, run.value)?;
+    Ok(next)
+}
+
+/// Whether two runs have one record.
+fn has_one_record(run: &Run, next: &Run) -> bool
+    ensures { IsTrue result → kept_record run.now.value ≡ kept_record next.now.value }
+{
+    run.value.is_same(&next.value)
+}
+
+/// Two spans that follow one another as one.
+fn joined(span: Span, next: Span) -> Span
+    requires { next.lo ≡ span.hi + 1 }
+    ensures { result ≡ record { lo = span.lo; hi = next.hi } }
+{
+    Span {
+        lo: span.lo,
+        hi: next.hi,
     }
 }
 

@@ -14,7 +14,7 @@ pub enum OpenStop {
         /// The least code point that breaks a rule.
         point: Point,
     },
-    /// Memory was wanted, and there was none.
+    /// Memory ran out.
     Memory,
 }
 

@@ -1,7 +1,6 @@
-use Rattle.std.proofs.Common.{◌≡◌, List, ap, subst, ◌∙◌}
+use Rattle.std.proofs.Common.{◌≡◌, List, ap, ◌∙◌}
 use Rattle.release_rows.specs.FileItems.{FileItem}
 use Rattle.release_rows.specs.Releases.{ReleaseItems}
-use Rattle.edit_session.specs.Benches.{HasNothingPrepared}
 use Rattle.bench_undo.specs.Histories.{HistoryState}
 use Rattle.bench_undo.proofs.history.History.bench.Goals as goal
 
@@ -9,6 +8,6 @@ use Rattle.bench_undo.proofs.history.History.bench.Goals as goal
 pub returns : goal.returns
 returns c =
     let bench : ReleaseItems = c.self.inside.bench in
-    let still : bench.prepared ≡ bench.current = subst HasNothingPrepared c.release-release.ensures.same c.release-release.ensures.still in
+    let still : bench.prepared ≡ bench.current = c.is_still.ensures in
     ap (λ (files : List (List FileItem)). let r : ReleaseItems = record { current = bench.current; prepared = files } in r) still
     ∙ ap (λ (s : HistoryState). let r : ReleaseItems = record { current = s.files; prepared = s.files } in r) c.self.view_is

@@ -1,0 +1,14 @@
+use Rattle.std.proofs.Common.{◌-◌, ◌≤◌}
+use Rattle.ucd_model.specs.Cuts.{IsCut}
+use Rattle.edit_session.specs.Benches.{bench_record}
+use Rattle.edit_session.proofs.bench.Bench.pieces.Given as goal
+
+-- the pieces go up to this number
+abbrev pub invariant-pieces : goal.invariant-pieces
+invariant-pieces l = record {
+  cut : IsCut (bench_record l.self) 0 l.number l.pieces;
+  within : l.number ≤ 1114112;
+}
+
+abbrev pub decreases-pieces : goal.decreases-pieces
+decreases-pieces l = 1114112 - l.number

@@ -1,6 +1,7 @@
 //! Buckets of a sorted list: hints where a number is to be looked for. No answer depends on them.
 
 use std::alloc::Global;
+use ucd_points::Memory;
 
 /// How many buckets there are.
 const BUCKETS: u64 = 4096;
@@ -39,6 +40,16 @@ impl Buckets {
         buckets
     }
 
+    /// The same buckets.
+    ///
+    /// - `Memory`: memory ran out.
+    pub fn copied(&self, alloc: Global) -> Result<Buckets, Memory> {
+        Ok(Buckets {
+            begins: Vec::from_slice(alloc, &self.begins)?,
+            bits: self.bits,
+        })
+    }
+
     /// Puts where each bucket begins.
     fn fill(&mut self, sorted: &[u64]) {
         let mut at = 0;
@@ -57,7 +68,7 @@ impl Buckets {
         number >> (self.bits % 64)
     }
 
-    /// Where the bucket of a number begins and ends in a list of so many keys; the whole list where nothing is known.
+    /// Where the bucket of a number begins and ends in a list of so many keys; the whole list if nothing is known.
     pub fn place(&self, number: u64, keys: usize) -> (usize, usize) {
         let at = (self.bucket(number) % BUCKETS) as usize;
         match (self.begins.get(at), self.begins.get(at + 1)) {

@@ -1,6 +1,6 @@
 //! What a set of keys has, and which key is the next one.
 
-ghost use Rattle.std.specs.Prelude.{◌≡◌, ◌≤◌, ◌<◌, ℕ, ◌==◌, ◌||◌, false, length, slice_index_or, IsTrue, OnErr, OnOk};
+ghost use Rattle.std.specs.Prelude.{◌≡◌, ◌≤◌, ◌<◌, ℕ, ◌==◌, ◌||◌, false, length, slice_index_or, IfOk, IsTrue, OnErr, OnOk};
 ghost use Rattle.std.specs.Ordering.{nat_cmp};
 ghost use Rattle.std.specs.BTreeSet.{contains};
 ghost use Rattle.std.specs.List.Sorted.{IsStrictlyIncreasing};
@@ -38,6 +38,23 @@ impl KeySet {
             more: BTreeSet::new(alloc),
             buckets,
         }
+    }
+
+    /// The same set.
+    ///
+    /// - `Memory`: memory ran out.
+    #[tactic(auto, unfolding(crate::specs::Keys::has))]
+    pub fn copied(&self, alloc: Global) -> Result<KeySet, Memory>
+        ensures { IfOk result (λ copy. (k : ℕ) → has copy k ≡ has self.now k) }
+    {
+        let sorted = Vec::from_slice(alloc, &self.sorted)?;
+        let more = self.more.clone()?;
+        let buckets = self.buckets.copied(alloc)?;
+        Ok(KeySet {
+            sorted,
+            more,
+            buckets,
+        })
     }
 
     /// Puts a key in. Its time grows with the logarithm of the number of keys that were put in.

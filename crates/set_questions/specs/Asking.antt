@@ -1,8 +1,8 @@
 -- What answers questions.
 --
 -- CanAnswer files aliases holds   the aliases are those of the rows of these files, and the tests hold as these files say
--- IsUnread stop why               a refusal by the rule and the place of a text that is no set; want of memory says nothing
--- IsUnnamed stop why              a refusal by the rule and the place of a name that means nothing; want of memory says nothing
+-- IsUnread stop why               a refusal by the rule and the place of a text that is no set; no claim if memory ran out
+-- IsUnnamed stop why              a refusal by the rule and the place of a name that means nothing; no claim if memory ran out
 use Rattle.std.specs.Prelude.{◌≡◌, ℕ, Bool, List, ⊤}
 use Rattle.property_aliases.specs.Found.{AreAliasesOf}
 use Rattle.property_aliases.specs.declared.aliases.Aliases.{Aliases}

@@ -9,7 +9,7 @@
 -- parsed_answer files tree        the same of what a text is read as; the fault of the text where it is no set
 -- question_answer files text      what a question of this text is answered on these files: the members of its set as maximal ascending
 --                                 spans; or the fault of the text, and if it has none, the first name without meaning
--- AskedAs result expected         the spans, or the rule and the place, are those that were expected; want of memory says nothing
+-- AskedAs result expected         the spans, or the rule and the place, are those that were expected; no claim if memory ran out
 use Rattle.std.specs.Prelude.{◌≡◌, ℕ, Bool, ◌&&◌, nat_lt, List, Result, Ok, Err, ⊤}
 use Rattle.ucd_points.specs.Bounds.{Bounds}
 use Rattle.ucd_points.specs.Limits.{point_count}

@@ -26,6 +26,6 @@ pub struct AskFault {
 pub enum AskStop {
     /// It is refused.
     Fault(AskFault),
-    /// Memory was wanted, and there was none.
+    /// Memory ran out.
     Memory,
 }

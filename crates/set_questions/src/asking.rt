@@ -3,7 +3,6 @@
 ghost use Rattle.std.specs.Prelude.{◌≡◌, ◌≤◌, IfOk};
 ghost use Rattle.edit_session.specs.Benches.{bench_record};
 ghost use Rattle.release_rows.specs.Releases.{rows_now};
-ghost use Rattle.ucd_model.specs.Cuts.{IsCut};
 ghost use Rattle.ucd_points.specs.Limits.{point_count};
 ghost use Rattle.set_questions.specs.Asking.{IsUnnamed, IsUnread};
 ghost use Rattle.set_questions.specs.Questions.{AskedAs, files_hold, question_answer, tree_answer};
@@ -11,6 +10,7 @@ ghost use Rattle.set_questions.specs.RowNames.{AreRowNames};
 ghost use Rattle.set_questions.specs.SetTexts.{members_in};
 ghost use Rattle.unicodeset_eval.specs.Found.{AreRowSets};
 ghost use Rattle.unicodeset_eval.specs.Indexes.{index_holds};
+ghost use Rattle.unicodeset_eval.specs.RecordPieces.{ArePiecesOf};
 ghost use Rattle.unicodeset_parser.specs.Views.{tree_view};
 
 use crate::ask_stop::{AskFault, AskRule, AskStop};
@@ -18,8 +18,8 @@ use crate::row_names::RowNames;
 use edit_session::Bench;
 use std::alloc::Global;
 use std::marker::Model;
-use ucd_model::{Memory, Span, Spans};
-use unicodeset_eval::{EvalStop, RowSets, SetIndex, eval_over};
+use ucd_model::{Memory, Spans};
+use unicodeset_eval::{EvalStop, RecordPieces, RowSets, SetIndex, eval_over};
 use unicodeset_parser::{Expr, SetStop, parse};
 
 /// What answers questions on the release of a bench: the meaning of names and the sets of tests, by its rows and its records.
@@ -36,6 +36,7 @@ impl<'b> Model for Asking<'b> {
     ghost use Rattle.edit_session.specs.Benches.{bench_record};
     ghost use Rattle.release_rows.specs.FileItems.{FileItem};
     ghost use Rattle.unicodeset_eval.specs.Indexes.{index_holds};
+    ghost use Rattle.unicodeset_eval.specs.RecordPieces.{ArePiecesOf};
     ghost use Rattle.set_questions.specs.Asking.{CanAnswer};
 
     ghost Value = { List (List FileItem) };
@@ -46,20 +47,16 @@ impl<'b> Model for Asking<'b> {
 }
 
 /// The sets of all tests by the rows of a bench and by its pieces of equal records.
-///
-/// - `Memory`: memory ran out.
 fn index_of<'b>(
-    alloc: Global,
     bench: &'b Bench,
-    pieces: &[Span],
+    pieces: &'b RecordPieces,
     rows: &'b RowSets,
-) -> Result<SetIndex<'b, Bench>, Memory>
-    requires pieces { IsCut (bench_record bench.now) 0 point_count pieces.now }
+) -> SetIndex<'b, Bench>
+    requires pieces { ArePiecesOf pieces.now (bench_record bench.now) }
     requires rows { AreRowSets rows.now (rows_now bench.now) }
-    ensures { IfOk result (λ index. index_holds bench_record index ≡ files_hold bench.now.current) }
+    ensures { index_holds bench_record result ≡ files_hold bench.now.current }
 {
-    let index = SetIndex::of(alloc, bench, pieces, bench.release(), rows)?;
-    Ok(index)
+    SetIndex::of(bench, pieces, bench.release(), rows)
 }
 
 /// Why a text is refused that is no set.
@@ -90,25 +87,17 @@ fn unnamed(stop: EvalStop) -> AskStop
 
 impl<'b> Asking<'b> {
     /// What answers questions on the release of a bench, whose pieces of equal records these are; the names are those of its
-    /// rows.
-    ///
-    /// - `Memory`: memory ran out.
-    pub fn of(
-        alloc: Global,
-        bench: &'b Bench,
-        pieces: &[Span],
-        names: &'b RowNames,
-    ) -> Result<Asking<'b>, Memory>
-        requires pieces { IsCut (bench_record bench.now) 0 point_count pieces.now }
+    /// rows. It takes no memory.
+    pub(crate) fn of(bench: &'b Bench, pieces: &'b RecordPieces, names: &'b RowNames) -> Asking<'b>
+        requires pieces { ArePiecesOf pieces.now (bench_record bench.now) }
         requires names { AreRowNames names.now bench.now.current }
-        ensures { IfOk result (λ asking. asking ≡ bench.now.current) }
+        ensures { result ≡ bench.now.current }
     {
-        let index = index_of(alloc, bench, pieces, &names.sets)?;
-        Ok(Asking {
+        Asking {
             bench,
             names,
-            index,
-        })
+            index: index_of(bench, pieces, &names.sets),
+        }
     }
 
     /// The members of the set of this text, as maximal ascending spans. UTS #35, "Unicode Sets".

@@ -5,6 +5,7 @@
 -- no_points                   the set without members
 -- has_at sets k c             whether the set with number k has c; never where the number is not used
 -- AreRowSets sets rows        the sets of scripts, of word breaks and of listed properties have the code points that the rows give
+-- AreSetsBut sets edited rows  the sets are those of rows of which only the edited files have others than these
 -- says R sets test c          what the records and these sets say of c
 use Rattle.std.specs.Prelude.{◌≡◌, ℕ, ◌<◌, Bool, true, false, not, ◌==◌, nat_lt, List, [], slice_index_or}
 use Rattle.ucd_model.specs.Facts.{Sources}
@@ -13,7 +14,9 @@ use Rattle.ucd_model.specs.Records.{Record}
 use Rattle.ucd_model.specs.Values.{script_at, word_break_at}
 use Rattle.ucd_model.specs.declared.category.Category.TheVariants.{Cn}
 use Rattle.ucd_points.specs.declared.files.SourceFile.TheVariants.{PropList, Scripts, WordBreakProperty}
+use Rattle.property_aliases.specs.Edits.{AreSameBut}
 use Rattle.property_aliases.specs.Sources.{break_names, script_names}
+use Rattle.property_aliases.specs.declared.edited.Edited.{Edited}
 use Rattle.property_aliases.specs.declared.property.Test.{Test}
 use Rattle.property_aliases.specs.declared.property.Test.TheVariants as test
 use Rattle.unicodeset_eval.specs.Edges.{Edges, has}
@@ -34,6 +37,11 @@ pub record AreRowSets (sets : RowSets) (rows : Sources) : Type 0 where
   pub scripts : (k c : ℕ) → c < 1114112 → has_at sets.scripts.items k c ≡ is_numbered (script_names (rows Scripts)) k (script_at (rows Scripts) c)
   pub breaks : (k c : ℕ) → c < 1114112 → has_at sets.breaks.items k c ≡ is_numbered (break_names (rows WordBreakProperty)) k (word_break_at (rows WordBreakProperty) c)
   pub listed : (k c : ℕ) → has_at sets.listed.items k c ≡ is_listed (rows PropList) k c
+
+pub record AreSetsBut (sets : RowSets) (edited : Edited) (rows : Sources) : Type 0 where
+  pub old : Sources
+  pub are : AreRowSets sets old
+  pub same : AreSameBut edited old rows
 
 abbrev pub says : (ℕ → Record) → RowSets → Test → ℕ → Bool
 says R sets test.Any c = true

@@ -9,6 +9,7 @@ pub mod Tests
 pub mod TestExamples
 pub mod PieceSets
 pub mod RecordPieces
+pub mod PiecesAgain
 pub mod Found
 pub mod Indexes
 pub mod ValueRows

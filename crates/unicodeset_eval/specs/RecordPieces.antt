@@ -6,7 +6,9 @@
 -- PieceValue               where a piece begins, and the record of its code points
 -- piece_value p            a piece that the code holds
 -- piece_at R s             the piece of the span s, throughout which R is the same
--- AreCut R pieces          the pieces are those of a cut of all code points into spans of equal records
+-- AreCutTo R n pieces      the pieces are those of a cut of the code points before n into spans of equal records
+-- AreCut R pieces          the same of all code points
+-- ArePiecesOf pieces R     these are such pieces
 -- at_first f ps            what f says of the first piece
 -- piece_turns n f b ps     the numbers at which f turns, over pieces; b is what it is before them, and from n on it is false
 -- tells_unfolded           no test asks for an NFKC_Casefold
@@ -28,6 +30,7 @@ use Rattle.unicodeset_eval.specs.Merges.{emit}
 use Rattle.unicodeset_eval.specs.PieceSets.{piece_edges}
 use Rattle.unicodeset_eval.specs.declared.record_pieces.Piece.{Piece}
 use Rattle.unicodeset_eval.specs.declared.record_pieces.PropertyValues.{PropertyValues}
+use Rattle.unicodeset_eval.specs.declared.record_pieces.RecordPieces.{RecordPieces}
 
 abbrev pub values_record : PropertyValues → Record
 values_record v = record {
@@ -58,10 +61,16 @@ piece_value p = record { first = p.first; values = values_record p.values }
 abbrev pub piece_at : (ℕ → Record) → Bounds → PieceValue
 piece_at R s = record { first = s.lo; values = unfolded (R s.lo) }
 
-pub record AreCut (R : ℕ → Record) (pieces : List Piece) : Type 0 where
+pub record AreCutTo (R : ℕ → Record) (n : ℕ) (pieces : List Piece) : Type 0 where
   pub spans : List Bounds
-  pub cut : IsCut R 0 point_count spans
+  pub cut : IsCut R 0 n spans
   pub are : map piece_value pieces ≡ map (piece_at R) spans
+
+abbrev pub AreCut : (ℕ → Record) → List Piece → Type 0
+AreCut R pieces = AreCutTo R point_count pieces
+
+abbrev pub ArePiecesOf : RecordPieces → (ℕ → Record) → Type 0
+ArePiecesOf pieces R = AreCut R pieces.pieces.items
 
 abbrev pub at_first : (Record → Bool) → List PieceValue → Bool
 at_first f [] = false

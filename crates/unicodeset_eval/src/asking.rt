@@ -2,25 +2,25 @@
 
 ghost use Rattle.std.specs.Prelude.{◌≡◌, ℕ, Bool, ◌&&◌, ◌<◌, nat_lt, IfOk};
 ghost use Rattle.property_aliases.specs.declared.property.Test.{Test as TestValue};
-ghost use Rattle.ucd_model.specs.Cuts.{IsCut};
 ghost use Rattle.ucd_model.specs.Facts.{facts};
 ghost use Rattle.ucd_points.specs.Limits.{point_count};
 ghost use Rattle.release_rows.specs.Releases.{rows_now};
 ghost use Rattle.unicodeset_eval.specs.Edges.{has, holds};
 ghost use Rattle.unicodeset_eval.specs.Found.{AreRowSets, has_at};
 ghost use Rattle.unicodeset_eval.specs.Indexes.{index_holds};
+ghost use Rattle.unicodeset_eval.specs.RecordPieces.{ArePiecesOf};
 ghost use Rattle.unicodeset_eval.specs.Tests.{same_truth, test_holds};
 
 use crate::assigned::assigned_have_categories;
 use crate::index::SetIndex;
 use crate::point_set::PointSet;
-use crate::record_pieces::pieces_of;
+use crate::record_pieces::RecordPieces;
 use crate::row_sets::RowSets;
 use crate::test_sets::TestSets;
 use property_aliases::Test;
 use release_rows::Release;
 use std::alloc::Global;
-use ucd_model::{Memory, Records, Span, point_count};
+use ucd_model::{Memory, Records, point_count};
 use unicodeset_parser::Join;
 
 /// How the set of all code points is joined to those of a value, to give these if they are wanted, or else the others.
@@ -74,30 +74,25 @@ pub(crate) fn numbered_set(
 
 impl<'b, B: Records> SetIndex<'b, B> {
     /// The sets of all tests by the rows of a release now, and by what is derived from them: `pieces` are the pieces of
-    /// equal records of the bench, as [`equal_pieces`](ucd_model::equal_pieces) gives them, and `rows` the sets that
-    /// the rows give.
-    ///
-    /// - `Memory`: memory ran out.
+    /// equal records of the bench, and `rows` the sets that the rows give. It takes no memory.
     pub fn of(
-        alloc: Global,
         bench: &'b B,
-        pieces: &[Span],
+        pieces: &'b RecordPieces,
         release: &Release,
         rows: &'b RowSets,
-    ) -> Result<SetIndex<'b, B>, Memory>
-        requires pieces { IsCut (B.record_of bench.now) 0 point_count pieces.now }
+    ) -> SetIndex<'b, B>
+        requires pieces { ArePiecesOf pieces.now (B.record_of bench.now) }
         requires rows { AreRowSets rows.now (rows_now release.now) }
         requires categories { (c : ℕ) → c < point_count → (B.record_of bench.now c).category ≡ (facts (rows_now release.now) c).category }
-        ensures { IfOk result (λ index. (test : TestValue) (c : ℕ) → index_holds B.record_of index test c
-            ≡ (nat_lt c point_count && test_holds (B.record_of bench.now) (rows_now release.now) test c)) }
+        ensures { (test : TestValue) (c : ℕ) → index_holds B.record_of result test c
+            ≡ (nat_lt c point_count && test_holds (B.record_of bench.now) (rows_now release.now) test c) }
     {
         assigned_have_categories(release);
-        let pieces = pieces_of(alloc, bench, pieces)?;
-        Ok(SetIndex {
+        SetIndex {
             bench,
-            pieces,
+            pieces: pieces.pieces.as_slice(),
             rows,
-        })
+        }
     }
 }
 

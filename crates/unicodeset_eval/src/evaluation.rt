@@ -54,7 +54,7 @@ fn named<T: TestSets>(
 ) -> Result<PointSet, EvalStop>
     ensures { Gives has result (tested (T.holds index.now) (fault S8 at) (lone_in aliases.now name.now)) }
 {
-    let test = aliases.lone(alloc, name)?;
+    let test = aliases.lone(name);
     tested(alloc, index, test, NameRule::S8, at)
 }
 
@@ -72,13 +72,13 @@ fn valued<T: TestSets>(
 ) -> Result<PointSet, EvalStop>
     ensures { Gives has result (value_members (names_in aliases.now) (T.holds index.now) value.now at (property_in aliases.now property.now)) }
 {
-    let Some(property) = aliases.property(alloc, property)? else {
+    let Some(property) = aliases.property(property) else {
         return Err(EvalStop::Fault {
             rule: NameRule::S8,
             at,
         });
     };
-    let test = aliases.value(alloc, property, value)?;
+    let test = aliases.value(property, value);
     tested(alloc, index, test, NameRule::S9, at)
 }
 

@@ -7,12 +7,12 @@ use crate::row_sets::RowSets;
 use ucd_model::Records;
 
 /// The sets of all tests by the rows of a release and what is derived from them. It is made once for a state of the
-/// records: then a test takes time in proportion to the pieces of equal records, or to the rows of its value. The sets
-/// that rows give alone are lent to it, since they stay while other rows change.
+/// records: then a test takes time in proportion to the pieces of equal records, or to the rows of its value. The pieces, and the
+/// sets that rows give alone, are lent to it: these stay while other rows change, and most of those while few records do.
 #[derive(Drop)]
 pub struct SetIndex<'b, B: Records> {
     pub(crate) bench: &'b B,
-    pub(crate) pieces: Vec<Piece>,
+    pub(crate) pieces: &'b [Piece],
     pub(crate) rows: &'b RowSets,
-    ghost cut: { ∥ AreCut (B.record_of bench.now) pieces.items ∥₁ },
+    ghost cut: { ∥ AreCut (B.record_of bench.now) pieces.now ∥₁ },
 }

@@ -1,8 +1,10 @@
 //! Pieces of equal records, as tests read them.
 
-ghost use Rattle.std.specs.Prelude.{◌≡◌, ℕ, IfOk, map};
+ghost use Rattle.std.specs.Prelude.{◌≡◌, ℕ, ◌++◌, ◌∷◌, [], IfOk, OnOk, map};
+ghost use Rattle.ucd_model.specs.Cuts.{IsCut};
 ghost use Rattle.ucd_model.specs.Records.{kept_record};
-ghost use Rattle.unicodeset_eval.specs.RecordPieces.{piece_at, piece_value, unfolded, values_record};
+ghost use Rattle.ucd_points.specs.Limits.{point_count};
+ghost use Rattle.unicodeset_eval.specs.RecordPieces.{ArePiecesOf, piece_at, piece_value, unfolded, values_record};
 
 use std::alloc::Global;
 use ucd_model::{Category, CoreSet, Kind, Memory, Quick, Record, Records, Span};
@@ -31,8 +33,28 @@ pub(crate) struct Piece {
     pub(crate) values: PropertyValues,
 }
 
+/// All code points, cut into pieces of equal records, with the values that tests ask for. They stay while the records do.
+#[derive(Drop)]
+pub struct RecordPieces {
+    pub(crate) pieces: Vec<Piece>,
+}
+
+impl RecordPieces {
+    /// The pieces of a bench, by spans of equal records that follow one another over all code points, as
+    /// [`equal_pieces`](ucd_model::equal_pieces) gives them. Each record is looked up once.
+    ///
+    /// - `Memory`: memory ran out.
+    pub fn of<B: Records>(alloc: Global, bench: &B, spans: &[Span]) -> Result<RecordPieces, Memory>
+        requires { IsCut (B.record_of bench.now) 0 point_count spans.now }
+        ensures { IfOk result (λ pieces. ArePiecesOf pieces (B.record_of bench.now)) }
+    {
+        let pieces = pieces_of(alloc, bench, spans)?;
+        Ok(RecordPieces { pieces })
+    }
+}
+
 /// The values of a record.
-fn values_of(shown: &Record) -> PropertyValues
+pub(crate) fn values_of(shown: &Record) -> PropertyValues
     ensures { values_record result ≡ unfolded (kept_record shown.now) }
 {
     PropertyValues {
@@ -52,11 +74,7 @@ fn values_of(shown: &Record) -> PropertyValues
 /// The pieces of spans of equal records. Each record is looked up once.
 ///
 /// - `Memory`: memory ran out.
-pub(crate) fn pieces_of<B: Records>(
-    alloc: Global,
-    bench: &B,
-    spans: &[Span],
-) -> Result<Vec<Piece>, Memory>
+fn pieces_of<B: Records>(alloc: Global, bench: &B, spans: &[Span]) -> Result<Vec<Piece>, Memory>
     ensures { IfOk result (λ pieces. map piece_value pieces.items ≡ map (piece_at (B.record_of bench.now)) spans.now) }
 {
     let mut pieces = Vec::new(alloc);

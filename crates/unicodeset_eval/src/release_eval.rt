@@ -15,6 +15,7 @@ ghost use Rattle.unicodeset_parser.specs.Views.{tree_view};
 
 use crate::evaluation::eval_over;
 use crate::index::SetIndex;
+use crate::record_pieces::RecordPieces;
 use crate::row_sets::RowSets;
 use crate::stop::EvalStop;
 use property_aliases::{Aliases, ValueNumbers};
@@ -80,7 +81,8 @@ fn eval_by<B: Records>(
     ensures { Gives (λ spans. spans) result
         (answer (sources_of release.now) (release_tests (B.record_of bench.now) (rows_now release.now)) point_count (tree_view expr.now)) }
 {
-    let pieces = equal_pieces(alloc, bench)?;
-    let index = SetIndex::of(alloc, bench, pieces.as_slice(), release, rows)?;
+    let spans = equal_pieces(alloc, bench)?;
+    let pieces = RecordPieces::of(alloc, bench, spans.as_slice())?;
+    let index = SetIndex::of(bench, &pieces, release, rows);
     eval_over(alloc, &index, aliases, expr)
 }

@@ -129,7 +129,7 @@ fn layered_sets(alloc: Global, values: &FileValues) -> Result<Vec<PointSet>, Mem
 /// The sets of the values of a file, of which number 0 is the default.
 ///
 /// - `Memory`: memory ran out.
-fn sets_behind(alloc: Global, values: &FileValues) -> Result<Vec<PointSet>, Memory>
+pub(crate) fn sets_behind(alloc: Global, values: &FileValues) -> Result<Vec<PointSet>, Memory>
     requires some { 0 < length values.now.names.keys }
     ensures { IfOk result (λ sets. (default : List ℕ) (rows : List Row) → AreValues values.now (numbered default rows) rows
         → AreValuesApart rows → (i c : ℕ) → c < 1114112
@@ -147,7 +147,7 @@ fn sets_behind(alloc: Global, values: &FileValues) -> Result<Vec<PointSet>, Memo
 /// The sets of the values of PropList.txt.
 ///
 /// - `Memory`: memory ran out.
-fn listed_sets(alloc: Global, values: &FileValues) -> Result<Vec<PointSet>, Memory>
+pub(crate) fn listed_sets(alloc: Global, values: &FileValues) -> Result<Vec<PointSet>, Memory>
     ensures { IfOk result (λ sets. (rows : List Row) → AreValues values.now (listed_names rows) rows
         → (i c : ℕ) → has_at sets.items i c ≡ is_listed rows i c) }
 {

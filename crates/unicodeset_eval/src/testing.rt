@@ -121,7 +121,7 @@ impl<'b, B: Records> SetIndex<'b, B> {
     pub(crate) fn set_over(&self, alloc: Global, test: Test) -> Result<PointSet, Memory>
         ensures { IfOk result (λ set. (c : ℕ) → has set c ≡ (nat_lt c point_count && tells test (B.record_of self.now.bench.now c))) }
     {
-        let pieces = self.pieces.as_slice();
+        let pieces = self.pieces;
         let starts = at_first(test, pieces);
         let edges = turns(alloc, pieces, test, starts)?;
         Ok(PointSet::of_edges(starts, edges))

@@ -14,5 +14,5 @@ of-requires-clause-categories c = λ k lt. ap (λ (r : ReleaseItems). (facts (ro
 
 pub returns : goal.returns
 returns c =
-    holds_are c.args.bench.now.current (index_holds bench_record c.in_ok-index.index)
-    (λ test k. c.in_ok-index.ensures test k ∙ ap (λ (r : ReleaseItems). nat_lt k point_count && test_holds (bench_record c.args.bench.now) (rows_now r) test k) c.release.ensures.same)
+    holds_are c.args.bench.now.current (index_holds bench_record c.of.result)
+    (λ test k. c.of.ensures test k ∙ ap (λ (r : ReleaseItems). nat_lt k point_count && test_holds (bench_record c.args.bench.now) (rows_now r) test k) c.release.ensures.same)

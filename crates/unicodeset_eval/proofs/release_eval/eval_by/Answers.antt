@@ -15,5 +15,5 @@ returns g c =
     let records = g.B.Records.record_of in
     let told = release_tests (records c.args.bench.now) (rows_now c.args.release.now) in
     subst (λ m. Gives (λ spans. spans) c.eval_over.result m)
-    (answer_by point_count s (index_holds records c.in_ok-index.index) told (tree_view c.args.expr.now) c.in_ok-index.ensures)
+    (answer_by point_count s (index_holds records c.of-index.result) told (tree_view c.args.expr.now) c.of-index.ensures)
     (c.eval_over.ensures s c.requires.aliases)

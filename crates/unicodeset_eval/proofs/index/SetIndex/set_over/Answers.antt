@@ -32,15 +32,15 @@ module _ (R : ℕ → Record) (t : Test) (pieces : List Piece) (cut : AreCut R p
 pub of_edges-requires : goal.of_edges-requires
 of_edges-requires g c =
     let R : ℕ → Record = g.B.Records.record_of c.args.self.now.bench.now in
-    let pieces : List Piece = c.args.self.now.pieces.items in
-    rw (c.in_ok-edges.ensures, c.at_first-starts.ensures, c.as_slice-pieces.ensures.value)
+    let pieces : List Piece = c.args.self.now.pieces.now in
+    rw (c.in_ok-edges.ensures, c.at_first-starts.ensures)
     (∥∥₁_elim c.args.self.now.cut (rises_prop 1 (piece_turns point_count (tells c.args.test) (at_first (tells c.args.test) (map piece_value pieces)) (map piece_value pieces)))
     (λ cut. rise R c.args.test pieces cut))
 
 pub returns : goal.returns
 returns g c = λ x.
     let R : ℕ → Record = g.B.Records.record_of c.args.self.now.bench.now in
-    let pieces : List Piece = c.args.self.now.pieces.items in
-    rw (c.of_edges.ensures, c.in_ok-edges.ensures, c.at_first-starts.ensures, c.as_slice-pieces.ensures.value)
+    let pieces : List Piece = c.args.self.now.pieces.now in
+    rw (c.of_edges.ensures, c.in_ok-edges.ensures, c.at_first-starts.ensures)
     (∥∥₁_elim c.args.self.now.cut (Bool-set (inside (at_first (tells c.args.test) (map piece_value pieces)) (piece_turns point_count (tells c.args.test) (at_first (tells c.args.test) (map piece_value pieces)) (map piece_value pieces)) x) (nat_lt x point_count && tells c.args.test (R x)))
     (λ cut. are R c.args.test pieces cut x))

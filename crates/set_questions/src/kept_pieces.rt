@@ -1,0 +1,143 @@
+//! The pieces of equal records that are kept from one run of questions to the next.
+
+ghost use Rattle.std.specs.Prelude.{◌≡◌, ◌<◌, ℕ, IsSome, Some, None, true, false, OnOk, IfOk};
+ghost use Rattle.edit_session.specs.Benches.{bench_record};
+ghost use Rattle.key_set.specs.Keys.{has};
+ghost use Rattle.set_questions.specs.KeptPieces.{AreKept, AreKeptOf, HasPieces};
+ghost use Rattle.ucd_model.specs.Records.{Record};
+ghost use Rattle.ucd_model.specs.Sameness.{is_in};
+ghost use Rattle.ucd_points.specs.Limits.{point_count};
+ghost use Rattle.unicodeset_eval.specs.RecordPieces.{ArePiecesOf};
+
+use edit_session::Bench;
+use key_set::KeySet;
+use std::alloc::Global;
+use ucd_model::{Memory, Point};
+use unicodeset_eval::RecordPieces;
+
+/// After so many changes of records the pieces are made anew: each change can cut a piece in three.
+const MOST: usize = 8192;
+
+/// The pieces of equal records as they were last made, if they were, and the code points whose records changed since: only these
+/// are looked up again.
+#[derive(Drop)]
+pub struct KeptPieces {
+    pieces: Option<RecordPieces>,
+    /// The code points whose records changed since the pieces were made.
+    changed: KeySet,
+    /// How many changes there were since the pieces were made of all records.
+    noted: usize,
+}
+
+/// The pieces of a bench, by pieces of records that are others at the `changed` code points alone; or, if there are none, by all
+/// records.
+///
+/// - `Memory`: memory ran out.
+fn pieces_by(
+    alloc: Global,
+    bench: &Bench,
+    kept: Option<RecordPieces>,
+    changed: &KeySet,
+) -> Result<RecordPieces, Memory>
+    requires { AreKeptOf kept (has changed.now) (bench_record bench.now) }
+    ensures { IfOk result (λ pieces. ArePiecesOf pieces (bench_record bench.now)) }
+{
+    match kept {
+        Some(pieces) => pieces.again(alloc, bench, changed),
+        None => {
+            let spans = bench.pieces(alloc)?;
+            RecordPieces::of(alloc, bench, spans.as_slice())
+        }
+    }
+}
+
+/// Puts code points into a set of their numbers.
+///
+/// - `Memory`: memory ran out. Some may be put.
+fn put_all(numbers: &mut KeySet, points: &[Point]) -> Result<(), Memory>
+    ensures grows { (c : ℕ) → has numbers.old c ≡ true → has numbers.new c ≡ true }
+    ensures put { OnOk result ((c : ℕ) → is_in points.now c ≡ true → has numbers.new c ≡ true) }
+{
+    let mut left = points;
+    'points: while let Some((point, behind)) = left.split_first() {
+        put(numbers, *point)?;
+        left = behind;
+    }
+    Ok(())
+}
+
+/// Puts a code point into a set of numbers.
+///
+/// - `Memory`: memory ran out.
+fn put(numbers: &mut KeySet, point: Point) -> Result<(), Memory>
+    ensures grows { (c : ℕ) → has numbers.old c ≡ true → has numbers.new c ≡ true }
+    ensures put { OnOk result (has numbers.new point ≡ true) }
+{
+    numbers.insert(u64::from(point.number()))?;
+    Ok(())
+}
+
+impl KeptPieces {
+    /// None yet. It takes no memory.
+    pub fn nothing(alloc: Global) -> KeptPieces
+        ensures { result.pieces ≡ None }
+    {
+        KeptPieces {
+            pieces: None,
+            changed: KeySet::new(alloc),
+            noted: 0,
+        }
+    }
+
+    /// Notes that the records of these code points are others, and no others. After many, or if there is no memory for them, the
+    /// pieces are let go of.
+    pub fn note(&mut self, alloc: Global, changed: &[Point])
+        ensures { (R S : ℕ → Record) → AreKept self.old R
+            → ((c : ℕ) → c < point_count → is_in changed.now c ≡ false → R c ≡ S c) → AreKept self.new S }
+    {
+        if self.pieces.is_none() {
+            return;
+        }
+        self.noted = self.noted.saturating_add(changed.len());
+        if self.noted > MOST || put_all(&mut self.changed, changed).is_err() {
+            *self = KeptPieces::nothing(alloc);
+        }
+    }
+
+    /// Makes the pieces those of the records of a bench.
+    ///
+    /// - `Memory`: memory ran out. None are kept then.
+    pub fn fill(&mut self, alloc: Global, bench: &Bench) -> Result<(), Memory>
+        requires { AreKept self.old (bench_record bench.now) }
+        ensures kept { AreKept self.new (bench_record bench.now) }
+        ensures filled { OnOk result (HasPieces self.new (bench_record bench.now)) }
+    {
+        if self.pieces.is_none() {
+            self.noted = 0;
+        }
+        let kept = self.pieces.take();
+        let pieces = pieces_by(alloc, bench, kept, &self.changed)?;
+        self.put(alloc, pieces);
+        Ok(())
+    }
+
+    /// Keeps pieces that were just made.
+    fn put(&mut self, alloc: Global, pieces: RecordPieces)
+        ensures pieces { self.new.pieces ≡ Some pieces }
+        ensures changed { (c : ℕ) → has self.new.changed c ≡ false }
+    {
+        self.pieces = Some(pieces);
+        self.changed = KeySet::new(alloc);
+    }
+
+    /// The pieces that are kept.
+    pub fn pieces(&self) -> &RecordPieces
+        requires { IsSome self.now.pieces }
+        ensures { self.now.pieces ≡ Some result.now }
+    {
+        match &self.pieces {
+            Some(pieces) => pieces,
+            None => unreachable!(),
+        }
+    }
+}

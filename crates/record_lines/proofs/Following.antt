@@ -10,7 +10,7 @@ use Rattle.ucd_model.specs.Sameness.{is_in, same_record}
 use Rattle.ucd_model.specs.SamenessProofs.{records_are_told}
 use Rattle.ucd_model.specs.declared.records.Record.{Record as KeptRecord}
 use Rattle.record_lines.specs.Earlier.{updated, FollowingCatchesUp}
-use Rattle.record_lines.specs.KeptProofs.{in_kept}
+use Rattle.ucd_model.specs.KeptNumbers.{in_kept}
 
 -- ---- what is written
 

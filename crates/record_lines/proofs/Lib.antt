@@ -1,3 +1,4 @@
 mod PointLemmas
 mod Following
 mod LineLemmas
+mod ToldLemmas

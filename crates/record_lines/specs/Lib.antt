@@ -1,7 +1,8 @@
 pub mod Values
 pub mod RecordTexts
 pub mod FileLines
+pub mod Finding
+pub mod PointTexts
 pub mod RowLines
 pub mod Earlier
-pub mod KeptProofs
 pub mod Examples

@@ -8,9 +8,9 @@ ghost use Rattle.ucd_model.specs.Cuts.{IsCut};
 ghost use Rattle.ucd_model.specs.Records.{kept_record};
 ghost use Rattle.record_lines.specs.Earlier.{earlier_record, updated};
 
-use record_list::RecordTable;
+use record_list::{RecordTable, copied_record};
 use std::alloc::Global;
-use ucd_model::{Image, Memory, Point, Record, Records, Span, equal_pieces};
+use ucd_model::{Memory, Point, Record, Records, Span, equal_pieces};
 
 /// The records of all code points as they were, kept beside a bench that goes on.
 #[derive(Drop)]
@@ -66,7 +66,7 @@ impl Records for Earlier {
 ///
 /// - `Memory`: memory ran out.
 fn filled<B: Records>(alloc: Global, bench: &B) -> Result<RecordTable, Memory> {
-    let first = copied(alloc, bench.record(Point::at(0)))?;
+    let first = copied_record(alloc, bench.record(Point::at(0)))?;
     RecordTable::filled(alloc, first)
 }
 
@@ -84,7 +84,7 @@ fn put_pieces<B: Records>(
 {
     let mut end = 0;
     'pieces: for piece in pieces {
-        let record = copied(alloc, bench.record(piece.lo))?;
+        let record = copied_record(alloc, bench.record(piece.lo))?;
         table.prepare_span(*piece, record)?;
         end = piece.last() + 1;
     }
@@ -100,43 +100,7 @@ fn copies<B: Records>(alloc: Global, bench: &B, points: &[Point]) -> Result<Vec<
 {
     let mut records = Vec::new(alloc);
     'points: for point in points {
-        records.push(copied(alloc, bench.record(*point))?)?;
+        records.push(copied_record(alloc, bench.record(*point))?)?;
     }
     Ok(records)
-}
-
-/// The same record.
-///
-/// - `Memory`: memory ran out.
-fn copied(alloc: Global, shown: &Record) -> Result<Record, Memory>
-    ensures { IfOk result (λ copy. kept_record copy ≡ kept_record shown.now) }
-{
-    let casefold = copied_image(alloc, &shown.casefold)?;
-    let simple_casefold = copied_image(alloc, &shown.simple_casefold)?;
-    Ok(Record {
-        category: shown.category,
-        class: shown.class,
-        kind: shown.kind,
-        core: shown.core,
-        exclusion: shown.exclusion,
-        nfd: shown.nfd,
-        nfc: shown.nfc,
-        nfkd: shown.nfkd,
-        nfkc: shown.nfkc,
-        casefold,
-        simple_casefold,
-        changes_casefold: shown.changes_casefold,
-    })
-}
-
-/// The same image.
-///
-/// - `Memory`: memory ran out.
-fn copied_image(alloc: Global, image: &Image) -> Result<Image, Memory>
-    ensures { IfOk result (λ copy. copy ≡ image.now) }
-{
-    match image {
-        Image::Same => Ok(Image::Same),
-        Image::To(points) => Ok(Image::To(points.copy(alloc)?)),
-    }
 }

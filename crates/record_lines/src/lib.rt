@@ -5,6 +5,8 @@ mod change;
 mod earlier;
 mod file_lines;
 pub mod laws;
+mod line_finder;
+mod point_text;
 mod record_text;
 mod row_place;
 mod rows;
@@ -12,5 +14,6 @@ mod value;
 
 pub use change::put_changes;
 pub use earlier::Earlier;
+pub use point_text::PointText;
 pub use record_text::put_record;
 pub use rows::put_rows;

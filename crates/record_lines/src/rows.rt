@@ -1,95 +1,139 @@
-//! The rows of a release that speak of a code point, as they stand in their files.
+//! The rows of a release that speak of code points, as they stand in their files.
 
-ghost use Rattle.std.specs.Prelude.{◌≡◌, [], ◌∷◌, ◌++◌, map, IfOk, OnOk};
+ghost use Rattle.std.specs.Prelude.{◌≡◌, [], ◌∷◌, map, IfOk, OnOk};
+ghost use Rattle.std.specs.List.{list_any};
 ghost use Rattle.ucd_points.specs.Bounds.{within};
+ghost use Rattle.ucd_points.specs.Lines.{contents};
 ghost use Rattle.release_rows.specs.OperationLaws.{speaks_of};
 ghost use Rattle.release_rows.specs.Releases.{items_now};
+ghost use Rattle.source_rows.specs.Keys.{row_span};
 ghost use Rattle.source_rows.specs.RowRefs.{row_in};
-ghost use Rattle.record_lines.specs.RowLines.{file_rows_text, is_range, place_of, rows_text, speaking};
+ghost use Rattle.record_lines.specs.FileLines.{place_lines};
+ghost use Rattle.record_lines.specs.PointTexts.{with_more};
+ghost use Rattle.record_lines.specs.RowLines.{file_rows_text, if_speaks, is_range, place_of, rows_lines, rows_text};
+ghost use Rattle.record_lines.specs.declared.point_text.PointText.{PointText as Told};
 
-use crate::file_lines::put_places;
+use crate::file_lines::put_place;
+use crate::line_finder::LineFinder;
+use crate::point_text::PointText;
 use crate::row_place::RowPlace;
 use release_rows::{Release, RowText, Rows};
 use source_rows::RowRef;
 use std::alloc::Global;
 use ucd_model::{Memory, Point, SourceFile, Span, Text};
 
-/// Puts the rows of a release now that speak of a code point at the end of a text, file by file: where the file lies below the
-/// folder of a release, ` line `, the number of the line, `: `, and the line as it stands there. A range has two lines. Missing
-/// rows are among them; rows of names are not. UAX #44, section 4.2.
+/// Puts the rows of a release now that speak of code points behind what is told of each of them, file by file: where the file lies
+/// below the folder of a release, ` line `, the number of the line, `: `, and the line as it stands there. A range has two lines.
+/// Missing rows are among them; rows of names are not. UAX #44, section 4.2.
 ///
-/// Each call passes once over the rows of the nine files, of which it reads those of the code point alone, and over the lines before them.
+/// One pass over the rows of the nine files, and one over their lines, serves all code points. Only rows of these are read.
 ///
-/// - `Memory`: memory ran out. A part of the rows may stand at the end of the text then.
-pub fn put_rows(
-    alloc: Global,
-    release: &Release,
-    point: Point,
-    text: &mut Text,
-) -> Result<(), Memory>
-    ensures { OnOk result (text.new ≡ text.old ++ rows_text release.now.current point) }
+/// - `Memory`: memory ran out. A part of the rows may have been put then.
+pub fn put_rows(alloc: Global, release: &Release, told: &mut [PointText]) -> Result<(), Memory>
+    ensures { OnOk result (told.new ≡ map (with_more (rows_text release.now.current)) told.old) }
 {
     'files: for file in SourceFile::all() {
-        put_file(alloc, release, *file, point, text)?;
+        put_file(alloc, release, *file, told)?;
     }
     Ok(())
 }
 
 /// Puts the rows of a file.
 ///
-/// - `Memory`: memory ran out. A part of them may stand at the end of the text then.
+/// - `Memory`: memory ran out. A part of them may have been put then.
 fn put_file(
     alloc: Global,
     release: &Release,
     file: SourceFile,
-    point: Point,
-    text: &mut Text,
+    told: &mut [PointText],
 ) -> Result<(), Memory>
-    ensures { OnOk result (text.new ≡ text.old ++ file_rows_text (items_now release.now file) file point) }
+    ensures { OnOk result (told.new ≡ map (with_more (file_rows_text (items_now release.now file) file)) told.old) }
 {
-    let places = places_of(alloc, point, release.rows(file))?;
-    if places.is_empty() {
-        return Ok(());
-    }
     if let Some(bytes) = release.whole_text(file) {
-        return put_places(alloc, file, bytes, places.as_slice(), text);
+        return put_from(alloc, file, bytes, release.rows(file), told);
     }
     let bytes = release.text(alloc, file)?;
-    put_places(alloc, file, bytes.as_slice(), places.as_slice(), text)
+    put_from(alloc, file, bytes.as_slice(), release.rows(file), told)
 }
 
-/// Where the rows stand that speak of a code point, in order.
+/// Puts the lines of rows of a file with these bytes.
 ///
-/// - `Memory`: memory ran out.
-fn places_of(alloc: Global, point: Point, rows: Rows<'_>) -> Result<Vec<RowPlace>, Memory>
-    ensures { IfOk result (λ places. places.items ≡ map place_of (speaking point rows.entry)) }
+/// - `Memory`: memory ran out. A part of them may have been put then.
+fn put_from(
+    alloc: Global,
+    file: SourceFile,
+    bytes: &[u8],
+    rows: Rows<'_>,
+    told: &mut [PointText],
+) -> Result<(), Memory>
+    ensures { OnOk result (told.new ≡ map (with_more (rows_lines file (contents bytes.now) rows.entry)) told.old) }
 {
     let mut left = rows;
-    let mut places = Vec::new(alloc);
+    let mut lines = LineFinder::new(bytes);
     'rows: while let Some((line, row)) = left.next() {
-        put_place(point, line, &row, &mut places)?;
+        put_row(alloc, file, line, &row, &mut lines, told)?;
     }
-    Ok(places)
+    Ok(())
 }
 
-/// Puts where a row stands behind the others, if it speaks of a code point.
+/// Puts the lines of a row behind what is told of the code points of which it speaks.
 ///
-/// - `Memory`: memory ran out.
-fn put_place(
-    point: Point,
+/// - `Memory`: memory ran out. A part of them may have been put then.
+fn put_row(
+    alloc: Global,
+    file: SourceFile,
     line: u64,
     row: &RowText<'_>,
-    places: &mut Vec<RowPlace>,
+    lines: &mut LineFinder<'_>,
+    told: &mut [PointText],
 ) -> Result<(), Memory>
-    ensures { OnOk result (places.new.items ≡ places.old.items ++ map place_of (speaking point ((line, row.now) ∷ []))) }
+    ensures told { OnOk result (told.new ≡ map (with_more (rows_lines file lines.old.lines ((line, row.now) ∷ []))) told.old) }
+    ensures same { lines.new.lines ≡ lines.old.lines }
 {
-    if !row.covers(point) {
+    if !covers_any(row, told) {
         return Ok(());
     }
     let row = row.row();
-    if speaks_of(point, &row) {
-        let range = is_range(&row);
-        places.push(RowPlace { line, range })?;
+    let text = lines_of(alloc, file, line, &row, lines)?;
+    put_text(&row, text.as_slice(), told)
+}
+
+/// The lines of a row, each with where it stands.
+///
+/// - `Memory`: memory ran out.
+fn lines_of(
+    alloc: Global,
+    file: SourceFile,
+    line: u64,
+    row: &RowRef<'_>,
+    lines: &mut LineFinder<'_>,
+) -> Result<Text, Memory>
+    ensures text { IfOk result (λ text. text ≡ place_lines file lines.old.lines (place_of (line, row_in row.now))) }
+    ensures same { lines.new.lines ≡ lines.old.lines }
+{
+    let mut text = Text::new(alloc);
+    let range = is_range(row);
+    put_place(alloc, file, lines, RowPlace { line, range }, &mut text)?;
+    Ok(text)
+}
+
+/// Whether a row covers one of the code points.
+fn covers_any(row: &RowText<'_>, told: &[PointText]) -> bool
+    ensures { result ≡ list_any (λ (one : Told). within one.point (row_span row.now)) told.now }
+{
+    told.iter().any(|one| row.covers(one.point))
+}
+
+/// Puts the lines of a row behind what is told of the code points of which it speaks.
+///
+/// - `Memory`: memory ran out. They may have been put at some of them then.
+fn put_text(row: &RowRef<'_>, lines: &[u8], told: &mut [PointText]) -> Result<(), Memory>
+    ensures { OnOk result (told.new ≡ map (with_more (if_speaks (row_in row.now) lines.now)) told.old) }
+{
+    'told: for one in told.iter_mut() {
+        if speaks_of(one.point, row) {
+            one.text.append(lines)?;
+        }
     }
     Ok(())
 }

@@ -1,4 +1,5 @@
 pub mod LookLemmas
+mod ToldTexts
 pub mod NothingWritten
 pub mod CheckEnds
 pub mod RangeLemmas

@@ -1,21 +1,17 @@
 //! Answering questions on the release of a bench.
 
 ghost use Rattle.std.specs.Prelude.{◌≡◌, ◌||◌, ◌++◌, IfOk, OnOk, codes};
-ghost use Rattle.edit_session.specs.Benches.{bench_record};
 ghost use Rattle.run_endings.specs.Planning.{HasPlan};
+ghost use Rattle.set_questions.specs.Kept.{IsKept};
 ghost use Rattle.set_questions.specs.Questions.{question_answer};
-ghost use Rattle.set_questions.specs.RowNames.{AreRowNames};
-ghost use Rattle.ucd_model.specs.Cuts.{IsCut};
 ghost use Rattle.ucd_model.specs.DerivedText.{line_end};
-ghost use Rattle.ucd_points.specs.Limits.{point_count};
 ghost use Rattle.ucdshop_look_core.specs.Answers.{any_refused, ask_ending, is_refused, section, sections};
 
 use edit_session::Bench;
 use run_endings::Plan;
-use run_inputs::bench_pieces;
-use set_questions::{AskStop, Asking, RowNames, put_members, put_refusal};
+use set_questions::{AskStop, Asking, Kept, put_members, put_refusal};
 use std::alloc::Global;
-use ucd_model::{Memory, Span, Text};
+use ucd_model::{Memory, Text};
 
 /// What `ask` tells of these questions on the release of a bench.
 ///
@@ -23,44 +19,25 @@ use ucd_model::{Memory, Span, Text};
 pub fn answers_plan(alloc: Global, bench: &Bench, questions: &[Text]) -> Result<Plan, Memory>
     ensures { IfOk result (HasPlan (ask_ending questions.now bench.now.current)) }
 {
-    let names = RowNames::of(alloc, bench.release())?;
-    plan_by(alloc, bench, &names, questions)
+    let mut kept = Kept::nothing(alloc);
+    let plan = plan_by(alloc, bench, &mut kept, questions);
+    drop(kept);
+    plan
 }
 
-/// The same by what the rows of the bench tell.
+/// The same with what is kept for questions, which is filled. It owns nothing with many parts, so it is quick to prove.
 fn plan_by(
     alloc: Global,
     bench: &Bench,
-    names: &RowNames,
+    kept: &mut Kept,
     questions: &[Text],
 ) -> Result<Plan, Memory>
-    requires { AreRowNames names.now bench.now.current }
+    requires { IsKept kept.old bench.now.current }
     ensures { IfOk result (HasPlan (ask_ending questions.now bench.now.current)) }
 {
-    let pieces = bench_pieces(alloc, bench)?;
-    plan_over(alloc, bench, pieces.as_slice(), names, questions)
-}
-
-/// The same over the pieces of equal records of the bench.
-fn plan_over(
-    alloc: Global,
-    bench: &Bench,
-    pieces: &[Span],
-    names: &RowNames,
-    questions: &[Text],
-) -> Result<Plan, Memory>
-    requires pieces { IsCut (bench_record bench.now) 0 point_count pieces.now }
-    requires names { AreRowNames names.now bench.now.current }
-    ensures { IfOk result (HasPlan (ask_ending questions.now bench.now.current)) }
-{
-    match Asking::of(alloc, bench, pieces, names) {
-        Ok(asking) => {
-            let plan = plan_from(alloc, &asking, questions);
-            drop(asking);
-            plan
-        }
-        Err(stop) => Err(stop),
-    }
+    kept.fill(alloc, bench)?;
+    let asking = kept.asking(bench);
+    plan_from(alloc, &asking, questions)
 }
 
 /// The same by what answers questions on the bench. The text of the answers is made once, and moves into the plan.

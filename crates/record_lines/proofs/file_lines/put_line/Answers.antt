@@ -1,11 +1,10 @@
 use Rattle.std.proofs.Common.{sym, ap, ◌∙◌}
 use Rattle.std.specs.Prelude.{slice_get}
 use Rattle.std.proofs.lemmas.List.{append-nil}
-use Rattle.ucd_points.specs.Lines.{contents}
 use Rattle.record_lines.proofs.file_lines.put_line.Goals as goal
 
-pub returns-in-Some : goal.returns-in-Some
-returns-in-Some c = rw (ap (slice_get (contents c.args.bytes.now)) (sym c.saturating_sub.ensures) ∙ c.in-Some.ensures) c.put_content.ensures
+pub returns-in-Some-clause-text : goal.returns-in-Some-clause-text
+returns-in-Some-clause-text c = rw (ap (slice_get c.args.lines.now.lines) (sym c.saturating_sub.ensures) ∙ c.in-Some.ensures.found) c.put_content.ensures
 
-pub returns-in-None : goal.returns-in-None
-returns-in-None c = rw (ap (slice_get (contents c.args.bytes.now)) (sym c.saturating_sub.ensures) ∙ c.in-None.ensures) (sym (append-nil c.args.text.now))
+pub returns-in-None-clause-text : goal.returns-in-None-clause-text
+returns-in-None-clause-text c = rw (ap (slice_get c.args.lines.now.lines) (sym c.saturating_sub.ensures) ∙ c.in-None.ensures.found) (sym (append-nil c.args.text.now))

@@ -1,7 +1,10 @@
-use Rattle.std.proofs.Common.{sym, arith}
+use Rattle.std.proofs.Common.{◌≤◌, length, sym, arith}
 use Rattle.std.proofs.lemmas.List.{append-nil}
 use Rattle.record_lines.proofs.LineLemmas.{none_behind}
 use Rattle.record_lines.proofs.file_lines.put_next.Goals as goal
 
-pub returns-then-number-bytes : goal.returns-then-number-bytes
-returns-then-number-bytes c = rw (none_behind c.args.file c.args.bytes.now c.args.number (omega (arith, c.if-number-bytes.true))) (sym (append-nil c.args.text.now))
+pub returns-then-number-most-clause-text : goal.returns-then-number-most-clause-text
+returns-then-number-most-clause-text c =
+    let most = c.most.ensures in
+    let past : length c.args.lines.now.lines ≤ c.args.number = omega (arith, c.if-number-most.true) in
+    rw (none_behind c.args.file c.args.lines.now.lines c.args.number past) (sym (append-nil c.args.text.now))

@@ -1,3 +1,3 @@
-mod CutLemmas
 pub mod LoadingLemmas
 pub mod BenchLemmas
+mod SameSources

@@ -1,15 +1,15 @@
 -- Judging what was read.
 --
--- JudgedAs view result expected   a result, seen by view, is what was expected; want of memory says nothing
+-- JudgedAs view result expected   a result, seen by view, is what was expected; no claim if memory ran out
 -- ToldAs view result expected     the same of a result whose refusal is a line; no read failed
 -- GivesAs result expected         the bytes are those that were expected, or the refusal is
--- FaultyBy file stop why          a refusal of a file by the line and the rule that it does not load by; want of memory says nothing
--- BreaksBy stop why               a refusal of a release by the code point and the rule that have no bench; want of memory says nothing
--- TellsFolder folder told stop    a refusal of this folder by its line; want of memory says nothing
--- TellsScript path told refusal   a refusal of the script at this path by its line; want of memory says nothing
+-- FaultyBy file stop why          a refusal of a file by the line and the rule that it does not load by; no claim if memory ran out
+-- BreaksBy stop why               a refusal of a release by the code point and the rule that have no bench; no claim if memory ran out
+-- TellsFolder folder told stop    a refusal of this folder by its line; no claim if memory ran out
+-- TellsScript path told refusal   a refusal of the script at this path by its line; no claim if memory ran out
 -- Loads file expected old new     the file has the items that were expected, all other files and their number stay, and nothing is
 --                                 prepared where nothing was
--- LoadsFile result expected file old new   so it is, or the refusal is the expected one; want of memory says nothing
+-- LoadsFile result expected file old new   so it is, or the refusal is the expected one; no claim if memory ran out
 use Rattle.std.specs.Prelude.{◌≡◌, ◌≢◌, ℕ, List, length, Result, Ok, Err, ⊤}
 use Rattle.std.specs.Borrow.{Bor}
 use Rattle.ucd_points.specs.declared.files.SourceFile.{SourceFile}

@@ -1,24 +1,24 @@
 //! What runs are given and what they write of it: folders of nine source files, the file beside them, and why either is refused.
 #![tactic(auto)]
 
+mod beside;
 mod group_lines;
 mod held;
 mod judging;
 mod outputs;
 mod paths;
-mod pieces;
 mod printed;
 mod refusal;
 mod refusing;
 mod script;
 mod second;
 
+pub use beside::{open_beside, same_sources};
 pub use group_lines::{put_accepted, put_refused};
 pub use held::held_at;
 pub use judging::{judge_folder, open_folder};
 pub use outputs::{put_derived, put_sources};
 pub use paths::{put_source_paths, source_paths};
-pub use pieces::bench_pieces;
 pub use printed::{
     bad_code, file_rule_code, load_rule_code, refused, refused_point, row_rule_code,
 };

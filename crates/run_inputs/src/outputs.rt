@@ -11,7 +11,6 @@ ghost use Rattle.run_endings.specs.Printed.{write_failed};
 ghost use Rattle.run_endings.specs.Writing.{file_of};
 ghost use Rattle.run_inputs.specs.Files.{derived_file, source_file};
 
-use crate::pieces::bench_pieces;
 use derived_writer::text_over;
 use edit_session::Bench;
 use run_endings::{Output, path_in};
@@ -47,7 +46,7 @@ pub fn put_derived(
 ) -> Result<(), Memory>
     ensures { OnOk result (Puts (map (derived_file folder.now bench.now.current) derived_files) outputs.old.items outputs.new.items) }
 {
-    let pieces = bench_pieces(alloc, bench)?;
+    let pieces = bench.pieces(alloc)?;
     'files: for file in &DERIVED_FILES {
         let output = derived_output(alloc, folder, *file, bench, pieces.as_slice())?;
         outputs.push(output)?;

@@ -50,7 +50,7 @@ pub enum ScriptRefusal {
 pub enum FolderStop {
     /// It is refused.
     Refused(FolderRefusal),
-    /// Memory was wanted, and there was none.
+    /// Memory ran out.
     Memory,
 }
 

@@ -75,6 +75,9 @@ const COMPARED: [Compared; 3] = [
     },
 ];
 
+const EDITED_SUMMARY: &[u8] =
+    b"ucdshop: 1 groups accepted, 2 commands refused, 0 sets answered, 1 policy breaks\n";
+
 /// Runs with edits, the second of which writes over the release.
 const EDITED: [Compared; 2] = [
     // the rows after the script are compared; refused commands leave none
@@ -82,7 +85,7 @@ const EDITED: [Compared; 2] = [
         script: EDITS,
         words: [b"apply", b"p", b"s", b"o", b"p"],
         status: Status::Done,
-        summary: b"ucdshop: 1 groups accepted, 2 commands refused, 0 sets answered, 1 policy breaks\n",
+        summary: EDITED_SUMMARY,
         files: &[
             (b"o/policy.txt", b"P03 0300\n# total 1\n"),
             (
@@ -95,7 +98,7 @@ const EDITED: [Compared; 2] = [
         script: EDITS,
         words: [b"apply", b"p", b"s", b"p", b"p"],
         status: Status::Done,
-        summary: b"ucdshop: 1 groups accepted, 2 commands refused, 0 sets answered, 1 policy breaks\n",
+        summary: EDITED_SUMMARY,
         files: &[
             (b"p/policy.txt", b"P03 0300\n# total 1\n"),
             (b"d/UnicodeData.txt", LATER),
@@ -170,6 +173,53 @@ fn edited_releases_are_compared(rt: HostRuntime) -> Result<(), Fail> {
 #[test]
 fn the_earlier_release_may_be_written_over(rt: HostRuntime) -> Result<(), Fail> {
     assert!(rt; ends_so(rt.alloc(), &WRITTEN_OVER)?);
+    Ok(())
+}
+
+/// A comment of PropList.txt in the release, and comments in the earlier one: the same, another one, and none. None has a row.
+const COMMENT: &[u8] = b"# a\n";
+
+const EARLIER_COMMENTS: [&[u8]; 3] = [COMMENT, b"# b\n", b""];
+
+/// The files of a run with edits on the earlier release itself.
+const SAME_FILES: [File; 4] = [
+    (b"o/policy.txt", b"P03 0300\n# total 1\n"),
+    (
+        b"o/bench.log",
+        b"1 accepted 1\n2 refused K2 operation 1\n3 refused V1 point 1000\n",
+    ),
+    (b"o/PropList.txt", COMMENT),
+    (b"p/UnicodeData.txt", EARLIER),
+];
+
+/// A shelf whose two releases are the same but for this comment of the earlier one, and a script with edits.
+///
+/// - `Memory`: memory ran out.
+fn shelf_with_comments(alloc: Global, comment: &[u8]) -> Result<Box<MemoryShelf>, Memory> {
+    let mut shelf = shelf_with(alloc, EARLIER, EARLIER, EDITS)?;
+    place_comments(&mut shelf, comment)?;
+    Ok(shelf)
+}
+
+fn place_comments(shelf: &mut MemoryShelf, comment: &[u8]) -> Result<(), Memory> {
+    shelf.place(b"d/PropList.txt", COMMENT)?;
+    shelf.place(b"p/PropList.txt", comment)
+}
+
+/// Whether a run with edits, against the same release but for this comment, ends as against the same bytes.
+///
+/// - `Memory`: memory ran out.
+fn ends_as_the_same(alloc: Global, comment: &[u8]) -> Result<bool, Memory> {
+    let mut shelf = shelf_with_comments(alloc, comment)?;
+    let expected = (Status::Done, EDITED_SUMMARY);
+    Ok(ends(alloc, &WORDS, &mut shelf, 1000, expected)? && holds(&shelf, &SAME_FILES))
+}
+
+#[test]
+fn a_comment_breaks_no_policy(rt: HostRuntime) -> Result<(), Fail> {
+    for comment in &EARLIER_COMMENTS {
+        assert!(rt; ends_as_the_same(rt.alloc(), comment)?);
+    }
     Ok(())
 }
 

@@ -120,6 +120,68 @@ const ASKED: [Asked; 4] = [
     },
 ];
 
+/// Questions between groups, each of which edits another file that tells names or values.
+const TURNS: [Asked; 2] = [
+    // an edit of one file changes its values, and those of the other files stay
+    Asked {
+        data: b"",
+        read: &[
+            (b"d/PropList.txt", b"002D;Dash\n"),
+            (b"d/Scripts.txt", b"0041;Latin\n"),
+            (b"d/auxiliary/WordBreakProperty.txt", b"0027;Single_Quote\n"),
+        ],
+        script: b"set [\\p{Dash}\\p{Script=Latin}\\p{Word_Break=Single_Quote}]\nadd PropList.txt 2010;Dash\nset [\\p{Dash}\\p{Script=Latin}\\p{Word_Break=Single_Quote}]\nadd Scripts.txt 0061;Latin\nset [\\p{Dash}\\p{Script=Latin}\\p{Word_Break=Single_Quote}]\nadd auxiliary/WordBreakProperty.txt 2019;Single_Quote\nset [\\p{Dash}\\p{Script=Latin}\\p{Word_Break=Single_Quote}]\nwithdraw PropList.txt 002D;Dash\nset [\\p{Dash}\\p{Script=Latin}\\p{Word_Break=Single_Quote}]\nwithdraw Scripts.txt 0041\nwithdraw auxiliary/WordBreakProperty.txt 0027\nset [\\p{Dash}\\p{Script=Latin}\\p{Word_Break=Single_Quote}]\n",
+        counts: [b"6", b"0", b"6"],
+        files: &[(
+            b"o/sets.txt",
+            b"# line 1\n0027\n002D\n0041\n# total 3\n\n# line 3\n0027\n002D\n0041\n2010\n# total 4\n\n# line 5\n0027\n002D\n0041\n0061\n2010\n# total 5\n\n# line 7\n0027\n002D\n0041\n0061\n2010\n2019\n# total 6\n\n# line 9\n0027\n0041\n0061\n2010\n2019\n# total 5\n\n# line 12\n0061\n2010\n2019\n# total 3\n\n",
+        )],
+    },
+    // a property that comes and goes takes its names along, and the properties behind it get other numbers
+    Asked {
+        data: b"",
+        read: &[(b"d/PropList.txt", b"002D;Dash\n0020;White_Space\n")],
+        script: b"set \\p{White_Space}\nset \\p{Mine}\nadd PropList.txt 0041;Mine\nset \\p{Mine}\nset \\p{My}\nadd PropertyAliases.txt My;Mine\nset \\p{My}\nwithdraw PropList.txt 002D;Dash\nset \\p{White_Space}\nset \\p{My}\nwithdraw PropList.txt 0041;Mine\nset \\p{My}\nset \\p{White_Space}\n",
+        counts: [b"4", b"3", b"6"],
+        files: &[
+            (
+                b"o/bench.log",
+                b"1 set 1\n2 refused S8 byte 0\n3 accepted 0\n4 set 1\n5 refused S8 byte 0\n6 accepted 0\n7 set 1\n8 accepted 0\n9 set 1\n10 set 1\n11 accepted 0\n12 refused S8 byte 0\n13 set 1\n",
+            ),
+            (
+                b"o/sets.txt",
+                b"# line 1\n0020\n# total 1\n\n# line 4\n0041\n# total 1\n\n# line 7\n0041\n# total 1\n\n# line 9\n0020\n# total 1\n\n# line 10\n0041\n# total 1\n\n# line 13\n0020\n# total 1\n\n",
+            ),
+        ],
+    },
+];
+
+/// Questions between groups that change values, names of values and records.
+const CHANGES: [Asked; 2] = [
+    // a script that comes and goes takes its names along, and so does a name of a value; a refused group changes nothing
+    Asked {
+        data: b"",
+        read: &[(b"d/Scripts.txt", b"0041;Latin\n0391;Greek\n")],
+        script: b"set \\p{Script=Grek}\nadd PropertyValueAliases.txt sc;Grek;Greek\nset \\p{Script=Grek}\nwithdraw Scripts.txt 0041\nset \\p{Script=Grek}\nadd Scripts.txt 0391;Latin\nset \\p{Script=Grek}\nwithdraw Scripts.txt 0391\nset \\p{Script=Grek}\n",
+        counts: [b"3", b"3", b"3"],
+        files: &[(
+            b"o/sets.txt",
+            b"# line 3\n0391\n# total 1\n\n# line 5\n0391\n# total 1\n\n# line 7\n0391\n# total 1\n\n",
+        )],
+    },
+    // records change at both ends, beside and between others that changed, and back; a refused group changes none
+    Asked {
+        data: b"0041;A;Lu;0;L;;;;;N;;;;;\n",
+        read: &[],
+        script: b"set \\p{Lu}\nadd UnicodeData.txt 0000;ZERO;Lu;0;L;;;;;N;;;;;\nadd UnicodeData.txt 10FFFF;LAST;Lu;0;L;;;;;N;;;;;\nset \\p{Lu}\nwithdraw UnicodeData.txt 0000\nadd UnicodeData.txt 0500;B;Lu;0;L;;;;;N;;;;;\nadd UnicodeData.txt 0502;C;Lu;0;L;;;;;N;;;;;\nadd UnicodeData.txt 0041;A;Ll;0;L;;;;;N;;;;;\nset \\p{Lu}\nchange UnicodeData.txt 0041;A;Ll;0;L;;;;;N;;;;;\nadd UnicodeData.txt 0501;D;Lu;0;L;;;;;N;;;;;\nwithdraw UnicodeData.txt 10FFFF\nset \\p{Lu}\n",
+        counts: [b"8", b"1", b"4"],
+        files: &[(
+            b"o/sets.txt",
+            b"# line 1\n0041\n# total 1\n\n# line 4\n0000\n0041\n10FFFF\n# total 3\n\n# line 9\n0041\n0500\n0502\n10FFFF\n# total 4\n\n# line 13\n0500..0502\n# total 3\n\n",
+        )],
+    },
+];
+
 /// Whether a run whose script asks about sets answers them.
 pub fn answers_sets(alloc: Global, asked: &Asked) -> Result<bool, Memory> {
     let mut shelf = shelf_of(alloc, asked.data, b"")?;
@@ -142,6 +204,22 @@ fn each_rule_of_a_set_is_told(rt: HostRuntime) -> Result<(), Fail> {
 #[test]
 fn sets_are_answered(rt: HostRuntime) -> Result<(), Fail> {
     for asked in &ASKED {
+        assert!(rt; answers_sets(rt.alloc(), asked)?);
+    }
+    Ok(())
+}
+
+#[test]
+fn questions_between_edits_of_each_file_are_answered(rt: HostRuntime) -> Result<(), Fail> {
+    for asked in &TURNS {
+        assert!(rt; answers_sets(rt.alloc(), asked)?);
+    }
+    Ok(())
+}
+
+#[test]
+fn questions_between_edits_of_values_and_records_are_answered(rt: HostRuntime) -> Result<(), Fail> {
+    for asked in &CHANGES {
         assert!(rt; answers_sets(rt.alloc(), asked)?);
     }
     Ok(())

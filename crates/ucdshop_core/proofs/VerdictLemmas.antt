@@ -1,5 +1,5 @@
 -- The verdict on what is given to a job is the verdict on what was seen.
-use Rattle.std.proofs.Common.{◌≡◌, ℕ, ◌+◌, Bool, List, [], ◌++◌, map, Option, Some, None, Result, Ok, refl, sym, ap, ◌∙◌, arith}
+use Rattle.std.proofs.Common.{◌≡◌, ℕ, ◌+◌, Bool, List, [], ◌++◌, map, Option, Some, None, Result, Ok, Err, refl, sym, ap, ◌∙◌, arith}
 use Rattle.std.specs.List.{flat_map}
 use Rattle.std.specs.Prelude.{option_to_list}
 use mathlib.Core.Path.{fun_ext}
@@ -10,11 +10,12 @@ use Rattle.run_endings.specs.Reading.{IsRead, cut}
 use Rattle.run_endings.specs.Endings.{Contents, Seen, Sees}
 use Rattle.run_inputs.specs.Held.{StayOutside, held_at, source_held}
 use Rattle.run_inputs.specs.Paths.{sources_in}
-use Rattle.run_inputs.specs.Refusals.{folder_verdict}
+use Rattle.run_inputs.specs.Refusals.{folder_line, folder_verdict, told}
+use Rattle.run_inputs.specs.Verdict.{release_verdict}
 use Rattle.ucdshop_core.specs.CutProofs.{all_three, cut_verdict}
 use Rattle.ucdshop_core.specs.Judging.{behind_verdict, given_verdict}
 use Rattle.ucdshop_core.specs.Jobs.{Job, needed, read_unless}
-use Rattle.ucdshop_core.specs.Run.{Inputs, commands_verdict, earlier_place, earlier_verdict, inputs_verdict, job_verdict, made_texts, texts_of}
+use Rattle.ucdshop_core.specs.Run.{commands_verdict, earlier_place, earlier_verdict, inputs_verdict, job_verdict, made_texts, texts_of}
 use Rattle.ucdshop_core.specs.declared.given.Given.{Given}
 
 read_verdict : (job : Job) (read seen : Seen) → read ≡ map cut seen → inputs_verdict job read ≡ inputs_verdict job seen
@@ -49,3 +50,15 @@ judged_behind job old new files is stay =
     ∙ ap (all_three (Ok files) (commands_verdict job.script (held_at old 9)))
     (ap (earlier_verdict job.previous) (fun_ext (λ file. stay.behind (first + file_place file) (omega arith))))
     ∙ ap (λ (them : Result (List (List FileItem)) (List ℕ)). all_three them (commands_verdict job.script (held_at old 9)) (earlier_verdict job.previous (source_held old first))) (sym is)
+
+-- an earlier release whose source files hold the same is the same release
+untold : {A E : Type 0} (line : E → List ℕ) (r : Result A E) (value : A) → told line r ≡ Ok value → r ≡ Ok value
+untold line (Ok x) value is = cc
+untold line (Err why) value is = absurd cc
+
+pub same_release : (job : Job) (old new : Seen) (files : List (List FileItem)) → source_held old (earlier_place job) ≡ source_held old 0 → folder_verdict job.folder (source_held old 0) ≡ Ok files → StayOutside 0 old new
+    → release_verdict (source_held new (earlier_place job)) ≡ Ok files
+same_release job old new files same is stay =
+    let first : ℕ = earlier_place job in
+    ap release_verdict (fun_ext (λ file. stay.behind (first + file_place file) (omega arith)) ∙ same)
+    ∙ untold (folder_line job.folder) (release_verdict (source_held old 0)) files is

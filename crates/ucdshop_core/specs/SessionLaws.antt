@@ -5,7 +5,7 @@
 -- with_refusal s line said   the session with one more line in the log and one more refusal; all else is as it was
 -- RefusalsChangeNothing    so is the session after a refused command
 -- SameButTold a b          the sessions have the same files and answers, and the same counts but that of refusals
--- RefusalsAreLeftOut       a script without a refused command leaves the same files and answers, and the same counts but that of refusals
+-- RefusalsAreLeftOut       if a refused command is left out, the files and answers stay the same, and the counts but that of refusals
 use Rattle.std.specs.Prelude.{◌≡◌, ℕ, ◌+◌, List, ◌∷◌, ◌++◌, Err}
 use Rattle.release_rows.specs.FileItems.{FileItem}
 use Rattle.script_lines.specs.declared.command.Command.{Command}

@@ -3,104 +3,43 @@
 ghost use Rattle.std.specs.Prelude.{◌≡◌, ◌∷◌, ◌+◌, ◌<◌, ◌^◌, ⊤, length, IfOk, OnOk};
 ghost use Rattle.std.specs.List.{All};
 ghost use Rattle.std.specs.Option.{MatchOption};
-ghost use Rattle.edit_session.specs.Benches.{bench_record};
 ghost use Rattle.script_lines.specs.Groups.{IsReady};
 ghost use Rattle.script_lines.specs.declared.command.What.TheVariants.{Question};
-ghost use Rattle.ucd_model.specs.Cuts.{IsCut};
-ghost use Rattle.ucd_points.specs.Limits.{point_count};
 ghost use Rattle.ucdshop_core.specs.Answering.{AnswersFront};
 ghost use Rattle.ucdshop_core.specs.Carrying.{counted, session_on, question_command};
-ghost use Rattle.set_questions.specs.RowNames.{AreKept, AreRowNames};
+ghost use Rattle.set_questions.specs.Kept.{IsKept};
 ghost use Rattle.ucdshop_core.specs.Session.{step_by};
 
 use crate::carried::Carried;
 use edit_session::Bench;
-use run_inputs::bench_pieces;
 use script_lines::{Command, What};
-use set_questions::{AskStop, Asking, RowNames, keep_names};
+use set_questions::{AskStop, Asking, Kept};
 use std::alloc::Global;
-use ucd_model::{Memory, Span};
+use ucd_model::Memory;
 
 /// Answers the question of this text, and the questions at the front of the commands behind it, and returns the
-/// commands that are left. What answers them is made once; what it needs of the rows alone is taken from what is kept,
-/// or else made and kept.
+/// commands that are left. What answers them is made once: it is taken from what is kept, and only what changed since is made
+/// again.
 ///
 /// - `Memory`: memory ran out.
 pub fn answer_run<'c>(
     alloc: Global,
     bench: &Bench,
-    kept: &mut Option<RowNames>,
+    kept: &mut Kept,
     line: u32,
     text: &[u8],
     behind: &'c [Command],
     carried: &mut Carried,
 ) -> Result<&'c [Command], Memory>
-    requires kept { AreKept kept.old bench.now.current }
+    requires kept { IsKept kept.old bench.now.current }
     requires room { counted carried.old + 1 + length behind.now < 2 ^ 64 }
     requires ready { All IsReady behind.now }
-    ensures kept { AreKept kept.new bench.now.current }
+    ensures kept { IsKept kept.new bench.now.current }
     ensures answers { IfOk result (λ rest. AnswersFront bench.now.current (step_by (session_on bench.now.current carried.old) line (Question text.now)) (counted carried.old + 1) behind.now carried.new rest.now) }
 {
-    keep_names(alloc, bench.release(), kept)?;
-    match kept {
-        Some(names) => answer_by(alloc, bench, names, line, text, behind, carried),
-        None => unreachable!(),
-    }
-}
-
-/// The same by what the rows of the bench tell.
-fn answer_by<'c>(
-    alloc: Global,
-    bench: &Bench,
-    names: &RowNames,
-    line: u32,
-    text: &[u8],
-    behind: &'c [Command],
-    carried: &mut Carried,
-) -> Result<&'c [Command], Memory>
-    requires names { AreRowNames names.now bench.now.current }
-    requires room { counted carried.old + 1 + length behind.now < 2 ^ 64 }
-    requires ready { All IsReady behind.now }
-    ensures { IfOk result (λ rest. AnswersFront bench.now.current (step_by (session_on bench.now.current carried.old) line (Question text.now)) (counted carried.old + 1) behind.now carried.new rest.now) }
-{
-    let pieces = bench_pieces(alloc, bench)?;
-    answer_over(
-        alloc,
-        bench,
-        pieces.as_slice(),
-        names,
-        line,
-        text,
-        behind,
-        carried,
-    )
-}
-
-/// The same over the pieces of equal records of the bench.
-fn answer_over<'c>(
-    alloc: Global,
-    bench: &Bench,
-    pieces: &[Span],
-    names: &RowNames,
-    line: u32,
-    text: &[u8],
-    behind: &'c [Command],
-    carried: &mut Carried,
-) -> Result<&'c [Command], Memory>
-    requires pieces { IsCut (bench_record bench.now) 0 point_count pieces.now }
-    requires names { AreRowNames names.now bench.now.current }
-    requires room { counted carried.old + 1 + length behind.now < 2 ^ 64 }
-    requires ready { All IsReady behind.now }
-    ensures { IfOk result (λ rest. AnswersFront bench.now.current (step_by (session_on bench.now.current carried.old) line (Question text.now)) (counted carried.old + 1) behind.now carried.new rest.now) }
-{
-    match Asking::of(alloc, bench, pieces, names) {
-        Ok(asking) => {
-            let answered = answer_first(alloc, &asking, line, text, behind, carried);
-            drop(asking);
-            answered
-        }
-        Err(stop) => Err(stop),
-    }
+    kept.fill(alloc, bench)?;
+    let asking = kept.asking(bench);
+    answer_first(alloc, &asking, line, text, behind, carried)
 }
 
 /// The same by what answers questions on the bench.

@@ -6,7 +6,7 @@ ghost use Rattle.script_lines.specs.Groups.{AreReady, IsReady};
 ghost use Rattle.script_lines.specs.declared.command.What.TheVariants.{Group};
 ghost use Rattle.ucdshop_core.specs.Carrying.{counted, session_of};
 ghost use Rattle.ucdshop_core.specs.Counting.{CommandCounts, SessionCounts};
-ghost use Rattle.set_questions.specs.RowNames.{AreKept};
+ghost use Rattle.set_questions.specs.Kept.{IsKept};
 ghost use Rattle.ucdshop_core.specs.Session.{session, started, step, step_by};
 
 use crate::answering::answer_run;
@@ -14,7 +14,7 @@ use crate::carried::Carried;
 use edit_session::{ApplyStop, Bench};
 use release_rows::Op;
 use script_lines::{Command, What};
-use set_questions::{RowNames, let_go};
+use set_questions::Kept;
 use std::alloc::Global;
 use std::sync::ledger::Ledger;
 use ucd_model::{Memory, Steps};
@@ -34,21 +34,21 @@ pub fn carry_out<L: Ledger>(
     ensures counts { SessionCounts (started bench.old.current) commands.now steps.old steps.new }
     ensures steps { commands.now ≡ [] → steps.new ≡ steps.old }
 {
-    let mut kept = None;
+    let mut kept = Kept::nothing(alloc);
     let carried = carry_all(alloc, bench, &mut kept, commands, steps);
     drop(kept);
     carried
 }
 
-/// The same with what is kept of the rows alone.
+/// The same with what is kept for questions.
 fn carry_all<L: Ledger>(
     alloc: Global,
     bench: &mut Bench,
-    kept: &mut Option<RowNames>,
+    kept: &mut Kept,
     commands: &[Command],
     steps: &mut Steps<L>,
 ) -> Result<Carried, Memory>
-    requires kept { AreKept kept.old bench.old.current }
+    requires kept { IsKept kept.old bench.old.current }
     requires ready { All IsReady commands.now }
     ensures session { IfOk result (λ carried. session_of bench.new carried ≡ session bench.old.current commands.now) }
     ensures counts { SessionCounts (started bench.old.current) commands.now steps.old steps.new }
@@ -67,16 +67,16 @@ fn carry_all<L: Ledger>(
 fn carry_some<'c, L: Ledger>(
     alloc: Global,
     bench: &mut Bench,
-    kept: &mut Option<RowNames>,
+    kept: &mut Kept,
     commands: &'c [Command],
     carried: &mut Carried,
     steps: &mut Steps<L>,
 ) -> Result<&'c [Command], Memory>
     requires some { 0 < length commands.now }
-    requires kept { AreKept kept.old bench.old.current }
+    requires kept { IsKept kept.old bench.old.current }
     requires ready { All IsReady commands.now }
     requires room { counted carried.old + length commands.now < 2 ^ 64 }
-    ensures kept { AreKept kept.new bench.new.current }
+    ensures kept { IsKept kept.new bench.new.current }
     ensures session { IfOk result (λ rest. fold step (session_of bench.new carried.new) rest.now ≡ fold step (session_of bench.old carried.old) commands.now) }
     ensures counts { (n : ℕ) → IfOk result (λ rest. SessionCounts (session_of bench.new carried.new) rest.now steps.new n → SessionCounts (session_of bench.old carried.old) commands.now steps.old n) }
     ensures stopped { IfErr result (λ _. SessionCounts (session_of bench.old carried.old) commands.now steps.old steps.new) }
@@ -120,27 +120,27 @@ fn first_command(commands: &[Command]) -> (&Command, &[Command])
     (&commands[0], &commands[1..])
 }
 
-/// Carries out a group. What is kept of the rows alone is let go if the group edits a row that tells it.
+/// Carries out a group, and notes for what is kept which files it edits, and which records it changes.
 fn carry_group<L: Ledger>(
     alloc: Global,
     bench: &mut Bench,
-    kept: &mut Option<RowNames>,
+    kept: &mut Kept,
     line: u32,
     ops: &[Op],
     carried: &mut Carried,
     steps: &mut Steps<L>,
 ) -> Result<(), Memory>
-    requires kept { AreKept kept.old bench.old.current }
+    requires kept { IsKept kept.old bench.old.current }
     requires ready { AreReady ops.now }
     requires room { counted carried.old + 1 < 2 ^ 64 }
-    ensures kept { AreKept kept.new bench.new.current }
+    ensures kept { IsKept kept.new bench.new.current }
     ensures session { OnOk result (session_of bench.new carried.new ≡ step_by (session_of bench.old carried.old) line (Group ops.now)) }
     ensures counts { CommandCounts bench.old.current (Group ops.now) steps.old steps.new }
     ensures counted { OnOk result (counted carried.new ≡ counted carried.old + 1) }
 {
     match bench.apply(alloc, ops, steps) {
         Ok(accepted) => {
-            let_go(kept, ops);
+            kept.note(alloc, ops, accepted.changed.as_slice());
             carried.accept(alloc, line, accepted.changed.as_slice().len())
         }
         Err(ApplyStop::Refused(why)) => carried.refuse(alloc, line, why),

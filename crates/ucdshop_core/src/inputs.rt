@@ -1,11 +1,12 @@
 //! What the texts that a run works on give.
 
-ghost use Rattle.std.specs.Prelude.{◌≡◌, ◌+◌, ◌≤◌, IfOk};
+ghost use Rattle.std.specs.Prelude.{◌≡◌, ◌+◌, ◌≤◌, Ok, IfOk, IsTrue};
 ghost use Rattle.std.specs.Option.{option_map};
 ghost use Rattle.std.specs.List.{All};
 ghost use Rattle.ucd_points.specs.Limits.{point_count};
 ghost use Rattle.run_inputs.specs.Held.{held_at, source_held};
 ghost use Rattle.run_inputs.specs.Judging.{ToldAs};
+ghost use Rattle.run_inputs.specs.Verdict.{release_verdict};
 ghost use Rattle.ucdshop_core.specs.JobWords.{job_of};
 ghost use Rattle.ucdshop_core.specs.Counting.{opened_limit};
 ghost use Rattle.ucdshop_core.specs.Judging.{behind_verdict, earlier_inputs, inputs_of};
@@ -15,7 +16,7 @@ ghost use Rattle.script_lines.specs.Groups.{IsReady};
 use crate::job::Job;
 use edit_session::Bench;
 use run_endings::Stop;
-use run_inputs::{held_at, open_folder, read_script};
+use run_inputs::{held_at, open_beside, open_folder, read_script, same_sources};
 use script_lines::Commands;
 use std::alloc::Global;
 use std::sync::ledger::Ledger;
@@ -33,8 +34,8 @@ pub struct Inputs {
 }
 
 /// Judges what a job is given: the source files, the script behind them, and the source files of the earlier release behind
-/// that. Texts of source files move into the benches. The counter of steps rises by at most the number of code points for each
-/// release that the job names.
+/// that. Texts of source files move into the benches, or are dropped if the earlier release is the release itself. The counter of
+/// steps rises by at most the number of code points for each release that the job names.
 ///
 /// - `Refused(line)`: the first of these is refused: a source file, a code point, the script, a source file of the earlier
 ///   release, a code point of it.
@@ -50,25 +51,35 @@ pub fn judge_inputs<L: Ledger>(
     ensures commands { IfOk result (λ inputs. All IsReady inputs.commands) }
     ensures steps { steps.new ≤ steps.old + opened_limit (job_of job.entry) }
 {
+    let same = is_same_release(job, held.as_slice());
     let bench = open_folder(alloc, job.folder, held, 0, steps)?;
-    judge_behind(alloc, job, held, bench, steps)
+    judge_behind(alloc, job, held, bench, same, steps)
 }
 
-/// Judges what is held behind the release, which this bench is over.
+/// Whether there is an earlier release, and its source files are those of the release, byte for byte.
+fn is_same_release(job: Job<'_>, held: &[Option<Text>]) -> bool
+    ensures { IsTrue result → source_held held.now (earlier_place (job_of job.entry)) ≡ source_held held.now 0 }
+{
+    job.previous.is_some() && same_sources(held, 0, job.earlier_place())
+}
+
+/// Judges what is held behind the release, which this bench is over. `same` says that the earlier release is that release.
 #[tactic(auto, using(crate::proofs::CountingLemmas::one_release))]
 fn judge_behind<L: Ledger>(
     alloc: Global,
     job: Job<'_>,
     held: &mut Vec<Option<Text>>,
     bench: Bench,
+    same: bool,
     steps: &mut Steps<L>,
 ) -> Result<Inputs, Stop>
+    requires same { IsTrue same → release_verdict (source_held held.old.items (earlier_place (job_of job))) ≡ Ok bench.current }
     ensures inputs { ToldAs inputs_of result (behind_verdict (job_of job.entry) held.old.items bench.current) }
     ensures commands { IfOk result (λ inputs. All IsReady inputs.commands) }
     ensures steps { steps.new + point_count ≤ steps.old + opened_limit (job_of job.entry) }
 {
     match judge_commands(alloc, job, held.as_slice()) {
-        Ok(commands) => with_earlier(alloc, job, held, bench, commands, steps),
+        Ok(commands) => with_earlier(alloc, job, held, bench, same, commands, steps),
         Err(stop) => Err(stop),
     }
 }
@@ -80,15 +91,17 @@ fn with_earlier<L: Ledger>(
     job: Job<'_>,
     held: &mut Vec<Option<Text>>,
     bench: Bench,
+    same: bool,
     commands: Commands,
     steps: &mut Steps<L>,
 ) -> Result<Inputs, Stop>
-    requires { All IsReady commands }
+    requires same { IsTrue same → release_verdict (source_held held.old.items (earlier_place (job_of job))) ≡ Ok bench.current }
+    requires commands { All IsReady commands }
     ensures inputs { ToldAs inputs_of result (earlier_inputs (job_of job.entry) held.old.items bench.current commands) }
     ensures commands { IfOk result (λ inputs. All IsReady inputs.commands) }
     ensures steps { steps.new + point_count ≤ steps.old + opened_limit (job_of job.entry) }
 {
-    match judge_earlier(alloc, job, held, steps) {
+    match judge_earlier(alloc, job, held, &bench, same, steps) {
         Ok(earlier) => Ok(Inputs {
             bench,
             commands,
@@ -98,20 +111,24 @@ fn with_earlier<L: Ledger>(
     }
 }
 
-/// Judges what is held of the earlier release.
+/// Judges what is held of the earlier release. If it is the release that this bench is over, its bench is a copy.
 fn judge_earlier<L: Ledger>(
     alloc: Global,
     job: Job<'_>,
     held: &mut Vec<Option<Text>>,
+    bench: &Bench,
+    same: bool,
     steps: &mut Steps<L>,
 ) -> Result<Option<Bench>, Stop>
+    requires same { IsTrue same → release_verdict (source_held held.old.items (earlier_place (job_of job))) ≡ Ok bench.now.current }
     ensures earlier { ToldAs (λ earlier. option_map (λ bench. bench.current) earlier) result (earlier_verdict (job_of job.entry).previous (source_held held.old.items (earlier_place (job_of job.entry)))) }
     ensures steps { steps.new + point_count ≤ steps.old + opened_limit (job_of job.entry) }
 {
     match job.previous {
         Some(folder) => {
-            let bench = open_folder(alloc, folder, held, job.earlier_place(), steps)?;
-            Ok(Some(bench))
+            let place = job.earlier_place();
+            let earlier = open_beside(alloc, folder, held, place, bench, same, steps)?;
+            Ok(Some(earlier))
         }
         None => Ok(None),
     }

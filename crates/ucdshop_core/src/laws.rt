@@ -35,7 +35,8 @@ pub fn refusals_change_nothing()
     ensures { RefusalsChangeNothing }
 {}
 
-/// A script without a refused command leaves the same files and answers, and the same counts but that of refusals.
+/// If a refused command is left out of the commands of a script, the files and answers stay the same, and so do the
+/// counts but that of refusals.
 pub fn refusals_are_left_out()
     ensures { RefusalsAreLeftOut }
 {}

@@ -22,9 +22,9 @@
 -- onto moves later        the later moves behind these; or the fault
 -- section_moves section   the moves of a section of the code
 -- all_moves sections      those of all sections, in order
--- SectionAs result expected   the section stands for the moves that were expected, or the fault is; want of memory says nothing
--- PutAs result old new moves   what a piece has was put behind the moves before it, or the fault is that of the piece; want of memory
---                         says nothing
+-- SectionAs result expected   the section stands for the moves that were expected, or the fault is; no claim if memory ran out
+-- PutAs result old new moves   what a piece has was put behind the moves before it, or the fault is that of the piece; no claim if
+--                         memory ran out
 -- SectionsAs result expected   the same of all sections
 use Rattle.std.specs.Prelude.{◌≡◌, ℕ, Bool, List, [], ◌∷◌, ◌++◌, map, Option, Some, None, Result, Ok, Err, if◌then◌else◌, codes, ⊤}
 use Rattle.std.specs.List.{flat_map, list_all}

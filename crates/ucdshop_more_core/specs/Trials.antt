@@ -8,7 +8,7 @@
 -- with_cases release cases the release with the cases; or the line that refuses them
 -- trial_verdict input tests seen   the release in a folder and the cases of the file behind it, of which this was seen; or the line that
 --                          refuses the first of these: a file of the folder, a code point, the file of cases
--- TellsLine stop line      a refusal by this line; want of memory says nothing
+-- TellsLine stop line      a refusal by this line; no claim if memory ran out
 use Rattle.std.specs.Prelude.{◌≡◌, ℕ, List, Option, Result, Ok, Err, codes, ⊤}
 use Rattle.release_rows.specs.Releases.{ReleaseItems}
 use Rattle.norm_conformance.specs.Cases.{CaseFault, cases_or_fault}

@@ -16,10 +16,10 @@
 -- turns_told path held    the same of what is held of that file
 -- onto turns later        the later turns behind these; or the fault
 -- request_turn request    the turn of a request of the code
--- TurnAs result expected  the request stands for the turn that was expected, or the fault is; want of memory says nothing
+-- TurnAs result expected  the request stands for the turn that was expected, or the fault is; no claim if memory ran out
 -- MarkedAs result expected   the same of a request that is there
--- PutAs result old new turn   what a piece has was put behind the turns before it, or the fault is that of the piece; want of memory
---                         says nothing
+-- PutAs result old new turn   what a piece has was put behind the turns before it, or the fault is that of the piece; no claim if
+--                         memory ran out
 -- TurnsAs result expected    the same of all requests
 use Rattle.std.specs.Prelude.{◌≡◌, ℕ, List, [], ◌∷◌, ◌++◌, map, Option, Some, None, Result, Ok, Err, if◌then◌else◌, codes, ⊤}
 use Rattle.std.specs.Option.{option_map}

@@ -3,7 +3,7 @@ use Rattle.std.specs.List.{All}
 use Rattle.script_lines.specs.Groups.{IsReady}
 use Rattle.ucdshop_core.specs.Carrying.{counted, session_of}
 use Rattle.ucdshop_core.specs.Counting.{SessionCounts}
-use Rattle.set_questions.specs.RowNames.{AreKept}
+use Rattle.set_questions.specs.Kept.{IsKept}
 use Rattle.ucdshop_core.specs.Session.{session, started, step}
 use Rattle.ucdshop_core.proofs.carrying.carry_all.Given as goal
 
@@ -11,7 +11,7 @@ use Rattle.ucdshop_core.proofs.carrying.carry_all.Given as goal
 abbrev pub invariant-commands : goal.invariant-commands
 invariant-commands g l =
     record {
-      kept : AreKept l.kept l.bench.current;
+      kept : IsKept l.kept l.bench.current;
       session : fold step (session_of l.bench l.carried) l.rest ≡ session l.initial.bench.current l.commands;
       counts : (n : ℕ) → SessionCounts (session_of l.bench l.carried) l.rest l.steps n → SessionCounts (started l.initial.bench.current) l.commands l.initial.steps n;
       counted : counted l.carried + length l.rest ≡ length l.commands;

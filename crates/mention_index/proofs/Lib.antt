@@ -1,0 +1,4 @@
+pub mod StepLemmas
+pub mod WalkLemmas
+pub mod WalkSteps
+pub mod AboutLemmas

@@ -1,8 +1,8 @@
 -- A turn, over the points that are derived again.
-use Rattle.std.proofs.Common.{◌≡◌, ◌≢◌, ℕ, zero, suc, ◌+◌, ◌-◌, ◌<◌, ◌≤◌, ◌==◌, nat_lt, Bool, true, false, true≢false, not, cond, ◌&&◌, ◌||◌, if◌then◌else◌, List, [], ◌∷◌, ◌++◌, length, get_or, filter, map, inl, inr, refl, sym, ap, subst, ◌∙◌, arith}
+use Rattle.std.proofs.Common.{◌≡◌, ◌≢◌, ℕ, zero, suc, ◌+◌, ◌-◌, ◌<◌, ◌≤◌, ◌==◌, nat_lt, Bool, true, false, true≢false, not, cond, ◌&&◌, ◌||◌, List, [], ◌∷◌, ◌++◌, length, get_or, filter, map, inl, inr, refl, sym, ap, subst, ◌∙◌, arith}
 use Rattle.std.specs.List.{range_with_len}
 use Rattle.std.specs.List.Sorted.{IsStrictlyIncreasing}
-use Rattle.std.proofs.lemmas.Bool.{cases_Bool, cases_eq, cases_lt, or_cases}
+use Rattle.std.proofs.lemmas.Bool.{cases_Bool, cases_eq, or_cases}
 use Rattle.std.proofs.lemmas.Bool.Decides.{nat_tests}
 use Rattle.std.proofs.lemmas.List.{get_or-append-add, length-append}
 use Rattle.std.proofs.lemmas.List.Folds.{Any-from_list_any, list_any-append}
@@ -17,16 +17,15 @@ use Rattle.ucd_model.specs.Validity.{broken}
 use Rattle.ucd_model.specs.declared.query.Query.{Query}
 use Rattle.ucd_model.specs.declared.records.Record.{Record as KeptRecord}
 use Rattle.record_list.specs.Records.{written}
-use Rattle.asked_queries.specs.Answers.{is_asked}
 use Rattle.asked_queries.specs.AnswerProofs.{same_bool}
 use Rattle.asked_queries.specs.Questions.{asked}
-use Rattle.asked_queries.specs.Turns.{IsTurn, KeepsAsked, SameQueries, asks_one}
-use Rattle.asked_queries.specs.TurnProofs.{collected_are_counted, next_is_broken, next_is_valid, next_keeps_asked, others_stay}
+use Rattle.asked_queries.specs.Turns.{IsTurn, asks_one}
+use Rattle.asked_queries.specs.TurnProofs.{collected_are_counted, next_is_broken, next_is_valid, others_stay}
 use Rattle.dependency_map.specs.Askers.{askers_of_any, asks_any}
 use Rattle.dependency_map.specs.Laws.{AreThose}
 use Rattle.dependency_map.specs.LawProofs.{askers_are_those}
 use Rattle.rederivation.specs.Again.{AsksAnew, IsAgain, StopsAt, differs}
-use Rattle.rederivation.specs.Turned.{CountsWithin, IsReady, IsTurned, StopsTurn, changed_points}
+use Rattle.rederivation.specs.Turned.{CountsWithin, IsReady, IsRekept, IsTurned, StopsTurn, changed_points}
 use Rattle.rederivation.specs.declared.again.Again.{Again}
 use Rattle.rederivation.specs.declared.again_stop.AgainStop.{AgainStop}
 use Rattle.rederivation.specs.declared.again_stop.AgainStop.TheVariants.{Broken, Memory}
@@ -52,15 +51,9 @@ not_true : (b : Bool) → not b ≡ false → b ≡ true
 not_true true h = refl
 not_true false h = absurd (true≢false h)
 
-within : (c n : ℕ) (x y : List Query) → c < n → (if nat_lt c n then x else y) ≡ x
-within c n x y lt = ap (λ b. if b then x else y) (below_true c n lt)
-
-outside : (c n : ℕ) (x y : List Query) → n ≤ c → (if nat_lt c n then x else y) ≡ y
-outside c n x y le = by (nat_lt c n) refl
-  where
-    by : (b : Bool) → nat_lt c n ≡ b → (if nat_lt c n then x else y) ≡ y
-    by true e = let lt : c < n = true_below c n e in absurd (omega arith)
-    by false e = ap (λ t. if t then x else y) e
+and_false : (b : Bool) → (b && false) ≡ false
+and_false true = refl
+and_false false = refl
 
 -- ---- lists
 
@@ -145,10 +138,6 @@ not_below front behind point c rising h =
         AllPairs-from_increasing (front ++ point ∷ behind) rising (length front + 0) (length front + suc k) x (omega arith) (omega (arith, all, lt)) in
         omega (arith, less, first, there, is)
 
--- what B gives below the last code point, and A above it
-abbrev picked : (ℕ → List Query) → (ℕ → List Query) → ℕ → List Query
-picked A B k = if nat_lt k point_count then B k else A k
-
 -- ---- what is ready
 
 module _ (F G : ℕ → Facts) (R : ℕ → Record) (A N : ℕ → List Query) (Q : List Query) (points : List ℕ) (ready : IsReady F G R A N Q) (askers : points ≡ askers_of_any A Q) where
@@ -161,22 +150,32 @@ module _ (F G : ℕ → Facts) (R : ℕ → Record) (A N : ℕ → List Query) (
       (λ h. let one = those.only c h in both (nat_lt c point_count) (asks_one A Q c) (below_true c point_count (subst (λ n. c < n) (sym point_count-is) one.0)) one.1)
       (λ h. let two = parts (nat_lt c point_count) (asks_one A Q c) h in those.all c (subst (λ n. c < n) point_count-is (true_below c point_count two.0)) two.1)
 
-  turn_of : IsTurn F G A Q points
-  turn_of = record { valid = ready.valid; kept = ready.kept; changes = ready.changes; collected = record { rising = those.rising; members = members } }
+  asks_count : (c : ℕ) (b : Bool) → nat_lt c point_count ≡ b → (b && asks_one A Q c) ≡ (b && asks_one (asked F) Q c)
+  asks_count c true e = ready.alike c (true_below c point_count e)
+  asks_count c false e = refl
+
+  -- it is a turn in which all that is asked is kept
+  turn_of : IsTurn F G (asked F) Q points
+  turn_of = record {
+    valid = ready.valid;
+    kept = λ c lt q. refl;
+    changes = ready.changes;
+    collected = record { rising = those.rising; members = λ c. members c ∙ asks_count c (nat_lt c point_count) refl };
+  }
 
   same_others : (c : ℕ) → c < point_count → is_in points c ≡ false → record_at G c ≡ record_at F c
   same_others c lt h =
       let (X, has) = ready.valid c lt in
-      let stay = others_stay F G A Q points turn_of c lt h in
+      let stay = others_stay F G (asked F) Q points turn_of c lt h in
       sym (ok_is (record_at G c) X (broken G c) (stay.0 ∙ has)) ∙ ok_is (record_at F c) X (broken F c) has
 
   pub counts : (old new : ℕ) → new ≤ old + length points → CountsWithin F G old new
-  counts old new le = (length points, collected_are_counted F G A Q points turn_of, le)
+  counts old new le = (length points, collected_are_counted F G (asked F) Q points turn_of, le)
 
   -- the stop
   pub stops_turn : (stop : AgainStop) → StopsAt G points stop → StopsTurn G stop
   stops_turn (Broken rule point) (front, behind, split, has, breaks) =
-      next_is_broken F G A Q points turn_of (record { point = point; rule = rule }) (subst (λ (xs : List ℕ). is_in xs point ≡ true) (sym split) here) breaks
+      next_is_broken F G (asked F) Q points turn_of (record { point = point; rule = rule }) (subst (λ (xs : List ℕ). is_in xs point ≡ true) (sym split) here) breaks
       (λ c h lt. has c (in_part c lt (subst (λ (xs : List ℕ). is_in xs c ≡ true) split h)))
     where
       halves : (c : ℕ) → is_in (front ++ point ∷ behind) c ≡ (is_in front c || is_in (point ∷ behind) c)
@@ -212,10 +211,6 @@ module _ (F G : ℕ → Facts) (R : ℕ → Record) (A N : ℕ → List Query) (
       let same : record_at G c ≡ record_at F c = same_others c inside (members c ∙ ap (λ b. nat_lt c point_count && b) none ∙ and_false (nat_lt c point_count)) in
       ap not ((records_are_told (record_at F c) (record_at G c)).1 (sym same)))
       ∙ ap (λ n. filter (λ c. not (same_record (record_at F c) (record_at G c))) (range_with_len 0 n)) whole
-    where
-      and_false : (b : Bool) → (b && false) ≡ false
-      and_false true = refl
-      and_false false = refl
 
   -- the records
   unchanged : (made : Again) → IsAgain R G points made → (c : ℕ) → c < point_count → is_in made.changed c ≡ false → R c ≡ record_at G c
@@ -233,29 +228,20 @@ module _ (F G : ℕ → Facts) (R : ℕ → Record) (A N : ℕ → List Query) (
   records_next made again c lt = written_as made.changed made.records.items (record_at G) R c again.records (unchanged made again c lt)
 
   -- the questions
-  kept_next : (B : ℕ → List Query) → AsksAnew G points N B → KeepsAsked B G
-  kept_next B asks c lt =
-      λ q. ap (λ (qs : List Query). is_asked qs q) (sym (within c point_count (B c) (A c) lt)) ∙ next_keeps_asked F G A (picked A B) Q points turn_of anew others c lt q
-    where
-      anew : (k : ℕ) → is_in points k ≡ true → SameQueries (picked A B k) (asked G k)
-      anew k h =
-          let inside : k < 1114112 = (those.only k h).0 in
-          λ q. ap (λ (qs : List Query). is_asked qs q) (within k point_count (B k) (A k) (subst (λ n. k < n) (sym point_count-is) inside)) ∙ asks.anew k inside h q
+  rekept : (B : ℕ → List Query) → AsksAnew G points N B → IsRekept F G A B Q
+  rekept B asks = record {
+    anew = λ c lt one. asks.anew c (subst (λ n. c < n) point_count-is lt) (members c ∙ both (nat_lt c point_count) (asks_one A Q c) (below_true c point_count lt) one);
+    others = λ c lt none.
+        let inside : c < 1114112 = subst (λ n. c < n) point_count-is lt in
+        let other : is_in points c ≡ false = members c ∙ ap (λ b. nat_lt c point_count && b) none ∙ and_false (nat_lt c point_count) in
+        (asks.others c inside other ∙ ready.still c inside, (others_stay F G (asked F) Q points turn_of c lt other).1);
+  }
 
-      others : (k : ℕ) → is_in points k ≡ false → SameQueries (picked A B k) (A k)
-      others k h =
-          elim (cases_lt k point_count) [
-            | inl inside ↦
-                let at : k < 1114112 = subst (λ n. k < n) point_count-is inside in
-                λ q. ap (λ (qs : List Query). is_asked qs q) (within k point_count (B k) (A k) inside ∙ asks.others k at h ∙ ready.still k at)
-            | inr past ↦ λ q. ap (λ (qs : List Query). is_asked qs q) (outside k point_count (B k) (A k) past)
-          ]
-
-  pub turned : (made : Again) (S : ℕ → Record) (B : ℕ → List Query) → IsAgain R G points made → AsksAnew G points N B → ((c : ℕ) → c < point_count → S c ≡ written made.changed made.records.items R c) → IsTurned F G S B made.changed
+  pub turned : (made : Again) (S : ℕ → Record) (B : ℕ → List Query) → IsAgain R G points made → AsksAnew G points N B → ((c : ℕ) → c < point_count → S c ≡ written made.changed made.records.items R c) → IsTurned F G S A B Q made.changed
   turned made S B again asks records = record {
-    valid = next_is_valid F G A Q points turn_of again.has;
+    valid = next_is_valid F G (asked F) Q points turn_of again.has;
     records = λ c lt. records c lt ∙ records_next made again c lt;
-    kept = kept_next B asks;
+    kept = rekept B asks;
     changed = changed_is made again;
   }
 

@@ -19,8 +19,9 @@ use ucd_model::{FactView, Points, Queries, Steps};
 /// Derives code points that ask one of the questions over the facts of a view, prepares their records and what they
 /// ask, and answers those whose records differ, in ascending order. Nothing may have been prepared before.
 ///
-/// The questions are those that the view answers differently from the facts that the records and the map are of. The
-/// counter rises by at most the number of code points that depend on the change.
+/// The questions are those that the view answers differently from the facts that the records are of, and the map tells who
+/// asks one of them; of other questions it need not tell. The counter rises by at most the number of code points that
+/// depend on the change.
 ///
 /// - `Broken { rule, point }`: the facts of the view are not valid. The least code point that breaks a rule is named, with
 ///   its first rule.
@@ -41,7 +42,7 @@ pub fn turn<W: FactView, S: Store<Option<Queries>>, L: Ledger>(
     ensures asked { SameValues (asked_at S.now map.new) (asked_at S.now map.old) }
     ensures turned { IfOk result (λ changed. (F : ℕ → Facts)
         → IsReady F (W.facts_of view.now) (record_now records.old) (asked_at S.now map.old) (asked_at S.next map.old) queries.now
-        → IsTurned F (W.facts_of view.now) (record_next records.new) (asked_at S.next map.new) changed) }
+        → IsTurned F (W.facts_of view.now) (record_next records.new) (asked_at S.now map.old) (asked_at S.next map.new) queries.now changed) }
     ensures stop { IfErr result (λ stop. (F : ℕ → Facts)
         → IsReady F (W.facts_of view.now) (record_now records.old) (asked_at S.now map.old) (asked_at S.next map.old) queries.now
         → StopsTurn (W.facts_of view.now) stop) }
@@ -77,7 +78,7 @@ fn turn_in_part<W: FactView, S: Store<Option<Queries>>, L: Ledger>(
     ensures asked { SameValues (asked_at S.now map.new) (asked_at S.now map.old) }
     ensures turned { IfOk result (λ changed. (F : ℕ → Facts)
         → IsReady F (W.facts_of view.now) (record_now records.old) (asked_at S.now map.old) (asked_at S.next map.old) queries.now
-        → IsTurned F (W.facts_of view.now) (record_next records.new) (asked_at S.next map.new) changed) }
+        → IsTurned F (W.facts_of view.now) (record_next records.new) (asked_at S.now map.old) (asked_at S.next map.new) queries.now changed) }
     ensures stop { IfErr result (λ stop. (F : ℕ → Facts)
         → IsReady F (W.facts_of view.now) (record_now records.old) (asked_at S.now map.old) (asked_at S.next map.old) queries.now
         → StopsTurn (W.facts_of view.now) stop) }

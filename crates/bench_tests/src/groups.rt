@@ -176,8 +176,19 @@ fn all_answered<L: Ledger>(
 
 /// Whether a bench over these lines of UnicodeData.txt, with all other files empty, answers the groups so.
 fn answers(alloc: Global, lines: &[u8], groups: &[(&[Edit], Answer)]) -> Result<bool, Fail> {
+    answers_over(alloc, lines, b"", groups)
+}
+
+/// The same with these lines of CaseFolding.txt.
+fn answers_over(
+    alloc: Global,
+    lines: &[u8],
+    foldings: &[u8],
+    groups: &[(&[Edit], Answer)],
+) -> Result<bool, Fail> {
     let mut release = Release::empty(alloc);
     release.load_file(SourceFile::UnicodeData, lines)?;
+    release.load_file(SourceFile::CaseFolding, foldings)?;
     all_answered::<Brand>(alloc, release, groups, Blank::new(1))
 }
 
@@ -212,6 +223,42 @@ fn dependants_change_with_what_they_ask(rt: HostRuntime) -> Result<(), Fail> {
         ),
     ];
     assert!(rt; answers(rt.alloc(), lines, &groups)?);
+    Ok(())
+}
+
+/// Letters, of which one has a mark, and a ligature that has its parts in its compatibility mapping.
+const LIGATURE: &[u8] =
+    b"0041;LATIN CAPITAL LETTER A;Lu;0;L;;;;;N;;;;;\n00C0;LATIN CAPITAL LETTER A WITH GRAVE;Lu;0;L;0041 0300;;;;N;;;;;\n00E0;X;Ll;0;L;;;;;N;;;;;\n0300;COMBINING GRAVE ACCENT;Mn;230;NSM;;;;;N;;;;;\nFB00;Y;Lo;0;L;<compat> 0041 0300;;;;N;;;;;\n";
+
+/// The letter that a letter with a mark is folded to is not shown.
+const HIDDEN: Edit = Edit::Add(
+    SourceFile::PropList,
+    b"00E0 ; Other_Default_Ignorable_Code_Point",
+);
+
+// the ligature mentions neither the letter with the mark nor what that is folded to
+#[test]
+fn dependants_stand_behind_composites_and_foldings(rt: HostRuntime) -> Result<(), Fail> {
+    let folded_first: [(&[Edit], Answer); 2] = [
+        (&[HIDDEN], Answer::Changed(&[0x00C0, 0x00E0, 0xFB00])),
+        (
+            &[Edit::Withdraw(SourceFile::CaseFolding, b"00C0; C")],
+            Answer::Changed(&[0x00C0, 0xFB00]),
+        ),
+    ];
+    assert!(rt; answers_over(rt.alloc(), LIGATURE, b"00C0; C; 00E0\n", &folded_first)?);
+    let composed_first: [(&[Edit], Answer); 3] = [
+        (
+            &[Edit::Add(SourceFile::CaseFolding, b"00C0; C; 00E0")],
+            Answer::Changed(&[0x00C0, 0xFB00]),
+        ),
+        (&[HIDDEN], Answer::Changed(&[0x00C0, 0x00E0, 0xFB00])),
+        (
+            &[Edit::Add(SourceFile::CompositionExclusions, b"00C0")],
+            Answer::Changed(&[0x00C0, 0x0300, 0xFB00]),
+        ),
+    ];
+    assert!(rt; answers(rt.alloc(), LIGATURE, &composed_first)?);
     Ok(())
 }
 

@@ -14,8 +14,7 @@ use Rattle.ucd_model.specs.ValidityLaws.{IsValid}
 use Rattle.ucd_model.specs.ValidityProofs.{valid_is_unbroken}
 use Rattle.ucd_model.specs.declared.form.Broken.{Broken}
 use Rattle.ucd_model.specs.declared.query.Query.{Query}
-use Rattle.asked_queries.specs.Answers.{TellsChanges, is_asked}
-use Rattle.asked_queries.specs.Turns.{KeepsAsked}
+use Rattle.asked_queries.specs.Answers.{TellsChanges}
 use Rattle.record_list.specs.Records.{record_next, record_now}
 use Rattle.rederivation.specs.Turned.{CountsWithin, IsReady, IsTurned, StopsTurn}
 use Rattle.rederivation.specs.declared.again_stop.AgainStop.{AgainStop}
@@ -24,12 +23,13 @@ use Rattle.release_rows.specs.FileItems.{FileItem}
 use Rattle.code_facts.specs.FactTables.{tables_facts, tables_next}
 use Rattle.dependency_map.specs.Maps.{asked_at}
 use Rattle.kept_values.specs.Kept.{values}
+use Rattle.mention_index.specs.declared.mentions.Mentions.{Mentions}
 use Rattle.paged_table.specs.Paged.{values_next, values_now}
 use Rattle.edit_session.specs.Benches.{NamesBroken}
 use Rattle.edit_session.specs.Derivations.{AreOf, IsNext, IsNow, IsStill}
 use Rattle.edit_session.specs.declared.derivation.Derivation.{Derivation}
-use Rattle.edit_session.specs.declared.questions.Questions.{Questions}
-use Rattle.edit_session.specs.Questions.{Keeps, KeepsNow}
+use Rattle.edit_session.specs.Questions.{HasWalked, Keeps}
+use Rattle.edit_session.proofs.QuestionLemmas.{alike, keeps_next, keeps_same}
 use Rattle.edit_session.specs.Groups.{AnswersAs, changed, checked_files, files_facts, refused_by, valid_files}
 use Rattle.edit_session.specs.declared.apply_stop.ApplyStop.{ApplyStop}
 use Rattle.edit_session.specs.declared.apply_stop.ApplyStop.TheVariants.{Refused as Refuses}
@@ -44,26 +44,8 @@ Files = List (List FileItem)
 pub named_over : (F G : ℕ → Facts) (stop : OpenStop) → F ≡ G → NamesBroken stop F → NamesBroken stop G
 named_over F G stop same named = subst (NamesBroken stop) same named
 
--- the same questions, kept elsewhere
-pub kept_same : (A B : ℕ → List Query) (F : ℕ → Facts) → SameValues B A → KeepsAsked A F → KeepsAsked B F
-unfolding point_count
-kept_same A B F same kept = λ c lt q. ap (λ (qs : List Query). is_asked qs q) (same c lt) ∙ kept c lt q
-
-pub keeps_same : (listed : Bool) (A B : ℕ → List Query) (F : ℕ → Facts) → SameValues B A → Keeps listed A F → Keeps listed B F
-keeps_same true A B F same kept = kept_same A B F same kept
-keeps_same false A B F same plain = λ c lt. same c lt ∙ plain c lt
-
--- once they were listed
-keeps_asked : (listed : Bool) (A : ℕ → List Query) (F : ℕ → Facts) → listed ≡ true → Keeps listed A F → KeepsAsked A F
-keeps_asked true A F is kept = kept
-keeps_asked false A F is plain = absurd cc
-
-keeps_listed : (listed : Bool) (A : ℕ → List Query) (F : ℕ → Facts) → listed ≡ true → KeepsAsked A F → Keeps listed A F
-keeps_listed true A F is kept = kept
-keeps_listed false A F is kept = absurd cc
-
 -- the same facts and records, kept elsewhere, and questions that are kept as well
-pub moved : (F before after : ℕ → Facts) (old new : ℕ → Record) (then now : Bool) (A B : ℕ → List Query) → after ≡ before → SameValues new old → (Keeps then A F → Keeps now B F) → AreOf F before old then A → AreOf F after new now B
+pub moved : (F before after : ℕ → Facts) (old new : ℕ → Record) (then now : Option Mentions) (A B : ℕ → List Query) → after ≡ before → SameValues new old → (Keeps then A F → Keeps now B F) → AreOf F before old then A → AreOf F after new now B
 unfolding point_count
 moved F before after old new then now A B same records questions is = record {
   same = same ∙ is.same;
@@ -76,38 +58,40 @@ moved F before after old new then now A B same records questions is = record {
 pub valid_over : (F G : ℕ → Facts) → F ≡ G → IsValid F → IsValid G
 valid_over F G same valid = subst IsValid same valid
 
-pub keeps_over : (F G : ℕ → Facts) (listed : Bool) (A : ℕ → List Query) → F ≡ G → Keeps listed A F → Keeps listed A G
-keeps_over F G listed A same kept = subst (λ (H : ℕ → Facts). Keeps listed A H) same kept
-
--- questions that were listed for these facts
-pub listed_now : (d : Derivation) (questions : Questions) (F : ℕ → Facts) → KeepsNow (tables_facts values_now d.tables) questions → IsNow F d
-    → AreOf F (tables_facts values_now d.tables) (record_now d.records) questions.listed (asked_at (values values_now) questions.map)
-listed_now d questions F kept is = record {
+-- questions that are kept for these facts
+pub kept_now : (F facts : ℕ → Facts) (R S : ℕ → Record) (then now : Option Mentions) (A B C : ℕ → List Query) → SameValues S R → Keeps now B facts → SameValues C B → AreOf F facts R then A → AreOf F facts S now C
+unfolding point_count
+kept_now F facts R S then now A B C records kept asked is = record {
   same = is.same;
   valid = is.valid;
-  records = is.records;
-  kept = keeps_over (tables_facts values_now d.tables) F questions.listed (asked_at (values values_now) questions.map) is.same kept;
+  records = λ c lt. records c lt ∙ is.records c lt;
+  kept = subst (λ (H : ℕ → Facts). Keeps now C H) is.same (keeps_same now B C facts asked kept);
 }
+
+-- what is derived is that of its own facts
+pub itself : (F before after : ℕ → Facts) (R : ℕ → Record) (m : Option Mentions) (A : ℕ → List Query) → after ≡ before → AreOf F before R m A → AreOf after after R m A
+itself F before after R m A same is =
+    subst (λ (H : ℕ → Facts). AreOf H after R m A) (sym (same ∙ is.same)) (record { same = same ∙ is.same; valid = is.valid; records = is.records; kept = is.kept })
 
 -- ---- a turn
 
-pub ready : (F G start before view : ℕ → Facts) (R : ℕ → Record) (listed : Bool) (A N : ℕ → List Query) (Q : List Query) → listed ≡ true → AreOf F start R listed A → before ≡ start → SameValues N A → view ≡ G → TellsChanges before G Q → IsReady F view R A N Q
-ready F G start before view R listed A N Q known is stays still shown tells = record {
+pub ready : (F G view : ℕ → Facts) (R : ℕ → Record) (then now : Option Mentions) (A B N : ℕ → List Query) (Q : List Query) → AreOf F F R then A → Keeps now B F → HasWalked now Q → SameValues N B → view ≡ G → TellsChanges F G Q → IsReady F view R B N Q
+ready F G view R then now A B N Q is kept walked still shown tells = record {
   valid = is.valid;
   records = is.records;
-  kept = keeps_asked listed A F known is.kept;
+  alike = alike now B F Q kept walked;
   still = still;
-  changes = subst (λ (H : ℕ → Facts). TellsChanges F H Q) (sym shown) (subst (λ (H : ℕ → Facts). TellsChanges H G Q) (stays ∙ is.same) tells);
+  changes = subst (λ (H : ℕ → Facts). TellsChanges F H Q) (sym shown) tells;
 }
 
-pub turned : (F G view next : ℕ → Facts) (S : ℕ → Record) (listed : Bool) (B : ℕ → List Query) (points : List ℕ) → listed ≡ true → view ≡ next → next ≡ G → IsTurned F view S B points → AreOf G next S listed B
-turned F G view next S listed B points known shown is turn =
-    let over : IsTurned F G S B points = subst (λ (H : ℕ → Facts). IsTurned F H S B points) (shown ∙ is) turn in
-    record { same = is; valid = over.valid; records = over.records; kept = keeps_listed listed B G known over.kept }
+pub turned : (F G view : ℕ → Facts) (S : ℕ → Record) (m : Option Mentions) (A B : ℕ → List Query) (Q : List Query) (points : List ℕ) → Keeps m A F → HasWalked m Q → view ≡ G → IsTurned F view S A B Q points → AreOf G G S m B
+turned F G view S m A B Q points kept walked shown turn =
+    let over : IsTurned F G S A B Q points = subst (λ (H : ℕ → Facts). IsTurned F H S A B Q points) shown turn in
+    record { same = refl; valid = over.valid; records = over.records; kept = keeps_next m A B F G Q kept walked over.kept }
 
-pub turned_points : (F G view : ℕ → Facts) (S : ℕ → Record) (B : ℕ → List Query) (points : List ℕ) → view ≡ G → IsTurned F view S B points → points ≡ changed F G
-turned_points F G view S B points shown turn =
-    let over : IsTurned F G S B points = subst (λ (H : ℕ → Facts). IsTurned F H S B points) shown turn in
+pub turned_points : (F G view : ℕ → Facts) (S : ℕ → Record) (A B : ℕ → List Query) (Q : List Query) (points : List ℕ) → view ≡ G → IsTurned F view S A B Q points → points ≡ changed F G
+turned_points F G view S A B Q points shown turn =
+    let over : IsTurned F G S A B Q points = subst (λ (H : ℕ → Facts). IsTurned F H S A B Q points) shown turn in
     over.changed
 
 pub counts_over : (F G view : ℕ → Facts) (old new : ℕ) → view ≡ G → CountsWithin F view old new → CountsWithin F G old new
@@ -152,9 +136,9 @@ unchanged F G same = subst (λ (H : ℕ → Facts). [] ≡ changed F H) (same_fa
 -- what the derivation has next is that of facts that are the same
 pub stays : (F G : ℕ → Facts) (d : Derivation) → Untouched F G → IsNow F d → IsStill d → IsNext G d
 stays F G d same now still =
-    moved G (tables_facts values_now d.tables) (tables_next values_now d.tables) (record_now d.records) (record_next d.records) d.questions.listed d.questions.listed
+    moved G (tables_facts values_now d.tables) (tables_next values_now d.tables) (record_now d.records) (record_next d.records) d.questions.mentions d.questions.mentions
     (asked_at (values values_now) d.questions.map) (asked_at (values values_next) d.questions.map) still.tables still.records
-    (keeps_same d.questions.listed (asked_at (values values_now) d.questions.map) (asked_at (values values_next) d.questions.map) G still.asked)
+    (keeps_same d.questions.mentions (asked_at (values values_now) d.questions.map) (asked_at (values values_next) d.questions.map) G still.asked)
     (subst (λ (H : ℕ → Facts). IsNow H d) (same_facts F G same) now)
 
 -- no span, no touched code point

@@ -1,5 +1,7 @@
 mod FirstSteps
-mod FirstQuestions
+mod QuestionLemmas
+mod ListedLemmas
+mod MentionLemmas
 mod DerivationLemmas
 mod TouchedLemmas
 mod CountLemmas

@@ -1,16 +1,21 @@
 //! What is derived from the facts of a release, now and next.
 
-ghost use Rattle.std.specs.Prelude.{◌≡◌, ℕ, ◌+◌, ◌≤◌, true, false, Ok, IfOk, IfErr, OnOk};
+ghost use Rattle.std.specs.Prelude.{◌≡◌, ℕ, ◌+◌, ◌≤◌, false, List, Ok, IfOk, IfErr, OnOk};
 ghost use Rattle.std.specs.List.{list_any};
+ghost use Rattle.asked_queries.specs.Answers.{TellsChanges};
 ghost use Rattle.code_facts.specs.FactTables.{tables_facts, tables_next};
 ghost use Rattle.paged_table.specs.Paged.{values_now};
+ghost use Rattle.range_table.specs.Values.{SameValues};
+ghost use Rattle.record_list.specs.Records.{record_next, record_now};
 ghost use Rattle.rederivation.specs.Turned.{CountsWithin};
+ghost use Rattle.release_rows.specs.FileItems.{FileItem};
 ghost use Rattle.ucd_model.specs.Facts.{Facts, within};
 ghost use Rattle.ucd_points.specs.Limits.{point_count};
 ghost use Rattle.edit_session.specs.Benches.{bench_facts, NamesBroken};
 ghost use Rattle.edit_session.specs.Derivations.{IsNext, IsNow, IsStill};
 ghost use Rattle.edit_session.specs.declared.open_stop.OpenStop.TheVariants.{Memory as Lacking};
 ghost use Rattle.edit_session.specs.Groups.{AnswersAs, changed, checked_files, files_facts};
+ghost use Rattle.edit_session.specs.Questions.{AreStill};
 
 use crate::apply_stop::ApplyStop;
 use crate::first_points::derive_all;
@@ -23,9 +28,9 @@ use rederivation::turn;
 use release_rows::Release;
 use std::alloc::Global;
 use std::sync::ledger::Ledger;
-use ucd_model::{Memory, Points, Spans, Steps};
+use ucd_model::{Memory, Points, Queries, Spans, Steps};
 
-/// The facts of a release, the records that are derived from them, and, once a group came, what each code point asks of
+/// The facts of a release, the records that are derived from them, and, as far as it was needed, what code points ask of
 /// them; now and next.
 #[derive(Drop)]
 pub struct Derivation {
@@ -33,7 +38,7 @@ pub struct Derivation {
     pub tables: FactTables<PagedTable>,
     /// The records of all code points.
     pub records: RecordTable,
-    /// What they ask.
+    /// What code points ask.
     pub questions: Questions,
 }
 
@@ -59,7 +64,7 @@ impl Derivation {
         }
     }
 
-    /// The same facts and records, now and next. What the code points ask is listed anew once a group comes.
+    /// The same facts and records, now and next. What code points ask is listed anew once a group needs it.
     ///
     /// - `Memory`: memory ran out.
     pub fn copied(&self, alloc: Global) -> Result<Box<Derivation>, Memory>
@@ -86,7 +91,7 @@ impl Derivation {
 
     /// Makes what is next follow from the rows of a release next, and answers the code points whose records differ,
     /// ascending. Only the code points that depend on the change are derived, and counted. If no
-    /// code point is touched, no fact changes, and nothing is listed.
+    /// code point is touched, no fact changes. What code points ask is listed as far as a changed question leads to them.
     ///
     /// - `Refused(Valid { rule, point })`: the rows next are not valid. The least code point that breaks a rule is named,
     ///   with its first rule.
@@ -113,36 +118,35 @@ impl Derivation {
         if touched.as_slice().is_empty() {
             return Ok(Points::new(alloc));
         }
-        self.questions.list(alloc, &self.tables)?;
-        self.turn_listed(alloc, release, touched, steps)
-    }
-
-    /// The same, once what the code points ask was listed.
-    fn turn_listed<L: Ledger>(
-        &mut self,
-        alloc: Global,
-        release: &Release,
-        touched: &Spans,
-        steps: &mut Steps<L>,
-    ) -> Result<Points, ApplyStop>
-        requires now { IsNow (files_facts release.now.current) self.old }
-        requires still { IsStill self.old }
-        requires listed { self.old.questions.listed ≡ true }
-        requires touched { (c : ℕ) → list_any (within c) touched.now ≡ false
-            → files_facts release.now.prepared c ≡ files_facts release.now.current c }
-        ensures answer { AnswersAs result (checked_files (Ok release.now.prepared)) release.now.prepared }
-        ensures now { (F : ℕ → Facts) → IsNow F self.old → IsNow F self.new }
-        ensures next { OnOk result (IsNext (files_facts release.now.prepared) self.new) }
-        ensures changed { IfOk result (λ points. points ≡ changed (files_facts release.now.current) (files_facts release.now.prepared)) }
-        ensures steps { CountsWithin (files_facts release.now.current) (files_facts release.now.prepared) steps.old steps.new }
-    {
         self.tables.prepare(alloc, release, touched)?;
         let queries = self.tables.queries_changed(alloc)?;
+        self.turn_prepared(alloc, &queries, steps)
+    }
+
+    /// The same, once the facts next are prepared, for the questions that they answer differently.
+    fn turn_prepared<L: Ledger>(
+        &mut self,
+        alloc: Global,
+        queries: &Queries,
+        steps: &mut Steps<L>,
+    ) -> Result<Points, ApplyStop>
+        requires now { IsNow (tables_facts values_now self.old.tables) self.old }
+        requires records { SameValues (record_next self.old.records) (record_now self.old.records) }
+        requires asked { AreStill self.old.questions }
+        requires tells { TellsChanges (tables_facts values_now self.old.tables) (tables_next values_now self.old.tables) queries.now }
+        ensures answer { (files : List (List FileItem)) → tables_next values_now self.old.tables ≡ files_facts files
+            → AnswersAs result (checked_files (Ok files)) files }
+        ensures now { (F : ℕ → Facts) → IsNow F self.old → IsNow F self.new }
+        ensures next { OnOk result (IsNext (tables_next values_now self.old.tables) self.new) }
+        ensures changed { IfOk result (λ points. points ≡ changed (tables_facts values_now self.old.tables) (tables_next values_now self.old.tables)) }
+        ensures steps { CountsWithin (tables_facts values_now self.old.tables) (tables_next values_now self.old.tables) steps.old steps.new }
+    {
+        self.questions.reach(alloc, &self.tables, queries)?;
         let view = self.tables.next();
         match turn(
             alloc,
             &view,
-            &queries,
+            queries,
             &mut self.records,
             &mut self.questions.map,
             steps,
@@ -196,7 +200,7 @@ fn boxed<T: Drop>(alloc: Global, value: T) -> Result<Box<T>, OpenStop>
     }
 }
 
-/// What is derived from the facts that tables have now; what the code points ask is not listed yet.
+/// What is derived from the facts that tables have now; what code points ask is not listed yet.
 fn derive_over<L: Ledger>(
     alloc: Global,
     tables: FactTables<PagedTable>,

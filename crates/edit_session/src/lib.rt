@@ -8,6 +8,8 @@ mod derivation;
 mod first_points;
 mod group;
 mod kept_group;
+mod listed_points;
+mod mentions;
 mod open_stop;
 mod questions;
 mod revert;

@@ -1,69 +1,107 @@
-//! What all code points ask, which is listed when it is needed first.
+//! What code points ask, which is listed when it is needed first.
 
-ghost use Rattle.std.specs.Prelude.{◌≡◌, ℕ, ◌+◌, ◌<◌, ◌≤◌, true, IfOk, OnOk};
-ghost use Rattle.asked_queries.specs.Turns.{KeepsAsked};
+ghost use Rattle.std.specs.Prelude.{◌≡◌, ℕ, [], true, Some, IfOk, OnOk};
+ghost use Rattle.asked_queries.specs.Answers.{is_asked};
 ghost use Rattle.code_facts.specs.FactTables.{tables_facts};
-ghost use Rattle.dependency_map.specs.Askers.{own_queries};
-ghost use Rattle.dependency_map.specs.Maps.{asked_at, put_at};
+ghost use Rattle.dependency_map.specs.Maps.{asked_at};
 ghost use Rattle.kept_values.specs.Kept.{values};
+ghost use Rattle.mention_index.specs.Mentions.{is_walked, leads};
+ghost use Rattle.mention_index.specs.Reached.{about};
 ghost use Rattle.paged_table.specs.Paged.{values_now, values_next};
 ghost use Rattle.range_table.specs.Values.{SameValues};
 ghost use Rattle.ucd_model.specs.Facts.{Facts};
-ghost use Rattle.ucd_model.specs.ValidityLaws.{HasRecord, IsValid};
-ghost use Rattle.edit_session.specs.Questions.{AreStill, AsksBelow, KeepsNext, KeepsNow};
+ghost use Rattle.ucd_model.specs.ValidityLaws.{IsValid};
+ghost use Rattle.ucd_model.specs.declared.query.Query.{Query as Question};
+ghost use Rattle.edit_session.specs.Questions.{AreStill, HasWalked, KeepsNext, KeepsNow, KeepsWalked};
 
-use asking_points::questions_of;
+use crate::listed_points::list_points;
+use crate::mentions::mention_all;
 use code_facts::FactTables;
-use dependency_map::{DependencyMap, Listing};
+use dependency_map::DependencyMap;
 use kept_values::Kept;
+use mention_index::Mentions;
 use paged_table::PagedTable;
 use std::alloc::Global;
-use ucd_model::{Memory, Point, Queries, point_count};
+use std::mem::replace;
+use ucd_model::{Memory, Queries};
 
 /// The questions of each code point, in a store over a paged table.
 pub type QuestionMap = DependencyMap<QuestionLists>;
 
 type QuestionLists = Kept<PagedTable, Option<Queries>>;
 
-/// What each code point asks, now and next, once it was listed. Before, it takes no room.
+/// What code points ask, now and next, as far as it was needed: of the code points that a changed question led to. Before
+/// any question changes, it takes no room.
 #[derive(Drop)]
 pub struct Questions {
-    /// What the code points ask; it means nothing before it was listed.
+    /// What the code points ask; of those that no changed question led to, it means nothing.
     pub map: QuestionMap,
-    /// Whether it was listed.
-    pub listed: bool,
+    /// Which code points mention which, and which of them changed questions led to; once a question changed.
+    pub mentions: Option<Mentions>,
 }
 
 impl Questions {
-    /// Nothing is listed yet. It takes no memory.
+    /// No question changed yet. It takes no memory.
     pub fn new(alloc: Global) -> Questions
         ensures now { (F : ℕ → Facts) → KeepsNow F result }
         ensures still { AreStill result }
     {
         Questions {
             map: DependencyMap::new(alloc),
-            listed: false,
+            mentions: None,
         }
     }
 
-    /// Lists what each code point asks of the facts that tables have now, if it was not listed yet. No step is counted.
+    /// Lists what the code points ask that may ask one of these questions, over the facts that tables have now, if it was
+    /// not listed yet. No step is counted. If there are no questions, it does nothing.
     ///
-    /// - `Memory`: memory ran out.
-    pub fn list(&mut self, alloc: Global, tables: &FactTables<PagedTable>) -> Result<(), Memory>
+    /// - `Memory`: memory ran out. What was listed is let go of.
+    pub fn reach(
+        &mut self,
+        alloc: Global,
+        tables: &FactTables<PagedTable>,
+        queries: &Queries,
+    ) -> Result<(), Memory>
         requires valid { IsValid (tables_facts values_now tables.now) }
         requires kept { KeepsNow (tables_facts values_now tables.now) self.old }
         requires still { AreStill self.old }
         ensures kept { KeepsNow (tables_facts values_now tables.now) self.new }
         ensures still { AreStill self.new }
-        ensures listed { OnOk result (self.new.listed ≡ true) }
-        ensures once { self.old.listed ≡ true → self.new ≡ self.old }
+        ensures walked { OnOk result (HasWalked self.new.mentions queries.now) }
+        ensures none { queries.now ≡ [] → self.new ≡ self.old }
     {
-        if self.listed {
+        if queries.as_slice().is_empty() {
             return Ok(());
         }
-        self.map = list_all(alloc, tables)?;
-        self.listed = true;
+        let kept = replace(self, Questions::new(alloc));
+        *self = kept.reached(alloc, tables, queries)?;
         Ok(())
+    }
+
+    /// These questions, with what the code points ask that may ask one of the others.
+    ///
+    /// - `Memory`: memory ran out.
+    fn reached(
+        self,
+        alloc: Global,
+        tables: &FactTables<PagedTable>,
+        queries: &Queries,
+    ) -> Result<Questions, Memory>
+        requires valid { IsValid (tables_facts values_now tables.now) }
+        requires kept { KeepsNow (tables_facts values_now tables.now) self }
+        requires still { AreStill self }
+        ensures kept { IfOk result (λ questions. KeepsNow (tables_facts values_now tables.now) questions) }
+        ensures still { IfOk result (λ questions. AreStill questions) }
+        ensures walked { IfOk result (λ questions. HasWalked questions.mentions queries.now) }
+    {
+        let Questions { map, mentions } = self;
+        match mentions {
+            Some(mentions) => walk(alloc, tables, queries, map, mentions),
+            None => {
+                let mentions = mention_all(alloc, tables)?;
+                walk(alloc, tables, queries, map, mentions)
+            }
+        }
     }
 
     /// Lets go of questions of earlier states, as far as `DependencyMap::sweep` does.
@@ -91,64 +129,47 @@ impl Questions {
     }
 }
 
-/// What each code point asks of the facts of a valid release, now and next.
+/// Goes on from the code points that questions are about, and lists what each of those asks that one newly comes to.
 ///
 /// - `Memory`: memory ran out.
-fn list_all(alloc: Global, tables: &FactTables<PagedTable>) -> Result<QuestionMap, Memory>
-    requires { IsValid (tables_facts values_now tables.now) }
-    ensures asked { IfOk result (λ map. KeepsAsked (asked_at (values values_now) map) (tables_facts values_now tables.now)) }
-    ensures still { IfOk result (λ map. SameValues (asked_at (values values_next) map) (asked_at (values values_now) map)) }
-{
-    let count = point_count();
-    let mut listing = Listing::new(alloc);
-    let mut number = 0;
-    'runs: while number < count {
-        let end = list_run(alloc, tables, Point::at(number), &mut listing)?;
-        number = end;
-    }
-    Ok(listing.finish())
-}
-
-/// Puts what a code point asks, if it has a mapping, and answers one past it; else, one past the last code point up to
-/// which all from it on have no mapping, as far as few look-ups tell.
-///
-/// - `Memory`: memory ran out.
-fn list_run(
+fn walk(
     alloc: Global,
     tables: &FactTables<PagedTable>,
-    c: Point,
-    listing: &mut Listing<QuestionLists>,
-) -> Result<u32, Memory>
-    requires record { HasRecord (tables_facts values_now tables.now) c }
-    requires asked { AsksBelow (put_at (values values_next) listing.old) c (tables_facts values_now tables.now) }
-    ensures from { IfOk result (λ end. c < end) }
-    ensures inside { IfOk result (λ end. end ≤ 1114112) }
-    ensures asked { IfOk result (λ end. AsksBelow (put_at (values values_next) listing.new) end (tables_facts values_now tables.now)) }
+    queries: &Queries,
+    mut map: QuestionMap,
+    mut mentions: Mentions,
+) -> Result<Questions, Memory>
+    requires valid { IsValid (tables_facts values_now tables.now) }
+    requires kept { KeepsWalked (leads mentions) (is_walked mentions) (asked_at (values values_now) map) (tables_facts values_now tables.now) }
+    requires still { SameValues (asked_at (values values_next) map) (asked_at (values values_now) map) }
+    ensures kept { IfOk result (λ questions. KeepsNow (tables_facts values_now tables.now) questions) }
+    ensures still { IfOk result (λ questions. AreStill questions) }
+    ensures walked { IfOk result (λ questions. HasWalked questions.mentions queries.now) }
 {
-    match tables.last_uniform(c) {
-        Some(last) => Ok(last.number() + 1),
-        None => {
-            put_asked(alloc, tables, c, listing)?;
-            Ok(c.number() + 1)
-        }
-    }
+    go_on(alloc, tables, queries, &mut map, &mut mentions)?;
+    Ok(Questions {
+        map,
+        mentions: Some(mentions),
+    })
 }
 
-/// Puts what a code point asks.
-///
-/// - `Memory`: memory ran out.
-fn put_asked(
+/// The same, in their places.
+fn go_on(
     alloc: Global,
     tables: &FactTables<PagedTable>,
-    c: Point,
-    listing: &mut Listing<QuestionLists>,
+    queries: &Queries,
+    map: &mut QuestionMap,
+    mentions: &mut Mentions,
 ) -> Result<(), Memory>
-    requires record { HasRecord (tables_facts values_now tables.now) c }
-    requires asked { AsksBelow (put_at (values values_next) listing.old) c (tables_facts values_now tables.now) }
-    ensures { OnOk result (AsksBelow (put_at (values values_next) listing.new) (c + 1) (tables_facts values_now tables.now)) }
+    requires valid { IsValid (tables_facts values_now tables.now) }
+    requires kept { KeepsWalked (leads mentions.old) (is_walked mentions.old) (asked_at (values values_now) map.old) (tables_facts values_now tables.now) }
+    requires still { SameValues (asked_at (values values_next) map.old) (asked_at (values values_now) map.old) }
+    ensures kept { OnOk result (KeepsWalked (leads mentions.new) (is_walked mentions.new) (asked_at (values values_now) map.new) (tables_facts values_now tables.now)) }
+    ensures still { OnOk result (SameValues (asked_at (values values_next) map.new) (asked_at (values values_now) map.new)) }
+    ensures walked { OnOk result ((q : Question) → is_asked queries.now q ≡ true → is_walked mentions.new (about q) ≡ true) }
 {
-    let _number = c.number();
-    let questions = questions_of(alloc, tables, c)?;
-    listing.put(c, &questions)?;
+    let points = mentions.reach(alloc, queries)?;
+    list_points(alloc, tables, points.as_slice(), map)?;
+    map.commit();
     Ok(())
 }

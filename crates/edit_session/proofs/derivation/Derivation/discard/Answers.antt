@@ -9,5 +9,5 @@ use Rattle.edit_session.proofs.derivation.Derivation.discard.Goals as goal
 pub returns-clause-now : goal.returns-clause-now
 returns-clause-now c = λ F is.
     moved F (tables_facts values_now c.args.self.now.tables) (tables_facts values_now c.discard.new.self) (record_now c.args.self.now.records) (record_now c.discard-2.new.self)
-    c.args.self.now.questions.listed c.discard-3.new.self.listed (asked_at (values values_now) c.args.self.now.questions.map) (asked_at (values values_now) c.discard-3.new.self.map)
+    c.args.self.now.questions.mentions c.discard-3.new.self.mentions (asked_at (values values_now) c.args.self.now.questions.map) (asked_at (values values_now) c.discard-3.new.self.map)
     c.discard.ensures.now c.discard-2.ensures.now (c.discard-3.ensures.now F) is

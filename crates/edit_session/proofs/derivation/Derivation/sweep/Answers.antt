@@ -10,7 +10,7 @@ use Rattle.edit_session.proofs.derivation.Derivation.sweep.Goals as goal
 pub returns-clause-now : goal.returns-clause-now
 returns-clause-now c = λ F is.
     moved F (tables_facts values_now c.args.self.now.tables) (tables_facts values_now c.sweep.new.self) (record_now c.args.self.now.records) (record_now c.sweep-2.new.self)
-    c.args.self.now.questions.listed c.sweep-3.new.self.listed (asked_at (values values_now) c.args.self.now.questions.map) (asked_at (values values_now) c.sweep-3.new.self.map)
+    c.args.self.now.questions.mentions c.sweep-3.new.self.mentions (asked_at (values values_now) c.args.self.now.questions.map) (asked_at (values values_now) c.sweep-3.new.self.map)
     c.sweep.ensures.now c.sweep-2.ensures.now (c.sweep-3.ensures.now F) is
 
 pub returns-clause-still : goal.returns-clause-still

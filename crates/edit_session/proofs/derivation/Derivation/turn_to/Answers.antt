@@ -1,32 +1,49 @@
-use Rattle.std.proofs.Common.{◌≡◌, ◌==◌, ℕ, Bool, true, List, length, sym, ap, ◌∙◌}
-use Rattle.code_facts.specs.FactTables.{tables_facts}
+use Rattle.std.proofs.Common.{◌≡◌, ◌==◌, ℕ, Bool, true, List, length, refl, sym, ap, subst, ◌∙◌}
+use Rattle.std.specs.Prelude.{IfOk, OnOk}
+use Rattle.code_facts.specs.FactTables.{tables_facts, tables_next}
 use Rattle.dependency_map.specs.Maps.{asked_at}
 use Rattle.kept_values.specs.Kept.{values}
 use Rattle.paged_table.specs.Paged.{values_now}
+use Rattle.record_list.specs.Records.{record_now}
+use Rattle.rederivation.specs.Turned.{CountsWithin}
 use Rattle.ucd_model.specs.Facts.{Facts}
+use Rattle.ucd_model.specs.Records.{Record}
+use Rattle.ucd_model.specs.declared.query.Query.{Query}
 use Rattle.ucd_points.specs.Bounds.{Bounds}
-use Rattle.edit_session.specs.Groups.{files_facts}
-use Rattle.edit_session.proofs.DerivationLemmas.{answers_valid, keeps_over, listed_now, none_within, same_facts, stays, unchanged, valid_over}
+use Rattle.edit_session.specs.Derivations.{IsNext}
+use Rattle.edit_session.specs.Groups.{changed, files_facts}
+use Rattle.edit_session.proofs.DerivationLemmas.{answers_valid, itself, moved, none_within, same_facts, stays, unchanged, valid_over}
 use Rattle.edit_session.proofs.derivation.Derivation.turn_to.Goals as goal
 
-pub list-requires-clause-valid : goal.list-requires-clause-valid
-list-requires-clause-valid g c =
-    valid_over (files_facts c.args.release.now.current) (tables_facts values_now c.args.self.now.tables) (sym c.requires.now.same) c.requires.now.valid
+pub turn_prepared-requires-clause-now : goal.turn_prepared-requires-clause-now
+turn_prepared-requires-clause-now g c =
+    itself (files_facts c.args.release.now.current) (tables_facts values_now c.args.self.now.tables) (tables_facts values_now c.prepare.new.self) (record_now c.args.self.now.records) c.args.self.now.questions.mentions
+    (asked_at (values values_now) c.args.self.now.questions.map) c.prepare.ensures.now c.requires.now
 
-pub list-requires-clause-kept : goal.list-requires-clause-kept
-list-requires-clause-kept g c =
-    keeps_over (files_facts c.args.release.now.current) (tables_facts values_now c.args.self.now.tables) c.args.self.now.questions.listed (asked_at (values values_now) c.args.self.now.questions.map)
-    (sym c.requires.now.same) c.requires.now.kept
-
-pub turn_listed-requires-clause-now : goal.turn_listed-requires-clause-now
-turn_listed-requires-clause-now g c =
-    listed_now c.args.self.now c.list.new.self (files_facts c.args.release.now.current) c.list.ensures.kept c.requires.now
-
-pub returns-in_err-list-clause-now : goal.returns-in_err-list-clause-now
-returns-in_err-list-clause-now g c = λ F is. listed_now c.args.self.now c.list.new.self F c.list.ensures.kept is
+pub returns-clause-answer : goal.returns-clause-answer
+returns-clause-answer g c = c.turn_prepared.ensures.answer c.args.release.now.prepared c.in_ok-prepare.ensures.ok
 
 pub returns-clause-now : goal.returns-clause-now
-returns-clause-now g c = λ F is. c.turn_listed.ensures.now F (listed_now c.args.self.now c.list.new.self F c.list.ensures.kept is)
+returns-clause-now g c = λ F is.
+    let R : ℕ → Record = record_now c.args.self.now.records in
+    let A : ℕ → List Query = asked_at (values values_now) c.args.self.now.questions.map in
+    c.turn_prepared.ensures.now F (moved F (tables_facts values_now c.args.self.now.tables) (tables_facts values_now c.prepare.new.self) R R c.args.self.now.questions.mentions c.args.self.now.questions.mentions A A
+    c.prepare.ensures.now (λ k lt. refl) (λ kept. kept) is)
+
+pub returns-clause-next : goal.returns-clause-next
+returns-clause-next g c = subst (λ (H : ℕ → Facts). OnOk c.turn_prepared.result (IsNext H c.turn_prepared.new.self)) c.in_ok-prepare.ensures.ok c.turn_prepared.ensures.next
+
+pub returns-clause-changed : goal.returns-clause-changed
+returns-clause-changed g c =
+    let F : ℕ → Facts = files_facts c.args.release.now.current in
+    let T : ℕ → Facts = tables_facts values_now c.prepare.new.self in
+    subst (λ (H : ℕ → Facts). IfOk c.turn_prepared.result (λ points. points ≡ changed F H)) c.in_ok-prepare.ensures.ok
+    (subst (λ (H : ℕ → Facts). IfOk c.turn_prepared.result (λ points. points ≡ changed H (tables_next values_now c.prepare.new.self))) (c.prepare.ensures.now ∙ c.requires.now.same) c.turn_prepared.ensures.changed)
+
+pub returns-clause-steps : goal.returns-clause-steps
+returns-clause-steps g c =
+    subst (λ (H : ℕ → Facts). CountsWithin (files_facts c.args.release.now.current) H c.args.steps.now c.turn_prepared.new.steps) c.in_ok-prepare.ensures.ok
+    (subst (λ (H : ℕ → Facts). CountsWithin H (tables_next values_now c.prepare.new.self) c.args.steps.now c.turn_prepared.new.steps) (c.prepare.ensures.now ∙ c.requires.now.same) c.turn_prepared.ensures.steps)
 
 -- whether no span is told
 none_told : (spans slice : List Bounds) (told : Bool) → slice ≡ spans → told ≡ (length slice == 0) → told ≡ true → (length spans == 0) ≡ true

@@ -10,7 +10,7 @@ use Rattle.edit_session.proofs.derivation.Derivation.unboxed_copy.Goals as goal
 pub returns-clause-now : goal.returns-clause-now
 returns-clause-now c F is =
     moved F (tables_facts values_now c.args.self.now.tables) (tables_facts values_now c.in_ok-tables.tables) (record_now c.args.self.now.records) (record_now c.in_ok-records.records)
-    c.args.self.now.questions.listed c.new.result.listed (asked_at (values values_now) c.args.self.now.questions.map) (asked_at (values values_now) c.new.result.map)
+    c.args.self.now.questions.mentions c.new.result.mentions (asked_at (values values_now) c.args.self.now.questions.map) (asked_at (values values_now) c.new.result.map)
     c.in_ok-tables.ensures.now c.in_ok-records.ensures.now (λ kept. c.new.ensures.now F) is
 
 pub returns-clause-still : goal.returns-clause-still

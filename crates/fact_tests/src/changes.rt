@@ -14,10 +14,10 @@ use std::process::Abort;
 use std::test::Fail;
 use ucd_model::{Memory, Point, Query, SourceFile, Span, Spans};
 
-type Tables = FactTables<RunTable<u64>>;
+pub type Tables = FactTables<RunTable<u64>>;
 
 /// The code point of a number.
-fn point(number: u32) -> Point
+pub fn point(number: u32) -> Point
     requires { number < 1114112 }
     ensures { result ≡ number }
 {
@@ -37,7 +37,7 @@ fn everywhere(alloc: Global) -> Result<Spans, Memory>
 }
 
 /// The tables of a release without rows.
-fn empty_tables(alloc: Global) -> Result<Box<Tables>, Memory>
+pub fn empty_tables(alloc: Global) -> Result<Box<Tables>, Memory>
     ensures { IfOk result (λ tables. tables_next values_now tables.value ≡ tables_facts values_now tables.value) }
 {
     let release = Release::empty(alloc);
@@ -45,7 +45,7 @@ fn empty_tables(alloc: Global) -> Result<Box<Tables>, Memory>
 }
 
 /// Prepares the facts of the rows of a release next, wherever they are.
-fn prepare(alloc: Global, tables: &mut Tables, after: &Release) -> Result<(), Memory>
+pub fn prepare(alloc: Global, tables: &mut Tables, after: &Release) -> Result<(), Memory>
     requires { tables_next values_now tables.old ≡ tables_facts values_now tables.old }
 {
     let touched = everywhere(alloc)?;

@@ -1,4 +1,4 @@
-//! Whole runs over shelves and sinks in memory, as the tests make them.
+//! Whole runs over shelves and sinks in memory, as the tests of this crate and of `script_tests` make them.
 
 use shelf_io::{MemoryShelf, MemorySink};
 use std::alloc::Global;

@@ -1,6 +1,8 @@
 //! Runs of `apply`: what a script leaves.
 
-use crate::runs::{CORE_PATH, File, GRAVE, LETTERS, ends, holds, shelf_of, status_of, summary_of};
+use run_tests::runs::{
+    CORE_PATH, File, GRAVE, LETTERS, ends, holds, shelf_of, status_of, summary_of,
+};
 use shelf_io::MemoryShelf;
 use std::alloc::Global;
 use std::test::Fail;

@@ -1,7 +1,7 @@
 //! Runs over lines `# @missing:` of Scripts.txt and WordBreakProperty.txt, which give the values of what no other row covers.
 
 use crate::questions::{Asked, answers_sets};
-use crate::runs::{LETTERS, ends, shelf_of};
+use run_tests::runs::{LETTERS, ends, shelf_of};
 use std::alloc::Global;
 use std::test::Fail;
 use ucd_model::Memory;

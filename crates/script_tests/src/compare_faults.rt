@@ -1,7 +1,7 @@
 //! Runs of `apply` with an earlier release in which a read, a write or a print fails.
 
 use crate::compares::{BREAKS, BROKEN, EARLIER, LATER, NO_ROW, WORDS, shelf_with};
-use crate::runs::{CORE_PATH, PREVIOUS_PATHS, SOURCE_PATHS, ends, holds, line_of, status_of};
+use run_tests::runs::{CORE_PATH, PREVIOUS_PATHS, SOURCE_PATHS, ends, holds, line_of, status_of};
 use shelf_io::MemoryShelf;
 use std::alloc::Global;
 use std::test::Fail;

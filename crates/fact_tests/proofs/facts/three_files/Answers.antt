@@ -1,7 +1,7 @@
 use Rattle.std.proofs.Common.{ap, ◌∙◌}
 use Rattle.ucd_points.specs.declared.files.SourceFile.TheVariants.{PropList, CaseFolding, SpecialCasing, WordBreakProperty, CompositionExclusions}
 use Rattle.release_rows.specs.Releases.{ReleaseItems, items_now}
-use Rattle.run_tests.proofs.facts.three_files.Goals as goal
+use Rattle.fact_tests.proofs.facts.three_files.Goals as goal
 
 pub load_file-requires-2 : goal.load_file-requires-2
 load_file-requires-2 c = c.load_file.ensures.others PropList (λ same. absurd cc) ∙ ap (λ (r : ReleaseItems). items_now r PropList) c.empty-release.ensures

@@ -1,7 +1,7 @@
 //! Runs of `apply` whose scripts ask about sets.
 
-use crate::runs::{File, GRAVE, LETTERS, shelf_of};
 use crate::scripts::answers;
+use run_tests::runs::{File, GRAVE, LETTERS, shelf_of};
 use shelf_io::MemoryShelf;
 use std::alloc::Global;
 use std::test::Fail;

@@ -1,55 +1,14 @@
 //! Facts that are prepared, committed and discarded.
 
-ghost use Rattle.std.specs.Prelude.{◌≡◌, ℕ, ◌<◌, true, IfOk};
-ghost use Rattle.std.specs.List.{list_any};
-ghost use Rattle.ucd_model.specs.Facts.{within};
+ghost use Rattle.std.specs.Prelude.{◌≡◌};
 ghost use Rattle.range_table.specs.RunTable.{values_now};
 ghost use Rattle.code_facts.specs.FactTables.{tables_facts, tables_next};
 
-use code_facts::FactTables;
-use range_table::RunTable;
+use crate::changes::{Tables, empty_tables, point, prepare};
 use release_rows::Release;
 use std::alloc::Global;
 use std::test::Fail;
-use ucd_model::{FactView, Memory, Point, SourceFile, Span, Spans};
-
-type Tables = FactTables<RunTable<u64>>;
-
-/// The code point of a number.
-fn point(number: u32) -> Point
-    requires { number < 1114112 }
-    ensures { result ≡ number }
-{
-    Point::new(number).unwrap()
-}
-
-/// The span of all code points.
-fn everywhere(alloc: Global) -> Result<Spans, Memory>
-    ensures { IfOk result (λ spans. (c : ℕ) → c < 1114112 → list_any (within c) spans ≡ true) }
-{
-    let mut spans = Spans::new(alloc);
-    spans.push(Span {
-        lo: point(0),
-        hi: point(Point::COUNT - 1),
-    })?;
-    Ok(spans)
-}
-
-/// The tables of a release without rows.
-fn empty_tables(alloc: Global) -> Result<Box<Tables>, Memory>
-    ensures { IfOk result (λ tables. tables_next values_now tables.value ≡ tables_facts values_now tables.value) }
-{
-    let release = Release::empty(alloc);
-    Ok(Box::new(alloc, FactTables::of(alloc, &release)?)?)
-}
-
-/// Prepares the facts of the rows of a release next, wherever they are.
-fn prepare(alloc: Global, tables: &mut Tables, after: &Release) -> Result<(), Memory>
-    requires { tables_next values_now tables.old ≡ tables_facts values_now tables.old }
-{
-    let touched = everywhere(alloc)?;
-    tables.prepare(alloc, after, &touched)
-}
+use ucd_model::{FactView, Memory, SourceFile};
 
 /// Whether a row covers 0041, and 00C0 is the composite of 0041 and 0300: now, and next.
 fn seen(tables: &Tables) -> (bool, bool) {

@@ -1,6 +1,6 @@
 //! Runs of `apply` with an earlier release: the policy report, and what is refused.
 
-use crate::runs::{CORE_PATH, File, PREVIOUS_PATHS, ends, holds, shelf_of, status_of};
+use run_tests::runs::{CORE_PATH, File, PREVIOUS_PATHS, ends, holds, shelf_of, status_of};
 use shelf_io::MemoryShelf;
 use std::alloc::Global;
 use std::test::Fail;

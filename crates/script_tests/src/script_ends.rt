@@ -1,9 +1,9 @@
 //! Each way in which a run of `apply` ends without its files: a script with a fault, and a read or a write that fails.
 
-use crate::runs::{
+use crate::scripts::{EXCLUDING, OUTPUT_PATHS, WORDS};
+use run_tests::runs::{
     CORE_PATH, GRAVE, LETTERS, SOURCE_PATHS, ends, holds, line_of, shelf_of, status_of,
 };
-use crate::scripts::{EXCLUDING, OUTPUT_PATHS, WORDS};
 use shelf_io::MemoryShelf;
 use std::alloc::Global;
 use std::test::Fail;

@@ -1,6 +1,7 @@
 //! Runs that are refused, and runs in which a read or a print fails.
 
-use crate::runs::{LETTERS, SOURCE_NAMES, ends, joined, shelf_of};
+use crate::runs::{LETTERS, ends, shelf_of};
+use run_tests::runs::{SOURCE_NAMES, joined};
 use std::alloc::Global;
 use std::test::Fail;
 use ucd_model::Memory;

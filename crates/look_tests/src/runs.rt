@@ -1,8 +1,9 @@
 //! Whole runs over shelves and sinks in memory, as the tests make them.
 
+use run_tests::runs::{place_in, place_release, words_of};
 use shelf_io::{MemoryShelf, MemorySink};
 use std::alloc::Global;
-use ucd_model::{Memory, Text, Texts};
+use ucd_model::Memory;
 use ucdshop_look_core::{Status, run_look};
 
 /// Letters and marks, as UnicodeData.txt has them but for case mappings.
@@ -19,46 +20,16 @@ const EARLIER: &[u8] = b"0061;LATIN SMALL LETTER A;Ll;0;L;;;;;N;;;;;\n\
 /// The name of a value that questions ask for.
 const VALUES: &[u8] = b"gc ; Ll ; Lowercase_Letter\ngc ; Lu ; Uppercase_Letter\n";
 
-/// The source files of a folder, in their order.
-pub const SOURCE_NAMES: [&[u8]; 9] = [
-    b"UnicodeData.txt",
-    b"PropList.txt",
-    b"Scripts.txt",
-    b"auxiliary/WordBreakProperty.txt",
-    b"CompositionExclusions.txt",
-    b"CaseFolding.txt",
-    b"SpecialCasing.txt",
-    b"PropertyAliases.txt",
-    b"PropertyValueAliases.txt",
-];
-
-/// Three texts, one behind the other.
+/// Places a release into a folder: this UnicodeData.txt, the names of two values, and six empty files.
 ///
 /// - `Memory`: memory ran out.
-pub fn joined(alloc: Global, parts: [&[u8]; 3]) -> Result<Text, Memory> {
-    let mut text = Text::new(alloc);
-    put_parts(&mut text, parts)?;
-    Ok(text)
-}
-
-fn put_parts(text: &mut Text, parts: [&[u8]; 3]) -> Result<(), Memory> {
-    text.append(parts[0])?;
-    text.append(parts[1])?;
-    text.append(parts[2])
-}
-
-/// Places a release into a folder: this UnicodeData.txt, the names of two values, and seven empty files.
-///
-/// - `Memory`: memory ran out.
-fn place_release(
+fn place_named(
     alloc: Global,
     shelf: &mut MemoryShelf,
     folder: &[u8],
     data: &[u8],
 ) -> Result<(), Memory> {
-    for name in &SOURCE_NAMES {
-        place_in(alloc, shelf, folder, name, b"")?;
-    }
+    place_release(alloc, shelf, folder, data)?;
     place_in(
         alloc,
         shelf,
@@ -66,22 +37,7 @@ fn place_release(
         b"PropertyAliases.txt",
         b"gc ; General_Category\n",
     )?;
-    place_in(alloc, shelf, folder, b"PropertyValueAliases.txt", VALUES)?;
-    place_in(alloc, shelf, folder, b"UnicodeData.txt", data)
-}
-
-/// Places a file into a folder.
-///
-/// - `Memory`: memory ran out.
-fn place_in(
-    alloc: Global,
-    shelf: &mut MemoryShelf,
-    folder: &[u8],
-    name: &[u8],
-    bytes: &[u8],
-) -> Result<(), Memory> {
-    let path = joined(alloc, [folder, b"/", name])?;
-    shelf.place(path.as_slice(), bytes)
+    place_in(alloc, shelf, folder, b"PropertyValueAliases.txt", VALUES)
 }
 
 /// A shelf with the release of this UnicodeData.txt in `d`, an earlier one in `p`, and this script in `s`.
@@ -99,20 +55,9 @@ fn place_all(
     data: &[u8],
     script: &[u8],
 ) -> Result<(), Memory> {
-    place_release(alloc, shelf, b"p", EARLIER)?;
-    place_release(alloc, shelf, b"d", data)?;
+    place_named(alloc, shelf, b"p", EARLIER)?;
+    place_named(alloc, shelf, b"d", data)?;
     shelf.place(b"s", script)
-}
-
-/// The words of a run.
-///
-/// - `Memory`: memory ran out.
-fn words_of(alloc: Global, words: &[&[u8]]) -> Result<Texts, Memory> {
-    let mut texts = Texts::new(alloc);
-    for word in words {
-        texts.push(Text::of(alloc, word)?)?;
-    }
-    Ok(texts)
 }
 
 /// How a run of these words over a shelf ends, which prints into this sink.

@@ -1,6 +1,7 @@
 //! Runs of `ages` that write both files.
 
-use crate::runs::{AGES_PATH, EARLIER, LATER, STEPS_PATH, ends, holds, shelf_of};
+use crate::runs::{AGES_PATH, EARLIER, LATER, STEPS_PATH, ends, shelf_of};
+use run_tests::runs::holds;
 use std::alloc::Global;
 use std::test::Fail;
 use ucd_model::Memory;

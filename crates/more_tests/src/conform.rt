@@ -1,6 +1,7 @@
 //! Runs of `conform` that write their file, and those whose file of cases is refused.
 
-use crate::runs::{GRAVE, ends, place_release};
+use crate::runs::{GRAVE, ends};
+use run_tests::runs::place_release;
 use shelf_io::MemoryShelf;
 use std::alloc::Global;
 use std::test::Fail;

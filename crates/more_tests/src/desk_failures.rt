@@ -1,7 +1,8 @@
 //! Runs of `desk` in which a read, a write or a print fails.
 
 use crate::desk::{WORDS, shelf_of};
-use crate::runs::{SOURCE_NAMES, ends, holds, joined};
+use crate::runs::ends;
+use run_tests::runs::{SOURCE_NAMES, holds, joined};
 use std::alloc::Global;
 use std::test::Fail;
 use ucd_model::{Memory, Text};

@@ -1,7 +1,8 @@
 //! Files of events that are refused.
 
 use crate::desk::{WORDS, shelf_of};
-use crate::runs::{ends, holds, place_release};
+use crate::runs::ends;
+use run_tests::runs::{holds, place_release};
 use shelf_io::MemoryShelf;
 use std::alloc::Global;
 use std::test::Fail;

@@ -1,9 +1,7 @@
 //! Runs of `ages` in which a read, a write or a print fails.
 
-use crate::runs::{
-    AGES_PATH, EARLIER, LATER, SOURCE_NAMES, STEPS_PATH, ends, holds, is_untouched, joined,
-    shelf_of,
-};
+use crate::runs::{AGES_PATH, EARLIER, LATER, STEPS_PATH, ends, is_untouched, shelf_of};
+use run_tests::runs::{SOURCE_NAMES, holds, joined};
 use shelf_io::MemoryShelf;
 use std::alloc::Global;
 use std::test::Fail;

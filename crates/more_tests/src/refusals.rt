@@ -1,6 +1,7 @@
 //! Runs of `ages` over folders that are refused.
 
-use crate::runs::{EARLIER, LATER, ends, is_untouched, place_in, shelf_of};
+use crate::runs::{EARLIER, LATER, ends, is_untouched, shelf_of};
+use run_tests::runs::place_in;
 use shelf_io::MemoryShelf;
 use std::alloc::Global;
 use std::test::Fail;

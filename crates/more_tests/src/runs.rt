@@ -1,8 +1,9 @@
 //! Whole runs over shelves and sinks in memory, as the tests make them.
 
+use run_tests::runs::{holds, place_release, words_of};
 use shelf_io::{MemoryShelf, MemorySink};
 use std::alloc::Global;
-use ucd_model::{Memory, Text, Texts};
+use ucd_model::Memory;
 use ucdshop_more_core::{Status, run_more};
 
 /// Letters and marks, as UnicodeData.txt has them but for case mappings.
@@ -17,71 +18,11 @@ pub const LATER: &[u8] =
 pub const GRAVE: &[u8] =
     b"0041;LATIN CAPITAL LETTER A;Lu;0;L;;;;;N;;;;;\n00C0;LATIN CAPITAL LETTER A WITH GRAVE;Lu;0;L;0041 0300;;;;N;;;;;\n0300;COMBINING GRAVE ACCENT;Mn;230;NSM;;;;;N;;;;;\n";
 
-/// A path, and what it holds.
-pub type File = (&'static [u8], &'static [u8]);
-
-/// The source files of a folder, in their order.
-pub const SOURCE_NAMES: [&[u8]; 9] = [
-    b"UnicodeData.txt",
-    b"PropList.txt",
-    b"Scripts.txt",
-    b"auxiliary/WordBreakProperty.txt",
-    b"CompositionExclusions.txt",
-    b"CaseFolding.txt",
-    b"SpecialCasing.txt",
-    b"PropertyAliases.txt",
-    b"PropertyValueAliases.txt",
-];
-
 /// The first file that a run of `ages` writes.
 pub const AGES_PATH: &[u8] = b"o/DerivedAge.txt";
 
 /// The second one.
 pub const STEPS_PATH: &[u8] = b"o/steps.txt";
-
-/// Three texts, one behind the other.
-///
-/// - `Memory`: memory ran out.
-pub fn joined(alloc: Global, parts: [&[u8]; 3]) -> Result<Text, Memory> {
-    let mut text = Text::new(alloc);
-    put_parts(&mut text, parts)?;
-    Ok(text)
-}
-
-fn put_parts(text: &mut Text, parts: [&[u8]; 3]) -> Result<(), Memory> {
-    text.append(parts[0])?;
-    text.append(parts[1])?;
-    text.append(parts[2])
-}
-
-/// Places a release into a folder: this UnicodeData.txt, and eight empty files.
-///
-/// - `Memory`: memory ran out.
-pub fn place_release(
-    alloc: Global,
-    shelf: &mut MemoryShelf,
-    folder: &[u8],
-    data: &[u8],
-) -> Result<(), Memory> {
-    for name in &SOURCE_NAMES {
-        place_in(alloc, shelf, folder, name, b"")?;
-    }
-    place_in(alloc, shelf, folder, b"UnicodeData.txt", data)
-}
-
-/// Places a file into a folder.
-///
-/// - `Memory`: memory ran out.
-pub fn place_in(
-    alloc: Global,
-    shelf: &mut MemoryShelf,
-    folder: &[u8],
-    name: &[u8],
-    bytes: &[u8],
-) -> Result<(), Memory> {
-    let path = joined(alloc, [folder, b"/", name])?;
-    shelf.place(path.as_slice(), bytes)
-}
 
 /// A shelf with the releases of these two UnicodeData.txt in `p` and `d`, old files in `o`, and a stranger.
 ///
@@ -103,17 +44,6 @@ fn place_both(
     shelf.place(AGES_PATH, b"old")?;
     shelf.place(STEPS_PATH, b"old")?;
     shelf.place(b"o/other", b"kept")
-}
-
-/// The words of a run.
-///
-/// - `Memory`: memory ran out.
-fn words_of(alloc: Global, words: &[&[u8]]) -> Result<Texts, Memory> {
-    let mut texts = Texts::new(alloc);
-    for word in words {
-        texts.push(Text::of(alloc, word)?)?;
-    }
-    Ok(texts)
 }
 
 /// How a run of these words over a shelf ends, which prints into this sink.
@@ -142,11 +72,6 @@ pub fn ends(
     let mut out = MemorySink::new(alloc, room)?;
     let status = run_into(alloc, words, shelf, &mut out)?;
     Ok(status == expected.0 && out.written() == expected.1)
-}
-
-/// Whether a shelf holds these files.
-pub fn holds(shelf: &MemoryShelf, files: &[(&[u8], &[u8])]) -> bool {
-    files.iter().all(|file| shelf.held(file.0) == Some(file.1))
 }
 
 /// Whether a shelf holds what it held before a run that wrote nothing.

@@ -1,6 +1,7 @@
 //! Runs of `undo` that write their files.
 
-use crate::runs::{GRAVE, ends, holds, place_in, place_release};
+use crate::runs::{GRAVE, ends};
+use run_tests::runs::{holds, place_in, place_release};
 use shelf_io::MemoryShelf;
 use std::alloc::Global;
 use std::test::Fail;

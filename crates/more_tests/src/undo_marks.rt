@@ -1,7 +1,8 @@
 //! Scripts of a history that are refused, and runs in which a read, a write or a print fails.
 
-use crate::runs::{ends, holds, place_release};
+use crate::runs::ends;
 use crate::undo::{shelf_of, words};
+use run_tests::runs::{holds, place_release};
 use shelf_io::MemoryShelf;
 use std::alloc::Global;
 use std::test::Fail;

@@ -1,4 +1,4 @@
-//! Whole runs over shelves and sinks in memory, as the tests of this crate and of `script_tests` make them.
+//! Whole runs over shelves and sinks in memory, as the tests of all three programs make them.
 
 use shelf_io::{MemoryShelf, MemorySink};
 use std::alloc::Global;
@@ -19,6 +19,19 @@ pub type File = (&'static [u8], &'static [u8]);
 /// The summary of a run that wrote all files.
 pub const SUMMARY: &[u8] =
     b"ucdshop: 0 groups accepted, 0 commands refused, 0 sets answered, 0 policy breaks\n";
+
+/// The source files of a folder, in their order.
+pub const SOURCE_NAMES: [&[u8]; 9] = [
+    b"UnicodeData.txt",
+    b"PropList.txt",
+    b"Scripts.txt",
+    b"auxiliary/WordBreakProperty.txt",
+    b"CompositionExclusions.txt",
+    b"CaseFolding.txt",
+    b"SpecialCasing.txt",
+    b"PropertyAliases.txt",
+    b"PropertyValueAliases.txt",
+];
 
 /// The source files, in their order.
 pub const SOURCE_PATHS: [&[u8]; 9] = [
@@ -48,6 +61,50 @@ pub const PREVIOUS_PATHS: [&[u8]; 9] = [
 
 /// The path of a derived file.
 pub const CORE_PATH: &[u8] = b"o/DerivedCoreProperties.txt";
+
+/// Three texts, one behind the other.
+///
+/// - `Memory`: memory ran out.
+pub fn joined(alloc: Global, parts: [&[u8]; 3]) -> Result<Text, Memory> {
+    let mut text = Text::new(alloc);
+    put_parts(&mut text, parts)?;
+    Ok(text)
+}
+
+fn put_parts(text: &mut Text, parts: [&[u8]; 3]) -> Result<(), Memory> {
+    text.append(parts[0])?;
+    text.append(parts[1])?;
+    text.append(parts[2])
+}
+
+/// Places a release into a folder: this UnicodeData.txt, and eight empty files.
+///
+/// - `Memory`: memory ran out.
+pub fn place_release(
+    alloc: Global,
+    shelf: &mut MemoryShelf,
+    folder: &[u8],
+    data: &[u8],
+) -> Result<(), Memory> {
+    for name in &SOURCE_NAMES {
+        place_in(alloc, shelf, folder, name, b"")?;
+    }
+    place_in(alloc, shelf, folder, b"UnicodeData.txt", data)
+}
+
+/// Places a file into a folder.
+///
+/// - `Memory`: memory ran out.
+pub fn place_in(
+    alloc: Global,
+    shelf: &mut MemoryShelf,
+    folder: &[u8],
+    name: &[u8],
+    bytes: &[u8],
+) -> Result<(), Memory> {
+    let path = joined(alloc, [folder, b"/", name])?;
+    shelf.place(path.as_slice(), bytes)
+}
 
 /// The words of a run.
 ///

@@ -6,7 +6,7 @@ use crate::records::record;
 use fold_rounds::{nfkc_casefold, nfkc_simple_casefold};
 use std::alloc::Global;
 use std::test::Fail;
-use ucd_model::{Bad, Category, FactList, Image, Query};
+use ucd_model::{Bad, Category, FactList, Image, Point, Query};
 
 /// The capital sharp s, which CaseFolding.txt folds to two letters with status F, and to the small one with status S.
 const SHARP: FoldedRow<'static> = (0x1E9E, Category::Lo, 0, PLAIN, &[], &[0x0073, 0x0073]);
@@ -180,11 +180,14 @@ fn has_both(alloc: Global, list: &FactList, case: &BothCase) -> Result<bool, Fai
     let c = point(row.0)?;
     let found = record(alloc, list, c)?;
     Ok(
-        found.casefold.is_same(&Image::of(c, points(alloc, *full)?))
-            && found
-                .simple_casefold
-                .is_same(&Image::of(c, points(alloc, *simple)?)),
+        is_image(alloc, c, &found.casefold, full)?
+            && is_image(alloc, c, &found.simple_casefold, simple)?,
     )
+}
+
+/// Whether this is the image of a letter that has these members.
+fn is_image(alloc: Global, c: Point, image: &Image, members: &[u32]) -> Result<bool, Fail> {
+    Ok(image.is_same(&Image::of(c, points(alloc, members)?)))
 }
 
 /// Whether the records of these letters have them.

@@ -75,7 +75,9 @@ impl RowNames {
         requires sets { AreSetsBut sets edited (rows_now release.now) }
         ensures { IfOk result (λ names. AreRowNames names release.now.current) }
     {
-        let sets = sets.again(alloc, release, aliases.numbers(), edited)?;
-        Ok(RowNames { aliases, sets })
+        match sets.again(alloc, release, aliases.numbers(), edited) {
+            Ok(sets) => Ok(RowNames { aliases, sets }),
+            Err(stop) => Err(stop),
+        }
     }
 }

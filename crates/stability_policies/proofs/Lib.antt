@@ -1,6 +1,7 @@
 pub mod PlainLemmas
 pub mod UniformBreaks
 pub mod TestLemmas
+pub mod KeptLemmas
 pub mod PolicySets
 pub mod StretchLemmas
 pub mod PointLemmas

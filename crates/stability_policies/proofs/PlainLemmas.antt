@@ -70,7 +70,10 @@ none_of true true c = refl
 none_of true false c = refl
 none_of false b c = refl
 
-pub primary_plain : (F : ℕ → Facts) (c : ℕ) → IsPlain c (F c) → primary F c ≡ false
-primary_plain F c p =
-    ap (λ m. is_canonical (F c).kind && (((F c).class == 0) && (first_has_class_zero F m && not (F c).excluded))) p.mapping
+pub primary_unmapped : (F : ℕ → Facts) (c : ℕ) → (F c).mapping ≡ [] → primary F c ≡ false
+primary_unmapped F c none =
+    ap (λ m. is_canonical (F c).kind && (((F c).class == 0) && (first_has_class_zero F m && not (F c).excluded))) none
     ∙ none_of (is_canonical (F c).kind) ((F c).class == 0) (not (F c).excluded)
+
+pub primary_plain : (F : ℕ → Facts) (c : ℕ) → IsPlain c (F c) → primary F c ≡ false
+primary_plain F c p = primary_unmapped F c p.mapping

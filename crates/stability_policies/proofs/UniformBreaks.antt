@@ -44,7 +44,7 @@ xid_start_plain F c p = ap (λ r. id_start (F c) && where_form (starts F) r) (nf
 xid_continue_plain : (F : ℕ → Facts) (c : ℕ) → IsPlain c (F c) → xid_continue F c ≡ id_continue (F c)
 xid_continue_plain F c p = ap (λ r. id_continue (F c) && where_form (continues F) r) (nfkc_plain F c p) ∙ and_self (id_continue (F c))
 
-no_pair : (F : ℕ → Facts) (c : ℕ) (b : Bool) (G : Facts) → G.simple_lower ≡ c → (is_case_pair F c G.simple_lower && b) ≡ false
+pub no_pair : (F : ℕ → Facts) (c : ℕ) (b : Bool) (G : Facts) → G.simple_lower ≡ c → (is_case_pair F c G.simple_lower && b) ≡ false
 no_pair F c b G e = ap (λ d. is_case_pair F c d && b) e ∙ ap (λ t. (not t && (((F c).simple_lower == c) && ((F c).simple_upper == c))) && b) (eq-eqb c c refl)
 
 -- ---- what a code point that is uniform with another breaks

@@ -8,6 +8,7 @@ pub mod ReportTexts
 pub mod CommonForms
 pub mod BrokenStretches
 pub mod PolicyLists
+pub mod KeptPoints
 pub mod NamedRows
 pub mod StableForms
 pub mod ReportLaws

@@ -10,6 +10,7 @@ mod caseless;
 mod common;
 mod differing;
 mod form_tests;
+mod kept_tests;
 mod laws;
 mod mapping_tests;
 mod name_places;

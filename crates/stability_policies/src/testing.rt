@@ -11,6 +11,7 @@ ghost use Rattle.stability_policies.specs.declared.policy.Policy.{Policy as Poli
 ghost use Rattle.stability_policies.specs.declared.policy.Policy.TheVariants.{P10};
 
 use crate::case_tests::{gains_case_pair, loses_case_pair};
+use crate::kept_tests::{is_kept, kept_policies};
 use crate::mapping_tests::{changes_composite, is_out_of_order, maps_second_again};
 use crate::policy::Policy;
 use crate::policy_set::PolicySet;
@@ -21,7 +22,8 @@ use crate::row_tests::{
 use std::alloc::Global;
 use ucd_model::{Core, CoreSet, FactView, FactsRef, Memory, Point, Records};
 
-/// The policies that a code point with these facts breaks, each tested once. P10 is left out, so no form is made.
+/// The policies that a code point with these facts breaks, each tested once. P10 is left out, so no form is made. Where both
+/// releases say the same of a code point without a mapping, only P20 can be broken.
 ///
 /// - `Memory`: memory ran out.
 pub fn other_policies<O: Records + FactView, N: Records + FactView>(
@@ -41,6 +43,9 @@ pub fn other_policies<O: Records + FactView, N: Records + FactView>(
 {
     let x = old.record(c).core;
     let y = new.record(c).core;
+    if is_kept(c, a, b, x, y) {
+        return Ok(kept_policies(b));
+    }
     let mut policies = PolicySet::none();
     'policies: for policy in Policy::all() {
         let broken = is_broken(alloc, *policy, old, new, c, a, b, x, y)?;

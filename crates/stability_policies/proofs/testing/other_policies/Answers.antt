@@ -1,8 +1,12 @@
 use Rattle.std.proofs.Common.{◌≡◌, ◌∙◌, ℕ, length, get_or, ap, arith}
+use Rattle.ucd_model.specs.Facts.{Facts}
 use Rattle.ucd_model.specs.Records.{Record}
+use Rattle.ucd_model.specs.Sets.{has_core}
+use Rattle.ucd_model.specs.Shown.{shown_facts}
 use Rattle.stability_policies.specs.Policies.{breaks, policies}
 use Rattle.stability_policies.specs.PolicyLists.{place_below}
 use Rattle.stability_policies.specs.declared.policy.Policy.TheVariants.{P01}
+use Rattle.stability_policies.proofs.KeptLemmas.{core_told, told}
 use Rattle.stability_policies.proofs.PolicySets.{policies_next}
 use Rattle.stability_policies.proofs.testing.other_policies.Goals as goal
 
@@ -23,3 +27,13 @@ pub returns : goal.returns
 returns g c policy other =
     let whole : length c.all-policy-items.result.now ≡ length policies = ap length c.all-policy-items.ensures in
     c.policies.invariant policy (omega (arith, place_below policy)) other
+
+pub returns-then-is_kept : goal.returns-then-is_kept
+returns-then-is_kept g c =
+    let O : ℕ → Facts = g.O.FactView.facts_of c.args.old.now in
+    let N : ℕ → Facts = g.N.FactView.facts_of c.args.new.now in
+    told O N c.args.c (shown_facts c.args.a.now) (shown_facts c.args.b.now) (has_core c.record.result.now.core) (has_core c.record-2.result.now.core)
+    c.requires.old_facts c.requires.new_facts
+    (core_told c.record.result.now (g.O.Records.record_of c.args.old.now) O c.args.c c.record.ensures c.requires.old)
+    (core_told c.record-2.result.now (g.N.Records.record_of c.args.new.now) N c.args.c c.record-2.ensures c.requires.new)
+    (c.is_kept.ensures.0 c.if-is_kept.true) c.kept_policies.result c.kept_policies.ensures.mark c.kept_policies.ensures.rest

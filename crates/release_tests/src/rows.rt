@@ -384,6 +384,49 @@ fn real_lines_without_a_copy(rt: HostRuntime) {
     );
 }
 
+/// Lines that are read one after the other, with what each gives, a class and a number of members, or its fault. What
+/// stands behind the name is often that of a line above.
+const IN_TURN: [(&[u8], Result<(u8, usize), RowFault>); 9] = [
+    (
+        b"0315;COMBINING COMMA ABOVE RIGHT;Mn;232;NSM;;;;;N;;;;;",
+        Ok((232, 0)),
+    ),
+    (
+        b"0316;COMBINING GRAVE ACCENT BELOW;Mn;220;NSM;;;;;N;;;;;",
+        Ok((220, 0)),
+    ),
+    (
+        b"0317;COMBINING ACUTE ACCENT BELOW;Mn;220;NSM;;;;;N;;;;;",
+        Ok((220, 0)),
+    ),
+    (b"0318;;Mn;220;NSM;;;;;N;;;;;", Err(RowFault::G11)),
+    (b"110000;A;Mn;220;NSM;;;;;N;;;;;", Err(RowFault::G04)),
+    (b"0319;<A, Last>;Mn;220;NSM;;;;;N;;;;;", Err(RowFault::G09)),
+    (b"031A;A;Mn;220;NSM;;;;;N;;;;", Err(RowFault::G03)),
+    (
+        b"0344;COMBINING GREEK DIALYTIKA TONOS;Mn;230;NSM;0308 0301;;;;N;;;;;",
+        Ok((230, 2)),
+    ),
+    (
+        b"0318;COMBINING LEFT TACK BELOW;Mn;220;NSM;;;;;N;;;;;",
+        Ok((220, 0)),
+    ),
+];
+
+#[test]
+fn lines_in_turn(rt: HostRuntime) {
+    let mut above = LastTail::usual();
+    for (line, expected) in &IN_TURN {
+        let given = match read_below(line, &mut above) {
+            Ok(PointValues { values, .. }) => {
+                Ok((values.class, values.decomposition.mapping.len()))
+            }
+            Err(fault) => Err(fault),
+        };
+        assert!(rt; given == *expected, "{line:?}");
+    }
+}
+
 /// Lines, and whether each begins a range.
 const FIRST_LINES: [(&[u8], bool); 5] = [
     (b"3400;<A, First>;Xx;0;L;;;;;N;;;;;", true),

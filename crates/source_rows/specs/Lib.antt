@@ -7,6 +7,7 @@ pub mod DataFaults
 pub mod OtherFaults
 pub mod Texts
 pub mod Faults
+pub mod Tails
 pub mod Mappings
 pub mod RowRefs
 pub mod Ranges

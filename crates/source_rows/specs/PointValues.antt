@@ -1,7 +1,7 @@
 -- What a row of UnicodeData.txt gives to its code points.
 --
 -- used_fields_in line   the fields that are read of a line, at their places, and in the place of the others no bytes
--- HasUsedFields line fs  these are so the fields of a line of 15 fields
+-- HasUsedFields line fs  these are so of the 13 fields behind a name
 -- HasCaseFields line fs  the last three of nine fields
 -- Gives given row       the row has the code points and the values that are given
 -- PointValuesAs result expected   what is given is what the row gives that was expected, or the result is its fault
@@ -16,18 +16,16 @@ use Rattle.source_rows.specs.declared.used_fields.CaseFields.{CaseFields}
 use Rattle.source_rows.specs.declared.used_fields.UsedFields.{UsedFields}
 
 abbrev pub used_fields_in : UsedFields → List (List ℕ)
-used_fields_in line = line.f0.now ∷ line.f1.now ∷ line.f2.now ∷ line.f3.now ∷ [] ∷ line.f5.now ∷ [] ∷ [] ∷ [] ∷ [] ∷ [] ∷ [] ∷ line.f12.now ∷ line.f13.now ∷ line.f14.now ∷ []
+used_fields_in line = [] ∷ [] ∷ line.f2.now ∷ line.f3.now ∷ [] ∷ line.f5.now ∷ [] ∷ [] ∷ [] ∷ [] ∷ [] ∷ [] ∷ line.f12.now ∷ line.f13.now ∷ line.f14.now ∷ []
 
 pub record HasUsedFields (line : UsedFields) (fs : List (List ℕ)) : Type 0 where
-  pub count : length fs ≡ 15
-  pub f0 : line.f0.now ≡ field fs 0
-  pub f1 : line.f1.now ≡ field fs 1
-  pub f2 : line.f2.now ≡ field fs 2
-  pub f3 : line.f3.now ≡ field fs 3
-  pub f5 : line.f5.now ≡ field fs 5
-  pub f12 : line.f12.now ≡ field fs 12
-  pub f13 : line.f13.now ≡ field fs 13
-  pub f14 : line.f14.now ≡ field fs 14
+  pub count : length fs ≡ 13
+  pub f2 : line.f2.now ≡ field fs 0
+  pub f3 : line.f3.now ≡ field fs 1
+  pub f5 : line.f5.now ≡ field fs 3
+  pub f12 : line.f12.now ≡ field fs 10
+  pub f13 : line.f13.now ≡ field fs 11
+  pub f14 : line.f14.now ≡ field fs 12
 
 pub record HasCaseFields (line : CaseFields) (fs : List (List ℕ)) : Type 0 where
   pub count : length fs ≡ 9

@@ -86,8 +86,6 @@ pub fn read_values<'a>(line: &DataFields<'a>) -> Result<Values<'a>, RowFault>
     ensures { result ≡ values_or_fault (fields_in line.now) }
 {
     let used = UsedFields {
-        f0: line.f0,
-        f1: line.f1,
         f2: line.f2,
         f3: line.f3,
         f5: line.f5,

@@ -16,6 +16,7 @@ mod fifteen;
 mod key;
 mod key_names;
 mod keys;
+mod last_tail;
 mod laws;
 mod lines;
 mod mapping;
@@ -42,13 +43,14 @@ pub use fifteen::DataFields;
 pub use key::Key;
 pub use key_names::{compare_names, content_group};
 pub use keys::read_key;
+pub use last_tail::LastTail;
 pub use laws::{
     categories_are_named, contents_have_keys, first_lines_begin, key_texts_read_back,
     keys_are_read, rows_are_no_trivia, rows_are_ok, rows_are_read, rows_have_lines,
     spans_are_spelled, spellings_are_one, texts_read_back,
 };
 pub use mapping::{Mapping, some_mapping_of};
-pub use point_values::{PointValues, read_point_values};
+pub use point_values::{PointValues, read_below, read_point_values};
 pub use read::{has_values, read_row, read_row_ref, read_valued};
 pub use row_keys::row_key;
 pub use row_ref::RowRef;

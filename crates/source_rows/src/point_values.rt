@@ -1,18 +1,20 @@
 //! Reads what a row of UnicodeData.txt gives to its code points. UAX #44, section 5.3, table 9.
 
-ghost use Rattle.std.specs.Prelude.{false};
+ghost use Rattle.std.specs.Prelude.{◌≡◌};
 ghost use Rattle.ucd_points.specs.Fields.{fields};
-ghost use Rattle.source_rows.specs.DataFaults.{unit_or_fault, single_or_fault};
+ghost use Rattle.source_rows.specs.DataFaults.{single_or_fault};
 ghost use Rattle.source_rows.specs.Faults.{lines_or_fault, row_or_fault};
-ghost use Rattle.source_rows.specs.PointValues.{PointValuesAs, used_fields_in};
+ghost use Rattle.source_rows.specs.PointValues.{PointValuesAs};
+ghost use Rattle.source_rows.specs.Tails.{given_or_fault};
 
 use crate::code_point::is_name;
 use crate::data_text::DataText;
-use crate::data_values::{Values, read_used};
+use crate::data_values::Values;
 use crate::fault::RowFault;
+use crate::fields::{first_field, first_short_field};
+use crate::last_tail::LastTail;
 use crate::lines::holds_line_feed;
 use crate::unicode_data::{read_pair, single_end};
-use crate::used_fields::{UsedFields, used_fields};
 use ucd_lines::{cut, hex};
 use ucd_model::{SourceFile, Span};
 
@@ -25,34 +27,37 @@ pub struct PointValues<'a> {
     pub values: Values<'a>,
 }
 
-/// The values of a line's fields 2 to 14, and what was found of its span; or the first fault.
-#[tactic(auto, unfolding(crate::specs::DataFaults::unit_or_fault))]
-fn unit_values<'a>(
-    line: &UsedFields<'a>,
+/// Values and a span; or the first fault.
+fn given_or_fault<'a>(
+    values: Result<Values<'a>, RowFault>,
     end: Result<Span, RowFault>,
 ) -> Result<PointValues<'a>, RowFault>
-    ensures { PointValuesAs result (unit_or_fault (used_fields_in line.now) false line.now.f1.now end) }
+    ensures { result ≡ given_or_fault values.entry end }
 {
-    let values = read_used(line)?;
+    let values = values?;
     let span = end?;
     Ok(PointValues { span, values })
 }
 
 /// What the row of one line gives, or its first fault.
-#[tactic(auto, unfolding(ucd_points::specs::Fields::fields, crate::specs::DataFaults::single_or_fault))]
-fn single_values(content: &[u8]) -> Result<PointValues<'_>, RowFault>
+fn single_values<'a>(
+    content: &'a [u8],
+    above: &mut LastTail<'a>,
+) -> Result<PointValues<'a>, RowFault>
     ensures { PointValuesAs result (single_or_fault (fields SourceFile.UnicodeData content.now)) }
 {
-    let Some(line) = used_fields(content) else {
+    let (f0, rest) = first_short_field(content);
+    let (f1, tail) = first_field(rest);
+    let Some(values) = above.values(tail) else {
         return Err(RowFault::G03);
     };
-    let Some(point) = hex(line.f0) else {
+    let Some(point) = hex(f0) else {
         return Err(RowFault::G04);
     };
-    if !is_name(line.f1) {
+    if !is_name(f1) {
         return Err(RowFault::G11);
     }
-    unit_values(&line, single_end(point, line.f1))
+    given_or_fault(values, single_end(point, f1))
 }
 
 /// What the row of two lines gives, or its first fault.
@@ -65,18 +70,29 @@ fn pair_values<'a>(front: &'a [u8], last: &[u8]) -> Result<PointValues<'a>, RowF
 
 /// What a row gives to its code points, as it stands in a line of UnicodeData.txt, or in the two lines of a range: the
 /// row that [`read_row`](crate::read_row) reads from them. The fields that give nothing are passed over, and no memory
-/// is taken.
+/// is taken. If what stands behind the name is that of the last line without a mapping that was read so, it is not read
+/// again; `above` keeps that.
 ///
 /// A fault says that the bytes are no row, and is the first rule that they break.
 ///
 /// UAX #44, sections 4.2.3 and 5.3, table 9.
 #[tactic(auto, unfolding(crate::specs::Faults::row_or_fault))]
-pub fn read_point_values(bytes: &[u8]) -> Result<PointValues<'_>, RowFault>
+pub fn read_below<'a>(
+    bytes: &'a [u8],
+    above: &mut LastTail<'a>,
+) -> Result<PointValues<'a>, RowFault>
     ensures { PointValuesAs result (row_or_fault SourceFile.UnicodeData bytes.now) }
 {
     if !holds_line_feed(bytes) {
-        return single_values(bytes);
+        return single_values(bytes, above);
     }
     let (front, last) = cut(bytes, b'\n');
     pair_values(front, last)
+}
+
+/// The same as [`read_below`] of a line by itself.
+pub fn read_point_values(bytes: &[u8]) -> Result<PointValues<'_>, RowFault>
+    ensures { PointValuesAs result (row_or_fault SourceFile.UnicodeData bytes.now) }
+{
+    read_below(bytes, &mut LastTail::usual())
 }

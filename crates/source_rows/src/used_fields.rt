@@ -1,19 +1,15 @@
-//! Cuts a line of UnicodeData.txt into the fields that its code points and their values stand in. UAX #44, section 5.3,
+//! Cuts what stands behind the name in a line of UnicodeData.txt into the fields that give values. UAX #44, section 5.3,
 //! table 9.
 
 ghost use Rattle.std.specs.Prelude.{◌≡◌, ◌≢◌, ◌↔◌, length, codes, IsTrue, MatchOption};
 ghost use Rattle.source_rows.specs.Fields.{fields_of};
 ghost use Rattle.source_rows.specs.PointValues.{HasCaseFields, HasUsedFields};
 
-use crate::fields::{behind_fields, field_count, first_field, first_short_field, near_cut};
+use crate::fields::{behind_fields, field_count, first_short_field, near_cut};
 
-/// The fields of a line that are read, each a part of it. Fields 4 and 6 to 11 are passed over.
+/// The fields behind the name that are read, each a part of the line. Fields 4 and 6 to 11 are passed over.
 #[derive(Clone, Copy)]
 pub struct UsedFields<'a> {
-    /// Code point.
-    pub f0: &'a [u8],
-    /// Name.
-    pub f1: &'a [u8],
     /// General_Category.
     pub f2: &'a [u8],
     /// Canonical_Combining_Class.
@@ -68,20 +64,16 @@ fn case_fields(text: &[u8]) -> Option<CaseFields<'_>>
     Some(CaseFields { f12, f13, f14 })
 }
 
-/// The fields of a text that are read. `None` exactly if the text does not have 15 fields.
-pub fn used_fields(text: &[u8]) -> Option<UsedFields<'_>>
-    ensures { MatchOption result (length (fields_of text.now) ≢ 15) (λ line. HasUsedFields line (fields_of text.now)) }
+/// The fields that are read of the text behind a name. `None` exactly if it does not hold fields 2 to 14.
+pub fn used_fields(tail: &[u8]) -> Option<UsedFields<'_>>
+    ensures { MatchOption result (length (fields_of tail.now) ≢ 13) (λ line. HasUsedFields line (fields_of tail.now)) }
 {
-    let (f0, rest) = first_short_field(text);
-    let (f1, rest) = first_field(rest);
-    let (f2, rest) = first_short_field(rest);
+    let (f2, rest) = first_short_field(tail);
     let (f3, rest) = first_short_field(rest);
     let (_, rest) = near_cut(rest);
     let (f5, rest) = first_short_field(rest);
     let CaseFields { f12, f13, f14 } = case_fields(rest)?;
     Some(UsedFields {
-        f0,
-        f1,
         f2,
         f3,
         f5,

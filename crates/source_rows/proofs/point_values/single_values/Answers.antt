@@ -1,22 +1,48 @@
-use Rattle.std.proofs.Common.{◌≡◌, ℕ, true, false, List, Some, sym, ap, ◌∙◌}
+use Rattle.std.proofs.Common.{ℕ, false, List, sym, ap, ◌∙◌}
 use Rattle.ucd_points.specs.Fields.{fields, field, point_of, is_name}
 use Rattle.ucd_points.specs.declared.files.SourceFile.TheVariants.{UnicodeData}
-use Rattle.source_rows.specs.PointValues.{used_fields_in}
 use Rattle.source_rows.specs.DataFaults.{single_end}
 use Rattle.source_rows.proofs.DataSteps.{single_is}
-use Rattle.source_rows.proofs.PointSteps.{values_same, given_same}
+use Rattle.source_rows.proofs.PointSteps.{IsCut, cut_is, cut_values, fifteen, given_is, no_code, no_fields, no_name, tail_none, tail_some, thirteen}
 use Rattle.source_rows.proofs.point_values.single_values.Goals as goal
+
+pub returns-in_default : goal.returns-in_default
+unfolding fields
+returns-in_default c =
+    let content = c.args.content.now in
+    let tail = c.first_field.result.1.now in
+    let cut : IsCut content tail = cut_is content c.first_short_field.result.1.now tail c.first_short_field.ensures.fewer c.first_short_field.ensures.others c.first_field.ensures.fewer c.first_field.ensures.others in
+    no_fields (fields UnicodeData content) (λ e. tail_none tail (sym c.values.ensures ∙ c.in_default.is) (thirteen content tail cut e))
+
+pub returns-in_default-hex : goal.returns-in_default-hex
+unfolding fields
+returns-in_default-hex c =
+    let content = c.args.content.now in
+    let tail = c.first_field.result.1.now in
+    let cut : IsCut content tail = cut_is content c.first_short_field.result.1.now tail c.first_short_field.ensures.fewer c.first_short_field.ensures.others c.first_field.ensures.fewer c.first_field.ensures.others in
+    let given = tail_some tail c.in-Some.values (sym c.values.ensures ∙ c.in-Some.is) in
+    no_code (fields UnicodeData content) (fifteen content tail cut given.0) (ap point_of (sym c.first_short_field.ensures.first) ∙ sym c.hex.ensures ∙ c.in_default-hex.is)
+
+pub returns-then-not-is_name : goal.returns-then-not-is_name
+unfolding fields
+returns-then-not-is_name c =
+    let content = c.args.content.now in
+    let tail = c.first_field.result.1.now in
+    let cut : IsCut content tail = cut_is content c.first_short_field.result.1.now tail c.first_short_field.ensures.fewer c.first_short_field.ensures.others c.first_field.ensures.fewer c.first_field.ensures.others in
+    let given = tail_some tail c.in-Some.values (sym c.values.ensures ∙ c.in-Some.is) in
+    let name = c.first_field.ensures.first ∙ sym (c.first_short_field.ensures.others 0) in
+    no_name (fields UnicodeData content) c.in-Some-hex.point (fifteen content tail cut given.0) (ap point_of (sym c.first_short_field.ensures.first) ∙ sym c.hex.ensures ∙ c.in-Some-hex.is)
+    (ap is_name (sym name) ∙ sym c.is_name.ensures ∙ c.if-not-is_name.true)
 
 pub returns : goal.returns
 unfolding fields
 returns c =
-    let fs : List (List ℕ) = fields UnicodeData c.args.content.now in
-    let line = c.in-Some.line in
-    let are = c.in-Some.ensures in
+    let content = c.args.content.now in
+    let fs : List (List ℕ) = fields UnicodeData content in
+    let tail = c.first_field.result.1.now in
+    let cut : IsCut content tail = cut_is content c.first_short_field.result.1.now tail c.first_short_field.ensures.fewer c.first_short_field.ensures.others c.first_field.ensures.fewer c.first_field.ensures.others in
+    let given = tail_some tail c.in-Some.values (sym c.values.ensures ∙ c.in-Some.is) in
+    let name = c.first_field.ensures.first ∙ sym (c.first_short_field.ensures.others 0) in
     let point : ℕ = c.in-Some-hex.point in
-    let code : point_of (field fs 0) ≡ Some point = ap point_of (sym are.f0) ∙ sym c.hex.ensures ∙ c.in-Some-hex.is in
-    let name : is_name (field fs 1) ≡ true = ap is_name (sym are.f1) ∙ sym c.is_name.ensures ∙ c.if-not-is_name.false in
-    let ended = c.single_end.ensures ∙ ap (single_end point) are.f1 in
-    let same = values_same fs (used_fields_in line) (sym are.f2) (sym are.f3) (sym are.f5) (sym are.f12) (sym are.f13) (sym are.f14) in
-    let e = single_is fs point c.single_end.result are.count code name ended in
-    rw e (given_same c.unit_values.result fs (used_fields_in line) false false (field fs 1) line.f1.now c.single_end.result same c.unit_values.ensures)
+    let e = single_is fs point c.single_end.result (fifteen content tail cut given.0) (ap point_of (sym c.first_short_field.ensures.first) ∙ sym c.hex.ensures ∙ c.in-Some-hex.is) (ap is_name (sym name) ∙ sym c.is_name.ensures ∙ c.if-not-is_name.false) (c.single_end.ensures ∙ ap (single_end point) name) in
+    rw (e, c.given_or_fault.ensures) (given_is fs false (field fs 1) c.in-Some.values c.single_end.result (cut_values content tail cut ∙ given.1))

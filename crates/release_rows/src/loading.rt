@@ -25,6 +25,7 @@ use crate::row_rule::take_row;
 use crate::stretch::{Stretch, content_in};
 use crate::tag::content_tag;
 use part_list::{PartList, Spanned};
+use source_rows::LastTail;
 use std::alloc::Global;
 use ucd_model::{Memory, SourceFile};
 
@@ -41,6 +42,8 @@ pub struct Loading<'a> {
     before: Option<u32>,
     /// How many lines the items have.
     lines: u32,
+    /// What the last row of UnicodeData.txt without a mapping gave.
+    tail: LastTail<'a>,
 }
 
 /// The first code point of the last row, with one more row, if there is one.
@@ -107,6 +110,7 @@ impl<'a> Loading<'a> {
             end: 0,
             before: None,
             lines: 0,
+            tail: LastTail::usual(),
         }
     }
 
@@ -145,7 +149,7 @@ impl<'a> Loading<'a> {
     ///
     /// - `Fault { line, rule }`: the piece breaks a rule by itself. The line is counted from 1.
     /// - `Memory`: memory ran out.
-    fn take(&mut self, alloc: Global, piece: Piece<'_>) -> Result<Option<Entry>, LoadStop>
+    fn take(&mut self, alloc: Global, piece: Piece<'a>) -> Result<Option<Entry>, LoadStop>
         requires sound { IsSound self.old }
         requires fits { lines_of (items_above self.old) + piece_lines (piece_of piece) + 1 < 2 ^ 32 }
         requires stands { Stands self.old.text.now (items_above self.old) (piece_of piece) }
@@ -155,7 +159,8 @@ impl<'a> Loading<'a> {
     {
         let unread = stretch_of(self.end, piece);
         let content = content_of(self.text, unread, piece);
-        let entry = read_piece(alloc, self.file, self.lines + 1, piece, content)?;
+        let line = self.lines + 1;
+        let entry = read_piece(alloc, self.file, line, piece, content, &mut self.tail)?;
         self.put(with_brief(unread, &entry), &entry)?;
         Ok(entry)
     }
@@ -168,7 +173,7 @@ impl<'a> Loading<'a> {
         &mut self,
         alloc: Global,
         rows: &mut Vec<Placed>,
-        piece: Piece<'_>,
+        piece: Piece<'a>,
     ) -> Result<(), LoadStop>
         requires sound { IsSound self.old }
         requires rows { AreGathered self.old.file (rows_in (items_above self.old)) rows.old.items }
@@ -191,7 +196,7 @@ impl<'a> Loading<'a> {
         &mut self,
         alloc: Global,
         keys: &mut KeySet,
-        piece: Piece<'_>,
+        piece: Piece<'a>,
     ) -> Result<(), LoadStop>
         requires sound { IsSound self.old }
         requires keys { HoldsRows self.old.file (rows_in (items_above self.old)) keys.old }

@@ -12,7 +12,9 @@ use crate::brief::Brief;
 use crate::entry::Entry;
 use crate::place::Place;
 use crate::row_key::{has_spans, key_text};
-use source_rows::{RowRef, RowStop, read_point_values, read_row_ref, rows_are_ok, rows_are_read};
+use source_rows::{
+    LastTail, RowRef, RowStop, read_below, read_row_ref, rows_are_ok, rows_are_read,
+};
 use std::alloc::Global;
 use ucd_model::SourceFile;
 
@@ -77,10 +79,14 @@ fn row_entry(alloc: Global, file: SourceFile, content: &[u8]) -> Result<Entry, R
 }
 
 /// What is kept of a row of UnicodeData.txt. Its texts are not copied.
-fn data_entry(alloc: Global, content: &[u8]) -> Result<Entry, RowStop>
+fn data_entry<'a>(
+    alloc: Global,
+    content: &'a [u8],
+    above: &mut LastTail<'a>,
+) -> Result<Entry, RowStop>
     ensures { EntersAs SourceFile.UnicodeData result (row_or_fault SourceFile.UnicodeData content.now) }
 {
-    let given = read_point_values(content)?;
+    let given = read_below(content, above)?;
     Ok(Entry {
         place: Place {
             names: Vec::new(alloc),
@@ -92,15 +98,20 @@ fn data_entry(alloc: Global, content: &[u8]) -> Result<Entry, RowStop>
     })
 }
 
-/// What is kept of the row of a content.
+/// What is kept of the row of a content. What the last row of UnicodeData.txt above gave is not read again.
 ///
 /// - `Fault(fault)`: the content is no row, and `fault` is the first rule that it breaks.
 /// - `Memory`: memory ran out.
-pub fn read_entry(alloc: Global, file: SourceFile, content: &[u8]) -> Result<Entry, RowStop>
+pub fn read_entry<'a>(
+    alloc: Global,
+    file: SourceFile,
+    content: &'a [u8],
+    above: &mut LastTail<'a>,
+) -> Result<Entry, RowStop>
     ensures { EntersAs file result (row_or_fault file content.now) }
 {
     match file {
-        SourceFile::UnicodeData => data_entry(alloc, content),
+        SourceFile::UnicodeData => data_entry(alloc, content, above),
         _ => row_entry(alloc, file, content),
     }
 }

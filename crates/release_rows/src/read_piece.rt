@@ -10,7 +10,7 @@ use crate::entry::Entry;
 use crate::load_stop::{LoadRule, LoadStop};
 use crate::piece::Piece;
 use crate::read_entry::read_entry;
-use source_rows::{RowFault, RowStop, read_row_ref};
+use source_rows::{LastTail, RowFault, RowStop, read_row_ref};
 use std::alloc::Global;
 use ucd_lines::is_trivia;
 use ucd_model::SourceFile;
@@ -40,17 +40,19 @@ fn stop_at(file: SourceFile, line: u32, piece: Piece<'_>, fault: RowFault) -> Lo
     LoadStop::Fault { line, rule }
 }
 
-/// What is kept of the row of a piece, whose first line has this number, and nothing if the piece is trivia.
+/// What is kept of the row of a piece, whose first line has this number, and nothing if the piece is trivia. What the
+/// last row of UnicodeData.txt above gave is not read again.
 ///
 /// - `Fault { line, rule }`: the piece is no row, and `rule` is the first rule that it breaks by itself. The line is
 ///   this one, and the next one if the fault is that of the second line of a range.
 /// - `Memory`: memory ran out.
-pub fn read_piece(
+pub fn read_piece<'a>(
     alloc: Global,
     file: SourceFile,
     line: u32,
-    piece: Piece<'_>,
-    content: &[u8],
+    piece: Piece<'a>,
+    content: &'a [u8],
+    above: &mut LastTail<'a>,
 ) -> Result<Option<Entry>, LoadStop>
     requires fits { line + 1 < 2 ^ 32 }
     requires content { content.now ≡ piece_content (piece_of piece) }
@@ -59,7 +61,7 @@ pub fn read_piece(
     if is_trivia(file, content) {
         return Ok(None);
     }
-    match read_entry(alloc, file, content) {
+    match read_entry(alloc, file, content, above) {
         Ok(entry) => Ok(Some(entry)),
         Err(RowStop::Fault(fault)) => Err(stop_at(file, line, piece, fault)),
         Err(RowStop::Memory) => Err(LoadStop::Memory),

@@ -96,22 +96,17 @@ fn have_dependants(
 }
 
 #[test]
-fn three_code_points_depend_on_a_composite(rt: HostRuntime) -> Result<(), Fail> {
-    let expected = [0x00E0, 0x0300, 0xFB00];
-    assert!(rt; have_dependants(rt.alloc(), (DATA, b""), (WITH_COMPOSITE, b""), &expected)?);
-    Ok(())
-}
-
-#[test]
-fn two_code_points_depend_on_a_folding(rt: HostRuntime) -> Result<(), Fail> {
+fn some_code_points_depend_on_a_composite_and_on_its_folding(rt: HostRuntime) -> Result<(), Fail> {
+    let composed = [0x00E0, 0x0300, 0xFB00];
+    assert!(rt; have_dependants(rt.alloc(), (DATA, b""), (WITH_COMPOSITE, b""), &composed)?);
     let folding = b"00E0; C; 0061\n";
-    let expected = [0x00E0, 0xFB00];
+    let folded = [0x00E0, 0xFB00];
     assert!(rt;
         have_dependants(
             rt.alloc(),
             (WITH_COMPOSITE, b""),
             (WITH_COMPOSITE, folding),
-            &expected
+            &folded
         )?
     );
     Ok(())

@@ -192,25 +192,6 @@ fn an_editor_who_has_not_seen_a_revision_is_told(rt: HostRuntime) -> Result<(), 
 }
 
 #[test]
-fn other_rows_are_free(rt: HostRuntime) -> Result<(), Fail> {
-    const LETTER: Edit = Edit::Add(SourceFile::UnicodeData, b"0061;A;Ll;0;L;;;;;N;;;;;");
-    let acts: [(Act, &[Edit]); 4] = [
-        (Act::Enter(1), &[]),
-        (Act::Propose(1, 0), &[EXCLUDE]),
-        (Act::Propose(1, 0), &[LETTER]),
-        (Act::Propose(1, 5), &[]),
-    ];
-    let expected = [
-        Told::Entered(0),
-        Told::Accepted(1, with_point(0x00C0, 0x0300)),
-        Told::Accepted(2, 0x0061),
-        Told::Ahead(2),
-    ];
-    assert!(rt; are_answered(rt.alloc(), &acts, &expected)?);
-    Ok(())
-}
-
-#[test]
 fn one_key_has_many_spellings(rt: HostRuntime) -> Result<(), Fail> {
     const RULE: Edit = Edit::Add(
         SourceFile::SpecialCasing,
@@ -223,32 +204,6 @@ fn one_key_has_many_spellings(rt: HostRuntime) -> Result<(), Fail> {
         (Act::Propose(1, 0), &[AGAIN]),
     ];
     let expected = [Told::Entered(0), Told::Accepted(1, 0), Told::Stale(1, 1)];
-    assert!(rt; are_answered(rt.alloc(), &acts, &expected)?);
-    Ok(())
-}
-
-#[test]
-fn a_group_without_operations_is_a_revision(rt: HostRuntime) -> Result<(), Fail> {
-    let acts: [(Act, &[Edit]); 8] = [
-        (Act::Enter(1), &[]),
-        (Act::Propose(1, 0), &[]),
-        (Act::Propose(1, 0), &[INCLUDE]),
-        (Act::Propose(1, 0), &[EXCLUDE]),
-        (Act::Propose(1, 3), &[]),
-        (Act::Enter(1), &[]),
-        (Act::Leave(1), &[]),
-        (Act::Leave(1), &[]),
-    ];
-    let expected = [
-        Told::Entered(0),
-        Told::Accepted(1, 0),
-        Told::BreaksKey(KeyRule::K2, 1),
-        Told::Accepted(2, with_point(0x00C0, 0x0300)),
-        Told::Ahead(2),
-        Told::Present,
-        Told::Left,
-        Told::Absent,
-    ];
     assert!(rt; are_answered(rt.alloc(), &acts, &expected)?);
     Ok(())
 }

@@ -11,7 +11,7 @@ use std::alloc::Global;
 use std::marker::Brand;
 use std::sync::ledger::{Blank, Ledger};
 use std::test::Fail;
-use ucd_model::{Bad, ListOf, Point, SourceFile, Steps};
+use ucd_model::{ListOf, Point, SourceFile, Steps};
 
 /// A letter with a mark, and its parts.
 pub const GRAVE: &[u8] =
@@ -44,15 +44,6 @@ enum Answer {
 /// The operation of this number breaks a rule on keys.
 fn key(rule: KeyRule, op: u32) -> Answer {
     Answer::Stopped(ApplyStop::Refused(Refused::Key { rule, op }))
-}
-
-/// The code point breaks a rule of a valid release.
-fn valid(rule: Bad, point: Point) -> Answer {
-    Answer::Stopped(ApplyStop::Refused(Refused::Valid { rule, point }))
-}
-
-fn point(number: u32) -> Result<Point, Fail> {
-    Ok(Point::new(number).ok_or("a code point")?)
 }
 
 /// The row of these bytes, as an operation that adds it.
@@ -192,40 +183,6 @@ fn answers_over(
     all_answered::<Brand>(alloc, release, groups, Blank::new(1))
 }
 
-#[test]
-fn an_exclusion_changes_the_composite_and_its_mark(rt: HostRuntime) -> Result<(), Fail> {
-    let groups: [(&[Edit], Answer); 2] = [
-        (&[], Answer::Changed(&[])),
-        (
-            &[Edit::Add(SourceFile::CompositionExclusions, b"00C0")],
-            Answer::Changed(&[0x00C0, 0x0300]),
-        ),
-    ];
-    assert!(rt; answers(rt.alloc(), GRAVE, &groups)?);
-    Ok(())
-}
-
-#[test]
-fn dependants_change_with_what_they_ask(rt: HostRuntime) -> Result<(), Fail> {
-    let lines =
-        b"0061;LATIN SMALL LETTER A;Ll;0;L;;;;;N;;;;;\n0300;COMBINING GRAVE ACCENT;Mn;230;NSM;;;;;N;;;;;\nFB00;X;Lo;0;L;<compat> 0061 0300;;;;N;;;;;\n";
-    let groups: [(&[Edit], Answer); 2] = [
-        (
-            &[Edit::Add(
-                SourceFile::UnicodeData,
-                b"00E0;LATIN SMALL LETTER A WITH GRAVE;Ll;0;L;0061 0300;;;;N;;;;;",
-            )],
-            Answer::Changed(&[0x00E0, 0x0300, 0xFB00]),
-        ),
-        (
-            &[Edit::Add(SourceFile::CaseFolding, b"00E0; C; 0061")],
-            Answer::Changed(&[0x00E0, 0xFB00]),
-        ),
-    ];
-    assert!(rt; answers(rt.alloc(), lines, &groups)?);
-    Ok(())
-}
-
 /// Letters, of which one has a mark, and a ligature that has its parts in its compatibility mapping.
 const LIGATURE: &[u8] =
     b"0041;LATIN CAPITAL LETTER A;Lu;0;L;;;;;N;;;;;\n00C0;LATIN CAPITAL LETTER A WITH GRAVE;Lu;0;L;0041 0300;;;;N;;;;;\n00E0;X;Ll;0;L;;;;;N;;;;;\n0300;COMBINING GRAVE ACCENT;Mn;230;NSM;;;;;N;;;;;\nFB00;Y;Lo;0;L;<compat> 0041 0300;;;;N;;;;;\n";
@@ -263,39 +220,6 @@ fn dependants_stand_behind_composites_and_foldings(rt: HostRuntime) -> Result<()
 }
 
 #[test]
-fn a_refused_group_leaves_no_rows(rt: HostRuntime) -> Result<(), Fail> {
-    let least = point(0x1000)?;
-    let groups: [(&[Edit], Answer); 2] = [
-        (
-            &[
-                Edit::Add(SourceFile::UnicodeData, b"1000;A;Lo;0;L;1001;;;;N;;;;;"),
-                Edit::Add(SourceFile::UnicodeData, b"1001;B;Lo;0;L;1000;;;;N;;;;;"),
-            ],
-            valid(Bad::V2, least),
-        ),
-        (
-            &[Edit::Add(SourceFile::UnicodeData, b"1002;C;Lo;0;L;;;;;N;;;;;")],
-            Answer::Changed(&[0x1002]),
-        ),
-    ];
-    assert!(rt; answers(rt.alloc(), b"", &groups)?);
-    Ok(())
-}
-
-#[test]
-fn a_mark_is_withdrawn_with_its_composite(rt: HostRuntime) -> Result<(), Fail> {
-    const MARK: Edit = Edit::Withdraw(SourceFile::UnicodeData, b"0300");
-    const COMPOSITE: Edit = Edit::Withdraw(SourceFile::UnicodeData, b"00C0");
-    let least = point(0x00C0)?;
-    let groups: [(&[Edit], Answer); 2] = [
-        (&[MARK], valid(Bad::V1, least)),
-        (&[MARK, COMPOSITE], Answer::Changed(&[0x00C0, 0x0300])),
-    ];
-    assert!(rt; answers(rt.alloc(), GRAVE, &groups)?);
-    Ok(())
-}
-
-#[test]
 fn the_first_operation_that_breaks_a_rule_is_named(rt: HostRuntime) -> Result<(), Fail> {
     const FILE: SourceFile = SourceFile::UnicodeData;
     const AGAIN: Edit = Edit::Add(FILE, b"0041;X;Lu;0;L;;;;;N;;;;;");
@@ -317,20 +241,6 @@ fn the_first_operation_that_breaks_a_rule_is_named(rt: HostRuntime) -> Result<()
 }
 
 #[test]
-fn a_folding_that_does_not_end_is_refused(rt: HostRuntime) -> Result<(), Fail> {
-    let least = point(0x0041)?;
-    let groups: [(&[Edit], Answer); 1] = [(
-        &[
-            Edit::Add(SourceFile::CaseFolding, b"0061; C; 0041"),
-            Edit::Add(SourceFile::CaseFolding, b"0041; C; 0061"),
-        ],
-        valid(Bad::V5, least),
-    )];
-    assert!(rt; answers(rt.alloc(), LETTERS, &groups)?);
-    Ok(())
-}
-
-#[test]
 fn a_group_changes_a_whole_plane(rt: HostRuntime) -> Result<(), Fail> {
     let groups: [(&[Edit], Answer); 2] = [
         (
@@ -342,19 +252,6 @@ fn a_group_changes_a_whole_plane(rt: HostRuntime) -> Result<(), Fail> {
             Answer::ChangedSpan(0x20000, 0x2FFFF),
         ),
     ];
-    assert!(rt; answers(rt.alloc(), LETTERS, &groups)?);
-    Ok(())
-}
-
-#[test]
-fn a_row_may_have_some_hundred_bytes(rt: HostRuntime) -> Result<(), Fail> {
-    let groups: [(&[Edit], Answer); 1] = [(
-        &[Edit::Add(
-            SourceFile::UnicodeData,
-            b"0062;LATIN SMALL LETTER B WITH A NAME THAT IS LONG AND GOES ON AND ON AND ON AND ON AND ON AND ON AND ON AND ON AND ON AND ON AND ON AND ON AND ON AND ON AND ON AND ON AND ON AND ON AND ON AND ON AND ON AND ON AND ON AND ON AND ON AND ON AND ON AND ON AND ON AND ON AND ON AND ON AND ON AND ON AND ON AND ON AND ON AND ON AND ON AND ON AND ON AND ON;Ll;0;L;;;;;N;;;;;",
-        )],
-        Answer::Changed(&[0x0062]),
-    )];
     assert!(rt; answers(rt.alloc(), LETTERS, &groups)?);
     Ok(())
 }

@@ -255,12 +255,6 @@ fn agree(alloc: Global, depth: u32, count: u32, first: u32) -> Result<bool, Fail
 }
 
 #[test]
-fn undos_restore_one_state(rt: HostRuntime) -> Result<(), Fail> {
-    assert!(rt; agree(rt.alloc(), 1, 30, 11)?);
-    Ok(())
-}
-
-#[test]
 fn undos_restore_three_states(rt: HostRuntime) -> Result<(), Fail> {
     assert!(rt; agree(rt.alloc(), 3, 40, 7)?);
     Ok(())

@@ -314,9 +314,3 @@ fn groups_at_random_leave_a_bench_as_one_opened_anew(rt: HostRuntime) -> Result<
     assert!(rt; agree(rt.alloc(), 60, 7)?);
     Ok(())
 }
-
-#[test]
-fn other_groups_at_random_do_so_too(rt: HostRuntime) -> Result<(), Fail> {
-    assert!(rt; agree(rt.alloc(), 60, 4_711)?);
-    Ok(())
-}

@@ -42,42 +42,34 @@ fn look_at(
     Ok(())
 }
 
-#[test]
-fn a_missing_row_gives_a_value(rt: HostRuntime) -> Result<(), Fail> {
-    look_at(
-        &rt,
-        rt.alloc(),
+/// Lines, and what they say of code points.
+const CASES: [(&[u8], Expected); 4] = [
+    // a missing row gives a value
+    (
         b"# @missing: 0041; MidLetter\n",
         &[(0x40, false), (0x41, true), (0x42, false)],
-    )
-}
-
-#[test]
-fn the_default_of_the_real_files_is_no_such_value(rt: HostRuntime) -> Result<(), Fail> {
-    look_at(
-        &rt,
-        rt.alloc(),
+    ),
+    // the default of the real files is no such value
+    (
         b"# @missing: 0000..10FFFF; Other\n0027          ; Single_Quote # Po       APOSTROPHE\n",
         &[(0x26, false), (0x27, true), (0x0010_FFFF, false)],
-    )
-}
-
-#[test]
-fn other_rows_hide_missing_rows(rt: HostRuntime) -> Result<(), Fail> {
-    look_at(
-        &rt,
-        rt.alloc(),
+    ),
+    // other rows hide missing rows
+    (
         b"003A ; MidLetter\n# @missing: 0041..0043; MidLetter\n# @missing: 003A; Other\n0042 ; ALetter\n",
         &[(0x3A, true), (0x41, true), (0x42, false), (0x43, true)],
-    )
-}
-
-#[test]
-fn the_last_missing_row_counts(rt: HostRuntime) -> Result<(), Fail> {
-    look_at(
-        &rt,
-        rt.alloc(),
+    ),
+    // the last missing row counts
+    (
         b"# @missing: 0041..0044; MidLetter\n# @missing: 0042..0043; Other\n# @missing: 0043; MidNumLet\n",
         &[(0x41, true), (0x42, false), (0x43, true), (0x44, true)],
-    )
+    ),
+];
+
+#[test]
+fn missing_rows_give_values(rt: HostRuntime) -> Result<(), Fail> {
+    for (lines, expected) in &CASES {
+        look_at(&rt, rt.alloc(), lines, expected)?;
+    }
+    Ok(())
 }

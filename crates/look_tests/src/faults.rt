@@ -153,16 +153,6 @@ fn each_failed_read_is_told(rt: HostRuntime) -> Result<(), Fail> {
     Ok(())
 }
 
-#[test]
-fn failed_reads_beside_the_folder_are_told(rt: HostRuntime) -> Result<(), Fail> {
-    let check: [&[u8]; 4] = [b"check", b"d", b"s", b"p"];
-    assert!(rt; tells_read(rt.alloc(), &check, 10, b"s")?);
-    assert!(rt; tells_read(rt.alloc(), &check, 19, b"p/PropertyValueAliases.txt")?);
-    let changes: [&[u8]; 3] = [b"changes", b"d", b"s"];
-    assert!(rt; tells_read(rt.alloc(), &changes, 10, b"s")?);
-    Ok(())
-}
-
 /// The words of a run, its script, and what it tells.
 #[derive(Clone, Copy)]
 struct Told {

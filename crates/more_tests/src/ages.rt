@@ -17,52 +17,50 @@ struct Aged {
     steps: &'static [u8],
 }
 
-/// The step from the earlier to the later release.
-const TWO: Aged = Aged {
-    words: &[b"ages", b"o", b"p", b"d"],
-    status: Status::Done,
-    summary: b"ages: 2 releases, 5 code points, 7 breaks\n",
-    ages: b"# Age\n0041 ; 1\n0061 ; 1\n00E0 ; 2\n0300..0301 ; 1\n# total 5\n\n",
-    steps: b"# step 2\nP01 0041\nP03 0300\nP05 00E0\nP06 0041\nP07 0041\nP08 0041\nP09 0041\n# total 7\n",
-};
-
-/// One release has no step.
-const ONE: Aged = Aged {
-    words: &[b"ages", b"o", b"p"],
-    status: Status::Clean,
-    summary: b"ages: 1 releases, 4 code points, 0 breaks\n",
-    ages: b"# Age\n0041 ; 1\n0061 ; 1\n0300..0301 ; 1\n# total 4\n\n",
-    steps: b"",
-};
-
-/// A release that is the one before breaks nothing; steps are told by the release that they lead to.
-const SAME_FIRST: Aged = Aged {
-    words: &[b"ages", b"o", b"p", b"p", b"d"],
-    status: Status::Done,
-    summary: b"ages: 3 releases, 5 code points, 7 breaks\n",
-    ages: b"# Age\n0041 ; 1\n0061 ; 1\n00E0 ; 3\n0300..0301 ; 1\n# total 5\n\n",
-    steps: b"# step 2\n# total 0\n# step 3\nP01 0041\nP03 0300\nP05 00E0\nP06 0041\nP07 0041\nP08 0041\nP09 0041\n# total 7\n",
-};
-
-const SAME_LAST: Aged = Aged {
-    words: &[b"ages", b"o", b"p", b"d", b"d"],
-    status: Status::Done,
-    summary: b"ages: 3 releases, 5 code points, 7 breaks\n",
-    ages: b"# Age\n0041 ; 1\n0061 ; 1\n00E0 ; 2\n0300..0301 ; 1\n# total 5\n\n",
-    steps: b"# step 2\nP01 0041\nP03 0300\nP05 00E0\nP06 0041\nP07 0041\nP08 0041\nP09 0041\n# total 7\n# step 3\n# total 0\n",
-};
-
-/// As many releases as there may be.
-const SIXTEEN: Aged = Aged {
-    words: &[
-        b"ages", b"o", b"p", b"p", b"p", b"p", b"p", b"p", b"p", b"p", b"p", b"p", b"p", b"p",
-        b"p", b"p", b"p", b"p",
-    ],
-    status: Status::Clean,
-    summary: b"ages: 16 releases, 4 code points, 0 breaks\n",
-    ages: b"# Age\n0041 ; 1\n0061 ; 1\n0300..0301 ; 1\n# total 4\n\n",
-    steps: b"# step 2\n# total 0\n# step 3\n# total 0\n# step 4\n# total 0\n# step 5\n# total 0\n# step 6\n# total 0\n# step 7\n# total 0\n# step 8\n# total 0\n# step 9\n# total 0\n# step 10\n# total 0\n# step 11\n# total 0\n# step 12\n# total 0\n# step 13\n# total 0\n# step 14\n# total 0\n# step 15\n# total 0\n# step 16\n# total 0\n",
-};
+const RUNS: [Aged; 5] = [
+    // the step from the earlier to the later release
+    Aged {
+        words: &[b"ages", b"o", b"p", b"d"],
+        status: Status::Done,
+        summary: b"ages: 2 releases, 5 code points, 7 breaks\n",
+        ages: b"# Age\n0041 ; 1\n0061 ; 1\n00E0 ; 2\n0300..0301 ; 1\n# total 5\n\n",
+        steps: b"# step 2\nP01 0041\nP03 0300\nP05 00E0\nP06 0041\nP07 0041\nP08 0041\nP09 0041\n# total 7\n",
+    },
+    // one release has no step
+    Aged {
+        words: &[b"ages", b"o", b"p"],
+        status: Status::Clean,
+        summary: b"ages: 1 releases, 4 code points, 0 breaks\n",
+        ages: b"# Age\n0041 ; 1\n0061 ; 1\n0300..0301 ; 1\n# total 4\n\n",
+        steps: b"",
+    },
+    // a release that is the one before breaks nothing; steps are told by the release that they lead to
+    Aged {
+        words: &[b"ages", b"o", b"p", b"p", b"d"],
+        status: Status::Done,
+        summary: b"ages: 3 releases, 5 code points, 7 breaks\n",
+        ages: b"# Age\n0041 ; 1\n0061 ; 1\n00E0 ; 3\n0300..0301 ; 1\n# total 5\n\n",
+        steps: b"# step 2\n# total 0\n# step 3\nP01 0041\nP03 0300\nP05 00E0\nP06 0041\nP07 0041\nP08 0041\nP09 0041\n# total 7\n",
+    },
+    Aged {
+        words: &[b"ages", b"o", b"p", b"d", b"d"],
+        status: Status::Done,
+        summary: b"ages: 3 releases, 5 code points, 7 breaks\n",
+        ages: b"# Age\n0041 ; 1\n0061 ; 1\n00E0 ; 2\n0300..0301 ; 1\n# total 5\n\n",
+        steps: b"# step 2\nP01 0041\nP03 0300\nP05 00E0\nP06 0041\nP07 0041\nP08 0041\nP09 0041\n# total 7\n# step 3\n# total 0\n",
+    },
+    // as many releases as there may be
+    Aged {
+        words: &[
+            b"ages", b"o", b"p", b"p", b"p", b"p", b"p", b"p", b"p", b"p", b"p", b"p", b"p", b"p",
+            b"p", b"p", b"p", b"p",
+        ],
+        status: Status::Clean,
+        summary: b"ages: 16 releases, 4 code points, 0 breaks\n",
+        ages: b"# Age\n0041 ; 1\n0061 ; 1\n0300..0301 ; 1\n# total 4\n\n",
+        steps: b"# step 2\n# total 0\n# step 3\n# total 0\n# step 4\n# total 0\n# step 5\n# total 0\n# step 6\n# total 0\n# step 7\n# total 0\n# step 8\n# total 0\n# step 9\n# total 0\n# step 10\n# total 0\n# step 11\n# total 0\n# step 12\n# total 0\n# step 13\n# total 0\n# step 14\n# total 0\n# step 15\n# total 0\n# step 16\n# total 0\n",
+    },
+];
 
 /// Whether a run ends as it should, and keeps the files of others.
 ///
@@ -81,27 +79,10 @@ fn ends_so(alloc: Global, aged: &Aged) -> Result<bool, Memory> {
 }
 
 #[test]
-fn ages_of_two_releases(rt: HostRuntime) -> Result<(), Fail> {
-    assert!(rt; ends_so(rt.alloc(), &TWO)?);
-    Ok(())
-}
-
-#[test]
-fn ages_of_one_release(rt: HostRuntime) -> Result<(), Fail> {
-    assert!(rt; ends_so(rt.alloc(), &ONE)?);
-    Ok(())
-}
-
-#[test]
-fn each_step_has_its_number(rt: HostRuntime) -> Result<(), Fail> {
-    assert!(rt; ends_so(rt.alloc(), &SAME_FIRST)?);
-    assert!(rt; ends_so(rt.alloc(), &SAME_LAST)?);
-    Ok(())
-}
-
-#[test]
-fn ages_of_sixteen_releases(rt: HostRuntime) -> Result<(), Fail> {
-    assert!(rt; ends_so(rt.alloc(), &SIXTEEN)?);
+fn each_release_has_its_ages_and_its_step(rt: HostRuntime) -> Result<(), Fail> {
+    for aged in &RUNS {
+        assert!(rt; ends_so(rt.alloc(), aged)?);
+    }
     Ok(())
 }
 
@@ -109,13 +90,13 @@ fn ages_of_sixteen_releases(rt: HostRuntime) -> Result<(), Fail> {
 fn keeps_what_it_read(alloc: Global) -> Result<bool, Memory> {
     let mut shelf = shelf_of(alloc, EARLIER, LATER)?;
     let words: [&[u8]; 4] = [b"ages", b"p", b"p", b"d"];
-    let expected = (TWO.status, TWO.summary);
+    let expected = (RUNS[0].status, RUNS[0].summary);
     Ok(
         ends(alloc, &words, &mut shelf, 1000, expected)?
             && holds(
                 &shelf,
                 &[
-                    (b"p/DerivedAge.txt", TWO.ages),
+                    (b"p/DerivedAge.txt", RUNS[0].ages),
                     (b"p/UnicodeData.txt", EARLIER),
                     (b"o/steps.txt", b"old"),
                 ],

@@ -2,7 +2,7 @@
 
 use crate::desk::{WORDS, shelf_of};
 use crate::runs::ends;
-use run_tests::runs::{holds, place_release};
+use run_tests::runs::holds;
 use shelf_io::MemoryShelf;
 use std::alloc::Global;
 use std::test::Fail;
@@ -123,55 +123,5 @@ fn files_of_events_are_refused_by_their_first_fault(rt: HostRuntime) -> Result<(
     for (events, line) in &FAULTS {
         assert!(rt; is_refused(rt.alloc(), events, line)?);
     }
-    Ok(())
-}
-
-/// A release with a fault is told before a fault of the file of events, which may be absent.
-///
-/// - `Memory`: memory ran out.
-fn are_in_order(alloc: Global) -> Result<bool, Memory> {
-    Ok(tells_the_release(alloc)? && tells_an_absent_file(alloc)?)
-}
-
-fn tells_the_release(alloc: Global) -> Result<bool, Memory> {
-    let mut broken = shelf_of(alloc, b"@\n")?;
-    place_release(alloc, &mut broken, b"d", b"0041\n")?;
-    is_told(
-        alloc,
-        &mut broken,
-        b"refused: d/UnicodeData.txt line 1 G03\n",
-    )
-}
-
-fn tells_an_absent_file(alloc: Global) -> Result<bool, Memory> {
-    let mut absent = Box::new(alloc, MemoryShelf::new(alloc))?;
-    place_release(alloc, &mut absent, b"d", b"")?;
-    absent.place(b"o/desk.log", b"old")?;
-    is_told(alloc, &mut absent, b"refused: t line 0 G01\n")
-}
-
-#[test]
-fn the_release_is_judged_first(rt: HostRuntime) -> Result<(), Fail> {
-    assert!(rt; are_in_order(rt.alloc())?);
-    Ok(())
-}
-
-/// Whether a file of events above the limit is refused, and one that keeps it is not.
-///
-/// - `Memory`: memory ran out.
-fn keeps_the_limit(alloc: Global) -> Result<bool, Memory> {
-    let mut long = vec![in alloc; b'#'; 33_554_433]?;
-    if !is_refused(alloc, long.as_slice(), b"refused: t line 0 G02\n")? {
-        return Ok(false);
-    }
-    long.truncate(33_554_432);
-    let mut shelf = shelf_of(alloc, long.as_slice())?;
-    let summary = b"desk: 0 accepted, 0 refused\n".as_slice();
-    ends(alloc, WORDS, &mut shelf, 1000, (Status::Clean, summary))
-}
-
-#[test]
-fn a_long_file_of_events_is_refused(rt: HostRuntime) -> Result<(), Fail> {
-    assert!(rt; keeps_the_limit(rt.alloc())?);
     Ok(())
 }

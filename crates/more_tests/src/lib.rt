@@ -8,8 +8,6 @@ mod conform;
 #[cfg(test)]
 mod desk;
 #[cfg(test)]
-mod desk_failures;
-#[cfg(test)]
 mod desk_marks;
 #[cfg(test)]
 mod faults;

@@ -1,7 +1,6 @@
 //! Runs of `ages` over folders that are refused.
 
 use crate::runs::{EARLIER, LATER, ends, is_untouched, shelf_of};
-use run_tests::runs::place_in;
 use shelf_io::MemoryShelf;
 use std::alloc::Global;
 use std::test::Fail;
@@ -89,27 +88,6 @@ fn refuses_an_absent_folder(alloc: Global) -> Result<bool, Memory> {
 #[test]
 fn an_absent_folder_is_refused(rt: HostRuntime) -> Result<(), Fail> {
     assert!(rt; refuses_an_absent_folder(rt.alloc())?);
-    Ok(())
-}
-
-/// Whether a key that stands twice in a later file is told by its line.
-///
-/// - `Memory`: memory ran out.
-fn refuses_a_repeated_key(alloc: Global) -> Result<bool, Memory> {
-    let mut shelf = shelf_of(alloc, EARLIER, LATER)?;
-    let rows = b"0020 ; White_Space\n0020 ; White_Space\n".as_slice();
-    place_in(alloc, &mut shelf, b"d", b"PropList.txt", rows)?;
-    is_refused(
-        alloc,
-        &WORDS,
-        &mut shelf,
-        b"refused: d/PropList.txt line 2 K1\n",
-    )
-}
-
-#[test]
-fn a_repeated_key_is_refused(rt: HostRuntime) -> Result<(), Fail> {
-    assert!(rt; refuses_a_repeated_key(rt.alloc())?);
     Ok(())
 }
 

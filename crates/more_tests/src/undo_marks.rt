@@ -1,4 +1,4 @@
-//! Scripts of a history that are refused, and runs in which a read, a write or a print fails.
+//! Scripts of a history that are refused.
 
 use crate::runs::ends;
 use crate::undo::{shelf_of, words};
@@ -128,31 +128,5 @@ fn is_absent_told(alloc: Global) -> Result<bool, Memory> {
 fn the_release_is_judged_first(rt: HostRuntime) -> Result<(), Fail> {
     assert!(rt; is_release_first(rt.alloc())?);
     assert!(rt; is_absent_told(rt.alloc())?);
-    Ok(())
-}
-
-/// Whether a run is told that this write failed, counted from 1, and what it names.
-///
-/// - `Memory`: memory ran out.
-fn tells_write(alloc: Global, nth: u32, line: &[u8]) -> Result<bool, Memory> {
-    let mut shelf = shelf_of(alloc, b"@ undo\n")?;
-    shelf.fail_write(nth)?;
-    Ok(
-        ends(
-            alloc,
-            &words(b"1"),
-            &mut shelf,
-            1000,
-            (Status::WriteFault, line),
-        )? && holds(&shelf, &[(b"o/undo.log", b"old")]),
-    )
-}
-
-#[test]
-fn failed_writes_are_told(rt: HostRuntime) -> Result<(), Fail> {
-    let alloc = rt.alloc();
-    assert!(rt; tells_write(alloc, 1, b"write failed: o/UnicodeData.txt\n")?);
-    assert!(rt; tells_write(alloc, 10, b"write failed: o/DerivedCoreProperties.txt\n")?);
-    assert!(rt; tells_write(alloc, 15, b"write failed: o/undo.log\n")?);
     Ok(())
 }

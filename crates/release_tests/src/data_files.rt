@@ -2,7 +2,6 @@
 
 use crate::files::is_answered;
 use release_rows::{LoadRule, LoadStop};
-use source_rows::RowFault;
 use std::alloc::Global;
 use std::test::Fail;
 use ucd_model::{Memory, SourceFile, Text};
@@ -62,12 +61,6 @@ const LAST: &[u8] = b"9FFF;<CJK Ideograph, Last>;Lo;0;L;;;;;N;;;;;\n";
 
 const INSIDE: &[u8] = b"5000;CJK;Lo;0;L;;;;;N;;;;;\n";
 
-const NO_CODE: &[u8] = b"9FFG;<CJK Ideograph, Last>;Lo;0;L;;;;;N;;;;;\n";
-
-const BAD_CLASS: &[u8] = b"4E00;<CJK Ideograph, First>;Lo;X;L;;;;;N;;;;;\n";
-
-const BAD_CODE: &[u8] = b"4E0;<CJK Ideograph, First>;Lo;0;L;;;;;N;;;;;\n";
-
 /// K1 before K4 before K5.
 const ORDER_FAULTS: [DataFault; 5] = [
     ([B, A, b"", b""], 2, LoadRule::K5),
@@ -91,23 +84,5 @@ fn lines_in_order_load(alloc: Global) -> Result<bool, Memory> {
 fn unicode_data_ascends(rt: HostRuntime) -> Result<(), Fail> {
     assert!(rt; faults_of_order_are_told(rt.alloc())?);
     assert!(rt; lines_in_order_load(rt.alloc())?);
-    Ok(())
-}
-
-const RANGE_FAULTS: [DataFault; 5] = [
-    ([FIRST, b"", b"", b""], 1, LoadRule::Row(RowFault::G09)),
-    ([A, FIRST, b"\n", LAST], 2, LoadRule::Row(RowFault::G09)),
-    ([A, FIRST, NO_CODE, b""], 3, LoadRule::Row(RowFault::G04)),
-    ([A, BAD_CODE, NO_CODE, b""], 2, LoadRule::Row(RowFault::G04)),
-    ([A, BAD_CLASS, LAST, b""], 2, LoadRule::Row(RowFault::G06)),
-];
-
-fn faults_of_ranges_are_told(alloc: Global) -> Result<bool, Memory> {
-    data_is_refused(alloc, &RANGE_FAULTS)
-}
-
-#[test]
-fn a_fault_of_a_range_has_its_line(rt: HostRuntime) -> Result<(), Fail> {
-    assert!(rt; faults_of_ranges_are_told(rt.alloc())?);
     Ok(())
 }

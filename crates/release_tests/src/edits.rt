@@ -4,7 +4,7 @@ ghost use Rattle.std.specs.Prelude.{◌≡◌, IfOk};
 ghost use Rattle.release_rows.specs.Operations.{IsOp};
 
 use crate::files::release_of;
-use release_rows::{KeyRule, Op, OpStop, Release};
+use release_rows::{Op, OpStop, Release};
 use source_rows::{RowStop, read_key, read_row};
 use std::alloc::Global;
 use std::test::Fail;
@@ -108,46 +108,6 @@ fn leaves_over(
     }
     release.commit();
     Ok(release.text(alloc, file)?.as_slice() == expected)
-}
-
-const LINE_ENDS: [Case<'static>; 2] = [
-    (Edit::Change(b"0020..0021 ; White_Space"), Ok(())),
-    (Edit::Add(b"0085 ; White_Space"), Ok(())),
-];
-
-#[test]
-fn line_ends(rt: HostRuntime) -> Result<(), Fail> {
-    assert!(rt;
-        leaves(
-            rt.alloc(),
-            SourceFile::PropList,
-            b"# head\r\n0020 ; White_Space # SP\r\n\r\n0009..000D    ; White_Space",
-            &LINE_ENDS,
-            b"# head\r\n0020..0021 ; White_Space\r\n\r\n0009..000D    ; White_Space\n0085 ; White_Space\n",
-        )?
-    );
-    Ok(())
-}
-
-const LETTERS: &[u8] =
-    b"0041;LATIN CAPITAL LETTER A;Lu;0;L;;;;;N;;;;0061;\n0061;LATIN SMALL LETTER A;Ll;0;L;;;;;N;;;0041;;0041\n";
-
-const RANGE: &[u8] = b"0040;<R, First>;Lo;0;L;;;;;N;;;;;\n0050;<R, Last>;Lo;0;L;;;;;N;;;;;";
-
-const ON_KEYS: [Case<'static>; 3] = [
-    (
-        Edit::Add(b"0041;X;Lu;0;L;;;;;N;;;;;"),
-        Err(OpStop::Key(KeyRule::K1)),
-    ),
-    (Edit::Withdraw(b"0042"), Err(OpStop::Key(KeyRule::K2))),
-    (Edit::Add(RANGE), Err(OpStop::Key(KeyRule::K4))),
-];
-
-#[test]
-fn rules_on_keys(rt: HostRuntime) -> Result<(), Fail> {
-    let file = SourceFile::UnicodeData;
-    assert!(rt; leaves(rt.alloc(), file, LETTERS, &ON_KEYS, LETTERS)?);
-    Ok(())
 }
 
 const PLACES: [Case<'static>; 5] = [

@@ -4,7 +4,7 @@ use release_rows::{LoadRule, LoadStop, Release};
 use source_rows::RowFault;
 use std::alloc::Global;
 use std::test::Fail;
-use ucd_model::{Memory, SourceFile, Text, file_limit};
+use ucd_model::{Memory, SourceFile, Text};
 
 /// Whether a file is answered so, of its bytes and of its text, and keeps its bytes if it loads and none if it does
 /// not.
@@ -187,29 +187,5 @@ const OTHERS: [(SourceFile, &[u8]); 3] = [
 fn rows_without_spans_are_compared_with_the_rows_above(rt: HostRuntime) -> Result<(), Fail> {
     assert!(rt; are_refused(rt.alloc(), &OTHER_FAULTS)?);
     assert!(rt; are_loaded(rt.alloc(), &OTHERS)?);
-    Ok(())
-}
-
-#[test]
-fn a_file_of_the_greatest_size_loads(rt: HostRuntime) -> Result<(), Fail> {
-    let bytes = Vec::from_elem(rt.alloc(), b'#', file_limit())?;
-    assert!(rt; is_answered(rt.alloc(), SourceFile::Scripts, &bytes, Ok(()))?);
-    Ok(())
-}
-
-#[test]
-fn a_file_above_the_limit_is_refused(rt: HostRuntime) -> Result<(), Fail> {
-    let bytes = Vec::from_elem(rt.alloc(), b'#', file_limit().saturating_add(1))?;
-    assert!(rt;
-        is_answered(
-            rt.alloc(),
-            SourceFile::Scripts,
-            &bytes,
-            Err(LoadStop::Fault {
-                line: 0,
-                rule: LoadRule::G02,
-            })
-        )?
-    );
     Ok(())
 }

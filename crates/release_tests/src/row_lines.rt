@@ -51,14 +51,6 @@ fn is_value(row: &Row, first: u32, value: &[u8]) -> bool {
     }
 }
 
-/// Whether there is a first row, and it is none of a span and a value.
-fn gives_no_value(mut rows: Rows<'_>) -> bool {
-    match rows.next() {
-        Some((_, row)) => row.value().is_none(),
-        None => false,
-    }
-}
-
 const SPACES: &[u8] = b"# head\r\n0020 ; White_Space # SP\r\n\r\n0009..000D    ; White_Space";
 
 /// Whether a release with those lines gives them with their numbers.
@@ -78,23 +70,5 @@ fn rows_have_their_lines(rt: HostRuntime) -> Result<(), Fail> {
     assert!(rt; is_answered(rt.alloc(), file, SPACES, Ok(()))?);
     let release = release_of(rt.alloc(), file, SPACES)?;
     assert!(rt; gives_spaces(rt.alloc(), &release)?);
-    Ok(())
-}
-
-const RANGES: &[u8] =
-    b"AC00;<Hangul Syllable, First>;Lo;0;L;;;;;N;;;;;\nD7A3;<Hangul Syllable, Last>;Lo;0;L;;;;;N;;;;;\r\n\nE000;<Private Use, First>;Co;0;L;;;;;N;;;;;\nF8FF;<Private Use, Last>;Co;0;L;;;;;N;;;;;";
-
-/// Whether a release with those lines gives them with the numbers of their first lines.
-fn gives_ranges(release: &Release) -> bool {
-    let file = SourceFile::UnicodeData;
-    are_on(release.rows(file), 1, 4) && gives_no_value(release.rows(file))
-}
-
-#[test]
-fn a_range_has_two_lines(rt: HostRuntime) -> Result<(), Fail> {
-    let file = SourceFile::UnicodeData;
-    assert!(rt; is_answered(rt.alloc(), file, RANGES, Ok(()))?);
-    let release = release_of(rt.alloc(), file, RANGES)?;
-    assert!(rt; gives_ranges(&release));
     Ok(())
 }

@@ -5,7 +5,7 @@ ghost use Rattle.std.specs.List.{list_all};
 ghost use Rattle.edit_session.specs.Benches.{bench_facts};
 ghost use Rattle.stability_policies.specs.Reports.{report};
 
-use crate::samples::{LATER, LETTERS, Lines, bench_over, data, point};
+use crate::samples::{Lines, bench_over, data, point};
 use edit_session::Bench;
 use stability_policies::{
     Breaks, Forms, Policy, common_caseless, common_forms, lists, report, report_text,
@@ -59,8 +59,6 @@ fn report_of(alloc: Global, old: &Bench, new: &Bench) -> Result<Breaks, Memory>
 enum Look {
     /// Whether their report is this text.
     Text(&'static [u8]),
-    /// Whether the report lists the policies that it breaks, and no others.
-    Policies,
     /// Whether they have the forms of a list in common, and its folding.
     Forms,
 }
@@ -77,7 +75,6 @@ fn on_benches(alloc: Global, old: &Lines, new: &Lines, look: Look) -> Result<boo
 fn look_at(alloc: Global, old: &Bench, new: &Bench, look: Look) -> Result<bool, Memory> {
     match look {
         Look::Text(expected) => reports(alloc, old, new, expected),
-        Look::Policies => lists_policies(alloc, old, new),
         Look::Forms => have_in_common(alloc, old, new),
     }
 }
@@ -86,19 +83,6 @@ fn reports(alloc: Global, old: &Bench, new: &Bench, expected: &[u8]) -> Result<b
     let breaks = report_of(alloc, old, new)?;
     let text = report_text(alloc, &breaks)?;
     Ok(text.as_slice() == expected)
-}
-
-fn lists_policies(alloc: Global, old: &Bench, new: &Bench) -> Result<bool, Memory> {
-    let breaks = report_of(alloc, old, new)?;
-    Ok(are_listed(&breaks))
-}
-
-fn are_listed(breaks: &Breaks) -> bool {
-    breaks.len() == 7
-        && lists(breaks, Policy::P01)
-        && lists(breaks, Policy::P09)
-        && !lists(breaks, Policy::P02)
-        && !lists(breaks, Policy::P17)
 }
 
 /// Whether all of these code points are assigned.
@@ -152,17 +136,6 @@ fn are_kept(forms: &Forms, folding: &Points) -> bool {
 }
 
 #[test]
-fn letters_and_marks_are_compared(rt: HostRuntime) -> Result<(), Fail> {
-    let breaks = Look::Text(
-        b"P01 0041\nP03 0300\nP05 00E0\nP06 0041\nP07 0041\nP08 0041\nP09 0041\n# total 7\n",
-    );
-    assert!(rt; on_benches(rt.alloc(), &data(LETTERS), &data(LATER), breaks)?);
-    let none = Look::Text(b"# total 0\n");
-    assert!(rt; on_benches(rt.alloc(), &data(LETTERS), &data(LETTERS), none)?);
-    Ok(())
-}
-
-#[test]
 fn names_and_labels_are_compared(rt: HostRuntime) -> Result<(), Fail> {
     let breaks = Look::Text(b"P02 01A2\nP02 3402\nP02 3403\n# total 3\n");
     assert!(rt; on_benches(rt.alloc(), &data(RANGE), &data(RENAMED), breaks)?);
@@ -185,12 +158,6 @@ fn names_of_properties_and_values_are_compared(rt: HostRuntime) -> Result<(), Fa
         b"P17 PropertyAliases.txt 3\nP17 PropertyValueAliases.txt 1\n# total 2\n",
     );
     assert!(rt; on_benches(rt.alloc(), &old, &new, breaks)?);
-    Ok(())
-}
-
-#[test]
-fn policies_are_listed(rt: HostRuntime) -> Result<(), Fail> {
-    assert!(rt; on_benches(rt.alloc(), &data(LETTERS), &data(LATER), Look::Policies)?);
     Ok(())
 }
 

@@ -6,7 +6,7 @@ use crate::runs::{
 use shelf_io::{MemorySink, PerfectShelf};
 use std::alloc::Global;
 use std::test::Fail;
-use ucd_model::{Memory, Text};
+use ucd_model::Memory;
 use ucdshop_core::{Status, run};
 
 /// The core properties that are derived from the letters.
@@ -118,21 +118,6 @@ fn words_of_no_form_are_refused(rt: HostRuntime) -> Result<(), Fail> {
     for words in &NO_FORMS {
         assert!(rt; are_refused(rt.alloc(), words, 1000, USAGE)?);
     }
-    Ok(())
-}
-
-/// Whether a text is copied and the copy changed, and the text stays.
-fn is_copied(alloc: Global, text: &mut Text) -> Result<bool, Memory> {
-    text.append(b"abc")?;
-    let mut other = text.copy(alloc)?;
-    other.replace(1, b'x');
-    other.truncate(2);
-    Ok(text.as_slice() == b"abc".as_slice() && other.as_slice() == b"ax".as_slice())
-}
-
-#[test]
-fn a_list_is_copied_and_changed(rt: HostRuntime) -> Result<(), Fail> {
-    assert!(rt; is_copied(rt.alloc(), &mut Text::new(rt.alloc()))?);
     Ok(())
 }
 

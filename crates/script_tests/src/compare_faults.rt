@@ -69,7 +69,7 @@ fn each_failed_read_is_told(rt: HostRuntime) -> Result<(), Fail> {
     for nth in 1..20 {
         assert!(rt; tells_read(rt.alloc(), LATER, nth)?, "read {nth}");
     }
-    for nth in [10, 11, 19] {
+    for nth in [2, 10, 11, 19] {
         assert!(rt; tells_read(rt.alloc(), NO_ROW, nth)?, "read {nth}");
     }
     Ok(())

@@ -78,8 +78,8 @@ const COMPARED: [Compared; 3] = [
 const EDITED_SUMMARY: &[u8] =
     b"ucdshop: 1 groups accepted, 2 commands refused, 0 sets answered, 1 policy breaks\n";
 
-/// Runs with edits, the second of which writes over the release.
-const EDITED: [Compared; 2] = [
+/// Runs with edits, and runs that write over a release that is read.
+const EDITED: [Compared; 3] = [
     // the rows after the script are compared; refused commands leave none
     Compared {
         script: EDITS,
@@ -104,20 +104,19 @@ const EDITED: [Compared; 2] = [
             (b"d/UnicodeData.txt", LATER),
         ],
     },
+    // the earlier release may be written over, since all is read before
+    Compared {
+        script: b"",
+        words: [b"apply", b"d", b"s", b"p", b"p"],
+        status: Status::Done,
+        summary: BROKEN,
+        files: &[
+            (b"p/policy.txt", BREAKS),
+            (b"p/UnicodeData.txt", LATER),
+            (CORE_PATH, b"old"),
+        ],
+    },
 ];
-
-/// The earlier release may be written over, since all is read before.
-const WRITTEN_OVER: Compared = Compared {
-    script: b"",
-    words: [b"apply", b"d", b"s", b"p", b"p"],
-    status: Status::Done,
-    summary: BROKEN,
-    files: &[
-        (b"p/policy.txt", BREAKS),
-        (b"p/UnicodeData.txt", LATER),
-        (CORE_PATH, b"old"),
-    ],
-};
 
 /// A shelf with the releases of these two UnicodeData.txt in `d` and `p`, and a script.
 ///
@@ -167,12 +166,6 @@ fn edited_releases_are_compared(rt: HostRuntime) -> Result<(), Fail> {
     for compared in &EDITED {
         assert!(rt; ends_so(rt.alloc(), compared)?);
     }
-    Ok(())
-}
-
-#[test]
-fn the_earlier_release_may_be_written_over(rt: HostRuntime) -> Result<(), Fail> {
-    assert!(rt; ends_so(rt.alloc(), &WRITTEN_OVER)?);
     Ok(())
 }
 
@@ -252,7 +245,7 @@ pub const NO_ROW: &[u8] = b"0041\n";
 const NO_MEMBER: &[u8] = b"1000;X;Lo;0;L;1001;;;;N;;;;;\n";
 
 /// Faults of the earlier release.
-const FAULTY: [Faulty; 2] = [
+const FAULTY: [Faulty; 3] = [
     Faulty {
         data: [LATER, NO_ROW],
         script: b"",
@@ -265,15 +258,14 @@ const FAULTY: [Faulty; 2] = [
         previous: b"p",
         line: b"refused: p point 1000 V1\n",
     },
+    // nothing is there
+    Faulty {
+        data: [LATER, EARLIER],
+        script: b"",
+        previous: b"q",
+        line: b"refused: q/UnicodeData.txt line 0 G01\n",
+    },
 ];
-
-/// Nothing is there.
-const ABSENT: Faulty = Faulty {
-    data: [LATER, EARLIER],
-    script: b"",
-    previous: b"q",
-    line: b"refused: q/UnicodeData.txt line 0 G01\n",
-};
 
 /// Faults that come before those of the earlier release.
 const FIRST_FAULTS: [Faulty; 4] = [
@@ -327,37 +319,9 @@ fn faults_of_the_earlier_release_are_told(rt: HostRuntime) -> Result<(), Fail> {
 }
 
 #[test]
-fn an_absent_earlier_release_is_told(rt: HostRuntime) -> Result<(), Fail> {
-    assert!(rt; is_refused(rt.alloc(), &ABSENT)?);
-    Ok(())
-}
-
-#[test]
 fn the_first_fault_is_told(rt: HostRuntime) -> Result<(), Fail> {
     for faulty in &FIRST_FAULTS {
         assert!(rt; is_refused(rt.alloc(), faulty)?);
     }
-    Ok(())
-}
-
-/// Whether a file above the limit is refused, and not one behind it.
-fn refuses_a_long_file(alloc: Global, shelf: &mut MemoryShelf) -> Result<bool, Memory> {
-    let long = vec![in alloc; b'#'; 33_554_433]?;
-    shelf.place(b"p/Scripts.txt", long.as_slice())?;
-    shelf.place(b"p/PropertyAliases.txt", b"x\n")?;
-    let line = b"refused: p/Scripts.txt line 0 G02\n".as_slice();
-    ends(alloc, &WORDS, shelf, 1000, (Status::LoadRefused, line))
-}
-
-/// The same for a shelf that was made for it.
-fn refuses_a_long_earlier_file(alloc: Global) -> Result<bool, Memory> {
-    let mut shelf = shelf_with(alloc, LATER, EARLIER, b"")?;
-    refuses_a_long_file(alloc, &mut shelf)
-}
-
-/// A file of the earlier release has the limit of every file, and the first file with a fault is told.
-#[test]
-fn each_file_of_the_earlier_release_is_judged(rt: HostRuntime) -> Result<(), Fail> {
-    assert!(rt; refuses_a_long_earlier_file(rt.alloc())?);
     Ok(())
 }

@@ -1,9 +1,7 @@
-//! Each way in which a run of `apply` ends without its files: a script with a fault, and a read or a write that fails.
+//! Runs of `apply` whose script is refused.
 
-use crate::scripts::{EXCLUDING, OUTPUT_PATHS, WORDS};
-use run_tests::runs::{
-    CORE_PATH, GRAVE, LETTERS, SOURCE_PATHS, ends, holds, line_of, shelf_of, status_of,
-};
+use crate::scripts::WORDS;
+use run_tests::runs::{CORE_PATH, LETTERS, ends, holds, shelf_of};
 use shelf_io::MemoryShelf;
 use std::alloc::Global;
 use std::test::Fail;
@@ -110,91 +108,5 @@ fn the_script_is_judged_after_the_folder(rt: HostRuntime) -> Result<(), Fail> {
         assert!(rt; is_refused(rt.alloc(), data, *script, line)?);
     }
     assert!(rt; refuses_long_script(rt.alloc())?);
-    Ok(())
-}
-
-/// Whether a run over a new shelf is told that a read failed, counted from 1, and writes nothing.
-fn tells_read(alloc: Global, nth: u32) -> Result<bool, Memory> {
-    let mut shelf = shelf_of(alloc, LETTERS, b"")?;
-    stops_at_read(alloc, &mut shelf, nth)
-}
-
-fn stops_at_read(alloc: Global, shelf: &mut MemoryShelf, nth: u32) -> Result<bool, Memory> {
-    shelf.place(b"s", b"")?;
-    shelf.fail_read(nth)?;
-    let at = (nth as usize).saturating_sub(1);
-    let path = SOURCE_PATHS.get(at).copied().unwrap_or(b"s");
-    let line = line_of(alloc, b"read failed: ", path)?;
-    let expected = (Status::ReadFault, line.as_slice());
-    Ok(ends(alloc, &WORDS, shelf, 1000, expected)? && shelf.held(OUTPUT_PATHS[0]).is_none())
-}
-
-/// Each read may fail, that of the script too, and nothing is written then.
-#[test]
-fn each_failed_read_is_told(rt: HostRuntime) -> Result<(), Fail> {
-    for nth in 1..11 {
-        assert!(rt; tells_read(rt.alloc(), nth)?, "read {nth}");
-    }
-    Ok(())
-}
-
-/// Whether the outputs before a place are those of a whole run, and those after it are as they were.
-fn is_written_to(shelf: &MemoryShelf, whole: &MemoryShelf, place: usize) -> bool {
-    (0..OUTPUT_PATHS.len()).all(|at| is_left(shelf, whole, place, at))
-}
-
-/// Whether the output at a place is as it should be after the write at another one failed.
-fn is_left(shelf: &MemoryShelf, whole: &MemoryShelf, failed: usize, at: usize) -> bool {
-    match OUTPUT_PATHS.get(at) {
-        Some(path) if at < failed => shelf.held(path) == whole.held(path),
-        Some(path) if failed < at => shelf.held(path) == Some(b"old".as_slice()),
-        _ => true,
-    }
-}
-
-/// Whether a run over a new shelf is told that a write failed, counted from 1.
-fn tells_write(alloc: Global, whole: &MemoryShelf, nth: u32) -> Result<bool, Memory> {
-    let mut shelf = shelf_of(alloc, GRAVE, b"")?;
-    stops_at_write(alloc, &mut shelf, whole, nth)
-}
-
-fn stops_at_write(
-    alloc: Global,
-    shelf: &mut MemoryShelf,
-    whole: &MemoryShelf,
-    nth: u32,
-) -> Result<bool, Memory> {
-    place_old(shelf)?;
-    shelf.fail_write(nth)?;
-    let at = (nth as usize).saturating_sub(1);
-    let path = OUTPUT_PATHS.get(at).copied().unwrap_or(b"");
-    let line = line_of(alloc, b"write failed: ", path)?;
-    let expected = (Status::WriteFault, line.as_slice());
-    Ok(ends(alloc, &WORDS, shelf, 1000, expected)? && is_written_to(shelf, whole, at))
-}
-
-/// Places the script, and an old text at each output.
-fn place_old(shelf: &mut MemoryShelf) -> Result<(), Memory> {
-    for path in &OUTPUT_PATHS {
-        shelf.place(path, b"old")?;
-    }
-    shelf.place(b"s", EXCLUDING)
-}
-
-/// Whether each failed write is told, beside a shelf on which none fails.
-fn tell_writes(alloc: Global, whole: &mut MemoryShelf) -> Result<bool, Memory> {
-    whole.place(b"s", EXCLUDING)?;
-    let mut told = status_of(alloc, &WORDS, whole)? == Status::Clean;
-    for nth in 1..17 {
-        told = tells_write(alloc, whole, nth)? && told;
-    }
-    Ok(told)
-}
-
-/// Each write may fail. The files before it are written, and those after it are as they were.
-#[test]
-fn each_failed_write_is_told(rt: HostRuntime) -> Result<(), Fail> {
-    let mut whole = shelf_of(rt.alloc(), GRAVE, b"")?;
-    assert!(rt; tell_writes(rt.alloc(), &mut whole)?);
     Ok(())
 }

@@ -1,8 +1,6 @@
 //! Runs of `apply`: what a script leaves.
 
-use run_tests::runs::{
-    CORE_PATH, File, GRAVE, LETTERS, ends, holds, shelf_of, status_of, summary_of,
-};
+use run_tests::runs::{File, GRAVE, LETTERS, ends, holds, shelf_of, status_of, summary_of};
 use shelf_io::MemoryShelf;
 use std::alloc::Global;
 use std::test::Fail;
@@ -15,26 +13,6 @@ const FOLDED: &[u8] =
 
 /// The words of the runs.
 pub const WORDS: [&[u8]; 4] = [b"apply", b"d", b"s", b"o"];
-
-/// The files that a run writes, in their order.
-pub const OUTPUT_PATHS: [&[u8]; 16] = [
-    b"o/UnicodeData.txt",
-    b"o/PropList.txt",
-    b"o/Scripts.txt",
-    b"o/auxiliary/WordBreakProperty.txt",
-    b"o/CompositionExclusions.txt",
-    b"o/CaseFolding.txt",
-    b"o/SpecialCasing.txt",
-    b"o/PropertyAliases.txt",
-    b"o/PropertyValueAliases.txt",
-    CORE_PATH,
-    b"o/DerivedNormalizationProps.txt",
-    b"o/extracted/DerivedGeneralCategory.txt",
-    b"o/extracted/DerivedCombiningClass.txt",
-    b"o/extracted/DerivedDecompositionType.txt",
-    b"o/bench.log",
-    b"o/sets.txt",
-];
 
 /// A script that is carried out.
 #[derive(Clone, Copy)]
@@ -49,13 +27,10 @@ struct Session {
     files: &'static [File],
 }
 
-/// A script that excludes a letter from composition.
-pub const EXCLUDING: &[u8] = b"add CompositionExclusions.txt 00C0";
-
 /// A letter is excluded from composition: its mark is no second member any more.
 const EXCLUDED: Session = Session {
     data: [GRAVE, b""],
-    script: EXCLUDING,
+    script: b"add CompositionExclusions.txt 00C0",
     counts: [b"1", b"0", b"0"],
     files: &[
         (b"o/bench.log", b"1 accepted 2\n"),

@@ -51,13 +51,11 @@ fn a_caller_that_knows_only_the_trait(rt: HostRuntime) {
 #[derive(Clone, Copy)]
 enum Look {
     Counts,
-    Values,
-    Discarded,
     Stretches,
 }
 
-fn on_a_table(rt: &impl Abort, alloc: Global, value: u64, look: Look) -> Result<(), Memory> {
-    let mut table = RunTable::filled(alloc, value)?;
+fn on_a_table(rt: &impl Abort, alloc: Global, look: Look) -> Result<(), Memory> {
+    let mut table = RunTable::filled(alloc, 0)?;
     look_at(rt, &mut table, look);
     Ok(())
 }
@@ -65,8 +63,6 @@ fn on_a_table(rt: &impl Abort, alloc: Global, value: u64, look: Look) -> Result<
 fn look_at(rt: &impl Abort, table: &mut Runs, look: Look) {
     match look {
         Look::Counts => count_runs(rt, table),
-        Look::Values => look_at_values(rt, table),
-        Look::Discarded => discard_one(rt, table),
         Look::Stretches => look_at_stretches(rt, table),
     }
 }
@@ -103,7 +99,7 @@ const COUNTED: [(u32, u32, u64, u64); 11] = [
 
 #[test]
 fn runs_are_counted(rt: HostRuntime) -> Result<(), Memory> {
-    on_a_table(&rt, rt.alloc(), 0, Look::Counts)
+    on_a_table(&rt, rt.alloc(), Look::Counts)
 }
 
 fn count_runs(rt: &impl Abort, table: &mut Runs) {
@@ -115,61 +111,6 @@ fn count_runs(rt: &impl Abort, table: &mut Runs) {
         let seen = table.runs() as u64;
         expect(rt, *lo, Some((seen, u64::from(prepared))), (*runs, 1));
     }
-}
-
-/// The values of a code point, now and next.
-fn values(table: &Runs, number: u32) -> Option<(u64, u64)> {
-    let c = Point::new(number)?;
-    Some((table.get(c), table.get_next(c)))
-}
-
-/// Code points with their values next.
-const VALUES: [(u32, u64); 12] = [
-    (0x0, 0),
-    (0x2F, 0),
-    (0x30, 1),
-    (0x34, 1),
-    (0x35, 3),
-    (0x45, 3),
-    (0x46, 2),
-    (0x5A, 2),
-    (0x5B, 0),
-    (0x0F_FFFF, 0),
-    (0x10_0000, 4),
-    (0x10_FFFF, 4),
-];
-
-#[test]
-fn values_at_the_ends_of_spans(rt: HostRuntime) -> Result<(), Memory> {
-    on_a_table(&rt, rt.alloc(), 0, Look::Values)
-}
-
-fn look_at_values(rt: &impl Abort, table: &mut Runs) {
-    let spans = [
-        (0x30, 0x39, 1),
-        (0x41, 0x5A, 2),
-        (0x35, 0x45, 3),
-        (0x10_0000, 0x10_FFFF, 4),
-    ];
-    assert!(rt; are_prepared(table, &spans));
-    for (number, value) in &VALUES {
-        expect(rt, *number, values(table, *number), (0, *value));
-    }
-}
-
-#[test]
-fn what_is_discarded_is_gone(rt: HostRuntime) -> Result<(), Memory> {
-    on_a_table(&rt, rt.alloc(), 1, Look::Discarded)
-}
-
-fn discard_one(rt: &impl Abort, table: &mut Runs) {
-    assert!(rt; are_prepared(table, &[(0x41, 0x41, 2)]));
-    table.commit();
-    assert!(rt; are_prepared(table, &[(0x41, 0x41, 3)]));
-    table.discard();
-    expect(rt, 0x41, values(table, 0x41), (2, 2));
-    table.commit();
-    expect(rt, 0x41, values(table, 0x41), (2, 2));
 }
 
 /// Where the stretches of a code point end, now and next.
@@ -190,7 +131,7 @@ const ENDS: [(u32, (u64, u64)); 5] = [
 
 #[test]
 fn stretches_reach_to_the_next_change(rt: HostRuntime) -> Result<(), Memory> {
-    on_a_table(&rt, rt.alloc(), 0, Look::Stretches)
+    on_a_table(&rt, rt.alloc(), Look::Stretches)
 }
 
 fn look_at_stretches(rt: &impl Abort, table: &mut Runs) {

@@ -2,3 +2,4 @@ pub mod StepLemmas
 pub mod WalkLemmas
 pub mod WalkSteps
 pub mod AboutLemmas
+pub mod PointSetLemmas

@@ -4,6 +4,7 @@
 pub mod laws;
 mod leading;
 mod mentions;
+mod point_set;
 mod putting;
 mod reaching;
 

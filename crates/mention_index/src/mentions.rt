@@ -8,6 +8,7 @@
 ghost use Rattle.std.specs.Prelude.{◌≡◌, ℕ, false};
 ghost use Rattle.mention_index.specs.Mentions.{is_walked, leads, puts};
 
+use crate::point_set::PointSet;
 use key_set::KeySet;
 use std::alloc::Global;
 
@@ -19,7 +20,7 @@ pub struct Mentions {
     // the steps from one code point to the next one, by their keys
     pub(crate) steps: KeySet,
     // the code points from which one went on
-    pub(crate) walked: KeySet,
+    pub(crate) walked: PointSet,
 }
 
 /// Mentions that are put one after another.
@@ -49,7 +50,7 @@ impl Mentioning {
     {
         Mentions {
             steps: KeySet::of(self.alloc, self.keys),
-            walked: KeySet::new(self.alloc),
+            walked: PointSet::new(self.alloc),
         }
     }
 }

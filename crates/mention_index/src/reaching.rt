@@ -7,11 +7,13 @@ ghost use Rattle.ucd_model.specs.declared.query.Query.{Query as Question};
 ghost use Rattle.asked_queries.specs.Answers.{is_asked};
 ghost use Rattle.mention_index.specs.Reached.{about};
 ghost use Rattle.mention_index.specs.Mentions.{is_walked, leads};
+ghost use Rattle.mention_index.specs.PointSets.{has_point};
 ghost use Rattle.mention_index.specs.Steps.{IsClosed, IsReached, key};
 ghost use Rattle.mention_index.specs.Walks.{ComesFrom, by_keys, left};
 
 use crate::leading::put_led;
 use crate::mentions::Mentions;
+use crate::point_set::PointSet;
 use key_set::KeySet;
 use std::alloc::Global;
 use ucd_model::{Memory, Point, Points, Queries, Query};
@@ -66,15 +68,15 @@ fn point_about(query: &Query) -> Point
 fn walk(
     alloc: Global,
     steps: &KeySet,
-    walked: &mut KeySet,
+    walked: &mut PointSet,
     mut pending: Vec<Point>,
 ) -> Result<Points, Memory>
-    requires { IsClosed (by_keys (has steps.now)) (has walked.old) }
-    ensures closed { OnOk result (IsClosed (by_keys (has steps.now)) (has walked.new)) }
-    ensures pending { OnOk result ((c : ℕ) → is_in pending.items c ≡ true → has walked.new c ≡ true) }
-    ensures walked { IfOk result (λ points. (c : ℕ) → has walked.new c ≡ (has walked.old c || is_in points c)) }
+    requires { IsClosed (by_keys (has steps.now)) (has_point walked.old) }
+    ensures closed { OnOk result (IsClosed (by_keys (has steps.now)) (has_point walked.new)) }
+    ensures pending { OnOk result ((c : ℕ) → is_in pending.items c ≡ true → has_point walked.new c ≡ true) }
+    ensures walked { IfOk result (λ points. (c : ℕ) → has_point walked.new c ≡ (has_point walked.old c || is_in points c)) }
     ensures only { IfOk result (λ points. (c : ℕ) → is_in points c ≡ true
-        → (has walked.old c ≡ false) × ComesFrom (by_keys (has steps.now)) pending.items c) }
+        → (has_point walked.old c ≡ false) × ComesFrom (by_keys (has steps.now)) pending.items c) }
 {
     let mut reached = Points::new(alloc);
     'walk: while let Some(x) = pending.pop() {
@@ -90,31 +92,24 @@ fn walk(
 fn go_on(
     steps: &KeySet,
     x: Point,
-    walked: &mut KeySet,
+    walked: &mut PointSet,
     pending: &mut Vec<Point>,
     reached: &mut Points,
 ) -> Result<(), Memory>
     ensures grows { (k : ℕ) → is_in pending.old.items k ≡ true → is_in pending.new.items k ≡ true }
     ensures only { (d : ℕ) → is_in pending.new.items d ≡ true
         → (is_in pending.old.items d ≡ true) ⊎ ((d < 1114112) × (has steps.now (key x d) ≡ true)) }
-    ensures walked { OnOk result ((k : ℕ) → has walked.new k ≡ (has walked.old k || k == x)) }
-    ensures led { OnOk result (has walked.old x ≡ false → (d : ℕ) → d < 1114112 → has steps.now (key x d) ≡ true → is_in pending.new.items d ≡ true) }
-    ensures reached { OnOk result ((k : ℕ) → is_in reached.new k ≡ (is_in reached.old k || (not (has walked.old x) && k == x))) }
-    ensures left { OnOk result (left (has walked.new) pending.new.items ≤ left (has walked.old) pending.old.items) }
+    ensures walked { OnOk result ((k : ℕ) → has_point walked.new k ≡ (has_point walked.old k || k == x)) }
+    ensures led { OnOk result (has_point walked.old x ≡ false → (d : ℕ) → d < 1114112 → has steps.now (key x d) ≡ true → is_in pending.new.items d ≡ true) }
+    ensures reached { OnOk result ((k : ℕ) → is_in reached.new k ≡ (is_in reached.old k || (not (has_point walked.old x) && k == x))) }
+    ensures left { OnOk result (left (has_point walked.new) pending.new.items ≤ left (has_point walked.old) pending.old.items) }
 {
-    if has_walked(walked, x) {
+    let _number = x.number();
+    if walked.has(x) {
         return Ok(());
     }
     put_led(steps, x, pending)?;
-    walked.insert(u64::from(x.number()))?;
+    walked.insert(x)?;
     reached.push(x)?;
     Ok(())
-}
-
-/// Whether one went on from a code point.
-fn has_walked(walked: &KeySet, x: Point) -> bool
-    ensures { result ≡ has walked.now x }
-{
-    let number = u64::from(x.number());
-    walked.next(number) == Some(number)
 }

@@ -1,10 +1,10 @@
 -- What is derived again, point by point.
-use Rattle.std.proofs.Common.{◌≡◌, ◌≢◌, ℕ, suc, ◌+◌, ◌<◌, ◌≤◌, Bool, true, false, not, cond, ◌||◌, List, [], ◌∷◌, ◌++◌, length, take, drop, get_or, filter, map, Option, Some, None, Ok, Err, inl, inr, ◌==◌, refl, sym, ap, subst, ◌∙◌, arith}
+use Rattle.std.proofs.Common.{◌≡◌, ◌≢◌, ℕ, suc, ◌+◌, ◌<◌, ◌≤◌, Bool, true, false, not, cond, ◌||◌, List, [], ◌∷◌, ◌++◌, length, take, drop, get_or, filter, Option, Some, None, Ok, Err, inl, inr, ◌==◌, refl, sym, ap, subst, ◌∙◌, arith}
 use Rattle.std.specs.Bool.{Decides}
 use Rattle.std.proofs.Math.Seq.{drop-cons, take-suc}
 use Rattle.std.proofs.lemmas.Bool.{cases_eq, or_cases, true≢false}
 use Rattle.std.proofs.lemmas.Bool.Decides.{nat_tests, same_from_decides}
-use Rattle.std.proofs.lemmas.List.{append-nil, map-append, take-append-drop, take_all}
+use Rattle.std.proofs.lemmas.List.{append-nil, take-append-drop, take_all}
 use Rattle.std.proofs.lemmas.List.Elements.{filter-append}
 use Rattle.std.proofs.lemmas.List.Folds.{list_any-append}
 use Rattle.ucd_model.specs.Facts.{Facts}
@@ -21,8 +21,7 @@ use Rattle.asked_queries.specs.Answers.{is_asked}
 use Rattle.asked_queries.specs.Questions.{asked}
 use Rattle.asked_queries.specs.Turns.{SameQueries}
 use Rattle.asking_points.specs.declared.derivation.Derived.{Derived}
-use Rattle.rederivation.specs.Again.{AsksAnew, IsAdded, IsAgain, IsFound, IsPut, StopsAt, differs}
-use Rattle.rederivation.specs.declared.again.Again.{Again}
+use Rattle.rederivation.specs.Again.{AsksAnew, IsAgain, IsAskedAnew, IsFound, IsPut, StopsAt, differs}
 use Rattle.rederivation.specs.declared.again_stop.AgainStop.{AgainStop}
 use Rattle.rederivation.specs.declared.again_stop.AgainStop.TheVariants.{Broken, Memory}
 
@@ -39,36 +38,23 @@ one : (same : Bool) (c : ℕ) (p : ℕ → Bool) → p c ≡ not same → cond s
 one true c p e = ap (λ b. cond b (c ∷ []) []) (sym e)
 one false c p e = ap (λ b. cond b (c ∷ []) []) (sym e)
 
-kept_one : (same : Bool) (k : KeptRecord) → map kept_record (cond same [] (k ∷ [])) ≡ cond same [] (kept_record k ∷ [])
-kept_one true k = refl
-kept_one false k = refl
+span_here : {X : Type 0} (A : ℕ → X) (c : ℕ) (x : X) → with_span A c c x c ≡ x
+span_here A c x = grind (arith, nat_tests)
 
-record_one : (same : Bool) (c : ℕ) (f : ℕ → Record) → map f (cond same [] (c ∷ [])) ≡ cond same [] (f c ∷ [])
-record_one true c f = refl
-record_one false c f = refl
+span_there : {X : Type 0} (A : ℕ → X) (c d : ℕ) (x : X) → d ≢ c → with_span A c c x d ≡ A d
+span_there A c d x other = grind (arith, nat_tests)
 
-span_here : (A : ℕ → List Query) (c : ℕ) (queries : List Query) → with_span A c c queries c ≡ queries
-span_here A c queries = grind (arith, nat_tests)
+pub asked_anew : (G : ℕ → Facts) (c : ℕ) (found : Derived) (A B : ℕ → List Query) → IsFound G c (Ok found) → SameValues B (with_span A c c found.asked) → IsAskedAnew G c A B
+asked_anew G c found A B is spans = record {
+  here = λ inside q. ap (λ (qs : List Query). is_asked qs q) (spans c inside ∙ span_here A c found.asked) ∙ is.1 q;
+  others = λ d lt other. spans d lt ∙ span_there A c d found.asked other;
+}
 
-span_there : (A : ℕ → List Query) (c d : ℕ) (queries : List Query) → d ≢ c → with_span A c c queries d ≡ A d
-span_there A c d queries other = grind (arith, nat_tests)
+pub put_over : (G : ℕ → Facts) (r : Record) (c : ℕ) (found : Derived) (old new : List ℕ) (A B : ℕ → Record) → IsFound G c (Ok found) → IsPut r c (kept_record found.value) old new A B → IsPut r c (record_at G c) old new A B
+put_over G r c found old new A B is put = subst (λ (s : Record). IsPut r c s old new A B) (kept_is G c found is) put
 
-pub added : (R : ℕ → Record) (G : ℕ → Facts) (c : ℕ) (found : Derived) (old new : Again) (A B : ℕ → List Query) → IsFound G c (Ok found) → IsPut R c found.value old new
-    → SameValues B (with_span A c c found.asked) → IsAdded R G c old new A B
-added R G c found old new A B is put spans =
-    let same : kept_record found.value ≡ record_at G c = kept_is G c found is in
-    let b : Bool = same_record (R c) (record_at G c) in
-    let points : cond b [] (c ∷ []) ≡ filter (differs R G) (c ∷ []) = one b c (differs R G) refl in
-    record {
-      has = is.0 ∙ ap (λ (r : Record). Ok r) same;
-      changed = put.changed ∙ ap (λ (r : Record). old.changed ++ cond (same_record (R c) r) [] (c ∷ [])) same ∙ ap (λ (xs : List ℕ). old.changed ++ xs) points;
-      records = ap (map kept_record) put.records ∙ map-append kept_record old.records.items (cond (same_record (R c) (kept_record found.value)) [] (found.value ∷ []))
-          ∙ ap (λ (rs : List Record). map kept_record old.records.items ++ rs)
-          (kept_one (same_record (R c) (kept_record found.value)) found.value ∙ ap (λ (r : Record). cond (same_record (R c) r) [] (r ∷ [])) same
-          ∙ sym (record_one b c (record_at G)) ∙ ap (map (record_at G)) points);
-      anew = λ inside q. ap (λ (qs : List Query). is_asked qs q) (spans c inside ∙ span_here A c found.asked) ∙ is.1 q;
-      others = λ d lt other. spans d lt ∙ span_there A c d found.asked other;
-    }
+pub has_over : (G : ℕ → Facts) (c : ℕ) (found : Derived) → IsFound G c (Ok found) → derived G c ≡ Ok (record_at G c)
+has_over G c found is = is.0 ∙ ap (λ (r : Record). Ok r) (kept_is G c found is)
 
 -- ---- a point more
 
@@ -108,47 +94,60 @@ has_more G points c before here d h =
       | inr last ↦ subst (HasRecord G) (is_one c d last) here
     ]
 
-pub none_again : (R : ℕ → Record) (G : ℕ → Facts) (made : Again) → made.changed ≡ [] → made.records.items ≡ [] → IsAgain R G [] made
-none_again R G made changed records = record {
-  has = λ c h. cc;
-  changed = changed;
-  records = ap (map kept_record) records ∙ ap (map (record_at G)) (sym changed);
-}
+pub none_again : (R : ℕ → Record) (G : ℕ → Facts) (S : ℕ → Record) → SameValues S R → IsAgain R G [] [] S
+none_again R G S same = record { has = λ c h. cc; changed = refl; anew = λ c lt h. cc; others = λ c lt h. same c lt }
 
-again_more : (R : ℕ → Record) (G : ℕ → Facts) (points : List ℕ) (c : ℕ) (old new : Again) (A B : ℕ → List Query) → IsAgain R G points old → IsAdded R G c old new A B → IsAgain R G (points ++ c ∷ []) new
-again_more R G points c old new A B all more =
-    let last : List ℕ = filter (differs R G) (c ∷ []) in
-    record {
-      has = has_more G points c all.has (record_at G c, more.has);
-      changed = more.changed ∙ ap (λ (xs : List ℕ). xs ++ last) all.changed ∙ sym (filter-append (differs R G) points (c ∷ []));
-      records = more.records ∙ ap (λ (rs : List Record). rs ++ map (record_at G) last) all.records ∙ sym (map-append (record_at G) old.changed last) ∙ ap (map (record_at G)) (sym more.changed);
-    }
+module _ (R : ℕ → Record) (G : ℕ → Facts) (points : List ℕ) (c : ℕ) (old new : List ℕ) (A B : ℕ → Record) (all : IsAgain R G points old A) (put : IsPut (R c) c (record_at G c) old new A B) where
+  before : (b : Bool) → is_in points c ≡ b → R c ≡ record_at G c → A c ≡ record_at G c
+  before true h same = all.anew c put.inside h
+  before false h same = all.others c put.inside h ∙ same
 
-pub again_to : (R : ℕ → Record) (G : ℕ → Facts) (points : List ℕ) (i c : ℕ) (old new : Again) (A B : ℕ → List Query) → i < length points → c ≡ get_or points i c → IsAgain R G (take i points) old → IsAdded R G c old new A B → IsAgain R G (take (i + 1) points) new
-again_to R G points i c old new A B lt is all more =
+  here : B c ≡ record_at G c
+  here =
+      elim put.here [
+        | inl anew ↦ anew
+        | inr stays ↦ stays.1 ∙ before (is_in points c) refl stays.0
+      ]
+
+  again_more : HasRecord G c → IsAgain R G (points ++ c ∷ []) new B
+  again_more has = record {
+    has = has_more G points c all.has has;
+    changed = put.changed ∙ ap (λ (xs : List ℕ). xs ++ cond (same_record (R c) (record_at G c)) [] (c ∷ [])) all.changed
+        ∙ ap (λ (xs : List ℕ). filter (differs R G) points ++ xs) (one (same_record (R c) (record_at G c)) c (differs R G) refl) ∙ sym (filter-append (differs R G) points (c ∷ []));
+    anew = λ d lt h. elim (cases_eq d c) [
+      | inl same ↦ subst (λ k. B k ≡ record_at G k) (sym same) here
+      | inr other ↦ put.others d lt other ∙ all.anew d lt (in_front points c d other h)
+    ];
+    others = λ d lt h. put.others d lt (λ same. true≢false (sym (at_end points c d same) ∙ h)) ∙ all.others d lt (not_front points c d h);
+  }
+
+pub again_to : (R : ℕ → Record) (G : ℕ → Facts) (points : List ℕ) (i c : ℕ) (old new : List ℕ) (A B R' : ℕ → Record) → i < length points → c ≡ get_or points i c → IsAgain R G (take i points) old A → SameValues R' R
+    → derived G c ≡ Ok (record_at G c) → IsPut (R' c) c (record_at G c) old new A B → IsAgain R G (take (i + 1) points) new B
+again_to R G points i c old new A B R' lt is all same has put =
     let next : suc i ≡ i + 1 = omega arith in
     let front : take i points ++ c ∷ [] ≡ take (i + 1) points = ap (λ k. take i points ++ k ∷ []) is ∙ sym (take-suc points i c lt) ∙ ap (λ k. take k points) next in
-    subst (λ (xs : List ℕ). IsAgain R G xs new) front (again_more R G (take i points) c old new A B all more)
+    let now : IsPut (R c) c (record_at G c) old new A B = subst (λ (r : Record). IsPut r c (record_at G c) old new A B) (same c put.inside) put in
+    subst (λ (xs : List ℕ). IsAgain R G xs new B) front (again_more R G (take i points) c old new A B all now (record_at G c, has))
 
-pub again_all : (R : ℕ → Record) (G : ℕ → Facts) (points : List ℕ) (i : ℕ) (made : Again) → length points ≤ i → IsAgain R G (take i points) made → IsAgain R G points made
-again_all R G points i made le all = subst (λ (xs : List ℕ). IsAgain R G xs made) (take_all i points le) all
+pub again_all : (R : ℕ → Record) (G : ℕ → Facts) (points : List ℕ) (i : ℕ) (changed : List ℕ) (S : ℕ → Record) → length points ≤ i → IsAgain R G (take i points) changed S → IsAgain R G points changed S
+again_all R G points i changed S le all = subst (λ (xs : List ℕ). IsAgain R G xs changed S) (take_all i points le) all
 
 -- ---- what is asked
 
-anew_more : (G : ℕ → Facts) (points : List ℕ) (c : ℕ) (A B C : ℕ → List Query) → AsksAnew G points A B → (c < 1114112 → SameQueries (C c) (asked G c)) → ((d : ℕ) → d < 1114112 → d ≢ c → C d ≡ B d) → AsksAnew G (points ++ c ∷ []) A C
-anew_more G points c A B C before here others = record {
+anew_more : (G : ℕ → Facts) (points : List ℕ) (c : ℕ) (A B C : ℕ → List Query) → AsksAnew G points A B → IsAskedAnew G c B C → AsksAnew G (points ++ c ∷ []) A C
+anew_more G points c A B C before one = record {
   anew = λ d lt h. elim (cases_eq d c) [
-    | inl same ↦ subst (λ k. SameQueries (C k) (asked G k)) (sym same) (here (subst (λ k. k < 1114112) same lt))
-    | inr other ↦ λ q. ap (λ (qs : List Query). is_asked qs q) (others d lt other) ∙ before.anew d lt (in_front points c d other h) q
+    | inl same ↦ subst (λ k. SameQueries (C k) (asked G k)) (sym same) (one.here (subst (λ k. k < 1114112) same lt))
+    | inr other ↦ λ q. ap (λ (qs : List Query). is_asked qs q) (one.others d lt other) ∙ before.anew d lt (in_front points c d other h) q
   ];
-  others = λ d lt h. others d lt (λ same. true≢false (sym (at_end points c d same) ∙ h)) ∙ before.others d lt (not_front points c d h);
+  others = λ d lt h. one.others d lt (λ same. true≢false (sym (at_end points c d same) ∙ h)) ∙ before.others d lt (not_front points c d h);
 }
 
-pub anew_to : (R : ℕ → Record) (G : ℕ → Facts) (points : List ℕ) (i c : ℕ) (old new : Again) (A B C : ℕ → List Query) → i < length points → c ≡ get_or points i c → AsksAnew G (take i points) A B → IsAdded R G c old new B C → AsksAnew G (take (i + 1) points) A C
-anew_to R G points i c old new A B C lt is all more =
+pub anew_to : (G : ℕ → Facts) (points : List ℕ) (i c : ℕ) (A B C : ℕ → List Query) → i < length points → c ≡ get_or points i c → AsksAnew G (take i points) A B → IsAskedAnew G c B C → AsksAnew G (take (i + 1) points) A C
+anew_to G points i c A B C lt is all more =
     let next : suc i ≡ i + 1 = omega arith in
     let front : take i points ++ c ∷ [] ≡ take (i + 1) points = ap (λ k. take i points ++ k ∷ []) is ∙ sym (take-suc points i c lt) ∙ ap (λ k. take k points) next in
-    subst (λ (xs : List ℕ). AsksAnew G xs A C) front (anew_more G (take i points) c A B C all more.anew more.others)
+    subst (λ (xs : List ℕ). AsksAnew G xs A C) front (anew_more G (take i points) c A B C all more)
 
 pub anew_all : (G : ℕ → Facts) (points : List ℕ) (i : ℕ) (A B : ℕ → List Query) → length points ≤ i → AsksAnew G (take i points) A B → AsksAnew G points A B
 anew_all G points i A B le all = subst (λ (xs : List ℕ). AsksAnew G xs A B) (take_all i points le) all
@@ -172,20 +171,23 @@ told_is : (R : ℕ → Record) (c : ℕ) (kept value : KeptRecord) (t : Bool) �
 told_is R c kept value t shown told =
     same_from_decides t (same_record (kept_record kept) (kept_record value)) told (records_are_told (kept_record kept) (kept_record value)) ∙ ap (λ (r : Record). same_record r (kept_record value)) shown
 
-pub put_one : (R : ℕ → Record) (c : ℕ) (value : KeptRecord) (old new : Again) (kept : KeptRecord) (t : Bool) → kept_record kept ≡ R c → Decides t (kept_record kept ≡ kept_record value) → t ≡ false
-    → new.changed ≡ old.changed ++ c ∷ [] → new.records.items ≡ old.records.items ++ value ∷ [] → IsPut R c value old new
-put_one R c value old new kept t shown told e changed records =
-    let same : same_record (R c) (kept_record value) ≡ false = sym (told_is R c kept value t shown told) ∙ e in
-    record {
-      changed = changed ∙ ap (λ b. old.changed ++ cond b [] (c ∷ [])) (sym same);
-      records = records ∙ ap (λ b. old.records.items ++ cond b [] (value ∷ [])) (sym same);
-    }
+module _ (R : ℕ → Record) (c : ℕ) (value kept : KeptRecord) (old new : List ℕ) (A B : ℕ → Record) (t : Bool) (inside : c < 1114112) (shown : kept_record kept ≡ R c) (told : Decides t (kept_record kept ≡ kept_record value)) where
+  pub put_one : t ≡ false → new ≡ old ++ c ∷ [] → SameValues B (with_span A c c (kept_record value)) → IsPut (R c) c (kept_record value) old new A B
+  put_one e changed spans =
+      let same : same_record (R c) (kept_record value) ≡ false = sym (told_is R c kept value t shown told) ∙ e in
+      record {
+        inside = inside;
+        changed = changed ∙ ap (λ b. old ++ cond b [] (c ∷ [])) (sym same);
+        here = inl (spans c inside ∙ span_here A c (kept_record value));
+        others = λ d lt other. spans d lt ∙ span_there A c d (kept_record value) other;
+      }
 
-pub put_none : (R : ℕ → Record) (c : ℕ) (value : KeptRecord) (old new : Again) (kept : KeptRecord) (t : Bool) → kept_record kept ≡ R c → Decides t (kept_record kept ≡ kept_record value) → t ≡ true
-    → new.changed ≡ old.changed → new.records.items ≡ old.records.items → IsPut R c value old new
-put_none R c value old new kept t shown told e changed records =
-    let same : same_record (R c) (kept_record value) ≡ true = sym (told_is R c kept value t shown told) ∙ e in
-    record {
-      changed = changed ∙ sym (append-nil old.changed) ∙ ap (λ b. old.changed ++ cond b [] (c ∷ [])) (sym same);
-      records = records ∙ sym (append-nil old.records.items) ∙ ap (λ b. old.records.items ++ cond b [] (value ∷ [])) (sym same);
-    }
+  pub put_none : t ≡ true → new ≡ old → SameValues B A → IsPut (R c) c (kept_record value) old new A B
+  put_none e changed stays =
+      let same : same_record (R c) (kept_record value) ≡ true = sym (told_is R c kept value t shown told) ∙ e in
+      record {
+        inside = inside;
+        changed = changed ∙ sym (append-nil old) ∙ ap (λ b. old ++ cond b [] (c ∷ [])) (sym same);
+        here = inr ((records_are_told (R c) (kept_record value)).0 same, stays c inside);
+        others = λ d lt other. stays d lt;
+      }

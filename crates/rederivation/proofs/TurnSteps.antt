@@ -1,22 +1,20 @@
 -- A turn, over the points that are derived again.
-use Rattle.std.proofs.Common.{◌≡◌, ◌≢◌, ℕ, zero, suc, ◌+◌, ◌-◌, ◌<◌, ◌≤◌, ◌==◌, nat_lt, Bool, true, false, true≢false, not, cond, ◌&&◌, ◌||◌, List, [], ◌∷◌, ◌++◌, length, get_or, filter, map, inl, inr, refl, sym, ap, subst, ◌∙◌, arith}
+use Rattle.std.proofs.Common.{◌≡◌, ℕ, zero, suc, ◌+◌, ◌-◌, ◌<◌, ◌≤◌, ◌==◌, nat_lt, Bool, true, false, true≢false, not, cond, ◌&&◌, ◌||◌, List, [], ◌∷◌, ◌++◌, length, get_or, filter, inl, inr, refl, sym, ap, subst, ◌∙◌, arith}
 use Rattle.std.specs.List.{range_with_len}
 use Rattle.std.specs.List.Sorted.{IsStrictlyIncreasing}
-use Rattle.std.proofs.lemmas.Bool.{cases_Bool, cases_eq, or_cases}
+use Rattle.std.proofs.lemmas.Bool.{cases_Bool, or_cases}
 use Rattle.std.proofs.lemmas.Bool.Decides.{nat_tests}
 use Rattle.std.proofs.lemmas.List.{get_or-append-add, length-append}
 use Rattle.std.proofs.lemmas.List.Folds.{Any-from_list_any, list_any-append}
 use Rattle.std.proofs.lemmas.List.Kept.{AllPairs-from_increasing}
-use Rattle.range_table.specs.Values.{point_count-is, with_span}
+use Rattle.range_table.specs.Values.{point_count-is}
 use Rattle.ucd_model.specs.Facts.{Facts}
 use Rattle.ucd_points.specs.Limits.{point_count}
-use Rattle.ucd_model.specs.Records.{Record, kept_record, record_at}
+use Rattle.ucd_model.specs.Records.{Record, record_at}
 use Rattle.ucd_model.specs.Sameness.{is_in, same_record}
 use Rattle.ucd_model.specs.SamenessProofs.{records_are_told}
 use Rattle.ucd_model.specs.Validity.{broken}
 use Rattle.ucd_model.specs.declared.query.Query.{Query}
-use Rattle.ucd_model.specs.declared.records.Record.{Record as KeptRecord}
-use Rattle.record_list.specs.Records.{written}
 use Rattle.asked_queries.specs.AnswerProofs.{same_bool}
 use Rattle.asked_queries.specs.Questions.{asked}
 use Rattle.asked_queries.specs.Turns.{IsTurn, asks_one}
@@ -26,7 +24,6 @@ use Rattle.dependency_map.specs.Laws.{AreThose}
 use Rattle.dependency_map.specs.LawProofs.{askers_are_those}
 use Rattle.rederivation.specs.Again.{AsksAnew, IsAgain, StopsAt, differs}
 use Rattle.rederivation.specs.Turned.{CountsWithin, IsReady, IsRekept, IsTurned, StopsTurn, changed_points}
-use Rattle.rederivation.specs.declared.again.Again.{Again}
 use Rattle.rederivation.specs.declared.again_stop.AgainStop.{AgainStop}
 use Rattle.rederivation.specs.declared.again_stop.AgainStop.TheVariants.{Broken, Memory}
 use Rattle.rederivation.proofs.AgainSteps.{ok_is}
@@ -71,54 +68,8 @@ filter_both p d e a (suc n) same none =
     head p d e a (range_with_len (a + 1) n) (p a) refl (λ h. same a (omega arith) (omega arith)) (none a (omega arith) (omega arith))
     (filter_both p d e (a + 1) n (λ c le lt. same c (omega (arith, le)) (omega (arith, lt))) (λ c le lt. none c (omega (arith, le)) (omega (arith, lt))))
 
-in_filter : (p : ℕ → Bool) (c : ℕ) (xs : List ℕ) → p c ≡ true → is_in xs c ≡ true → is_in (filter p xs) c ≡ true
-in_filter p c [] passes h = h
-in_filter p c (x ∷ xs) passes h =
-    elim (cases_eq x c) [
-      | inl same ↦
-          let here : p x ≡ true = ap p same ∙ passes in
-          let first : (x == c) ≡ true = grind (arith, nat_tests) in
-          ap (λ b. is_in (cond b (x ∷ filter p xs) (filter p xs)) c) here ∙ ap (λ b. b || is_in (filter p xs) c) first
-      | inr other ↦
-          let first : (x == c) ≡ false = grind (arith, nat_tests) in
-          more (p x) (in_filter p c xs passes (sym (ap (λ b. b || is_in xs c) first) ∙ h))
-    ]
-  where
-    or_right : (a b : Bool) → b ≡ true → (a || b) ≡ true
-    or_right true b e = refl
-    or_right false b e = e
-
-    more : (b : Bool) → is_in (filter p xs) c ≡ true → is_in (cond b (x ∷ filter p xs) (filter p xs)) c ≡ true
-    more true rest = or_right (x == c) (is_in (filter p xs) c) rest
-    more false rest = rest
-
--- ---- what is written
-
 in_here : (p : ℕ) (points : List ℕ) (c : ℕ) → c ≡ p → is_in (p ∷ points) c ≡ true
 in_here p points c same = grind (arith, nat_tests)
-
-in_there : (p : ℕ) (points : List ℕ) (c : ℕ) → c ≢ p → is_in (p ∷ points) c ≡ is_in points c
-in_there p points c other = grind (arith, nat_tests)
-
-with_here : (R : ℕ → Record) (p : ℕ) (r : Record) (c : ℕ) → c ≡ p → with_span R p p r c ≡ r
-with_here R p r c same = grind (arith, nat_tests)
-
-with_there : (R : ℕ → Record) (p : ℕ) (r : Record) (c : ℕ) → c ≢ p → with_span R p p r c ≡ R c
-with_there R p r c other = grind (arith, nat_tests)
-
--- where the points get the records of f, and R agrees with f elsewhere, f is what is written
-written_as : (points : List ℕ) (records : List KeptRecord) (f R : ℕ → Record) (c : ℕ) → map kept_record records ≡ map f points → (is_in points c ≡ false → R c ≡ f c) → written points records R c ≡ f c
-written_as [] [] f R c is others = others refl
-written_as [] (r ∷ records) f R c is others = others refl
-written_as (p ∷ points) [] f R c is others = cc
-written_as (p ∷ points) (r ∷ records) f R c is others =
-    let first : kept_record r ≡ f p = cc in
-    let rest : map kept_record records ≡ map f points = cc in
-    written_as points records f (with_span R p p (kept_record r)) c rest
-    (λ none. elim (cases_eq c p) [
-      | inl same ↦ with_here R p (kept_record r) c same ∙ first ∙ ap f (sym same)
-      | inr other ↦ with_there R p (kept_record r) c other ∙ others (in_there p points c other ∙ none)
-    ])
 
 -- ---- the points up to one
 
@@ -199,8 +150,8 @@ module _ (F G : ℕ → Facts) (R : ℕ → Record) (A N : ℕ → List Query) (
   stops_turn Memory found = tt
 
   -- the points that changed
-  changed_is : (made : Again) → IsAgain R G points made → made.changed ≡ changed_points F G
-  changed_is made again =
+  changed_is : (changed : List ℕ) (S : ℕ → Record) → IsAgain R G points changed S → changed ≡ changed_points F G
+  changed_is changed S again =
       let all : 0 + (point_count - 0) ≡ point_count = omega arith in
       let whole : point_count - 0 ≡ point_count = omega arith in
       again.changed ∙ ap (filter (differs R G)) askers
@@ -213,19 +164,13 @@ module _ (F G : ℕ → Facts) (R : ℕ → Record) (A N : ℕ → List Query) (
       ∙ ap (λ n. filter (λ c. not (same_record (record_at F c) (record_at G c))) (range_with_len 0 n)) whole
 
   -- the records
-  unchanged : (made : Again) → IsAgain R G points made → (c : ℕ) → c < point_count → is_in made.changed c ≡ false → R c ≡ record_at G c
-  unchanged made again c lt none =
+  records_next : (changed : List ℕ) (S : ℕ → Record) → IsAgain R G points changed S → (c : ℕ) → c < point_count → S c ≡ record_at G c
+  records_next changed S again c lt =
+      let inside : c < 1114112 = subst (λ n. c < n) point_count-is lt in
       elim (cases_Bool (is_in points c)) [
-        | inl inside ↦
-            elim (cases_Bool (differs R G c)) [
-              | inl other ↦ absurd (true≢false (sym (in_filter (differs R G) c points other inside) ∙ sym (ap (λ (xs : List ℕ). is_in xs c) again.changed) ∙ none))
-              | inr same ↦ (records_are_told (R c) (record_at G c)).0 (not_true (same_record (R c) (record_at G c)) same)
-            ]
-        | inr other ↦ ready.records c lt ∙ sym (same_others c lt other)
+        | inl derived ↦ again.anew c inside derived
+        | inr other ↦ again.others c inside other ∙ ready.records c lt ∙ sym (same_others c lt other)
       ]
-
-  records_next : (made : Again) → IsAgain R G points made → (c : ℕ) → c < point_count → written made.changed made.records.items R c ≡ record_at G c
-  records_next made again c lt = written_as made.changed made.records.items (record_at G) R c again.records (unchanged made again c lt)
 
   -- the questions
   rekept : (B : ℕ → List Query) → AsksAnew G points N B → IsRekept F G A B Q
@@ -237,12 +182,12 @@ module _ (F G : ℕ → Facts) (R : ℕ → Record) (A N : ℕ → List Query) (
         (asks.others c inside other ∙ ready.still c inside, (others_stay F G (asked F) Q points turn_of c lt other).1);
   }
 
-  pub turned : (made : Again) (S : ℕ → Record) (B : ℕ → List Query) → IsAgain R G points made → AsksAnew G points N B → ((c : ℕ) → c < point_count → S c ≡ written made.changed made.records.items R c) → IsTurned F G S A B Q made.changed
-  turned made S B again asks records = record {
+  pub turned : (changed : List ℕ) (S : ℕ → Record) (B : ℕ → List Query) → IsAgain R G points changed S → AsksAnew G points N B → IsTurned F G S A B Q changed
+  turned changed S B again asks = record {
     valid = next_is_valid F G (asked F) Q points turn_of again.has;
-    records = λ c lt. records c lt ∙ records_next made again c lt;
+    records = records_next changed S again;
     kept = rekept B asks;
-    changed = changed_is made again;
+    changed = changed_is changed S again;
   }
 
 -- ---- what needs no turn

@@ -1,7 +1,6 @@
 //! Code points that are derived again after an edit: which of them have another record, and what they ask.
 #![tactic(auto)]
 
-mod again;
 mod again_stop;
 mod points_again;
 mod release_turn;

@@ -87,13 +87,8 @@ fn turn_in_part<W: FactView, S: Store<Option<Queries>>, L: Ledger>(
         → CountsWithin F (W.facts_of view.now) steps.old steps.new }
 {
     let points = map.collect(alloc, queries)?;
-    match derive_again(alloc, view, &*records, points.as_slice(), map, steps) {
-        Ok(again) => {
-            let values = again.records;
-            let changed = again.changed;
-            records.prepare(changed.as_slice(), values)?;
-            Ok(changed)
-        }
+    match derive_again(alloc, view, points.as_slice(), records, map, steps) {
+        Ok(changed) => Ok(changed),
         Err(stop) => Err(stop),
     }
 }

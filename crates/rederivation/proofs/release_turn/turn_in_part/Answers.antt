@@ -1,20 +1,13 @@
-use Rattle.std.proofs.Common.{◌∙◌, ◌<◌, List, ℕ, ap, subst}
-use Rattle.range_table.specs.Values.{point_count-is}
-use Rattle.record_list.specs.Records.{record_next, record_now, written}
+use Rattle.std.proofs.Common.{◌∙◌}
+use Rattle.record_list.specs.Records.{record_next, record_now}
 use Rattle.dependency_map.specs.Maps.{asked_at}
 use Rattle.rederivation.proofs.TurnSteps.{counts, stops_turn, turned}
 use Rattle.rederivation.proofs.release_turn.turn_in_part.Goals as goal
 
-pub returns-in_err-prepare-in-Ok-clause-steps : goal.returns-in_err-prepare-in-Ok-clause-steps
-returns-in_err-prepare-in-Ok-clause-steps g c = λ F ready.
-    counts F (g.W.FactView.facts_of c.args.view.now) (record_now c.args.records.now) (asked_at g.S.Store.now c.args.map.now) (asked_at g.S.Store.next c.args.map.now) c.args.queries.now c.as_slice.result.now ready (c.as_slice.ensures ∙ c.in_ok-points.ensures)
-    c.args.steps.now c.derive_again.new.steps c.derive_again.ensures.steps
-
 pub returns-in-Ok-clause-turned : goal.returns-in-Ok-clause-turned
 returns-in-Ok-clause-turned g c = λ F ready.
     turned F (g.W.FactView.facts_of c.args.view.now) (record_now c.args.records.now) (asked_at g.S.Store.now c.args.map.now) (asked_at g.S.Store.next c.args.map.now) c.args.queries.now c.as_slice.result.now ready (c.as_slice.ensures ∙ c.in_ok-points.ensures)
-    c.in-Ok.again (record_next c.prepare.new.self) (asked_at g.S.Store.next c.derive_again.new.map) c.in-Ok.ensures.again c.in-Ok.ensures.asks
-    (λ k lt. c.in_ok-prepare-in-Ok.ensures.ok k (subst (λ n. k < n) point_count-is lt) ∙ ap (λ (xs : List ℕ). written xs c.in-Ok.again.records.items (record_now c.args.records.now) k) c.as_slice-in-Ok.ensures)
+    c.in-Ok.changed (record_next c.derive_again.new.records) (asked_at g.S.Store.next c.derive_again.new.map) c.in-Ok.ensures.again c.in-Ok.ensures.asks
 
 pub returns-in-Ok-clause-steps : goal.returns-in-Ok-clause-steps
 returns-in-Ok-clause-steps g c = λ F ready.

@@ -2,7 +2,7 @@
 
 ghost use Rattle.std.specs.Prelude.{◌≡◌, ℕ, ◌+◌, ◌<◌, ◌≤◌, ◌||◌, true, [], ◌∷◌, MatchOption, OnOk, IfOk};
 ghost use Rattle.std.specs.Option.{option_copied};
-ghost use Rattle.key_set.specs.Keys.{has};
+ghost use Rattle.key_set.specs.Keys.{is_in};
 ghost use Rattle.dependency_map.specs.Askers.{asks, askers_of, askers_of_any, points_from};
 ghost use Rattle.dependency_map.specs.Index.{NoneFrom, kept_at};
 ghost use Rattle.dependency_map.specs.Maps.{asked_at};
@@ -30,11 +30,12 @@ impl<S: Store<Option<Queries>>> DependencyMap<S> {
     pub fn collect(&self, alloc: Global, queries: &Queries) -> Result<Points, Memory>
         ensures { IfOk result (λ points. points ≡ askers_of_any (asked_at S.now self.now) queries.now) }
     {
-        let mut numbers = KeySet::new(alloc);
+        let mut numbers = Vec::new(alloc);
         'queries: for query in queries.as_slice() {
-            self.put_askers(query, &mut numbers)?;
+            self.push_askers(query, &mut numbers)?;
         }
-        let points = points_of(alloc, &numbers)?;
+        let sorted = KeySet::of(alloc, numbers);
+        let points = points_of(alloc, &sorted)?;
         Ok(points)
     }
 
@@ -62,16 +63,16 @@ impl<S: Store<Option<Queries>>> DependencyMap<S> {
         None
     }
 
-    /// Puts the numbers of the code points that ask a question now among others.
+    /// Puts the numbers of the code points that ask a question now behind others.
     ///
     /// - `Memory`: memory ran out.
-    fn put_askers(&self, query: &Query, numbers: &mut KeySet) -> Result<(), Memory>
+    fn push_askers(&self, query: &Query, numbers: &mut Vec<u64>) -> Result<(), Memory>
         ensures { OnOk result ((k : ℕ) → k < 1114112
-            → has numbers.new k ≡ (has numbers.old k || asks (asked_at S.now self.now) query.now k)) }
+            → is_in numbers.new.items k ≡ (is_in numbers.old.items k || asks (asked_at S.now self.now) query.now k)) }
     {
         let mut from = 0;
         'askers: while let Some(c) = self.next_asker(query, from) {
-            numbers.insert(u64::from(c.number()))?;
+            numbers.push(u64::from(c.number()))?;
             from = c.number() + 1;
         }
         Ok(())

@@ -12,4 +12,4 @@ returns g c =
     let asked : ℕ → List Query = asked_at g.S.Store.now c.args.self.now in
     let items : List Query = c.as_slice-query-items.result.now in
     let all : take c.queries.query-index items ≡ c.args.queries.now = take_all c.queries.query-index items c.queries-test.false ∙ c.as_slice-query-items.ensures in
-    c.in_ok-points.ensures ∙ points_same (has c.queries.numbers) (asks_any asked c.args.queries.now) (λ k inside. c.queries.invariant k inside ∙ ap (λ Q. asks_any asked Q k) all)
+    c.in_ok-points.ensures ∙ points_same (has c.of-sorted.result) (asks_any asked c.args.queries.now) (λ k inside. c.of-sorted.ensures k ∙ c.queries.invariant k inside ∙ ap (λ Q. asks_any asked Q k) all)

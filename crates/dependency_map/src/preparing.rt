@@ -1,6 +1,6 @@
 //! What code points ask next.
 
-ghost use Rattle.std.specs.Prelude.{◌≡◌, Some, OnOk, OnErr};
+ghost use Rattle.std.specs.Prelude.{◌≡◌, None, Some, IsTrue, OnOk, OnErr};
 ghost use Rattle.range_table.specs.Values.{SameValues, with_span};
 ghost use Rattle.dependency_map.specs.Askers.{own_queries};
 ghost use Rattle.dependency_map.specs.Index.{kept_at};
@@ -12,7 +12,7 @@ use crate::relisting::FEW;
 use kept_values::Store;
 use key_set::KeySet;
 use std::alloc::Global;
-use ucd_model::{Memory, Point, Queries, Span};
+use ucd_model::{Memory, Point, Queries, Query, Span};
 
 impl<S: Store<Option<Queries>>> DependencyMap<S> {
     /// The map in which all code points are plain, now and next. It takes no memory.
@@ -29,7 +29,7 @@ impl<S: Store<Option<Queries>>> DependencyMap<S> {
         }
     }
 
-    /// Gives a code point its questions next. What is now stays.
+    /// Gives a code point its questions next. What is now stays. If it is plain and stays so, it takes no memory.
     ///
     /// - `Memory`: memory ran out. What is next stays too.
     pub fn prepare(&mut self, c: Point, asked: &Queries) -> Result<(), Memory>
@@ -37,6 +37,9 @@ impl<S: Store<Option<Queries>>> DependencyMap<S> {
         ensures ok { OnOk result (SameValues (asked_at S.next self.new) (with_span (asked_at S.next self.old) c c asked.now)) }
         ensures err { OnErr result (SameValues (asked_at S.next self.new) (asked_at S.next self.old)) }
     {
+        if is_unlisted(&self.lists, c) && are_own(asked, c) {
+            return Ok(());
+        }
         let copy = Queries::of(self.alloc, asked.as_slice())?;
         self.prepared = self.prepared.saturating_add(asked.len());
         list(&mut self.askers, c, asked)?;
@@ -61,6 +64,26 @@ impl<S: Store<Option<Queries>>> DependencyMap<S> {
         if let Some(lists) = &mut self.lists {
             lists.discard();
         }
+    }
+}
+
+/// Whether no questions are kept for a code point next.
+fn is_unlisted<S: Store<Option<Queries>>>(lists: &Option<S>, c: Point) -> bool
+    ensures { IsTrue result → kept_at S.next lists.now c ≡ None }
+{
+    match lists {
+        Some(lists) => lists.get_next(c).is_none(),
+        None => true,
+    }
+}
+
+/// Whether these are the questions that a plain code point asks.
+fn are_own(asked: &Queries, c: Point) -> bool
+    ensures { IsTrue result → asked.now ≡ own_queries c }
+{
+    match asked.as_slice() {
+        [Query::Row(x), Query::Second(y)] => *x == c && *y == c,
+        _ => false,
     }
 }
 

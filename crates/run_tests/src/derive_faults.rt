@@ -8,7 +8,7 @@ use crate::runs::{
 use shelf_io::MemoryShelf;
 use std::alloc::Global;
 use std::test::Fail;
-use ucd_model::Memory;
+use ucd_model::{Memory, Text};
 use ucdshop_core::Status;
 
 const SWAPPED: &[u8] =
@@ -87,6 +87,30 @@ fn files_are_refused_by_their_first_fault(rt: HostRuntime) -> Result<(), Fail> {
     for (data, properties, line) in &FAULTS {
         assert!(rt; is_refused(rt.alloc(), data, properties, line)?);
     }
+    Ok(())
+}
+
+/// Puts a row of a code point that maps to another one so many times.
+///
+/// - `Memory`: memory ran out.
+fn put_times(data: &mut Text, times: u32) -> Result<(), Memory> {
+    data.append(b"1000;X;So;0;L;<compat>")?;
+    for _ in 0..times {
+        data.append(b" 1000")?;
+    }
+    data.append(b";;;;N;;;;;\n")
+}
+
+fn long_mapping_is_refused(alloc: Global) -> Result<bool, Memory> {
+    let mut data = Text::new(alloc);
+    put_times(&mut data, 65)?;
+    let line = b"refused: d/UnicodeData.txt line 1 G07\n";
+    is_refused(alloc, data.as_slice(), b"", line)
+}
+
+#[test]
+fn a_mapping_of_65_members_is_refused(rt: HostRuntime) -> Result<(), Fail> {
+    assert!(rt; long_mapping_is_refused(rt.alloc())?);
     Ok(())
 }
 
@@ -253,5 +277,36 @@ fn a_short_sink_keeps_the_files(rt: HostRuntime) -> Result<(), Fail> {
         assert!(rt; tells_in_part(rt.alloc(), room)?, "room {room}");
     }
     assert!(rt; are_refused(rt.alloc(), &[b"derive"], 3, b"usa")?);
+    Ok(())
+}
+
+/// Whether a run over a new shelf with one file is told that its second read failed.
+fn tells_second_read(alloc: Global, path: &[u8]) -> Result<bool, Memory> {
+    let mut shelf = Box::new(alloc, MemoryShelf::new(alloc))?;
+    stops_at_second_read(alloc, &mut shelf, path)
+}
+
+fn stops_at_second_read(
+    alloc: Global,
+    shelf: &mut MemoryShelf,
+    path: &[u8],
+) -> Result<bool, Memory> {
+    shelf.place(path, b"0041\n")?;
+    shelf.fail_read(2)?;
+    let line = b"read failed: d/PropList.txt\n".as_slice();
+    ends(
+        alloc,
+        &[b"derive", b"d", b"o"],
+        shelf,
+        1000,
+        (Status::ReadFault, line),
+    )
+}
+
+/// A failed read is told even if a file that was read before it is refused or absent.
+#[test]
+fn a_failed_read_is_told_before_a_refusal(rt: HostRuntime) -> Result<(), Fail> {
+    assert!(rt; tells_second_read(rt.alloc(), b"d/UnicodeData.txt")?);
+    assert!(rt; tells_second_read(rt.alloc(), b"d/other")?);
     Ok(())
 }

@@ -2,4 +2,3 @@ pub mod StepLemmas
 pub mod WalkLemmas
 pub mod WalkSteps
 pub mod AboutLemmas
-pub mod PointSetLemmas

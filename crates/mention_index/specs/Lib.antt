@@ -3,6 +3,5 @@ pub mod ReachProofs
 pub mod Steps
 pub mod Laws
 pub mod StepProofs
-pub mod PointSets
 pub mod Mentions
 pub mod Walks

@@ -5,7 +5,7 @@
 -- is_walked m x      one went on from x
 use Rattle.std.specs.Prelude.{ℕ, Bool}
 use Rattle.key_set.specs.Keys.{has, is_in}
-use Rattle.mention_index.specs.PointSets.{has_point}
+use Rattle.key_set.specs.Bits.{has_number}
 use Rattle.mention_index.specs.Steps.{key}
 use Rattle.mention_index.specs.declared.mentions.Mentions.{Mentions}
 use Rattle.mention_index.specs.declared.mentions.Mentioning.{Mentioning}
@@ -17,4 +17,4 @@ abbrev pub leads : Mentions → ℕ → ℕ → Bool
 leads m x c = has m.steps (key x c)
 
 abbrev pub is_walked : Mentions → ℕ → Bool
-is_walked m x = has_point m.walked x
+is_walked m x = has_number m.walked x

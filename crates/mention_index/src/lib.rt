@@ -4,7 +4,6 @@
 pub mod laws;
 mod leading;
 mod mentions;
-mod point_set;
 mod putting;
 mod reaching;
 

@@ -8,8 +8,7 @@
 ghost use Rattle.std.specs.Prelude.{◌≡◌, ℕ, false};
 ghost use Rattle.mention_index.specs.Mentions.{is_walked, leads, puts};
 
-use crate::point_set::PointSet;
-use key_set::KeySet;
+use key_set::{BitSet, KeySet};
 use std::alloc::Global;
 
 /// Which code points mention which: from a code point one goes on to each that has it in one of its mappings, and from a
@@ -20,7 +19,7 @@ pub struct Mentions {
     // the steps from one code point to the next one, by their keys
     pub(crate) steps: KeySet,
     // the code points from which one went on
-    pub(crate) walked: PointSet,
+    pub(crate) walked: BitSet,
 }
 
 /// Mentions that are put one after another.
@@ -50,7 +49,7 @@ impl Mentioning {
     {
         Mentions {
             steps: KeySet::of(self.alloc, self.keys),
-            walked: PointSet::new(self.alloc),
+            walked: BitSet::new(self.alloc),
         }
     }
 }

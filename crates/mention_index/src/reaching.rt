@@ -7,14 +7,13 @@ ghost use Rattle.ucd_model.specs.declared.query.Query.{Query as Question};
 ghost use Rattle.asked_queries.specs.Answers.{is_asked};
 ghost use Rattle.mention_index.specs.Reached.{about};
 ghost use Rattle.mention_index.specs.Mentions.{is_walked, leads};
-ghost use Rattle.mention_index.specs.PointSets.{has_point};
+ghost use Rattle.key_set.specs.Bits.{has_number};
 ghost use Rattle.mention_index.specs.Steps.{IsClosed, IsReached, key};
 ghost use Rattle.mention_index.specs.Walks.{ComesFrom, by_keys, left};
 
 use crate::leading::put_led;
 use crate::mentions::Mentions;
-use crate::point_set::PointSet;
-use key_set::KeySet;
+use key_set::{BitSet, KeySet};
 use std::alloc::Global;
 use ucd_model::{Memory, Point, Points, Queries, Query};
 
@@ -68,15 +67,15 @@ fn point_about(query: &Query) -> Point
 fn walk(
     alloc: Global,
     steps: &KeySet,
-    walked: &mut PointSet,
+    walked: &mut BitSet,
     mut pending: Vec<Point>,
 ) -> Result<Points, Memory>
-    requires { IsClosed (by_keys (has steps.now)) (has_point walked.old) }
-    ensures closed { OnOk result (IsClosed (by_keys (has steps.now)) (has_point walked.new)) }
-    ensures pending { OnOk result ((c : ℕ) → is_in pending.items c ≡ true → has_point walked.new c ≡ true) }
-    ensures walked { IfOk result (λ points. (c : ℕ) → has_point walked.new c ≡ (has_point walked.old c || is_in points c)) }
+    requires { IsClosed (by_keys (has steps.now)) (has_number walked.old) }
+    ensures closed { OnOk result (IsClosed (by_keys (has steps.now)) (has_number walked.new)) }
+    ensures pending { OnOk result ((c : ℕ) → is_in pending.items c ≡ true → has_number walked.new c ≡ true) }
+    ensures walked { IfOk result (λ points. (c : ℕ) → has_number walked.new c ≡ (has_number walked.old c || is_in points c)) }
     ensures only { IfOk result (λ points. (c : ℕ) → is_in points c ≡ true
-        → (has_point walked.old c ≡ false) × ComesFrom (by_keys (has steps.now)) pending.items c) }
+        → (has_number walked.old c ≡ false) × ComesFrom (by_keys (has steps.now)) pending.items c) }
 {
     let mut reached = Points::new(alloc);
     'walk: while let Some(x) = pending.pop() {
@@ -92,24 +91,24 @@ fn walk(
 fn go_on(
     steps: &KeySet,
     x: Point,
-    walked: &mut PointSet,
+    walked: &mut BitSet,
     pending: &mut Vec<Point>,
     reached: &mut Points,
 ) -> Result<(), Memory>
     ensures grows { (k : ℕ) → is_in pending.old.items k ≡ true → is_in pending.new.items k ≡ true }
     ensures only { (d : ℕ) → is_in pending.new.items d ≡ true
         → (is_in pending.old.items d ≡ true) ⊎ ((d < 1114112) × (has steps.now (key x d) ≡ true)) }
-    ensures walked { OnOk result ((k : ℕ) → has_point walked.new k ≡ (has_point walked.old k || k == x)) }
-    ensures led { OnOk result (has_point walked.old x ≡ false → (d : ℕ) → d < 1114112 → has steps.now (key x d) ≡ true → is_in pending.new.items d ≡ true) }
-    ensures reached { OnOk result ((k : ℕ) → is_in reached.new k ≡ (is_in reached.old k || (not (has_point walked.old x) && k == x))) }
-    ensures left { OnOk result (left (has_point walked.new) pending.new.items ≤ left (has_point walked.old) pending.old.items) }
+    ensures walked { OnOk result ((k : ℕ) → has_number walked.new k ≡ (has_number walked.old k || k == x)) }
+    ensures led { OnOk result (has_number walked.old x ≡ false → (d : ℕ) → d < 1114112 → has steps.now (key x d) ≡ true → is_in pending.new.items d ≡ true) }
+    ensures reached { OnOk result ((k : ℕ) → is_in reached.new k ≡ (is_in reached.old k || (not (has_number walked.old x) && k == x))) }
+    ensures left { OnOk result (left (has_number walked.new) pending.new.items ≤ left (has_number walked.old) pending.old.items) }
 {
-    let _number = x.number();
-    if walked.has(x) {
+    let number = x.number();
+    if walked.has(number) {
         return Ok(());
     }
     put_led(steps, x, pending)?;
-    walked.insert(x)?;
+    walked.insert(number)?;
     reached.push(x)?;
     Ok(())
 }

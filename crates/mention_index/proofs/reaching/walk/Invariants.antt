@@ -1,10 +1,10 @@
 use Rattle.key_set.specs.Keys.{has}
-use Rattle.mention_index.specs.PointSets.{has_point}
+use Rattle.key_set.specs.Bits.{has_number}
 use Rattle.mention_index.specs.Walks.{Going, by_keys, left}
 use Rattle.mention_index.proofs.reaching.walk.Given as goal
 
 abbrev pub invariant-walk : goal.invariant-walk
-invariant-walk l = Going (by_keys (has l.steps)) (has_point l.initial.walked) l.initial.pending.items (has_point l.walked) l.pending.items l.reached
+invariant-walk l = Going (by_keys (has l.steps)) (has_number l.initial.walked) l.initial.pending.items (has_number l.walked) l.pending.items l.reached
 
 abbrev pub decreases-walk : goal.decreases-walk
-decreases-walk l = left (has_point l.walked) l.pending.items
+decreases-walk l = left (has_number l.walked) l.pending.items

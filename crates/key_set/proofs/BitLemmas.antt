@@ -1,11 +1,11 @@
--- Sets of code points.
+-- Sets of small numbers, a bit for each.
 --
--- bit_put   where one bit of a word is set, its point is in, and of the others those that were
+-- bit_put   where one bit of a word is set, its number is in, and of the others those that were
 use Rattle.std.proofs.Common.{◌≡◌, ◌≢◌, ℕ, ◌*◌, ◌/◌, ◌%◌, ◌^◌, ◌<◌, Bool, true, false, ◌||◌, ◌==◌, List, length, get_or, set, refl, sym, ap, ◌∙◌, inl, inr, arith, bit_or, get_or-set_same, get_or-set_other, eq-eqb, ne_eqb, w64}
 use Rattle.std.proofs.lemmas.Bool.{cases_eq, or_right}
 use Rattle.std.proofs.lemmas.Nat.Bits.{bit_at_set_other, bit_at_set_same}
 use Rattle.std.specs.Int.{bit_at}
-use Rattle.mention_index.specs.PointSets.{bit_in}
+use Rattle.key_set.specs.Bits.{bit_in}
 
 or_none : (b : Bool) → b ≡ (b || false)
 or_none true = refl

@@ -1,0 +1,65 @@
+//! Sets of small numbers, a bit for each.
+//!
+//! | bits of a word | what they say |
+//! |---|---|
+//! | 0 to 63 | whether the set has the numbers from 64 times its place on, in order |
+
+ghost use Rattle.std.specs.Prelude.{◌≡◌, ◌≤◌, ℕ, ◌==◌, ◌||◌, false, length, slice_index_or, OnErr, OnOk};
+ghost use Rattle.key_set.specs.Bits.{has_number};
+
+use std::alloc::Global;
+use ucd_points::Memory;
+
+/// A set of small numbers. It takes room up to the last one of them: for all code points 139 thousand bytes.
+#[derive(Debug, Drop)]
+pub struct BitSet {
+    // their bits; where there is no word, none is in
+    pub(crate) words: Vec<u64>,
+}
+
+impl BitSet {
+    /// The set of no numbers. It takes no memory.
+    pub fn new(alloc: Global) -> BitSet
+        ensures { (k : ℕ) → has_number result k ≡ false }
+    {
+        BitSet {
+            words: Vec::new(alloc),
+        }
+    }
+
+    /// Whether a number is in it.
+    pub fn has(&self, number: u32) -> bool
+        ensures { result ≡ has_number self.now number }
+    {
+        match self.words.get(number as usize / 64) {
+            Some(word) => (*word >> (number % 64)) & 1 == 1,
+            None => false,
+        }
+    }
+
+    /// Puts a number in.
+    ///
+    /// - `Memory`: memory ran out. The set stays as it was.
+    pub fn insert(&mut self, number: u32) -> Result<(), Memory>
+        ensures ok { OnOk result ((k : ℕ) → has_number self.new k ≡ (has_number self.old k || k == number)) }
+        ensures err { OnErr result ((k : ℕ) → has_number self.new k ≡ has_number self.old k) }
+    {
+        let place = number as usize / 64;
+        grow(&mut self.words, place + 1)?;
+        self.words[place] |= 1 << (number % 64);
+        Ok(())
+    }
+}
+
+/// Makes the words at least so many.
+///
+/// - `Memory`: memory ran out. They stay as they were.
+fn grow(words: &mut Vec<u64>, count: usize) -> Result<(), Memory>
+    ensures same { (i : ℕ) → slice_index_or words.new.items i 0 ≡ slice_index_or words.old.items i 0 }
+    ensures ok { OnOk result (count ≤ length words.new.items) }
+{
+    if words.len() < count {
+        words.resize(count, 0)?;
+    }
+    Ok(())
+}

@@ -5,4 +5,6 @@ pub mod FindLemmas
 pub mod PassingLemmas
 pub mod GuideLemmas
 pub mod TagLemmas
+pub mod CoverLemmas
+pub mod HintLemmas
 pub mod OrderLemmas

@@ -1,12 +1,12 @@
 -- Tags of the entries of a list.
-use Rattle.std.proofs.Common.{◌≡◌, ℕ, ◌+◌, ◌<◌, Bool, true, false, List, length, take, map, get_or, subst, arith}
+use Rattle.std.proofs.Common.{◌≡◌, ℕ, ◌+◌, ◌<◌, true, List, length, take, map, get_or, subst, arith}
 use Rattle.std.specs.List.{All}
 use Rattle.std.proofs.lemmas.List.{length-map}
-use Rattle.std.proofs.lemmas.List.Elements.{All-weaker, All-append, All-take, All-drop}
+use Rattle.std.proofs.lemmas.List.Elements.{All-weaker, All-append}
 use Rattle.part_list.specs.declared.reach.Reach.{Reach}
 use Rattle.part_list.specs.declared.spanned.Spanned.{Spanned}
 use Rattle.part_list.specs.declared.tags.Tags.{Tags}
-use Rattle.part_list.specs.Parts.{flat, spliced}
+use Rattle.part_list.specs.Parts.{flat}
 use Rattle.part_list.specs.Reaches.{IsWithin}
 use Rattle.part_list.specs.Tags.{Grows, IsKnown, may_have}
 use Rattle.part_list.proofs.FlatLemmas.{flat-take_more, part_by}
@@ -27,12 +27,3 @@ known_more f old new ps k part grows lt is before here =
     let long = length-map ps f in
     rw (flat-take_more (map f ps) k (omega arith), part_by f ps k part lt is)
     (All-append (IsKnown new) _ _ (all_known old new grows _ before) here)
-
--- entries that are put in the place of others
-pub known_spliced : {A : Type 0} (tags : Tags) (xs : List (Spanned A)) (at n : ℕ) (ys : List (Spanned A)) → All (IsKnown tags) xs → All (IsKnown tags) ys → All (IsKnown tags) (spliced xs at n ys)
-known_spliced tags xs at n ys old put =
-    All-append (IsKnown tags) _ _ (All-append (IsKnown tags) _ _ (All-take (IsKnown tags) at xs old) put) (All-drop (IsKnown tags) _ xs old)
-
--- entries of which none passes that is known
-pub none_known : {A : Type 0} (p : Spanned A → Bool) (tags : Tags) (xs : List (Spanned A)) → ((entry : Spanned A) → IsKnown tags entry → p entry ≡ false) → All (IsKnown tags) xs → All (λ x. p x ≡ false) xs
-none_known p tags xs lacks known = All-weaker (IsKnown tags) (λ x. p x ≡ false) lacks xs known

@@ -7,3 +7,5 @@ pub mod Puts
 pub mod SpotLaws
 pub mod Tags
 pub mod Orders
+pub mod Covers
+pub mod Hints

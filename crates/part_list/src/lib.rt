@@ -1,11 +1,14 @@
 //! Lists that can be edited: what is now stays until what is next is committed.
 #![tactic(auto)]
 
+mod bits;
 mod change;
 mod copy;
+mod cover;
 mod entries;
 mod fill;
 mod guides;
+mod hints;
 mod order;
 mod part;
 mod part_list;

@@ -5,7 +5,7 @@ ghost use Rattle.std.specs.List.{All, filter, position_or_len};
 ghost use Rattle.part_list.specs.Parts.{spliced};
 ghost use Rattle.std.specs.Option.{option_to_list};
 ghost use Rattle.part_list.specs.Finds.{FirstIn, LastIn};
-ghost use Rattle.part_list.specs.Orders.{IsWindow};
+ghost use Rattle.part_list.specs.Orders.{IsOrdered, IsWindow};
 ghost use Rattle.part_list.specs.PartValues.{committed, discarded, has_entries, shown};
 ghost use Rattle.part_list.specs.Puts.{put_entries};
 ghost use Rattle.part_list.specs.Reaches.{IsWithin};
@@ -197,6 +197,13 @@ impl<T: Copy> Part<T> {
         ensures { All (IsWithin result) self.now.next }
     {
         self.reach
+    }
+
+    /// Whether it is known that neither first nor last code points descend from one entry next to the next.
+    pub fn is_ordered(&self) -> bool
+        ensures { result ≡ true → IsOrdered self.now.next }
+    {
+        self.ordered
     }
 
     /// Whether what is next is kept apart from what is now.

@@ -12,6 +12,7 @@ use crate::copy::copied_parts;
 use crate::entries::Entries;
 use crate::fill::{begin, edit, push};
 use crate::guides::{renew, renew_all};
+use crate::hints::Hints;
 use crate::part::Part;
 use crate::passing::Passing;
 use crate::put::Put;
@@ -20,7 +21,6 @@ use crate::search::{first_spot, last_spot, spot_at, spot_before};
 use crate::seek::Seek;
 use crate::spanned::Spanned;
 use crate::spot::Spot;
-use crate::tags::Tags;
 use crate::version::Version;
 use std::alloc::Global;
 use std::marker::Model;
@@ -30,18 +30,20 @@ use ucd_points::{Copied, Memory};
 /// what is next, `commit` makes it what is now, and `discard` drops it. Contracts see the parts in which it is kept.
 ///
 /// An edit takes time in proportion to the entries of one part; if a part is cut in two, to the number of parts. The first edit, and later
-/// one after as many as half of the entries, also gathers the tags of all. A search for a tag that no entry has ends at once. Another one
-/// looks at the bounds of each block of 16 parts, at those of the parts of blocks that may have what it looks for, and at the entries of
-/// such parts; if these are in order, at those that bounds of halves do not rule out. `commit` and `discard` take no memory. If something was edited they take time in proportion to the number of parts and to the
-/// entries of those that were edited; otherwise they do nothing.
+/// one after as many as half of the entries, also gathers the tags of all, and if entries are in no order their code points. A search for
+/// a tag that no entry has ends at once; so does one for code points of which no entry speaks, if there were 64 edits and entries are in no
+/// order. Another one looks at the bounds of each block of 16 parts, at those of the parts of blocks that may have what it looks for, and
+/// at the entries of such parts; if these are in order, at those that bounds of halves do not rule out. `commit` and `discard` take no
+/// memory. If something was edited they take time in proportion to the number of parts and to the entries of those that were edited;
+/// otherwise they do nothing.
 #[derive(Debug, Drop)]
 pub struct PartList<T: Copy> {
     alloc: Global,
     parts: Vec<Part<T>>,
     /// Bounds of the first blocks of the parts, by which searches pass many at once.
     guides: Vec<Reach>,
-    /// Tags, of which each entry has one now and next, by which searches for another one end at once.
-    tags: Tags,
+    /// Tags, of which each entry has one now and next, and code points of which it speaks, by which searches for others end at once.
+    hints: Hints<T>,
     /// Whether there may be a part whose entries next are others than now.
     edited: bool,
     /// Whether an entry was taken out of what is next since the last `commit` or `discard`.
@@ -55,13 +57,13 @@ impl<T: Copy> Model for PartList<T> {
     ghost use Rattle.part_list.specs.Guides.{Covers};
     ghost use Rattle.part_list.specs.Parts.{PartLists, flat};
     ghost use Rattle.part_list.specs.PartValues.{parts_now, parts_next};
-    ghost use Rattle.part_list.specs.Tags.{IsKnown};
+    ghost use Rattle.part_list.specs.Hints.{IsHinted};
 
     ghost Value = { PartLists (Entry T) };
 
     ghost view = { λ l. record { now = parts_now l.parts.items; next = parts_next l.parts.items } };
 
-    ghost invariant = { λ l. Covers l.guides.items (parts_next l.parts.items) × (l.edited ≡ false → parts_now l.parts.items ≡ parts_next l.parts.items) × All (IsKnown l.tags) (flat (parts_now l.parts.items)) × All (IsKnown l.tags) (flat (parts_next l.parts.items)) };
+    ghost invariant = { λ l. Covers l.guides.items (parts_next l.parts.items) × (l.edited ≡ false → parts_now l.parts.items ≡ parts_next l.parts.items) × All (IsHinted l.hints) (flat (parts_now l.parts.items)) × All (IsHinted l.hints) (flat (parts_next l.parts.items)) };
 }
 
 impl<T: Copy> PartList<T> {
@@ -73,7 +75,7 @@ impl<T: Copy> PartList<T> {
             alloc,
             parts: Vec::new(alloc),
             guides: Vec::new(alloc),
-            tags: Tags::unknown(),
+            hints: Hints::unknown(),
             edited: false,
             shrunk: false,
         }
@@ -89,7 +91,7 @@ impl<T: Copy> PartList<T> {
     {
         self.edited = true;
         self.guides.clear();
-        self.tags = Tags::unknown();
+        self.hints = Hints::unknown();
         push(self.alloc, &mut self.parts, entry)
     }
 
@@ -104,7 +106,7 @@ impl<T: Copy> PartList<T> {
         let Some(slot) = self.parts.len().checked_sub(1) else {
             self.edited = true;
             self.guides.clear();
-            self.tags = Tags::unknown();
+            self.hints = Hints::unknown();
             return begin(self.alloc, &mut self.parts, entry);
         };
         let at = self.parts[slot].next().len();
@@ -122,7 +124,7 @@ impl<T: Copy> PartList<T> {
         ensures err { OnErr result (self.new ≡ self.old) }
     {
         self.edited = true;
-        self.tags.note(self.alloc, &self.parts, put);
+        self.hints.note(self.alloc, &self.parts, put);
         let count = self.parts.len();
         edit(self.alloc, &mut self.parts, spot, removed, put)?;
         if self.parts.len() == count && self.guides.len() > 0 {
@@ -200,7 +202,7 @@ impl<T: Copy> PartList<T> {
     pub fn first<S: Seek<T>>(&self, seek: &S) -> Option<Spot>
         ensures { FirstAt result (S.passing seek.now) self.now.next }
     {
-        if self.tags.lacks(seek) {
+        if self.hints.lacks(seek) {
             return None;
         }
         first_spot(&self.parts, &self.guides, seek)
@@ -210,7 +212,7 @@ impl<T: Copy> PartList<T> {
     pub fn last<S: Seek<T>>(&self, seek: &S) -> Option<Spot>
         ensures { LastAt result (S.passing seek.now) self.now.next }
     {
-        if self.tags.lacks(seek) {
+        if self.hints.lacks(seek) {
             return None;
         }
         last_spot(&self.parts, seek)
@@ -320,7 +322,7 @@ impl<T: Copy> Copied for PartList<T> {
             alloc,
             parts,
             guides,
-            tags: Tags::unknown(),
+            hints: Hints::unknown(),
             edited: self.edited,
             shrunk: self.shrunk,
         })

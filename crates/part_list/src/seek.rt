@@ -2,6 +2,7 @@
 
 ghost use Rattle.std.specs.Prelude.{◌≡◌, Bool, true};
 ghost use Rattle.std.specs.Option.{IfSome};
+ghost use Rattle.part_list.specs.Covers.{AllMeet};
 ghost use Rattle.part_list.specs.Reaches.{Skips};
 ghost use Rattle.part_list.specs.declared.spanned.Spanned.{Spanned as Entry};
 
@@ -24,6 +25,13 @@ pub trait Seek<T: Copy> {
     /// The tag that every entry has that passes; `None` if that is not known.
     fn tag(&self) -> Option<u32>
         ensures { IfSome result (λ tag. (entry : Entry T) → passing self.now entry ≡ true → entry.tag ≡ tag) }
+    {
+        None
+    }
+
+    /// The first and the last of some code points, of which every entry that passes has one; `None` if that is not known.
+    fn points(&self) -> Option<(u32, u32)>
+        ensures { IfSome result (λ points. AllMeet (passing self.now) points.0 points.1) }
     {
         None
     }

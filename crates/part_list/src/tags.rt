@@ -33,7 +33,7 @@ pub struct Tags {
 }
 
 /// How many entries parts have next.
-fn entry_count<T: Copy>(parts: &[Part<T>]) -> usize {
+pub fn entry_count<T: Copy>(parts: &[Part<T>]) -> usize {
     let mut count: usize = 0;
     'parts: for part in parts {
         count = count.saturating_add(part.next().len());

@@ -4,8 +4,9 @@ use Rattle.std.specs.Ordering.{ordering_then, nat_cmp, is_lt}
 use Rattle.std.specs.declared.cmp.Ordering.{Ordering}
 use Rattle.std.specs.declared.cmp.Ordering.TheVariants.{Greater}
 use Rattle.std.specs.Cmp.{nat_cmp_is}
-use Rattle.std.proofs.lemmas.Bool.{and_parts, or_cases, leb-true, ltb-true, ne_eqb, lt-leb}
+use Rattle.std.proofs.lemmas.Bool.{and_parts, or_cases, eqb-true, leb-true, ltb-true, ne_eqb, lt-leb}
 use Rattle.std.proofs.lemmas.Bool.Decides.{nat_tests}
+use Rattle.part_list.specs.Covers.{Meets}
 use Rattle.part_list.specs.Reaches.{IsWithin}
 use Rattle.part_list.specs.declared.reach.Reach.{Reach}
 use Rattle.part_list.specs.declared.spanned.Spanned.{Spanned}
@@ -100,3 +101,16 @@ behind_skips s reach h e w =
   where
     greater : (a b : ℕ) (o : Ordering) → b < a → is_lt (ordering_then (nat_cmp a b) o) ≡ false
     greater a b o lt = rw (← nat_cmp_is a b Greater lt) refl
+
+-- ---- what an entry that passes has
+
+pub key_meets : (s : Sought) (e : Spanned Stretch) → starts_alike s e ≡ true → Meets e s.code s.code
+key_meets s e h =
+    let same = eqb-true s.code e.code (and_parts (eqb s.code e.code) _ h).0 in
+    record { code = omega (arith, same); end = omega (arith, same) }
+
+pub another_meets : (s : Sought) (e : Spanned Stretch) → meets_another s e ≡ true → Meets e s.code s.last
+another_meets s e h =
+    let rest = and_parts (not (eqb s.code e.code)) _ (and_parts (forbids s) _ h).1 in
+    let both = and_parts (leb s.code e.last) (leb e.code s.last) (and_parts (leb s.code e.last && leb e.code s.last) _ rest.1).0 in
+    record { code = leb-true e.code s.last both.1; end = omega (arith, leb-true s.code e.last both.0) }

@@ -1,33 +1,77 @@
 //! Loads the items of a file.
 
 ghost use Rattle.std.specs.Prelude.{◌≡◌, ◌≢◌, ◌≤◌, length, IfOk};
+ghost use Rattle.std.specs.List.{All, IsDistinct};
 ghost use Rattle.std.specs.Option.{IfSome};
 ghost use Rattle.ucd_points.specs.Limits.{file_limit};
 ghost use Rattle.ucd_points.specs.declared.files.SourceFile.TheVariants.{UnicodeData};
+ghost use Rattle.release_rows.specs.Chains.{IsOrderedPlace, places_meet};
 ghost use Rattle.release_rows.specs.FileItems.{bytes_of};
 ghost use Rattle.release_rows.specs.Loaders.{IsLoaded, LoadsList};
 ghost use Rattle.release_rows.specs.Loading.{file_or_fault};
 ghost use Rattle.release_rows.specs.Progress.{LoadsItems};
 ghost use Rattle.release_rows.specs.Releases.{AreSound};
 
+use crate::extents::Extents;
 use crate::file_text::FileText;
-use crate::key_set::KeySet;
 use crate::laws::loaded_files_are_sound;
 use crate::load_stop::LoadStop;
 use crate::loading::Loading;
 use crate::piece::next_piece;
-use crate::placed::are_apart;
+use crate::placed::{Placed, are_apart};
 use crate::stretch::Stretch;
 use part_list::PartList;
 use std::alloc::Global;
 use ucd_lines::items;
 use ucd_model::{Memory, SourceFile, Text};
 
+/// Where the items of a file stand in its text, and the keys of its rows, which were not compared.
+#[derive(Drop)]
+struct Gathered {
+    items: PartList<Stretch>,
+    rows: Vec<Placed>,
+}
+
+/// The items of a file and the keys of its rows, if no line breaks a rule by itself.
+///
+/// - `Fault { line, rule }`: a line breaks a rule.
+/// - `Memory`: memory ran out.
+#[tactic(auto, unfolding(ucd_points::specs::Limits::file_limit))]
+fn gather_all(alloc: Global, file: SourceFile, bytes: &[u8]) -> Result<Gathered, LoadStop>
+    requires short { length bytes.now ≤ file_limit }
+    requires other { file ≢ UnicodeData }
+    ensures ordered { IfOk result (λ made. All IsOrderedPlace made.rows.items) }
+    ensures loaded { IfOk result (λ made. IsDistinct places_meet made.rows.items → IsLoaded file bytes.now made.items) }
+{
+    let mut lines = items(bytes);
+    let mut loading = Loading::new(alloc, file, bytes);
+    let mut rows = Vec::new(alloc);
+    'pieces: while let Some(piece) = next_piece(file, &mut lines) {
+        loading.gather(alloc, &mut rows, piece)?;
+    }
+    let items = loading.into_items();
+    Ok(Gathered { items, rows })
+}
+
+/// The items, if no two rows have one key and share a code point.
+///
+/// - `Memory`: memory ran out.
+fn items_apart(made: Gathered) -> Result<Option<PartList<Stretch>>, Memory>
+    requires { All IsOrderedPlace made.rows.items }
+    ensures { IfOk result (λ found. IfSome found (λ items. (items ≡ made.items) × IsDistinct places_meet made.rows.items)) }
+{
+    let Gathered { items, rows } = made;
+    let apart = are_apart(rows)?;
+    if apart {
+        return Ok(Some(items));
+    }
+    Ok(None)
+}
+
 /// Where the items of a file stand in its text, if no line breaks a rule; `None` if one does. The keys of the rows are
 /// compared once all of them are there, so this is for files whose rows come in any order.
 ///
 /// - `Memory`: memory ran out.
-#[tactic(auto, unfolding(ucd_points::specs::Limits::file_limit))]
 fn gathered_items(
     alloc: Global,
     file: SourceFile,
@@ -37,21 +81,11 @@ fn gathered_items(
     requires other { file ≢ UnicodeData }
     ensures { IfOk result (λ found. IfSome found (λ items. IsLoaded file bytes.now items)) }
 {
-    let mut lines = items(bytes);
-    let mut loading = Loading::new(alloc, file, bytes);
-    let mut rows = Vec::new(alloc);
-    'pieces: while let Some(piece) = next_piece(file, &mut lines) {
-        match loading.gather(alloc, &mut rows, piece) {
-            Ok(()) => {}
-            Err(LoadStop::Fault { .. }) => return Ok(None),
-            Err(LoadStop::Memory) => return Err(Memory),
-        }
+    match gather_all(alloc, file, bytes) {
+        Ok(made) => items_apart(made),
+        Err(LoadStop::Fault { .. }) => Ok(None),
+        Err(LoadStop::Memory) => Err(Memory),
     }
-    let apart = are_apart(rows)?;
-    if apart {
-        return Ok(Some(loading.into_items()));
-    }
-    Ok(None)
 }
 
 /// Where the items of a file stand in its text. Each row is compared with those above it as it comes.
@@ -69,7 +103,7 @@ fn checked_items(
 {
     let mut lines = items(bytes);
     let mut loading = Loading::new(alloc, file, bytes);
-    let mut keys = KeySet::new(alloc, file);
+    let mut keys = Extents::new(alloc, file);
     'pieces: while let Some(piece) = next_piece(file, &mut lines) {
         loading.check(alloc, &mut keys, piece)?;
     }

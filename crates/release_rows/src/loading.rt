@@ -16,7 +16,7 @@ ghost use Rattle.part_list.specs.Parts.{now_in, next_in};
 ghost use Rattle.release_rows.specs.StoredItems.{piece_of, item_at, stored_at, IsItem, IsStored, HasSpan};
 
 use crate::entry::Entry;
-use crate::key_set::KeySet;
+use crate::extents::Extents;
 use crate::load_stop::LoadStop;
 use crate::piece::{Piece, content_of, ending_len, stretch_of};
 use crate::placed::{Placed, put_placed};
@@ -195,7 +195,7 @@ impl<'a> Loading<'a> {
     pub fn check(
         &mut self,
         alloc: Global,
-        keys: &mut KeySet,
+        keys: &mut Extents,
         piece: Piece<'a>,
     ) -> Result<(), LoadStop>
         requires sound { IsSound self.old }

@@ -10,7 +10,7 @@ ghost use Rattle.release_rows.specs.Progress.{HoldsRows, TakesRow};
 
 use crate::conflict::Conflict;
 use crate::entry::Entry;
-use crate::key_set::KeySet;
+use crate::extents::Extents;
 use crate::load_stop::LoadRule;
 use ucd_model::{Memory, SourceFile};
 
@@ -41,7 +41,7 @@ fn rule_by(conflict: Option<Conflict>, back: bool) -> Option<LoadRule>
 ///
 /// - `Memory`: memory ran out.
 pub fn take_row(
-    keys: &mut KeySet,
+    keys: &mut Extents,
     file: SourceFile,
     before: Option<u32>,
     entry: Option<Entry>,

@@ -219,4 +219,12 @@ impl<'a> Seek<Stretch> for Search<'a> {
         };
         told.then_some(self.tag)
     }
+
+    fn points(&self) -> Option<(u32, u32)> {
+        match self.test {
+            Test::SameKey => Some((self.code, self.code)),
+            Test::OverlapsAnother => Some((self.code, self.last)),
+            Test::Follows | Test::SameGroup | Test::Any => None,
+        }
+    }
 }

@@ -24,6 +24,10 @@ impl Seek<u32> for Code {
     fn skips(&self, reach: Reach) -> bool {
         self.code < reach.least || reach.most < self.code
     }
+
+    fn points(&self) -> Option<(u32, u32)> {
+        Some((self.code, self.code))
+    }
 }
 
 /// An entry of the code points from `code` to `code + 2`.

@@ -3,7 +3,7 @@ use Rattle.std.specs.List.{All}
 use Rattle.part_list.specs.Guides.{Covers}
 use Rattle.part_list.specs.Parts.{flat, next_in}
 use Rattle.part_list.specs.PartValues.{committed, parts_now, parts_next}
-use Rattle.part_list.specs.Tags.{IsKnown}
+use Rattle.part_list.specs.Hints.{IsHinted}
 use Rattle.part_list.proofs.FlatLemmas.{parts_now-committed, parts_next-committed}
 use Rattle.part_list.proofs.GuideLemmas.{settled_committed}
 use Rattle.part_list.proofs.part_list.PartList.commit.Goals as goal
@@ -26,5 +26,5 @@ returns-clause-next g c =
 -- the tags of what is next are known
 pub invariant_of-self : goal.invariant_of-self
 invariant_of-self g c =
-    let known = subst (All (IsKnown c.self.inside.tags)) (sym (c.tidy.ensures.next ∙ ap (λ ps. flat (parts_next ps)) c.commit_all.ensures ∙ ap flat (parts_next-committed c.self.inside.parts.items))) c.self.invariant.3 in
-    (c.tidy.ensures.covers, λ _. c.tidy.ensures.same, subst (λ xs. All (IsKnown c.self.inside.tags) (flat xs)) (sym c.tidy.ensures.same) known, known)
+    let known = subst (All (IsHinted c.self.inside.hints)) (sym (c.tidy.ensures.next ∙ ap (λ ps. flat (parts_next ps)) c.commit_all.ensures ∙ ap flat (parts_next-committed c.self.inside.parts.items))) c.self.invariant.3 in
+    (c.tidy.ensures.covers, λ _. c.tidy.ensures.same, subst (λ xs. All (IsHinted c.self.inside.hints) (flat xs)) (sym c.tidy.ensures.same) known, known)

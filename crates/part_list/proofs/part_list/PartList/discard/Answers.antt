@@ -2,7 +2,7 @@ use Rattle.std.proofs.Common.{◌≡◌, map, sym, ap, subst, ◌∙◌}
 use Rattle.std.specs.List.{All}
 use Rattle.part_list.specs.Parts.{flat, now_in}
 use Rattle.part_list.specs.PartValues.{committed, parts_now, parts_next}
-use Rattle.part_list.specs.Tags.{IsKnown}
+use Rattle.part_list.specs.Hints.{IsHinted}
 use Rattle.part_list.proofs.FlatLemmas.{parts_now-discarded, parts_next-discarded}
 use Rattle.part_list.proofs.GuideLemmas.{settled_discarded}
 use Rattle.part_list.proofs.part_list.PartList.discard.Goals as goal
@@ -21,5 +21,5 @@ returns-clause-next g c =
 -- the tags of what is now are known
 pub invariant_of-self : goal.invariant_of-self
 invariant_of-self g c =
-    let known = subst (All (IsKnown c.self.inside.tags)) (sym (c.tidy.ensures.next ∙ ap (λ ps. flat (parts_next ps)) c.discard_all.ensures ∙ ap flat (parts_next-discarded c.self.inside.parts.items))) c.self.invariant.2 in
-    (c.tidy.ensures.covers, λ _. c.tidy.ensures.same, subst (λ xs. All (IsKnown c.self.inside.tags) (flat xs)) (sym c.tidy.ensures.same) known, known)
+    let known = subst (All (IsHinted c.self.inside.hints)) (sym (c.tidy.ensures.next ∙ ap (λ ps. flat (parts_next ps)) c.discard_all.ensures ∙ ap flat (parts_next-discarded c.self.inside.parts.items))) c.self.invariant.2 in
+    (c.tidy.ensures.covers, λ _. c.tidy.ensures.same, subst (λ xs. All (IsHinted c.self.inside.hints) (flat xs)) (sym c.tidy.ensures.same) known, known)

@@ -5,7 +5,7 @@ use Rattle.release_rows.specs.FileItems.{bytes_of, lines_of, rows_in}
 use Rattle.release_rows.specs.Gathered.{AreGathered}
 use Rattle.release_rows.specs.Loaders.{IsSound, items_above}
 use Rattle.release_rows.specs.Loading.{file_item}
-use Rattle.release_rows.proofs.load_items.gathered_items.Given as goal
+use Rattle.release_rows.proofs.load_items.gather_all.Given as goal
 
 -- the items so far and those of the pieces that are left are those of the whole, and stand in the text one behind the other
 abbrev pub invariant-pieces : goal.invariant-pieces

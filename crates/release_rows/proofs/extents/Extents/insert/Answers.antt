@@ -3,7 +3,7 @@ use Rattle.release_rows.specs.Places.{extent_at}
 use Rattle.release_rows.specs.Runs.{run_extent}
 use Rattle.release_rows.specs.declared.run.Run.{Run}
 use Rattle.release_rows.proofs.RunConflicts.{all_before, any_pushed, any_behind}
-use Rattle.release_rows.proofs.key_set.KeySet.insert.Goals as goal
+use Rattle.release_rows.proofs.extents.Extents.insert.Goals as goal
 
 pub invariant_of-self-then-is_empty : goal.invariant_of-self-then-is_empty
 invariant_of-self-then-is_empty c =

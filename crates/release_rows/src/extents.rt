@@ -19,7 +19,7 @@ use ucd_model::{Memory, SourceFile};
 /// A row that begins behind the ends of all of them has no conflict. In UnicodeData.txt each row that may stand does,
 /// so its rows are kept one behind the other: only a row that is a fault is compared with each of them.
 #[derive(Drop)]
-pub struct KeySet {
+pub struct Extents {
     /// Whether rows without names are kept as runs.
     keeps_runs: bool,
     /// The rows that are kept as runs.
@@ -30,7 +30,7 @@ pub struct KeySet {
     end: u64,
 }
 
-impl Model for KeySet {
+impl Model for Extents {
     ghost use Rattle.std.specs.Prelude.{◌++◌, List, map};
     ghost use Rattle.release_rows.specs.Extents.{Extent};
     ghost use Rattle.release_rows.specs.Runs.{run_extent, AllBefore};
@@ -42,12 +42,12 @@ impl Model for KeySet {
     ghost invariant = { λ s. AllBefore s.end (map run_extent s.runs.items ++ s.ends) };
 }
 
-impl KeySet {
+impl Extents {
     /// No extents of rows of a file. It takes no memory.
-    pub fn new(alloc: Global, file: SourceFile) -> KeySet
+    pub fn new(alloc: Global, file: SourceFile) -> Extents
         ensures { (p : Extent → Bool) → list_any p result ≡ Bool.false }
     {
-        KeySet {
+        Extents {
             keeps_runs: file == SourceFile::UnicodeData,
             runs: Vec::new(alloc),
             ends: EndMap::new(alloc),

@@ -2,7 +2,7 @@
 
 ghost use Rattle.std.specs.Prelude.{◌≡◌, ◌≤◌, true, false};
 ghost use Rattle.std.specs.List.{All};
-ghost use Rattle.std.specs.Option.{IfSome, option_to_list};
+ghost use Rattle.std.specs.Option.{option_to_list};
 ghost use Rattle.part_list.specs.Covers.{AllMeet, CoversMore, HoldsMore, IsCovered, IsHeld, NoneSet};
 ghost use Rattle.part_list.specs.Parts.{flat};
 ghost use Rattle.part_list.specs.PartValues.{parts_now, parts_next};
@@ -18,12 +18,11 @@ use crate::tags::entry_count;
 use crate::version::Version;
 use key_set::BitSet;
 use std::alloc::Global;
+use ucd_points::Point;
 
-/// Where code points end.
-const END: u32 = 0x11_0000;
-/// An entry with so many code points or more is wide.
-const WIDE: u32 = 4096;
-/// How many wide entries there are at most. Of those that share no code point there are up to 272.
+/// An entry with so many code points or more is wide: those of others are put in and looked at one by one.
+const WIDE: u32 = 256;
+/// How many wide entries there are at most.
 const MOST_WIDE: usize = 512;
 /// How many edits there are before code points are gathered, and before those of a short list are gathered anew.
 const FEW: usize = 64;
@@ -43,7 +42,7 @@ pub struct Known<T: Copy> {
 /// code points in and take none out. After as many edits as half of the list's entries they are gathered anew.
 #[derive(Debug, Drop)]
 pub struct Cover<T: Copy> {
-    /// What is known. It is in a box, so that a list is no larger for it.
+    /// What is known. It is in a box, so that a list grows by two words alone.
     pub(crate) known: Option<Box<Known<T>>>,
     /// How many more edits are noted before code points are gathered anew.
     pub(crate) left: usize,
@@ -54,12 +53,12 @@ fn some_unordered<T: Copy>(parts: &[Part<T>]) -> bool {
     parts.iter().any(|part| !part.is_ordered())
 }
 
-/// Whether it is found soon that none of the code points from one to another is in, and there are such.
+/// Whether there are code points from one to another, fewer than a wide entry has, and none of them is in.
 fn are_clear(points: &BitSet, first: u32, last: u32) -> bool
     ensures some { result ≡ true → first ≤ last }
     ensures none { result ≡ true → NoneSet points.now first last }
 {
-    first <= last && last - first < WIDE && last < END && !some_set(points, first, last)
+    first <= last && last - first < WIDE && last < Point::COUNT && !some_set(points, first, last)
 }
 
 impl<T: Copy> Known<T> {
@@ -77,7 +76,7 @@ impl<T: Copy> Known<T> {
     {
         let last = entry.code.max(entry.last);
         if last - entry.code < WIDE {
-            return last < END && set_all(&mut self.points, entry.code, last);
+            return last < Point::COUNT && set_all(&mut self.points, entry.code, last);
         }
         self.wide.len() < MOST_WIDE && self.wide.push(*entry).is_ok()
     }

@@ -29,3 +29,4 @@ pub use reach::Reach;
 pub use seek::Seek;
 pub use spanned::Spanned;
 pub use spot::Spot;
+pub use tags::Tags;

@@ -30,12 +30,13 @@ use ucd_points::{Copied, Memory};
 /// what is next, `commit` makes it what is now, and `discard` drops it. Contracts see the parts in which it is kept.
 ///
 /// An edit takes time in proportion to the entries of one part; if a part is cut in two, to the number of parts. The first edit, and later
-/// one after as many as half of the entries, also gathers the tags of all, and if entries are in no order their code points. A search for
-/// a tag that no entry has ends at once; so does one for code points of which no entry speaks, if there were 64 edits and entries are in no
-/// order. Another one looks at the bounds of each block of 16 parts, at those of the parts of blocks that may have what it looks for, and
-/// at the entries of such parts; if these are in order, at those that bounds of halves do not rule out. `commit` and `discard` take no
-/// memory. If something was edited they take time in proportion to the number of parts and to the entries of those that were edited;
-/// otherwise they do nothing.
+/// one after as many as half of the entries, also gathers the tags of all. If entries are in no order, an edit after 64 others gathers their
+/// code points too, up to 255 of each, and later one does so as often. A search for a tag that no entry has ends at once. One for fewer than
+/// 256 code points, of which no entry spoke since code points were gathered, ends after a look at these, and at 512 wide entries at most.
+/// Another one looks at the bounds of each block of 16 parts, at those of the parts of blocks that may have what it looks for, and at the
+/// entries of such parts; if these are in order, at those that bounds of halves do not rule out. `commit` and `discard` take no memory. If
+/// something was edited they take time in proportion to the number of parts and to the entries of those that were edited; otherwise they
+/// do nothing.
 #[derive(Debug, Drop)]
 pub struct PartList<T: Copy> {
     alloc: Global,
@@ -159,7 +160,7 @@ impl<T: Copy> PartList<T> {
         self.edit(spot, 1, Put::one(entry))
     }
 
-    /// Puts an entry next in the place of the one at a spot, and another one behind it.
+    /// Puts an entry next in the place of the one at a spot, and another one after it.
     ///
     /// - `Memory`: memory ran out. The list stays as it was.
     pub fn replace_and_insert(

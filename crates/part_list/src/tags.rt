@@ -22,8 +22,8 @@ const FEW: usize = 64;
 
 /// Some tags, among them those of all entries of a list; or nothing is known, and each tag may be one of them.
 ///
-/// An edit puts tags in and takes none out. After as many edits as half of the list's entries the tags are gathered anew, so there are at
-/// most some three times as many as entries.
+/// An edit puts tags in and takes none out. A list gathers its tags anew after as many edits as half of its entries, so there are at most
+/// some three times as many as entries. Those of others who put tags in only grow.
 #[derive(Debug, Drop)]
 pub struct Tags {
     /// The tags; `None` if nothing is known.
@@ -52,18 +52,45 @@ impl Tags {
         }
     }
 
+    /// None is one of them. It takes no memory.
+    pub fn none(alloc: Global) -> Tags
+        ensures { (tag : ℕ) → may_have result tag ≡ false }
+    {
+        Tags {
+            seen: Some(BTreeSet::new(alloc)),
+            left: 0,
+        }
+    }
+
+    /// Whether nothing is known.
+    pub fn are_unknown(&self) -> bool
+        ensures { result ≡ true → (tag : ℕ) → may_have self.now tag ≡ true }
+    {
+        self.seen.is_none()
+    }
+
+    /// Whether a tag may be one of them.
+    pub fn may_have(&self, tag: u32) -> bool
+        ensures { result ≡ may_have self.now tag }
+    {
+        match &self.seen {
+            Some(seen) => seen.contains(&tag),
+            None => true,
+        }
+    }
+
     /// Whether no entry passes that has one of the tags.
     pub fn lacks<T: Copy, S: Seek<T>>(&self, seek: &S) -> bool
         ensures { result ≡ true → (entry : Entry T) → IsKnown self.now entry → S.passing seek.now entry ≡ false }
     {
-        match (seek.tag(), &self.seen) {
-            (Some(tag), Some(seen)) => !seen.contains(&tag),
-            _ => false,
+        match seek.tag() {
+            Some(tag) => !self.may_have(tag),
+            None => false,
         }
     }
 
     /// Puts a tag in. If there is no memory for it, nothing is known any more.
-    fn put(&mut self, tag: u32)
+    pub fn put(&mut self, tag: u32)
         ensures put { may_have self.new tag ≡ true }
         ensures grows { Grows self.old self.new }
     {

@@ -7,13 +7,16 @@ use Rattle.std.proofs.lemmas.List.Folds.{list_any-from_Any, list_any_none}
 use Rattle.std.proofs.lemmas.List.Sums.{prefix_len_passes}
 use Rattle.ucd_model.specs.declared.row.Row.{Row}
 use Rattle.ucd_lines.specs.declared.item.Ending.TheVariants.{Lf}
-use Rattle.source_rows.specs.KeyNames.{ContentsHaveKeys}
 use Rattle.part_list.specs.declared.spanned.Spanned.{Spanned}
 use Rattle.part_list.specs.declared.spot.Spot.{Spot}
 use Rattle.part_list.specs.Parts.{flat, place}
 use Rattle.part_list.specs.Finds.{FirstAt, IsBefore, LastAt}
 use Rattle.part_list.specs.SpotLaws.{place-lt, first_some, first_none, last_passes}
 use Rattle.release_rows.specs.Gaps.{IsGapAt}
+use Rattle.source_rows.specs.KeyNames.{ContentsHaveKeys, group_of}
+use Rattle.part_list.specs.Tags.{may_have}
+use Rattle.part_list.specs.declared.tags.Tags.{Tags}
+use Rattle.release_rows.specs.Groups.{AreMarked, group_tag}
 use Rattle.release_rows.specs.Keys.{is_missing_in}
 use Rattle.release_rows.specs.Operations.{follows, place_in, row_passes, same_group}
 use Rattle.release_rows.specs.Searches.{Sought, IsSoughtRow, comes_behind, is_alike}
@@ -21,6 +24,7 @@ use Rattle.release_rows.specs.StoredItems.{IsStored, stored_at}
 use Rattle.release_rows.specs.declared.edits.Gap.TheVariants.{Front, Behind, Only}
 use Rattle.release_rows.specs.Briefs.{no_brief}
 use Rattle.release_rows.specs.declared.stretch.Stretch.{Stretch}
+use Rattle.release_rows.proofs.Marking.{alike_nowhere, follows_nowhere}
 use Rattle.release_rows.proofs.Moved.{any_moved, first_moved, last_moved}
 use Rattle.release_rows.proofs.Seeking.{alike_found, behind_found}
 
@@ -48,6 +52,18 @@ last_none p xs h = list_any_none p xs (λ k d lt.
 no_front : {A : Type 0} (xs : List A) → prefix_len (λ x. false) xs ≡ 0
 no_front [] = refl
 no_front (x ∷ xs) = refl
+
+-- the gap behind all entries
+pub end_behind : {A : Type 0} (parts : List (List A)) (spot : Spot) → LastAt (Some spot) (λ (e : A). true) parts → IsGapAt (Behind spot) (length (flat parts)) parts
+end_behind parts spot h =
+    let all_pass = no_front (reverse (flat parts)) in
+    let ends = h.1 in
+    (h.0, omega arith)
+
+pub end_only : {A : Type 0} (parts : List (List A)) → LastAt None (λ (e : A). true) parts → IsGapAt Only (length (flat parts)) parts
+end_only parts h =
+    let empty : length (flat parts) ≡ 0 = sym h ∙ no_front (reverse (flat parts)) in
+    (empty, empty)
 
 module _ (s : Sought) (row : Row) (parts : List (List (Spanned Stretch))) (law : ContentsHaveKeys) (is : IsSoughtRow s.file row s.text s) (all : All (IsStored s.file s.text) (flat parts)) where
   all_follow : All (λ e. comes_behind s e ≡ row_passes (follows s.file row) (stored_at s.file s.text e)) (flat parts)
@@ -82,23 +98,20 @@ module _ (s : Sought) (row : Row) (parts : List (List (Spanned Stretch))) (law :
       let ends = h.1 in
       (h.0, rw (plain, no, some) (omega arith))
 
-  place_last : is_missing_in s.file row ≡ false → FirstAt None (comes_behind s) parts → LastAt None (is_alike s) parts → place_in s.file row (map (stored_at s.file s.text) (flat parts)) ≡ length (flat parts)
+  pub place_last : is_missing_in s.file row ≡ false → FirstAt None (comes_behind s) parts → LastAt None (is_alike s) parts → place_in s.file row (map (stored_at s.file s.text) (flat parts)) ≡ length (flat parts)
   place_last plain none other =
       let no = sym follow_any ∙ first_none (comes_behind s) parts none in
       let apart = sym alike_any ∙ last_none (is_alike s) (flat parts) other in
       rw (plain, no, apart) (length-map (flat parts) (stored_at s.file s.text))
 
-  pub gap_end : is_missing_in s.file row ≡ false → (spot : Spot) → FirstAt None (comes_behind s) parts → LastAt None (is_alike s) parts → LastAt (Some spot) (λ e. true) parts → IsGapAt (Behind spot) (place_in s.file row (map (stored_at s.file s.text) (flat parts))) parts
-  gap_end plain spot none other h =
-      let whole = place_last plain none other in
-      let all_pass = no_front (reverse (flat parts)) in
-      let ends = h.1 in
-      (h.0, rw whole (omega arith))
-
-  pub gap_only : is_missing_in s.file row ≡ false → FirstAt None (comes_behind s) parts → LastAt None (is_alike s) parts → LastAt None (λ e. true) parts → IsGapAt Only (place_in s.file row (map (stored_at s.file s.text) (flat parts))) parts
-  gap_only plain none other h =
-      let empty : length (flat parts) ≡ 0 = sym h ∙ no_front (reverse (flat parts)) in
-      (empty, place_last plain none other ∙ empty)
+  -- a group that has no row
+  pub place_new : (groups : Tags) → is_missing_in s.file row ≡ false → may_have groups (group_tag s.group) ≡ false → AreMarked s.file groups (map (stored_at s.file s.text) (flat parts)) → place_in s.file row (map (stored_at s.file s.text) (flat parts)) ≡ length (flat parts)
+  place_new groups plain lacks marked =
+      let items = map (stored_at s.file s.text) (flat parts) in
+      let none : may_have groups (group_tag (group_of s.file row)) ≡ false = rw (← is.group) lacks in
+      let no = follows_nowhere s.file groups row items none marked in
+      let apart = alike_nowhere s.file groups row items none marked in
+      rw (plain, no, apart) (length-map (flat parts) (stored_at s.file s.text))
 
   -- ---- a missing row
 

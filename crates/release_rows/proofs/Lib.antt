@@ -23,6 +23,7 @@ pub mod SharedSpans
 pub mod Seeking
 pub mod Skipping
 pub mod Moved
+pub mod Marking
 pub mod GapPlaces
 pub mod Puts
 pub mod Files

@@ -12,6 +12,7 @@ pub mod Cuts
 pub mod Loading
 pub mod Tags
 pub mod StoredItems
+pub mod Groups
 pub mod Given
 pub mod Progress
 pub mod Loaders

@@ -6,14 +6,16 @@ ghost use Rattle.ucd_points.specs.declared.files.SourceFile.{SourceFile as FileV
 ghost use Rattle.ucd_model.specs.declared.row.Row.{Row as RowValue};
 ghost use Rattle.part_list.specs.Parts.{next_in, now_in};
 ghost use Rattle.release_rows.specs.Gaps.{IsGapAt};
+ghost use Rattle.release_rows.specs.Groups.{AreMarked};
 ghost use Rattle.release_rows.specs.Keys.{is_missing_in};
 ghost use Rattle.release_rows.specs.Operations.{place_in, put_in, with_end};
 ghost use Rattle.release_rows.specs.Searches.{IsSoughtRow};
 ghost use Rattle.release_rows.specs.StoredItems.{stored_at, IsStored};
 
+use crate::groups::group_tag;
 use crate::search::{Search, Test};
 use crate::stretch::Stretch;
-use part_list::{PartList, Spanned, Spot};
+use part_list::{PartList, Spanned, Spot, Tags};
 use source_rows::contents_have_keys;
 use ucd_lines::Ending;
 use ucd_model::Memory;
@@ -29,13 +31,27 @@ pub enum Gap {
     Only,
 }
 
+/// The gap behind all entries.
+fn end_gap(items: &PartList<Stretch>, search: &Search<'_>) -> Gap
+    ensures { IsGapAt result (length (next_in items.now)) items.now.next }
+{
+    match items.last(&search.with(Test::Any)) {
+        Some(spot) => Gap::Behind(spot),
+        None => Gap::Only,
+    }
+}
+
 /// Where a row other than a missing row has its place: before the first one of its group that has a greater key; if none
-/// has, behind the last one of its group; if there is none, behind all.
-fn ordinary_gap(items: &PartList<Stretch>, search: &Search<'_>) -> Gap
+/// has, behind the last one of its group; if there is none, behind all. If it is known that no row has its group, nothing is looked for.
+fn ordinary_gap(items: &PartList<Stretch>, groups: &Tags, search: &Search<'_>) -> Gap
+    requires marked { AreMarked search.now.file groups.now (map (stored_at search.now.file search.now.text) (next_in items.now)) }
     requires each { All (IsStored search.now.file search.now.text) (next_in items.now) }
     ensures { (row : RowValue) → IsSoughtRow search.now.file row search.now.text search.now → is_missing_in search.now.file row ≡ false → IsGapAt result (place_in search.now.file row (map (stored_at search.now.file search.now.text) (next_in items.now))) items.now.next }
 {
     contents_have_keys();
+    if !groups.may_have(group_tag(search.group)) {
+        return end_gap(items, search);
+    }
     if let Some(spot) = items.first(&search.with(Test::Follows)) {
         return match items.before(spot) {
             Some(before) => Gap::Behind(before),
@@ -45,10 +61,7 @@ fn ordinary_gap(items: &PartList<Stretch>, search: &Search<'_>) -> Gap
     if let Some(spot) = items.last(&search.with(Test::SameGroup)) {
         return Gap::Behind(spot);
     }
-    match items.last(&search.with(Test::Any)) {
-        Some(spot) => Gap::Behind(spot),
-        None => Gap::Only,
-    }
+    end_gap(items, search)
 }
 
 /// Where a missing row has its place: behind the last missing row; if there is none, before all.
@@ -67,14 +80,15 @@ fn missing_gap(items: &PartList<Stretch>, search: &Search<'_>) -> Gap
 }
 
 /// Where a row that is added has its place.
-pub fn gap_for(items: &PartList<Stretch>, search: &Search<'_>) -> Gap
+pub fn gap_for(items: &PartList<Stretch>, groups: &Tags, search: &Search<'_>) -> Gap
+    requires marked { AreMarked search.now.file groups.now (map (stored_at search.now.file search.now.text) (next_in items.now)) }
     requires each { All (IsStored search.now.file search.now.text) (next_in items.now) }
     ensures { (row : RowValue) → IsSoughtRow search.now.file row search.now.text search.now → IsGapAt result (place_in search.now.file row (map (stored_at search.now.file search.now.text) (next_in items.now))) items.now.next }
 {
     if search.is_missing() {
         missing_gap(items, search)
     } else {
-        ordinary_gap(items, search)
+        ordinary_gap(items, groups, search)
     }
 }
 

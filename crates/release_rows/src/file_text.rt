@@ -16,6 +16,7 @@ ghost use Rattle.release_rows.specs.declared.operation.Op.TheVariants.{Add, Chan
 use crate::copy::copy_entry;
 use crate::edits::{put_at, put_in};
 use crate::finds::{added_gap, changed_spot, search_row, withdrawn_spot};
+use crate::groups::{groups_of, note_group};
 use crate::join::joined;
 use crate::op_spans::{both_spans, entry_spans, row_spans};
 use crate::operation::{Op, OpStop};
@@ -23,10 +24,10 @@ use crate::patch::Patch;
 use crate::row_iter::Rows;
 use crate::row_text::RowText;
 use crate::stored_row::store_row;
-use crate::stretch::Stretch;
+use crate::stretch::{Stretch, content_in};
 use crate::touching::touching_rows;
 use crate::way_back::put_way_back;
-use part_list::{PartList, Spanned};
+use part_list::{PartList, Spanned, Tags};
 use source_rows::{Key, row_key};
 use std::alloc::Global;
 use std::marker::Model;
@@ -44,19 +45,22 @@ pub struct FileText {
     whole: bool,
     /// How many items were added since the file was loaded.
     added: u32,
+    /// The groups of the rows, now and next, if the tags of rows do not tell them: noted from the first addition on.
+    groups: Tags,
 }
 
 impl Model for FileText {
     ghost use Rattle.std.specs.Prelude.{◌≡◌, true, map};
     ghost use Rattle.part_list.specs.Parts.{now_in, next_in};
     ghost use Rattle.release_rows.specs.FileItems.{FileLists};
+    ghost use Rattle.release_rows.specs.Groups.{KeepMarks};
     ghost use Rattle.release_rows.specs.StoredItems.{stored_at, AreWhole, IsKeptFile};
 
     ghost Value = { FileLists };
 
     ghost view = { λ f. record { file = f.file; now = map (stored_at f.file f.text) (now_in f.items); next = map (stored_at f.file f.text) (next_in f.items) } };
 
-    ghost invariant = { λ f. IsKeptFile f.file f.text f.added f.items × (f.whole ≡ true → AreWhole f.file f.text f.items) };
+    ghost invariant = { λ f. IsKeptFile f.file f.text f.added f.items × (f.whole ≡ true → AreWhole f.file f.text f.items) × KeepMarks f.file f.text f.groups f.items };
 }
 
 impl FileText {
@@ -70,6 +74,7 @@ impl FileText {
             items: PartList::new(alloc),
             whole: true,
             added: 0,
+            groups: Tags::unknown(),
         }
     }
 
@@ -89,6 +94,7 @@ impl FileText {
             items,
             whole: true,
             added: 0,
+            groups: Tags::unknown(),
         }
     }
 
@@ -144,11 +150,20 @@ impl FileText {
 
 /// Edits. What is now stays.
 impl FileText {
+    /// Gathers the groups of the rows, if tags of rows do not tell them and they were not gathered yet.
+    fn gather_groups(&mut self, alloc: Global)
+        ensures { self.new ≡ self.old }
+    {
+        if self.file == SourceFile::PropertyValueAliases && self.groups.are_unknown() {
+            self.groups = groups_of(alloc, self.file, self.text.as_slice(), &self.items);
+        }
+    }
+
     /// Adds a row next.
     ///
     /// - `Key(K1)`: a row has its key.
     /// - `Key(K4)`: it overlaps a row.
-    /// - `Memory`: memory ran out, or the text would have 2^32 bytes or more.
+    /// - `Memory`: memory ran out, the text would have 2^32 bytes or more, or 2^32 items were added.
     fn add(&mut self, alloc: Global, row: &Row, bytes: &[u8]) -> Result<Spans, OpStop>
         requires reads { row_or_fault self.old.file bytes.now ≡ Ok row.now }
         ensures file { self.new.file ≡ self.old.file }
@@ -156,17 +171,24 @@ impl FileText {
         ensures answer { let op = Add self.old.file row.now bytes.now in
             AnswersOp result (edited self.old.next op) (touched self.old.next op) self.old.next self.new.next }
     {
-        let gap = {
-            let key = row_key(alloc, self.file, row)?;
-            let search = search_row(self.file, self.text.as_slice(), row, &key, bytes);
-            added_gap(&self.items, &search)?
-        };
-        let spans = row_spans(alloc, row)?;
         let Some(added) = self.added.checked_add(1) else {
             return Err(OpStop::Memory);
         };
+        let gap = {
+            let key = row_key(alloc, self.file, row)?;
+            let search = search_row(self.file, self.text.as_slice(), row, &key, bytes);
+            added_gap(&self.items, &self.groups, &search)?
+        };
+        let spans = row_spans(alloc, row)?;
         self.whole = false;
-        let entry = store_row(&mut self.text, self.file, row, bytes, Ending::Lf)?;
+        let entry = store_row(
+            &mut self.text,
+            &mut self.groups,
+            self.file,
+            row,
+            bytes,
+            Ending::Lf,
+        )?;
         put_in(&mut self.items, gap, entry)?;
         self.added = added;
         Ok(spans)
@@ -193,7 +215,14 @@ impl FileText {
         let old = self.items.get(spot);
         let spans = both_spans(alloc, self.file, &old, row)?;
         self.whole = false;
-        let entry = store_row(&mut self.text, self.file, row, bytes, old.item.ending)?;
+        let entry = store_row(
+            &mut self.text,
+            &mut self.groups,
+            self.file,
+            row,
+            bytes,
+            old.item.ending,
+        )?;
         self.items.replace(spot, entry)?;
         Ok(spans)
     }
@@ -232,7 +261,10 @@ impl FileText {
         ensures answer { AnswersOp result (edited self.old.next op.now) (touched self.old.next op.now) self.old.next self.new.next }
     {
         match op {
-            Op::Add { row, bytes, .. } => self.add(alloc, row, bytes.as_slice()),
+            Op::Add { row, bytes, .. } => {
+                self.gather_groups(alloc);
+                self.add(alloc, row, bytes.as_slice())
+            }
             Op::Change { row, bytes, .. } => self.change(alloc, row, bytes.as_slice()),
             Op::Withdraw { key, .. } => self.withdraw(alloc, key),
         }
@@ -300,6 +332,7 @@ impl FileText {
             return Err(Memory);
         };
         self.whole = false;
+        note_group(&mut self.groups, self.file, content_in(from, entry.item));
         let copy = copy_entry(self.file, from, entry, &mut self.text)?;
         put_at(&mut self.items, at, copy)?;
         self.added = added;
@@ -317,6 +350,7 @@ impl Copied for FileText {
             items,
             whole: self.whole,
             added: self.added,
+            groups: Tags::unknown(),
         })
     }
 }

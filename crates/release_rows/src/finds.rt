@@ -1,16 +1,17 @@
 //! What an operation finds among the entries of a file: its row's place, or the rule that it breaks.
 
-ghost use Rattle.std.specs.Prelude.{◌≡◌, Ok};
+ghost use Rattle.std.specs.Prelude.{◌≡◌, Ok, map};
 ghost use Rattle.std.specs.List.{All};
 ghost use Rattle.ucd_model.specs.declared.row.Row.{Row as RowValue};
 ghost use Rattle.source_rows.specs.Faults.{row_or_fault};
 ghost use Rattle.source_rows.specs.Keys.{key_of};
 ghost use Rattle.part_list.specs.Parts.{next_in};
 ghost use Rattle.release_rows.specs.Finding.{FindsGap, FindsRow, FindsSpot, items_of};
+ghost use Rattle.release_rows.specs.Groups.{AreMarked};
 ghost use Rattle.release_rows.specs.Keys.{is_missing_row};
 ghost use Rattle.release_rows.specs.Operations.{has_key};
 ghost use Rattle.release_rows.specs.Searches.{IsSoughtRow};
-ghost use Rattle.release_rows.specs.StoredItems.{IsStored};
+ghost use Rattle.release_rows.specs.StoredItems.{IsStored, stored_at};
 
 use crate::edits::{Gap, gap_for};
 use crate::key_rule::KeyRule;
@@ -19,7 +20,7 @@ use crate::row_key::row_end;
 use crate::search::{Search, Test};
 use crate::stretch::Stretch;
 use crate::tag::{content_tag, key_tag};
-use part_list::{PartList, Spot};
+use part_list::{PartList, Spot, Tags};
 use source_rows::{Key, content_group, contents_have_keys};
 use ucd_model::{Row, SourceFile};
 
@@ -60,8 +61,13 @@ pub fn search_row<'a>(
 ///
 /// - `K1`: a row has its key.
 /// - `K4`: it overlaps a row.
-pub fn added_gap(items: &PartList<Stretch>, search: &Search<'_>) -> Result<Gap, KeyRule>
+pub fn added_gap(
+    items: &PartList<Stretch>,
+    groups: &Tags,
+    search: &Search<'_>,
+) -> Result<Gap, KeyRule>
     requires each { All (IsStored search.now.file search.now.text) (next_in items.now) }
+    requires marked { AreMarked search.now.file groups.now (map (stored_at search.now.file search.now.text) (next_in items.now)) }
     ensures { (row : RowValue) → IsSoughtRow search.now.file row search.now.text search.now → FindsGap result search.now.file search.now.text row items.now.next }
 {
     contents_have_keys();
@@ -71,7 +77,7 @@ pub fn added_gap(items: &PartList<Stretch>, search: &Search<'_>) -> Result<Gap, 
     if items.first(&search.with(Test::OverlapsAnother)).is_some() {
         return Err(KeyRule::K4);
     }
-    Ok(gap_for(items, search))
+    Ok(gap_for(items, groups, search))
 }
 
 /// Where the row stands that a change replaces.

@@ -89,7 +89,7 @@ pub fn rows_meet()
     ensures { RowsMeet }
 {}
 
-/// Everything but the operation's row keeps its bytes and its order, comments and empty lines too. Only the item in
+/// Everything but the operation's row keeps its content and its order, comments and empty lines too. Only the item in
 /// front of an added row may differ: it has a LF if it had no line end. A changed row keeps its place and its line end,
 /// and each other file keeps its items.
 pub fn everything_else_stays()

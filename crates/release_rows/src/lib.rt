@@ -12,6 +12,7 @@ mod entry;
 mod extents;
 mod file_text;
 mod finds;
+mod groups;
 mod join;
 mod key_rule;
 mod laws;

@@ -41,7 +41,7 @@ fn behind_first(text: &[u8]) -> &[u8]
 }
 
 /// A number for the first five bytes of a text. A text that comes behind another one has no lesser number.
-fn number(text: &[u8]) -> u32
+pub fn number(text: &[u8]) -> u32
     ensures { result ≡ number text.now }
 {
     let second = behind_first(text);
@@ -56,7 +56,7 @@ fn number(text: &[u8]) -> u32
 }
 
 /// The last five bytes of a text; all if there are no more.
-fn end_of(text: &[u8]) -> &[u8]
+pub fn end_of(text: &[u8]) -> &[u8]
     ensures { result.now ≡ end_of text.now }
 {
     if text.len() <= 5 {

@@ -118,16 +118,41 @@ const PLACES: [Case<'static>; 5] = [
     (Edit::Withdraw(b"0061"), Ok(())),
 ];
 
+/// A new group goes behind all rows, and its next rows to it.
+const PROPERTIES: [Case<'static>; 4] = [
+    (Edit::Add(b"sc ; Grek ; Greek"), Ok(())),
+    (Edit::Add(b"WB ; LE ; ALetter"), Ok(())),
+    (Edit::Add(b"gc ; Ll ; Lowercase_Letter"), Ok(())),
+    (Edit::Add(b"WB ; EX ; ExtendNumLet"), Ok(())),
+];
+
+/// A file, its bytes, edits of it, and the bytes then.
+type Edited = (
+    SourceFile,
+    &'static [u8],
+    &'static [Case<'static>],
+    &'static [u8],
+);
+
+const EDITED: [Edited; 2] = [
+    (
+        SourceFile::Scripts,
+        b"0041 ; Latin\n0061 ; Latin\n\n0020 ; Common\n0031 ; Common\n",
+        &PLACES,
+        b"0041 ; Latin\n0042 ; Latin\n0062 ; Latin\n\n0019 ; Common\n0020 ; Common\n0031 ; Common\n0370 ; Greek\n",
+    ),
+    (
+        SourceFile::PropertyValueAliases,
+        b"gc ; Lu ; Uppercase_Letter\nsc ; Latn ; Latin\n# end\n",
+        &PROPERTIES,
+        b"gc ; Ll ; Lowercase_Letter\ngc ; Lu ; Uppercase_Letter\nsc ; Grek ; Greek\nsc ; Latn ; Latin\n# end\nWB ; EX ; ExtendNumLet\nWB ; LE ; ALetter\n",
+    ),
+];
+
 #[test]
 fn places_and_groups(rt: HostRuntime) -> Result<(), Fail> {
-    assert!(rt;
-        leaves(
-            rt.alloc(),
-            SourceFile::Scripts,
-            b"0041 ; Latin\n0061 ; Latin\n\n0020 ; Common\n0031 ; Common\n",
-            &PLACES,
-            b"0041 ; Latin\n0042 ; Latin\n0062 ; Latin\n\n0019 ; Common\n0020 ; Common\n0031 ; Common\n0370 ; Greek\n",
-        )?
-    );
+    for (file, bytes, cases, expected) in &EDITED {
+        assert!(rt; leaves(rt.alloc(), *file, bytes, cases, expected)?);
+    }
     Ok(())
 }

@@ -1,7 +1,9 @@
-use Rattle.std.proofs.Common.{Some, None, subst}
+use Rattle.std.proofs.Common.{◌≡◌, false, Some, None, sym, ap, subst, ◌∙◌}
 use Rattle.part_list.specs.Finds.{FirstAt, LastAt}
+use Rattle.part_list.specs.Tags.{may_have}
+use Rattle.release_rows.specs.Groups.{group_tag}
 use Rattle.release_rows.specs.Searches.{Sought, entry_passes}
-use Rattle.release_rows.proofs.GapPlaces.{gap_behind, gap_front, gap_group, gap_end, gap_only}
+use Rattle.release_rows.proofs.GapPlaces.{gap_behind, gap_front, gap_group, place_last, place_new}
 use Rattle.release_rows.proofs.edits.ordinary_gap.Goals as goal
 
 pub returns-in-Some-before : goal.returns-in-Some-before
@@ -20,16 +22,13 @@ returns-in-Some-last c row is plain =
     let alike = subst (λ (s : Sought). LastAt (Some c.in-Some-last.spot) (entry_passes s) c.args.items.now.next) c.with-2.ensures c.in-Some-last.ensures in
     gap_group c.args.search.now row c.args.items.now.next c.contents_have_keys.ensures is c.requires.each plain c.in-Some-last.spot none alike
 
-pub returns-in-Some-last-2 : goal.returns-in-Some-last-2
-returns-in-Some-last-2 c row is plain =
-    let none = subst (λ (s : Sought). FirstAt None (entry_passes s) c.args.items.now.next) c.with.ensures c.in_default.ensures in
-    let other = subst (λ (s : Sought). LastAt None (entry_passes s) c.args.items.now.next) c.with-2.ensures c.in_default-last.ensures in
-    let all = subst (λ (s : Sought). LastAt (Some c.in-Some-last-2.spot) (entry_passes s) c.args.items.now.next) c.with-3.ensures c.in-Some-last-2.ensures in
-    gap_end c.args.search.now row c.args.items.now.next c.contents_have_keys.ensures is c.requires.each plain c.in-Some-last-2.spot none other all
+pub returns-then-not-may_have : goal.returns-then-not-may_have
+returns-then-not-may_have c row is plain =
+    let lacks : may_have c.args.groups.now (group_tag c.args.search.now.group) ≡ false = rw (← c.search.view_is) (ap (may_have c.args.groups.now) (sym c.group_tag.ensures) ∙ sym c.may_have.ensures ∙ c.if-not-may_have.true) in
+    rw (place_new c.args.search.now row c.args.items.now.next c.contents_have_keys.ensures is c.requires.each c.args.groups.now plain lacks c.requires.marked) c.end_gap.ensures
 
-pub returns-in-None-last : goal.returns-in-None-last
-returns-in-None-last c row is plain =
+pub returns : goal.returns
+returns c row is plain =
     let none = subst (λ (s : Sought). FirstAt None (entry_passes s) c.args.items.now.next) c.with.ensures c.in_default.ensures in
     let other = subst (λ (s : Sought). LastAt None (entry_passes s) c.args.items.now.next) c.with-2.ensures c.in_default-last.ensures in
-    let all = subst (λ (s : Sought). LastAt None (entry_passes s) c.args.items.now.next) c.with-3.ensures c.in-None-last.ensures in
-    gap_only c.args.search.now row c.args.items.now.next c.contents_have_keys.ensures is c.requires.each plain none other all
+    rw (place_last c.args.search.now row c.args.items.now.next c.contents_have_keys.ensures is c.requires.each plain none other) c.end_gap-2.ensures

@@ -2,11 +2,13 @@ use Rattle.std.proofs.Common.{rules, ◌≡◌, ℕ, Ok, Err, List, map, refl, s
 use Rattle.std.specs.List.{All}
 use Rattle.part_list.specs.Parts.{now_in, next_in}
 use Rattle.release_rows.specs.Finding.{items_of}
+use Rattle.release_rows.specs.Groups.{AreMarked}
 use Rattle.release_rows.specs.Operations.{added_item, edited, place_in, put_in}
 use Rattle.release_rows.specs.StoredItems.{IsStored, stored_at}
 use Rattle.release_rows.specs.declared.operation.Op.TheVariants.{Add}
 use Rattle.release_rows.proofs.Arena.{all_still_stored, items_kept}
 use Rattle.release_rows.proofs.Edited.{finds_gap, items_of_addition, kept_edited, kept_grown, rule_of_addition}
+use Rattle.release_rows.proofs.Marking.{marked_more, marked_put, marks_edited, marks_grown}
 use Rattle.release_rows.proofs.file_text.FileText.add.Goals as goal
 
 pub returns-in_err-gap-clause-answer : goal.returns-in_err-gap-clause-answer
@@ -19,7 +21,7 @@ returns-in_err-gap-clause-answer c =
 pub invariant_of-self-in_err-put_in : goal.invariant_of-self-in_err-put_in
 invariant_of-self-in_err-put_in c =
     let inside = c.self.inside in
-    (rw (c.in_err-put_in.ensures.err, c.in_ok-entry.ensures.ok) (kept_grown inside.file inside.text c.args.bytes.now inside.added inside.items c.self.invariant.0), λ e. absurd cc)
+    (rw (c.in_err-put_in.ensures.err, c.in_ok-entry.ensures.ok) (kept_grown inside.file inside.text c.args.bytes.now inside.added inside.items c.self.invariant.0), λ e. absurd cc, rw (c.in_err-put_in.ensures.err, c.in_ok-entry.ensures.ok) (marks_grown inside.file inside.text c.args.bytes.now inside.added inside.groups c.store_row.new.groups inside.items c.self.invariant.0 c.self.invariant.2 c.store_row.ensures.grows))
 
 pub returns-in_err-put_in-clause-now : goal.returns-in_err-put_in-clause-now
 returns-in_err-put_in-clause-now c =
@@ -40,7 +42,17 @@ invariant_of-self-2 c =
     let more = c.in-Some.ensures in
     let stored : All (IsStored inside.file c.store_row.new.text) (next_in inside.items) = rw c.in_ok-entry.ensures.ok (all_still_stored inside.file inside.text c.args.bytes.now (next_in inside.items) c.self.invariant.0.next) in
     let next = c.in_ok-put_in.ensures.each inside.file c.store_row.new.text stored c.in_ok-entry.ensures.stored in
-    (rw c.in_ok-entry.ensures.ok (kept_edited inside.file inside.text c.args.bytes.now inside.added c.in-Some.added inside.items c.put_in.new.items c.self.invariant.0 c.in_ok-put_in.ensures.now (subst (λ (t : List ℕ). All (IsStored inside.file t) (next_in c.put_in.new.items)) c.in_ok-entry.ensures.ok next) (omega arith) (omega arith) (omega arith)), λ e. absurd cc)
+    let row = c.args.row.now in
+    let bytes = c.args.bytes.now in
+    let found = finds_gap (Ok c.in_ok-gap.gap) inside.file row inside.text c.search_row-search.result inside.items.next (rw (← c.as_slice.ensures) c.search_row-search.ensures) c.in_ok-gap.ensures in
+    let items = items_of inside.file inside.text inside.items.next in
+    let put = c.in_ok-put_in.ensures.ok inside.file c.store_row.new.text (place_in inside.file row items) found.2 in
+    let kept : map (stored_at inside.file c.store_row.new.text) (next_in inside.items) ≡ items = rw c.in_ok-entry.ensures.ok (items_kept inside.file inside.text bytes (next_in inside.items) c.self.invariant.0.next) in
+    let new : map (stored_at inside.file c.store_row.new.text) (next_in c.put_in.new.items) ≡ put_in items (place_in inside.file row items) (added_item row bytes) = put ∙ rw (kept, c.in_ok-entry.ensures.item) refl in
+    let marked = marked_put inside.file c.store_row.new.groups items (place_in inside.file row items) (added_item row bytes) (marked_more inside.file inside.groups c.store_row.new.groups items c.store_row.ensures.grows c.self.invariant.2.next) c.store_row.ensures.noted in
+    let all = subst (λ (t : List ℕ). AreMarked inside.file c.store_row.new.groups (map (stored_at inside.file t) (next_in c.put_in.new.items))) c.in_ok-entry.ensures.ok (rw new marked) in
+    let marks = marks_edited inside.file inside.text bytes inside.added inside.groups c.store_row.new.groups inside.items c.put_in.new.items c.self.invariant.0 c.self.invariant.2 c.store_row.ensures.grows c.in_ok-put_in.ensures.now all in
+    (rw c.in_ok-entry.ensures.ok (kept_edited inside.file inside.text c.args.bytes.now inside.added c.in-Some.added inside.items c.put_in.new.items c.self.invariant.0 c.in_ok-put_in.ensures.now (subst (λ (t : List ℕ). All (IsStored inside.file t) (next_in c.put_in.new.items)) c.in_ok-entry.ensures.ok next) (omega arith) (omega arith) (omega arith)), λ e. absurd cc, rw c.in_ok-entry.ensures.ok marks)
 
 pub returns-clause-now : goal.returns-clause-now
 returns-clause-now c =

@@ -31,7 +31,7 @@ impl PointLists {
         ensures { result.now ≡ lists_now self.now c }
     {
         let place = self.places.get(c);
-        &self.pool[place.start..place.end]
+        &self.pool[place.start as usize..place.end as usize]
     }
 
     /// The list of a code point now, and the end of a stretch from there on in which all code points have it. Equal
@@ -44,7 +44,7 @@ impl PointLists {
         let run = self.places.run(c, near);
         let place = run.value;
         ListRun {
-            points: &self.pool[place.start..place.end],
+            points: &self.pool[place.start as usize..place.end as usize],
             last: run.last,
             index: run.index,
         }
@@ -61,7 +61,7 @@ impl PointLists {
 
     /// Gives the points of a span a list next. What is now stays.
     ///
-    /// - `Memory`: memory ran out. Nothing is then known of the lists.
+    /// - `Memory`: memory ran out, or the lists would have 2^32 points or more. Nothing is then known of them.
     pub fn prepare(&mut self, span: Span, points: &[Point]) -> Result<(), Memory>
         ensures current { OnOk result (SameValues (lists_now self.new) (lists_now self.old)) }
         ensures ok { OnOk result (SameValues (lists_next self.new) (with_span (lists_next self.old) span.lo span.hi points.now)) }
@@ -80,6 +80,8 @@ impl PointLists {
 }
 
 /// Puts points at the end of a pool, and answers their place. No points have a place of their own.
+///
+/// - `Memory`: memory ran out, or the pool would have 2^32 points or more.
 fn put(pool: &mut Vec<Point>, points: &[Point]) -> Result<Place, Memory>
     ensures longer { vec_len pool.old ≤ vec_len pool.new }
     ensures others { (place : Place) → LiesIn (vec_len pool.old) place → slice_at pool.new.items place ≡ slice_at pool.old.items place }
@@ -91,8 +93,8 @@ fn put(pool: &mut Vec<Point>, points: &[Point]) -> Result<Place, Memory>
     }
     let start = pool.len();
     pool.extend_from_slice(points)?;
-    Ok(Place {
-        start,
-        end: pool.len(),
-    })
+    match (u32::try_from(start), u32::try_from(pool.len())) {
+        (Ok(start), Ok(end)) => Ok(Place { start, end }),
+        _ => Err(Memory),
+    }
 }

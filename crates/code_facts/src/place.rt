@@ -4,7 +4,7 @@
 #[derive(Clone, Copy, PartialEq, Eq)]
 pub struct Place {
     /// The index where it begins, counted from 0.
-    pub start: usize,
+    pub start: u32,
     /// The index behind its last.
-    pub end: usize,
+    pub end: u32,
 }

@@ -15,6 +15,7 @@ ghost use Rattle.release_rows.specs.Releases.{rows_now, rows_next};
 ghost use Rattle.code_facts.specs.Word.{packed};
 
 use crate::copying::{copy_spans, put_spans};
+use crate::data_lists::DataLists;
 use crate::fact_tables::FactTables;
 use crate::joined_spans::joined;
 use crate::pair_index::PairIndex;
@@ -186,10 +187,51 @@ fn fill<T: Table<u64>, S: Store<Rest>>(
     ensures rests_next { OnOk result (SameValues (S.next rests.new) (rest_in from.now)) }
     ensures listed { IfOk result (λ index. (q : ℕ) → q < 1114112 → IsListed (is_listed index) from.now q) }
 {
+    make_room(words, rests, from);
     let mut keys = PairKeys::new(alloc);
     copy_spans(alloc, words, rests, &mut keys, from, &everywhere())?;
     commit_and_shrink(words, rests);
     Ok(PairIndex::of(alloc, keys))
+}
+
+/// Makes room for what tables of rows give, as far as there is memory: tables that grow by and by leave holes in it.
+fn make_room<T: Table<u64>, S: Store<Rest>>(words: &mut T, rests: &mut S, from: &RowTables)
+    ensures words_now { SameValues (T.now words.new) (T.now words.old) }
+    ensures words_next { SameValues (T.next words.new) (T.next words.old) }
+    ensures rests_now { SameValues (S.now rests.new) (S.now rests.old) }
+    ensures rests_next { SameValues (S.next rests.new) (S.next rests.old) }
+{
+    words.reserve(uneven_blocks(|c| from.words.last_of_run(c)));
+    rests.reserve(
+        rest_count(&from.lists),
+        uneven_blocks(|c| from.last_listed(c)),
+    );
+}
+
+/// About how many values are kept beside the words: one for each run of three kinds of mappings. There may be some more.
+fn rest_count(lists: &DataLists) -> usize {
+    let mappings = lists.mappings.places.runs();
+    let uppers = lists.uppers.places.runs();
+    let lowers = lists.lowers.places.runs();
+    mappings.saturating_add(uppers).saturating_add(lowers)
+}
+
+/// In how many blocks of 256 code points values change, which stay up to the code point that is told.
+fn uneven_blocks<F: Fn(Point) -> Point>(last_alike: F) -> u32
+    requires { F.IsAlwaysCallable last_alike }
+{
+    let mut blocks = 0;
+    let mut at = 0;
+    'blocks: while at < Point::COUNT {
+        let last = last_alike(point(at)).number();
+        if last < at + 255 {
+            blocks += 1;
+            at += 256;
+        } else {
+            at = (last + 1) / 256 * 256;
+        }
+    }
+    blocks
 }
 
 /// What is next becomes now, and stays next. Room that no value takes up is given back.

@@ -27,7 +27,7 @@ impl<T: Table<u64>> FactTables<T> {
         }
     }
 
-    /// What is kept of a code point beside its word.
+    /// The mappings of a code point, which are kept beside its packed word.
     pub(crate) fn rest(&self, version: Version, c: Point) -> &Rest
         ensures { result.now ≡ rests_at version self.now c }
     {

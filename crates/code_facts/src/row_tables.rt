@@ -76,7 +76,7 @@ impl RowTables {
         })
     }
 
-    /// What is kept of a code point beside its word. `mapping` is its decomposition mapping. `None` only if nothing is
+    /// The mappings of a code point, which are kept beside its packed word. `mapping` is its decomposition mapping. `None` only if nothing is
     /// kept. Below `bare` code points have no more than a decomposition mapping, and nothing is looked up.
     ///
     /// - `Memory`: memory ran out.
@@ -127,6 +127,17 @@ impl RowTables {
             return c;
         }
         lesser(simple, self.cases.last_alike(c))
+    }
+
+    /// A code point up to which the mappings that rows of UnicodeData.txt give are the same from `c` on.
+    pub fn last_listed(&self, c: Point) -> Point
+        ensures mapping { HoldsTo (λ d. lists_now self.now.lists.value.mappings d ≡ lists_now self.now.lists.value.mappings c) c result }
+        ensures upper { HoldsTo (λ d. lists_now self.now.lists.value.uppers d ≡ lists_now self.now.lists.value.uppers c) c result }
+        ensures lower { HoldsTo (λ d. lists_now self.now.lists.value.lowers d ≡ lists_now self.now.lists.value.lowers c) c result }
+        ensures title { HoldsTo (λ d. lists_now self.now.lists.value.titles d ≡ lists_now self.now.lists.value.titles c) c result }
+    {
+        let mapping = self.lists.mappings.last_of_run(c);
+        lesser(mapping, self.last_simple(c))
     }
 
     /// A code point up to which simple mappings are the same from `c` on.

@@ -87,6 +87,11 @@ impl<T: Table<u64>, V: Drop> Store<V> for Kept<T, V> {
         self.places.discard();
     }
 
+    fn reserve(&mut self, values: usize, blocks: u32) {
+        self.places.reserve(blocks);
+        self.slots.reserve(values);
+    }
+
     fn shrink_to_fit(&mut self) {
         self.places.shrink_to_fit();
         self.slots.shrink_to_fit();

@@ -120,6 +120,14 @@ impl<V: Drop> Slots<V> {
         self.shrink_to_fit();
     }
 
+    /// Makes room for so many more values, as far as there is memory.
+    pub fn reserve(&mut self, values: usize)
+        ensures held { (p : ℕ) → held_at self.new p ≡ held_at self.old p }
+        ensures values { (p : ℕ) → value_at self.new p ≡ value_at self.old p }
+    {
+        let _done = self.more.reserve(values);
+    }
+
     /// Gives back room that no value takes up, as far as a smaller block of memory can be had.
     pub fn shrink_to_fit(&mut self)
         ensures held { (p : ℕ) → held_at self.new p ≡ held_at self.old p }

@@ -92,6 +92,13 @@ pub trait Store<V: Drop>: Sized + Drop {
         ensures discarded { SameValues (next self.new) (now self.old) }
         ensures held { (p : ℕ) → held self.new p ≡ held self.old p };
 
+    /// Makes room for so many more values, and for places that change in so many blocks of 256 code points, as far as there
+    /// is memory. What is now and next stays, and what is held stays at its place.
+    fn reserve(&mut self, values: usize, blocks: u32)
+        ensures now { SameValues (now self.new) (now self.old) }
+        ensures next { SameValues (next self.new) (next self.old) }
+        ensures held { (p : ℕ) → held self.new p ≡ held self.old p };
+
     /// Gives back room that no value takes up, as far as a smaller block of memory can be had. What is now and next
     /// stays, and what is held stays at its place.
     fn shrink_to_fit(&mut self)

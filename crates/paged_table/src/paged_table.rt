@@ -137,6 +137,10 @@ impl Table<u64> for PagedTable {
         self.touched.clear();
     }
 
+    fn reserve(&mut self, blocks: u32) {
+        let _done = self.pool.reserve(blocks);
+    }
+
     fn shrink_to_fit(&mut self) {
         self.pool.shrink_to_fit();
         self.touched.shrink_to_fit();

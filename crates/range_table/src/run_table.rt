@@ -102,6 +102,9 @@ impl<V: Copy + Eq> Table<V> for RunTable<V> {
         self.prepared = None;
     }
 
+    // runs are copied with what room they need
+    fn reserve(&mut self, _blocks: u32) {}
+
     fn shrink_to_fit(&mut self) {
         self.committed.shrink_to_fit();
         if let Some(next) = &mut self.prepared {

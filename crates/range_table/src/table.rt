@@ -49,6 +49,11 @@ pub trait Table<V: Copy + Eq>: Sized + Drop {
         ensures now { SameValues (now self.new) (now self.old) }
         ensures discarded { SameValues (next self.new) (now self.old) };
 
+    /// Makes room for values that change in so many blocks of 256 code points, as far as there is memory. No value changes.
+    fn reserve(&mut self, blocks: u32)
+        ensures now { SameValues (now self.new) (now self.old) }
+        ensures next { SameValues (next self.new) (next self.old) };
+
     /// Gives back room that no value takes up, as far as a smaller block of memory can be had. No value changes.
     fn shrink_to_fit(&mut self)
         ensures now { SameValues (now self.new) (now self.old) }

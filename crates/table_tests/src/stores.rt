@@ -199,7 +199,7 @@ fn agree<S: Store<Name>>(rt: &impl Abort, store: &S, plain: &Plain) {
     }
 }
 
-/// One step, drawn by lot: a span is prepared, what is next is committed or discarded, or room is given back.
+/// One step, drawn by lot: a span is prepared, what is next is committed or discarded, or room is given back and made.
 /// If memory is refused, next stays.
 fn step<S: Store<Name>>(store: &mut S, plain: &mut Plain, state: u64) -> u64 {
     let (kind, state) = drawn(state, 8);
@@ -216,6 +216,7 @@ fn step<S: Store<Name>>(store: &mut S, plain: &mut Plain, state: u64) -> u64 {
         }
         2 => {
             store.shrink_to_fit();
+            store.reserve(3, 2);
             state
         }
         _ => prepare(store, plain, state),

@@ -26,7 +26,7 @@ fn agree<T: Table<u64>>(rt: &impl Abort, table: &T, plain: &Plain) {
     }
 }
 
-/// One step, drawn by lot: a span is prepared, what is next is committed or discarded, or room is given back.
+/// One step, drawn by lot: a span is prepared, what is next is committed or discarded, or room is given back and made.
 fn step<T: Table<u64>>(table: &mut T, plain: &mut Plain, state: u64) -> u64 {
     let (kind, state) = drawn(state, 8);
     match kind {
@@ -42,6 +42,7 @@ fn step<T: Table<u64>>(table: &mut T, plain: &mut Plain, state: u64) -> u64 {
         }
         2 => {
             table.shrink_to_fit();
+            table.reserve(2);
             state
         }
         _ => prepare(table, plain, state),

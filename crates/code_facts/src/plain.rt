@@ -13,9 +13,20 @@ use range_table::Stretches;
 use ucd_model::{FactView, FactsRef, Point};
 
 impl<T: Stretches<u64>> FactTables<T> {
+    /// Whether a code point has no mapping of any kind. UAX #44, sections 5.6 and 5.7.
+    pub fn is_plain(&self, c: Point) -> bool
+        ensures { IsTrue result ↔ IsPlain c (tables_facts T.now self.now c) }
+    {
+        let _number = c.number();
+        if self.rests.get(c).is_none() {
+            return true;
+        }
+        is_plain(c, &self.facts(c))
+    }
+
     /// A code point up to which none from `c` on has a mapping of any kind; `None` exactly if `c` has one. UAX #44,
     /// sections 5.6 and 5.7. It reaches as far as nothing is kept of mappings.
-    pub(crate) fn last_plain(&self, c: Point) -> Option<Point>
+    pub fn last_plain(&self, c: Point) -> Option<Point>
         ensures plain { IsSome result ↔ IsPlain c (tables_facts T.now self.now c) }
         ensures stretch { IfSome result (HoldsTo (λ d. IsPlain d (tables_facts T.now self.now d)) c) }
     {

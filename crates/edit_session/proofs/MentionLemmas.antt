@@ -6,7 +6,7 @@
 use Rattle.std.proofs.Common.{◌≡◌, ◌∙◌, ℕ, ◌+◌, ◌≤◌, Bool, true, subst, arith, inl, inr}
 use Rattle.std.proofs.lemmas.Bool.{cases_lt}
 use Rattle.ucd_model.specs.Facts.{Facts}
-use Rattle.ucd_model.specs.Uniform.{Uniform}
+use Rattle.ucd_model.specs.Uniform.{IsPlain}
 use Rattle.ucd_points.specs.Stretches.{HoldsTo}
 use Rattle.mention_index.specs.StepProofs.{plain_steps}
 use Rattle.mention_index.specs.Steps.{HasSteps, HasStepsTo}
@@ -18,11 +18,11 @@ grown step more F c grows has = record {
   first = λ s y composes. let first = has.first s y composes in (first.0, grows c s first.1);
 }
 
-pub steps_run : (step : ℕ → ℕ → Bool) (F : ℕ → Facts) (c last : ℕ) → HasStepsBelow step c F → HoldsTo (Uniform F c) c last → HasStepsBelow step (last + 1) F
+pub steps_run : (step : ℕ → ℕ → Bool) (F : ℕ → Facts) (c last : ℕ) → HasStepsBelow step c F → HoldsTo (λ d. IsPlain d (F d)) c last → HasStepsBelow step (last + 1) F
 steps_run step F c last before stretch d lt =
     elim (cases_lt d c) [
       | inl less ↦ before d less
-      | inr from ↦ let u : Uniform F c d = stretch.each d from (omega (arith, lt)) in plain_steps step F d u.plain
+      | inr from ↦ plain_steps step F d (stretch.each d from (omega (arith, lt)))
     ]
 
 pub steps_more : (step more : ℕ → ℕ → Bool) (F : ℕ → Facts) (c : ℕ) → ((x d : ℕ) → step x d ≡ true → more x d ≡ true) → HasStepsBelow step c F → HasStepsTo more F c → HasStepsBelow more (c + 1) F

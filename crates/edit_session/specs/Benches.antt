@@ -4,8 +4,8 @@
 -- bench_record release c       the record of c that is derived of these facts
 -- bench_word release c         the packed word of these facts of c
 -- IsUnbroken release           no code point breaks a rule of a valid release
--- NamesBroken stop F           the stop names the least code point that breaks a rule over the facts F, with its first rule; want of
---                              memory says nothing
+-- NamesBroken stop F           the stop names the least code point that breaks a rule over the facts F, with its first rule; if
+--                              memory ran out, nothing is claimed
 -- HasNothingPrepared release   what is next is what is now
 use Rattle.std.specs.Prelude.{◌≡◌, ℕ, Some, None, ⊤}
 use Rattle.ucd_model.specs.Facts.{Facts, facts}

@@ -46,10 +46,10 @@ fn list_point(
     ensures { OnOk result (IsListed (tables_facts values_now tables.now) c (asked_at (values values_next) map.old) (asked_at (values values_next) map.new)) }
 {
     let _number = c.number();
-    match tables.last_uniform(c) {
-        Some(_) => Ok(()),
-        None => put_asked(alloc, tables, c, map),
+    if tables.is_plain(c) {
+        return Ok(());
     }
+    put_asked(alloc, tables, c, map)
 }
 
 /// Prepares what a code point asks.

@@ -44,7 +44,7 @@ fn mention_run(
     ensures inside { IfOk result (λ end. end ≤ 1114112) }
     ensures steps { IfOk result (λ end. HasStepsBelow (puts listing.new) end (tables_facts values_now tables.now)) }
 {
-    match tables.last_uniform(c) {
+    match tables.last_plain(c) {
         Some(last) => Ok(last.number() + 1),
         None => {
             listing.put(tables, c)?;

@@ -52,7 +52,7 @@ impl Chain {
         })
     }
 
-    /// Puts the release of a bench behind the others, and answers its breaks of the stability policies against the last
+    /// Puts the release of a bench after the others, and answers its breaks of the stability policies against the last
     /// one; none if it is the first. A chain has room for 255 releases. Unicode Character Encoding Stability Policies.
     ///
     /// - `Memory`: memory ran out. The chain stays as it was, and the bench is dropped.

@@ -25,7 +25,7 @@ pub fn fold_of_joined()
     ensures { FoldOfJoined }
 {}
 
-/// In a title the members before the first Cased one stay, that one has its title mapping, and what is behind it is in
+/// In a title the members before the first Cased one stay, that one has its title mapping, and what is after it is in
 /// lower case.
 pub fn title_of_word()
     ensures { TitleOfWord }

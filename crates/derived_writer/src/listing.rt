@@ -127,7 +127,7 @@ impl Listing {
         }
     }
 
-    /// The place behind the records from the one at `at` on that have its label, as far as equal values tell.
+    /// The place after the records from the one at `at` on that have its label, as far as equal values tell.
     pub fn end_of_same(self, records: &[&Record], at: usize) -> usize
         requires { at < length records.now }
         ensures from { at < result }

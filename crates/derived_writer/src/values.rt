@@ -1,4 +1,4 @@
-//! The labels of values: what stands behind a span, and which value is the default.
+//! The labels of values: what stands after a span, and which value is the default.
 
 ghost use Rattle.std.specs.Prelude.{◌≡◌, OnOk};
 ghost use Rattle.ucd_model.specs.DerivedFiles.{binary_label, category_label, class_label, kind_label, quick_label, casefold_label};

@@ -1,4 +1,4 @@
-//! What stands behind a span.
+//! What stands after a span.
 
 ghost use Rattle.std.specs.Prelude.{◌≡◌, ◌++◌, Some, None, OnOk, codes};
 ghost use Rattle.ucd_model.specs.Labels.{same_label};
@@ -69,7 +69,7 @@ impl LabelText {
         self.text.append(back)
     }
 
-    /// Makes it the label of a name, ` ;` and code points behind it, each with a space before it.
+    /// Makes it the label of a name, ` ;` and code points after it, each with a space before it.
     ///
     /// - `Memory`: memory ran out. Nothing is then known of the label.
     pub fn list_points(&mut self, name: &[u8], points: &[Point]) -> Result<(), Memory>

@@ -16,7 +16,7 @@ use std::alloc::Global;
 use ucd_model::{FactView, Form, Kind, Memory, Point, point_count};
 
 /// The invariants of NormalizationTest.txt that a release misses: those of each case, by line, then by form in the order NFD,
-/// NFC, NFKD and NFKC, then by column; and behind them, if the file has a part 1, those of each assigned code point that part 1
+/// NFC, NFKD and NFKC, then by column; and after them, if the file has a part 1, those of each assigned code point that part 1
 /// does not list, by code point, then by form. The head of that file, "CONFORMANCE".
 ///
 /// - `Memory`: memory ran out.

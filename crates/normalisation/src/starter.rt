@@ -13,7 +13,7 @@ pub struct Starter<S> {
     pub highest: Option<u8>,
 }
 
-/// Whether a class is greater than the greatest one behind the last starter, so that a code point of this class is not
+/// Whether a class is greater than the greatest one after the last starter, so that a code point of this class is not
 /// blocked. The Unicode Standard, section 3.11, D115.
 pub fn passes(highest: Option<u8>, class: u8) -> bool
     ensures { result ≡ passes highest class }

@@ -22,7 +22,7 @@ use source_rows::RowRef;
 use std::alloc::Global;
 use ucd_model::{Memory, Point, SourceFile, Span, Text};
 
-/// Puts the rows of a release now that speak of code points behind what is told of each of them, file by file: where the file lies
+/// Puts the rows of a release now that speak of code points after what is put of each of them, file by file: where the file lies
 /// below the folder of a release, ` line `, the number of the line, `: `, and the line as it stands there. A range has two lines.
 /// Missing rows are among them; rows of names are not. UAX #44, section 4.2.
 ///

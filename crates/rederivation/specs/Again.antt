@@ -11,8 +11,8 @@
 -- IsAgain R G points those S   each of the points has a record over G, which S gives; of every other code point S gives that of R; and
 --                          those are the points whose records differ, in order
 -- IsFirstBroken G points rule point   all points in front of this one have a record over G, and this one breaks the rule
--- StopsAt G points stop    the stop names the first of the points that has no record over G, with the first rule that it breaks; want
---                          of memory says nothing
+-- StopsAt G points stop    the stop names the first of the points that has no record over G, with the first rule that it breaks; if
+--                          memory ran out, nothing is claimed
 use Rattle.std.specs.Prelude.{◌≡◌, ◌≢◌, ◌⊎◌, ℕ, ◌<◌, Bool, true, false, not, List, [], ◌∷◌, ◌++◌, Result, Ok, Err, filter, if◌then◌else◌, ⊤}
 use Rattle.ucd_model.specs.Facts.{Facts}
 use Rattle.ucd_model.specs.Records.{Record, derived, kept_record, record_at}

@@ -1,4 +1,4 @@
-//! Code points that are derived again after an edit: which of them have another record, and what they ask.
+//! Code points that are derived again after an edit: which records changed, and what they ask.
 #![tactic(auto)]
 
 mod again_stop;

@@ -24,7 +24,7 @@
 --                                   are written, its path holds anything or is absent, all else is as it was, and the line names it
 -- IsUntold ending shelf sink        all files are written, and the summary could not be told whole
 -- IsWriteFault p words shelf sink     the words have a form, what was seen is not refused, and one of the two
--- IsMemory p words shelf sink         the words have a form, memory was wanted before the first write, the shelf is unchanged, and
+-- IsMemory p words shelf sink         the words have a form, memory ran out before the first write, the shelf is unchanged, and
 --                                   the line says so
 -- Outcome p words shelf sink status   what the status says of the run, by cases
 --

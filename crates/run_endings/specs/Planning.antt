@@ -5,13 +5,13 @@
 -- OnlyRead shelf                  every path holds what it held, where that is told; the count of failed reads did not fall, and
 --                                 that of failed writes is as it was
 -- UnreadAs result paths shelf     with a read that failed the count of failed reads rose, and the line names one of the paths, the
---                                 last failed one where that is told; else the path of the last failed read is as it was. Want of
---                                 memory says nothing
+--                                 last failed one where that is told; else the path of the last failed read is as it was. If
+--                                 memory ran out, nothing is claimed
 -- HaveLines outputs               each output has the line that names its path as the one that could not be written
 -- Puts files old new              outputs of these files were put behind the old ones, each with its line
 -- IsPlanOf plan expected          what is expected is an ending, and the plan is one of that ending
--- PlansAs result expected         the plan is one of the expected ending, or the line that refuses is the expected one; want of
---                                 memory says nothing
+-- PlansAs result expected         the plan is one of the expected ending, or the line that refuses is the expected one; if
+--                                 memory ran out, nothing is claimed
 -- HasPlan ending plan             the plan writes the files of the ending, each with the line that names its path, tells its
 --                                 summary, and says whether something was refused or is broken
 use Rattle.std.specs.Prelude.{◌≡◌, ◌≤◌, ℕ, List, ◌++◌, map, IsTrue, Bool, Some, Result, Ok, Err, ⊤, slice_get}

@@ -13,7 +13,7 @@
 -- fine_only           Clean, Done and WriteFault come only where what was seen is not refused
 -- bad_words           BadWords comes exactly where the words have no listed form; nothing is read then
 -- refused_only        LoadRefused comes only where what was seen is refused, by the line that is told
--- refused             what is refused gives no other status unless a read failed or memory was wanted
+-- refused             what is refused gives no other status unless a read failed or memory ran out
 -- no_failed_read      with any status but ReadFault and Memory no other path became that of the last failed read
 -- read_fault_only     ReadFault comes only where a read failed
 -- read_fault_told     its line names a path that is needed, and the last failed one where the shelf tells it

@@ -39,7 +39,7 @@ impl Output {
     }
 }
 
-/// Puts a file of this name and this text below a folder behind the outputs.
+/// Puts a file of this name and this text below a folder after the outputs.
 ///
 /// - `Memory`: memory ran out.
 pub fn put_text(

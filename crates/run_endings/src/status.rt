@@ -15,7 +15,7 @@ pub enum Status {
     LoadRefused,
     /// A file could not be read.
     ReadFault,
-    /// A file could not be written, or the summary could not be told.
+    /// A file could not be written, or the summary could not be printed.
     WriteFault,
     /// Memory ran out before the first write.
     Memory,

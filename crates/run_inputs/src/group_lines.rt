@@ -10,8 +10,7 @@ use std::alloc::Global;
 use ucd_lines::{put_decimal, put_hex};
 use ucd_model::{Memory, Text};
 
-/// Puts the line of a group that was accepted: the number of the command's line, and how many code points have another
-/// record.
+/// Puts the line of a group that was accepted: the number of the command's line, and how many records changed.
 ///
 /// - `Memory`: memory ran out.
 pub fn put_accepted(alloc: Global, text: &mut Text, line: u32, count: usize) -> Result<(), Memory>

@@ -15,7 +15,7 @@ pub fn scripts_are_read()
     keys_are_read();
 }
 
-/// A script is refused exactly by its first fault: the first line that has one behind the lines before it; `E2` if no
+/// A script is refused exactly by its first fault: the first line that has one; `E2` if no
 /// line has one and a group is open at the end.
 pub fn faults_are_first()
     ensures { FaultsAreFirst }

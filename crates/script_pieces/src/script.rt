@@ -27,8 +27,8 @@ pub fn piece_commands(alloc: Global, piece: Piece<'_>) -> Result<Commands, Piece
     }
 }
 
-/// The line that is told if a piece with these commands does not fit its mark: the mark's, or that of its first command if it
-/// stands behind no mark.
+/// The line that is named if a piece with these commands does not fit its mark: the mark's, or that of its first command if it
+/// stands after no mark.
 pub fn misfit_line(piece: Piece<'_>, commands: &[Command]) -> u32
     ensures { result ≡ misfit_line (piece_of piece.entry) commands.now }
 {

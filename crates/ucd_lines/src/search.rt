@@ -16,7 +16,7 @@ pub fn first_at(text: &[u8], byte: u8) -> usize
     }
 }
 
-/// What stands before the first such byte, and what stands behind it. If there is none, the whole text and nothing.
+/// What stands before the first such byte, and what stands after it. If there is none, the whole text and nothing.
 pub fn cut(text: &[u8], byte: u8) -> (&[u8], &[u8])
     ensures before { result.0.now ≡ before_first (λ b. b == byte) text.now }
     ensures after { result.1.now ≡ after_first (λ b. b == byte) text.now }

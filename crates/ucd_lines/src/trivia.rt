@@ -8,7 +8,7 @@ ghost use Rattle.ucd_points.specs.MissingLines.{takes_missing, mark, behind_mark
 use crate::blank::leading_blanks;
 use ucd_points::SourceFile;
 
-/// What stands behind the mark `# @missing:` of a line of Scripts.txt or WordBreakProperty.txt: a span and a value,
+/// What stands after the mark `# @missing:` of a line of Scripts.txt or WordBreakProperty.txt: a span and a value,
 /// which the code points of the span have that no other row covers. White space may stand before the `#` and behind it.
 /// `None` for every other line, and in every other file. UAX #44, section 4.2.10.
 #[tactic(auto, unfolding(ucd_points::specs::MissingLines::missing_rest))]

@@ -23,7 +23,7 @@ pub struct Carried {
     pub sets: Text,
     /// How many groups were accepted.
     pub accepted: usize,
-    /// How many code points have another record after each of them, added up.
+    /// How many records each of them changed, added up.
     pub changed: usize,
     /// How many commands were refused.
     pub refused: usize,
@@ -46,7 +46,7 @@ impl Carried {
         }
     }
 
-    /// One more group was accepted: the line of its command, and how many code points have another record.
+    /// One more group was accepted: the line of its command, and how many records changed.
     ///
     /// - `Memory`: memory ran out, or all groups would have changed 2^64 code points or more.
     pub fn accept(&mut self, alloc: Global, line: u32, count: usize) -> Result<(), Memory>

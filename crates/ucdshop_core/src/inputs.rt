@@ -33,7 +33,7 @@ pub struct Inputs {
     pub earlier: Option<Bench>,
 }
 
-/// Judges what a job is given: the source files, the script behind them, and the source files of the earlier release behind
+/// Judges what a job is given: the source files, the script after them, and the source files of the earlier release after
 /// that. Texts of source files move into the benches, or are dropped if the earlier release is the release itself. The counter of
 /// steps rises by at most the number of code points for each release that the job names.
 ///

@@ -142,7 +142,7 @@ impl<'a> Job<'a> {
         }
     }
 
-    /// The place of the first file of the earlier release among what is held: behind the release and the script.
+    /// The place of the first file of the earlier release among what is held: after the release and the script.
     pub fn earlier_place(self) -> usize
         ensures { result ≡ earlier_place (job_of self.entry) }
     {

@@ -49,7 +49,7 @@ pub struct MadeCounts {
     pub rows: usize,
     /// How many groups were accepted.
     pub accepted: usize,
-    /// How many code points have another record after each of them, added up.
+    /// How many records each of them changed, added up.
     pub changed: usize,
     /// How many code points have an NFKC_Casefold of their own afterwards.
     pub casefolds: usize,

@@ -72,7 +72,7 @@ fn plan_after<L: Ledger>(
     plan_of(alloc, bench, &carried, earlier)
 }
 
-/// What is told once the commands are carried out on the bench.
+/// What is printed once the commands are carried out on the bench.
 fn plan_of(
     alloc: Global,
     bench: &Bench,

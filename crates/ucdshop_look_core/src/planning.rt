@@ -31,7 +31,7 @@ use std::sync::ledger::Ledger;
 use ucd_model::{Memory, Steps, Text, Texts};
 use ucdshop_core::{Job, judge_inputs, needed_paths};
 
-/// Does all of a command that comes before its text is told: all files are read before any is judged.
+/// Does all of a command that comes before its text is printed: all files are read before any is judged.
 ///
 /// - `Refused(line)`: a file is absent, too long, or breaks a rule, a code point breaks a rule of a valid release, or the
 ///   script is refused.

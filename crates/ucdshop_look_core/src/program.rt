@@ -21,7 +21,7 @@ use ucd_model::{Steps, Texts};
 ///
 /// The words are `ask DATA SET ..` with 1 to 64 questions, each of one line, `show DATA POINT ..` with 1 to 64 code points,
 /// `check DATA [SCRIPT [PREVIOUS]]`, or `changes DATA SCRIPT`. All files are read before any is judged, and the whole text is made
-/// before it is told. If the sink fails half way, what was told is a beginning of it, and the status is [`Status::WriteFault`].
+/// before it is printed. If the sink fails half way, what was printed is a beginning of it, and the status is [`Status::WriteFault`].
 ///
 /// What is promised is what every program promises that ends by [`end_run`], of this program: `ucdshop_look` in `specs/Run.antt`.
 pub fn run_look<S: Shelf, K: Sink>(
@@ -55,7 +55,7 @@ fn run_anew<S: Shelf, K: Sink, L: Ledger>(
     end_run(USAGE, planned, shelf, out)
 }
 
-/// Does all that the words ask for and that comes before a text is told; `None` if they have no listed form.
+/// Does all that the words ask for and that comes before a text is printed; `None` if they have no listed form.
 fn plan_words<S: Shelf, L: Ledger>(
     alloc: Global,
     words: &Texts,

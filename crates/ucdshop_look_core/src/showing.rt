@@ -71,7 +71,7 @@ fn record_told(alloc: Global, bench: &Bench, point: Point) -> Result<PointText, 
     Ok(PointText { point, text })
 }
 
-/// All that is told, in order. The first text becomes the whole; each other one is let go once it is put.
+/// All that is printed, in order. The first text becomes the whole; each other one is let go once it is put.
 ///
 /// - `Memory`: memory ran out.
 fn joined(alloc: Global, told: Vec<PointText>) -> Result<Text, Memory>

@@ -96,7 +96,7 @@ fn put_reply(alloc: Global, line: u32, reply: &Reply, text: &mut Text) -> Result
     }
 }
 
-/// Puts the line of a group that was carried out: its revision, and how many code points have another record.
+/// Puts the line of a group that was carried out: its revision, and how many records changed.
 fn put_accepted(
     alloc: Global,
     line: u32,

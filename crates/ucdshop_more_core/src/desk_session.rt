@@ -19,7 +19,7 @@ use ucd_model::{Memory, Steps};
 
 /// Handles requests at a desk, in order. A reply is let go once its line is in the log.
 ///
-/// - `Memory`: memory ran out. Nothing is told of the desk then.
+/// - `Memory`: memory ran out. Nothing is known of the desk then.
 pub fn hold_session<L: Ledger>(
     alloc: Global,
     desk: &mut Desk,
@@ -40,7 +40,7 @@ pub fn hold_session<L: Ledger>(
 
 /// What a desk replies to a request.
 ///
-/// - `Memory`: memory ran out. Nothing is told of the desk then.
+/// - `Memory`: memory ran out. Nothing is known of the desk then.
 fn reply_to<L: Ledger>(
     desk: &mut Desk,
     request: &Request,

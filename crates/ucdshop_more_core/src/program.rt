@@ -21,7 +21,7 @@ use ucd_model::{Steps, Texts};
 ///
 /// The words are `desk DATA EVENTS OUT`, `undo DATA SCRIPT OUT DEPTH` with a depth from 1 to 1024, `conform DATA TESTS OUT`, or
 /// `ages OUT DATA1 .. DATAn` with 1 to 16 folders. `desk`, `undo` and `conform` read their ten files and then judge them: the folder
-/// first, then the file of events, the script, or the file of cases. The folders of `ages` are read and judged one after another: whatever fails in one is told before a file of the next is read. All texts are made before the first file is
+/// first, then the file of events, the script, or the file of cases. The folders of `ages` are read and judged one after another: whatever fails in one is printed before a file of the next is read. All texts are made before the first file is
 /// written. Nothing is written unless the status is [`Status::Clean`], [`Status::Done`] or [`Status::WriteFault`].
 ///
 /// The promise is that of every program that ends by [`end_run`], for this program: `ucdshop_more` in `specs/Run.antt`;

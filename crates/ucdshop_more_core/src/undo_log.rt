@@ -36,7 +36,7 @@ impl UndoLog {
         }
     }
 
-    /// One more group was accepted: the line of its command, and how many code points have another record.
+    /// One more group was accepted: the line of its command, and how many records changed.
     ///
     /// - `Memory`: memory ran out, or there are 2^64 such groups.
     pub fn accept(&mut self, alloc: Global, line: u32, count: usize) -> Result<(), Memory>
@@ -70,7 +70,7 @@ impl UndoLog {
         Ok(())
     }
 
-    /// One more group was taken back: the line of the mark, and how many code points have another record.
+    /// One more group was taken back: the line of the mark, and how many records changed.
     ///
     /// - `Memory`: memory ran out, or there are 2^64 such marks.
     pub fn take_back(&mut self, alloc: Global, line: u32, count: usize) -> Result<(), Memory>

@@ -19,7 +19,7 @@ use ucd_model::{Memory, Steps};
 
 /// Makes the moves of all sections on a history, in order.
 ///
-/// - `Memory`: memory ran out. Nothing is told of the history then.
+/// - `Memory`: memory ran out. Nothing is known of the history then.
 pub fn make_moves<L: Ledger>(
     alloc: Global,
     history: &mut History,

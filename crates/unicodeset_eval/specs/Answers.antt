@@ -1,6 +1,6 @@
 -- What the code answers, and what is wanted.
 --
--- Gives view result wanted   the result shows what is wanted: the value, or the fault with its rule and place. Want of memory says nothing
+-- Gives view result wanted   the result shows what is wanted: the value, or the fault with its rule and place. If memory ran out, nothing is claimed
 -- names_in a                 what names mean by a table of aliases
 -- names_are                  those are what they mean by the rows of which the table is
 use Rattle.std.specs.Prelude.{◌≡◌, Result, Ok, Err}

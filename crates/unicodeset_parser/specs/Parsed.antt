@@ -2,7 +2,7 @@
 --
 -- parsed text                 what the tokens of the text give; S1 where it is not UTF-8, at the end of its longest front that is
 -- stop_of f                   the fault, as the code answers it
--- Gives view result wanted    the result shows what is wanted: the value, or the fault with its rule and place. Want of memory says nothing
+-- Gives view result wanted    the result shows what is wanted: the value, or the fault with its rule and place. If memory ran out, nothing is claimed
 use Rattle.std.specs.Prelude.{◌≡◌, ℕ, List, length, Result, Ok, Err, if◌then◌else◌}
 use Rattle.std.specs.Str.{is_utf8}
 use Rattle.std.specs.Str.Lossy.{utf8_valid_len}

@@ -21,7 +21,7 @@ pub fn faults_are_first()
     ensures { FaultsAreFirst }
 {}
 
-/// The rule of what is refused follows from what may stand behind the tokens before it: a set, a character, both or
+/// The rule of what is refused follows from what may stand after the tokens before it: a set, a character, both or
 /// neither.
 pub fn faults_are_named()
     ensures { FaultsAreNamed }
@@ -47,7 +47,7 @@ pub fn read_trees_read_back()
     ensures { ReadTreesReadBack }
 {}
 
-/// The names in the tree of a text stand in the order of their places: each begins behind the one before it.
+/// The names in the tree of a text stand in the order of their places: each begins after the one before it.
 pub fn places_ascend()
     ensures { PlacesAscend }
 {}

@@ -5,8 +5,8 @@ use Rattle.std.specs.List.{AllByRecursion as Each}
 use Rattle.std.specs.Option.{option_map}
 use Rattle.release_rows.specs.Releases.{ReleaseItems, rows_now}
 use Rattle.ucd_points.specs.Limits.{point_count}
-use Rattle.ucd_model.specs.Facts.{Facts}
-use Rattle.ucd_model.specs.FactsLemmas.{facts_outside}
+use Rattle.ucd_facts.specs.Facts.{Facts}
+use Rattle.ucd_facts.specs.FactsLemmas.{facts_outside}
 use Rattle.age_chain.specs.AgeLaws.{AgeIsOfTheFirst}
 use Rattle.age_chain.specs.Ages.{age, is_assigned, last_of}
 

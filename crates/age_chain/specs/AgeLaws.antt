@@ -7,7 +7,7 @@
 use Rattle.std.specs.Prelude.{◌≡◌, ◌+◌, ℕ, true, false, List, ◌∷◌, ◌++◌, length, drop, Some, None}
 use Rattle.std.specs.List.{AllByRecursion as Each}
 use Rattle.release_rows.specs.Releases.{ReleaseItems, rows_now}
-use Rattle.ucd_model.specs.Facts.{facts}
+use Rattle.ucd_facts.specs.Facts.{facts}
 use Rattle.stability_policies.specs.ChainForms.{StepsKeepForms}
 use Rattle.stability_policies.specs.CommonForms.{AllAssigned}
 use Rattle.stability_policies.specs.StableForms.{SameForms}

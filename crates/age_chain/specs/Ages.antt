@@ -23,7 +23,7 @@ use Rattle.release_rows.specs.Releases.{ReleaseItems, rows_now}
 use Rattle.ucd_points.specs.Limits.{point_count}
 use Rattle.ucd_model.specs.DerivedFiles.{listed}
 use Rattle.ucd_model.specs.DerivedText.{section_text}
-use Rattle.ucd_model.specs.Facts.{facts}
+use Rattle.ucd_facts.specs.Facts.{facts}
 use Rattle.ucd_model.specs.Labels.{Label}
 use Rattle.stability_policies.specs.Reports.{report}
 use Rattle.stability_policies.specs.declared.breaks.Break.{Break}

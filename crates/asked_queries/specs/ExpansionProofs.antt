@@ -9,11 +9,11 @@
 -- tree_is_least      the law of the same name
 use Rattle.std.proofs.Common.{◌≡◌, ℕ, zero, suc, Bool, true, false, cond, nat_lt, List, [], ◌∷◌, ◌++◌, length, Option, Some, None, Ok, Err, if◌then◌else◌, refl, sym, ap, ◌∙◌, subst}
 use Rattle.std.specs.List.{flat_map}
-use Rattle.ucd_model.specs.Expansion.{counts, counted, joined, alone_or_joined, expand, full, judged, expansion}
-use Rattle.ucd_model.specs.Facts.{Facts}
+use Rattle.ucd_facts.specs.Expansion.{counts, counted, joined, alone_or_joined, expand, full, judged, expansion}
+use Rattle.ucd_facts.specs.Facts.{Facts}
 use Rattle.ucd_model.specs.Forms.{appended, expansions}
-use Rattle.ucd_model.specs.declared.form.Bad.TheVariants.{V3}
-use Rattle.asked_queries.specs.Answers.{SameAnswer, Each}
+use Rattle.ucd_facts.specs.declared.form.Bad.TheVariants.{V3}
+use Rattle.ucd_facts.specs.Answers.{SameAnswer, Each}
 use Rattle.asked_queries.specs.Laws.{SameExpansion, SameExpansions}
 use Rattle.asked_queries.specs.ListProofs.{Each-left, Each-right, Each-both, both_parts, appended_parts}
 use Rattle.asked_queries.specs.Questions.{tree, whole_tree, row_queries}

@@ -13,14 +13,14 @@ use Rattle.std.proofs.Common.{◌≡◌, ℕ, Bool, true, false, cond, ◌&&◌,
 use Rattle.std.specs.List.{list_all, flat_map}
 use Rattle.std.proofs.lemmas.Bool.{and_parts, eqb-true}
 use Rattle.ucd_model.specs.CanonicalOrder.{class_of, greater, placed, with_next, order_onto, order}
-use Rattle.ucd_model.specs.CompositeLaws.{IsPair}
-use Rattle.ucd_model.specs.CompositeProofs.{pair_is_least}
-use Rattle.ucd_model.specs.Composites.{is_canonical, first_has_class_zero, primary, pair_of}
+use Rattle.ucd_facts.specs.CompositeLaws.{IsPair}
+use Rattle.ucd_facts.specs.CompositeProofs.{pair_is_least}
+use Rattle.ucd_facts.specs.Composites.{is_canonical, first_has_class_zero, primary, pair_of}
 use Rattle.ucd_model.specs.Composition.{Split, starter_behind, last_starter, is_open, where_open, reached, with_composite, with_point, composed_with, compose_onto, compose}
-use Rattle.ucd_model.specs.Facts.{Facts}
+use Rattle.ucd_facts.specs.Facts.{Facts}
 use Rattle.ucd_model.specs.Forms.{expansions, in_order, composed, decomposed}
-use Rattle.ucd_model.specs.declared.form.Bad.{Bad as Rule}
-use Rattle.asked_queries.specs.Answers.{SameAnswer, Each}
+use Rattle.ucd_facts.specs.declared.form.Bad.{Bad as Rule}
+use Rattle.ucd_facts.specs.Answers.{SameAnswer, Each}
 use Rattle.asked_queries.specs.ExpansionProofs.{SameRows, rows_same, list_same, expansions_leaves}
 use Rattle.asked_queries.specs.Laws.{SameForm, SameForms}
 use Rattle.asked_queries.specs.ListProofs.{Each-left, Each-right, Each-both, Each-if, Each-to, list_all-same}

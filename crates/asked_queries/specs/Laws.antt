@@ -13,17 +13,17 @@
 -- PlainAskOwn             a point without a mapping asks its own row, and whether it is a second member, and nothing else
 use Rattle.std.specs.Prelude.{◌≡◌, ℕ, suc, ◌≤◌, Bool, true, List, [], ◌∷◌, Some, Ok, ◌↔◌}
 use Rattle.std.specs.Option.{option_and_then}
-use Rattle.ucd_model.specs.Expansion.{counted, expand, full}
-use Rattle.ucd_model.specs.Facts.{Facts}
+use Rattle.ucd_facts.specs.Expansion.{counted, expand, full}
+use Rattle.ucd_facts.specs.Facts.{Facts}
 use Rattle.ucd_model.specs.FoldRounds.{short_nfkc, short_fold, round, rounds}
 use Rattle.ucd_model.specs.Forms.{decomposed, composed}
 use Rattle.ucd_model.specs.Records.{Record, derived}
 use Rattle.ucd_model.specs.Sameness.{is_in}
-use Rattle.ucd_model.specs.Uniform.{IsPlain}
-use Rattle.ucd_model.specs.declared.folding.Folding.{Folding}
-use Rattle.ucd_model.specs.declared.query.Query.{Query}
-use Rattle.ucd_model.specs.declared.query.Query.TheVariants.{Row, Second}
-use Rattle.asked_queries.specs.Answers.{is_asked, SameAnswer, Each}
+use Rattle.ucd_facts.specs.Uniform.{IsPlain}
+use Rattle.ucd_facts.specs.declared.folding.Folding.{Folding}
+use Rattle.ucd_facts.specs.declared.query.Query.{Query}
+use Rattle.ucd_facts.specs.declared.query.Query.TheVariants.{Row, Second}
+use Rattle.ucd_facts.specs.Answers.{is_asked, SameAnswer, Each}
 use Rattle.asked_queries.specs.Questions.{tree, whole_tree, row_queries, asks, round_asks, last_round, rounds_ask, asked}
 
 pub data InTree (F : ℕ → Facts) (compat : Bool) (x : ℕ) : ℕ → Type 0 where

@@ -1,5 +1,3 @@
-pub mod Answers
-pub mod AnswerProofs
 pub mod Questions
 pub mod Laws
 pub mod ListProofs

@@ -10,10 +10,10 @@
 -- both_parts, appended_parts   where both of two optional lists are there, and where neither of two results is a rule
 use Rattle.std.proofs.Common.{◌≡◌, ℕ, Bool, true, false, cond, List, [], ◌∷◌, ◌++◌, Option, Some, None, Result, Ok, Err, filter, map, refl}
 use Rattle.std.specs.List.{list_all, flat_map}
-use Rattle.ucd_model.specs.Expansion.{both}
+use Rattle.ucd_facts.specs.Expansion.{both}
 use Rattle.ucd_model.specs.Forms.{appended}
-use Rattle.ucd_model.specs.declared.form.Bad.{Bad as Rule}
-use Rattle.asked_queries.specs.Answers.{Each}
+use Rattle.ucd_facts.specs.declared.form.Bad.{Bad as Rule}
+use Rattle.ucd_facts.specs.Answers.{Each}
 
 pub Each-left : {X : Type 0} (P : X → Type 0) (xs ys : List X) → Each P (xs ++ ys) → Each P xs
 Each-left P [] ys e = tt

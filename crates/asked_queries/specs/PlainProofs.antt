@@ -7,19 +7,19 @@ use Rattle.std.specs.Option.{option_and_then}
 use Rattle.std.proofs.lemmas.Bool.{true≢false, or_cases, or_left, or_right}
 use Rattle.ucd_model.specs.CanonicalOrder.{class_of, order}
 use Rattle.ucd_model.specs.Casing.{folded}
-use Rattle.ucd_model.specs.Composites.{primary}
-use Rattle.ucd_model.specs.Expansion.{counts, counted, alone_or_joined, expand, full}
-use Rattle.ucd_model.specs.Facts.{Facts, image_points}
+use Rattle.ucd_facts.specs.Composites.{primary}
+use Rattle.ucd_facts.specs.Expansion.{counts, counted, alone_or_joined, expand, full}
+use Rattle.ucd_facts.specs.Facts.{Facts, image_points}
 use Rattle.ucd_model.specs.FoldRounds.{drop_ignorable, short_nfkc, short_fold, short, short_form, round, rounds}
 use Rattle.ucd_model.specs.Forms.{decomposed, composed, nfkc}
-use Rattle.ucd_model.specs.Predicates.{default_ignorable}
-use Rattle.ucd_model.specs.Uniform.{IsPlain}
+use Rattle.ucd_facts.specs.Predicates.{default_ignorable}
+use Rattle.ucd_facts.specs.Uniform.{IsPlain}
 use Rattle.ucd_model.specs.Validity.{mappings}
-use Rattle.ucd_model.specs.declared.folding.Folding.{Folding}
-use Rattle.ucd_model.specs.declared.folding.Folding.TheVariants.{Full, Simple}
-use Rattle.ucd_model.specs.declared.query.Query.{Query}
-use Rattle.ucd_model.specs.declared.query.Query.TheVariants.{Row, Second}
-use Rattle.asked_queries.specs.Answers.{same_query, is_asked, Each}
+use Rattle.ucd_facts.specs.declared.folding.Folding.{Folding}
+use Rattle.ucd_facts.specs.declared.folding.Folding.TheVariants.{Full, Simple}
+use Rattle.ucd_facts.specs.declared.query.Query.{Query}
+use Rattle.ucd_facts.specs.declared.query.Query.TheVariants.{Row, Second}
+use Rattle.ucd_facts.specs.Answers.{same_query, is_asked, Each}
 use Rattle.asked_queries.specs.Laws.{PlainAskOwn}
 use Rattle.asked_queries.specs.ListProofs.{Each-both}
 use Rattle.asked_queries.specs.Questions.{tree, whole_tree, row_queries, asks, folding_asks, round_asks_at, last_round, rounds_ask, foldings_ask, pair_queries, composite_asks, asked}

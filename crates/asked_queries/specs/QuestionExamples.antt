@@ -7,13 +7,13 @@
 --          other point is unassigned
 use Rattle.std.proofs.Common.{◌≡◌, ℕ, true, false, [], ◌∷◌, Option, Some, None, ◌==◌, ◌&&◌, if◌then◌else◌, refl}
 use Rattle.ucd_model.specs.CanonicalOrder.{class_of}
-use Rattle.ucd_model.specs.Composites.{pair_of}
-use Rattle.ucd_model.specs.Facts.{Facts, unassigned}
-use Rattle.ucd_model.specs.declared.category.Category.TheVariants.{Ll, Lo, Mn}
-use Rattle.ucd_model.specs.declared.decomposition.Kind.TheVariants.{Compat}
-use Rattle.ucd_model.specs.declared.decomposition.Tag.TheVariants.{Compat as CompatTag}
-use Rattle.ucd_model.specs.declared.query.Query.TheVariants.{Row, Pair, Second}
-use Rattle.asked_queries.specs.Answers.{is_asked}
+use Rattle.ucd_facts.specs.Composites.{pair_of}
+use Rattle.ucd_facts.specs.Facts.{Facts, unassigned}
+use Rattle.ucd_facts.specs.declared.category.Category.TheVariants.{Ll, Lo, Mn}
+use Rattle.ucd_facts.specs.declared.decomposition.Kind.TheVariants.{Compat}
+use Rattle.ucd_facts.specs.declared.decomposition.Tag.TheVariants.{Compat as CompatTag}
+use Rattle.ucd_facts.specs.declared.query.Query.TheVariants.{Row, Pair, Second}
+use Rattle.ucd_facts.specs.Answers.{is_asked}
 use Rattle.asked_queries.specs.Questions.{tree, whole_tree, tries, facts_ask, pair_queries}
 
 abbrev class : ℕ → ℕ

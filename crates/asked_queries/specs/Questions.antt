@@ -31,18 +31,18 @@ use Rattle.std.specs.Prelude.{ℕ, zero, suc, Bool, true, false, List, [], ◌�
 use Rattle.std.specs.List.{flat_map, range_with_len}
 use Rattle.ucd_model.specs.Casing.{folded}
 use Rattle.ucd_model.specs.CanonicalOrder.{class_of}
-use Rattle.ucd_model.specs.Composites.{pair_of, primary}
+use Rattle.ucd_facts.specs.Composites.{pair_of, primary}
 use Rattle.ucd_model.specs.Composition.{Split, reached, composed_with, compose}
-use Rattle.ucd_model.specs.Enumerations.{foldings}
-use Rattle.ucd_model.specs.Expansion.{counted}
-use Rattle.ucd_model.specs.Facts.{Facts}
+use Rattle.ucd_facts.specs.Enumerations.{foldings}
+use Rattle.ucd_facts.specs.Expansion.{counted}
+use Rattle.ucd_facts.specs.Facts.{Facts}
 use Rattle.ucd_model.specs.FoldRounds.{drop_ignorable, rounds, is_last}
 use Rattle.ucd_model.specs.Forms.{decomposed, nfkc}
 use Rattle.ucd_model.specs.Validity.{mappings}
-use Rattle.ucd_model.specs.declared.folding.Folding.{Folding}
-use Rattle.ucd_model.specs.declared.form.Bad.{Bad as Rule}
-use Rattle.ucd_model.specs.declared.query.Query.{Query}
-use Rattle.ucd_model.specs.declared.query.Query.TheVariants.{Row, Pair, Second}
+use Rattle.ucd_facts.specs.declared.folding.Folding.{Folding}
+use Rattle.ucd_facts.specs.declared.form.Bad.{Bad as Rule}
+use Rattle.ucd_facts.specs.declared.query.Query.{Query}
+use Rattle.ucd_facts.specs.declared.query.Query.TheVariants.{Row, Pair, Second}
 
 abbrev pub tree : (ℕ → Facts) → Bool → ℕ → ℕ → List ℕ
 tree F compat zero c = []

@@ -8,28 +8,28 @@ use Rattle.std.specs.Option.{option_and_then}
 use Rattle.std.specs.Str.{bytes_eq}
 use Rattle.std.proofs.lemmas.Bool.{or_parts}
 use Rattle.ucd_model.specs.Casing.{lower, upper, fold, title, lowers, uppers, titles, folds, casemaps, where_form, changes_when}
-use Rattle.ucd_model.specs.Composites.{is_canonical, first_has_class_zero, primary, second_of}
-use Rattle.ucd_model.specs.Expansion.{full}
-use Rattle.ucd_model.specs.Facts.{Facts, is_plain}
+use Rattle.ucd_facts.specs.Composites.{is_canonical, first_has_class_zero, primary, second_of}
+use Rattle.ucd_facts.specs.Expansion.{full}
+use Rattle.ucd_facts.specs.Facts.{Facts, is_plain}
 use Rattle.ucd_model.specs.FoldRounds.{rounds, casefold, casefold_image, image_or_rule, image_or_same}
 use Rattle.ucd_model.specs.Forms.{nfd, nfc, nfkd, nfkc}
 use Rattle.ucd_model.specs.Identifiers.{continues, starts}
-use Rattle.ucd_model.specs.Predicates.{holds, id_start, id_continue}
+use Rattle.ucd_facts.specs.Predicates.{holds, id_start, id_continue}
 use Rattle.ucd_model.specs.QuickChecks.{excludes_mapping, full_exclusion, quick_given, quick_where, quick, quick_or_yes}
 use Rattle.ucd_model.specs.Records.{Record, core_at, changes_image, record_at, record_or_rule}
 use Rattle.ucd_model.specs.Validity.{mappings, lacks_row, lacks_a_row, is_none, is_endless, is_too_long, composite_of, is_other, is_hidden, is_unfolded, broken}
 use Rattle.ucd_model.specs.ValidityProofs.{KeepsRules, broken-none, broken-rules}
-use Rattle.ucd_model.specs.declared.folding.Folding.{Folding}
-use Rattle.ucd_model.specs.declared.folding.Folding.TheVariants.{Full, Simple}
-use Rattle.ucd_model.specs.declared.form.Form.{Form}
-use Rattle.ucd_model.specs.declared.form.Form.TheVariants.{Nfd, Nfc, Nfkd, Nfkc}
-use Rattle.ucd_model.specs.declared.form.Quick.{Quick}
-use Rattle.ucd_model.specs.declared.form.Quick.TheVariants.{Yes, No, Maybe}
-use Rattle.ucd_model.specs.declared.property.Core.{Core}
-use Rattle.ucd_model.specs.declared.property.Core.TheVariants.{Math, Alphabetic, Lowercase, Uppercase, Cased, CaseIgnorable, ChangesWhenLowercased, ChangesWhenUppercased, ChangesWhenTitlecased, ChangesWhenCasefolded, ChangesWhenCasemapped, IdStart, IdContinue, XidStart, XidContinue, DefaultIgnorableCodePoint, GraphemeExtend, GraphemeBase, GraphemeLink}
-use Rattle.ucd_model.specs.declared.query.Query.{Query}
-use Rattle.ucd_model.specs.declared.query.Query.TheVariants.{Row, Second}
-use Rattle.asked_queries.specs.Answers.{SameAnswer, Each}
+use Rattle.ucd_facts.specs.declared.folding.Folding.{Folding}
+use Rattle.ucd_facts.specs.declared.folding.Folding.TheVariants.{Full, Simple}
+use Rattle.ucd_facts.specs.declared.form.Form.{Form}
+use Rattle.ucd_facts.specs.declared.form.Form.TheVariants.{Nfd, Nfc, Nfkd, Nfkc}
+use Rattle.ucd_facts.specs.declared.form.Quick.{Quick}
+use Rattle.ucd_facts.specs.declared.form.Quick.TheVariants.{Yes, No, Maybe}
+use Rattle.ucd_facts.specs.declared.property.Core.{Core}
+use Rattle.ucd_facts.specs.declared.property.Core.TheVariants.{Math, Alphabetic, Lowercase, Uppercase, Cased, CaseIgnorable, ChangesWhenLowercased, ChangesWhenUppercased, ChangesWhenTitlecased, ChangesWhenCasefolded, ChangesWhenCasemapped, IdStart, IdContinue, XidStart, XidContinue, DefaultIgnorableCodePoint, GraphemeExtend, GraphemeBase, GraphemeLink}
+use Rattle.ucd_facts.specs.declared.query.Query.{Query}
+use Rattle.ucd_facts.specs.declared.query.Query.TheVariants.{Row, Second}
+use Rattle.ucd_facts.specs.Answers.{SameAnswer, Each}
 use Rattle.asked_queries.specs.ExpansionProofs.{SameRows, rows_same, full_same}
 use Rattle.asked_queries.specs.FormProofs.{form_same, tree_rows, decomposed_rows, composed_rows}
 use Rattle.asked_queries.specs.Laws.{SameForm, SameFolding, AskedIsLocal}

@@ -9,15 +9,15 @@ use Rattle.std.specs.List.{flat_map, range_with_len}
 use Rattle.std.specs.Option.{option_and_then}
 use Rattle.std.proofs.lemmas.Bool.{cases_lt}
 use Rattle.ucd_model.specs.Casing.{fold_of, fold, folded}
-use Rattle.ucd_model.specs.CompositeProofs.{Least, find_least, find_first}
-use Rattle.ucd_model.specs.Facts.{Facts, image_points}
+use Rattle.ucd_facts.specs.CompositeProofs.{Least, find_least, find_first}
+use Rattle.ucd_facts.specs.Facts.{Facts, image_points}
 use Rattle.ucd_model.specs.FoldRounds.{drop_ignorable, short, short_form, short_nfkc, short_fold, round, rounds, is_list, is_fixed, is_last}
 use Rattle.ucd_model.specs.Forms.{nfkc}
-use Rattle.ucd_model.specs.Predicates.{default_ignorable}
-use Rattle.ucd_model.specs.declared.folding.Folding.{Folding}
-use Rattle.ucd_model.specs.declared.folding.Folding.TheVariants.{Full, Simple}
-use Rattle.ucd_model.specs.declared.form.Bad.{Bad as Rule}
-use Rattle.asked_queries.specs.Answers.{SameAnswer, Each}
+use Rattle.ucd_facts.specs.Predicates.{default_ignorable}
+use Rattle.ucd_facts.specs.declared.folding.Folding.{Folding}
+use Rattle.ucd_facts.specs.declared.folding.Folding.TheVariants.{Full, Simple}
+use Rattle.ucd_facts.specs.declared.form.Bad.{Bad as Rule}
+use Rattle.ucd_facts.specs.Answers.{SameAnswer, Each}
 use Rattle.asked_queries.specs.ExpansionProofs.{SameRows, rows_same}
 use Rattle.asked_queries.specs.FormProofs.{form_same, composed_rows}
 use Rattle.asked_queries.specs.Laws.{SameRound, SameRounds, SameFolding, SameFoldings}

@@ -9,14 +9,14 @@ use Rattle.std.proofs.Common.{◌≡◌, ℕ, Bool, true, false, cond, ◌&&◌,
 use Rattle.std.specs.List.{flat_map, list_any}
 use Rattle.std.specs.Str.{bytes_eq}
 use Rattle.ucd_model.specs.Casing.{lower_of, upper_of, title_of, lower, upper, title, changes, casemaps, where_form}
-use Rattle.ucd_model.specs.Composites.{first_has_class_zero}
-use Rattle.ucd_model.specs.Facts.{Facts, image_points}
+use Rattle.ucd_facts.specs.Composites.{first_has_class_zero}
+use Rattle.ucd_facts.specs.Facts.{Facts, image_points}
 use Rattle.ucd_model.specs.Identifiers.{continues, starts}
-use Rattle.ucd_model.specs.Predicates.{cased, id_start, id_continue}
+use Rattle.ucd_facts.specs.Predicates.{cased, id_start, id_continue}
 use Rattle.ucd_model.specs.QuickChecks.{excludes_mapping}
 use Rattle.ucd_model.specs.Validity.{lacks_row, composite_of, is_other}
-use Rattle.ucd_model.specs.declared.form.Bad.{Bad as Rule}
-use Rattle.asked_queries.specs.Answers.{SameAnswer, Each}
+use Rattle.ucd_facts.specs.declared.form.Bad.{Bad as Rule}
+use Rattle.ucd_facts.specs.Answers.{SameAnswer, Each}
 use Rattle.asked_queries.specs.ExpansionProofs.{SameRows}
 use Rattle.asked_queries.specs.ListProofs.{Each-left, Each-right, Each-to, list_all-same, flat_map-same}
 use Rattle.asked_queries.specs.Questions.{pair_queries}

@@ -5,8 +5,8 @@ use Rattle.std.proofs.Common.{◌≡◌, ℕ, zero, suc, Bool, true, ◌==◌, L
 use Rattle.std.specs.List.{flat_map}
 use Rattle.std.proofs.lemmas.Bool.{true≢false, eqb-true, eq-eqb, or_cases, or_left, or_right}
 use Rattle.std.proofs.lemmas.List.Folds.{list_any-append}
-use Rattle.ucd_model.specs.Expansion.{counted, joined, alone_or_joined, expand, full}
-use Rattle.ucd_model.specs.Facts.{Facts}
+use Rattle.ucd_facts.specs.Expansion.{counted, joined, alone_or_joined, expand, full}
+use Rattle.ucd_facts.specs.Facts.{Facts}
 use Rattle.ucd_model.specs.Sameness.{is_in}
 use Rattle.asked_queries.specs.Laws.{InTree, TreeIsLeast}
 use Rattle.asked_queries.specs.Laws.InTree.{here, below}

@@ -6,16 +6,16 @@ use Rattle.std.proofs.Common.{◌≡◌, ℕ, ◌<◌, Bool, true, false, nat_lt
 use Rattle.std.specs.List.{list_any}
 use Rattle.std.proofs.lemmas.Bool.{true≢false, or_cases, or_left, or_right, and_parts, and_from}
 use Rattle.std.proofs.lemmas.Bool.Decides.{nat_tests}
-use Rattle.ucd_model.specs.Facts.{Facts}
+use Rattle.ucd_facts.specs.Facts.{Facts}
 use Rattle.ucd_points.specs.Limits.{point_count}
 use Rattle.ucd_model.specs.Records.{derived}
 use Rattle.ucd_model.specs.Sameness.{is_in}
 use Rattle.ucd_model.specs.ValidityLaws.{HasRecord, IsLeastBroken}
 use Rattle.ucd_model.specs.ValidityProofs.{broken_is_least}
-use Rattle.ucd_model.specs.declared.form.Broken.{Broken}
-use Rattle.ucd_model.specs.declared.query.Query.{Query}
-use Rattle.asked_queries.specs.Answers.{same_query, is_asked, SameAnswer, Each}
-use Rattle.asked_queries.specs.AnswerProofs.{queries_are_told}
+use Rattle.ucd_facts.specs.declared.form.Broken.{Broken}
+use Rattle.ucd_facts.specs.declared.query.Query.{Query}
+use Rattle.ucd_facts.specs.Answers.{same_query, is_asked, SameAnswer, Each}
+use Rattle.ucd_facts.specs.AnswerProofs.{queries_are_told}
 use Rattle.asked_queries.specs.Questions.{asked}
 use Rattle.asked_queries.specs.RecordProofs.{asked_is_local}
 use Rattle.asked_queries.specs.Turns.{SameQueries, asks_one, IsDependant, AreDependants, IsTurn, OthersStay, CollectedAreDependants, CollectedAreCounted, NextIsValid, NextIsBroken, NextKeepsAsked}

@@ -20,15 +20,15 @@
 use Rattle.std.specs.Prelude.{◌≡◌, ℕ, ◌<◌, ◌≤◌, Bool, true, false, ◌&&◌, List, length, nat_lt, Some, Err, ◌↔◌}
 use Rattle.std.specs.List.{list_any}
 use Rattle.std.specs.List.Sorted.{IsStrictlyIncreasing}
-use Rattle.ucd_model.specs.Facts.{Facts}
+use Rattle.ucd_facts.specs.Facts.{Facts}
 use Rattle.ucd_points.specs.Limits.{point_count}
 use Rattle.ucd_model.specs.Records.{derived}
 use Rattle.ucd_model.specs.Sameness.{is_in}
 use Rattle.ucd_model.specs.Validity.{first_broken}
 use Rattle.ucd_model.specs.ValidityLaws.{HasRecord, IsValid}
-use Rattle.ucd_model.specs.declared.form.Broken.{Broken}
-use Rattle.ucd_model.specs.declared.query.Query.{Query}
-use Rattle.asked_queries.specs.Answers.{is_asked, SameAnswer, TellsChanges}
+use Rattle.ucd_facts.specs.declared.form.Broken.{Broken}
+use Rattle.ucd_facts.specs.declared.query.Query.{Query}
+use Rattle.ucd_facts.specs.Answers.{is_asked, SameAnswer, TellsChanges}
 use Rattle.asked_queries.specs.Questions.{asked}
 
 abbrev pub SameQueries : (P Q : List Query) → Type 0

@@ -1,6 +1,6 @@
 //! The laws of what is asked: each function here does nothing, and its contract is a law.
 
-ghost use Rattle.asked_queries.specs.Answers.{QueriesAreTold};
+ghost use Rattle.ucd_facts.specs.Answers.{QueriesAreTold};
 ghost use Rattle.asked_queries.specs.Laws.{TreeIsLeast, SameExpansions, SameForms, SameRounds, SameFoldings, AskedIsLocal, PlainAskOwn};
 ghost use Rattle.asked_queries.specs.Turns.{OthersStay, CollectedAreDependants, CollectedAreCounted, NextIsValid, NextIsBroken, NextKeepsAsked};
 

@@ -6,13 +6,13 @@
 -- forms_alike          where no point of the tree has such a mapping, both forms of c ask the same
 use Rattle.std.proofs.Common.{◌≡◌, ◌≢◌, ◌∙◌, ℕ, zero, suc, ◌-◌, Bool, true, false, ◌||◌, List, [], ◌∷◌, Option, if◌then◌else◌, refl, sym, ap, arith}
 use Rattle.std.specs.List.{flat_map, list_any}
-use Rattle.ucd_model.specs.Expansion.{counts, counted, joined, alone_or_joined, expand, full}
-use Rattle.ucd_model.specs.Facts.{Facts}
-use Rattle.ucd_model.specs.declared.decomposition.Kind.{Kind}
-use Rattle.ucd_model.specs.declared.decomposition.Kind.TheVariants.{Plain, Canonical, Compat}
-use Rattle.ucd_model.specs.declared.query.Query.{Query}
+use Rattle.ucd_facts.specs.Expansion.{counts, counted, joined, alone_or_joined, expand, full}
+use Rattle.ucd_facts.specs.Facts.{Facts}
+use Rattle.ucd_facts.specs.declared.decomposition.Kind.{Kind}
+use Rattle.ucd_facts.specs.declared.decomposition.Kind.TheVariants.{Plain, Canonical, Compat}
+use Rattle.ucd_facts.specs.declared.query.Query.{Query}
 use Rattle.asked_queries.specs.Questions.{tree, whole_tree, asks}
-use Rattle.ucd_model.specs.Expansion.{is_compat}
+use Rattle.ucd_facts.specs.Expansion.{is_compat}
 
 abbrev pub has_compat : (ℕ → Facts) → ℕ → ℕ → Bool
 has_compat F zero c = false

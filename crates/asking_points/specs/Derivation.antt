@@ -11,30 +11,30 @@
 use Rattle.std.proofs.Common.{◌≡◌, ℕ, Bool, true, false, cond, ◌&&◌, not, ◌==◌, List, [], ◌∷◌, ◌++◌, append_assoc, append-nil, length, Option, Some, None, is_some, Result, Ok, Err, if◌then◌else◌, refl, sym, ap, ◌∙◌, ◌+◌, ◌||◌}
 use Rattle.std.specs.Prelude.{⊤}
 use Rattle.std.specs.List.{flat_map, range_with_len}
-use Rattle.ucd_model.specs.Composites.{is_canonical, first_has_class_zero}
-use Rattle.ucd_model.specs.Facts.{Facts}
+use Rattle.ucd_facts.specs.Composites.{is_canonical, first_has_class_zero}
+use Rattle.ucd_facts.specs.Facts.{Facts}
 use Rattle.ucd_model.specs.FoldRounds.{rounds}
 use Rattle.ucd_model.specs.Records.{Record, kept_record}
-use Rattle.ucd_model.specs.Uniform.{IsPlain}
+use Rattle.ucd_facts.specs.Uniform.{IsPlain}
 use Rattle.ucd_model.specs.Validity.{mappings}
 use Rattle.ucd_model.specs.ValidityLaws.{HasRecord}
 use Rattle.ucd_model.specs.ValidityProofs.{broken-none, broken-rules}
-use Rattle.ucd_model.specs.declared.folding.Folding.{Folding}
-use Rattle.ucd_model.specs.declared.folding.Folding.TheVariants.{Full, Simple}
-use Rattle.ucd_model.specs.declared.form.Bad.{Bad as Rule}
-use Rattle.ucd_model.specs.declared.form.FormStop.{FormStop}
-use Rattle.ucd_model.specs.declared.form.FormStop.TheVariants.{Bad, Memory}
-use Rattle.ucd_model.specs.declared.image.Image.{Image}
-use Rattle.ucd_model.specs.declared.image.Image.TheVariants.{Same, To}
-use Rattle.ucd_model.specs.declared.query.Query.{Query}
-use Rattle.ucd_model.specs.declared.query.Query.TheVariants.{Row, Second}
+use Rattle.ucd_facts.specs.declared.folding.Folding.{Folding}
+use Rattle.ucd_facts.specs.declared.folding.Folding.TheVariants.{Full, Simple}
+use Rattle.ucd_facts.specs.declared.form.Bad.{Bad as Rule}
+use Rattle.ucd_facts.specs.declared.form.FormStop.{FormStop}
+use Rattle.ucd_facts.specs.declared.form.FormStop.TheVariants.{Bad, Memory}
+use Rattle.ucd_facts.specs.declared.image.Image.{Image}
+use Rattle.ucd_facts.specs.declared.image.Image.TheVariants.{Same, To}
+use Rattle.ucd_facts.specs.declared.query.Query.{Query}
+use Rattle.ucd_facts.specs.declared.query.Query.TheVariants.{Row, Second}
 use Rattle.std.proofs.lemmas.Bool.{true≢false, and_parts, eqb-true}
 use Rattle.std.proofs.lemmas.List.{nil_from_length}
 use Rattle.std.proofs.lemmas.List.Folds.{list_any-append}
 use Rattle.ucd_model.specs.Forms.{nfkc}
-use Rattle.asked_queries.specs.Answers.{same_query, is_asked}
-use Rattle.ucd_model.specs.Shown.{shown_facts}
-use Rattle.ucd_model.specs.declared.view.FactsRef.{FactsRef}
+use Rattle.ucd_facts.specs.Answers.{same_query, is_asked}
+use Rattle.ucd_facts.specs.Shown.{shown_facts}
+use Rattle.ucd_facts.specs.declared.view.FactsRef.{FactsRef}
 use Rattle.asked_queries.specs.PlainProofs.{plain_ask_own}
 use Rattle.asked_queries.specs.RecordProofs.{has_last}
 use Rattle.asked_queries.specs.Turns.{SameQueries}

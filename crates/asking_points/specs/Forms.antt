@@ -7,12 +7,12 @@
 use Rattle.std.specs.Prelude.{ℕ, List, [], Option, Some, None, Result, Ok, Err}
 use Rattle.std.proofs.Common.{◌≡◌, refl}
 use Rattle.ucd_model.specs.CanonicalOrder.{class_of}
-use Rattle.ucd_model.specs.Composites.{pair_of}
+use Rattle.ucd_facts.specs.Composites.{pair_of}
 use Rattle.ucd_model.specs.Composition.{compose}
-use Rattle.ucd_model.specs.Facts.{Facts}
+use Rattle.ucd_facts.specs.Facts.{Facts}
 use Rattle.ucd_model.specs.Forms.{composed}
-use Rattle.ucd_model.specs.declared.form.Bad.{Bad as Rule}
-use Rattle.ucd_model.specs.declared.query.Query.{Query}
+use Rattle.ucd_facts.specs.declared.form.Bad.{Bad as Rule}
+use Rattle.ucd_facts.specs.declared.query.Query.{Query}
 use Rattle.asked_queries.specs.Questions.{composing_asks}
 
 abbrev pub list_in : Result (List ℕ) Rule → Option (List ℕ)

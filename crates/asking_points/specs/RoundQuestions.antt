@@ -6,12 +6,12 @@ use Rattle.std.specs.List.{flat_map, range_with_len}
 use Rattle.std.specs.Option.{option_and_then}
 use Rattle.std.proofs.lemmas.Bool.{true≢false}
 use Rattle.std.proofs.lemmas.List.Folds.{list_any-append}
-use Rattle.ucd_model.specs.CompositeProofs.{Least, find_least}
-use Rattle.ucd_model.specs.Facts.{Facts}
+use Rattle.ucd_facts.specs.CompositeProofs.{Least, find_least}
+use Rattle.ucd_facts.specs.Facts.{Facts}
 use Rattle.ucd_model.specs.FoldRounds.{round, rounds, is_list, is_fixed, is_last}
-use Rattle.ucd_model.specs.declared.folding.Folding.{Folding}
-use Rattle.ucd_model.specs.declared.query.Query.{Query}
-use Rattle.asked_queries.specs.Answers.{same_query, is_asked}
+use Rattle.ucd_facts.specs.declared.folding.Folding.{Folding}
+use Rattle.ucd_facts.specs.declared.query.Query.{Query}
+use Rattle.ucd_facts.specs.Answers.{same_query, is_asked}
 use Rattle.asked_queries.specs.Turns.{SameQueries}
 use Rattle.asked_queries.specs.Questions.{round_asks, round_asks_at, last_round, rounds_ask}
 use Rattle.asking_points.specs.Rounds.{next_at, asks_at, asks_from, asks_step, round_puts, round_same}

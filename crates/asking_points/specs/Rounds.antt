@@ -23,13 +23,13 @@ use Rattle.std.specs.Str.{bytes_eq}
 use Rattle.std.proofs.lemmas.List.Folds.{list_any-append}
 use Rattle.std.proofs.lemmas.Slice.Eq.{bytes_eq-Decides}
 use Rattle.ucd_model.specs.Casing.{folded}
-use Rattle.ucd_model.specs.Facts.{Facts}
+use Rattle.ucd_facts.specs.Facts.{Facts}
 use Rattle.ucd_model.specs.FoldRounds.{drop_ignorable, short, short_form, short_nfkc, short_fold, round}
 use Rattle.ucd_model.specs.Forms.{nfkc}
-use Rattle.ucd_model.specs.declared.folding.Folding.{Folding}
-use Rattle.ucd_model.specs.declared.form.Bad.{Bad as Rule}
-use Rattle.ucd_model.specs.declared.query.Query.{Query}
-use Rattle.asked_queries.specs.Answers.{same_query, is_asked}
+use Rattle.ucd_facts.specs.declared.folding.Folding.{Folding}
+use Rattle.ucd_facts.specs.declared.form.Bad.{Bad as Rule}
+use Rattle.ucd_facts.specs.declared.query.Query.{Query}
+use Rattle.ucd_facts.specs.Answers.{same_query, is_asked}
 use Rattle.asked_queries.specs.Questions.{asks, folding_asks, round_asks, row_queries}
 use Rattle.asked_queries.specs.Turns.{SameQueries}
 use Rattle.asking_points.specs.Forms.{list_in}

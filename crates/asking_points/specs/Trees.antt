@@ -2,10 +2,10 @@
 use Rattle.std.proofs.Common.{◌≡◌, ◌≢◌, ℕ, zero, suc, ◌-◌, ◌≤◌, Bool, List, [], ◌∷◌, ◌++◌, drop, length, append_assoc, append-nil, sym, ap, ◌∙◌, arith, refl}
 use Rattle.std.specs.List.{flat_map}
 use Rattle.std.proofs.Math.ListN.{drop_of_length-le}
-use Rattle.ucd_model.specs.Expansion.{counted}
-use Rattle.ucd_model.specs.Facts.{Facts}
-use Rattle.ucd_model.specs.declared.query.Query.{Query}
-use Rattle.ucd_model.specs.declared.query.Query.TheVariants.{Row}
+use Rattle.ucd_facts.specs.Expansion.{counted}
+use Rattle.ucd_facts.specs.Facts.{Facts}
+use Rattle.ucd_facts.specs.declared.query.Query.{Query}
+use Rattle.ucd_facts.specs.declared.query.Query.TheVariants.{Row}
 use Rattle.asked_queries.specs.Questions.{tree, row_queries}
 
 pub tree_below : (F : ℕ → Facts) (compat : Bool) (n c : ℕ) → n ≢ 0 → tree F compat n c ≡ c ∷ flat_map (tree F compat (n - 1)) (counted F compat c)

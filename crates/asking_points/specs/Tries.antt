@@ -12,8 +12,8 @@
 -- tries_from class pair starter rest   the pairs that are tried while the points of rest are put behind composed ones with that
 --                             last starter
 use Rattle.std.specs.Prelude.{ℕ, List, [], ◌∷◌, ◌++◌, Option, Some, None, if◌then◌else◌}
-use Rattle.ucd_model.specs.declared.query.Query.{Query}
-use Rattle.ucd_model.specs.declared.query.Query.TheVariants.{Pair}
+use Rattle.ucd_facts.specs.declared.query.Query.{Query}
+use Rattle.ucd_facts.specs.declared.query.Query.TheVariants.{Pair}
 use Rattle.normalisation.specs.SoFar.{passes, starter_behind}
 use Rattle.normalisation.specs.declared.starter.Starter.{Starter}
 

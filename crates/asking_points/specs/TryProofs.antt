@@ -9,11 +9,11 @@ use Rattle.std.specs.Option.{option_map}
 use Rattle.std.proofs.Math.ListN.{drop_of_length-le}
 use Rattle.std.proofs.lemmas.Bool.Decides.{nat_tests}
 use Rattle.ucd_model.specs.CanonicalOrder.{class_of}
-use Rattle.ucd_model.specs.Composites.{pair_of}
+use Rattle.ucd_facts.specs.Composites.{pair_of}
 use Rattle.ucd_model.specs.Composition.{Split, last_starter, is_open, where_open, reached, with_composite, with_point, composed_with}
-use Rattle.ucd_model.specs.Facts.{Facts}
-use Rattle.ucd_model.specs.declared.query.Query.{Query}
-use Rattle.ucd_model.specs.declared.query.Query.TheVariants.{Pair}
+use Rattle.ucd_facts.specs.Facts.{Facts}
+use Rattle.ucd_facts.specs.declared.query.Query.{Query}
+use Rattle.ucd_facts.specs.declared.query.Query.TheVariants.{Pair}
 use Rattle.normalisation.specs.PairLemmas.{pair_joins}
 use Rattle.normalisation.specs.StarterLemmas.{CutsAt, push_after, last_starter_cuts, last_starter_at, last_starter_push}
 use Rattle.asked_queries.specs.Questions.{tried_at, tries_onto, tries}

@@ -3,7 +3,7 @@
 ghost use Rattle.std.specs.Prelude.{◌≡◌, ◌+◌, ◌++◌, IfOk, OnOk, Ok};
 ghost use Rattle.std.specs.List.Sorted.{IsStrictlySortedBy};
 ghost use Rattle.ucd_model.specs.Records.{derived, kept_record};
-ghost use Rattle.ucd_model.specs.Shown.{shown_facts};
+ghost use Rattle.ucd_facts.specs.Shown.{shown_facts};
 ghost use Rattle.ucd_model.specs.ValidityLaws.{HasRecord};
 ghost use Rattle.asked_queries.specs.Questions.{asked};
 ghost use Rattle.asked_queries.specs.Turns.{SameQueries};

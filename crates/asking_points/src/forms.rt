@@ -2,7 +2,7 @@
 
 ghost use Rattle.std.specs.Prelude.{◌≡◌, ◌++◌, IfOk, OnOk};
 ghost use Rattle.ucd_model.specs.CanonicalOrder.{class_of};
-ghost use Rattle.ucd_model.specs.Composites.{pair_of};
+ghost use Rattle.ucd_facts.specs.Composites.{pair_of};
 ghost use Rattle.ucd_model.specs.Composition.{compose};
 ghost use Rattle.ucd_model.specs.Forms.{decomposed, composed};
 ghost use Rattle.asked_queries.specs.Questions.{row_queries, tries, asks, composing_asks};

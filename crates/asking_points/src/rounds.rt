@@ -2,7 +2,7 @@
 
 ghost use Rattle.std.specs.Prelude.{◌≡◌, [], ◌∷◌, ◌++◌, ◌&&◌, true, false, IfOk, OnOk, Some};
 ghost use Rattle.ucd_model.specs.Forms.{nfkc};
-ghost use Rattle.ucd_model.specs.declared.folding.Folding.{Folding};
+ghost use Rattle.ucd_facts.specs.declared.folding.Folding.{Folding};
 ghost use Rattle.fold_rounds.specs.Steps.{are_alike, IsCovered};
 ghost use Rattle.asking_points.specs.Forms.{list_in};
 ghost use Rattle.asking_points.specs.Rounds.{again_puts, folding_puts, short_round};

@@ -2,8 +2,8 @@
 
 ghost use Rattle.std.specs.Prelude.{◌≡◌, ◌++◌, OnOk};
 ghost use Rattle.std.specs.List.{flat_map};
-ghost use Rattle.ucd_model.specs.Facts.{image_points};
-ghost use Rattle.ucd_model.specs.Shown.{image_shown, shown_facts};
+ghost use Rattle.ucd_facts.specs.Facts.{image_points};
+ghost use Rattle.ucd_facts.specs.Shown.{image_shown, shown_facts};
 ghost use Rattle.ucd_model.specs.Validity.{mappings};
 ghost use Rattle.asked_queries.specs.Questions.{row_queries};
 ghost use Rattle.asking_points.specs.Members.{simple_members, image_members};

@@ -2,7 +2,7 @@
 
 ghost use Rattle.std.specs.Prelude.{◌≡◌, ◌++◌, IfOk, OnOk};
 ghost use Rattle.ucd_model.specs.CanonicalOrder.{class_of};
-ghost use Rattle.ucd_model.specs.Composites.{pair_of};
+ghost use Rattle.ucd_facts.specs.Composites.{pair_of};
 ghost use Rattle.asked_queries.specs.Questions.{tries};
 ghost use Rattle.asking_points.specs.Tries.{reached_point, tried_by, with_composite, next_starter, tries_from};
 

@@ -2,7 +2,7 @@
 -- of two other files.
 use Rattle.std.specs.Prelude.{◌≡◌, true, false, [], ◌∷◌, Some, None, codes, refl}
 use Rattle.ucd_points.specs.declared.files.SourceFile.TheVariants.{UnicodeData, PropList, CompositionExclusions}
-use Rattle.ucd_model.specs.declared.row.Row.TheVariants.{Exclusion}
+use Rattle.ucd_facts.specs.declared.row.Row.TheVariants.{Exclusion}
 use Rattle.release_rows.specs.declared.operation.Op.{Op}
 use Rattle.release_rows.specs.declared.operation.Op.TheVariants.{Add, Withdraw}
 use Rattle.bench_editors.specs.Rows.{last_touched, row_of, same_row, touches}

@@ -4,7 +4,7 @@
 --                    oldest one for which there was no room
 -- SamePointsChange   the code points whose records differ are the same both ways
 use Rattle.std.specs.Prelude.{◌≡◌, ℕ, ◌-◌, ◌≤◌, List, take}
-use Rattle.ucd_model.specs.Facts.{Facts}
+use Rattle.ucd_facts.specs.Facts.{Facts}
 use Rattle.release_rows.specs.FileItems.{FileItem}
 use Rattle.edit_session.specs.Groups.{changed}
 use Rattle.bench_undo.specs.Histories.{HistoryState, accepted, undone}

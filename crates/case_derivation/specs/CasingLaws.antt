@@ -10,8 +10,8 @@
 use Rattle.std.specs.Prelude.{◌≡◌, ℕ, true, false, ◌||◌, List, ◌∷◌, ◌++◌}
 use Rattle.std.specs.List.{list_any}
 use Rattle.ucd_model.specs.Casing.{lower, upper, title, fold, title_of, lowers, uppers, titles, casemaps, changes_when}
-use Rattle.ucd_model.specs.Facts.{Facts}
-use Rattle.ucd_model.specs.Predicates.{cased}
+use Rattle.ucd_facts.specs.Facts.{Facts}
+use Rattle.ucd_facts.specs.Predicates.{cased}
 
 abbrev pub CasemapsAreThree : Type 0
 CasemapsAreThree = (F : ℕ → Facts) (c : ℕ) → changes_when casemaps F c ≡ (changes_when lowers F c || (changes_when uppers F c || changes_when titles F c))

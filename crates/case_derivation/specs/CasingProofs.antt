@@ -8,10 +8,10 @@ use Rattle.std.proofs.Common.{◌≡◌, ℕ, Bool, true, false, ◌||◌, List,
 use Rattle.std.proofs.lemmas.Grind.{flat_map-append}
 use Rattle.std.specs.List.{list_any}
 use Rattle.ucd_model.specs.Casing.{lower, title, title_of, lower_of, upper_of, fold_of, lowers, uppers, titles, casemaps, where_form}
-use Rattle.ucd_model.specs.Facts.{Facts}
+use Rattle.ucd_facts.specs.Facts.{Facts}
 use Rattle.ucd_model.specs.Forms.{nfd}
-use Rattle.ucd_model.specs.Predicates.{cased}
-use Rattle.ucd_model.specs.declared.form.Bad.{Bad}
+use Rattle.ucd_facts.specs.Predicates.{cased}
+use Rattle.ucd_facts.specs.declared.form.Bad.{Bad}
 use Rattle.case_derivation.specs.CasingLaws.{CasemapsAreThree, LowerOfJoined, UpperOfJoined, FoldOfJoined, TitleOfWord, TitleWithoutCased}
 
 three : (F : ℕ → Facts) (r : Result (List ℕ) Bad) → where_form (casemaps F) r ≡ (where_form (lowers F) r || (where_form (uppers F) r || where_form (titles F) r))

@@ -8,10 +8,10 @@
 use Rattle.std.specs.Prelude.{ℕ, Bool, true, false, List, if◌then◌else◌}
 use Rattle.std.specs.List.{flat_map}
 use Rattle.ucd_model.specs.Casing.{lower, title}
-use Rattle.ucd_model.specs.Facts.{Facts, image_points}
-use Rattle.ucd_model.specs.Predicates.{cased}
-use Rattle.ucd_model.specs.declared.image.Image.{Image}
-use Rattle.ucd_model.specs.declared.image.Image.TheVariants.{Same}
+use Rattle.ucd_facts.specs.Facts.{Facts, image_points}
+use Rattle.ucd_facts.specs.Predicates.{cased}
+use Rattle.ucd_facts.specs.declared.image.Image.{Image}
+use Rattle.ucd_facts.specs.declared.image.Image.TheVariants.{Same}
 use Rattle.case_derivation.specs.declared.mapping.Casing.{Casing}
 use Rattle.case_derivation.specs.declared.mapping.Casing.TheVariants.{Lower, Upper, Fold}
 

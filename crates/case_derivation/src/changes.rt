@@ -3,7 +3,7 @@
 ghost use Rattle.std.specs.Prelude.{◌≡◌, ◌||◌, not};
 ghost use Rattle.std.specs.List.{list_any};
 ghost use Rattle.ucd_model.specs.Casing.{lower, upper, fold, lowers, uppers, titles, folds, casemaps};
-ghost use Rattle.ucd_model.specs.Predicates.{cased};
+ghost use Rattle.ucd_facts.specs.Predicates.{cased};
 ghost use Rattle.case_derivation.specs.Matching.{matches};
 ghost use Rattle.case_derivation.specs.Steps.{titled};
 

@@ -2,9 +2,9 @@
 
 ghost use Rattle.std.specs.Prelude.{◌≡◌, ◌++◌, IfOk, OnOk, OnErr};
 ghost use Rattle.ucd_model.specs.Casing.{lower, upper, fold, folded};
-ghost use Rattle.ucd_model.specs.Facts.{image_points};
-ghost use Rattle.ucd_model.specs.Shown.{image_shown};
-ghost use Rattle.ucd_model.specs.declared.folding.Folding.TheVariants.{Simple};
+ghost use Rattle.ucd_facts.specs.Facts.{image_points};
+ghost use Rattle.ucd_facts.specs.Shown.{image_shown};
+ghost use Rattle.ucd_facts.specs.declared.folding.Folding.TheVariants.{Simple};
 ghost use Rattle.case_derivation.specs.Steps.{image_of, mapped_by};
 
 use std::alloc::Global;

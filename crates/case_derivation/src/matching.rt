@@ -2,9 +2,9 @@
 
 ghost use Rattle.std.specs.Prelude.{◌≡◌, ℕ, List, [], ◌++◌, ◌||◌, not};
 ghost use Rattle.std.specs.Str.{bytes_eq};
-ghost use Rattle.ucd_model.specs.Facts.{image_points};
-ghost use Rattle.ucd_model.specs.Predicates.{cased};
-ghost use Rattle.ucd_model.specs.Shown.{image_shown, shown_facts};
+ghost use Rattle.ucd_facts.specs.Facts.{image_points};
+ghost use Rattle.ucd_facts.specs.Predicates.{cased};
+ghost use Rattle.ucd_facts.specs.Shown.{image_shown, shown_facts};
 ghost use Rattle.case_derivation.specs.Matching.{matches};
 ghost use Rattle.case_derivation.specs.Steps.{title_image};
 

@@ -1,8 +1,8 @@
 //! Which code points have case, and which are passed over around them.
 
 ghost use Rattle.std.specs.Prelude.{◌≡◌};
-ghost use Rattle.ucd_model.specs.Shown.{shown_facts};
-ghost use Rattle.ucd_model.specs.Predicates.{lowercase, uppercase, cased, case_ignorable};
+ghost use Rattle.ucd_facts.specs.Shown.{shown_facts};
+ghost use Rattle.ucd_facts.specs.Predicates.{lowercase, uppercase, cased, case_ignorable};
 
 use ucd_model::{Category, FactView, FactsRef, Flag, Point};
 

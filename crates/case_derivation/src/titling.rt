@@ -2,7 +2,7 @@
 
 ghost use Rattle.std.specs.Prelude.{◌≡◌, IfOk};
 ghost use Rattle.ucd_model.specs.Casing.{title};
-ghost use Rattle.ucd_model.specs.Shown.{image_shown, shown_facts};
+ghost use Rattle.ucd_facts.specs.Shown.{image_shown, shown_facts};
 ghost use Rattle.case_derivation.specs.Steps.{title_image};
 
 use crate::is_cased;

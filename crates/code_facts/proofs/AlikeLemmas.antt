@@ -1,8 +1,8 @@
 -- Code points with the same word have facts that are alike.
 use Rattle.std.proofs.Common.{◌≡◌, ℕ, ◌<◌, ◌≤◌, min, ap, ap₂, sym, subst, ◌∙◌, arith}
-use Rattle.ucd_model.specs.Facts.{Facts}
-use Rattle.ucd_model.specs.Sets.{has_flag}
-use Rattle.ucd_model.specs.Uniform.{Alike}
+use Rattle.ucd_facts.specs.Facts.{Facts}
+use Rattle.ucd_facts.specs.Sets.{has_flag}
+use Rattle.ucd_facts.specs.Uniform.{Alike}
 use Rattle.code_facts.specs.KeptFacts.{kept_at, all_kept}
 use Rattle.ucd_points.specs.Stretches.{HoldsTo}
 use Rattle.code_facts.specs.Rest.{RestOf}

@@ -2,14 +2,14 @@
 use Rattle.std.proofs.Common.{◌≡◌, ℕ, ◌+◌, ◌<◌, Bool, true, false, cond, ◌==◌, List, [], ◌∷◌, ◌++◌, length, take, get_or, find, Option, Some, None, is_some, refl, sym, ap, ◌∙◌, arith}
 use Rattle.std.proofs.lemmas.Bool.Decides.{nat_tests}
 use Rattle.std.proofs.lemmas.List.{take_more}
-use Rattle.ucd_model.specs.declared.row.Row.{Row}
-use Rattle.ucd_model.specs.declared.row.Row.TheVariants.{Unit as DataLine, Value as ValueLine, Exclusion as ExclusionLine, Fold as FoldLine, Casing as CasingLine, Alias as AliasLine, Missing as MissingLine}
+use Rattle.ucd_facts.specs.declared.row.Row.{Row}
+use Rattle.ucd_facts.specs.declared.row.Row.TheVariants.{Unit as DataLine, Value as ValueLine, Exclusion as ExclusionLine, Fold as FoldLine, Casing as CasingLine, Alias as AliasLine, Missing as MissingLine}
 use Rattle.code_facts.specs.Found.{first_some, passes, image_in, image_by, image_of_row}
 use Rattle.code_facts.specs.CaseImages.{all_images, with_casings, with_foldings, with_image}
 use Rattle.code_facts.specs.declared.case.Case.{Case}
 use Rattle.code_facts.specs.declared.case.Case.TheVariants.{Fold, Lower, Title, Upper}
 use Rattle.code_facts.specs.declared.cases.Cases.{Cases}
-use Rattle.ucd_model.specs.declared.row.FoldStatus.TheVariants as status
+use Rattle.ucd_facts.specs.declared.row.FoldStatus.TheVariants as status
 
 some_first : (a b : Option (List ℕ)) → is_some a ≡ true → first_some a b ≡ a
 some_first (Some x) b e = refl

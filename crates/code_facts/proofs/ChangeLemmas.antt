@@ -8,14 +8,14 @@ use Rattle.key_set.specs.Keys.{has}
 use Rattle.std.proofs.lemmas.Bool.{true≢false, both_ways, cases_lt, or_left, or_right, or_cases, and_from, and_parts, eq-eqb, eqb-true}
 use Rattle.std.proofs.lemmas.Bool.Decides.{nat_tests}
 use Rattle.std.proofs.lemmas.List.Folds.{list_any-append, list_any_more}
-use Rattle.asked_queries.specs.Answers.{SameAnswer, TellsChanges, is_asked, same_query}
-use Rattle.asked_queries.specs.AnswerProofs.{queries_are_told}
+use Rattle.ucd_facts.specs.Answers.{SameAnswer, TellsChanges, is_asked, same_query}
+use Rattle.ucd_facts.specs.AnswerProofs.{queries_are_told}
 use Rattle.ucd_points.specs.Bounds.{Bounds}
-use Rattle.ucd_model.specs.Composites.{is_canonical, first_has_class_zero, primary, is_pair, is_second, composes, ends_with, pair_of, second_of}
-use Rattle.ucd_model.specs.Facts.{Facts, within}
+use Rattle.ucd_facts.specs.Composites.{is_canonical, first_has_class_zero, primary, is_pair, is_second, composes, ends_with, pair_of, second_of}
+use Rattle.ucd_facts.specs.Facts.{Facts, within}
 use Rattle.ucd_points.specs.Limits.{point_count}
-use Rattle.ucd_model.specs.declared.query.Query.{Query}
-use Rattle.ucd_model.specs.declared.query.Query.TheVariants.{Row, Pair, Second}
+use Rattle.ucd_facts.specs.declared.query.Query.{Query}
+use Rattle.ucd_facts.specs.declared.query.Query.TheVariants.{Row, Pair, Second}
 use Rattle.code_facts.specs.Changes.{StaysOutside, is_among, is_pair_of, is_reached, first_differs, composes_either, IsTold, IsOnlyChanged, Gathers, Grows, ReachesOwn, IsSeen, IsDone, AreReached}
 use Rattle.code_facts.specs.Index.{Lists, is_listed, pair_key, first_key}
 use Rattle.code_facts.specs.KeptFacts.{all_kept}

@@ -4,12 +4,12 @@ use mathlib.Core.Path.{fun_ext}
 use Rattle.std.specs.Option.{option_map, option_to_list}
 use Rattle.std.proofs.lemmas.Bool.{cases_lt, lt-ltb, le-ltb}
 use Rattle.ucd_points.specs.Limits.{point_count}
-use Rattle.ucd_model.specs.Sets.{has_flag}
-use Rattle.ucd_model.specs.Facts.{Sources, Facts, facts, given, unassigned, data_row, class_in, category_in, kind_in, upper_in, lower_in, title_in, only_or, image, casing_row, full_upper, full_lower, full_title, full_folding, simple_folding, folding}
-use Rattle.ucd_model.specs.FactsLemmas.{facts_inside, facts_outside}
-use Rattle.ucd_model.specs.declared.row.DataRow.{DataRow}
-use Rattle.ucd_model.specs.declared.row.CasingRow.{CasingRow}
-use Rattle.ucd_model.specs.declared.row.FoldStatus.TheVariants as status
+use Rattle.ucd_facts.specs.Sets.{has_flag}
+use Rattle.ucd_facts.specs.Facts.{Sources, Facts, facts, given, unassigned, data_row, class_in, category_in, kind_in, upper_in, lower_in, title_in, only_or, image, casing_row, full_upper, full_lower, full_title, full_folding, simple_folding, folding}
+use Rattle.ucd_facts.specs.FactsLemmas.{facts_inside, facts_outside}
+use Rattle.ucd_facts.specs.declared.row.DataRow.{DataRow}
+use Rattle.ucd_facts.specs.declared.row.CasingRow.{CasingRow}
+use Rattle.ucd_facts.specs.declared.row.FoldStatus.TheVariants as status
 use Rattle.ucd_points.specs.declared.files.SourceFile.TheVariants.{UnicodeData, CaseFolding, SpecialCasing, PropList, WordBreakProperty, CompositionExclusions}
 use Rattle.range_table.specs.Values.{SameValues}
 use Rattle.code_facts.specs.Word.{packed, assigned_of_word, excluded_of_word, mid_word_of_word, category_of_word, class_of_word, kind_of_word, flags_of_word, ReadsBack}

@@ -4,12 +4,12 @@ use Rattle.std.specs.List.{list_any}
 use Rattle.std.specs.Str.{bytes_eq}
 use Rattle.std.proofs.lemmas.List.Folds.{list_any_more}
 use Rattle.ucd_points.specs.Bounds.{Bounds}
-use Rattle.ucd_model.specs.Facts.{within}
-use Rattle.ucd_model.specs.Names.{flag_name}
-use Rattle.ucd_model.specs.declared.property.Flag.{Flag}
-use Rattle.ucd_model.specs.declared.property.Flag.TheVariants.{WhiteSpace, OtherMath, OtherLowercase, OtherUppercase, OtherAlphabetic, OtherIdStart, OtherIdContinue, PatternSyntax, PatternWhiteSpace, OtherDefaultIgnorableCodePoint, VariationSelector, PrependedConcatenationMark, OtherGraphemeExtend, NoncharacterCodePoint}
+use Rattle.ucd_facts.specs.Facts.{within}
+use Rattle.ucd_facts.specs.Names.{flag_name}
+use Rattle.ucd_facts.specs.declared.property.Flag.{Flag}
+use Rattle.ucd_facts.specs.declared.property.Flag.TheVariants.{WhiteSpace, OtherMath, OtherLowercase, OtherUppercase, OtherAlphabetic, OtherIdStart, OtherIdContinue, PatternSyntax, PatternWhiteSpace, OtherDefaultIgnorableCodePoint, VariationSelector, PrependedConcatenationMark, OtherGraphemeExtend, NoncharacterCodePoint}
 use Rattle.code_facts.specs.MarkRows.{names_flag}
-use Rattle.ucd_model.specs.Enumerations.{flags}
+use Rattle.ucd_facts.specs.Enumerations.{flags}
 
 or_assoc : (a b c : Bool) → ((a || b) || c) ≡ (a || (b || c))
 or_assoc true b c = refl

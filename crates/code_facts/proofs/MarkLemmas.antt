@@ -5,13 +5,13 @@ use Rattle.std.specs.Result.{IfOk}
 use Rattle.std.proofs.lemmas.List.{length-take}
 use Rattle.std.proofs.lemmas.List.Sums.{sum_by_more, sum_by-cons}
 use Rattle.std.proofs.lemmas.Bool.{ltb-true}
-use Rattle.ucd_model.specs.Enumerations.{flags}
-use Rattle.ucd_model.specs.EnumerationProofs.{true_of_each, enumerates_flags}
-use Rattle.ucd_model.specs.Facts.{Sources, within, flag_at, excluded_at}
-use Rattle.ucd_model.specs.Values.{mid_word_at}
-use Rattle.ucd_model.specs.Sets.{flag_place}
-use Rattle.ucd_model.specs.declared.property.Flag.{Flag}
-use Rattle.ucd_model.specs.declared.property.Flag.TheVariants.{WhiteSpace}
+use Rattle.ucd_facts.specs.Enumerations.{flags}
+use Rattle.ucd_facts.specs.EnumerationProofs.{true_of_each, enumerates_flags}
+use Rattle.ucd_facts.specs.Facts.{Sources, within, flag_at, excluded_at}
+use Rattle.ucd_facts.specs.Values.{mid_word_at}
+use Rattle.ucd_facts.specs.Sets.{flag_place}
+use Rattle.ucd_facts.specs.declared.property.Flag.{Flag}
+use Rattle.ucd_facts.specs.declared.property.Flag.TheVariants.{WhiteSpace}
 use Rattle.ucd_points.specs.declared.files.SourceFile.TheVariants.{PropList, WordBreakProperty, CompositionExclusions}
 use Rattle.ucd_points.specs.Bounds.{Bounds}
 use Rattle.code_facts.specs.MarkRows.{IsMarked}

@@ -6,9 +6,9 @@ use Rattle.std.proofs.lemmas.List.{at_drop_more}
 use Rattle.std.proofs.lemmas.List.Sums.{fold_more}
 use Rattle.layered_table.specs.declared.painting.Layer.{Layer}
 use Rattle.ucd_points.specs.Bounds.{within}
-use Rattle.ucd_model.specs.Values.{default_word_break, gives_some, is_mid_word, mid_word_at, missing_value, taken_missing, value_in}
-use Rattle.ucd_model.specs.declared.row.Row.{Row}
-use Rattle.ucd_model.specs.declared.row.Row.TheVariants.{Unit as DataLine, Value as ValueLine, Exclusion as ExclusionLine, Fold as FoldLine, Casing as CasingLine, Alias as AliasLine, Missing as MissingLine}
+use Rattle.ucd_facts.specs.Values.{default_word_break, gives_some, is_mid_word, mid_word_at, missing_value, taken_missing, value_in}
+use Rattle.ucd_facts.specs.declared.row.Row.{Row}
+use Rattle.ucd_facts.specs.declared.row.Row.TheVariants.{Unit as DataLine, Value as ValueLine, Exclusion as ExclusionLine, Fold as FoldLine, Casing as CasingLine, Alias as AliasLine, Missing as MissingLine}
 use Rattle.release_rows.specs.ValuesApart.{AreApart}
 use Rattle.code_facts.specs.MidWords.{gives_mid_word, given_layer, is_missing_mid_word, layer_over, missing_layer}
 use Rattle.code_facts.specs.Word.{one_if}

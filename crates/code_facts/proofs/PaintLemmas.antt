@@ -5,7 +5,7 @@ use Rattle.std.proofs.lemmas.Bool.Decides.{nat_tests}
 use Rattle.std.proofs.lemmas.List.Folds.{list_any_more}
 use Rattle.std.specs.List.{list_any}
 use Rattle.ucd_points.specs.Bounds.{Bounds}
-use Rattle.ucd_model.specs.Facts.{within}
+use Rattle.ucd_facts.specs.Facts.{within}
 
 test_true : {A : Type 0} (b : Bool) (x y : A) → b ≡ true → cond b x y ≡ x
 test_true b x y e = rw e refl

@@ -7,11 +7,11 @@ use Rattle.std.proofs.lemmas.Map.Keys.{le_from_not_gt}
 use Rattle.std.proofs.lemmas.Bool.Decides.{nat_tests}
 use Rattle.std.specs.BTreeMap.{BTreeMap, get}
 use Rattle.std.specs.BTreeMap.Range.{IsLeBy}
-use Rattle.ucd_model.specs.Facts.{image}
-use Rattle.ucd_model.specs.Uniform.{IsPlain}
-use Rattle.ucd_model.specs.Unmapped.{is_same, is_unmapped}
-use Rattle.ucd_model.specs.declared.image.Image.{Image}
-use Rattle.ucd_model.specs.declared.image.Image.TheVariants.{Same}
+use Rattle.ucd_facts.specs.Facts.{image}
+use Rattle.ucd_facts.specs.Uniform.{IsPlain}
+use Rattle.ucd_facts.specs.Unmapped.{is_same, is_unmapped}
+use Rattle.ucd_facts.specs.declared.image.Image.{Image}
+use Rattle.ucd_facts.specs.declared.image.Image.TheVariants.{Same}
 use Rattle.code_facts.specs.KeptFacts.{kept_at, all_kept}
 use Rattle.code_facts.specs.Rest.{RestOf, bare_rest, no_rest}
 use Rattle.code_facts.proofs.FactLemmas.{kept_point}

@@ -5,9 +5,9 @@ use Rattle.std.proofs.lemmas.Bool.{cases_lt, true≢false}
 use Rattle.range_table.specs.Values.{SameValues}
 use Rattle.ucd_points.specs.Limits.{point_count}
 use Rattle.ucd_points.specs.Bounds.{Bounds}
-use Rattle.ucd_model.specs.Facts.{Facts, Sources, facts, unassigned, within}
-use Rattle.ucd_model.specs.FactsLemmas.{facts_inside}
-use Rattle.ucd_model.specs.Composites.{composes, ends_with}
+use Rattle.ucd_facts.specs.Facts.{Facts, Sources, facts, unassigned, within}
+use Rattle.ucd_facts.specs.FactsLemmas.{facts_inside}
+use Rattle.ucd_facts.specs.Composites.{composes, ends_with}
 use Rattle.release_rows.specs.Touching.{meets, RowsMeet}
 use Rattle.range_table.specs.declared.table.Table.{Ghosts}
 use Rattle.code_facts.specs.FactTables.{words_at, rests_at, facts_at}

@@ -12,10 +12,10 @@ use Rattle.std.specs.Box.{box_value}
 use Rattle.std.specs.Global.{Box}
 use Rattle.std.specs.Option.{option_map}
 use Rattle.std.specs.Ordering.{nat_cmp}
-use Rattle.ucd_model.specs.Facts.{Sources}
+use Rattle.ucd_facts.specs.Facts.{Sources}
 use Rattle.ucd_points.specs.declared.files.SourceFile.TheVariants.{CaseFolding, SpecialCasing}
-use Rattle.ucd_model.specs.declared.row.FoldStatus.TheVariants as status
-use Rattle.ucd_model.specs.declared.row.Row.{Row}
+use Rattle.ucd_facts.specs.declared.row.FoldStatus.TheVariants as status
+use Rattle.ucd_facts.specs.declared.row.Row.{Row}
 use Rattle.code_facts.specs.Found.{first_some, image_by, image_of_row}
 use Rattle.code_facts.specs.Rest.{cases_of}
 use Rattle.code_facts.specs.declared.case.Case.{Case}

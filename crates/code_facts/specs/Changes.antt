@@ -19,12 +19,12 @@
 use Rattle.std.specs.Prelude.{◌≡◌, ◌⊎◌, ℕ, Bool, true, false, ◌&&◌, ◌||◌, not, ◌==◌, List}
 use Rattle.std.specs.Bool.{beq}
 use Rattle.std.specs.List.{list_any}
-use Rattle.asked_queries.specs.Answers.{SameAnswer, is_asked}
+use Rattle.ucd_facts.specs.Answers.{SameAnswer, is_asked}
 use Rattle.ucd_points.specs.Bounds.{Bounds}
-use Rattle.ucd_model.specs.Composites.{composes}
-use Rattle.ucd_model.specs.Facts.{Facts, within}
-use Rattle.ucd_model.specs.declared.query.Query.{Query}
-use Rattle.ucd_model.specs.declared.query.Query.TheVariants.{Row}
+use Rattle.ucd_facts.specs.Composites.{composes}
+use Rattle.ucd_facts.specs.Facts.{Facts, within}
+use Rattle.ucd_facts.specs.declared.query.Query.{Query}
+use Rattle.ucd_facts.specs.declared.query.Query.TheVariants.{Row}
 use Rattle.code_facts.specs.Index.{is_listed}
 use Rattle.code_facts.specs.declared.pair_index.PairIndex.{PairIndex}
 use Rattle.code_facts.specs.declared.reached.Reached.{Reached}

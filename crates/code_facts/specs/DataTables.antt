@@ -10,11 +10,11 @@
 --                               file gives nothing
 use Rattle.std.specs.Prelude.{◌≡◌, ℕ, ◌<◌, true, false, List, [], Some, None, if◌then◌else◌}
 use Rattle.ucd_points.specs.Bounds.{Bounds}
-use Rattle.ucd_model.specs.DataLines.{kept_of}
-use Rattle.ucd_model.specs.Facts.{within}
-use Rattle.ucd_model.specs.declared.row.DataRow.{DataRow}
-use Rattle.ucd_model.specs.declared.row.Row.{Row}
-use Rattle.ucd_model.specs.declared.row.Row.TheVariants.{Unit as DataLine}
+use Rattle.ucd_facts.specs.DataLines.{kept_of}
+use Rattle.ucd_facts.specs.Facts.{within}
+use Rattle.ucd_facts.specs.declared.row.DataRow.{DataRow}
+use Rattle.ucd_facts.specs.declared.row.Row.{Row}
+use Rattle.ucd_facts.specs.declared.row.Row.TheVariants.{Unit as DataLine}
 use Rattle.source_rows.specs.declared.point_values.PointValues.{PointValues}
 use Rattle.range_table.specs.RunTable.{values_now}
 use Rattle.code_facts.specs.WordRuns.{words_next}

@@ -8,7 +8,7 @@
 --
 -- The tables of words and of places have the ghosts d; now, that of a table of words, names them in clauses.
 use Rattle.std.specs.Prelude.{ℕ}
-use Rattle.ucd_model.specs.Facts.{Facts}
+use Rattle.ucd_facts.specs.Facts.{Facts}
 use Rattle.range_table.specs.declared.table.Table.{Ghosts}
 use Rattle.kept_values.specs.Kept.{values}
 use Rattle.code_facts.specs.KeptFacts.{all_kept}

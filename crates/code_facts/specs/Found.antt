@@ -9,8 +9,8 @@
 --                           is there
 use Rattle.std.specs.Prelude.{ℕ, Bool, List, Option, Some, None, ◌==◌, find, if◌then◌else◌}
 use Rattle.std.specs.Option.{option_map}
-use Rattle.ucd_model.specs.Facts.{is_folding_of, folding_in, is_casing_of, casing_in}
-use Rattle.ucd_model.specs.declared.row.Row.{Row}
+use Rattle.ucd_facts.specs.Facts.{is_folding_of, folding_in, is_casing_of, casing_in}
+use Rattle.ucd_facts.specs.declared.row.Row.{Row}
 use Rattle.code_facts.specs.declared.case.Case.{Case}
 use Rattle.code_facts.specs.declared.case.Case.TheVariants.{Fold, Lower, Title, Upper}
 

@@ -6,9 +6,9 @@
 -- Packs words F                the word of each code point is the packed word of its facts F
 use Rattle.std.specs.Prelude.{◌≡◌, ℕ, ◌<◌, List, [], ◌∷◌, Option, Some, None, unwrap_or, nat_lt, if◌then◌else◌}
 use Rattle.ucd_points.specs.Limits.{point_count}
-use Rattle.ucd_model.specs.Sets.{has_flag}
-use Rattle.ucd_model.specs.Facts.{Facts, unassigned, image, only_or}
-use Rattle.ucd_model.specs.declared.image.Image.{Image}
+use Rattle.ucd_facts.specs.Sets.{has_flag}
+use Rattle.ucd_facts.specs.Facts.{Facts, unassigned, image, only_or}
+use Rattle.ucd_facts.specs.declared.image.Image.{Image}
 use Rattle.code_facts.specs.Word.{assigned_of_word, excluded_of_word, mid_word_of_word, category_of_word, class_of_word, kind_of_word, flags_of_word, packed}
 use Rattle.code_facts.specs.Rest.{RestOf}
 

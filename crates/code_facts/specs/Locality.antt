@@ -6,10 +6,10 @@
 -- gives_facts file     the rows of the file give facts; those of Scripts.txt and of the alias files do not
 -- OthersGiveNone       facts are the same where the files that give some have the same rows
 use Rattle.std.specs.Prelude.{◌≡◌, ℕ, Bool, true, false, filter}
-use Rattle.ucd_model.specs.Facts.{Sources, facts}
+use Rattle.ucd_facts.specs.Facts.{Sources, facts}
 use Rattle.ucd_points.specs.declared.files.SourceFile.{SourceFile}
 use Rattle.ucd_points.specs.declared.files.SourceFile.TheVariants.{Scripts, PropertyAliases, PropertyValueAliases}
-use Rattle.ucd_model.specs.declared.row.Row.{Row}
+use Rattle.ucd_facts.specs.declared.row.Row.{Row}
 use Rattle.release_rows.specs.OperationLaws.{speaks_of}
 
 abbrev pub rows_within : (Row → Bool) → Sources → Sources

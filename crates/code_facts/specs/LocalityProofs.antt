@@ -9,18 +9,18 @@ use Rattle.std.proofs.lemmas.Bool.{true≢false, and_parts, or_left, or_parts, e
 use Rattle.std.proofs.lemmas.Bool.Decides.{nat_tests}
 use Rattle.std.proofs.lemmas.Map.Views.{any-filter_same}
 use Rattle.ucd_points.specs.Limits.{point_count}
-use Rattle.ucd_model.specs.Names.{flag_name}
-use Rattle.ucd_model.specs.Facts.{Sources, Facts, facts, given, unassigned, within, is_data_of, data_in, data_row, is_casing_of, casing_in, casing_row, is_folding_of, folding_in, folding, gives_value, excludes, excluded_at, full_folding, simple_folding, category_in, class_in, kind_in, mapping_in, upper_in, lower_in, title_in, full_upper, full_lower, full_title, image}
-use Rattle.ucd_model.specs.Values.{default_word_break, gives_some, is_mid_word, mid_word_at, missing_value, taken_missing, value_in}
+use Rattle.ucd_facts.specs.Names.{flag_name}
+use Rattle.ucd_facts.specs.Facts.{Sources, Facts, facts, given, unassigned, within, is_data_of, data_in, data_row, is_casing_of, casing_in, casing_row, is_folding_of, folding_in, folding, gives_value, excludes, excluded_at, full_folding, simple_folding, category_in, class_in, kind_in, mapping_in, upper_in, lower_in, title_in, full_upper, full_lower, full_title, image}
+use Rattle.ucd_facts.specs.Values.{default_word_break, gives_some, is_mid_word, mid_word_at, missing_value, taken_missing, value_in}
 use Rattle.ucd_points.specs.declared.files.SourceFile.{SourceFile}
 use Rattle.ucd_points.specs.declared.files.SourceFile.TheVariants.{UnicodeData, PropList, WordBreakProperty, CompositionExclusions, CaseFolding, SpecialCasing}
-use Rattle.ucd_model.specs.declared.property.Flag.{Flag}
-use Rattle.ucd_model.specs.declared.row.CasingRow.{CasingRow}
-use Rattle.ucd_model.specs.declared.row.DataRow.{DataRow}
-use Rattle.ucd_model.specs.declared.row.FoldStatus.{FoldStatus}
-use Rattle.ucd_model.specs.declared.row.FoldStatus.TheVariants as status
-use Rattle.ucd_model.specs.declared.row.Row.{Row}
-use Rattle.ucd_model.specs.declared.row.Row.TheVariants.{Unit as DataLine, Value as ValueLine, Exclusion as ExclusionLine, Fold as FoldLine, Casing as CasingLine, Alias as AliasLine, Missing as MissingLine}
+use Rattle.ucd_facts.specs.declared.property.Flag.{Flag}
+use Rattle.ucd_facts.specs.declared.row.CasingRow.{CasingRow}
+use Rattle.ucd_facts.specs.declared.row.DataRow.{DataRow}
+use Rattle.ucd_facts.specs.declared.row.FoldStatus.{FoldStatus}
+use Rattle.ucd_facts.specs.declared.row.FoldStatus.TheVariants as status
+use Rattle.ucd_facts.specs.declared.row.Row.{Row}
+use Rattle.ucd_facts.specs.declared.row.Row.TheVariants.{Unit as DataLine, Value as ValueLine, Exclusion as ExclusionLine, Fold as FoldLine, Casing as CasingLine, Alias as AliasLine, Missing as MissingLine}
 use Rattle.release_rows.specs.OperationLaws.{speaks_of}
 use Rattle.code_facts.specs.Locality.{rows_within, gives_facts, FactsAreLocal, FactsStay, OthersGiveNone}
 

@@ -8,12 +8,12 @@
 use Rattle.std.specs.Prelude.{◌≡◌, ℕ, ◌<◌, Bool, ◌&&◌, ◌==◌, List}
 use Rattle.std.specs.List.{list_any}
 use Rattle.std.specs.Str.{bytes_eq}
-use Rattle.ucd_model.specs.Names.{flag_name}
+use Rattle.ucd_facts.specs.Names.{flag_name}
 use Rattle.ucd_points.specs.Bounds.{Bounds}
-use Rattle.ucd_model.specs.Facts.{Sources, within, flag_at}
-use Rattle.ucd_model.specs.Sets.{flag_place}
+use Rattle.ucd_facts.specs.Facts.{Sources, within, flag_at}
+use Rattle.ucd_facts.specs.Sets.{flag_place}
 use Rattle.ucd_points.specs.declared.files.SourceFile.TheVariants.{PropList}
-use Rattle.ucd_model.specs.declared.property.Flag.{Flag}
+use Rattle.ucd_facts.specs.declared.property.Flag.{Flag}
 use Rattle.code_facts.specs.Marks.{holds, file_of}
 use Rattle.code_facts.specs.declared.mark.Mark.{Mark}
 use Rattle.code_facts.specs.declared.mark.Mark.TheVariants.{Excluded, MidWord}

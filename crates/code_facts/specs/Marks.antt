@@ -10,13 +10,13 @@
 -- marks_at rows c         what all marks add to it together
 use Rattle.std.specs.Prelude.{ℕ, ◌+◌, ◌*◌, ◌^◌, Bool, false, List, ◌∷◌, map, length, Option, Some, None, take, sum_by}
 use Rattle.ucd_points.specs.Bounds.{Bounds}
-use Rattle.ucd_model.specs.Enumerations.{flags}
-use Rattle.ucd_model.specs.Sets.{flag_place}
-use Rattle.ucd_model.specs.Facts.{Sources, within, excluded_at, flag_at}
-use Rattle.ucd_model.specs.Values.{mid_word_at}
+use Rattle.ucd_facts.specs.Enumerations.{flags}
+use Rattle.ucd_facts.specs.Sets.{flag_place}
+use Rattle.ucd_facts.specs.Facts.{Sources, within, excluded_at, flag_at}
+use Rattle.ucd_facts.specs.Values.{mid_word_at}
 use Rattle.ucd_points.specs.declared.files.SourceFile.{SourceFile}
 use Rattle.ucd_points.specs.declared.files.SourceFile.TheVariants.{PropList, WordBreakProperty, CompositionExclusions}
-use Rattle.ucd_model.specs.declared.row.Row.{Row}
+use Rattle.ucd_facts.specs.declared.row.Row.{Row}
 use Rattle.code_facts.specs.Word.{one_if}
 use Rattle.code_facts.specs.declared.mark.Mark.{Mark}
 use Rattle.code_facts.specs.declared.mark.Mark.TheVariants.{Excluded, MidWord, Flagged}

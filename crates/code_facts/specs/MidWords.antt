@@ -7,10 +7,10 @@
 -- layer_over c layer word     the word of a layer that covers c; else the word that is there
 use Rattle.std.specs.Prelude.{ℕ, Bool, false, ◌&&◌, Option, Some, None}
 use Rattle.ucd_points.specs.Bounds.{within}
-use Rattle.ucd_model.specs.Values.{is_mid_word}
-use Rattle.ucd_model.specs.declared.row.Row.{Row}
-use Rattle.ucd_model.specs.declared.row.ValueRow.{ValueRow}
-use Rattle.ucd_model.specs.declared.row.Row.TheVariants.{Value as ValueLine, Missing as MissingLine}
+use Rattle.ucd_facts.specs.Values.{is_mid_word}
+use Rattle.ucd_facts.specs.declared.row.Row.{Row}
+use Rattle.ucd_facts.specs.declared.row.ValueRow.{ValueRow}
+use Rattle.ucd_facts.specs.declared.row.Row.TheVariants.{Value as ValueLine, Missing as MissingLine}
 use Rattle.layered_table.specs.Layers.{covered}
 use Rattle.layered_table.specs.declared.painting.Layer.{Layer}
 use Rattle.code_facts.specs.Word.{one_if}

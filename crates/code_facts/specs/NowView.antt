@@ -2,7 +2,7 @@
 --
 -- facts_now now view   the facts of all numbers that the tables of the view keep now
 use Rattle.std.specs.Prelude.{ℕ}
-use Rattle.ucd_model.specs.Facts.{Facts}
+use Rattle.ucd_facts.specs.Facts.{Facts}
 use Rattle.range_table.specs.declared.table.Table.{Ghosts}
 use Rattle.code_facts.specs.FactTables.{tables_facts}
 use Rattle.code_facts.specs.declared.view.NowView.{NowView}

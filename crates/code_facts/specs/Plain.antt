@@ -2,7 +2,7 @@
 --
 -- IsOwnImage c shown  each simple image of the shown facts is c; ShowsNoImage shown: none of their images is shown
 use Rattle.std.specs.Prelude.{◌≡◌, ℕ, None}
-use Rattle.ucd_model.specs.declared.view.FactsRef.{FactsRef}
+use Rattle.ucd_facts.specs.declared.view.FactsRef.{FactsRef}
 
 pub record IsOwnImage (c : ℕ) (shown : FactsRef) : Type 0 where
   pub upper : shown.simple_upper ≡ c

@@ -3,7 +3,7 @@
 -- sources_of lists        the listed rows of each file; of the files that give no facts, none
 -- AreRowsOf lists rows    the lists are the rows of their files
 use Rattle.std.specs.Prelude.{◌≡◌, []}
-use Rattle.ucd_model.specs.Facts.{Sources}
+use Rattle.ucd_facts.specs.Facts.{Sources}
 use Rattle.ucd_points.specs.declared.files.SourceFile.TheVariants.{UnicodeData, CaseFolding, SpecialCasing, PropList, WordBreakProperty, CompositionExclusions}
 use Rattle.code_facts.specs.declared.row_lists.RowLists.{RowLists}
 

@@ -9,7 +9,7 @@
 -- ShowsRows t rows c  these are the facts that the rows give, and the word is their packed word
 use Rattle.std.specs.Prelude.{◌≡◌, ℕ, ◌<◌, ◌≤◌, List, [], ◌∷◌}
 use Rattle.range_table.specs.RunTable.{values_now}
-use Rattle.ucd_model.specs.Facts.{Sources, Facts, given}
+use Rattle.ucd_facts.specs.Facts.{Sources, Facts, given}
 use Rattle.code_facts.specs.CaseImages.{cases_at}
 use Rattle.code_facts.specs.KeptFacts.{kept_at}
 use Rattle.code_facts.specs.PointLists.{lists_now}

@@ -18,15 +18,15 @@
 -- flags_of_word w      the set of flags that the word says: bits 24 to 37
 -- ReadsBack w F        the word says of all that it has room for what the facts F say
 use Rattle.std.specs.Prelude.{◌≡◌, ℕ, ◌+◌, ◌*◌, ◌/◌, ◌%◌, ◌^◌, Bool, true, false, ◌==◌, slice_index_or, sum_by}
-use Rattle.ucd_model.specs.Enumerations.{categories, flags, kinds, place_of_kind}
-use Rattle.ucd_model.specs.Facts.{Facts}
-use Rattle.ucd_model.specs.Predicates.{category_place}
-use Rattle.ucd_model.specs.Sets.{flag_place, has_flag}
-use Rattle.ucd_model.specs.declared.category.Category.{Category}
-use Rattle.ucd_model.specs.declared.category.Category.TheVariants.{Cn}
-use Rattle.ucd_model.specs.declared.decomposition.Kind.{Kind}
-use Rattle.ucd_model.specs.declared.decomposition.Kind.TheVariants.{Plain}
-use Rattle.ucd_model.specs.declared.property.Flag.{Flag}
+use Rattle.ucd_facts.specs.Enumerations.{categories, flags, kinds, place_of_kind}
+use Rattle.ucd_facts.specs.Facts.{Facts}
+use Rattle.ucd_facts.specs.Predicates.{category_place}
+use Rattle.ucd_facts.specs.Sets.{flag_place, has_flag}
+use Rattle.ucd_facts.specs.declared.category.Category.{Category}
+use Rattle.ucd_facts.specs.declared.category.Category.TheVariants.{Cn}
+use Rattle.ucd_facts.specs.declared.decomposition.Kind.{Kind}
+use Rattle.ucd_facts.specs.declared.decomposition.Kind.TheVariants.{Plain}
+use Rattle.ucd_facts.specs.declared.property.Flag.{Flag}
 
 abbrev pub one_if : Bool → ℕ
 one_if true = 1

@@ -1,13 +1,13 @@
 //! The images of code points that CaseFolding.txt and SpecialCasing.txt give.
 
 ghost use Rattle.std.specs.Prelude.{◌≡◌, ℕ, ◌==◌};
-ghost use Rattle.ucd_model.specs.Facts.{status_place};
-ghost use Rattle.ucd_model.specs.declared.row.Row.{Row};
+ghost use Rattle.ucd_facts.specs.Facts.{status_place};
+ghost use Rattle.ucd_facts.specs.declared.row.Row.{Row};
 ghost use Rattle.source_rows.specs.RowRefs.{casing_in, fold_in, row_in};
 ghost use Rattle.code_facts.specs.Found.{given_to, image_of_row};
 
 use source_rows::{CasingText, FoldText, Mapping, RowRef};
-use ucd_model::{FoldStatus, Point};
+use ucd_facts::{FoldStatus, Point};
 
 /// What an image is of: a folding of a status, or a casing without conditions.
 #[derive(Clone, Copy)]

@@ -14,7 +14,7 @@ use crate::points::point;
 use crate::row_lists::RowLists;
 use std::alloc::Global;
 use std::collections::BTreeMap;
-use ucd_model::{Copied, Memory, Point};
+use ucd_facts::{Copied, Memory, Point};
 
 /// The foldings of the statuses C, F and S, and the casings without conditions, under their code points.
 #[derive(Drop)]

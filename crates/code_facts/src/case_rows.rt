@@ -5,7 +5,7 @@ ghost use Rattle.std.specs.Box.{box_value};
 ghost use Rattle.source_rows.specs.RowRefs.{row_in};
 ghost use Rattle.code_facts.specs.CaseImages.{all_images, cases_at, with_casings, with_foldings, with_image};
 ghost use Rattle.code_facts.specs.Found.{image_of_row};
-ghost use Rattle.ucd_model.specs.declared.row.Row.{Row};
+ghost use Rattle.ucd_facts.specs.declared.row.Row.{Row};
 
 use crate::case::Case;
 use crate::cases::Cases;
@@ -14,7 +14,7 @@ use release_rows::RowText;
 use source_rows::{Mapping, RowRef};
 use std::alloc::Global;
 use std::collections::BTreeMap;
-use ucd_model::{FoldStatus, Memory, Point};
+use ucd_facts::{FoldStatus, Memory, Point};
 
 /// The foldings of the statuses C, F and S that rows give. If several rows give a code point one, the first counts. Each
 /// row is read once.

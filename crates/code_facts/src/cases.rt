@@ -8,7 +8,7 @@ ghost use Rattle.code_facts.specs.Rest.{no_cases};
 use crate::case::Case;
 use crate::given_points::GivenPoints;
 use std::alloc::Global;
-use ucd_model::{Copied, FoldStatus, Memory};
+use ucd_facts::{Copied, FoldStatus, Memory};
 
 /// The images that CaseFolding.txt and SpecialCasing.txt give to a code point, each if there is one.
 #[derive(Drop)]

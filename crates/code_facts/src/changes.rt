@@ -4,8 +4,8 @@ ghost use Rattle.std.specs.Prelude.{◌≡◌, ℕ, Bool, true, IfOk, OnOk};
 ghost use Rattle.std.specs.Bool.{Decides};
 ghost use Rattle.std.specs.List.{list_any};
 ghost use Rattle.std.specs.List.Sorted.{IsStrictlySortedBy};
-ghost use Rattle.asked_queries.specs.Answers.{TellsChanges, is_asked};
-ghost use Rattle.ucd_model.specs.declared.query.Query.{Query as QueryValue};
+ghost use Rattle.ucd_facts.specs.Answers.{TellsChanges, is_asked};
+ghost use Rattle.ucd_facts.specs.declared.query.Query.{Query as QueryValue};
 ghost use Rattle.code_facts.specs.Changes.{Gathers, IsTold, is_among, is_reached};
 ghost use Rattle.code_facts.specs.FactTables.{tables_facts, tables_next};
 
@@ -15,7 +15,7 @@ use crate::reaching::put_unless;
 use crate::version::Version;
 use range_table::{Stretches, Table};
 use std::alloc::Global;
-use ucd_model::{Memory, Point, Queries, Query};
+use ucd_facts::{Memory, Point, Queries, Query};
 
 impl<T: Stretches<u64>> FactTables<T> {
     /// The questions that the facts now and next do not answer alike: which facts a code point has, which primary

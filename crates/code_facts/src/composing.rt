@@ -1,7 +1,7 @@
 //! The primary composites of tables, now or next.
 
 ghost use Rattle.std.specs.Prelude.{◌≡◌, ℕ};
-ghost use Rattle.ucd_model.specs.Composites.{composes, ends_with, is_canonical, pair_of, second_of};
+ghost use Rattle.ucd_facts.specs.Composites.{composes, ends_with, is_canonical, pair_of, second_of};
 ghost use Rattle.code_facts.specs.FactTables.{facts_at};
 ghost use Rattle.code_facts.specs.Index.{is_that, ends_that, is_candidate, is_candidate_word, may_compose, picked, two_of};
 
@@ -9,7 +9,7 @@ use crate::fact_tables::FactTables;
 use crate::version::Version;
 use crate::word::{class_of, is_excluded, kind_of};
 use range_table::Table;
-use ucd_model::{Kind, Point};
+use ucd_facts::{Kind, Point};
 
 impl<T: Table<u64>> FactTables<T> {
     /// The least primary composite of a pair: the first that is listed under the pair and composes by the facts. A

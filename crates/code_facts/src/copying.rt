@@ -3,7 +3,7 @@
 ghost use Rattle.std.specs.Prelude.{◌≡◌, ℕ, ◌≤◌, true, Some, OnOk};
 ghost use Rattle.std.specs.List.{list_any};
 ghost use Rattle.range_table.specs.RunTable.{values_now};
-ghost use Rattle.ucd_model.specs.Facts.{within};
+ghost use Rattle.ucd_facts.specs.Facts.{within};
 ghost use Rattle.range_table.specs.Values.{SameValues};
 ghost use Rattle.code_facts.specs.Copying.{with_spans, with_values, HasKeys, IsListed};
 ghost use Rattle.code_facts.specs.Index.{is_candidate_word, is_gathered, is_listed};
@@ -21,7 +21,7 @@ use crate::row_tables::RowTables;
 use kept_values::Store;
 use range_table::{RunTable, Table};
 use std::alloc::Global;
-use ucd_model::{Memory, Point, Span};
+use ucd_facts::{Memory, Point, Span};
 
 /// Makes what is next in spans the same as in the tables of rows, and lists their code points.
 ///

@@ -5,7 +5,7 @@ ghost use Rattle.code_facts.specs.DataTables.{HasNoneNext};
 
 use crate::point_lists::PointLists;
 use std::alloc::Global;
-use ucd_model::Memory;
+use ucd_facts::Memory;
 
 /// The mappings of each code point, kind by kind.
 #[derive(Drop)]

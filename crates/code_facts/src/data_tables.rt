@@ -4,9 +4,9 @@ ghost use Rattle.std.specs.Prelude.{◌≡◌, ℕ, ◌<◌, true, Some, None, I
 ghost use Rattle.std.specs.Option.{option_to_list};
 ghost use Rattle.range_table.specs.Values.{SameValues, with_span};
 ghost use Rattle.code_facts.specs.WordRuns.{words_next};
-ghost use Rattle.ucd_model.specs.Facts.{within, mapping_in, data_row, class_in, is_hangul_syllable, hangul_mapping};
+ghost use Rattle.ucd_facts.specs.Facts.{within, mapping_in, data_row, class_in, is_hangul_syllable, hangul_mapping};
 ghost use Rattle.ucd_points.specs.declared.files.SourceFile.TheVariants.{UnicodeData};
-ghost use Rattle.ucd_model.specs.declared.row.Row.TheVariants.{Unit as DataLine};
+ghost use Rattle.ucd_facts.specs.declared.row.Row.TheVariants.{Unit as DataLine};
 ghost use Rattle.code_facts.specs.RowLists.{sources_of};
 ghost use Rattle.code_facts.specs.Rows.{row_data, Apart};
 ghost use Rattle.code_facts.specs.DataTables.{Adds, AreEmpty, IsFresh, data_now, data_next, given_row};
@@ -23,7 +23,7 @@ use range_table::RunTable;
 use release_rows::RowText;
 use source_rows::{Mapping, PointValues};
 use std::alloc::Global;
-use ucd_model::{Kind, Memory, Point, Span};
+use ucd_facts::{Kind, Memory, Point, Span};
 
 /// The part of the word that the row of a code point gives, and its mappings.
 #[derive(Drop)]

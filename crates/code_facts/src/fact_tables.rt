@@ -9,7 +9,7 @@ use crate::pair_index::PairIndex;
 use crate::rest::Rest;
 use kept_values::Kept;
 use range_table::Table;
-use ucd_model::Spans;
+use ucd_facts::Spans;
 
 /// The facts of all code points, now and next. The word of a code point lies in a table of type `T`, packed, and its
 /// mappings in a store over such a table.

@@ -6,7 +6,7 @@ ghost use Rattle.std.specs.Option.{option_copied};
 use source_rows::Mapping;
 use std::alloc::Global;
 use std::marker::Model;
-use ucd_model::{Copied, Memory, Point, Points};
+use ucd_facts::{Copied, Memory, Point, Points};
 
 /// The points that a row gives, if one gives some. A single point takes no memory of its own.
 #[derive(Drop)]

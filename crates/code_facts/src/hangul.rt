@@ -1,10 +1,10 @@
 //! Hangul syllables. The Unicode Standard, section 3.12.
 
 ghost use Rattle.std.specs.Prelude.{◌≡◌, ◌<◌, ◌≤◌, ℕ, true, false, ◌&&◌, MatchOption};
-ghost use Rattle.ucd_model.specs.Facts.{within, is_hangul_syllable, hangul_mapping};
+ghost use Rattle.ucd_facts.specs.Facts.{within, is_hangul_syllable, hangul_mapping};
 
 use crate::points::point;
-use ucd_model::{Point, Span};
+use ucd_facts::{Point, Span};
 
 const S_BASE: u32 = 0xAC00;
 

@@ -2,11 +2,11 @@
 
 ghost use Rattle.std.specs.Prelude.{◌≡◌, ℕ, [], ◌∷◌, unwrap_or};
 ghost use Rattle.std.specs.Option.{option_copied};
-ghost use Rattle.ucd_model.specs.Facts.{image, only_or};
-ghost use Rattle.ucd_model.specs.Shown.{image_shown};
+ghost use Rattle.ucd_facts.specs.Facts.{image, only_or};
+ghost use Rattle.ucd_facts.specs.Shown.{image_shown};
 ghost use Rattle.code_facts.specs.KeptFacts.{full_image};
 
-use ucd_model::Point;
+use ucd_facts::Point;
 
 /// The first of the points, or the code point itself if there are none.
 pub fn first_or(c: Point, points: &[Point]) -> Point

@@ -2,11 +2,11 @@
 
 ghost use Rattle.std.specs.Prelude.{◌≡◌, ◌||◌, ℕ, IfOk, IfSome, OnOk};
 ghost use Rattle.std.specs.List.{list_any};
-ghost use Rattle.ucd_model.specs.Facts.{within};
+ghost use Rattle.ucd_facts.specs.Facts.{within};
 ghost use Rattle.code_facts.specs.JoinedSpans.{is_in};
 
 use std::alloc::Global;
-use ucd_model::{Memory, Span, Spans};
+use ucd_facts::{Memory, Span, Spans};
 
 /// Spans of the same code points, which ascend. Between any two of them is a code point that lies in none.
 ///

@@ -11,7 +11,7 @@ use crate::place::Place;
 use crate::point_lists::PointLists;
 use range_table::{RunTable, Table};
 use std::alloc::Global;
-use ucd_model::{Memory, Point, Span};
+use ucd_facts::{Memory, Point, Span};
 
 impl PointLists {
     /// The lists that are all empty.

@@ -1,6 +1,6 @@
 //! Stretches of code points that have the same list.
 
-use ucd_model::Point;
+use ucd_facts::Point;
 
 /// What lists tell of a stretch of code points.
 #[derive(Clone, Copy)]

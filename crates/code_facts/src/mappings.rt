@@ -4,7 +4,7 @@ ghost use Rattle.std.specs.Prelude.{◌≡◌};
 ghost use Rattle.code_facts.specs.Rest.{bare_rest, rest_of_all};
 
 use crate::cases::Cases;
-use ucd_model::{Point, Points};
+use ucd_facts::{Point, Points};
 
 /// The mappings of a code point, each if there is one.
 #[derive(Drop)]

@@ -1,11 +1,11 @@
 //! The marks that rows of other files than UnicodeData.txt put on code points.
 
 ghost use Rattle.std.specs.Prelude.{◌≡◌, ◌+◌, ◌<◌, ◌^◌, get_or, length};
-ghost use Rattle.ucd_model.specs.Sets.{flag_place};
-ghost use Rattle.ucd_model.specs.Values.{is_mid_word};
+ghost use Rattle.ucd_facts.specs.Sets.{flag_place};
+ghost use Rattle.ucd_facts.specs.Values.{is_mid_word};
 ghost use Rattle.code_facts.specs.Marks.{all_marks, word_of};
 
-use ucd_model::{FLAGS, Flag};
+use ucd_facts::{FLAGS, Flag};
 
 /// A mark of a code point.
 #[derive(Clone, Copy)]

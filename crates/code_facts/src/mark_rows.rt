@@ -4,9 +4,9 @@ ghost use Rattle.std.specs.Prelude.{◌≡◌, ℕ, ◌&&◌, ◌||◌, IfOk, On
 ghost use Rattle.std.specs.List.{list_any};
 ghost use Rattle.std.specs.Str.{bytes_eq};
 ghost use Rattle.release_rows.specs.ValuesApart.{AreValuesApart};
-ghost use Rattle.ucd_model.specs.Facts.{excluded_at, excludes, flag_at, gives_value, within};
-ghost use Rattle.ucd_model.specs.Names.{flag_name};
-ghost use Rattle.ucd_model.specs.declared.property.Flag.{Flag as FlagValue};
+ghost use Rattle.ucd_facts.specs.Facts.{excluded_at, excludes, flag_at, gives_value, within};
+ghost use Rattle.ucd_facts.specs.Names.{flag_name};
+ghost use Rattle.ucd_facts.specs.declared.property.Flag.{Flag as FlagValue};
 ghost use Rattle.code_facts.specs.MarkRows.{KeepsMarkRows, is_flagged, names_flag};
 ghost use Rattle.code_facts.specs.Marks.{covers};
 ghost use Rattle.code_facts.specs.RowLists.{sources_of};
@@ -16,7 +16,7 @@ use crate::row_lists::RowLists;
 use release_rows::RowText;
 use source_rows::{RowRef, ValueText};
 use std::alloc::Global;
-use ucd_model::{FLAGS, Flag, Memory, Span};
+use ucd_facts::{FLAGS, Flag, Memory, Span};
 
 /// The code points of a row of PropList.txt that has the name of a flag.
 #[derive(Clone, Copy)]

@@ -5,7 +5,7 @@ ghost use Rattle.std.specs.List.{list_any};
 ghost use Rattle.range_table.specs.Values.{SameValues};
 ghost use Rattle.release_rows.specs.ValuesApart.{AreValuesApart};
 ghost use Rattle.range_table.specs.RunTable.{values_now};
-ghost use Rattle.ucd_model.specs.Facts.{Sources, within};
+ghost use Rattle.ucd_facts.specs.Facts.{Sources, within};
 ghost use Rattle.code_facts.specs.RowLists.{sources_of};
 ghost use Rattle.code_facts.specs.Marks.{mark_bit, marks_at};
 ghost use Rattle.code_facts.specs.MarkRows.{IsMarked, KeepsMarkRows, is_flagged};
@@ -16,7 +16,7 @@ use crate::painting::{painted, summed};
 use crate::row_lists::RowLists;
 use range_table::{RunTable, Table};
 use std::alloc::Global;
-use ucd_model::{Flag, Memory, Span};
+use ucd_facts::{Flag, Memory, Span};
 
 /// The sum of the marks that these rows put on each code point. UAX #44, section 5.3; UAX #29, section 4.1.
 ///

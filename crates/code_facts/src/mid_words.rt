@@ -5,8 +5,8 @@ ghost use Rattle.std.specs.List.{list_any};
 ghost use Rattle.layered_table.specs.Layers.{puts, word_at};
 ghost use Rattle.release_rows.specs.ValuesApart.{AreValuesApart};
 ghost use Rattle.source_rows.specs.RowRefs.{row_in};
-ghost use Rattle.ucd_model.specs.Facts.{within};
-ghost use Rattle.ucd_model.specs.Values.{default_word_break, is_mid_word, missing_value, mid_word_at};
+ghost use Rattle.ucd_facts.specs.Facts.{within};
+ghost use Rattle.ucd_facts.specs.Values.{default_word_break, is_mid_word, missing_value, mid_word_at};
 ghost use Rattle.code_facts.specs.Marks.{covers};
 ghost use Rattle.code_facts.specs.MidWords.{gives_mid_word, given_layer as given_layer_of, is_missing_mid_word as is_missing, layer_of, layer_over, missing_layer as missing_layer_of};
 ghost use Rattle.code_facts.specs.Word.{one_if};
@@ -17,7 +17,7 @@ use layered_table::{Layer, pieces};
 use release_rows::RowText;
 use source_rows::RowRef;
 use std::alloc::Global;
-use ucd_model::{Memory, Span};
+use ucd_facts::{Memory, Span};
 
 /// The code points that stand in the middle of a word by these rows of WordBreakProperty.txt. UAX #29, section 4.1; UAX #44,
 /// section 4.2.10.

@@ -4,12 +4,12 @@ ghost use Rattle.std.specs.Prelude.{◌≡◌, ℕ, ◌+◌, ◌<◌, ◌^◌, I
 ghost use Rattle.std.specs.List.{list_any};
 ghost use Rattle.range_table.specs.Values.{SameValues};
 ghost use Rattle.range_table.specs.RunTable.{values_now};
-ghost use Rattle.ucd_model.specs.Facts.{within};
+ghost use Rattle.ucd_facts.specs.Facts.{within};
 
 use crate::points::lesser;
 use range_table::{RunTable, Table};
 use std::alloc::Global;
-use ucd_model::{Memory, Point, Span};
+use ucd_facts::{Memory, Point, Span};
 
 /// The table with a value at each code point that some span covers, and 0 elsewhere. The spans may stand in any order,
 /// and overlap.

@@ -8,7 +8,7 @@ use crate::pair_keys::{PairKeys, pair_key, second_key};
 use crate::points::point;
 use key_set::KeySet;
 use std::alloc::Global;
-use ucd_model::{Memory, Point};
+use ucd_facts::{Memory, Point};
 
 /// Code points under the two members of their mappings, and under the second ones. The index does not tell whether one
 /// of them is a primary composite: that may change while the index stays.

@@ -12,7 +12,7 @@ ghost use Rattle.code_facts.specs.Index.{pair_key, second_key, is_gathered};
 
 use crate::points::point;
 use std::alloc::Global;
-use ucd_model::{Memory, Point, Span};
+use ucd_facts::{Memory, Point, Span};
 
 /// The keys of code points under the two members of their mappings, and under the second ones, as they are found.
 #[derive(Drop)]

@@ -1,8 +1,8 @@
 //! How far code points have no mapping.
 
 ghost use Rattle.std.specs.Prelude.{◌≡◌, ◌↔◌, IfSome, IsSome, IsTrue};
-ghost use Rattle.ucd_model.specs.Shown.{shown_facts};
-ghost use Rattle.ucd_model.specs.Uniform.{IsPlain};
+ghost use Rattle.ucd_facts.specs.Shown.{shown_facts};
+ghost use Rattle.ucd_facts.specs.Uniform.{IsPlain};
 ghost use Rattle.code_facts.specs.FactTables.{tables_facts};
 ghost use Rattle.code_facts.specs.Plain.{IsOwnImage, ShowsNoImage};
 ghost use Rattle.ucd_points.specs.Stretches.{HoldsTo};
@@ -10,7 +10,7 @@ ghost use Rattle.ucd_points.specs.Stretches.{HoldsTo};
 use crate::fact_tables::FactTables;
 use kept_values::Store;
 use range_table::Stretches;
-use ucd_model::{FactView, FactsRef, Point};
+use ucd_facts::{FactView, FactsRef, Point};
 
 impl<T: Stretches<u64>> FactTables<T> {
     /// Whether a code point has no mapping of any kind. UAX #44, sections 5.6 and 5.7.

@@ -6,7 +6,7 @@ ghost use Rattle.code_facts.specs.Lists.{Lie};
 
 use crate::place::Place;
 use range_table::RunTable;
-use ucd_model::Point;
+use ucd_facts::Point;
 
 /// A list of code points for each code point, now and next; at first all are empty.
 ///

@@ -2,7 +2,7 @@
 
 ghost use Rattle.std.specs.Prelude.{◌≡◌, ◌<◌, ◌≤◌, min};
 
-use ucd_model::Point;
+use ucd_facts::Point;
 
 /// The code point of a number.
 pub fn point(number: u32) -> Point

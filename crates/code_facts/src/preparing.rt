@@ -2,7 +2,7 @@
 
 ghost use Rattle.std.specs.Prelude.{◌≡◌, ℕ, ◌<◌, true, false, IfOk, OnOk, OnErr};
 ghost use Rattle.std.specs.List.{list_any};
-ghost use Rattle.ucd_model.specs.Facts.{facts, within};
+ghost use Rattle.ucd_facts.specs.Facts.{facts, within};
 ghost use Rattle.range_table.specs.Values.{SameValues};
 ghost use Rattle.release_rows.specs.Touching.{meets};
 ghost use Rattle.code_facts.specs.Copying.{with_spans, IsListed};
@@ -29,7 +29,7 @@ use kept_values::{Kept, Store};
 use range_table::Table;
 use release_rows::{Release, rows_meet};
 use std::alloc::Global;
-use ucd_model::{FactView, Memory, Point, Span, Spans};
+use ucd_facts::{FactView, Memory, Point, Span, Spans};
 
 impl<T: Table<u64>> FactTables<T> {
     /// The facts of the rows of a release now; next they are the same. UAX #44, sections 5.3, 5.6 and 5.7.

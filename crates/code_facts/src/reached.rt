@@ -1,6 +1,6 @@
 //! What an edit reaches, gone through point by point.
 
-use ucd_model::{Point, Query};
+use ucd_facts::{Point, Query};
 
 /// What was found so far of an edit: questions that are answered differently, and pairs that may be.
 #[derive(Drop)]

@@ -4,8 +4,8 @@
 ghost use Rattle.std.specs.Prelude.{◌≡◌, ℕ, ◌%◌, ◌≤◌, true, ◌++◌, [], ◌∷◌, IfOk, IfSome, OnOk, if◌then◌else◌};
 ghost use Rattle.std.specs.Bool.{Decides};
 ghost use Rattle.std.specs.List.{list_any};
-ghost use Rattle.ucd_model.specs.Facts.{within};
-ghost use Rattle.ucd_model.specs.Composites.{composes};
+ghost use Rattle.ucd_facts.specs.Facts.{within};
+ghost use Rattle.ucd_facts.specs.Composites.{composes};
 ghost use Rattle.code_facts.specs.Changes.{Gathers, Grows, IsDone, IsOnlyChanged, IsSeen, IsTold, ReachesOwn, first_differs, is_reached};
 ghost use Rattle.code_facts.specs.FactTables.{facts_at, rests_at, tables_facts, tables_next, words_at};
 ghost use Rattle.code_facts.specs.Index.{is_listed};
@@ -18,7 +18,7 @@ use crate::reached::Reached;
 use crate::version::Version;
 use range_table::{Stretches, Table};
 use std::alloc::Global;
-use ucd_model::{Memory, Point, Query, Span, same_facts};
+use ucd_facts::{Memory, Point, Query, Span, same_facts};
 
 impl<T: Stretches<u64>> FactTables<T> {
     /// What the points of spans give.

@@ -1,9 +1,9 @@
 //! Reading the facts of tables, now or next.
 
 ghost use Rattle.std.specs.Prelude.{◌≡◌};
-ghost use Rattle.ucd_model.specs.Sets.{has_flag};
-ghost use Rattle.ucd_model.specs.Shown.{image_shown, shown_facts};
-ghost use Rattle.ucd_model.specs.Unmapped.{is_unmapped};
+ghost use Rattle.ucd_facts.specs.Sets.{has_flag};
+ghost use Rattle.ucd_facts.specs.Shown.{image_shown, shown_facts};
+ghost use Rattle.ucd_facts.specs.Unmapped.{is_unmapped};
 ghost use Rattle.code_facts.specs.FactTables.{words_at, rests_at, facts_at};
 
 use crate::fact_tables::FactTables;
@@ -14,7 +14,7 @@ use crate::version::Version;
 use crate::word::{category_of, class_of, flags_of, is_assigned, kind_of};
 use kept_values::Store;
 use range_table::Table;
-use ucd_model::{Category, FactsRef, Flags, Kind, Point};
+use ucd_facts::{Category, FactsRef, Flags, Kind, Point};
 
 impl<T: Table<u64>> FactTables<T> {
     /// The packed word of a code point.

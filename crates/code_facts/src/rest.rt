@@ -9,7 +9,7 @@ use crate::cases::Cases;
 use crate::mappings::Mappings;
 use std::alloc::Global;
 use std::marker::Model;
-use ucd_model::{Copied, Memory, Point, Points};
+use ucd_facts::{Copied, Memory, Point, Points};
 
 /// The mappings of a code point. Most that have any have only a decomposition mapping of one or two members, which
 /// takes no memory of its own.

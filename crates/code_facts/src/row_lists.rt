@@ -11,7 +11,7 @@ ghost use Rattle.code_facts.specs.Rows.{Apart};
 
 use release_rows::{Release, RowText};
 use std::alloc::Global;
-use ucd_model::{Memory, SourceFile, Span};
+use ucd_facts::{Memory, SourceFile, Span};
 
 /// The rows of the files that give facts, each in the order of its file, as they stand in it.
 #[derive(Drop)]

@@ -4,7 +4,7 @@ ghost use Rattle.std.specs.Prelude.{◌≡◌, ℕ, ◌+◌, ◌<◌, ◌≤◌,
 ghost use Rattle.std.specs.Option.{option_to_list};
 ghost use Rattle.range_table.specs.RunTable.{values_now};
 ghost use Rattle.release_rows.specs.ValuesApart.{AreValuesApart};
-ghost use Rattle.ucd_model.specs.Facts.{data_row, class_in};
+ghost use Rattle.ucd_facts.specs.Facts.{data_row, class_in};
 ghost use Rattle.ucd_points.specs.declared.files.SourceFile.TheVariants.{UnicodeData};
 ghost use Rattle.code_facts.specs.DataTables.{data_now};
 ghost use Rattle.code_facts.specs.Marks.{marks_at};
@@ -26,7 +26,7 @@ use crate::rest::Rest;
 use crate::row_lists::RowLists;
 use range_table::{RunTable, Table};
 use std::alloc::Global;
-use ucd_model::{Memory, Point, Points};
+use ucd_facts::{Memory, Point, Points};
 
 /// The facts of all code points that rows give, in run tables and maps.
 #[derive(Drop)]

@@ -1,7 +1,7 @@
 //! Reading the facts that a word and a rest keep.
 
 ghost use Rattle.std.specs.Prelude.{◌≡◌};
-ghost use Rattle.ucd_model.specs.Shown.{shown_facts};
+ghost use Rattle.ucd_facts.specs.Shown.{shown_facts};
 ghost use Rattle.code_facts.specs.KeptFacts.{kept_at};
 ghost use Rattle.code_facts.specs.Rest.{bare_rest};
 
@@ -10,7 +10,7 @@ use crate::rest::Rest;
 use crate::word::{
     category_of, class_of, flags_of, is_assigned, is_excluded, is_mid_word, kind_of,
 };
-use ucd_model::{FactsRef, Point};
+use ucd_facts::{FactsRef, Point};
 
 /// The facts of a code point by its word and its rest.
 pub fn shown(c: Point, word: u64, rest: &Rest) -> FactsRef<'_>

@@ -6,7 +6,7 @@ ghost use Rattle.code_facts.specs.FactTables.{tables_facts, tables_next};
 use crate::fact_tables::FactTables;
 use range_table::Table;
 use std::alloc::Global;
-use ucd_model::{Copied, Memory, Spans};
+use ucd_facts::{Copied, Memory, Spans};
 
 impl<T: Table<u64> + Copied> FactTables<T> {
     /// The same facts, now and next.

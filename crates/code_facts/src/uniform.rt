@@ -1,8 +1,8 @@
 //! How far code points have no mapping and the same other facts.
 
 ghost use Rattle.std.specs.Prelude.{◌≡◌, ◌↔◌, IfSome, IsSome};
-ghost use Rattle.ucd_model.specs.Composites.{second_of};
-ghost use Rattle.ucd_model.specs.Uniform.{Alike, IsPlain, Uniform};
+ghost use Rattle.ucd_facts.specs.Composites.{second_of};
+ghost use Rattle.ucd_facts.specs.Uniform.{Alike, IsPlain, Uniform};
 ghost use Rattle.code_facts.specs.FactTables.{tables_facts};
 ghost use Rattle.ucd_points.specs.Stretches.{HoldsTo};
 
@@ -10,7 +10,7 @@ use crate::fact_tables::FactTables;
 use crate::pair_index::next_second;
 use crate::points::{lesser, point};
 use range_table::Stretches;
-use ucd_model::{FactView, Point};
+use ucd_facts::{FactView, Point};
 
 impl<T: Stretches<u64>> FactTables<T> {
     /// A code point up to which all from `c` on are without a mapping of any kind and have the same other facts now, and

@@ -7,7 +7,7 @@ ghost use Rattle.code_facts.specs.NowView.{facts_now};
 use crate::fact_tables::FactTables;
 use crate::version::Version;
 use range_table::Table;
-use ucd_model::{Category, FactView, FactsRef, Flags, Kind, Point};
+use ucd_facts::{Category, FactView, FactsRef, Flags, Kind, Point};
 
 /// The facts of code points now.
 #[derive(Clone, Copy)]

@@ -15,7 +15,7 @@ ghost use Rattle.std.specs.Prelude.{◌≡◌, ◌<◌, true, ◌/◌, ◌%◌};
 ghost use Rattle.code_facts.specs.Word.{data_part, assigned_of_word, excluded_of_word, mid_word_of_word, category_of_word, class_of_word, kind_of_word, flags_of_word};
 
 use source_rows::Values;
-use ucd_model::{Category, Flags, Kind};
+use ucd_facts::{Category, Flags, Kind};
 
 /// The word of a code point without a row in any file: category `Cn`, and nothing else.
 pub const NO_ROW: u64 = 8 * 29;

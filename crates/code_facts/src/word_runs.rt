@@ -7,7 +7,7 @@ ghost use Rattle.code_facts.specs.WordRuns.{over_last, word_over, words_next};
 
 use range_table::{RunTable, Table};
 use std::alloc::Global;
-use ucd_model::{Memory, Span};
+use ucd_facts::{Memory, Span};
 
 /// A word for the code points of a span.
 #[derive(Clone, Copy)]

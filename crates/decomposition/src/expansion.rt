@@ -1,7 +1,7 @@
 //! The expansion of a code point.
 
 ghost use Rattle.std.specs.Prelude.{◌≡◌, ◌≤◌, [], length};
-ghost use Rattle.ucd_model.specs.Expansion.{counted, expand, expansion, FormAnswers};
+ghost use Rattle.ucd_facts.specs.Expansion.{counted, expand, expansion, FormAnswers};
 ghost use Rattle.decomposition.specs.Walk.{Puts};
 
 use crate::levels::has_long_chain;

@@ -2,7 +2,7 @@
 
 ghost use Rattle.std.specs.Prelude.{◌≡◌, ℕ, Bool, true, is_none, IfOk};
 ghost use Rattle.std.specs.List.{list_any};
-ghost use Rattle.ucd_model.specs.Expansion.{full};
+ghost use Rattle.ucd_facts.specs.Expansion.{full};
 ghost use Rattle.decomposition.specs.Levels.{any_member};
 
 use crate::expansion::{LEVELS, counted};

@@ -1,7 +1,7 @@
 -- Who asks what, worked out by hand: all code points are plain but 3, which asks its own row, that of 1, and the pair of 1 and 2.
 use Rattle.std.proofs.Common.{◌≡◌, ℕ, zero, suc, Bool, List, [], ◌∷◌, Option, Some, None, filter, refl}
-use Rattle.ucd_model.specs.declared.query.Query.{Query}
-use Rattle.ucd_model.specs.declared.query.Query.TheVariants.{Row, Pair, Second}
+use Rattle.ucd_facts.specs.declared.query.Query.{Query}
+use Rattle.ucd_facts.specs.declared.query.Query.TheVariants.{Row, Pair, Second}
 use Rattle.std.specs.List.{range_with_len}
 use Rattle.dependency_map.specs.Askers.{asked_by, asks, asks_any}
 

@@ -6,7 +6,7 @@
 use Rattle.std.specs.Prelude.{◌≡◌, ℕ, ◌<◌, Bool, true, List, ◌==◌}
 use Rattle.std.specs.List.{list_any}
 use Rattle.std.specs.List.Sorted.{IsStrictlyIncreasing}
-use Rattle.ucd_model.specs.declared.query.Query.{Query}
+use Rattle.ucd_facts.specs.declared.query.Query.{Query}
 use Rattle.dependency_map.specs.Askers.{asks, asks_any, askers_of, askers_of_any}
 
 abbrev pub is_in : List ℕ → ℕ → Bool

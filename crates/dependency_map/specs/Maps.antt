@@ -4,7 +4,7 @@
 --                     own ones where none were
 -- put_at at listing c the same of a listing
 use Rattle.std.specs.Prelude.{ℕ, List, Option}
-use Rattle.ucd_model.specs.declared.query.Query.{Query}
+use Rattle.ucd_facts.specs.declared.query.Query.{Query}
 use Rattle.kept_values.specs.declared.store.Store.{Ghosts}
 use Rattle.dependency_map.specs.Askers.{asked_by}
 use Rattle.dependency_map.specs.Index.{kept_at}

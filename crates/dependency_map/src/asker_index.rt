@@ -7,8 +7,8 @@
 //! | 42 to 62 | the first code point of a pair; 110000 (hexadecimal) for a row, 110001 for a second member |
 
 ghost use Rattle.std.specs.Prelude.{◌≡◌, ℕ, ◌+◌, ◌^◌, ◌<◌, ◌≤◌, true, MatchOption, OnOk};
-ghost use Rattle.ucd_model.specs.declared.query.Query.{Query as Question};
-ghost use Rattle.asked_queries.specs.Answers.{is_asked};
+ghost use Rattle.ucd_facts.specs.declared.query.Query.{Query as Question};
+ghost use Rattle.ucd_facts.specs.Answers.{is_asked};
 ghost use Rattle.key_set.specs.Keys.{has, is_in};
 ghost use Rattle.dependency_map.specs.Index.{query_key, is_own, least, may_ask, NoneFrom};
 

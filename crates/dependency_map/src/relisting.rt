@@ -3,7 +3,7 @@
 ghost use Rattle.std.specs.Prelude.{◌≡◌, ℕ, ◌+◌, ◌<◌, ◌≤◌, true, None, IfOk, IfSome, IsTrue, OnOk};
 ghost use Rattle.key_set.specs.Keys.{is_in};
 ghost use Rattle.kept_values.specs.Kept.{values};
-ghost use Rattle.ucd_model.specs.declared.query.Query.{Query as Question};
+ghost use Rattle.ucd_facts.specs.declared.query.Query.{Query as Question};
 ghost use Rattle.dependency_map.specs.Index.{keeps, kept_at, may_ask, Lists, ListsFrom};
 
 use crate::asker_index::push_keys;

@@ -4,7 +4,7 @@
 -- sample_record s rest c   the record of c: that of the first entry of s whose span covers c, and without one the default, rest
 use Rattle.std.specs.Prelude.{ℕ, List, Option, Some, None, find}
 use Rattle.ucd_points.specs.Bounds.{Bounds}
-use Rattle.ucd_model.specs.Facts.{within}
+use Rattle.ucd_facts.specs.Facts.{within}
 use Rattle.ucd_model.specs.Records.{Record, kept_record}
 use Rattle.ucd_model.specs.declared.records.Record.{Record as KeptRecord}
 

@@ -1,7 +1,7 @@
 //! Records of a few spans, for tests.
 
 ghost use Rattle.std.specs.Prelude.{◌≡◌};
-ghost use Rattle.ucd_model.specs.Facts.{within};
+ghost use Rattle.ucd_facts.specs.Facts.{within};
 ghost use Rattle.derivation_tests.specs.Samples.{sample_record};
 
 use crate::facts::points;

@@ -2,9 +2,9 @@
 use Rattle.std.proofs.Common.{◌≡◌, ℕ, List, [], ◌∷◌, ◌++◌, append_assoc, refl, sym, ap, ◌∙◌}
 use Rattle.std.specs.Prelude.{codes}
 use Rattle.ucd_model.specs.DerivedFiles.{listed, image_text, casefold_label}
-use Rattle.ucd_model.specs.RowTexts.{spaced}
-use Rattle.ucd_model.specs.RowTextLemmas.{mapping_text-is}
-use Rattle.ucd_model.specs.declared.image.Image.TheVariants.{To}
+use Rattle.ucd_facts.specs.RowTexts.{spaced}
+use Rattle.ucd_facts.specs.RowTextLemmas.{mapping_text-is}
+use Rattle.ucd_facts.specs.declared.image.Image.TheVariants.{To}
 
 image_is : (points : List ℕ) → image_text points ≡ codes " ;" ++ spaced points
 image_is [] = refl

@@ -4,7 +4,7 @@
 use Rattle.std.specs.Prelude.{◌≡◌, ℕ, ◌<◌}
 use Rattle.ucd_model.specs.DerivedFiles.{derived_text}
 use Rattle.ucd_model.specs.Records.{Record}
-use Rattle.ucd_model.specs.declared.files.DerivedFile.{DerivedFile}
+use Rattle.ucd_facts.specs.declared.files.DerivedFile.{DerivedFile}
 
 abbrev pub TextsFollowRecords : Type 0
 TextsFollowRecords = (n : ℕ) (file : DerivedFile) (R S : ℕ → Record) → ((c : ℕ) → c < n → R c ≡ S c) → derived_text n file R ≡ derived_text n file S

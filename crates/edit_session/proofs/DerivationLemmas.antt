@@ -4,7 +4,7 @@ use Rattle.std.specs.List.{list_any, range_with_len}
 use Rattle.std.proofs.lemmas.Bool.Decides.{nat_tests}
 use Rattle.ucd_points.specs.Bounds.{Bounds}
 use Rattle.range_table.specs.Values.{SameValues}
-use Rattle.ucd_model.specs.Facts.{Facts, within}
+use Rattle.ucd_facts.specs.Facts.{Facts, within}
 use Rattle.ucd_points.specs.Limits.{point_count}
 use Rattle.ucd_model.specs.Records.{Record, record_at}
 use Rattle.ucd_model.specs.Sameness.{same_record}
@@ -12,9 +12,9 @@ use Rattle.ucd_model.specs.SamenessProofs.{records_are_told}
 use Rattle.ucd_model.specs.Validity.{first_broken}
 use Rattle.ucd_model.specs.ValidityLaws.{IsValid}
 use Rattle.ucd_model.specs.ValidityProofs.{valid_is_unbroken}
-use Rattle.ucd_model.specs.declared.form.Broken.{Broken}
-use Rattle.ucd_model.specs.declared.query.Query.{Query}
-use Rattle.asked_queries.specs.Answers.{TellsChanges}
+use Rattle.ucd_facts.specs.declared.form.Broken.{Broken}
+use Rattle.ucd_facts.specs.declared.query.Query.{Query}
+use Rattle.ucd_facts.specs.Answers.{TellsChanges}
 use Rattle.record_list.specs.Records.{record_next, record_now}
 use Rattle.rederivation.specs.Turned.{CountsWithin, IsReady, IsTurned, StopsTurn}
 use Rattle.rederivation.specs.declared.again_stop.AgainStop.{AgainStop}

@@ -2,15 +2,15 @@
 use Rattle.std.proofs.Common.{◌≡◌, ℕ, ◌+◌, ◌-◌, ◌<◌, ◌≤◌, Option, Some, None, Ok, Err, refl, sym, ap, subst, ◌∙◌, arith, inl, inr}
 use Rattle.std.proofs.lemmas.Bool.{cases_lt}
 use Rattle.std.proofs.lemmas.Bool.Decides.{nat_tests}
-use Rattle.ucd_model.specs.Facts.{Facts}
+use Rattle.ucd_facts.specs.Facts.{Facts}
 use Rattle.ucd_points.specs.Limits.{point_count}
-use Rattle.ucd_model.specs.Predicates.{is_visible_format}
+use Rattle.ucd_facts.specs.Predicates.{is_visible_format}
 use Rattle.ucd_model.specs.Records.{Record, kept_record, record_at, record_or_rule, derived}
-use Rattle.ucd_model.specs.Uniform.{IsPlain, Uniform}
+use Rattle.ucd_facts.specs.Uniform.{IsPlain, Uniform}
 use Rattle.ucd_model.specs.Validity.{broken}
 use Rattle.ucd_model.specs.ValidityLaws.{IsValid}
 use Rattle.ucd_model.specs.ValidityProofs.{broken_is_least}
-use Rattle.ucd_model.specs.declared.form.Bad.{Bad as Rule}
+use Rattle.ucd_facts.specs.declared.form.Bad.{Bad as Rule}
 use Rattle.ucd_points.specs.Bounds.{Bounds}
 use Rattle.ucd_points.specs.Stretches.{HoldsTo}
 use Rattle.identifier_closure.specs.UniformProofs.{uniform_derived}

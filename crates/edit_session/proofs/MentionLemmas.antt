@@ -5,8 +5,8 @@
 -- steps_all    to all, and as another index tells them
 use Rattle.std.proofs.Common.{◌≡◌, ◌∙◌, ℕ, ◌+◌, ◌≤◌, Bool, true, subst, arith, inl, inr}
 use Rattle.std.proofs.lemmas.Bool.{cases_lt}
-use Rattle.ucd_model.specs.Facts.{Facts}
-use Rattle.ucd_model.specs.Uniform.{IsPlain}
+use Rattle.ucd_facts.specs.Facts.{Facts}
+use Rattle.ucd_facts.specs.Uniform.{IsPlain}
 use Rattle.ucd_points.specs.Stretches.{HoldsTo}
 use Rattle.mention_index.specs.StepProofs.{plain_steps}
 use Rattle.mention_index.specs.Steps.{HasSteps, HasStepsTo}

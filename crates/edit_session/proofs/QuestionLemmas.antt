@@ -13,13 +13,13 @@ use Rattle.std.proofs.lemmas.Bool.{true≢false, or_cases, or_left, or_parts, or
 use Rattle.std.proofs.lemmas.Bool.Decides.{nat_tests}
 use Rattle.range_table.specs.Values.{SameValues, point_count-is}
 use Rattle.ucd_points.specs.Limits.{point_count}
-use Rattle.ucd_model.specs.Facts.{Facts, unassigned}
+use Rattle.ucd_facts.specs.Facts.{Facts, unassigned}
 use Rattle.ucd_model.specs.Sameness.{is_in}
-use Rattle.ucd_model.specs.Uniform.{IsPlain}
-use Rattle.ucd_model.specs.declared.query.Query.{Query}
-use Rattle.ucd_model.specs.declared.query.Query.TheVariants.{Row, Second}
-use Rattle.asked_queries.specs.AnswerProofs.{queries_are_told}
-use Rattle.asked_queries.specs.Answers.{is_asked, same_query}
+use Rattle.ucd_facts.specs.Uniform.{IsPlain}
+use Rattle.ucd_facts.specs.declared.query.Query.{Query}
+use Rattle.ucd_facts.specs.declared.query.Query.TheVariants.{Row, Second}
+use Rattle.ucd_facts.specs.AnswerProofs.{queries_are_told}
+use Rattle.ucd_facts.specs.Answers.{is_asked, same_query}
 use Rattle.mention_index.specs.Reached.{about}
 use Rattle.asked_queries.specs.PlainProofs.{plain_ask_own}
 use Rattle.asked_queries.specs.Questions.{asked}

@@ -8,7 +8,7 @@
 --                              memory ran out, nothing is claimed
 -- HasNothingPrepared release   what is next is what is now
 use Rattle.std.specs.Prelude.{◌≡◌, ℕ, Some, None, ⊤}
-use Rattle.ucd_model.specs.Facts.{Facts, facts}
+use Rattle.ucd_facts.specs.Facts.{Facts, facts}
 use Rattle.ucd_model.specs.Records.{Record, record_at}
 use Rattle.ucd_model.specs.Validity.{first_broken}
 use Rattle.release_rows.specs.Releases.{ReleaseItems, rows_now}

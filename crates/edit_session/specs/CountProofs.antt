@@ -4,7 +4,7 @@
 -- counts_none     a counter that stays is what any group may leave
 use Rattle.std.proofs.Common.{ℕ, List, [], Result, Ok, Err, refl, sym, arith}
 use Rattle.std.proofs.lemmas.Bool.{true≢false}
-use Rattle.ucd_model.specs.Facts.{Facts}
+use Rattle.ucd_facts.specs.Facts.{Facts}
 use Rattle.release_rows.specs.FileItems.{FileItem}
 use Rattle.rederivation.specs.Turned.{CountsWithin}
 use Rattle.edit_session.specs.Groups.{CountsAs, files_facts}

@@ -9,7 +9,7 @@
 -- IsFound F c result           the result is the record of c, or in its place c with the first rule that it breaks; no claim if
 --                              memory ran out
 use Rattle.std.specs.Prelude.{◌≡◌, ℕ, ◌<◌, ◌≤◌, Result, Ok, Err, ⊤}
-use Rattle.ucd_model.specs.Facts.{Facts}
+use Rattle.ucd_facts.specs.Facts.{Facts}
 use Rattle.ucd_points.specs.Limits.{point_count}
 use Rattle.ucd_model.specs.Records.{Record, derived, kept_record}
 use Rattle.ucd_model.specs.declared.records.Record.{Record as KeptRecord}

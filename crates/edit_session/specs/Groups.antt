@@ -25,12 +25,12 @@
 use Rattle.std.specs.Prelude.{◌≡◌, ℕ, ◌+◌, false, not, List, [], ◌∷◌, Option, Some, None, Result, Ok, Err, filter}
 use Rattle.std.specs.List.{list_any, range_with_len}
 use Rattle.ucd_points.specs.Bounds.{Bounds}
-use Rattle.ucd_model.specs.Facts.{Facts, facts, within}
+use Rattle.ucd_facts.specs.Facts.{Facts, facts, within}
 use Rattle.ucd_points.specs.Limits.{point_count}
 use Rattle.ucd_model.specs.Records.{Record, record_at}
 use Rattle.ucd_model.specs.Sameness.{same_record}
 use Rattle.ucd_model.specs.Validity.{first_broken}
-use Rattle.ucd_model.specs.declared.form.Broken.{Broken}
+use Rattle.ucd_facts.specs.declared.form.Broken.{Broken}
 use Rattle.release_rows.specs.FileItems.{FileItem, rows_in}
 use Rattle.release_rows.specs.Operations.{op_or_rule}
 use Rattle.release_rows.specs.Releases.{ReleaseItems, items_at}

@@ -15,11 +15,11 @@
 -- AreListed F points A B   so it is of each of the points, and of every other code point B gives what A gives
 use Rattle.std.specs.Prelude.{◌≡◌, ◌≢◌, ℕ, ◌<◌, ◌⊎◌, Bool, true, false, List, Option, Some, None}
 use Rattle.range_table.specs.Values.{SameValues}
-use Rattle.ucd_model.specs.Facts.{Facts}
+use Rattle.ucd_facts.specs.Facts.{Facts}
 use Rattle.ucd_model.specs.Sameness.{is_in}
-use Rattle.ucd_model.specs.Uniform.{IsPlain}
-use Rattle.ucd_model.specs.declared.query.Query.{Query}
-use Rattle.asked_queries.specs.Answers.{is_asked}
+use Rattle.ucd_facts.specs.Uniform.{IsPlain}
+use Rattle.ucd_facts.specs.declared.query.Query.{Query}
+use Rattle.ucd_facts.specs.Answers.{is_asked}
 use Rattle.mention_index.specs.Reached.{about}
 use Rattle.asked_queries.specs.Questions.{asked}
 use Rattle.asked_queries.specs.Turns.{SameQueries}

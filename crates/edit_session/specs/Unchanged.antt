@@ -2,7 +2,7 @@
 --
 -- unchanged_same   a code point that is not among those whose records differ has the same record before and after
 use Rattle.std.proofs.Common.{◌≡◌, ℕ, ◌<◌, Bool, true, false, not, refl, sym, ◌∙◌}
-use Rattle.ucd_model.specs.Facts.{Facts}
+use Rattle.ucd_facts.specs.Facts.{Facts}
 use Rattle.ucd_model.specs.KeptNumbers.{in_kept}
 use Rattle.ucd_model.specs.Records.{record_at}
 use Rattle.ucd_model.specs.Sameness.{is_in, same_record}

@@ -2,14 +2,14 @@
 
 ghost use Rattle.std.specs.Prelude.{◌≡◌, ℕ, ◌+◌, ◌≤◌, false, List, Ok, IfOk, IfErr, OnOk};
 ghost use Rattle.std.specs.List.{list_any};
-ghost use Rattle.asked_queries.specs.Answers.{TellsChanges};
+ghost use Rattle.ucd_facts.specs.Answers.{TellsChanges};
 ghost use Rattle.code_facts.specs.FactTables.{tables_facts, tables_next};
 ghost use Rattle.paged_table.specs.Paged.{values_now};
 ghost use Rattle.range_table.specs.Values.{SameValues};
 ghost use Rattle.record_list.specs.Records.{record_next, record_now};
 ghost use Rattle.rederivation.specs.Turned.{CountsWithin};
 ghost use Rattle.release_rows.specs.FileItems.{FileItem};
-ghost use Rattle.ucd_model.specs.Facts.{Facts, within};
+ghost use Rattle.ucd_facts.specs.Facts.{Facts, within};
 ghost use Rattle.ucd_points.specs.Limits.{point_count};
 ghost use Rattle.edit_session.specs.Benches.{bench_facts, NamesBroken};
 ghost use Rattle.edit_session.specs.Derivations.{IsNext, IsNow, IsStill};

@@ -4,7 +4,7 @@ ghost use Rattle.std.specs.Prelude.{◌≡◌, ℕ, ◌≤◌, ◌++◌, length,
 ghost use Rattle.std.specs.List.{All};
 ghost use Rattle.code_facts.specs.Locality.{gives_facts};
 ghost use Rattle.release_rows.specs.Operations.{IsOp, op_file};
-ghost use Rattle.ucd_model.specs.Facts.{Facts};
+ghost use Rattle.ucd_facts.specs.Facts.{Facts};
 ghost use Rattle.edit_session.specs.Benches.{HasNothingPrepared, bench_facts};
 ghost use Rattle.edit_session.specs.Derivations.{IsNext, IsNow, IsStill};
 ghost use Rattle.edit_session.specs.Standing.{IsBench};

@@ -4,7 +4,7 @@ ghost use Rattle.std.specs.Prelude.{◌≡◌, ℕ, ◌≤◌, length, IfOk, OnO
 ghost use Rattle.std.specs.List.{All};
 ghost use Rattle.release_rows.specs.Operations.{IsOp};
 ghost use Rattle.release_rows.specs.Patches.{LeadsBack};
-ghost use Rattle.ucd_model.specs.Facts.{Facts};
+ghost use Rattle.ucd_facts.specs.Facts.{Facts};
 ghost use Rattle.edit_session.specs.Benches.{HasNothingPrepared, bench_facts};
 ghost use Rattle.edit_session.specs.Derivations.{IsNext, IsNow, IsStill};
 ghost use Rattle.edit_session.specs.Groups.{AnswersAs, AppliesAs, CountsAs, after_ops, changed, files_facts, group_answer, group_limit};

@@ -1,7 +1,7 @@
 //! What code points ask, which is listed when it is needed first.
 
 ghost use Rattle.std.specs.Prelude.{◌≡◌, ℕ, [], true, Some, IfOk, OnOk};
-ghost use Rattle.asked_queries.specs.Answers.{is_asked};
+ghost use Rattle.ucd_facts.specs.Answers.{is_asked};
 ghost use Rattle.code_facts.specs.FactTables.{tables_facts};
 ghost use Rattle.dependency_map.specs.Maps.{asked_at};
 ghost use Rattle.kept_values.specs.Kept.{values};
@@ -9,9 +9,9 @@ ghost use Rattle.mention_index.specs.Mentions.{is_walked, leads};
 ghost use Rattle.mention_index.specs.Reached.{about};
 ghost use Rattle.paged_table.specs.Paged.{values_now, values_next};
 ghost use Rattle.range_table.specs.Values.{SameValues};
-ghost use Rattle.ucd_model.specs.Facts.{Facts};
+ghost use Rattle.ucd_facts.specs.Facts.{Facts};
 ghost use Rattle.ucd_model.specs.ValidityLaws.{IsValid};
-ghost use Rattle.ucd_model.specs.declared.query.Query.{Query as Question};
+ghost use Rattle.ucd_facts.specs.declared.query.Query.{Query as Question};
 ghost use Rattle.edit_session.specs.Questions.{AreStill, HasWalked, KeepsNext, KeepsNow, KeepsWalked};
 
 use crate::listed_points::list_points;

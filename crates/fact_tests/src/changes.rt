@@ -2,7 +2,7 @@
 
 ghost use Rattle.std.specs.Prelude.{◌≡◌, ℕ, ◌<◌, true, IfOk};
 ghost use Rattle.std.specs.List.{list_any};
-ghost use Rattle.ucd_model.specs.Facts.{within};
+ghost use Rattle.ucd_facts.specs.Facts.{within};
 ghost use Rattle.range_table.specs.RunTable.{values_now};
 ghost use Rattle.code_facts.specs.FactTables.{tables_facts, tables_next};
 

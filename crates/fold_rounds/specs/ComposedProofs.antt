@@ -8,11 +8,11 @@ use Rattle.std.specs.List.{list_any}
 use Rattle.std.proofs.lemmas.List.{append-nil}
 use Rattle.std.proofs.lemmas.List.Folds.{list_any-append}
 use Rattle.ucd_model.specs.CanonicalOrder.{class_of}
-use Rattle.ucd_model.specs.Composites.{is_canonical, pair_of}
+use Rattle.ucd_facts.specs.Composites.{is_canonical, pair_of}
 use Rattle.ucd_model.specs.Composition.{Split, compose, compose_onto, composed_with, is_open, last_starter, where_open, with_composite, with_point}
-use Rattle.ucd_model.specs.Facts.{Facts}
+use Rattle.ucd_facts.specs.Facts.{Facts}
 use Rattle.ucd_model.specs.Forms.{composed, nfkc, nfkd}
-use Rattle.ucd_model.specs.declared.form.Bad.{Bad as Rule}
+use Rattle.ucd_facts.specs.declared.form.Bad.{Bad as Rule}
 use Rattle.normalisation.specs.ExpandedLemmas.{ok_same}
 use Rattle.normalisation.specs.FormProofs.{nfkd_twice}
 use Rattle.normalisation.specs.PairLemmas.{pair_joins}

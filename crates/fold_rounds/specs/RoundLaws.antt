@@ -5,9 +5,9 @@
 -- FixedIsFound      such a list is the one that is found, whether or not fewer rounds reach it
 -- FoundIsFixed      and no other list is found
 use Rattle.std.specs.Prelude.{◌≡◌, ℕ, ◌<◌, List, [], ◌∷◌, Some}
-use Rattle.ucd_model.specs.Facts.{Facts}
+use Rattle.ucd_facts.specs.Facts.{Facts}
 use Rattle.ucd_model.specs.FoldRounds.{round, rounds, casefold}
-use Rattle.ucd_model.specs.declared.folding.Folding.{Folding}
+use Rattle.ucd_facts.specs.declared.folding.Folding.{Folding}
 
 pub record IsFixed (folding : Folding) (F : ℕ → Facts) (c i : ℕ) (s : List ℕ) : Type 0 where
   pub few : i < 8

@@ -1,13 +1,13 @@
 //! NFKC_Casefold and NFKC_Simple_Casefold of a code point.
 
 ghost use Rattle.std.specs.Prelude.{◌≡◌, Ok, [], ◌∷◌, if◌then◌else◌};
-ghost use Rattle.ucd_model.specs.Expansion.{FormAnswers};
+ghost use Rattle.ucd_facts.specs.Expansion.{FormAnswers};
 ghost use Rattle.ucd_model.specs.FoldRounds.{casefold_image};
 ghost use Rattle.ucd_model.specs.Forms.{nfkc};
-ghost use Rattle.ucd_model.specs.Predicates.{default_ignorable};
-ghost use Rattle.ucd_model.specs.Shown.{shown_facts};
-ghost use Rattle.ucd_model.specs.declared.folding.Folding.TheVariants.{Full, Simple};
-ghost use Rattle.ucd_model.specs.declared.image.Image.TheVariants.{Same, To};
+ghost use Rattle.ucd_facts.specs.Predicates.{default_ignorable};
+ghost use Rattle.ucd_facts.specs.Shown.{shown_facts};
+ghost use Rattle.ucd_facts.specs.declared.folding.Folding.TheVariants.{Full, Simple};
+ghost use Rattle.ucd_facts.specs.declared.image.Image.TheVariants.{Same, To};
 ghost use Rattle.fold_rounds.specs.Steps.{FoldsAs};
 
 use crate::ignorable::is_default_ignorable;

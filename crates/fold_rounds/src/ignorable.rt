@@ -1,11 +1,11 @@
 //! Code points that are ignored by default.
 
 ghost use Rattle.std.specs.Prelude.{◌≡◌};
-ghost use Rattle.ucd_model.specs.Facts.{Facts};
+ghost use Rattle.ucd_facts.specs.Facts.{Facts};
 ghost use Rattle.ucd_model.specs.FoldRounds.{drop_ignorable};
-ghost use Rattle.ucd_model.specs.Predicates.{is_visible_format, default_ignorable};
-ghost use Rattle.ucd_model.specs.Sets.{has_flag};
-ghost use Rattle.ucd_model.specs.Shown.{shown_facts};
+ghost use Rattle.ucd_facts.specs.Predicates.{is_visible_format, default_ignorable};
+ghost use Rattle.ucd_facts.specs.Sets.{has_flag};
+ghost use Rattle.ucd_facts.specs.Shown.{shown_facts};
 
 use ucd_model::{Category, FactView, FactsRef, Flag, Flags, Point, Points};
 

@@ -4,7 +4,7 @@ ghost use Rattle.std.specs.Prelude.{◌≡◌, ◌≤◌, ◌&&◌, true, length
 ghost use Rattle.std.specs.List.{list_all};
 ghost use Rattle.ucd_model.specs.FoldRounds.{short, short_nfkc, short_fold, round, casefold};
 ghost use Rattle.ucd_model.specs.Forms.{nfkc};
-ghost use Rattle.ucd_model.specs.declared.folding.Folding.{Folding};
+ghost use Rattle.ucd_facts.specs.declared.folding.Folding.{Folding};
 ghost use Rattle.fold_rounds.specs.Steps.{folded_form, is_settled, FoundBy, IsCovered};
 
 use crate::alike::are_alike;

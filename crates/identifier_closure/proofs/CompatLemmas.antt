@@ -1,15 +1,15 @@
 -- Expansions without compatibility mappings.
 use Rattle.std.proofs.Common.{◌≡◌, ℕ, zero, suc, Bool, true, false, cond, ◌||◌, nat_lt, List, [], ◌∷◌, ◌++◌, length, Option, Some, None, Ok, Err, if◌then◌else◌, refl, sym, ap, ◌∙◌, subst}
 use Rattle.std.specs.List.{AllByRecursion as Each, list_any}
-use Rattle.ucd_model.specs.Expansion.{counts, counted, joined, alone_or_joined, expand, full, judged, expansion}
-use Rattle.ucd_model.specs.Facts.{Facts}
-use Rattle.ucd_model.specs.declared.decomposition.Kind.{Kind}
-use Rattle.ucd_model.specs.declared.decomposition.Kind.TheVariants.{Plain, Canonical, Compat}
-use Rattle.ucd_model.specs.declared.form.Bad.TheVariants.{V3}
+use Rattle.ucd_facts.specs.Expansion.{counts, counted, joined, alone_or_joined, expand, full, judged, expansion}
+use Rattle.ucd_facts.specs.Facts.{Facts}
+use Rattle.ucd_facts.specs.declared.decomposition.Kind.{Kind}
+use Rattle.ucd_facts.specs.declared.decomposition.Kind.TheVariants.{Plain, Canonical, Compat}
+use Rattle.ucd_facts.specs.declared.form.Bad.TheVariants.{V3}
 use Rattle.decomposition.specs.ExpansionProofs.{none_some, some_same, both_some}
 use Rattle.normalisation.specs.ExpandedLemmas.{Each-front, Each-back, ok_same}
 use Rattle.identifier_closure.specs.PointForms.{ExpandTo}
-use Rattle.ucd_model.specs.Expansion.{is_compat}
+use Rattle.ucd_facts.specs.Expansion.{is_compat}
 use Rattle.identifier_closure.proofs.FormLemmas.{both_expanded}
 
 -- ---- mappings of one kind or the other

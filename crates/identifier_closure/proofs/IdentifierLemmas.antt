@@ -1,10 +1,10 @@
 -- What the Normalisation Form KC of a point says of its identifiers.
 use Rattle.std.proofs.Common.{◌≡◌, ℕ, Bool, ◌&&◌, List, [], ◌∷◌, Ok, ap, ◌∙◌}
 use Rattle.ucd_model.specs.Casing.{where_form}
-use Rattle.ucd_model.specs.Facts.{Facts}
+use Rattle.ucd_facts.specs.Facts.{Facts}
 use Rattle.ucd_model.specs.Forms.{nfkc}
 use Rattle.ucd_model.specs.Identifiers.{starts, continues, xid_start, xid_continue}
-use Rattle.ucd_model.specs.Predicates.{id_start, id_continue}
+use Rattle.ucd_facts.specs.Predicates.{id_start, id_continue}
 use Rattle.identifier_closure.specs.PlainProofs.{and_self}
 
 pub form_is : (F : ℕ → Facts) (c : ℕ) (p : List ℕ → Bool) (s : List ℕ) → nfkc F (c ∷ []) ≡ Ok s → where_form p (nfkc F (c ∷ [])) ≡ p s

@@ -2,8 +2,8 @@
 --
 -- hidden_of F c G       of the point c with the facts G: a lesser primary composite has the same mapping
 use Rattle.std.specs.Prelude.{ℕ, Bool, ◌&&◌}
-use Rattle.ucd_model.specs.Composites.{primary_of}
-use Rattle.ucd_model.specs.Facts.{Facts}
+use Rattle.ucd_facts.specs.Composites.{primary_of}
+use Rattle.ucd_facts.specs.Facts.{Facts}
 use Rattle.ucd_model.specs.Validity.{composite_of, is_other}
 
 abbrev pub hidden_of : (ℕ → Facts) → ℕ → Facts → Bool

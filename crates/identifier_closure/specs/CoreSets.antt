@@ -3,11 +3,11 @@
 -- core_given c G told p    whether c with the facts G has the property p, where `told` has what follows from its forms
 -- HasBelow set at p        of the properties at places below `at`, the set has those that pass p, and no others
 use Rattle.std.specs.Prelude.{◌≡◌, ℕ, Bool, ◌&&◌, nat_lt}
-use Rattle.ucd_model.specs.Facts.{Facts}
-use Rattle.ucd_model.specs.Predicates.{holds}
-use Rattle.ucd_model.specs.Sets.{has_core, core_place}
-use Rattle.ucd_model.specs.declared.property.Core.{Core}
-use Rattle.ucd_model.specs.declared.property.Core.TheVariants.{ChangesWhenLowercased, ChangesWhenUppercased, ChangesWhenTitlecased, ChangesWhenCasefolded, ChangesWhenCasemapped, XidStart, XidContinue}
+use Rattle.ucd_facts.specs.Facts.{Facts}
+use Rattle.ucd_facts.specs.Predicates.{holds}
+use Rattle.ucd_facts.specs.Sets.{has_core, core_place}
+use Rattle.ucd_facts.specs.declared.property.Core.{Core}
+use Rattle.ucd_facts.specs.declared.property.Core.TheVariants.{ChangesWhenLowercased, ChangesWhenUppercased, ChangesWhenTitlecased, ChangesWhenCasefolded, ChangesWhenCasemapped, XidStart, XidContinue}
 use Rattle.identifier_closure.specs.declared.predicates.ToldByForms.{ToldByForms}
 
 abbrev pub core_given : ℕ → Facts → ToldByForms → Core → Bool

@@ -5,16 +5,16 @@
 --                          not there; no claim if memory ran out
 use Rattle.std.specs.Prelude.{◌≡◌, ℕ, true, Result, Ok, Err, ⊤}
 use Rattle.ucd_points.specs.Answers.{AnswersBy}
-use Rattle.ucd_model.specs.Expansion.{rule_of}
-use Rattle.ucd_model.specs.Facts.{Facts}
+use Rattle.ucd_facts.specs.Expansion.{rule_of}
+use Rattle.ucd_facts.specs.Facts.{Facts}
 use Rattle.ucd_model.specs.FoldRounds.{casefold_image}
 use Rattle.ucd_model.specs.Records.{Record, kept_record}
 use Rattle.ucd_model.specs.Validity.{is_unfolded}
-use Rattle.ucd_model.specs.declared.folding.Folding.TheVariants.{Full, Simple}
-use Rattle.ucd_model.specs.declared.form.Bad.{Bad as Rule}
-use Rattle.ucd_model.specs.declared.form.Bad.TheVariants.{V5}
-use Rattle.ucd_model.specs.declared.form.FormStop.{FormStop}
-use Rattle.ucd_model.specs.declared.form.FormStop.TheVariants.{Bad, Memory}
+use Rattle.ucd_facts.specs.declared.folding.Folding.TheVariants.{Full, Simple}
+use Rattle.ucd_facts.specs.declared.form.Bad.{Bad as Rule}
+use Rattle.ucd_facts.specs.declared.form.Bad.TheVariants.{V5}
+use Rattle.ucd_facts.specs.declared.form.FormStop.{FormStop}
+use Rattle.ucd_facts.specs.declared.form.FormStop.TheVariants.{Bad, Memory}
 use Rattle.ucd_model.specs.declared.records.Record.{Record as KeptRecord}
 use Rattle.identifier_closure.specs.declared.casefolds.Casefolds.{Casefolds}
 

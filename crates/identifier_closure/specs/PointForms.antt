@@ -15,16 +15,16 @@
 use Rattle.std.specs.Prelude.{◌≡◌, ℕ, true, false, List, [], ◌∷◌, Option, Some, None, unwrap_or, Result, Ok, Err, if◌then◌else◌, ⊤}
 use Rattle.ucd_model.specs.CanonicalOrder.{class_of, order}
 use Rattle.ucd_model.specs.Casing.{lowers, uppers, titles, folds, casemaps, changes_when}
-use Rattle.ucd_model.specs.Composites.{pair_of}
+use Rattle.ucd_facts.specs.Composites.{pair_of}
 use Rattle.ucd_model.specs.Composition.{compose}
-use Rattle.ucd_model.specs.Expansion.{expansion}
-use Rattle.ucd_model.specs.Facts.{Facts}
+use Rattle.ucd_facts.specs.Expansion.{expansion}
+use Rattle.ucd_facts.specs.Facts.{Facts}
 use Rattle.ucd_model.specs.Forms.{nfd, nfc, nfkc}
 use Rattle.ucd_model.specs.Validity.{is_endless, is_too_long}
-use Rattle.ucd_model.specs.declared.form.Bad.{Bad as Rule}
-use Rattle.ucd_model.specs.declared.form.Bad.TheVariants.{V2, V3}
-use Rattle.ucd_model.specs.declared.form.FormStop.{FormStop}
-use Rattle.ucd_model.specs.declared.form.FormStop.TheVariants.{Bad, Memory}
+use Rattle.ucd_facts.specs.declared.form.Bad.{Bad as Rule}
+use Rattle.ucd_facts.specs.declared.form.Bad.TheVariants.{V2, V3}
+use Rattle.ucd_facts.specs.declared.form.FormStop.{FormStop}
+use Rattle.ucd_facts.specs.declared.form.FormStop.TheVariants.{Bad, Memory}
 use Rattle.case_derivation.specs.declared.changes.Changes.{Changes}
 use Rattle.identifier_closure.specs.declared.point_forms.Expansions.{Expansions}
 use Rattle.identifier_closure.specs.declared.point_forms.Forms.{Forms}

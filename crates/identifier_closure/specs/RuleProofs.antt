@@ -6,11 +6,11 @@
 -- by_folding       where none of these is so, and the folding rounds of c reach no last one, c has V5
 -- by_none          where none at all is so, c has its record
 use Rattle.std.proofs.Common.{◌≡◌, ℕ, Bool, true, false, Option, Some, None, Ok, Err, if◌then◌else◌, refl, ap, ◌∙◌}
-use Rattle.ucd_model.specs.Facts.{Facts}
+use Rattle.ucd_facts.specs.Facts.{Facts}
 use Rattle.ucd_model.specs.Records.{record_at, record_or_rule, derived}
 use Rattle.ucd_model.specs.Validity.{lacks_a_row, is_endless, is_too_long, is_hidden, is_unfolded, broken}
-use Rattle.ucd_model.specs.declared.form.Bad.{Bad as Rule}
-use Rattle.ucd_model.specs.declared.form.Bad.TheVariants.{V1, V2, V3, V4, V5}
+use Rattle.ucd_facts.specs.declared.form.Bad.{Bad as Rule}
+use Rattle.ucd_facts.specs.declared.form.Bad.TheVariants.{V1, V2, V3, V4, V5}
 use Rattle.identifier_closure.specs.PointForms.{expansion_rule}
 
 abbrev first_of : Option Rule → Option Rule → Option Rule

@@ -2,15 +2,15 @@
 --
 -- uniform_derived   the law of the same name
 use Rattle.std.proofs.Common.{◌≡◌, ℕ, Bool, [], Ok, if◌then◌else◌, refl, sym, ap, ◌∙◌}
-use Rattle.ucd_model.specs.Composites.{is_canonical, second_of}
-use Rattle.ucd_model.specs.Facts.{Facts, is_plain}
-use Rattle.ucd_model.specs.Predicates.{default_ignorable, is_visible_format}
+use Rattle.ucd_facts.specs.Composites.{is_canonical, second_of}
+use Rattle.ucd_facts.specs.Facts.{Facts, is_plain}
+use Rattle.ucd_facts.specs.Predicates.{default_ignorable, is_visible_format}
 use Rattle.ucd_model.specs.Records.{Record}
-use Rattle.ucd_model.specs.Uniform.{Alike}
-use Rattle.ucd_model.specs.declared.form.Quick.TheVariants.{Yes, No, Maybe}
-use Rattle.ucd_model.specs.declared.image.Image.TheVariants.{Same, To}
-use Rattle.ucd_model.specs.declared.property.Core.{Core}
-use Rattle.ucd_model.specs.declared.property.Core.TheVariants.{Math, Alphabetic, Lowercase, Uppercase, Cased, CaseIgnorable, ChangesWhenLowercased, ChangesWhenUppercased, ChangesWhenTitlecased, ChangesWhenCasefolded, ChangesWhenCasemapped, IdStart, IdContinue, XidStart, XidContinue, DefaultIgnorableCodePoint, GraphemeExtend, GraphemeBase, GraphemeLink}
+use Rattle.ucd_facts.specs.Uniform.{Alike}
+use Rattle.ucd_facts.specs.declared.form.Quick.TheVariants.{Yes, No, Maybe}
+use Rattle.ucd_facts.specs.declared.image.Image.TheVariants.{Same, To}
+use Rattle.ucd_facts.specs.declared.property.Core.{Core}
+use Rattle.ucd_facts.specs.declared.property.Core.TheVariants.{Math, Alphabetic, Lowercase, Uppercase, Cased, CaseIgnorable, ChangesWhenLowercased, ChangesWhenUppercased, ChangesWhenTitlecased, ChangesWhenCasefolded, ChangesWhenCasemapped, IdStart, IdContinue, XidStart, XidContinue, DefaultIgnorableCodePoint, GraphemeExtend, GraphemeBase, GraphemeLink}
 use Rattle.identifier_closure.specs.PlainProofs.{plain_core, plain_record, plain_derived}
 use Rattle.identifier_closure.specs.UniformLaws.{UniformDerived}
 

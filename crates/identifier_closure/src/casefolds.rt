@@ -2,7 +2,7 @@
 
 ghost use Rattle.std.specs.Prelude.{◌≡◌, [], ◌∷◌, Ok, IfOk};
 ghost use Rattle.ucd_model.specs.Forms.{nfkc};
-ghost use Rattle.ucd_model.specs.Shown.{shown_facts};
+ghost use Rattle.ucd_facts.specs.Shown.{shown_facts};
 ghost use Rattle.identifier_closure.specs.Derived.{CasefoldsAnswer};
 
 use fold_rounds::casefold_of;

@@ -2,7 +2,7 @@
 
 ghost use Rattle.std.specs.Prelude.{◌≡◌, [], ◌∷◌, IsTrue, Ok};
 ghost use Rattle.ucd_model.specs.Forms.{nfc};
-ghost use Rattle.ucd_model.specs.Shown.{shown_facts};
+ghost use Rattle.ucd_facts.specs.Shown.{shown_facts};
 ghost use Rattle.identifier_closure.specs.Composites.{hidden_of};
 
 use ucd_model::{FactView, FactsRef, Point};

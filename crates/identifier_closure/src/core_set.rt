@@ -2,9 +2,9 @@
 
 ghost use Rattle.std.specs.Prelude.{◌≡◌, ◌+◌};
 ghost use Rattle.identifier_closure.specs.CoreSets.{HasBelow, core_given};
-ghost use Rattle.ucd_model.specs.Sets.{has_core, core_place};
-ghost use Rattle.ucd_model.specs.Shown.{shown_facts};
-ghost use Rattle.ucd_model.specs.declared.property.Core.{Core};
+ghost use Rattle.ucd_facts.specs.Sets.{has_core, core_place};
+ghost use Rattle.ucd_facts.specs.Shown.{shown_facts};
+ghost use Rattle.ucd_facts.specs.declared.property.Core.{Core};
 
 use crate::predicates::{ToldByForms, holds};
 use ucd_model::{Core, CoreSet, FactsRef, Point};

@@ -4,8 +4,8 @@ ghost use Rattle.std.specs.Prelude.{◌≡◌, ◌+◌, [], ◌∷◌, Ok, None,
 ghost use Rattle.ucd_model.specs.FoldRounds.{casefold_image};
 ghost use Rattle.ucd_model.specs.Records.{kept_record, record_at, derived};
 ghost use Rattle.ucd_model.specs.Validity.{lacks_a_row};
-ghost use Rattle.ucd_model.specs.Shown.{shown_facts};
-ghost use Rattle.ucd_model.specs.declared.folding.Folding.TheVariants.{Full, Simple};
+ghost use Rattle.ucd_facts.specs.Shown.{shown_facts};
+ghost use Rattle.ucd_facts.specs.declared.folding.Folding.TheVariants.{Full, Simple};
 ghost use Rattle.identifier_closure.specs.Derived.{RecordAnswers};
 ghost use Rattle.identifier_closure.specs.PointForms.{expansion_rule, TellForms};
 

@@ -3,8 +3,8 @@
 ghost use Rattle.std.specs.Prelude.{◌≡◌, [], ◌∷◌, Ok};
 ghost use Rattle.ucd_model.specs.Forms.{nfkc as form_kc};
 ghost use Rattle.ucd_model.specs.Identifiers.{continues, starts, xid_start, xid_continue};
-ghost use Rattle.ucd_model.specs.Predicates.{id_start, id_continue};
-ghost use Rattle.ucd_model.specs.Shown.{shown_facts};
+ghost use Rattle.ucd_facts.specs.Predicates.{id_start, id_continue};
+ghost use Rattle.ucd_facts.specs.Shown.{shown_facts};
 
 use crate::predicates::{continues_by, is_id_continue, is_id_start, starts_by};
 use ucd_model::{FactView, FactsRef, Point};

@@ -2,8 +2,8 @@
 
 ghost use Rattle.std.specs.Prelude.{◌≡◌, [], ◌∷◌, not};
 ghost use Rattle.std.specs.List.{list_any};
-ghost use Rattle.ucd_model.specs.Facts.{image_points};
-ghost use Rattle.ucd_model.specs.Shown.{image_shown, shown_facts};
+ghost use Rattle.ucd_facts.specs.Facts.{image_points};
+ghost use Rattle.ucd_facts.specs.Shown.{image_shown, shown_facts};
 ghost use Rattle.ucd_model.specs.Validity.{lacks_row, mappings};
 
 use ucd_model::{FactView, FactsRef, Point};

@@ -3,9 +3,9 @@
 ghost use Rattle.std.specs.Prelude.{◌≡◌, Ok, Err, true, false};
 ghost use Rattle.std.specs.List.{list_any};
 ghost use Rattle.std.specs.Option.{option_map};
-ghost use Rattle.ucd_model.specs.Expansion.{expansion};
+ghost use Rattle.ucd_facts.specs.Expansion.{expansion};
 ghost use Rattle.identifier_closure.specs.PointForms.{AreChanges, ExpansionsAnswer, FormsAnswer, StopsBy, composed_form, form_kc};
-ghost use Rattle.ucd_model.specs.Expansion.{is_compat};
+ghost use Rattle.ucd_facts.specs.Expansion.{is_compat};
 
 use case_derivation::{Changes, changes_when};
 use decomposition::expand;

@@ -1,12 +1,12 @@
 //! Core properties of one code point. UAX #44, section 5.3.
 
 ghost use Rattle.std.specs.Prelude.{◌≡◌, [], ◌∷◌};
-ghost use Rattle.ucd_model.specs.declared.category.Category.TheVariants.{Lu, Ll, Lt, Lm, Lo, Nl};
+ghost use Rattle.ucd_facts.specs.declared.category.Category.TheVariants.{Lu, Ll, Lt, Lm, Lo, Nl};
 ghost use Rattle.identifier_closure.specs.CoreSets.{core_given};
-ghost use Rattle.ucd_model.specs.Facts.{Facts};
-ghost use Rattle.ucd_model.specs.Sets.{has_flag};
-ghost use Rattle.ucd_model.specs.Shown.{shown_facts};
-ghost use Rattle.ucd_model.specs.Predicates.{is_one_of, math, alphabetic, in_pattern, id_start, id_continue, grapheme_extend, grapheme_base, grapheme_link};
+ghost use Rattle.ucd_facts.specs.Facts.{Facts};
+ghost use Rattle.ucd_facts.specs.Sets.{has_flag};
+ghost use Rattle.ucd_facts.specs.Shown.{shown_facts};
+ghost use Rattle.ucd_facts.specs.Predicates.{is_one_of, math, alphabetic, in_pattern, id_start, id_continue, grapheme_extend, grapheme_base, grapheme_link};
 
 use case_derivation::{Changes, is_case_ignorable, is_cased, is_lowercase, is_uppercase};
 use fold_rounds::is_default_ignorable;

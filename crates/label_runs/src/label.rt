@@ -3,7 +3,7 @@
 ghost use Rattle.std.specs.Prelude.{◌≡◌, ◌++◌, Some, None, OnOk, codes};
 ghost use Rattle.ucd_model.specs.Labels.{same_label};
 ghost use Rattle.ucd_model.specs.DerivedFiles.{listed};
-ghost use Rattle.ucd_model.specs.RowTexts.{spaced};
+ghost use Rattle.ucd_facts.specs.RowTexts.{spaced};
 ghost use Rattle.label_runs.specs.Runs.{text_shown};
 
 use std::alloc::Global;

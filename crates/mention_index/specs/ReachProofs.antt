@@ -7,23 +7,23 @@ use Rattle.std.specs.Option.{option_and_then}
 use Rattle.std.proofs.lemmas.Bool.{true≢false, or_cases, or_left, or_right, eq-eqb}
 use Rattle.ucd_model.specs.CanonicalOrder.{class_of}
 use Rattle.ucd_model.specs.Casing.{folded, fold_of}
-use Rattle.ucd_model.specs.CompositeLaws.{IsPair}
-use Rattle.ucd_model.specs.CompositeProofs.{pair_is_least}
-use Rattle.ucd_model.specs.Composites.{pair_of, primary}
+use Rattle.ucd_facts.specs.CompositeLaws.{IsPair}
+use Rattle.ucd_facts.specs.CompositeProofs.{pair_is_least}
+use Rattle.ucd_facts.specs.Composites.{pair_of, primary}
 use Rattle.ucd_model.specs.Composition.{Split, composed_with, compose, compose_onto, is_open, last_starter, reached, starter_behind, where_open, with_composite, with_point}
-use Rattle.ucd_model.specs.Enumerations.{foldings}
-use Rattle.ucd_model.specs.Expansion.{counts, counted}
-use Rattle.ucd_model.specs.Facts.{Facts, image_points}
+use Rattle.ucd_facts.specs.Enumerations.{foldings}
+use Rattle.ucd_facts.specs.Expansion.{counts, counted}
+use Rattle.ucd_facts.specs.Facts.{Facts, image_points}
 use Rattle.ucd_model.specs.FoldRounds.{drop_ignorable, round, rounds, short_fold, short_form, short_nfkc}
 use Rattle.ucd_model.specs.Forms.{composed, decomposed, expansions, in_order, nfkc}
-use Rattle.ucd_model.specs.Predicates.{default_ignorable}
+use Rattle.ucd_facts.specs.Predicates.{default_ignorable}
 use Rattle.ucd_model.specs.Sameness.{is_in}
-use Rattle.ucd_model.specs.declared.folding.Folding.{Folding}
-use Rattle.ucd_model.specs.declared.folding.Folding.TheVariants.{Full, Simple}
-use Rattle.ucd_model.specs.declared.form.Bad.{Bad as Rule}
-use Rattle.ucd_model.specs.declared.query.Query.{Query}
-use Rattle.asked_queries.specs.AnswerProofs.{queries_are_told}
-use Rattle.asked_queries.specs.Answers.{is_asked, same_query, Each}
+use Rattle.ucd_facts.specs.declared.folding.Folding.{Folding}
+use Rattle.ucd_facts.specs.declared.folding.Folding.TheVariants.{Full, Simple}
+use Rattle.ucd_facts.specs.declared.form.Bad.{Bad as Rule}
+use Rattle.ucd_facts.specs.declared.query.Query.{Query}
+use Rattle.ucd_facts.specs.AnswerProofs.{queries_are_told}
+use Rattle.ucd_facts.specs.Answers.{is_asked, same_query, Each}
 use Rattle.asked_queries.specs.ExpansionProofs.{expansions_leaves}
 use Rattle.asked_queries.specs.FormProofs.{Each-order}
 use Rattle.asked_queries.specs.ListProofs.{Each-both, Each-filter, Each-if, Each-left, Each-right, every}

@@ -9,13 +9,13 @@
 -- AskedAreReached    a derivation asks about code points alone that are reached from its own
 use Rattle.std.specs.Prelude.{◌≡◌, ℕ, true, List}
 use Rattle.std.specs.List.{flat_map}
-use Rattle.ucd_model.specs.CompositeLaws.{Composes}
-use Rattle.ucd_model.specs.Facts.{Facts}
+use Rattle.ucd_facts.specs.CompositeLaws.{Composes}
+use Rattle.ucd_facts.specs.Facts.{Facts}
 use Rattle.ucd_model.specs.Sameness.{is_in}
 use Rattle.ucd_model.specs.Validity.{mappings}
-use Rattle.ucd_model.specs.declared.query.Query.{Query}
-use Rattle.ucd_model.specs.declared.query.Query.TheVariants.{Row, Pair, Second}
-use Rattle.asked_queries.specs.Answers.{is_asked}
+use Rattle.ucd_facts.specs.declared.query.Query.{Query}
+use Rattle.ucd_facts.specs.declared.query.Query.TheVariants.{Row, Pair, Second}
+use Rattle.ucd_facts.specs.Answers.{is_asked}
 use Rattle.asked_queries.specs.Questions.{asked}
 
 abbrev pub members_of : ℕ → Facts → List ℕ

@@ -7,13 +7,13 @@
 -- closed_leads        where one comes to a code point from one that passes, and what passes is closed, it passes too
 use Rattle.std.proofs.Common.{◌≡◌, ℕ, ◌<◌, Bool, true, ◌==◌, List, [], ◌∷◌, ◌++◌, refl, sym, ◌∙◌, subst, inl, inr}
 use Rattle.std.proofs.lemmas.Bool.{true≢false, cases_eq, cases_lt, or_cases, eqb-true}
-use Rattle.ucd_model.specs.CompositeLaws.{Composes}
-use Rattle.ucd_model.specs.Facts.{Facts, image_points}
+use Rattle.ucd_facts.specs.CompositeLaws.{Composes}
+use Rattle.ucd_facts.specs.Facts.{Facts, image_points}
 use Rattle.ucd_model.specs.Sameness.{is_in}
-use Rattle.ucd_model.specs.Uniform.{IsPlain}
-use Rattle.ucd_model.specs.declared.image.Image.{Image}
-use Rattle.ucd_model.specs.declared.image.Image.TheVariants.{Same}
-use Rattle.asked_queries.specs.Answers.{Each}
+use Rattle.ucd_facts.specs.Uniform.{IsPlain}
+use Rattle.ucd_facts.specs.declared.image.Image.{Image}
+use Rattle.ucd_facts.specs.declared.image.Image.TheVariants.{Same}
+use Rattle.ucd_facts.specs.Answers.{Each}
 use Rattle.asked_queries.specs.ListProofs.{Each-both}
 use Rattle.mention_index.specs.ReachProofs.{asked_are_reached}
 use Rattle.mention_index.specs.Reached.{Reached, about, members_of}

@@ -2,8 +2,8 @@
 
 ghost use Rattle.std.specs.Prelude.{◌≡◌, ℕ, ◌+◌, ◌<◌, ◌*◌, ◌++◌, [], ◌∷◌, true, List, OnOk};
 ghost use Rattle.key_set.specs.Keys.{is_in as has_key};
-ghost use Rattle.ucd_model.specs.Facts.{image_points};
-ghost use Rattle.ucd_model.specs.Shown.{image_shown, shown_facts};
+ghost use Rattle.ucd_facts.specs.Facts.{image_points};
+ghost use Rattle.ucd_facts.specs.Shown.{image_shown, shown_facts};
 ghost use Rattle.mention_index.specs.Mentions.{puts};
 ghost use Rattle.mention_index.specs.Reached.{members_of};
 ghost use Rattle.mention_index.specs.Steps.{HasStepsTo, LeadFrom, image_members, key, simple_members};

@@ -3,8 +3,8 @@
 ghost use Rattle.std.specs.Prelude.{◌≡◌, ℕ, ◌+◌, ◌<◌, ◌≤◌, ◌==◌, ◌&&◌, ◌||◌, ◌⊎◌, true, false, not, map, IfOk, OnOk};
 ghost use Rattle.key_set.specs.Keys.{has};
 ghost use Rattle.ucd_model.specs.Sameness.{is_in};
-ghost use Rattle.ucd_model.specs.declared.query.Query.{Query as Question};
-ghost use Rattle.asked_queries.specs.Answers.{is_asked};
+ghost use Rattle.ucd_facts.specs.declared.query.Query.{Query as Question};
+ghost use Rattle.ucd_facts.specs.Answers.{is_asked};
 ghost use Rattle.mention_index.specs.Reached.{about};
 ghost use Rattle.mention_index.specs.Mentions.{is_walked, leads};
 ghost use Rattle.key_set.specs.Bits.{has_number};

@@ -3,9 +3,9 @@
 -- case_put       what is put of a case
 -- point_put      what is put of a code point
 use Rattle.std.proofs.Common.{◌≡◌, ℕ, Bool, List, [], ◌∷◌, ◌++◌, refl, sym, ap, ◌∙◌, append_assoc, append-nil}
-use Rattle.ucd_model.specs.Facts.{Facts}
-use Rattle.ucd_model.specs.declared.form.Form.{Form}
-use Rattle.ucd_model.specs.declared.form.Form.TheVariants.{Nfd, Nfc, Nfkd, Nfkc}
+use Rattle.ucd_facts.specs.Facts.{Facts}
+use Rattle.ucd_facts.specs.declared.form.Form.{Form}
+use Rattle.ucd_facts.specs.declared.form.Form.TheVariants.{Nfd, Nfc, Nfkd, Nfkc}
 use Rattle.norm_conformance.specs.Checks.{AreChecks, AreKept, kept_at, kept_in}
 use Rattle.norm_conformance.specs.Misses.{column, expected, is_form, line_misses, missed_columns, missed_forms, point_miss, unless}
 use Rattle.norm_conformance.specs.declared.case.Case.{Case}

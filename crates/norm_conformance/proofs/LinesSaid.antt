@@ -7,7 +7,7 @@ use Rattle.std.proofs.lemmas.Bool.Decides.{nat_tests}
 use Rattle.std.proofs.lemmas.Slice.Eq.{bytes_eq-Decides}
 use Rattle.ucd_points.specs.Fields.{fields, is_digit}
 use Rattle.ucd_points.specs.declared.files.SourceFile.TheVariants.{PropList}
-use Rattle.ucd_model.specs.Mappings.{mapping_of}
+use Rattle.ucd_facts.specs.Mappings.{mapping_of}
 use Rattle.source_rows.specs.DataFaults.{at_least_one}
 use Rattle.norm_conformance.specs.Grammar.{IsPart, Spells, HasColumns, LinesAreSaid}
 use Rattle.norm_conformance.specs.Lines.{columns_by, columns_in, digit_alone, is_end, is_mark, is_passed, marked, part_of, points_in, said, tested, text_of}

@@ -3,10 +3,10 @@ use Rattle.std.proofs.Common.{◌≡◌, ℕ, ◌<◌, ◌≤◌, Bool, List, []
 use Rattle.std.specs.List.{AllByRecursion as Each}
 use Rattle.std.proofs.lemmas.Bool.{cases_lt}
 use Rattle.ucd_points.specs.Limits.{point_count}
-use Rattle.ucd_model.specs.Facts.{Facts, unassigned}
-use Rattle.ucd_model.specs.FactsLemmas.{facts_outside}
+use Rattle.ucd_facts.specs.Facts.{Facts, unassigned}
+use Rattle.ucd_facts.specs.FactsLemmas.{facts_outside}
 use Rattle.ucd_model.specs.ValidityProofs.{valid_expands, valid_is_unbroken}
-use Rattle.ucd_model.specs.declared.form.Form.{Form}
+use Rattle.ucd_facts.specs.declared.form.Form.{Form}
 use Rattle.normalisation.specs.FormLaws.{HasExpansion}
 use Rattle.normalisation.specs.FormLemmas.{expansion_alone}
 use Rattle.normalisation.specs.FormValueProofs.{forms_given}

@@ -5,9 +5,9 @@
 -- kept_in check form            whether this form is as expected
 -- kept_at check form k          the same of column k of a case
 use Rattle.std.specs.Prelude.{◌≡◌, ℕ, Bool, List, ◌==◌, if◌then◌else◌}
-use Rattle.ucd_model.specs.Facts.{Facts}
-use Rattle.ucd_model.specs.declared.form.Form.{Form}
-use Rattle.ucd_model.specs.declared.form.Form.TheVariants.{Nfd, Nfc, Nfkd, Nfkc}
+use Rattle.ucd_facts.specs.Facts.{Facts}
+use Rattle.ucd_facts.specs.declared.form.Form.{Form}
+use Rattle.ucd_facts.specs.declared.form.Form.TheVariants.{Nfd, Nfc, Nfkd, Nfkc}
 use Rattle.norm_conformance.specs.Misses.{is_form}
 use Rattle.norm_conformance.specs.declared.case.Case.{Case}
 use Rattle.norm_conformance.specs.declared.case_check.CaseCheck.{CaseCheck}

@@ -7,8 +7,8 @@ use Rattle.std.specs.Prelude.{nat_lt}
 use Rattle.ucd_points.specs.Fields.{fields, point_of}
 use Rattle.ucd_points.specs.Lines.{items_of}
 use Rattle.ucd_points.specs.MissingLines.{missing_rest}
-use Rattle.ucd_model.specs.Mappings.{mapping_of, words}
-use Rattle.ucd_model.specs.declared.form.Form.TheVariants.{Nfd, Nfc, Nfkc}
+use Rattle.ucd_facts.specs.Mappings.{mapping_of, words}
+use Rattle.ucd_facts.specs.declared.form.Form.TheVariants.{Nfd, Nfc, Nfkc}
 use Rattle.norm_conformance.specs.Cases.{case_of, cases_or_fault}
 use Rattle.norm_conformance.specs.Lines.{said}
 use Rattle.norm_conformance.specs.Misses.{expected, is_listed, missed_columns}

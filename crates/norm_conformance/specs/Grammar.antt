@@ -19,7 +19,7 @@ use Rattle.std.specs.Prelude.{◌≡◌, ◌↔◌, ◌⊎◌, ℕ, ◌+◌, ◌
 use Rattle.std.specs.List.{AllByRecursion as Each}
 use Rattle.ucd_points.specs.Fields.{fields}
 use Rattle.ucd_points.specs.declared.files.SourceFile.TheVariants.{PropList}
-use Rattle.ucd_model.specs.Mappings.{mapping_of}
+use Rattle.ucd_facts.specs.Mappings.{mapping_of}
 use Rattle.norm_conformance.specs.Cases.{CaseFault, NumberedLine, case_of, cases_or_fault, numbered_lines}
 use Rattle.norm_conformance.specs.Lines.{is_end, is_mark, is_passed, said, text_of}
 use Rattle.norm_conformance.specs.declared.case.Case.{Case}

@@ -18,7 +18,7 @@ use Rattle.std.specs.Str.{bytes_eq}
 use Rattle.ucd_points.specs.Fields.{fields, is_digit, is_hash, trim}
 use Rattle.ucd_points.specs.Lines.{is_comment}
 use Rattle.ucd_points.specs.declared.files.SourceFile.TheVariants.{PropList}
-use Rattle.ucd_model.specs.Mappings.{mapping_of}
+use Rattle.ucd_facts.specs.Mappings.{mapping_of}
 use Rattle.source_rows.specs.DataFaults.{at_least_one}
 use Rattle.norm_conformance.specs.declared.columns.Columns.{Columns}
 use Rattle.norm_conformance.specs.declared.line.Line.{Line}

@@ -15,14 +15,14 @@ use Rattle.std.proofs.Common.{◌≡◌, ℕ, Bool, true, false, cond, ◌==◌,
 use Rattle.std.specs.List.{AllByRecursion as Each, list_all}
 use Rattle.std.proofs.lemmas.List.{append-nil}
 use Rattle.std.proofs.lemmas.List.Elements.{recursion_from_All}
-use Rattle.ucd_model.specs.declared.form.Bad.{Bad as Rule}
-use Rattle.ucd_model.specs.declared.form.Bad.TheVariants.{V3}
-use Rattle.ucd_model.specs.declared.decomposition.Kind.{Kind}
-use Rattle.ucd_model.specs.declared.decomposition.Kind.TheVariants.{Plain, Canonical, Compat}
-use Rattle.ucd_model.specs.Facts.{Facts}
-use Rattle.ucd_model.specs.Composites.{is_canonical}
+use Rattle.ucd_facts.specs.declared.form.Bad.{Bad as Rule}
+use Rattle.ucd_facts.specs.declared.form.Bad.TheVariants.{V3}
+use Rattle.ucd_facts.specs.declared.decomposition.Kind.{Kind}
+use Rattle.ucd_facts.specs.declared.decomposition.Kind.TheVariants.{Plain, Canonical, Compat}
+use Rattle.ucd_facts.specs.Facts.{Facts}
+use Rattle.ucd_facts.specs.Composites.{is_canonical}
 use Rattle.ucd_model.specs.CanonicalOrder.{greater, placed, with_next, order_onto, order}
-use Rattle.ucd_model.specs.Expansion.{counts, counted, both, alone_or_joined, expand, full, judged, expansion}
+use Rattle.ucd_facts.specs.Expansion.{counts, counted, both, alone_or_joined, expand, full, judged, expansion}
 use Rattle.ucd_model.specs.Forms.{appended, expansions}
 use Rattle.decomposition.specs.ExpansionProofs.{some_same, both_some, unmapped_is_alone, more_levels_give_the_same, expansions_are_full}
 use Rattle.normalisation.specs.FormLaws.{HasExpansion}

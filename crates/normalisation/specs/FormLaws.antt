@@ -14,11 +14,11 @@
 use Rattle.std.specs.Prelude.{◌≡◌, ℕ, ◌<◌, Bool, true, false, List, [], ◌∷◌, Ok, ◌↔◌}
 use Rattle.std.specs.List.{All}
 use Rattle.ucd_points.specs.Limits.{point_count}
-use Rattle.ucd_model.specs.Facts.{Facts}
-use Rattle.ucd_model.specs.Expansion.{expansion}
+use Rattle.ucd_facts.specs.Facts.{Facts}
+use Rattle.ucd_facts.specs.Expansion.{expansion}
 use Rattle.ucd_model.specs.Forms.{nfd, nfc, nfkd, nfkc}
-use Rattle.ucd_model.specs.declared.decomposition.Kind.TheVariants.{Plain}
-use Rattle.ucd_model.specs.declared.form.Form.{Form}
+use Rattle.ucd_facts.specs.declared.decomposition.Kind.TheVariants.{Plain}
+use Rattle.ucd_facts.specs.declared.form.Form.{Form}
 use Rattle.normalisation.specs.FormValues.{AreForms, form_of, four_forms}
 use Rattle.normalisation.specs.declared.all_forms.Forms.{Forms}
 

@@ -6,11 +6,11 @@
 -- all_four d c kd kc    the forms D, C, KD and KC together; if one of them is a rule, the first such rule
 -- four_forms F s        the four forms of s, or the rule of the first of NFD, NFC, NFKD and NFKC that is not there
 use Rattle.std.specs.Prelude.{◌≡◌, ℕ, List, Result, Ok, Err}
-use Rattle.ucd_model.specs.Facts.{Facts}
+use Rattle.ucd_facts.specs.Facts.{Facts}
 use Rattle.ucd_model.specs.Forms.{nfd, nfc, nfkd, nfkc}
-use Rattle.ucd_model.specs.declared.form.Bad.{Bad as Rule}
-use Rattle.ucd_model.specs.declared.form.Form.{Form}
-use Rattle.ucd_model.specs.declared.form.Form.TheVariants.{Nfd, Nfc, Nfkd, Nfkc}
+use Rattle.ucd_facts.specs.declared.form.Bad.{Bad as Rule}
+use Rattle.ucd_facts.specs.declared.form.Form.{Form}
+use Rattle.ucd_facts.specs.declared.form.Form.TheVariants.{Nfd, Nfc, Nfkd, Nfkc}
 use Rattle.normalisation.specs.declared.all_forms.Forms.{Forms}
 
 abbrev pub form_of : (ℕ → Facts) → Form → List ℕ → Result (List ℕ) Rule

@@ -5,10 +5,10 @@
 use Rattle.std.proofs.Common.{◌≡◌, ℕ, ◌<◌, Bool, true, false, ◌&&◌, ◌==◌, [], ◌∷◌, Option, Some, None, refl, ap, ◌∙◌, sym, subst, arith}
 use Rattle.std.proofs.lemmas.Bool.Decides.{nat_tests}
 use Rattle.ucd_points.specs.Limits.{point_count}
-use Rattle.ucd_model.specs.Facts.{Facts}
-use Rattle.ucd_model.specs.Composites.{is_canonical, first_has_class_zero, pair_of}
-use Rattle.ucd_model.specs.CompositeLaws.{Composes, IsPair}
-use Rattle.ucd_model.specs.CompositeProofs.{pair_is_least}
+use Rattle.ucd_facts.specs.Facts.{Facts}
+use Rattle.ucd_facts.specs.Composites.{is_canonical, first_has_class_zero, pair_of}
+use Rattle.ucd_facts.specs.CompositeLaws.{Composes, IsPair}
+use Rattle.ucd_facts.specs.CompositeProofs.{pair_is_least}
 use Rattle.ucd_model.specs.CanonicalOrder.{class_of}
 
 pub record Joins (F : ℕ → Facts) (s y q : ℕ) : Type 0 where

@@ -18,10 +18,10 @@ use Rattle.std.specs.Option.{option_map}
 use Rattle.std.specs.List.{AllByRecursion as Each}
 use Rattle.std.proofs.lemmas.Bool.Decides.{nat_tests}
 use Rattle.std.proofs.lemmas.List.{append_assoc, append-nil}
-use Rattle.ucd_model.specs.Facts.{Facts}
-use Rattle.ucd_model.specs.Composites.{pair_of}
+use Rattle.ucd_facts.specs.Facts.{Facts}
+use Rattle.ucd_facts.specs.Composites.{pair_of}
 use Rattle.ucd_model.specs.CanonicalOrder.{class_of, with_next, order}
-use Rattle.ucd_model.specs.Expansion.{expansion}
+use Rattle.ucd_facts.specs.Expansion.{expansion}
 use Rattle.ucd_model.specs.Composition.{Split, is_open, where_open, last_starter, starter_behind, with_point, with_composite, composed_with, compose_onto, compose}
 use Rattle.ucd_model.specs.Forms.{appended, expansions}
 use Rattle.normalisation.specs.StarterLemmas.{CutsAt, push_after, last_starter_cuts, last_starter_at, last_starter_push}

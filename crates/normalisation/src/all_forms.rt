@@ -2,10 +2,10 @@
 
 ghost use Rattle.std.specs.Prelude.{◌≡◌, IfOk};
 ghost use Rattle.ucd_model.specs.CanonicalOrder.{class_of};
-ghost use Rattle.ucd_model.specs.Composites.{pair_of};
+ghost use Rattle.ucd_facts.specs.Composites.{pair_of};
 ghost use Rattle.ucd_model.specs.Composition.{compose};
-ghost use Rattle.ucd_model.specs.Expansion.{FormAnswers};
-ghost use Rattle.ucd_model.specs.declared.form.Form.{Form as FormValue};
+ghost use Rattle.ucd_facts.specs.Expansion.{FormAnswers};
+ghost use Rattle.ucd_facts.specs.declared.form.Form.{Form as FormValue};
 ghost use Rattle.normalisation.specs.FormValues.{AreForms, HasList, form_of, four_forms};
 
 use crate::composition::compose;

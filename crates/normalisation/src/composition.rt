@@ -3,7 +3,7 @@
 ghost use Rattle.std.specs.Prelude.{◌≡◌, ◌<◌, ◌≤◌, ◌+◌, length, take, drop, slice_index};
 ghost use Rattle.std.specs.Option.{ForSome};
 ghost use Rattle.ucd_model.specs.CanonicalOrder.{class_of};
-ghost use Rattle.ucd_model.specs.Composites.{pair_of};
+ghost use Rattle.ucd_facts.specs.Composites.{pair_of};
 ghost use Rattle.ucd_model.specs.Composition.{last_starter, composed_with, compose};
 ghost use Rattle.normalisation.specs.SoFar.{joined, Describes};
 

@@ -1,6 +1,6 @@
 //! The four normalisation forms.
 
-ghost use Rattle.ucd_model.specs.Expansion.{expansion, FormAnswers};
+ghost use Rattle.ucd_facts.specs.Expansion.{expansion, FormAnswers};
 ghost use Rattle.ucd_model.specs.Forms.{expansions, decomposed, composed, nfd, nfc, nfkd, nfkc};
 ghost use Rattle.normalisation.specs.Puts.{PutsExpansion};
 

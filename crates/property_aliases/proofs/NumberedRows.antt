@@ -16,9 +16,9 @@ use Rattle.indexmap.proofs.SetLemmas.{AllZip-push}
 use Rattle.release_rows.specs.StoredItems.{ShowsMissing, ShowsValue}
 use Rattle.source_rows.specs.RowRefs.{value_in}
 use Rattle.source_rows.specs.declared.values.ValueText.{ValueText}
-use Rattle.ucd_model.specs.declared.row.Row.{Row}
-use Rattle.ucd_model.specs.declared.row.Row.TheVariants.{Unit as DataLine, Value as ValueLine, Exclusion as ExclusionLine, Fold as FoldLine, Casing as CasingLine, Alias as AliasLine, Missing as MissingLine}
-use Rattle.ucd_model.specs.declared.row.ValueRow.{ValueRow}
+use Rattle.ucd_facts.specs.declared.row.Row.{Row}
+use Rattle.ucd_facts.specs.declared.row.Row.TheVariants.{Unit as DataLine, Value as ValueLine, Exclusion as ExclusionLine, Fold as FoldLine, Casing as CasingLine, Alias as AliasLine, Missing as MissingLine}
+use Rattle.ucd_facts.specs.declared.row.ValueRow.{ValueRow}
 use Rattle.property_aliases.specs.Numbers.{AreNumbered, IsNumbered}
 use Rattle.property_aliases.specs.Sources.{add_name, missing_row_of, value_row_of, valued_row_of}
 use Rattle.property_aliases.specs.declared.file_values.NumberedRow.{NumberedRow}

@@ -9,8 +9,8 @@
 -- property_of s name    the property that a name names, with or without `is`
 use Rattle.std.specs.Prelude.{ℕ, ◌-◌, ◌/◌, if◌then◌else◌, nat_lt, List, [], ◌∷◌, ◌++◌, map, Option, unwrap_or, slice_get}
 use Rattle.std.specs.Option.{option_map}
-use Rattle.ucd_model.specs.Predicates.{core_properties}
-use Rattle.ucd_model.specs.declared.form.Form.TheVariants.{Nfd, Nfc, Nfkd, Nfkc}
+use Rattle.ucd_facts.specs.Predicates.{core_properties}
+use Rattle.ucd_facts.specs.declared.form.Form.TheVariants.{Nfd, Nfc, Nfkd, Nfkc}
 use Rattle.property_aliases.specs.declared.property.Property.{Property}
 use Rattle.property_aliases.specs.declared.property.Property.TheVariants.{Category, Script, Class, Decomposition, WordBreak, Quick, Core, Exclusion, ChangesCasefold, Listed}
 use Rattle.property_aliases.specs.Resolving.{number_of, or_is}

@@ -22,9 +22,9 @@ use Rattle.std.specs.Prelude.{ℕ, ◌+◌, ◌-◌, ◌/◌, true, if◌then◌
 use Rattle.std.specs.Fmt.{decimal}
 use Rattle.std.specs.List.{flat_map, range_with_len}
 use Rattle.std.specs.Option.{option_eq, option_map, option_map_or}
-use Rattle.ucd_model.specs.Enumerations.{categories, kinds, quick_values}
-use Rattle.ucd_model.specs.Sets.{core_place}
-use Rattle.ucd_model.specs.declared.form.Form.TheVariants.{Nfd, Nfc, Nfkd, Nfkc}
+use Rattle.ucd_facts.specs.Enumerations.{categories, kinds, quick_values}
+use Rattle.ucd_facts.specs.Sets.{core_place}
+use Rattle.ucd_facts.specs.declared.form.Form.TheVariants.{Nfd, Nfc, Nfkd, Nfkc}
 use Rattle.property_aliases.specs.declared.property.Group.{Group}
 use Rattle.property_aliases.specs.declared.property.Group.TheVariants.{L, LC, M, N, P, S, Z, C}
 use Rattle.property_aliases.specs.declared.property.Property.{Property}

@@ -19,7 +19,7 @@ use crate::property::{Property, Test};
 use crate::value_numbers::ValueNumbers;
 use release_rows::Release;
 use std::alloc::Global;
-use ucd_model::Memory;
+use ucd_facts::Memory;
 
 /// What the names of properties and of their values mean by the rows of a release.
 #[derive(Drop)]

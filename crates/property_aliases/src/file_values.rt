@@ -6,12 +6,12 @@ ghost use Rattle.std.specs.Str.{bytes_eq};
 ghost use Rattle.property_aliases.specs.Numbers.{AreNumbered, AreValues, names_in};
 ghost use Rattle.property_aliases.specs.Sources.{add_name, listed_names, missing_row_of, numbered, unnumbered, value_row_of, valued_row_of, valued_rows};
 ghost use Rattle.release_rows.specs.Releases.{rows_now};
-ghost use Rattle.ucd_model.specs.declared.row.ValueRow.{ValueRow};
+ghost use Rattle.ucd_facts.specs.declared.row.ValueRow.{ValueRow};
 
 use indexmap::IndexSet;
 use release_rows::{Release, RowText, Rows};
 use std::alloc::Global;
-use ucd_model::{Memory, SourceFile, Span};
+use ucd_facts::{Memory, SourceFile, Span};
 
 /// A row of a span and a value, by the number of the value.
 #[derive(Clone, Copy, Debug)]

@@ -7,7 +7,7 @@ ghost use Rattle.property_aliases.specs.Properties.{built_in, index_at, property
 
 use crate::naming::{Names, find_in};
 use crate::property::Property;
-use ucd_model::{Core, Form};
+use ucd_facts::{Core, Form};
 
 /// The properties that are built in, in order.
 const BUILT_IN: [Property; 30] = [

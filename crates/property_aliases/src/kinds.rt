@@ -13,7 +13,7 @@ use crate::tables::{
     category_names, decomposition_names, push_name, quick_names, table_of, truth_names,
 };
 use std::alloc::Global;
-use ucd_model::{ListOf, Memory, Texts};
+use ucd_facts::{ListOf, Memory, Texts};
 
 /// How many kinds there are.
 const KINDS: usize = 7;

@@ -5,7 +5,7 @@ ghost use Rattle.std.specs.Str.{bytes_eq};
 ghost use Rattle.property_aliases.specs.Loose.{has_is, is_kept, loose, to_lower};
 
 use std::alloc::Global;
-use ucd_model::Memory;
+use ucd_facts::Memory;
 
 /// Whether a byte of a name counts: all but white space, `_` and `-`.
 fn is_kept(byte: u8) -> bool

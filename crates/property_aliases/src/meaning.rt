@@ -7,7 +7,7 @@ ghost use Rattle.property_aliases.specs.declared.property.Property.TheVariants.{
 
 use crate::loose::is_same;
 use crate::property::{Group, Property, Test};
-use ucd_model::{Category, Form, Kind, Quick};
+use ucd_facts::{Category, Form, Kind, Quick};
 
 /// The test for the value of a property whose name stands at a place; `None` if none of its built-in names stands
 /// there.

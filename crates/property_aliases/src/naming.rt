@@ -8,7 +8,7 @@ ghost use Rattle.property_aliases.specs.ResolvingLaws.{direct, least, put, row_n
 
 use crate::number_map::NumberMap;
 use std::alloc::Global;
-use ucd_model::{Memory, Text, Texts};
+use ucd_facts::{Memory, Text, Texts};
 
 /// The place of each name of a table, the first if two match.
 ///

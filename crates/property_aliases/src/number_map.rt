@@ -10,7 +10,7 @@ use crate::loose::loose;
 use crate::loose_name::LooseName;
 use indexmap::IndexMap;
 use std::alloc::Global;
-use ucd_model::Memory;
+use ucd_facts::Memory;
 
 /// A number for each of some names, which are told by what counts of them.
 #[derive(Drop)]

@@ -21,7 +21,7 @@ use crate::value_numbers::ValueNumbers;
 use crate::values::ValueNames;
 use release_rows::Release;
 use std::alloc::Global;
-use ucd_model::{Memory, SourceFile};
+use ucd_facts::{Memory, SourceFile};
 
 /// The places of the names of properties, and of those of values.
 #[derive(Drop)]

@@ -1,6 +1,6 @@
 //! Properties, and tests of code points by them.
 
-use ucd_model::{Category, Core, Form, Kind, Quick};
+use ucd_facts::{Category, Core, Form, Kind, Quick};
 
 /// A group of categories. UAX #44, section 5.7.1, table 12.
 #[derive(Clone, Copy, Debug, PartialEq, Eq)]

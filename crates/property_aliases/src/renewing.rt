@@ -9,7 +9,7 @@ ghost use Rattle.release_rows.specs.Releases.{rows_now};
 use crate::file_values::{FileValues, values_behind, values_of};
 use release_rows::Release;
 use std::alloc::Global;
-use ucd_model::{Memory, SourceFile};
+use ucd_facts::{Memory, SourceFile};
 
 /// What is left of two lists behind their first names, if both have one and it is the same.
 fn behind_same<'a>(

@@ -6,7 +6,7 @@ ghost use Rattle.release_rows.specs.Releases.{rows_now};
 
 use release_rows::{Release, Rows};
 use std::alloc::Global;
-use ucd_model::{ListOf, Memory, Row, SourceFile, Texts};
+use ucd_facts::{ListOf, Memory, Row, SourceFile, Texts};
 
 /// Puts the names of a row of an alias file at the end.
 ///

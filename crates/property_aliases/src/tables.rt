@@ -4,7 +4,7 @@ ghost use Rattle.std.specs.Prelude.{◌≡◌, [], ◌∷◌, ◌++◌, map, IfO
 ghost use Rattle.property_aliases.specs.Tables.{built_in_names, category_names, decomposition_names, quick_names, truth_names};
 
 use std::alloc::Global;
-use ucd_model::{ListOf, Memory, Text, Texts};
+use ucd_facts::{ListOf, Memory, Text, Texts};
 
 /// The two names of each property that is built in, the long one first.
 const BUILT_IN: [&[u8]; 60] = [

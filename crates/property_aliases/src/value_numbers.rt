@@ -3,8 +3,8 @@
 ghost use Rattle.std.specs.Prelude.{◌≡◌, IfOk, OnOk, IsTrue};
 ghost use Rattle.property_aliases.specs.Edits.{AreSameBut, HasSameNames};
 ghost use Rattle.property_aliases.specs.Numbers.{AreNumbersOf};
-ghost use Rattle.ucd_model.specs.Facts.{Sources as AllRows};
-ghost use Rattle.ucd_model.specs.Values.{default_script, default_word_break};
+ghost use Rattle.ucd_facts.specs.Facts.{Sources as AllRows};
+ghost use Rattle.ucd_facts.specs.Values.{default_script, default_word_break};
 ghost use Rattle.release_rows.specs.Releases.{rows_now};
 
 use crate::edited::Edited;
@@ -12,7 +12,7 @@ use crate::file_values::{FileValues, values_behind, values_of};
 use crate::renewing::{renew_behind, renew_values};
 use release_rows::Release;
 use std::alloc::Global;
-use ucd_model::{Memory, SourceFile};
+use ucd_facts::{Memory, SourceFile};
 
 /// The values that the rows of a release give, by their numbers, and the rows by these numbers: the names of PropList.txt,
 /// the scripts with Unknown as number 0, and the word breaks with Other as number 0. Each row is read once for it.

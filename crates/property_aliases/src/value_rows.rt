@@ -13,7 +13,7 @@ use crate::kinds::kind_of;
 use crate::naming::{Names, add_row};
 use crate::number_map::NumberMap;
 use std::alloc::Global;
-use ucd_model::{Memory, Text, Texts};
+use ucd_facts::{Memory, Text, Texts};
 
 /// The property that the first name of a row names.
 fn first_index(properties: &Names, row: &[Text]) -> Option<usize>

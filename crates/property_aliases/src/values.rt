@@ -23,7 +23,7 @@ use crate::value_numbers::ValueNumbers;
 use crate::value_rows::rows_by_property;
 use release_rows::Release;
 use std::alloc::Global;
-use ucd_model::{Form, Memory, SourceFile};
+use ucd_facts::{Form, Memory, SourceFile};
 
 /// The places of the names of values: of the built-in and the numbered ones by kind of property, and of those that rows
 /// tie to them by property.

@@ -8,13 +8,13 @@
 -- NoIsOther         No means that the form of the point is another list
 -- OthersAreSame     another value means that it is the point alone
 use Rattle.std.specs.Prelude.{◌≡◌, ◌≢◌, ℕ, true, false, List, [], ◌∷◌, Ok}
-use Rattle.ucd_model.specs.Composites.{second_of}
-use Rattle.ucd_model.specs.Facts.{Facts, is_plain}
+use Rattle.ucd_facts.specs.Composites.{second_of}
+use Rattle.ucd_facts.specs.Facts.{Facts, is_plain}
 use Rattle.ucd_model.specs.QuickChecks.{form_of, quick_given, quick}
-use Rattle.ucd_model.specs.declared.form.Form.{Form}
-use Rattle.ucd_model.specs.declared.form.Form.TheVariants.{Nfd, Nfkd}
-use Rattle.ucd_model.specs.declared.form.Quick.{Quick}
-use Rattle.ucd_model.specs.declared.form.Quick.TheVariants.{Yes, No}
+use Rattle.ucd_facts.specs.declared.form.Form.{Form}
+use Rattle.ucd_facts.specs.declared.form.Form.TheVariants.{Nfd, Nfkd}
+use Rattle.ucd_facts.specs.declared.form.Quick.{Quick}
+use Rattle.ucd_facts.specs.declared.form.Quick.TheVariants.{Yes, No}
 use Rattle.quick_checks.specs.Checks.{quick_decomposed}
 
 abbrev pub IsMapped : (ℕ → Facts) → ℕ → Type 0

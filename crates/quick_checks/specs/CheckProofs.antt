@@ -12,18 +12,18 @@ use Rattle.std.specs.List.{AllByRecursion as Each}
 use Rattle.std.specs.Str.{bytes_eq}
 use Rattle.std.proofs.lemmas.Bool.Decides.{nat_tests}
 use Rattle.std.proofs.lemmas.Slice.Eq.{bytes_eq-Decides}
-use Rattle.ucd_model.specs.Facts.{Facts, is_plain}
+use Rattle.ucd_facts.specs.Facts.{Facts, is_plain}
 use Rattle.ucd_model.specs.CanonicalOrder.{class_of, order}
-use Rattle.ucd_model.specs.Composites.{is_canonical, second_of}
-use Rattle.ucd_model.specs.Expansion.{counts, counted, expansion}
+use Rattle.ucd_facts.specs.Composites.{is_canonical, second_of}
+use Rattle.ucd_facts.specs.Expansion.{counts, counted, expansion}
 use Rattle.ucd_model.specs.Forms.{appended, expansions, in_order, decomposed, composed}
 use Rattle.ucd_model.specs.QuickChecks.{form_of, quick_composed, quick_given, quick_where, quick}
-use Rattle.ucd_model.specs.declared.decomposition.Kind.{Kind}
-use Rattle.ucd_model.specs.declared.decomposition.Kind.TheVariants.{Plain, Canonical, Compat}
-use Rattle.ucd_model.specs.declared.form.Bad.{Bad as Rule}
-use Rattle.ucd_model.specs.declared.form.Form.TheVariants.{Nfd, Nfc, Nfkd, Nfkc}
-use Rattle.ucd_model.specs.declared.form.Quick.{Quick}
-use Rattle.ucd_model.specs.declared.form.Quick.TheVariants.{Yes, No, Maybe}
+use Rattle.ucd_facts.specs.declared.decomposition.Kind.{Kind}
+use Rattle.ucd_facts.specs.declared.decomposition.Kind.TheVariants.{Plain, Canonical, Compat}
+use Rattle.ucd_facts.specs.declared.form.Bad.{Bad as Rule}
+use Rattle.ucd_facts.specs.declared.form.Form.TheVariants.{Nfd, Nfc, Nfkd, Nfkc}
+use Rattle.ucd_facts.specs.declared.form.Quick.{Quick}
+use Rattle.ucd_facts.specs.declared.form.Quick.TheVariants.{Yes, No, Maybe}
 use Rattle.normalisation.specs.FormLemmas.{expansion_alone}
 use Rattle.normalisation.specs.ExpandedLemmas.{Unmapped, Each-order, ok_same, expansions_full}
 use Rattle.quick_checks.specs.Checks.{quick_decomposed, decomposed_check, composed_check}

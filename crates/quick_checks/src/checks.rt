@@ -1,7 +1,7 @@
 //! The quick checks of the normalisation forms.
 
 ghost use Rattle.std.specs.Prelude.{◌≡◌, [], ◌∷◌};
-ghost use Rattle.ucd_model.specs.Expansion.{FormAnswers};
+ghost use Rattle.ucd_facts.specs.Expansion.{FormAnswers};
 ghost use Rattle.ucd_model.specs.QuickChecks.{quick_composed, quick};
 ghost use Rattle.quick_checks.specs.Checks.{quick_decomposed, decomposed_check, composed_check};
 

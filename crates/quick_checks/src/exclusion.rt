@@ -2,7 +2,7 @@
 
 ghost use Rattle.std.specs.Prelude.{◌≡◌};
 ghost use Rattle.ucd_model.specs.QuickChecks.{excludes_mapping, full_exclusion};
-ghost use Rattle.ucd_model.specs.Shown.{shown_facts};
+ghost use Rattle.ucd_facts.specs.Shown.{shown_facts};
 
 use ucd_model::{FactView, FactsRef, Kind, Point};
 

@@ -3,8 +3,8 @@ use Rattle.std.proofs.Common.{◌≡◌, ℕ, ◌-◌, ◌≤◌, ◌<◌, List,
 use Rattle.std.specs.Prelude.{Result, Ok, Err, OnOk, codes}
 use Rattle.std.proofs.lemmas.List.{take_all}
 use Rattle.ucd_points.specs.HexText.{hex_text}
-use Rattle.ucd_model.specs.RowTexts.{spaced}
-use Rattle.ucd_model.specs.RowTextLemmas.{mapping_text-is}
+use Rattle.ucd_facts.specs.RowTexts.{spaced}
+use Rattle.ucd_facts.specs.RowTextLemmas.{mapping_text-is}
 use Rattle.record_lines.specs.Values.{points_value}
 
 pub on_ok : {T E P Q : Type 0} (r : Result T E) → (P → Q) → OnOk r P → OnOk r Q

@@ -11,14 +11,14 @@ use Rattle.ucd_points.specs.HexText.{hex_text}
 use Rattle.ucd_points.specs.Lines.{contents}
 use Rattle.ucd_points.specs.declared.files.SourceFile.TheVariants.{UnicodeData, WordBreakProperty}
 use Rattle.ucd_model.specs.Records.{Record}
-use Rattle.ucd_model.specs.RowTexts.{mapping_text}
-use Rattle.ucd_model.specs.Sets.{core_place}
-use Rattle.ucd_model.specs.declared.category.Category.TheVariants.{Lu, Mn, Cf, Cn}
-use Rattle.ucd_model.specs.declared.decomposition.Kind.TheVariants.{Plain, Canonical}
-use Rattle.ucd_model.specs.declared.form.Quick.TheVariants.{Yes, No, Maybe}
-use Rattle.ucd_model.specs.declared.image.Image.TheVariants.{Same, To}
-use Rattle.ucd_model.specs.declared.property.Core.{Core}
-use Rattle.ucd_model.specs.declared.property.Core.TheVariants.{Alphabetic, Lowercase, Uppercase, Cased, CaseIgnorable, ChangesWhenLowercased, ChangesWhenUppercased, ChangesWhenTitlecased, ChangesWhenCasefolded, ChangesWhenCasemapped, IdStart, IdContinue, XidStart, XidContinue, DefaultIgnorableCodePoint, GraphemeExtend, GraphemeBase}
+use Rattle.ucd_facts.specs.RowTexts.{mapping_text}
+use Rattle.ucd_facts.specs.Sets.{core_place}
+use Rattle.ucd_facts.specs.declared.category.Category.TheVariants.{Lu, Mn, Cf, Cn}
+use Rattle.ucd_facts.specs.declared.decomposition.Kind.TheVariants.{Plain, Canonical}
+use Rattle.ucd_facts.specs.declared.form.Quick.TheVariants.{Yes, No, Maybe}
+use Rattle.ucd_facts.specs.declared.image.Image.TheVariants.{Same, To}
+use Rattle.ucd_facts.specs.declared.property.Core.{Core}
+use Rattle.ucd_facts.specs.declared.property.Core.TheVariants.{Alphabetic, Lowercase, Uppercase, Cased, CaseIgnorable, ChangesWhenLowercased, ChangesWhenUppercased, ChangesWhenTitlecased, ChangesWhenCasefolded, ChangesWhenCasemapped, IdStart, IdContinue, XidStart, XidContinue, DefaultIgnorableCodePoint, GraphemeExtend, GraphemeBase}
 use Rattle.record_lines.specs.FileLines.{place_lines}
 use Rattle.record_lines.specs.RecordTexts.{record_text, change_text}
 

@@ -12,10 +12,10 @@ use Rattle.std.specs.Prelude.{ℕ, List, [], ◌++◌, if◌then◌else◌, code
 use Rattle.std.specs.List.{flat_map}
 use Rattle.std.specs.Str.{bytes_eq}
 use Rattle.ucd_points.specs.HexText.{hex_text}
-use Rattle.ucd_model.specs.DerivedFiles.{derived_files}
+use Rattle.ucd_facts.specs.Enumerations.{derived_files}
 use Rattle.ucd_model.specs.DerivedText.{line_end}
 use Rattle.ucd_model.specs.Records.{Record}
-use Rattle.ucd_model.specs.declared.files.DerivedFile.{DerivedFile}
+use Rattle.ucd_facts.specs.declared.files.DerivedFile.{DerivedFile}
 use Rattle.derived_writer.specs.Listings.{listing_section, listings_of}
 use Rattle.derived_writer.specs.declared.listing.Listing.{Listing}
 use Rattle.record_lines.specs.Values.{value_text}

@@ -9,15 +9,15 @@
 --                    a class in decimal, 0 among them. The default value has its text too
 use Rattle.std.specs.Prelude.{ℕ, Bool, true, false, List, [], ◌∷◌, codes}
 use Rattle.std.specs.Fmt.{decimal}
-use Rattle.ucd_model.specs.Names.{category_code, tag_name}
+use Rattle.ucd_facts.specs.Names.{category_code, tag_name}
 use Rattle.ucd_model.specs.Records.{Record}
-use Rattle.ucd_model.specs.RowTexts.{mapping_text}
-use Rattle.ucd_model.specs.declared.decomposition.Kind.{Kind}
-use Rattle.ucd_model.specs.declared.decomposition.Kind.TheVariants.{Plain, Canonical, Compat}
-use Rattle.ucd_model.specs.declared.form.Quick.{Quick as QuickValue}
-use Rattle.ucd_model.specs.declared.form.Quick.TheVariants.{Yes, No, Maybe}
-use Rattle.ucd_model.specs.declared.image.Image.{Image}
-use Rattle.ucd_model.specs.declared.image.Image.TheVariants.{Same, To}
+use Rattle.ucd_facts.specs.RowTexts.{mapping_text}
+use Rattle.ucd_facts.specs.declared.decomposition.Kind.{Kind}
+use Rattle.ucd_facts.specs.declared.decomposition.Kind.TheVariants.{Plain, Canonical, Compat}
+use Rattle.ucd_facts.specs.declared.form.Quick.{Quick as QuickValue}
+use Rattle.ucd_facts.specs.declared.form.Quick.TheVariants.{Yes, No, Maybe}
+use Rattle.ucd_facts.specs.declared.image.Image.{Image}
+use Rattle.ucd_facts.specs.declared.image.Image.TheVariants.{Same, To}
 use Rattle.derived_writer.specs.Listings.{check_value}
 use Rattle.derived_writer.specs.declared.listing.Listing.{Listing}
 use Rattle.derived_writer.specs.declared.listing.Listing.TheVariants.{Core, Category, Class, Decomposition, Exclusion, Quick, Casefold, SimpleCasefold, ChangesCasefold}

@@ -2,7 +2,7 @@
 
 ghost use Rattle.std.specs.Prelude.{◌≡◌, ◌++◌, OnOk};
 ghost use Rattle.std.specs.List.{flat_map};
-ghost use Rattle.ucd_model.specs.DerivedFiles.{derived_files};
+ghost use Rattle.ucd_facts.specs.Enumerations.{derived_files};
 ghost use Rattle.ucd_model.specs.Records.{kept_record};
 ghost use Rattle.record_lines.specs.RecordTexts.{file_values, record_text, value_line};
 

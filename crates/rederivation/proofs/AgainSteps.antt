@@ -7,17 +7,17 @@ use Rattle.std.proofs.lemmas.Bool.Decides.{nat_tests, same_from_decides}
 use Rattle.std.proofs.lemmas.List.{append-nil, take-append-drop, take_all}
 use Rattle.std.proofs.lemmas.List.Elements.{filter-append}
 use Rattle.std.proofs.lemmas.List.Folds.{list_any-append}
-use Rattle.ucd_model.specs.Facts.{Facts}
+use Rattle.ucd_facts.specs.Facts.{Facts}
 use Rattle.ucd_model.specs.Records.{Record, derived, kept_record, record_at, record_or_rule}
 use Rattle.ucd_model.specs.Sameness.{is_in, same_record}
 use Rattle.ucd_model.specs.SamenessProofs.{records_are_told}
 use Rattle.ucd_model.specs.Validity.{broken}
 use Rattle.ucd_model.specs.ValidityLaws.{HasRecord}
-use Rattle.ucd_model.specs.declared.form.Bad.{Bad as Rule}
-use Rattle.ucd_model.specs.declared.query.Query.{Query}
+use Rattle.ucd_facts.specs.declared.form.Bad.{Bad as Rule}
+use Rattle.ucd_facts.specs.declared.query.Query.{Query}
 use Rattle.ucd_model.specs.declared.records.Record.{Record as KeptRecord}
 use Rattle.range_table.specs.Values.{SameValues, with_span}
-use Rattle.asked_queries.specs.Answers.{is_asked}
+use Rattle.ucd_facts.specs.Answers.{is_asked}
 use Rattle.asked_queries.specs.Questions.{asked}
 use Rattle.asked_queries.specs.Turns.{SameQueries}
 use Rattle.asking_points.specs.declared.derivation.Derived.{Derived}

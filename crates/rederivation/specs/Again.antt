@@ -14,12 +14,12 @@
 -- StopsAt G points stop    the stop names the first of the points that has no record over G, with the first rule that it breaks; if
 --                          memory ran out, nothing is claimed
 use Rattle.std.specs.Prelude.{◌≡◌, ◌≢◌, ◌⊎◌, ℕ, ◌<◌, Bool, true, false, not, List, [], ◌∷◌, ◌++◌, Result, Ok, Err, filter, if◌then◌else◌, ⊤}
-use Rattle.ucd_model.specs.Facts.{Facts}
+use Rattle.ucd_facts.specs.Facts.{Facts}
 use Rattle.ucd_model.specs.Records.{Record, derived, kept_record, record_at}
 use Rattle.ucd_model.specs.Sameness.{is_in, same_record}
 use Rattle.ucd_model.specs.ValidityLaws.{HasRecord}
-use Rattle.ucd_model.specs.declared.form.Bad.{Bad as Rule}
-use Rattle.ucd_model.specs.declared.query.Query.{Query}
+use Rattle.ucd_facts.specs.declared.form.Bad.{Bad as Rule}
+use Rattle.ucd_facts.specs.declared.query.Query.{Query}
 use Rattle.asked_queries.specs.Questions.{asked}
 use Rattle.asked_queries.specs.Turns.{SameQueries}
 use Rattle.asking_points.specs.declared.derivation.Derived.{Derived}

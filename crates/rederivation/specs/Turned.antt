@@ -16,14 +16,14 @@
 use Rattle.std.specs.Prelude.{◌≡◌, ℕ, ◌+◌, ◌<◌, ◌≤◌, true, false, not, List, filter, Some, ⊤}
 use Rattle.std.specs.List.{range_with_len}
 use Rattle.range_table.specs.Values.{SameValues}
-use Rattle.ucd_model.specs.Facts.{Facts}
+use Rattle.ucd_facts.specs.Facts.{Facts}
 use Rattle.ucd_points.specs.Limits.{point_count}
 use Rattle.ucd_model.specs.Records.{Record, record_at}
 use Rattle.ucd_model.specs.Sameness.{same_record}
 use Rattle.ucd_model.specs.Validity.{first_broken}
 use Rattle.ucd_model.specs.ValidityLaws.{IsValid}
-use Rattle.ucd_model.specs.declared.query.Query.{Query}
-use Rattle.asked_queries.specs.Answers.{TellsChanges}
+use Rattle.ucd_facts.specs.declared.query.Query.{Query}
+use Rattle.ucd_facts.specs.Answers.{TellsChanges}
 use Rattle.asked_queries.specs.Questions.{asked}
 use Rattle.asked_queries.specs.Turns.{IsWithinDependants, SameQueries, asks_one}
 use Rattle.rederivation.specs.declared.again_stop.AgainStop.{AgainStop}

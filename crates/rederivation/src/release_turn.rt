@@ -2,7 +2,7 @@
 
 ghost use Rattle.std.specs.Prelude.{◌≡◌, ℕ, IfErr, IfOk, OnErr};
 ghost use Rattle.range_table.specs.Values.{SameValues};
-ghost use Rattle.ucd_model.specs.Facts.{Facts};
+ghost use Rattle.ucd_facts.specs.Facts.{Facts};
 ghost use Rattle.record_list.specs.Records.{record_next, record_now};
 ghost use Rattle.dependency_map.specs.Maps.{asked_at};
 ghost use Rattle.rederivation.specs.Turned.{CountsWithin, IsReady, IsTurned, StopsTurn};

@@ -8,7 +8,7 @@ use Rattle.ucd_points.specs.Lines.{LineItem, LineEnding, unended, lf, cr_lf, end
 use Rattle.ucd_points.specs.MissingLines.{takes_missing, behind_hash, missing_rest, is_missing, is_trivia}
 use Rattle.ucd_points.specs.declared.files.SourceFile.{SourceFile}
 use Rattle.ucd_points.specs.declared.files.SourceFile.TheVariants.{UnicodeData}
-use Rattle.ucd_model.specs.declared.row.Row.{Row}
+use Rattle.ucd_facts.specs.declared.row.Row.{Row}
 use Rattle.source_rows.specs.Lines.{is_first_line}
 use Rattle.source_rows.specs.Trivia.{RowsAreNoTrivia}
 use Rattle.release_rows.specs.Cuts.{IsCut, AreCut}

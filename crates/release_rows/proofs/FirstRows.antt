@@ -4,7 +4,7 @@ use Rattle.std.specs.List.{position_or_len, remove}
 use Rattle.std.proofs.lemmas.List.{get_or-map, length-map}
 use Rattle.std.proofs.lemmas.List.Sums.{passes_at_first}
 use Rattle.ucd_points.specs.declared.files.SourceFile.{SourceFile}
-use Rattle.ucd_model.specs.declared.row.Row.{Row}
+use Rattle.ucd_facts.specs.declared.row.Row.{Row}
 use Rattle.source_rows.specs.declared.key.Key.{Key}
 use Rattle.part_list.specs.Parts.{flat, place}
 use Rattle.part_list.specs.SpotLaws.{place-lt}

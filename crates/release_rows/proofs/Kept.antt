@@ -3,7 +3,7 @@ use Rattle.std.proofs.Common.{◌≡◌, ℕ, ◌+◌, Bool, true, false, cond, 
 use Rattle.std.proofs.lemmas.List.{append-nil}
 use Rattle.ucd_points.specs.Lines.{LineItem, item_bytes, ending_bytes, joined, items_of}
 use Rattle.ucd_points.specs.declared.files.SourceFile.{SourceFile}
-use Rattle.ucd_model.specs.declared.row.Row.{Row}
+use Rattle.ucd_facts.specs.declared.row.Row.{Row}
 use Rattle.source_rows.specs.declared.fault.RowFault.{RowFault}
 use Rattle.release_rows.specs.Keys.{key_rule}
 use Rattle.release_rows.specs.Pieces.{Lines, pieces, opens_range, piece_content, one_line, two_lines}

@@ -15,7 +15,7 @@ use Rattle.ucd_points.specs.Lines.{LineItem, lf, ended_item, ends_in_return, ite
 use Rattle.ucd_points.specs.MissingLines.{is_trivia}
 use Rattle.ucd_points.specs.declared.files.SourceFile.{SourceFile}
 use Rattle.ucd_points.specs.declared.files.SourceFile.TheVariants.{UnicodeData}
-use Rattle.ucd_model.specs.declared.row.Row.{Row}
+use Rattle.ucd_facts.specs.declared.row.Row.{Row}
 use Rattle.source_rows.specs.Lines.{is_first_line}
 use Rattle.source_rows.specs.RowLines.{TwoLines, RowsHaveLines}
 use Rattle.release_rows.specs.Cuts.{AreCut, Ascends, IsCut, IsToldApart}

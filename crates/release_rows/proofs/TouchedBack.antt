@@ -5,9 +5,9 @@ use Rattle.std.proofs.lemmas.Bool.{cases_eq, cases_lt, or_parts}
 use Rattle.std.proofs.lemmas.List.{append_assoc, drop-drop, get_or-set_other, get_or-set_same, set_past, take-append-drop}
 use Rattle.std.proofs.lemmas.List.Elements.{filter-append}
 use Rattle.std.proofs.lemmas.List.Folds.{list_any-append}
-use Rattle.ucd_model.specs.Facts.{within}
+use Rattle.ucd_facts.specs.Facts.{within}
 use Rattle.ucd_points.specs.SourceFiles.{file_place}
-use Rattle.ucd_model.specs.declared.row.Row.{Row}
+use Rattle.ucd_facts.specs.declared.row.Row.{Row}
 use Rattle.part_list.specs.Parts.{spliced}
 use Rattle.release_rows.specs.FileItems.{FileItem, onto_rows, rows_in}
 use Rattle.release_rows.specs.OperationLaws.{speaks_of}

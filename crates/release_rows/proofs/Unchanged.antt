@@ -9,7 +9,7 @@ use Rattle.std.proofs.lemmas.List.Folds.{list_any-append}
 use Rattle.ucd_points.specs.Lines.{LineEnding, cr_lf, lf, unended}
 use Rattle.ucd_points.specs.SourceFiles.{file_place}
 use Rattle.ucd_points.specs.declared.files.SourceFile.{SourceFile}
-use Rattle.ucd_model.specs.declared.row.Row.{Row}
+use Rattle.ucd_facts.specs.declared.row.Row.{Row}
 use Rattle.source_rows.specs.Keys.{key_names}
 use Rattle.release_rows.specs.FileItems.{FileItem}
 use Rattle.release_rows.specs.FileLemmas.{items_at-with_items_other}

@@ -12,7 +12,7 @@ use Rattle.std.specs.List.{All}
 use Rattle.ucd_points.specs.Lines.{unended, lf, is_lf, holds_line_feed, ends_in_return}
 use Rattle.ucd_points.specs.declared.files.SourceFile.{SourceFile}
 use Rattle.ucd_points.specs.declared.files.SourceFile.TheVariants.{UnicodeData}
-use Rattle.ucd_model.specs.declared.row.Row.{Row}
+use Rattle.ucd_facts.specs.declared.row.Row.{Row}
 use Rattle.source_rows.specs.Keys.{row_span}
 use Rattle.release_rows.specs.FileItems.{FileItem}
 

@@ -8,7 +8,7 @@
 -- EntersSome file o row        o is what is kept of the row, where there is one; None where there is none
 use Rattle.std.specs.Prelude.{◌≡◌, ◌≤◌, Option, Some, None, Result, Ok, Err}
 use Rattle.ucd_points.specs.declared.files.SourceFile.{SourceFile}
-use Rattle.ucd_model.specs.declared.row.Row.{Row}
+use Rattle.ucd_facts.specs.declared.row.Row.{Row}
 use Rattle.source_rows.specs.declared.fault.RowFault.{RowFault}
 use Rattle.source_rows.specs.declared.fault.RowStop.{RowStop}
 use Rattle.source_rows.specs.declared.fault.RowStop.TheVariants.{Fault, Memory}

@@ -12,7 +12,7 @@ use Rattle.std.specs.Prelude.{ℕ, List, [], ◌∷◌, ◌++◌, Option, Some, 
 use Rattle.std.specs.List.{flat_map, sum_by}
 use Rattle.ucd_points.specs.Lines.{LineEnding, ending_bytes}
 use Rattle.ucd_points.specs.declared.files.SourceFile.{SourceFile}
-use Rattle.ucd_model.specs.declared.row.Row.{Row}
+use Rattle.ucd_facts.specs.declared.row.Row.{Row}
 
 pub record FileItem : Type 0 where
   pub content : List ℕ

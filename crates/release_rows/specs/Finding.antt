@@ -9,7 +9,7 @@
 use Rattle.std.specs.List.{position_or_len}
 use Rattle.std.specs.Prelude.{◌≡◌, ℕ, Bool, true, false, List, map, Result, Ok, Err}
 use Rattle.ucd_points.specs.declared.files.SourceFile.{SourceFile}
-use Rattle.ucd_model.specs.declared.row.Row.{Row}
+use Rattle.ucd_facts.specs.declared.row.Row.{Row}
 use Rattle.part_list.specs.Parts.{IsEntry, flat, place}
 use Rattle.part_list.specs.declared.spanned.Spanned.{Spanned}
 use Rattle.part_list.specs.declared.spot.Spot.{Spot}

@@ -5,7 +5,7 @@
 use Rattle.std.specs.Prelude.{◌≡◌, List, [], ◌∷◌, map, Option, Some, None}
 use Rattle.std.specs.List.{All}
 use Rattle.ucd_points.specs.declared.files.SourceFile.{SourceFile}
-use Rattle.ucd_model.specs.declared.row.Row.{Row}
+use Rattle.ucd_facts.specs.declared.row.Row.{Row}
 use Rattle.release_rows.specs.Chains.{IsOrderedPlace, placed_extent}
 use Rattle.release_rows.specs.Keys.{extent_in}
 use Rattle.release_rows.specs.declared.entry.Entry.{Entry}

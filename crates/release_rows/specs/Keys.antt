@@ -23,8 +23,8 @@ use Rattle.ucd_points.specs.Bounds.{Bounds}
 use Rattle.ucd_points.specs.MissingLines.{takes_missing}
 use Rattle.ucd_points.specs.declared.files.SourceFile.{SourceFile}
 use Rattle.ucd_points.specs.declared.files.SourceFile.TheVariants.{UnicodeData, PropList, Scripts, WordBreakProperty, CompositionExclusions}
-use Rattle.ucd_model.specs.declared.row.Row.{Row}
-use Rattle.ucd_model.specs.declared.row.Row.TheVariants.{Missing as MissingLine}
+use Rattle.ucd_facts.specs.declared.row.Row.{Row}
+use Rattle.ucd_facts.specs.declared.row.Row.TheVariants.{Missing as MissingLine}
 use Rattle.source_rows.specs.Keys.{row_span, key_names, same_texts}
 use Rattle.release_rows.specs.Extents.{Extent}
 use Rattle.release_rows.specs.declared.conflict.Conflict.{Conflict}

@@ -29,7 +29,7 @@ use Rattle.ucd_points.specs.Limits.{file_limit}
 use Rattle.ucd_points.specs.Lines.{items_of}
 use Rattle.ucd_points.specs.MissingLines.{is_trivia}
 use Rattle.ucd_points.specs.declared.files.SourceFile.{SourceFile}
-use Rattle.ucd_model.specs.declared.row.Row.{Row}
+use Rattle.ucd_facts.specs.declared.row.Row.{Row}
 use Rattle.source_rows.specs.Faults.{row_or_fault}
 use Rattle.source_rows.specs.declared.fault.RowFault.{RowFault}
 use Rattle.source_rows.specs.declared.fault.RowFault.TheVariants.{G04, G09}

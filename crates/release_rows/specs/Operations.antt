@@ -35,10 +35,10 @@ use Rattle.std.specs.Option.{option_to_list}
 use Rattle.std.specs.Str.{bytes_eq}
 use Rattle.ucd_points.specs.Bounds.{Bounds}
 use Rattle.ucd_points.specs.Lines.{LineEnding, unended, lf, cr_lf, is_lf}
-use Rattle.ucd_model.specs.RowSpans.{span_in}
-use Rattle.ucd_model.specs.RowValues.{RowOk}
+use Rattle.ucd_facts.specs.RowSpans.{span_in}
+use Rattle.ucd_facts.specs.RowValues.{RowOk}
 use Rattle.ucd_points.specs.declared.files.SourceFile.{SourceFile}
-use Rattle.ucd_model.specs.declared.row.Row.{Row}
+use Rattle.ucd_facts.specs.declared.row.Row.{Row}
 use Rattle.source_rows.specs.Faults.{row_or_fault}
 use Rattle.source_rows.specs.Keys.{key_of, equal_keys, is_before}
 use Rattle.source_rows.specs.KeyNames.{group_of}

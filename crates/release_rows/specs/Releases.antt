@@ -27,7 +27,7 @@
 use Rattle.std.specs.Prelude.{◌≡◌, ℕ, ◌+◌, List, [], ◌∷◌, ◌++◌, length, map, slice_index_or, slice_set, Option, Some, None, Result, Ok, Err}
 use Rattle.ucd_points.specs.declared.files.SourceFile.{SourceFile}
 use Rattle.ucd_points.specs.SourceFiles.{file_place}
-use Rattle.ucd_model.specs.declared.row.Row.{Row}
+use Rattle.ucd_facts.specs.declared.row.Row.{Row}
 use Rattle.release_rows.specs.Cuts.{AreCut, Ascends}
 use Rattle.release_rows.specs.Keys.{key_rule}
 use Rattle.release_rows.specs.FileItems.{FileItem, FileLists, rows_in}

@@ -26,8 +26,8 @@ use Rattle.std.specs.Prelude.{◌≡◌, ◌≢◌, ℕ, ◌+◌, ◌<◌, ◌�
 use Rattle.std.specs.List.{All}
 use Rattle.std.specs.Option.{option_map}
 use Rattle.ucd_points.specs.declared.files.SourceFile.{SourceFile}
-use Rattle.ucd_model.specs.declared.row.Row.{Row}
-use Rattle.ucd_model.specs.declared.row.Row.TheVariants.{Value as ValueLine, Exclusion as ExclusionLine, Missing as MissingLine}
+use Rattle.ucd_facts.specs.declared.row.Row.{Row}
+use Rattle.ucd_facts.specs.declared.row.Row.TheVariants.{Value as ValueLine, Exclusion as ExclusionLine, Missing as MissingLine}
 use Rattle.ucd_lines.specs.Items.{item_of, ending_of}
 use Rattle.source_rows.specs.Faults.{row_or_fault}
 use Rattle.source_rows.specs.RowRefs.{value_in, valued_in}

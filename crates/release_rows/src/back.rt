@@ -14,7 +14,7 @@ use crate::splice::Splice;
 use crate::stretch::Stretch;
 use part_list::Spanned;
 use std::alloc::Global;
-use ucd_model::{Memory, Spans};
+use ucd_facts::{Memory, Spans};
 
 /// Takes so many items next out, from a place on.
 ///

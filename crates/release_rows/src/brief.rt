@@ -2,14 +2,14 @@
 
 ghost use Rattle.std.specs.Prelude.{◌≡◌, ◌≢◌, ℕ, List, length, Some};
 ghost use Rattle.std.specs.Option.{IfSome};
-ghost use Rattle.ucd_model.specs.declared.row.DataRow.{DataRow as DataValue};
-ghost use Rattle.ucd_model.specs.declared.row.Row.TheVariants.{Unit as DataLine};
+ghost use Rattle.ucd_facts.specs.declared.row.DataRow.{DataRow as DataValue};
+ghost use Rattle.ucd_facts.specs.declared.row.Row.TheVariants.{Unit as DataLine};
 ghost use Rattle.release_rows.specs.Briefs.{brief_by, brief_if, brief_of, is_bare, is_plain, no_brief};
 ghost use Rattle.source_rows.specs.PointValues.{Gives};
 ghost use Rattle.source_rows.specs.RowRefs.{row_in};
 
 use source_rows::{Decomposition, Mapping, PointValues, RowRef, Values};
-use ucd_model::{Category, Kind, Point, Row, Span};
+use ucd_facts::{Category, Kind, Point, Row, Span};
 
 /// The category and the combining class that a row of UnicodeData.txt gives, if it gives no more. For a row that also
 /// gives a mapping or a simple case mapping, for a row of another file and for trivia, the category is `Cn`, which no

@@ -9,7 +9,7 @@ use crate::stored_row::stretch_behind;
 use crate::stretch::{Stretch, content_in};
 use part_list::Spanned;
 use std::alloc::Global;
-use ucd_model::{ListOf, Memory, SourceFile, Text};
+use ucd_facts::{ListOf, Memory, SourceFile, Text};
 
 /// Puts the content of an entry at the end of another text: the entry of the same item, which stands there.
 ///

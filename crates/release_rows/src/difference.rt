@@ -12,7 +12,7 @@ use crate::splice::Splice;
 use crate::stretch::Stretch;
 use part_list::Spanned;
 use std::alloc::Global;
-use ucd_model::{Memory, SourceFile};
+use ucd_facts::{Memory, SourceFile};
 
 /// Whether two items of one text are told to be the same by where they stand, their ends and their numbers of lines.
 fn is_same(one: Stretch, other: Stretch) -> bool

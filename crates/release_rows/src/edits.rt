@@ -3,7 +3,7 @@
 ghost use Rattle.std.specs.Prelude.{◌≡◌, ℕ, ◌+◌, ◌≤◌, true, false, List, length, map, OnOk, OnErr};
 ghost use Rattle.std.specs.List.{All, insert};
 ghost use Rattle.ucd_points.specs.declared.files.SourceFile.{SourceFile as FileValue};
-ghost use Rattle.ucd_model.specs.declared.row.Row.{Row as RowValue};
+ghost use Rattle.ucd_facts.specs.declared.row.Row.{Row as RowValue};
 ghost use Rattle.part_list.specs.Parts.{next_in, now_in};
 ghost use Rattle.release_rows.specs.Gaps.{IsGapAt};
 ghost use Rattle.release_rows.specs.Groups.{AreMarked};
@@ -17,8 +17,8 @@ use crate::search::{Search, Test};
 use crate::stretch::Stretch;
 use part_list::{PartList, Spanned, Spot, Tags};
 use source_rows::contents_have_keys;
+use ucd_facts::Memory;
 use ucd_lines::Ending;
-use ucd_model::Memory;
 
 /// Where an entry is put.
 #[derive(Clone, Copy, Debug)]

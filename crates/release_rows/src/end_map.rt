@@ -11,7 +11,7 @@ use crate::place::Place;
 use std::alloc::Global;
 use std::collections::BTreeMap;
 use std::marker::Model;
-use ucd_model::Memory;
+use ucd_facts::Memory;
 
 /// The extents of rows whose keys differ and that do not overlap. Each is kept as its last code point, under the key
 /// of the row. Contracts see the extents in some order.

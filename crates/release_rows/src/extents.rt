@@ -12,7 +12,7 @@ use crate::place::Place;
 use crate::run::{Run, run_conflict};
 use std::alloc::Global;
 use std::marker::Model;
-use ucd_model::{Memory, SourceFile};
+use ucd_facts::{Memory, SourceFile};
 
 /// The extents of rows whose keys differ and that do not overlap. Contracts see them in some order.
 ///

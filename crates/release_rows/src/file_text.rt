@@ -31,8 +31,8 @@ use part_list::{PartList, Spanned, Tags};
 use source_rows::{Key, row_key};
 use std::alloc::Global;
 use std::marker::Model;
+use ucd_facts::{Copied, Memory, Row, SourceFile, Span, Spans, Text};
 use ucd_lines::Ending;
-use ucd_model::{Copied, Memory, Row, SourceFile, Span, Spans, Text};
 
 /// A text that only grows, and where the items of a file stand in it, now and next. A row is kept as its bytes alone,
 /// which are read as that row. Contracts see the items.

@@ -2,7 +2,7 @@
 
 ghost use Rattle.std.specs.Prelude.{◌≡◌, Ok, map};
 ghost use Rattle.std.specs.List.{All};
-ghost use Rattle.ucd_model.specs.declared.row.Row.{Row as RowValue};
+ghost use Rattle.ucd_facts.specs.declared.row.Row.{Row as RowValue};
 ghost use Rattle.source_rows.specs.Faults.{row_or_fault};
 ghost use Rattle.source_rows.specs.Keys.{key_of};
 ghost use Rattle.part_list.specs.Parts.{next_in};
@@ -22,7 +22,7 @@ use crate::stretch::Stretch;
 use crate::tag::{content_tag, key_tag};
 use part_list::{PartList, Spot, Tags};
 use source_rows::{Key, content_group, contents_have_keys};
-use ucd_model::{Row, SourceFile};
+use ucd_facts::{Row, SourceFile};
 
 /// Whether a row is a missing row.
 fn is_missing(row: &Row) -> bool

@@ -6,7 +6,7 @@ ghost use Rattle.part_list.specs.Parts.{next_in, now_in};
 ghost use Rattle.part_list.specs.Tags.{Grows, may_have};
 ghost use Rattle.source_rows.specs.Faults.{row_or_fault};
 ghost use Rattle.source_rows.specs.KeyNames.{group_of};
-ghost use Rattle.ucd_model.specs.declared.row.Row.{Row as RowValue};
+ghost use Rattle.ucd_facts.specs.declared.row.Row.{Row as RowValue};
 ghost use Rattle.release_rows.specs.Groups.{AreMarked, group_tag};
 ghost use Rattle.release_rows.specs.StoredItems.{IsStored, stored_at};
 
@@ -15,7 +15,7 @@ use crate::tag::{end_of, number};
 use part_list::{Entries, PartList, Tags};
 use source_rows::{content_group, contents_have_keys};
 use std::alloc::Global;
-use ucd_model::SourceFile;
+use ucd_facts::SourceFile;
 
 /// The tag of a group of this name.
 pub fn group_tag(group: &[u8]) -> u32

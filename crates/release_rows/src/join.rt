@@ -10,8 +10,8 @@ ghost use Rattle.release_rows.specs.StoredItems.{item_at, stored_at, IsItem, IsS
 use crate::stretch::{Stretch, content_in};
 use part_list::Entries;
 use std::alloc::Global;
+use ucd_facts::{Memory, SourceFile, Text};
 use ucd_lines::Ending;
-use ucd_model::{Memory, SourceFile, Text};
 
 /// The bytes of an ending.
 fn ending_text(ending: Ending) -> &'static [u8]

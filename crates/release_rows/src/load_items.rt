@@ -22,8 +22,8 @@ use crate::placed::{Placed, are_apart};
 use crate::stretch::Stretch;
 use part_list::PartList;
 use std::alloc::Global;
+use ucd_facts::{Memory, SourceFile, Text};
 use ucd_lines::items;
-use ucd_model::{Memory, SourceFile, Text};
 
 /// Where the items of a file stand in its text, and the keys of its rows, which were not compared.
 #[derive(Drop)]

@@ -5,7 +5,7 @@ ghost use Rattle.std.specs.Prelude.{◌≡◌};
 use source_rows::RowFault;
 use std::alloc::AllocFailed;
 use thiserror::Error;
-use ucd_model::Memory;
+use ucd_facts::Memory;
 
 /// The rule that a file breaks.
 #[derive(Clone, Copy, Debug, PartialEq, Eq, Drop, Error)]

@@ -3,7 +3,7 @@
 ghost use Rattle.std.specs.Prelude.{◌≡◌, ◌+◌, ◌<◌, ◌^◌, [], OnOk, Option, length, map};
 ghost use Rattle.std.specs.List.{All};
 ghost use Rattle.ucd_points.specs.declared.files.SourceFile.{SourceFile as FileValue};
-ghost use Rattle.ucd_model.specs.declared.row.Row.{Row as RowValue};
+ghost use Rattle.ucd_facts.specs.declared.row.Row.{Row as RowValue};
 ghost use Rattle.release_rows.specs.Briefs.{brief_of, no_brief};
 ghost use Rattle.release_rows.specs.Entries.{EntersSome};
 ghost use Rattle.release_rows.specs.Gathered.{AreGathered};
@@ -27,7 +27,7 @@ use crate::tag::content_tag;
 use part_list::{PartList, Spanned};
 use source_rows::LastTail;
 use std::alloc::Global;
-use ucd_model::{Memory, SourceFile};
+use ucd_facts::{Memory, SourceFile};
 
 /// The items of a file so far. After an error it is of no more use, and nothing is known
 /// of it.

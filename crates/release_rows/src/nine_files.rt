@@ -9,7 +9,7 @@ use crate::file_text::FileText;
 use crate::laws::{operations_keep_cuts, operations_keep_order, operations_keep_rows};
 use crate::operation::{Op, OpStop};
 use std::alloc::Global;
-use ucd_model::{Copied, Memory, SourceFile, Spans};
+use ucd_facts::{Copied, Memory, SourceFile, Spans};
 
 /// The items of each source file, at its place in the order in which the files are read.
 pub type NineFiles = [FileText; 9];

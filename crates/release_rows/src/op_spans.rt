@@ -10,7 +10,7 @@ use crate::stretch::Stretch;
 use part_list::Spanned;
 use source_rows::{Key, rows_are_ok, rows_are_read};
 use std::alloc::Global;
-use ucd_model::{Memory, Point, Row, SourceFile, Span, Spans};
+use ucd_facts::{Memory, Point, Row, SourceFile, Span, Spans};
 
 /// The code point of a key, as a number; 0 if it has none.
 pub fn code_of(key: &Key) -> u32

@@ -6,7 +6,7 @@ ghost use Rattle.release_rows.specs.Operations.{op_file};
 use crate::key_rule::KeyRule;
 use source_rows::Key;
 use std::alloc::AllocFailed;
-use ucd_model::{ListOf, Memory, Row, SourceFile, Text};
+use ucd_facts::{ListOf, Memory, Row, SourceFile, Text};
 
 /// One operation on the rows of a file.
 #[derive(Debug, Drop)]

@@ -8,7 +8,7 @@ ghost use Rattle.release_rows.specs.Releases.{files_now, files_next};
 use crate::nine_files::NineFiles;
 use crate::splice::Splice;
 use std::alloc::Global;
-use ucd_model::{ListOf, Memory};
+use ucd_facts::{ListOf, Memory};
 
 /// Splices that are undone one after the other.
 pub type Patch = ListOf<Splice>;

@@ -11,8 +11,8 @@ ghost use Rattle.release_rows.specs.StoredItems.{content_at, piece_of};
 use crate::brief::Brief;
 use crate::stretch::{Stretch, content_in};
 use source_rows::begins_range;
+use ucd_facts::SourceFile;
 use ucd_lines::{Ending, Item, Items, is_trivia};
-use ucd_model::SourceFile;
 
 /// A line, or a line that opens a range and the one behind it. UAX #44, section 4.2.3.
 #[derive(Clone, Copy, Debug)]

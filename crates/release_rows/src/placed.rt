@@ -8,7 +8,7 @@ ghost use Rattle.release_rows.specs.Gathered.{placed_of};
 use crate::entry::Entry;
 use crate::place::Place;
 use std::cmp::Ordering;
-use ucd_model::Memory;
+use ucd_facts::Memory;
 
 /// The key of a row, and the last code point that no other row may have.
 #[derive(Debug, PartialEq, Eq, PartialOrd, Ord, Drop)]

@@ -1,7 +1,7 @@
 //! Reads what is kept of a row while its file is loaded.
 
 ghost use Rattle.std.specs.Prelude.{◌≡◌, ◌≤◌, Ok};
-ghost use Rattle.ucd_model.specs.RowValues.{RowOk};
+ghost use Rattle.ucd_facts.specs.RowValues.{RowOk};
 ghost use Rattle.source_rows.specs.Faults.{row_or_fault};
 ghost use Rattle.source_rows.specs.Keys.{row_span};
 ghost use Rattle.source_rows.specs.RowRefs.{row_in};
@@ -16,7 +16,7 @@ use source_rows::{
     LastTail, RowRef, RowStop, read_below, read_row_ref, rows_are_ok, rows_are_read,
 };
 use std::alloc::Global;
-use ucd_model::SourceFile;
+use ucd_facts::SourceFile;
 
 /// The first and the last code point of a row. A row of names has none, which 0 stands for.
 fn row_points(row: &RowRef<'_>) -> (u32, u32)

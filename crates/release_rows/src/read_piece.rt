@@ -12,8 +12,8 @@ use crate::piece::Piece;
 use crate::read_entry::read_entry;
 use source_rows::{LastTail, RowFault, RowStop, read_row_ref};
 use std::alloc::Global;
+use ucd_facts::SourceFile;
 use ucd_lines::is_trivia;
-use ucd_model::SourceFile;
 
 /// Whether a fault is that of the second line of a range.
 fn is_faulty_last(file: SourceFile, piece: Piece<'_>, fault: RowFault) -> bool

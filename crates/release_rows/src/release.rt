@@ -25,7 +25,7 @@ use crate::row_iter::Rows;
 use crate::row_text::RowText;
 use std::alloc::Global;
 use std::marker::Model;
-use ucd_model::{Copied, Memory, SourceFile, Span, Spans, Text, file_limit};
+use ucd_facts::{Copied, Memory, SourceFile, Span, Spans, Text, file_limit};
 
 /// The answer to a file above the limit.
 const TOO_LONG: LoadStop = LoadStop::Fault {

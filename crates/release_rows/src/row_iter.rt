@@ -9,8 +9,8 @@ use crate::row_text::RowText;
 use crate::stretch::{Stretch, content_in};
 use part_list::Entries;
 use std::marker::Model;
+use ucd_facts::SourceFile;
 use ucd_lines::is_trivia;
-use ucd_model::SourceFile;
 
 /// The rows of a file that are left, in the order of the file, each with the number of its first line, counted from 1.
 /// Contracts see the list of these pairs.
@@ -24,7 +24,7 @@ pub struct Rows<'a> {
 
 impl<'a> Model for Rows<'a> {
     ghost use Rattle.std.specs.Prelude.{List, ℕ, map};
-    ghost use Rattle.ucd_model.specs.declared.row.Row.{Row};
+    ghost use Rattle.ucd_facts.specs.declared.row.Row.{Row};
     ghost use Rattle.release_rows.specs.Releases.{numbered_rows};
     ghost use Rattle.release_rows.specs.StoredItems.{stored_at};
     ghost use Rattle.release_rows.specs.Walking.{IsWalk};

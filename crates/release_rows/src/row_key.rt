@@ -2,7 +2,7 @@
 
 ghost use Rattle.std.specs.Prelude.{◌≡◌, ◌≤◌, true, IfOk};
 ghost use Rattle.ucd_points.specs.Fields.{is_name};
-ghost use Rattle.ucd_model.specs.RowValues.{RowOk};
+ghost use Rattle.ucd_facts.specs.RowValues.{RowOk};
 ghost use Rattle.source_rows.specs.Keys.{row_span, alias_count, key_names, missing_names, value_names};
 ghost use Rattle.release_rows.specs.Keys.{own_end, row_end, has_spans};
 ghost use Rattle.source_rows.specs.RowRefs.{row_in};
@@ -11,8 +11,8 @@ ghost use Rattle.release_rows.specs.Places.{names_of};
 
 use source_rows::{Conditions, RowRef};
 use std::alloc::{AllocError, Global};
+use ucd_facts::{Memory, Point, Row, SourceFile, Text};
 use ucd_lines::{Fields, put_hex};
-use ucd_model::{Memory, Point, Row, SourceFile, Text};
 
 /// The first code point of a row. A row of names has none, which 0 stands for.
 pub fn row_start(row: &Row) -> u32

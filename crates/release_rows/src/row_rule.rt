@@ -2,7 +2,7 @@
 
 ghost use Rattle.std.specs.Prelude.{◌≡◌, ◌≤◌, List, Option, IfOk};
 ghost use Rattle.std.specs.Option.{IfSome};
-ghost use Rattle.ucd_model.specs.declared.row.Row.{Row as RowValue};
+ghost use Rattle.ucd_facts.specs.declared.row.Row.{Row as RowValue};
 ghost use Rattle.release_rows.specs.Entries.{EntersSome};
 ghost use Rattle.release_rows.specs.Keys.{is_back, last_start};
 ghost use Rattle.release_rows.specs.Loading.{rule_by};
@@ -12,7 +12,7 @@ use crate::conflict::Conflict;
 use crate::entry::Entry;
 use crate::extents::Extents;
 use crate::load_stop::LoadRule;
-use ucd_model::{Memory, SourceFile};
+use ucd_facts::{Memory, SourceFile};
 
 /// Whether a code point is less than the first one of the row before, in a file where that is a fault.
 fn is_back(file: SourceFile, before: Option<u32>, code: u32) -> bool

@@ -17,7 +17,7 @@ use source_rows::{
 };
 use std::alloc::Global;
 use std::marker::Model;
-use ucd_model::{Memory, Point, Row, SourceFile};
+use ucd_facts::{Memory, Point, Row, SourceFile};
 
 /// A row of a file of a release, as it stands in the text of the file. Contracts see the row.
 #[derive(Debug, Drop)]
@@ -33,7 +33,7 @@ pub struct RowText<'a> {
 }
 
 impl<'a> Model for RowText<'a> {
-    ghost use Rattle.ucd_model.specs.declared.row.Row.{Row};
+    ghost use Rattle.ucd_facts.specs.declared.row.Row.{Row};
     ghost use Rattle.release_rows.specs.StoredItems.{IsRowText, read_as};
 
     ghost Value = { Row };

@@ -11,8 +11,8 @@ use crate::tag::{tells_group, tells_key, tells_order};
 use part_list::{Reach, Seek, Spanned};
 use source_rows::{compare_names, content_group};
 use std::marker::Model;
+use ucd_facts::{SourceFile, Text};
 use ucd_lines::{is_trivia, takes_missing};
-use ucd_model::{SourceFile, Text};
 
 /// What an entry is tested for.
 #[derive(Clone, Copy, Debug)]

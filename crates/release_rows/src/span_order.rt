@@ -8,7 +8,7 @@ ghost use Rattle.release_rows.specs.SpanOrders.{reach_with, NoneBeginsBehind};
 
 use std::alloc::Global;
 use std::marker::Model;
-use ucd_model::{Memory, Span};
+use ucd_facts::{Memory, Span};
 
 /// A span that reaches as far as it and all spans before it do.
 #[derive(Clone, Copy)]

@@ -12,8 +12,8 @@ use crate::stretch::{Stretch, content_in};
 use part_list::Spanned;
 use std::alloc::Global;
 use std::marker::Model;
+use ucd_facts::{ListOf, Memory, SourceFile, Spans, Text};
 use ucd_lines::is_trivia;
-use ucd_model::{ListOf, Memory, SourceFile, Spans, Text};
 
 /// Some items of a file, and those that stood in their place before. Contracts see the items.
 #[derive(Debug, Drop)]

@@ -17,8 +17,8 @@ use crate::stretch::Stretch;
 use crate::tag::content_tag;
 use part_list::{Spanned, Tags};
 use source_rows::{rows_are_no_trivia, rows_are_read};
+use ucd_facts::{Memory, Row, SourceFile, Text};
 use ucd_lines::Ending;
-use ucd_model::{Memory, Row, SourceFile, Text};
 
 /// How many lines the bytes of a row have: two with a LF, else one.
 fn lines_in(bytes: &[u8]) -> u8

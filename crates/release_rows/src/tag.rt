@@ -5,8 +5,8 @@ ghost use Rattle.ucd_points.specs.Fields.{field};
 ghost use Rattle.release_rows.specs.Tags.{behind_first, content_tag, digit, end_of, first_digit, key_tag, number, tells_group, tells_key, tells_order};
 
 use source_rows::content_group;
+use ucd_facts::{SourceFile, Text};
 use ucd_lines::{Fields, fields};
-use ucd_model::{SourceFile, Text};
 
 /// What a byte is worth: 1 to 75 from `0` to `z`, 0 below them and 76 above.
 fn digit(byte: u8) -> u32

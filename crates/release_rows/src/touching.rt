@@ -15,8 +15,8 @@ use crate::stretch::{Stretch, content_in};
 use part_list::{PartList, Passing, Spanned};
 use source_rows::{rows_are_ok, rows_are_read};
 use std::alloc::Global;
+use ucd_facts::{Memory, SourceFile, Span};
 use ucd_lines::is_trivia;
-use ucd_model::{Memory, SourceFile, Span};
 
 /// Puts the row of an entry at the end, if it is no line of trivia.
 ///

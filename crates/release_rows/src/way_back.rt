@@ -11,7 +11,7 @@ use crate::patch::Patch;
 use crate::stretch::Stretch;
 use part_list::PartList;
 use std::alloc::Global;
-use ucd_model::{Memory, SourceFile};
+use ucd_facts::{Memory, SourceFile};
 
 /// Puts the splice of a part behind the others, if the part was edited. It begins at the place `at` of the list now.
 ///

@@ -1,6 +1,6 @@
 //! Real lines and what they are written as again, and for each rule lines that break it first.
 
-ghost use Rattle.ucd_model.specs.RowValues.{RowOk};
+ghost use Rattle.ucd_facts.specs.RowValues.{RowOk};
 
 use source_rows::*;
 use std::alloc::Global;

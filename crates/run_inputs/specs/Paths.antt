@@ -5,10 +5,10 @@
 -- derived_in folder file   the path of a derived file below a folder
 use Rattle.std.specs.Prelude.{ℕ, List, map}
 use Rattle.run_endings.specs.Paths.{path_in}
-use Rattle.ucd_model.specs.Names.{derived_path}
+use Rattle.ucd_facts.specs.Names.{derived_path}
 use Rattle.ucd_points.specs.SourceFiles.{source_files, source_path}
 use Rattle.ucd_points.specs.declared.files.SourceFile.{SourceFile}
-use Rattle.ucd_model.specs.declared.files.DerivedFile.{DerivedFile}
+use Rattle.ucd_facts.specs.declared.files.DerivedFile.{DerivedFile}
 
 abbrev pub source_in : List ℕ → SourceFile → List ℕ
 source_in folder file = path_in folder (source_path file)

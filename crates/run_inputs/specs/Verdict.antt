@@ -16,7 +16,7 @@ use Rattle.ucd_points.specs.Limits.{file_limit}
 use Rattle.ucd_points.specs.SourceFiles.{source_files}
 use Rattle.ucd_model.specs.Validity.{first_broken}
 use Rattle.ucd_points.specs.declared.files.SourceFile.{SourceFile}
-use Rattle.ucd_model.specs.declared.form.Broken.{Broken}
+use Rattle.ucd_facts.specs.declared.form.Broken.{Broken}
 use Rattle.release_rows.specs.FileItems.{FileItem}
 use Rattle.release_rows.specs.Loading.{LoadFault, load_or_fault}
 use Rattle.release_rows.specs.Releases.{ReleaseItems}

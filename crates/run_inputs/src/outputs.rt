@@ -3,7 +3,7 @@
 ghost use Rattle.std.specs.Prelude.{◌≡◌, IfOk, OnOk, map};
 ghost use Rattle.ucd_model.specs.Cuts.{IsCut};
 ghost use Rattle.edit_session.specs.Benches.{bench_record};
-ghost use Rattle.ucd_model.specs.DerivedFiles.{derived_files};
+ghost use Rattle.ucd_facts.specs.Enumerations.{derived_files};
 ghost use Rattle.ucd_points.specs.Limits.{point_count};
 ghost use Rattle.ucd_points.specs.SourceFiles.{source_files};
 ghost use Rattle.run_endings.specs.Planning.{Puts};

@@ -18,8 +18,8 @@
 -- ScriptsAreRead             commands are given exactly where the pieces are a script that has them; so no script has two lists of them
 use Rattle.std.specs.Prelude.{◌≡◌, ◌↔◌, ℕ, ◌+◌, ◌≤◌, List, [], ◌∷◌, ◌++◌, length, Option, Ok}
 use Rattle.ucd_points.specs.Lines.{items_of}
-use Rattle.ucd_model.specs.Grammar.{Reads}
-use Rattle.ucd_model.specs.declared.row.Row.{Row}
+use Rattle.ucd_facts.specs.Grammar.{Reads}
+use Rattle.ucd_facts.specs.declared.row.Row.{Row}
 use Rattle.source_rows.specs.KeyGrammar.{ReadsKey}
 use Rattle.source_rows.specs.declared.key.Key.{Key}
 use Rattle.release_rows.specs.declared.operation.Op.{Op}

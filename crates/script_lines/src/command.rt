@@ -1,7 +1,7 @@
 //! The commands of a script.
 
 use release_rows::Ops;
-use ucd_model::{ListOf, Text};
+use ucd_facts::{ListOf, Text};
 
 /// What a command asks for.
 #[derive(Debug, Drop)]

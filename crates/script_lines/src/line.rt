@@ -5,8 +5,8 @@ ghost use Rattle.std.specs.Option.{MatchOption};
 ghost use Rattle.script_lines.specs.Lines.{behind, last_text, ordered, orders, puts, said, said_by, with_file, withdraws};
 
 use crate::source_path::file_named;
+use ucd_facts::SourceFile;
 use ucd_lines::{cut, first_at, is_trivia};
-use ucd_model::SourceFile;
 
 /// How a row is put into a file.
 #[derive(Clone, Copy, Debug, PartialEq, Eq)]

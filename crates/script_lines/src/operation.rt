@@ -10,7 +10,7 @@ use crate::stop::{ScriptRule, ScriptStop};
 use release_rows::Op;
 use source_rows::{RowFault, RowStop, read_key, read_row, read_row_ref};
 use std::alloc::Global;
-use ucd_model::{Memory, Row, SourceFile, Text};
+use ucd_facts::{Memory, Row, SourceFile, Text};
 
 /// What a row is read from: LINE; and, if the next line is a `last` line, a LF and the LINE of that one behind it.
 fn row_text(alloc: Global, text: &[u8], next: Option<&[u8]>) -> Result<Text, Memory>

@@ -8,8 +8,8 @@ ghost use Rattle.script_lines.specs.Scripts.{opens_range, piece_lines, script_pi
 
 use crate::line::{Line, line_of};
 use source_rows::begins_range;
+use ucd_facts::SourceFile;
 use ucd_lines::Items;
-use ucd_model::SourceFile;
 
 /// A line, and the one behind it if the first begins a range.
 #[derive(Clone, Copy, Debug)]

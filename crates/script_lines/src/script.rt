@@ -8,7 +8,7 @@ use crate::group::OpenGroup;
 use crate::stop::{ScriptRule, ScriptStop};
 use release_rows::{Op, Ops};
 use std::alloc::Global;
-use ucd_model::{Memory, Text};
+use ucd_facts::{Memory, Text};
 
 /// The greatest number of operations in a group.
 const GROUP_LIMIT: usize = 4096;

@@ -3,7 +3,7 @@
 ghost use Rattle.std.specs.Prelude.{◌≡◌};
 ghost use Rattle.script_lines.specs.Lines.{file_named};
 
-use ucd_model::{SOURCE_FILES, SourceFile};
+use ucd_facts::{SOURCE_FILES, SourceFile};
 
 /// The source file that lies at this path. `None` if none does.
 pub fn file_named(path: &[u8]) -> Option<SourceFile>

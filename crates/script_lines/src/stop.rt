@@ -5,7 +5,7 @@ ghost use Rattle.std.specs.Prelude.{◌≡◌};
 use source_rows::RowFault;
 use std::alloc::{AllocError, AllocFailed};
 use thiserror::Error;
-use ucd_model::Memory;
+use ucd_facts::Memory;
 
 /// The rule that a script breaks. On one line they are tested in this order; `E2` comes only if there is no other.
 #[derive(Clone, Copy, Debug, PartialEq, Eq, Drop, Error)]

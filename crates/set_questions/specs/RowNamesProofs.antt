@@ -10,7 +10,7 @@ use Rattle.std.proofs.Common.{◌≡◌, ◌≢◌, ℕ, ◌+◌, Bool, true, fa
 use Rattle.std.proofs.lemmas.Bool.{or_parts}
 use Rattle.std.specs.List.{list_any}
 use Rattle.ucd_model.specs.Validity.{first_broken}
-use Rattle.ucd_model.specs.declared.form.Broken.{Broken}
+use Rattle.ucd_facts.specs.declared.form.Broken.{Broken}
 use Rattle.ucd_points.specs.declared.files.SourceFile.{SourceFile}
 use Rattle.ucd_points.specs.declared.files.SourceFile.TheVariants.{PropList, Scripts, WordBreakProperty, PropertyAliases, PropertyValueAliases}
 use Rattle.property_aliases.specs.Edits.{AreKeptBut, AreSameBut}

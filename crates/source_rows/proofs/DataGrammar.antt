@@ -5,17 +5,17 @@ use Rattle.std.specs.List.{slice_split, onto_first, position_or_len, before_firs
 use Rattle.std.proofs.lemmas.Bool.{eqb-true, leb-true, le-leb, cases_lt}
 use Rattle.std.proofs.lemmas.List.{drop_all}
 use Rattle.std.proofs.lemmas.List.Sums.{split_at_first, passes_at_first}
-use Rattle.ucd_model.specs.Names.{category_of, tag_of, tag_text}
+use Rattle.ucd_facts.specs.Names.{category_of, tag_of, tag_text}
 use Rattle.ucd_points.specs.Lines.{is_blank}
 use Rattle.ucd_points.specs.Fields.{field, point_of, class_of, case_of}
-use Rattle.ucd_model.specs.Mappings.{is_some_bytes, words, SpellsMapping, mapping_of}
-use Rattle.ucd_model.specs.DataLines.{SpellsDecomposition, ReadsValues}
-use Rattle.ucd_model.specs.declared.category.Category.{Category}
-use Rattle.ucd_model.specs.declared.decomposition.Kind.{Kind}
-use Rattle.ucd_model.specs.declared.decomposition.Kind.TheVariants.{Plain, Canonical, Compat}
-use Rattle.ucd_model.specs.declared.decomposition.Tag.{Tag}
-use Rattle.ucd_model.specs.declared.decomposition.Tag.TheVariants.{Font, NoBreak, Initial, Medial, Final, Isolated, Circle, Super, Sub, Vertical, Wide, Narrow, Small, Square, Fraction, Compat as CompatTag}
-use Rattle.ucd_model.specs.declared.row.DataRow.{DataRow}
+use Rattle.ucd_facts.specs.Mappings.{is_some_bytes, words, SpellsMapping, mapping_of}
+use Rattle.ucd_facts.specs.DataLines.{SpellsDecomposition, ReadsValues}
+use Rattle.ucd_facts.specs.declared.category.Category.{Category}
+use Rattle.ucd_facts.specs.declared.decomposition.Kind.{Kind}
+use Rattle.ucd_facts.specs.declared.decomposition.Kind.TheVariants.{Plain, Canonical, Compat}
+use Rattle.ucd_facts.specs.declared.decomposition.Tag.{Tag}
+use Rattle.ucd_facts.specs.declared.decomposition.Tag.TheVariants.{Font, NoBreak, Initial, Medial, Final, Isolated, Circle, Super, Sub, Vertical, Wide, Narrow, Small, Square, Fraction, Compat as CompatTag}
+use Rattle.ucd_facts.specs.declared.row.DataRow.{DataRow}
 use Rattle.source_rows.specs.Steps.{or_fault, and_then}
 use Rattle.source_rows.specs.DataFaults.{at_least_one, is_gt, canonical_or_fault, compat_or_fault, decomposition_or_fault, values_or_fault}
 use Rattle.source_rows.specs.declared.decomposition.Decomposition.{Decomposition}

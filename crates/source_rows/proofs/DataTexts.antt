@@ -9,16 +9,16 @@ use Rattle.std.proofs.lemmas.List.{get_or-append_right}
 use Rattle.std.proofs.lemmas.List.Elements.{All-nil, All-cons, All-head, All-tail, All-from_recursion}
 use Rattle.std.proofs.lemmas.Bool.Decides.{nat_tests}
 use Rattle.ucd_points.specs.Lines.{is_lf, holds_line_feed, without_return}
-use Rattle.ucd_model.specs.Names.{category_code}
+use Rattle.ucd_facts.specs.Names.{category_code}
 use Rattle.ucd_points.specs.Fields.{fields, trim, is_semicolon, is_name}
-use Rattle.ucd_model.specs.DataLines.{ReadsValues, ReadsSingle, ReadsPair}
-use Rattle.ucd_model.specs.Grammar.{Reads}
+use Rattle.ucd_facts.specs.DataLines.{ReadsValues, ReadsSingle, ReadsPair}
+use Rattle.ucd_facts.specs.Grammar.{Reads}
 use Rattle.ucd_points.specs.HexText.{hex_digit, hex_text}
-use Rattle.ucd_model.specs.RowTexts.{decomposition_text, case_text, value_fields, data_line, first_name, last_name, range_text, data_text}
-use Rattle.ucd_model.specs.RowValues.{IsTrimmed, IsKept, SingleOk, NameOk, DataOk}
+use Rattle.ucd_facts.specs.RowTexts.{decomposition_text, case_text, value_fields, data_line, first_name, last_name, range_text, data_text}
+use Rattle.ucd_facts.specs.RowValues.{IsTrimmed, IsKept, SingleOk, NameOk, DataOk}
 use Rattle.ucd_points.specs.declared.files.SourceFile.TheVariants.{UnicodeData}
-use Rattle.ucd_model.specs.declared.row.DataRow.{DataRow}
-use Rattle.ucd_model.specs.declared.row.Row.TheVariants.{Unit as DataLine}
+use Rattle.ucd_facts.specs.declared.row.DataRow.{DataRow}
+use Rattle.ucd_facts.specs.declared.row.Row.TheVariants.{Unit as DataLine}
 use Rattle.source_rows.proofs.HexTexts.{hex_lacks}
 use Rattle.ucd_points.specs.HexTextProofs.{hex_text_spells_its_point}
 use Rattle.source_rows.proofs.Lacks.{Lacks, lacks_both, lacks_cons, lacks_each, lacks_join, split_join}

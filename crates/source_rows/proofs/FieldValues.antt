@@ -8,8 +8,8 @@ use Rattle.std.proofs.lemmas.List.Elements.{All-nil, All-cons, All-head, All-tai
 use Rattle.std.proofs.lemmas.List.Sums.{prefix_len_stops, prefix_len-drop_no, prefix_len-drop_all, suffix_len-take_no}
 use Rattle.ucd_points.specs.Lines.{is_blank, is_lf, without_return}
 use Rattle.ucd_points.specs.Fields.{trim_start, trim_end, trim, field, is_semicolon}
-use Rattle.ucd_model.specs.Mappings.{is_some_bytes, words}
-use Rattle.ucd_model.specs.RowValues.{IsTrimmed, IsKept}
+use Rattle.ucd_facts.specs.Mappings.{is_some_bytes, words}
+use Rattle.ucd_facts.specs.RowValues.{IsTrimmed, IsKept}
 use Rattle.source_rows.specs.Fields.{fields_of}
 use Rattle.source_rows.proofs.Lacks.{Lacks, lacks_parts, lacks_cons}
 use Rattle.source_rows.proofs.Trims.{trim_none}

@@ -6,12 +6,12 @@ use Rattle.ucd_points.specs.Lines.{holds_line_feed}
 use Rattle.ucd_points.specs.Bounds.{Bounds}
 use Rattle.ucd_points.specs.Fields.{fields, field, point_of, span_of, is_name}
 use Rattle.ucd_points.specs.MissingLines.{is_missing}
-use Rattle.ucd_model.specs.Mappings.{conditions_of}
-use Rattle.ucd_model.specs.Names.{status_of, status_code}
-use Rattle.ucd_model.specs.OtherLines.{is_name_or_empty}
+use Rattle.ucd_facts.specs.Mappings.{conditions_of}
+use Rattle.ucd_facts.specs.Names.{status_of, status_code}
+use Rattle.ucd_facts.specs.OtherLines.{is_name_or_empty}
 use Rattle.ucd_points.specs.declared.files.SourceFile.{SourceFile}
 use Rattle.ucd_points.specs.declared.files.SourceFile.TheVariants.{UnicodeData, PropList, Scripts, WordBreakProperty, CompositionExclusions, CaseFolding, SpecialCasing, PropertyAliases, PropertyValueAliases}
-use Rattle.ucd_model.specs.declared.row.FoldStatus.{FoldStatus}
+use Rattle.ucd_facts.specs.declared.row.FoldStatus.{FoldStatus}
 use Rattle.source_rows.specs.Steps.{or_fault}
 use Rattle.source_rows.specs.Keys.{condition_names, missing_names}
 use Rattle.source_rows.specs.OtherFaults.{names_of}

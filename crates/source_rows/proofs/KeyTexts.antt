@@ -9,22 +9,22 @@ use Rattle.std.proofs.lemmas.Slice.Eq.{bytes_eq-Decides}
 use Rattle.std.proofs.lemmas.List.{append-nil, length-take-le}
 use Rattle.std.proofs.lemmas.List.Elements.{All-nil, All-cons, All-take}
 use Rattle.ucd_points.specs.Lines.{holds_line_feed}
-use Rattle.ucd_model.specs.Names.{status_code}
+use Rattle.ucd_facts.specs.Names.{status_code}
 use Rattle.ucd_points.specs.Bounds.{Bounds}
 use Rattle.ucd_points.specs.Fields.{fields, field, trim, is_hash, is_name, point_of}
 use Rattle.ucd_points.specs.MissingLines.{takes_missing, missing_rest, is_missing}
-use Rattle.ucd_model.specs.Mappings.{conditions_of}
+use Rattle.ucd_facts.specs.Mappings.{conditions_of}
 use Rattle.ucd_points.specs.HexText.{hex_text, span_text}
-use Rattle.ucd_model.specs.RowTexts.{names_text}
-use Rattle.ucd_model.specs.RowValues.{RowOk, IsSpan, IsTrimmed, IsAliasName, AliasOk}
+use Rattle.ucd_facts.specs.RowTexts.{names_text}
+use Rattle.ucd_facts.specs.RowValues.{RowOk, IsSpan, IsTrimmed, IsAliasName, AliasOk}
 use Rattle.ucd_points.specs.HexTextProofs.{hex_text_spells_its_point}
 use Rattle.ucd_points.specs.declared.files.SourceFile.{SourceFile}
 use Rattle.ucd_points.specs.declared.files.SourceFile.TheVariants.{UnicodeData, PropList, Scripts, WordBreakProperty, CompositionExclusions, CaseFolding, SpecialCasing, PropertyAliases, PropertyValueAliases}
-use Rattle.ucd_model.specs.declared.row.AliasRow.{AliasRow}
-use Rattle.ucd_model.specs.declared.row.FoldStatus.{FoldStatus}
-use Rattle.ucd_model.specs.declared.row.FoldStatus.TheVariants.{C, F, S, T}
-use Rattle.ucd_model.specs.declared.row.Row.{Row}
-use Rattle.ucd_model.specs.declared.row.Row.TheVariants.{Unit as DataLine, Value as ValueLine, Exclusion as ExclusionLine, Fold as FoldLine, Casing as CasingLine, Alias as AliasLine, Missing as MissingLine}
+use Rattle.ucd_facts.specs.declared.row.AliasRow.{AliasRow}
+use Rattle.ucd_facts.specs.declared.row.FoldStatus.{FoldStatus}
+use Rattle.ucd_facts.specs.declared.row.FoldStatus.TheVariants.{C, F, S, T}
+use Rattle.ucd_facts.specs.declared.row.Row.{Row}
+use Rattle.ucd_facts.specs.declared.row.Row.TheVariants.{Unit as DataLine, Value as ValueLine, Exclusion as ExclusionLine, Fold as FoldLine, Casing as CasingLine, Alias as AliasLine, Missing as MissingLine}
 use Rattle.source_rows.specs.Fields.{fields_of, row_fields}
 use Rattle.source_rows.specs.Keys.{key_of, condition_names, missing_names}
 use Rattle.source_rows.specs.KeyGrammar.{ReadsKey, ReadsCodeKey, ReadsMissingKey, ReadsValueKey, ReadsPropertyKey, ReadsFoldKey, ReadsCasingKey, ReadsAliasKey}

@@ -5,11 +5,11 @@ use Rattle.std.specs.Str.{bytes_eq}
 use Rattle.std.proofs.lemmas.Bool.{eqb-true, eq-eqb, leb-true, le-leb, and_parts, and_from}
 use Rattle.ucd_points.specs.Bounds.{Bounds}
 use Rattle.ucd_points.specs.Fields.{field, point_of, is_name, is_range_name, label_of}
-use Rattle.ucd_model.specs.DataLines.{ReadsValues, ReadsSingle, ReadsPair, kept_of}
-use Rattle.ucd_model.specs.declared.row.Kept.{Kept}
-use Rattle.ucd_model.specs.declared.row.DataRow.{DataRow}
-use Rattle.ucd_model.specs.declared.row.Row.{Row}
-use Rattle.ucd_model.specs.declared.row.Row.TheVariants.{Unit as DataLine}
+use Rattle.ucd_facts.specs.DataLines.{ReadsValues, ReadsSingle, ReadsPair, kept_of}
+use Rattle.ucd_facts.specs.declared.row.Kept.{Kept}
+use Rattle.ucd_facts.specs.declared.row.DataRow.{DataRow}
+use Rattle.ucd_facts.specs.declared.row.Row.{Row}
+use Rattle.ucd_facts.specs.declared.row.Row.TheVariants.{Unit as DataLine}
 use Rattle.source_rows.specs.Lines.{has_first_name, has_last_name, are_first_fields}
 use Rattle.source_rows.specs.Steps.{or_fault, and_then}
 use Rattle.source_rows.specs.DataFaults.{values_or_fault, unit_of, unit_or_fault, single_end, single_or_fault, first_label, last_label, are_last_fields, pair_end, pair_or_fault}

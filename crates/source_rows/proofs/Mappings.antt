@@ -3,7 +3,7 @@ use Rattle.std.proofs.Common.{◌≡◌, ℕ, ◌<◌, Bool, true, false, cond, 
 use Rattle.std.proofs.lemmas.Bool.{leb-true, le-leb}
 use Rattle.std.proofs.lemmas.List.{length-map}
 use Rattle.ucd_points.specs.Fields.{point_of}
-use Rattle.ucd_model.specs.Mappings.{words, SpellsMapping, onto_points, all_points, mapping_of}
+use Rattle.ucd_facts.specs.Mappings.{words, SpellsMapping, onto_points, all_points, mapping_of}
 use Rattle.source_rows.specs.DataFaults.{at_least_one}
 
 onto_are : (o : Option ℕ) (rest : Option (List ℕ)) (cs : List ℕ) → onto_points o rest ≡ Some cs → (c : ℕ) × (ds : List ℕ) × (o ≡ Some c) × (rest ≡ Some ds) × (cs ≡ c ∷ ds)

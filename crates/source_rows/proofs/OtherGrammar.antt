@@ -4,19 +4,19 @@ use Rattle.std.specs.Prelude.{◌⊎◌}
 use Rattle.std.specs.List.{list_all}
 use Rattle.std.proofs.lemmas.Bool.{eqb-true, eq-eqb, leb-true, le-leb, ltb-true, lt-ltb, and_parts, and_from, or_cases, or_left, or_right}
 use Rattle.ucd_points.specs.Bounds.{Bounds}
-use Rattle.ucd_model.specs.Names.{status_of}
+use Rattle.ucd_facts.specs.Names.{status_of}
 use Rattle.ucd_points.specs.Fields.{field, point_of, span_of, is_name}
-use Rattle.ucd_model.specs.Mappings.{mapping_of, conditions_of}
-use Rattle.ucd_model.specs.OtherLines.{ReadsValue, ReadsExclusion, ReadsFold, FoldsTo, ReadsCasing, ReadsAlias, is_name_or_empty}
-use Rattle.ucd_model.specs.declared.row.FoldStatus.{FoldStatus}
-use Rattle.ucd_model.specs.declared.row.FoldStatus.TheVariants.{C, F, S, T}
-use Rattle.ucd_model.specs.declared.row.ValueRow.{ValueRow}
-use Rattle.ucd_model.specs.declared.row.ExclusionRow.{ExclusionRow}
-use Rattle.ucd_model.specs.declared.row.FoldRow.{FoldRow}
-use Rattle.ucd_model.specs.declared.row.CasingRow.{CasingRow}
-use Rattle.ucd_model.specs.declared.row.AliasRow.{AliasRow}
-use Rattle.ucd_model.specs.declared.row.Row.{Row}
-use Rattle.ucd_model.specs.declared.row.Row.TheVariants.{Exclusion as ExclusionLine, Fold as FoldLine, Casing as CasingLine, Alias as AliasLine}
+use Rattle.ucd_facts.specs.Mappings.{mapping_of, conditions_of}
+use Rattle.ucd_facts.specs.OtherLines.{ReadsValue, ReadsExclusion, ReadsFold, FoldsTo, ReadsCasing, ReadsAlias, is_name_or_empty}
+use Rattle.ucd_facts.specs.declared.row.FoldStatus.{FoldStatus}
+use Rattle.ucd_facts.specs.declared.row.FoldStatus.TheVariants.{C, F, S, T}
+use Rattle.ucd_facts.specs.declared.row.ValueRow.{ValueRow}
+use Rattle.ucd_facts.specs.declared.row.ExclusionRow.{ExclusionRow}
+use Rattle.ucd_facts.specs.declared.row.FoldRow.{FoldRow}
+use Rattle.ucd_facts.specs.declared.row.CasingRow.{CasingRow}
+use Rattle.ucd_facts.specs.declared.row.AliasRow.{AliasRow}
+use Rattle.ucd_facts.specs.declared.row.Row.{Row}
+use Rattle.ucd_facts.specs.declared.row.Row.TheVariants.{Exclusion as ExclusionLine, Fold as FoldLine, Casing as CasingLine, Alias as AliasLine}
 use Rattle.source_rows.specs.Steps.{or_fault}
 use Rattle.source_rows.specs.OtherFaults.{is_empty, value_or_fault, exclusion_or_fault, has_fold_fields, folds_to, of_status, fold_or_fault, has_casing_fields, casing_or_fault, names_of, alias_or_fault}
 use Rattle.source_rows.specs.declared.fault.RowFault.{RowFault}

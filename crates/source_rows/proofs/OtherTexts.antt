@@ -6,20 +6,20 @@ use Rattle.std.proofs.lemmas.Bool.{and_from}
 use Rattle.std.proofs.lemmas.List.Elements.{All-nil, All-cons, All-head, All-tail}
 use Rattle.ucd_points.specs.Bounds.{Bounds}
 use Rattle.ucd_points.specs.Lines.{is_lf, holds_line_feed}
-use Rattle.ucd_model.specs.Names.{status_code}
+use Rattle.ucd_facts.specs.Names.{status_code}
 use Rattle.ucd_points.specs.Fields.{trim, is_semicolon, is_hash, is_name}
-use Rattle.ucd_model.specs.Mappings.{conditions_of}
-use Rattle.ucd_model.specs.OtherLines.{ReadsValue, ReadsExclusion, ReadsFold, ReadsCasing, ReadsAlias, is_name_or_empty}
+use Rattle.ucd_facts.specs.Mappings.{conditions_of}
+use Rattle.ucd_facts.specs.OtherLines.{ReadsValue, ReadsExclusion, ReadsFold, ReadsCasing, ReadsAlias, is_name_or_empty}
 use Rattle.ucd_points.specs.HexText.{hex_text, span_text}
-use Rattle.ucd_model.specs.RowTexts.{mapping_text, value_text, missing_text, exclusion_text, fold_text, conditions_text, casing_text, names_text, alias_text}
-use Rattle.ucd_model.specs.RowValues.{IsTrimmed, IsValueName, ValueOk, ExclusionOk, FoldOk, CasingOk, IsAliasName, AliasOk}
-use Rattle.ucd_model.specs.declared.row.FoldStatus.{FoldStatus}
-use Rattle.ucd_model.specs.declared.row.FoldStatus.TheVariants.{C, F, S, T}
-use Rattle.ucd_model.specs.declared.row.ValueRow.{ValueRow}
-use Rattle.ucd_model.specs.declared.row.ExclusionRow.{ExclusionRow}
-use Rattle.ucd_model.specs.declared.row.FoldRow.{FoldRow}
-use Rattle.ucd_model.specs.declared.row.CasingRow.{CasingRow}
-use Rattle.ucd_model.specs.declared.row.AliasRow.{AliasRow}
+use Rattle.ucd_facts.specs.RowTexts.{mapping_text, value_text, missing_text, exclusion_text, fold_text, conditions_text, casing_text, names_text, alias_text}
+use Rattle.ucd_facts.specs.RowValues.{IsTrimmed, IsValueName, ValueOk, ExclusionOk, FoldOk, CasingOk, IsAliasName, AliasOk}
+use Rattle.ucd_facts.specs.declared.row.FoldStatus.{FoldStatus}
+use Rattle.ucd_facts.specs.declared.row.FoldStatus.TheVariants.{C, F, S, T}
+use Rattle.ucd_facts.specs.declared.row.ValueRow.{ValueRow}
+use Rattle.ucd_facts.specs.declared.row.ExclusionRow.{ExclusionRow}
+use Rattle.ucd_facts.specs.declared.row.FoldRow.{FoldRow}
+use Rattle.ucd_facts.specs.declared.row.CasingRow.{CasingRow}
+use Rattle.ucd_facts.specs.declared.row.AliasRow.{AliasRow}
 use Rattle.source_rows.specs.Fields.{fields_of}
 use Rattle.source_rows.proofs.HexTexts.{hex_lacks}
 use Rattle.ucd_points.specs.HexTextProofs.{hex_text_spells_its_point}

@@ -5,15 +5,15 @@ use Rattle.std.specs.List.{All, list_any, list_all, join_with_byte}
 use Rattle.std.proofs.lemmas.Bool.{ltb-true, leb-true, and_parts, and_from, or_parts, not-false}
 use Rattle.std.proofs.lemmas.List.Elements.{All-nil, All-cons}
 use Rattle.ucd_points.specs.Bounds.{Bounds}
-use Rattle.ucd_model.specs.Names.{letter_of, mark_of, number_of, punctuation_of, symbol_of, separator_of, other_of, category_of}
+use Rattle.ucd_facts.specs.Names.{letter_of, mark_of, number_of, punctuation_of, symbol_of, separator_of, other_of, category_of}
 use Rattle.ucd_points.specs.Fields.{point_of, if_point, some_point, hex_number, SpellsSpan, is_digit, is_class, decimal_number, class_of, case_of}
-use Rattle.ucd_model.specs.Mappings.{words, SpellsMapping, is_condition_byte, spaced_words, conditions_of}
-use Rattle.ucd_model.specs.DataLines.{SpellsDecomposition}
-use Rattle.ucd_model.specs.RowValues.{IsPoint, IsSpan, IsMapping, DecompositionOk, CaseOk}
-use Rattle.ucd_model.specs.declared.category.Category.{Category}
-use Rattle.ucd_model.specs.declared.category.Category.TheVariants.{Lu, Ll, Lt, Lm, Lo, Mn, Mc, Me, Nd, Nl, No, Pc, Pd, Ps, Pe, Pi, Pf, Po, Sm, Sc, Sk, So, Zs, Zl, Zp, Cc, Cf, Cs, Co, Cn}
-use Rattle.ucd_model.specs.declared.decomposition.Kind.{Kind}
-use Rattle.ucd_model.specs.declared.decomposition.Kind.TheVariants.{Plain, Canonical, Compat}
+use Rattle.ucd_facts.specs.Mappings.{words, SpellsMapping, is_condition_byte, spaced_words, conditions_of}
+use Rattle.ucd_facts.specs.DataLines.{SpellsDecomposition}
+use Rattle.ucd_facts.specs.RowValues.{IsPoint, IsSpan, IsMapping, DecompositionOk, CaseOk}
+use Rattle.ucd_facts.specs.declared.category.Category.{Category}
+use Rattle.ucd_facts.specs.declared.category.Category.TheVariants.{Lu, Ll, Lt, Lm, Lo, Mn, Mc, Me, Nd, Nl, No, Pc, Pd, Ps, Pe, Pi, Pf, Po, Sm, Sc, Sk, So, Zs, Zl, Zp, Cc, Cf, Cs, Co, Cn}
+use Rattle.ucd_facts.specs.declared.decomposition.Kind.{Kind}
+use Rattle.ucd_facts.specs.declared.decomposition.Kind.TheVariants.{Plain, Canonical, Compat}
 use Rattle.source_rows.proofs.Lacks.{Lacks, lacks_all, lacks_join}
 use Rattle.source_rows.proofs.WordTexts.{words_again, conditions_are}
 use Rattle.source_rows.proofs.FieldValues.{words_keep}

@@ -2,15 +2,15 @@
 use Rattle.std.proofs.Common.{◌≡◌, true, false, is_some, refl, ap, inl, arith}
 use Rattle.ucd_points.specs.Fields.{fields}
 use Rattle.ucd_points.specs.MissingLines.{takes_missing, missing_rest, is_missing}
-use Rattle.ucd_model.specs.Grammar.{Reads}
-use Rattle.ucd_model.specs.OtherLines.{ReadsValue}
-use Rattle.ucd_model.specs.RowTexts.{value_text, missing_text, row_text}
-use Rattle.ucd_model.specs.RowValues.{ValueOk, RowOk}
+use Rattle.ucd_facts.specs.Grammar.{Reads}
+use Rattle.ucd_facts.specs.OtherLines.{ReadsValue}
+use Rattle.ucd_facts.specs.RowTexts.{value_text, missing_text, row_text}
+use Rattle.ucd_facts.specs.RowValues.{ValueOk, RowOk}
 use Rattle.ucd_points.specs.declared.files.SourceFile.{SourceFile}
 use Rattle.ucd_points.specs.declared.files.SourceFile.TheVariants.{UnicodeData, PropList, Scripts, WordBreakProperty, CompositionExclusions, CaseFolding, SpecialCasing, PropertyAliases, PropertyValueAliases}
-use Rattle.ucd_model.specs.declared.row.ValueRow.{ValueRow}
-use Rattle.ucd_model.specs.declared.row.Row.{Row}
-use Rattle.ucd_model.specs.declared.row.Row.TheVariants.{Unit as DataLine, Value as ValueLine, Exclusion as ExclusionLine, Fold as FoldLine, Casing as CasingLine, Alias as AliasLine, Missing as MissingLine}
+use Rattle.ucd_facts.specs.declared.row.ValueRow.{ValueRow}
+use Rattle.ucd_facts.specs.declared.row.Row.{Row}
+use Rattle.ucd_facts.specs.declared.row.Row.TheVariants.{Unit as DataLine, Value as ValueLine, Exclusion as ExclusionLine, Fold as FoldLine, Casing as CasingLine, Alias as AliasLine, Missing as MissingLine}
 use Rattle.source_rows.specs.Fields.{row_fields}
 use Rattle.source_rows.specs.Laws.{TextsReadBack}
 use Rattle.source_rows.proofs.MissingLines.{no_rest, written}

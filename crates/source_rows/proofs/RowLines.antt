@@ -1,14 +1,14 @@
 -- A row has one line that begins no range, or the two lines of a range.
 use Rattle.std.proofs.Common.{◌≡◌, ℕ, true, false, List, [], ◌∷◌, ◌++◌, Ok, Err, refl, sym, ◌∙◌, inl, inr}
 use Rattle.std.proofs.lemmas.Bool.{false_from_ne_true, false≢true, and_parts}
-use Rattle.ucd_model.specs.Grammar.{Reads}
+use Rattle.ucd_facts.specs.Grammar.{Reads}
 use Rattle.ucd_points.specs.Lines.{is_lf, is_comment, holds_line_feed, without_return}
 use Rattle.ucd_points.specs.MissingLines.{is_trivia}
 use Rattle.ucd_points.specs.Fields.{fields, field, point_of}
 use Rattle.ucd_points.specs.declared.files.SourceFile.{SourceFile}
 use Rattle.ucd_points.specs.declared.files.SourceFile.TheVariants.{UnicodeData, PropList, Scripts, WordBreakProperty, CompositionExclusions, CaseFolding, SpecialCasing, PropertyAliases, PropertyValueAliases}
-use Rattle.ucd_model.specs.declared.row.Row.{Row}
-use Rattle.ucd_model.specs.declared.row.Row.TheVariants.{Unit as DataLine}
+use Rattle.ucd_facts.specs.declared.row.Row.{Row}
+use Rattle.ucd_facts.specs.declared.row.Row.TheVariants.{Unit as DataLine}
 use Rattle.source_rows.specs.Lines.{are_first_fields, is_first_line}
 use Rattle.source_rows.specs.DataFaults.{first_label, pair_end, pair_or_fault, unit_or_fault, values_or_fault}
 use Rattle.source_rows.specs.Faults.{row_or_fault, line_or_fault}

@@ -6,22 +6,22 @@ use Rattle.std.proofs.lemmas.List.Elements.{All-nil, All-cons, All-head, All-tai
 use Rattle.ucd_points.specs.Lines.{is_lf, holds_line_feed, without_return}
 use Rattle.ucd_points.specs.Fields.{fields, field, is_semicolon, is_hash, is_name, is_range_name}
 use Rattle.ucd_points.specs.MissingLines.{missing_rest}
-use Rattle.ucd_model.specs.DataLines.{ReadsValues, ReadsSingle, ReadsPair}
-use Rattle.ucd_model.specs.OtherLines.{ReadsValue, ReadsExclusion, ReadsFold, ReadsCasing, ReadsAlias, is_name_or_empty}
-use Rattle.ucd_model.specs.Grammar.{ReadsLine, ReadsRange, IsRange, Reads}
-use Rattle.ucd_model.specs.RowTexts.{row_text}
-use Rattle.ucd_model.specs.RowValues.{IsSpan, IsKept, IsTrimmed, IsValueName, SingleOk, NameOk, DataOk, ValueOk, ExclusionOk, FoldOk, CasingOk, IsAliasName, AliasOk, RowOk}
+use Rattle.ucd_facts.specs.DataLines.{ReadsValues, ReadsSingle, ReadsPair}
+use Rattle.ucd_facts.specs.OtherLines.{ReadsValue, ReadsExclusion, ReadsFold, ReadsCasing, ReadsAlias, is_name_or_empty}
+use Rattle.ucd_facts.specs.Grammar.{ReadsLine, ReadsRange, IsRange, Reads}
+use Rattle.ucd_facts.specs.RowTexts.{row_text}
+use Rattle.ucd_facts.specs.RowValues.{IsSpan, IsKept, IsTrimmed, IsValueName, SingleOk, NameOk, DataOk, ValueOk, ExclusionOk, FoldOk, CasingOk, IsAliasName, AliasOk, RowOk}
 use Rattle.ucd_points.specs.declared.files.SourceFile.{SourceFile}
 use Rattle.ucd_points.specs.declared.files.SourceFile.TheVariants.{UnicodeData, PropList, Scripts, WordBreakProperty, CompositionExclusions, CaseFolding, SpecialCasing, PropertyAliases, PropertyValueAliases}
-use Rattle.ucd_model.specs.declared.row.Kept.{Kept}
-use Rattle.ucd_model.specs.declared.row.DataRow.{DataRow}
-use Rattle.ucd_model.specs.declared.row.ValueRow.{ValueRow}
-use Rattle.ucd_model.specs.declared.row.ExclusionRow.{ExclusionRow}
-use Rattle.ucd_model.specs.declared.row.FoldRow.{FoldRow}
-use Rattle.ucd_model.specs.declared.row.CasingRow.{CasingRow}
-use Rattle.ucd_model.specs.declared.row.AliasRow.{AliasRow}
-use Rattle.ucd_model.specs.declared.row.Row.{Row}
-use Rattle.ucd_model.specs.declared.row.Row.TheVariants.{Unit as DataLine, Value as ValueLine, Exclusion as ExclusionLine, Fold as FoldLine, Casing as CasingLine, Alias as AliasLine, Missing as MissingLine}
+use Rattle.ucd_facts.specs.declared.row.Kept.{Kept}
+use Rattle.ucd_facts.specs.declared.row.DataRow.{DataRow}
+use Rattle.ucd_facts.specs.declared.row.ValueRow.{ValueRow}
+use Rattle.ucd_facts.specs.declared.row.ExclusionRow.{ExclusionRow}
+use Rattle.ucd_facts.specs.declared.row.FoldRow.{FoldRow}
+use Rattle.ucd_facts.specs.declared.row.CasingRow.{CasingRow}
+use Rattle.ucd_facts.specs.declared.row.AliasRow.{AliasRow}
+use Rattle.ucd_facts.specs.declared.row.Row.{Row}
+use Rattle.ucd_facts.specs.declared.row.Row.TheVariants.{Unit as DataLine, Value as ValueLine, Exclusion as ExclusionLine, Fold as FoldLine, Casing as CasingLine, Alias as AliasLine, Missing as MissingLine}
 use Rattle.source_rows.specs.Fields.{fields_of, row_fields}
 use Rattle.source_rows.specs.Laws.{RowsAreOk}
 use Rattle.source_rows.proofs.Lacks.{Lacks}

@@ -4,7 +4,7 @@ use Rattle.std.specs.List.{join_with_byte, slice_split}
 use Rattle.std.specs.Prelude.{filter}
 use Rattle.ucd_points.specs.Lines.{is_blank}
 use Rattle.source_rows.specs.Fields.{with_word}
-use Rattle.ucd_model.specs.Mappings.{is_some_bytes, words, spaced_words}
+use Rattle.ucd_facts.specs.Mappings.{is_some_bytes, words, spaced_words}
 
 -- what stands so far, and the words behind it, each behind a space but where nothing stands yet
 abbrev pub behind_words : List ℕ → List (List ℕ) → List ℕ

@@ -4,9 +4,9 @@ use Rattle.std.specs.Prelude.{codes}
 use Rattle.std.specs.List.{before_first, after_first}
 use Rattle.std.specs.Str.{bytes_eq}
 use Rattle.std.proofs.lemmas.Slice.Eq.{bytes_eq-Decides}
-use Rattle.ucd_model.specs.Names.{positional_tag_of, shaped_tag_of, sized_tag_of, other_tag_of, or_else, tag_of, tag_text}
-use Rattle.ucd_model.specs.declared.decomposition.Tag.{Tag}
-use Rattle.ucd_model.specs.declared.decomposition.Tag.TheVariants.{Font, NoBreak, Initial, Medial, Final, Isolated, Circle, Super, Sub, Vertical, Wide, Narrow, Small, Square, Fraction, Compat}
+use Rattle.ucd_facts.specs.Names.{positional_tag_of, shaped_tag_of, sized_tag_of, other_tag_of, or_else, tag_of, tag_text}
+use Rattle.ucd_facts.specs.declared.decomposition.Tag.{Tag}
+use Rattle.ucd_facts.specs.declared.decomposition.Tag.TheVariants.{Font, NoBreak, Initial, Medial, Final, Isolated, Circle, Super, Sub, Vertical, Wide, Narrow, Small, Square, Fraction, Compat}
 use Rattle.source_rows.specs.DataFaults.{is_gt}
 
 -- the tag without its `>`

@@ -8,22 +8,22 @@ use Rattle.std.proofs.lemmas.Bool.Decides.{nat_tests}
 use Rattle.std.proofs.lemmas.List.Elements.{All-nil, All-cons, All-head, All-tail}
 use Rattle.ucd_points.specs.Bounds.{Bounds}
 use Rattle.ucd_points.specs.Lines.{is_blank}
-use Rattle.ucd_model.specs.Names.{category_of, category_code, status_of, status_code, tag_text}
+use Rattle.ucd_facts.specs.Names.{category_of, category_code, status_of, status_code, tag_text}
 use Rattle.ucd_points.specs.Fields.{point_of, SpellsSpan, class_of, is_class, is_digit, decimal_number, case_of, trim}
-use Rattle.ucd_model.specs.Mappings.{is_some_bytes, words, SpellsMapping}
-use Rattle.ucd_model.specs.DataLines.{SpellsDecomposition}
+use Rattle.ucd_facts.specs.Mappings.{is_some_bytes, words, SpellsMapping}
+use Rattle.ucd_facts.specs.DataLines.{SpellsDecomposition}
 use Rattle.ucd_points.specs.HexText.{hex_digit, hex_text, span_text}
-use Rattle.ucd_model.specs.RowTexts.{mapping_text, decomposition_text, case_text}
+use Rattle.ucd_facts.specs.RowTexts.{mapping_text, decomposition_text, case_text}
 use Rattle.source_rows.proofs.ClassDigits.{decimal_digit, class_digits, class_is}
-use Rattle.ucd_model.specs.RowValues.{IsPoint, IsSpan, IsMapping, DecompositionOk, CaseOk}
-use Rattle.ucd_model.specs.declared.category.Category.{Category}
-use Rattle.ucd_model.specs.declared.category.Category.TheVariants.{Lu, Ll, Lt, Lm, Lo, Mn, Mc, Me, Nd, Nl, No, Pc, Pd, Ps, Pe, Pi, Pf, Po, Sm, Sc, Sk, So, Zs, Zl, Zp, Cc, Cf, Cs, Co, Cn}
-use Rattle.ucd_model.specs.declared.decomposition.Kind.{Kind}
-use Rattle.ucd_model.specs.declared.decomposition.Kind.TheVariants.{Plain, Canonical, Compat}
-use Rattle.ucd_model.specs.declared.decomposition.Tag.{Tag}
-use Rattle.ucd_model.specs.declared.decomposition.Tag.TheVariants.{Font, NoBreak, Initial, Medial, Final, Isolated, Circle, Super, Sub, Vertical, Wide, Narrow, Small, Square, Fraction, Compat as CompatTag}
-use Rattle.ucd_model.specs.declared.row.FoldStatus.{FoldStatus}
-use Rattle.ucd_model.specs.declared.row.FoldStatus.TheVariants.{C, F, S, T}
+use Rattle.ucd_facts.specs.RowValues.{IsPoint, IsSpan, IsMapping, DecompositionOk, CaseOk}
+use Rattle.ucd_facts.specs.declared.category.Category.{Category}
+use Rattle.ucd_facts.specs.declared.category.Category.TheVariants.{Lu, Ll, Lt, Lm, Lo, Mn, Mc, Me, Nd, Nl, No, Pc, Pd, Ps, Pe, Pi, Pf, Po, Sm, Sc, Sk, So, Zs, Zl, Zp, Cc, Cf, Cs, Co, Cn}
+use Rattle.ucd_facts.specs.declared.decomposition.Kind.{Kind}
+use Rattle.ucd_facts.specs.declared.decomposition.Kind.TheVariants.{Plain, Canonical, Compat}
+use Rattle.ucd_facts.specs.declared.decomposition.Tag.{Tag}
+use Rattle.ucd_facts.specs.declared.decomposition.Tag.TheVariants.{Font, NoBreak, Initial, Medial, Final, Isolated, Circle, Super, Sub, Vertical, Wide, Narrow, Small, Square, Fraction, Compat as CompatTag}
+use Rattle.ucd_facts.specs.declared.row.FoldStatus.{FoldStatus}
+use Rattle.ucd_facts.specs.declared.row.FoldStatus.TheVariants.{C, F, S, T}
 use Rattle.source_rows.proofs.HexTexts.{hex_lacks, hex_some}
 use Rattle.ucd_points.specs.HexTextProofs.{hex_text_spells_its_point}
 use Rattle.source_rows.proofs.Lacks.{Lacks, lacks_both, lacks_cons, lacks_join, split_join}

@@ -6,7 +6,7 @@ use Rattle.std.proofs.lemmas.Bool.{ne_eqb, and_parts}
 use Rattle.std.proofs.lemmas.List.Elements.{All-nil, All-cons, All-head, All-tail}
 use Rattle.ucd_points.specs.Lines.{is_blank, is_lf}
 use Rattle.ucd_points.specs.Fields.{trim}
-use Rattle.ucd_model.specs.Mappings.{is_some_bytes, words, spaced_words, is_condition_byte, conditions_of}
+use Rattle.ucd_facts.specs.Mappings.{is_some_bytes, words, spaced_words, is_condition_byte, conditions_of}
 use Rattle.source_rows.proofs.Lacks.{Lacks, lacks_all}
 use Rattle.source_rows.proofs.Trims.{Firm, trim_firm, solid, firm_around}
 use Rattle.source_rows.proofs.TextValues.{words_join}

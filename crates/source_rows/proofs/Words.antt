@@ -8,7 +8,7 @@ use Rattle.std.proofs.lemmas.List.{take_all, drop_all}
 use Rattle.std.proofs.lemmas.List.Splits.{slice_split_first}
 use Rattle.ucd_points.specs.Lines.{is_blank}
 use Rattle.ucd_points.specs.Fields.{point_of}
-use Rattle.ucd_model.specs.Mappings.{is_some_bytes, words, onto_points, all_points, mapping_of}
+use Rattle.ucd_facts.specs.Mappings.{is_some_bytes, words, onto_points, all_points, mapping_of}
 use Rattle.ucd_lines.specs.Cuts.{split_whole}
 use Rattle.source_rows.specs.Mappings.{points_in}
 

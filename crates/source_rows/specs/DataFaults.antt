@@ -24,15 +24,15 @@ use Rattle.std.specs.Prelude.{◌≡◌, ℕ, Bool, true, false, ◌&&◌, List,
 use Rattle.std.specs.List.{before_first, after_first}
 use Rattle.std.specs.Str.{bytes_eq}
 use Rattle.ucd_points.specs.Bounds.{Bounds}
-use Rattle.ucd_model.specs.Names.{category_of, tag_of}
+use Rattle.ucd_facts.specs.Names.{category_of, tag_of}
 use Rattle.ucd_points.specs.Fields.{field, point_of, is_name, is_range_name, label_of, class_of, case_of}
-use Rattle.ucd_model.specs.Mappings.{mapping_of}
-use Rattle.ucd_model.specs.DataLines.{kept_of}
-use Rattle.ucd_model.specs.declared.decomposition.Kind.TheVariants.{Plain, Canonical, Compat}
-use Rattle.ucd_model.specs.declared.row.DataRow.{DataRow}
-use Rattle.ucd_model.specs.declared.row.Kept.{Kept}
-use Rattle.ucd_model.specs.declared.row.Row.{Row}
-use Rattle.ucd_model.specs.declared.row.Row.TheVariants.{Unit as DataLine}
+use Rattle.ucd_facts.specs.Mappings.{mapping_of}
+use Rattle.ucd_facts.specs.DataLines.{kept_of}
+use Rattle.ucd_facts.specs.declared.decomposition.Kind.TheVariants.{Plain, Canonical, Compat}
+use Rattle.ucd_facts.specs.declared.row.DataRow.{DataRow}
+use Rattle.ucd_facts.specs.declared.row.Kept.{Kept}
+use Rattle.ucd_facts.specs.declared.row.Row.{Row}
+use Rattle.ucd_facts.specs.declared.row.Row.TheVariants.{Unit as DataLine}
 use Rattle.source_rows.specs.Lines.{has_last_name, are_first_fields}
 use Rattle.source_rows.specs.Fields.{fields_in}
 use Rattle.source_rows.specs.Steps.{or_fault, and_then}

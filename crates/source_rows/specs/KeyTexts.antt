@@ -10,11 +10,11 @@
 -- KeyTextsReadBack        the text of the key of a row that the file can have is read as that key
 use Rattle.std.specs.Prelude.{◌≡◌, ℕ, List, [], ◌∷◌, ◌++◌, Option, Ok, if◌then◌else◌, codes}
 use Rattle.std.specs.Str.{bytes_eq}
-use Rattle.ucd_model.specs.RowTexts.{case_text, names_text}
-use Rattle.ucd_model.specs.RowValues.{RowOk}
+use Rattle.ucd_facts.specs.RowTexts.{case_text, names_text}
+use Rattle.ucd_facts.specs.RowValues.{RowOk}
 use Rattle.ucd_points.specs.declared.files.SourceFile.{SourceFile}
 use Rattle.ucd_points.specs.declared.files.SourceFile.TheVariants.{PropList, Scripts, WordBreakProperty, CaseFolding, SpecialCasing, PropertyAliases, PropertyValueAliases}
-use Rattle.ucd_model.specs.declared.row.Row.{Row}
+use Rattle.ucd_facts.specs.declared.row.Row.{Row}
 use Rattle.source_rows.specs.Keys.{key_of}
 use Rattle.source_rows.specs.KeyGrammar.{key_or_fault}
 use Rattle.source_rows.specs.declared.key.Key.{Key}

@@ -26,11 +26,11 @@ use Rattle.std.specs.Str.{bytes_eq}
 use Rattle.std.specs.declared.cmp.Ordering.{Ordering}
 use Rattle.ucd_points.specs.Bounds.{Bounds}
 use Rattle.ucd_points.specs.HexText.{hex_text}
-use Rattle.ucd_model.specs.Names.{status_code}
+use Rattle.ucd_facts.specs.Names.{status_code}
 use Rattle.ucd_points.specs.declared.files.SourceFile.{SourceFile}
 use Rattle.ucd_points.specs.declared.files.SourceFile.TheVariants.{PropList, PropertyAliases}
-use Rattle.ucd_model.specs.declared.row.Row.{Row}
-use Rattle.ucd_model.specs.declared.row.Row.TheVariants.{Unit as DataLine, Value as ValueLine, Exclusion as ExclusionLine, Fold as FoldLine, Casing as CasingLine, Alias as AliasLine, Missing as MissingLine}
+use Rattle.ucd_facts.specs.declared.row.Row.{Row}
+use Rattle.ucd_facts.specs.declared.row.Row.TheVariants.{Unit as DataLine, Value as ValueLine, Exclusion as ExclusionLine, Fold as FoldLine, Casing as CasingLine, Alias as AliasLine, Missing as MissingLine}
 use Rattle.source_rows.specs.declared.key.Key.{Key}
 
 abbrev one_point : ℕ → Bounds

@@ -8,15 +8,15 @@
 -- CategoriesAreNamed   the code of each category names it; `Cn` names none
 use Rattle.std.specs.Prelude.{◌≡◌, ◌≢◌, ◌↔◌, ℕ, List, Some, None, Ok, codes}
 use Rattle.ucd_points.specs.Bounds.{Bounds}
-use Rattle.ucd_model.specs.Names.{category_of, category_code}
+use Rattle.ucd_facts.specs.Names.{category_of, category_code}
 use Rattle.ucd_points.specs.Fields.{span_of, SpellsSpan}
-use Rattle.ucd_model.specs.Grammar.{Reads}
-use Rattle.ucd_model.specs.RowTexts.{row_text}
-use Rattle.ucd_model.specs.RowValues.{RowOk}
-use Rattle.ucd_model.specs.declared.category.Category.{Category}
-use Rattle.ucd_model.specs.declared.category.Category.TheVariants.{Cn}
+use Rattle.ucd_facts.specs.Grammar.{Reads}
+use Rattle.ucd_facts.specs.RowTexts.{row_text}
+use Rattle.ucd_facts.specs.RowValues.{RowOk}
+use Rattle.ucd_facts.specs.declared.category.Category.{Category}
+use Rattle.ucd_facts.specs.declared.category.Category.TheVariants.{Cn}
 use Rattle.ucd_points.specs.declared.files.SourceFile.{SourceFile}
-use Rattle.ucd_model.specs.declared.row.Row.{Row}
+use Rattle.ucd_facts.specs.declared.row.Row.{Row}
 use Rattle.source_rows.specs.Faults.{row_or_fault}
 
 abbrev pub RowsAreRead : Type 0

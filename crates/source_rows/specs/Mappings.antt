@@ -4,7 +4,7 @@
 -- HasPoints text len        the text has so many words, and each of them is a code point
 use Rattle.std.specs.Prelude.{◌≡◌, ℕ, List, [], length, Some}
 use Rattle.std.specs.Option.{unwrap_or}
-use Rattle.ucd_model.specs.Mappings.{words, all_points}
+use Rattle.ucd_facts.specs.Mappings.{words, all_points}
 
 abbrev pub points_in : List ℕ → List ℕ
 points_in text = unwrap_or (all_points (words text)) []

@@ -16,15 +16,15 @@
 -- alias_or_fault least fs    PropertyAliases.txt and PropertyValueAliases.txt: the first name, and the others (G11)
 use Rattle.std.specs.Prelude.{ℕ, Bool, true, false, ◌&&◌, ◌||◌, List, [], ◌∷◌, length, Option, Some, None, Result, Ok, Err, ◌==◌, nat_le, nat_lt, if◌then◌else◌}
 use Rattle.std.specs.List.{list_all}
-use Rattle.ucd_model.specs.Names.{status_of}
+use Rattle.ucd_facts.specs.Names.{status_of}
 use Rattle.ucd_points.specs.Fields.{field, point_of, span_of, is_name}
-use Rattle.ucd_model.specs.Mappings.{mapping_of, conditions_of}
-use Rattle.ucd_model.specs.OtherLines.{is_name_or_empty}
-use Rattle.ucd_model.specs.declared.row.FoldStatus.{FoldStatus}
-use Rattle.ucd_model.specs.declared.row.FoldStatus.TheVariants.{C, F, S, T}
-use Rattle.ucd_model.specs.declared.row.ValueRow.{ValueRow}
-use Rattle.ucd_model.specs.declared.row.Row.{Row}
-use Rattle.ucd_model.specs.declared.row.Row.TheVariants.{Exclusion as ExclusionLine, Fold as FoldLine, Casing as CasingLine, Alias as AliasLine}
+use Rattle.ucd_facts.specs.Mappings.{mapping_of, conditions_of}
+use Rattle.ucd_facts.specs.OtherLines.{is_name_or_empty}
+use Rattle.ucd_facts.specs.declared.row.FoldStatus.{FoldStatus}
+use Rattle.ucd_facts.specs.declared.row.FoldStatus.TheVariants.{C, F, S, T}
+use Rattle.ucd_facts.specs.declared.row.ValueRow.{ValueRow}
+use Rattle.ucd_facts.specs.declared.row.Row.{Row}
+use Rattle.ucd_facts.specs.declared.row.Row.TheVariants.{Exclusion as ExclusionLine, Fold as FoldLine, Casing as CasingLine, Alias as AliasLine}
 use Rattle.source_rows.specs.Steps.{or_fault}
 use Rattle.source_rows.specs.declared.fault.RowFault.{RowFault}
 use Rattle.source_rows.specs.declared.fault.RowFault.TheVariants.{G03, G04, G07, G08, G11}

@@ -11,11 +11,11 @@
 use Rattle.std.specs.Prelude.{◌≡◌, ℕ, Bool, true, false, List, Result, Ok, Err}
 use Rattle.ucd_points.specs.declared.files.SourceFile.{SourceFile}
 use Rattle.ucd_points.specs.declared.files.SourceFile.TheVariants.{PropList, Scripts, WordBreakProperty}
-use Rattle.ucd_model.specs.declared.row.CasingRow.{CasingRow}
-use Rattle.ucd_model.specs.declared.row.FoldRow.{FoldRow}
-use Rattle.ucd_model.specs.declared.row.Row.{Row}
-use Rattle.ucd_model.specs.declared.row.Row.TheVariants.{Unit as DataLine, Value as ValueLine, Exclusion as ExclusionLine, Fold as FoldLine, Casing as CasingLine, Alias as AliasLine, Missing as MissingLine}
-use Rattle.ucd_model.specs.declared.row.ValueRow.{ValueRow}
+use Rattle.ucd_facts.specs.declared.row.CasingRow.{CasingRow}
+use Rattle.ucd_facts.specs.declared.row.FoldRow.{FoldRow}
+use Rattle.ucd_facts.specs.declared.row.Row.{Row}
+use Rattle.ucd_facts.specs.declared.row.Row.TheVariants.{Unit as DataLine, Value as ValueLine, Exclusion as ExclusionLine, Fold as FoldLine, Casing as CasingLine, Alias as AliasLine, Missing as MissingLine}
+use Rattle.ucd_facts.specs.declared.row.ValueRow.{ValueRow}
 use Rattle.source_rows.specs.DataFaults.{text_row}
 use Rattle.source_rows.specs.declared.case_folding.FoldText.{FoldText}
 use Rattle.source_rows.specs.declared.fault.RowFault.{RowFault}

@@ -6,8 +6,8 @@
 -- given_or_fault values end     values and a span; the fault of the values comes before that of the span
 use Rattle.std.specs.Prelude.{ℕ, List, [], ◌∷◌, length, Option, Some, None, Result, Ok, ◌==◌, if◌then◌else◌}
 use Rattle.ucd_points.specs.Bounds.{Bounds}
-use Rattle.ucd_model.specs.declared.category.Category.{Category}
-use Rattle.ucd_model.specs.declared.decomposition.Kind.TheVariants.{Plain}
+use Rattle.ucd_facts.specs.declared.category.Category.{Category}
+use Rattle.ucd_facts.specs.declared.decomposition.Kind.TheVariants.{Plain}
 use Rattle.source_rows.specs.DataFaults.{values_or_fault}
 use Rattle.source_rows.specs.Fields.{fields_of}
 use Rattle.source_rows.specs.Steps.{and_then}

@@ -3,7 +3,7 @@
 ghost use Rattle.std.specs.Prelude.{◌≡◌, IfOk};
 ghost use Rattle.std.specs.List.{before_first, list_all};
 ghost use Rattle.ucd_points.specs.Fields.{is_hash};
-ghost use Rattle.ucd_model.specs.OtherLines.{is_name_or_empty};
+ghost use Rattle.ucd_facts.specs.OtherLines.{is_name_or_empty};
 ghost use Rattle.source_rows.specs.RowRefs.{NamesAs, RefAs};
 ghost use Rattle.source_rows.specs.Fields.{fields_of};
 ghost use Rattle.source_rows.specs.OtherFaults.{alias_or_fault};
@@ -13,8 +13,8 @@ use crate::fault::RowFault;
 use crate::fields::{field_count, first_field, without_comment};
 use crate::row_ref::RowRef;
 use std::alloc::Global;
+use ucd_facts::{Memory, SourceFile, Text, Texts};
 use ucd_lines::{Fields, fields};
-use ucd_model::{Memory, SourceFile, Text, Texts};
 
 /// Whether a field is a name or empty.
 fn is_name_or_empty(field: &[u8]) -> bool

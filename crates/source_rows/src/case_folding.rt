@@ -3,8 +3,8 @@
 ghost use Rattle.std.specs.Prelude.{◌≡◌};
 ghost use Rattle.std.specs.List.{before_first};
 ghost use Rattle.ucd_points.specs.Fields.{is_hash, field};
-ghost use Rattle.ucd_model.specs.Mappings.{mapping_of};
-ghost use Rattle.ucd_model.specs.Names.{status_of};
+ghost use Rattle.ucd_facts.specs.Mappings.{mapping_of};
+ghost use Rattle.ucd_facts.specs.Names.{status_of};
 ghost use Rattle.source_rows.specs.RowRefs.{RefAs};
 ghost use Rattle.source_rows.specs.Fields.{fields_of};
 ghost use Rattle.source_rows.specs.OtherFaults.{fold_or_fault, has_fold_fields, folds_to, of_status};
@@ -13,8 +13,8 @@ use crate::fault::RowFault;
 use crate::fields::{field_count, first_field, three_fields, without_comment};
 use crate::mapping::{Mapping, mapping_of};
 use crate::row_ref::RowRef;
+use ucd_facts::{FoldStatus, Point};
 use ucd_lines::hex;
-use ucd_model::{FoldStatus, Point};
 
 /// The status that one byte names. `None` for all other bytes.
 pub fn status_of(field: &[u8]) -> Option<FoldStatus>

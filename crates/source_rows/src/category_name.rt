@@ -1,9 +1,9 @@
 //! Reads the names of general categories. UAX #44, section 5.7.1, table 12.
 
 ghost use Rattle.std.specs.Prelude.{◌≡◌};
-ghost use Rattle.ucd_model.specs.Names.{letter_of, mark_of, number_of, punctuation_of, symbol_of, separator_of, other_of, category_of};
+ghost use Rattle.ucd_facts.specs.Names.{letter_of, mark_of, number_of, punctuation_of, symbol_of, separator_of, other_of, category_of};
 
-use ucd_model::Category;
+use ucd_facts::Category;
 
 fn letter_of(kind: u8) -> Option<Category>
     ensures { result ≡ letter_of kind }

@@ -5,8 +5,8 @@ ghost use Rattle.std.specs.List.{list_all};
 ghost use Rattle.ucd_points.specs.Fields.{span_of, behind_dot, is_name_byte, is_name, is_label_closed_by, is_range_name, label_of};
 ghost use Rattle.source_rows.specs.Lines.{has_first_name, has_last_name};
 
+use ucd_facts::{Point, Span};
 use ucd_lines::{cut, first_at, hex};
-use ucd_model::{Point, Span};
 
 /// The code point behind a second dot.
 fn behind_dot(text: &[u8]) -> Option<Point>

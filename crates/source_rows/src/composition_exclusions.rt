@@ -10,7 +10,7 @@ use crate::code_point::span_of;
 use crate::fault::RowFault;
 use crate::fields::{field_count, first_field, without_comment};
 use crate::row_ref::RowRef;
-use ucd_model::ExclusionRow;
+use ucd_facts::ExclusionRow;
 
 /// The row of a line.
 ///

@@ -2,7 +2,7 @@
 
 ghost use Rattle.std.specs.Prelude.{◌≡◌, IfOk, OnOk};
 ghost use Rattle.std.specs.List.{list_all};
-ghost use Rattle.ucd_model.specs.Mappings.{conditions_of, spaced_words, is_word_byte, is_condition_byte};
+ghost use Rattle.ucd_facts.specs.Mappings.{conditions_of, spaced_words, is_word_byte, is_condition_byte};
 ghost use Rattle.source_rows.specs.Fields.{with_word};
 ghost use Rattle.source_rows.specs.OtherFaults.{is_empty};
 
@@ -10,8 +10,8 @@ use crate::key_names::compare_spaced;
 use crate::mapping::first_word;
 use std::alloc::Global;
 use std::marker::Model;
+use ucd_facts::{Memory, Text};
 use ucd_lines::is_blank;
-use ucd_model::{Memory, Text};
 
 /// Whether a byte may stand in the conditions: white space, or a byte from 21 to 7E.
 fn is_condition_byte(byte: u8) -> bool
@@ -62,7 +62,7 @@ pub struct Conditions<'a> {
 
 impl<'a> Model for Conditions<'a> {
     ghost use Rattle.std.specs.Prelude.{ℕ, List};
-    ghost use Rattle.ucd_model.specs.Mappings.{spaced_words};
+    ghost use Rattle.ucd_facts.specs.Mappings.{spaced_words};
 
     ghost Value = { List ℕ };
 
@@ -88,7 +88,7 @@ impl<'a> Conditions<'a> {
 }
 
 /// The conditions that a text holds. `None` if a byte may not stand in one.
-#[tactic(auto, unfolding(ucd_model::specs::Mappings::conditions_of))]
+#[tactic(auto, unfolding(ucd_facts::specs::Mappings::conditions_of))]
 pub fn conditions_of(text: &[u8]) -> Option<Conditions<'_>>
     ensures { result ≡ conditions_of text.now }
 {

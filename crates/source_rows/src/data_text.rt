@@ -1,14 +1,14 @@
 //! A row of UnicodeData.txt as it stands in its lines, and its copy. UAX #44, section 5.3, table 9.
 
 ghost use Rattle.std.specs.Prelude.{◌≡◌, IfOk, OnOk};
-ghost use Rattle.ucd_model.specs.DataLines.{kept_of};
+ghost use Rattle.ucd_facts.specs.DataLines.{kept_of};
 ghost use Rattle.source_rows.specs.Fields.{fields_in};
 ghost use Rattle.source_rows.specs.DataFaults.{with_kept, text_row};
 
 use crate::data_values::Values;
 use crate::fifteen::DataFields;
 use std::alloc::Global;
-use ucd_model::{DataRow, Kept, Memory, Span, Text};
+use ucd_facts::{DataRow, Kept, Memory, Span, Text};
 
 /// A row of UnicodeData.txt as it stands in its line, or in the two lines of a range. UAX #44, section 5.3, table 9.
 #[derive(Drop)]

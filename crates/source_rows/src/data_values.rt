@@ -12,8 +12,8 @@ use crate::decomposition::{Decomposition, read_decomposition};
 use crate::fault::RowFault;
 use crate::fifteen::DataFields;
 use crate::used_fields::UsedFields;
+use ucd_facts::{Category, Point};
 use ucd_lines::hex;
-use ucd_model::{Category, Point};
 
 /// What fields 2, 3, 5 and 12 to 14 hold.
 #[derive(Drop)]

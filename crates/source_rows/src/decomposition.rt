@@ -1,13 +1,13 @@
 //! Reads field 5 of UnicodeData.txt. UAX #44, section 5.7.3.
 
 ghost use Rattle.std.specs.Prelude.{◌≡◌};
-ghost use Rattle.ucd_model.specs.Names.{tag_of, positional_tag_of, shaped_tag_of, sized_tag_of, other_tag_of};
+ghost use Rattle.ucd_facts.specs.Names.{tag_of, positional_tag_of, shaped_tag_of, sized_tag_of, other_tag_of};
 ghost use Rattle.source_rows.specs.DataFaults.{decomposition_or_fault, canonical_or_fault, compat_or_fault};
 
 use crate::fault::RowFault;
 use crate::mapping::{Mapping, some_mapping_of};
+use ucd_facts::{Kind, Tag};
 use ucd_lines::cut;
-use ucd_model::{Kind, Tag};
 
 /// The greatest number of code points in a canonical mapping.
 const CANONICAL: usize = 2;
@@ -21,7 +21,7 @@ pub struct Decomposition<'a> {
     pub mapping: Mapping<'a>,
 }
 
-#[tactic(auto, unfolding(ucd_model::specs::Names::positional_tag_of))]
+#[tactic(auto, unfolding(ucd_facts::specs::Names::positional_tag_of))]
 fn positional_tag_of(text: &[u8]) -> Option<Tag>
     ensures { result ≡ positional_tag_of text.now }
 {
@@ -40,7 +40,7 @@ fn positional_tag_of(text: &[u8]) -> Option<Tag>
     None
 }
 
-#[tactic(auto, unfolding(ucd_model::specs::Names::shaped_tag_of))]
+#[tactic(auto, unfolding(ucd_facts::specs::Names::shaped_tag_of))]
 fn shaped_tag_of(text: &[u8]) -> Option<Tag>
     ensures { result ≡ shaped_tag_of text.now }
 {
@@ -59,7 +59,7 @@ fn shaped_tag_of(text: &[u8]) -> Option<Tag>
     None
 }
 
-#[tactic(auto, unfolding(ucd_model::specs::Names::sized_tag_of))]
+#[tactic(auto, unfolding(ucd_facts::specs::Names::sized_tag_of))]
 fn sized_tag_of(text: &[u8]) -> Option<Tag>
     ensures { result ≡ sized_tag_of text.now }
 {
@@ -78,7 +78,7 @@ fn sized_tag_of(text: &[u8]) -> Option<Tag>
     None
 }
 
-#[tactic(auto, unfolding(ucd_model::specs::Names::other_tag_of))]
+#[tactic(auto, unfolding(ucd_facts::specs::Names::other_tag_of))]
 fn other_tag_of(text: &[u8]) -> Option<Tag>
     ensures { result ≡ other_tag_of text.now }
 {

@@ -63,12 +63,12 @@ impl From<AllocError> for RowStop {
 }
 
 /// Running out of memory is `RowStop::Memory`.
-impl From<ucd_model::Memory> for RowStop {
+impl From<ucd_facts::Memory> for RowStop {
     ghost use Rattle.source_rows.specs.declared.fault.RowStop.TheVariants.{Memory};
 
     ghost from_gives = { λ _ e. e ≡ Memory };
 
-    fn from(_e: ucd_model::Memory) -> RowStop {
+    fn from(_e: ucd_facts::Memory) -> RowStop {
         RowStop::Memory
     }
 }

@@ -1,6 +1,6 @@
 //! Keys of rows.
 
-use ucd_model::{Point, Texts};
+use ucd_facts::{Point, Texts};
 
 /// What a row of a source file is found by.
 #[derive(Debug, Drop)]

@@ -7,7 +7,7 @@ ghost use Rattle.std.specs.Ordering.{nat_cmp, ordering_then};
 ghost use Rattle.ucd_points.specs.Fields.{fields, field, is_hash, span_of};
 ghost use Rattle.ucd_points.specs.HexText.{hex_text};
 ghost use Rattle.ucd_points.specs.MissingLines.{is_missing};
-ghost use Rattle.ucd_model.specs.Mappings.{spaced_words};
+ghost use Rattle.ucd_facts.specs.Mappings.{spaced_words};
 ghost use Rattle.source_rows.specs.Fields.{fields_of, row_fields};
 ghost use Rattle.source_rows.specs.Keys.{condition_names, missing_names};
 ghost use Rattle.source_rows.specs.KeyNames.{content_group, content_names, names_cmp, no_value, span_names};
@@ -17,8 +17,8 @@ use crate::fields::{first_field, two_fields, without_comment};
 use crate::mapping::first_word;
 use crate::special_casing::conditions_field;
 use std::cmp::Ordering;
+use ucd_facts::{Point, SourceFile, Text};
 use ucd_lines::{Fields, compare_hex, missing_rest};
-use ucd_model::{Point, SourceFile, Text};
 
 /// How the first bytes of a text, as many as a part has, compare with the part; and the bytes behind them.
 fn compare_part<'a>(text: &'a [u8], part: &[u8]) -> (Ordering, &'a [u8])

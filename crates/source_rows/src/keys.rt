@@ -3,7 +3,7 @@
 ghost use Rattle.std.specs.Prelude.{◌≡◌, ◌∷◌, [], IfOk, Some};
 ghost use Rattle.std.specs.List.{before_first};
 ghost use Rattle.ucd_points.specs.Fields.{is_hash};
-ghost use Rattle.ucd_model.specs.Names.{status_code};
+ghost use Rattle.ucd_facts.specs.Names.{status_code};
 ghost use Rattle.ucd_points.specs.MissingLines.{is_missing};
 ghost use Rattle.source_rows.specs.Fields.{fields_of, row_fields};
 ghost use Rattle.source_rows.specs.Keys.{condition_names, missing_names};
@@ -18,8 +18,8 @@ use crate::fields::{field_count, two_fields, without_comment};
 use crate::key::Key;
 use crate::lines::holds_line_feed;
 use std::alloc::Global;
+use ucd_facts::{FoldStatus, Memory, Point, SourceFile, Text, Texts};
 use ucd_lines::{hex, missing_rest, put_hex};
-use ucd_model::{FoldStatus, Memory, Point, SourceFile, Text, Texts};
 
 /// The list of one text.
 fn one_text(alloc: Global, text: Text) -> Result<Texts, Memory>

@@ -9,7 +9,7 @@ use crate::fault::RowFault;
 use crate::mapping::Mapping;
 use crate::used_fields::used_fields;
 use std::marker::Model;
-use ucd_model::{Category, Kind};
+use ucd_facts::{Category, Kind};
 
 /// What stands behind the name in a line, and what that gives: a category, a combining class, and no mapping. Most lines
 /// of UnicodeData.txt differ from a line before only in code and name, and those have nothing more to read. Contracts see

@@ -3,13 +3,13 @@
 ghost use Rattle.std.specs.Prelude.{◌≡◌, ◌<◌, ◌≤◌, ◌∷◌, [], length, IfOk};
 ghost use Rattle.std.specs.List.{position_or_len, before_first, after_first};
 ghost use Rattle.ucd_points.specs.Lines.{is_blank};
-ghost use Rattle.ucd_model.specs.Mappings.{mapping_of, words};
+ghost use Rattle.ucd_facts.specs.Mappings.{mapping_of, words};
 ghost use Rattle.source_rows.specs.DataFaults.{at_least_one};
 
 use std::alloc::Global;
 use std::marker::Model;
+use ucd_facts::{Memory, Point, Points};
 use ucd_lines::{hex, is_blank};
-use ucd_model::{Memory, Point, Points};
 
 /// The greatest number of code points in a mapping.
 const LIMIT: usize = 64;
@@ -79,7 +79,7 @@ impl<'a> Model for Mapping<'a> {
 
 impl<'a> Mapping<'a> {
     /// The mapping without a code point.
-    #[tactic(auto, unfolding(ucd_model::specs::Mappings::words))]
+    #[tactic(auto, unfolding(ucd_facts::specs::Mappings::words))]
     pub fn none() -> Mapping<'a>
         ensures { result ≡ [] }
     {

@@ -15,8 +15,8 @@ use crate::fields::{first_field, first_short_field};
 use crate::last_tail::LastTail;
 use crate::lines::holds_line_feed;
 use crate::unicode_data::{read_pair, single_end};
+use ucd_facts::{SourceFile, Span};
 use ucd_lines::{cut, hex};
-use ucd_model::{SourceFile, Span};
 
 /// What a row of UnicodeData.txt gives to its code points. UAX #44, section 5.3, table 9.
 #[derive(Drop)]

@@ -3,14 +3,14 @@
 ghost use Rattle.std.specs.Prelude.{◌≡◌, ◌+◌, ◌%◌, ◌<◌, ◌++◌, ◌∷◌, [], OnOk, IfOk, codes};
 ghost use Rattle.std.specs.Fmt.{decimal};
 ghost use Rattle.ucd_points.specs.HexText.{hex_text};
-ghost use Rattle.ucd_model.specs.Names.{category_code};
-ghost use Rattle.ucd_model.specs.RowTexts.{decomposition_text, case_text, data_line, data_text, value_fields, range_text};
+ghost use Rattle.ucd_facts.specs.Names.{category_code};
+ghost use Rattle.ucd_facts.specs.RowTexts.{decomposition_text, case_text, data_line, data_text, value_fields, range_text};
 ghost use Rattle.source_rows.specs.Texts.{ended};
 
 use crate::put_points::put_mapping;
 use std::alloc::Global;
+use ucd_facts::{DataRow, Kind, Memory, Point, Text};
 use ucd_lines::put_hex;
-use ucd_model::{DataRow, Kind, Memory, Point, Text};
 
 /// The last digit of a number.
 fn decimal_digit(number: u8) -> u8

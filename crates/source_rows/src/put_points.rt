@@ -2,10 +2,10 @@
 
 ghost use Rattle.std.specs.Prelude.{◌≡◌, ◌++◌, OnOk};
 ghost use Rattle.ucd_points.specs.HexText.{hex_text};
-ghost use Rattle.ucd_model.specs.RowTexts.{mapping_text, spaced};
+ghost use Rattle.ucd_facts.specs.RowTexts.{mapping_text, spaced};
 
+use ucd_facts::{Memory, Point, Text};
 use ucd_lines::put_hex;
-use ucd_model::{Memory, Point, Text};
 
 /// Appends each code point with a space before it.
 fn put_spaced(points: &[Point], into: &mut Text) -> Result<(), Memory>

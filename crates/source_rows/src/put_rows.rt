@@ -1,12 +1,12 @@
 //! Writes rows of the files beside UnicodeData.txt.
 
 ghost use Rattle.std.specs.Prelude.{◌≡◌, ◌++◌, OnOk};
-ghost use Rattle.ucd_model.specs.RowTexts.{value_text, missing_text, exclusion_text, fold_text, casing_text, conditions_text, names_text, alias_text};
+ghost use Rattle.ucd_facts.specs.RowTexts.{value_text, missing_text, exclusion_text, fold_text, casing_text, conditions_text, names_text, alias_text};
 ghost use Rattle.source_rows.specs.Texts.{named};
 
 use crate::put_points::put_mapping;
+use ucd_facts::{CasingRow, FoldRow, Memory, Text, ValueRow};
 use ucd_lines::{put_hex, put_span};
-use ucd_model::{CasingRow, FoldRow, Memory, Text, ValueRow};
 
 /// Appends a span and a value.
 ///

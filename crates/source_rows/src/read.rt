@@ -1,7 +1,7 @@
 //! Reads one row.
 
 ghost use Rattle.std.specs.Prelude.{◌≡◌, true, IfOk};
-ghost use Rattle.ucd_model.specs.RowValues.{RowOk};
+ghost use Rattle.ucd_facts.specs.RowValues.{RowOk};
 ghost use Rattle.source_rows.specs.Faults.{ReadsAs, row_or_fault};
 ghost use Rattle.source_rows.specs.RowRefs.{RefAs, ValuedAs, has_values};
 
@@ -15,7 +15,7 @@ use crate::special_casing::read_casing;
 use crate::unicode_data::read_unit;
 use crate::values::{Valued, read_value, read_value_or_missing, read_value_ref};
 use std::alloc::Global;
-use ucd_model::{Row, SourceFile};
+use ucd_facts::{Row, SourceFile};
 
 /// The row that a line of a source file stands for, or the two lines of a range of UnicodeData.txt, as it stands there. It
 /// takes no memory. UAX #44, sections 4.2 and 5.3.

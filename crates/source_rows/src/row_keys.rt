@@ -6,7 +6,7 @@ ghost use Rattle.source_rows.specs.Keys.{alias_count, key_code, key_names, key_o
 use crate::key::Key;
 use crate::keys::{condition_names, letter_name, missing_names, one_name};
 use std::alloc::Global;
-use ucd_model::{Memory, Point, Row, SourceFile, Texts};
+use ucd_facts::{Memory, Point, Row, SourceFile, Texts};
 
 /// The first code point of a row; `None` for a row of names.
 fn key_code(row: &Row) -> Option<Point>

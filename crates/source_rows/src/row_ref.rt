@@ -9,8 +9,8 @@ use crate::data_text::{DataText, data_row};
 use crate::special_casing::CasingText;
 use crate::values::ValueText;
 use std::alloc::Global;
+use ucd_facts::{AliasRow, CasingRow, ExclusionRow, FoldRow, Memory, Row, Text, ValueRow};
 use ucd_lines::Fields;
-use ucd_model::{AliasRow, CasingRow, ExclusionRow, FoldRow, Memory, Row, Text, ValueRow};
 
 /// A row as it stands in its line, or in the two lines of a range. Nothing is copied.
 #[derive(Drop)]

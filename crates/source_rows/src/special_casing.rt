@@ -12,8 +12,8 @@ use crate::fault::RowFault;
 use crate::fields::{field_count, first_field, three_fields, without_comment};
 use crate::mapping::{Mapping, mapping_of};
 use crate::row_ref::RowRef;
+use ucd_facts::Point;
 use ucd_lines::hex;
-use ucd_model::Point;
 
 /// A row of SpecialCasing.txt as it stands in its line.
 #[derive(Drop)]

@@ -1,14 +1,14 @@
 //! Writes one row.
 
 ghost use Rattle.std.specs.Prelude.{◌≡◌, IfOk};
-ghost use Rattle.ucd_model.specs.RowTexts.{row_text};
-ghost use Rattle.ucd_model.specs.RowValues.{RowOk};
+ghost use Rattle.ucd_facts.specs.RowTexts.{row_text};
+ghost use Rattle.ucd_facts.specs.RowValues.{RowOk};
 
 use crate::put_data::put_data;
 use crate::put_rows::{put_casing, put_fold, put_missing, put_names, put_value};
 use std::alloc::Global;
+use ucd_facts::{Memory, Row, SourceFile, Text};
 use ucd_lines::put_span;
-use ucd_model::{Memory, Row, SourceFile, Text};
 
 /// The text of a row, which [`read_row`](crate::read_row) reads as the same row. For a range it is two lines with LF
 /// between them; no other text holds a LF.

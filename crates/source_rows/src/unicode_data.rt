@@ -19,8 +19,8 @@ use crate::fields::{field_count, near_cut, two_fields};
 use crate::fifteen::{DataFields, FIELDS, fifteen_fields};
 use crate::lines::{holds_line_feed, without_return};
 use crate::row_ref::RowRef;
+use ucd_facts::{Point, SourceFile, Span};
 use ucd_lines::{cut, hex, is_blank};
-use ucd_model::{Point, SourceFile, Span};
 
 /// The row of a line's fields 2 to 14, of a name, and of what was found of its span; or the first fault.
 #[tactic(auto, unfolding(crate::specs::DataFaults::unit_or_fault))]

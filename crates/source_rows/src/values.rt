@@ -3,7 +3,7 @@
 ghost use Rattle.std.specs.Prelude.{Ok};
 ghost use Rattle.std.specs.List.{before_first};
 ghost use Rattle.ucd_points.specs.Fields.{is_hash};
-ghost use Rattle.ucd_model.specs.declared.row.Row.TheVariants.{Value as ValueLine};
+ghost use Rattle.ucd_facts.specs.declared.row.Row.TheVariants.{Value as ValueLine};
 ghost use Rattle.source_rows.specs.Faults.{value_line};
 ghost use Rattle.source_rows.specs.Fields.{fields_of, row_fields};
 ghost use Rattle.source_rows.specs.RowRefs.{RefAs, ValueAs, ValuedAs};
@@ -14,8 +14,8 @@ use crate::code_point::{is_name, span_of};
 use crate::fault::RowFault;
 use crate::fields::{field_count, two_fields, without_comment};
 use crate::row_ref::RowRef;
+use ucd_facts::{SourceFile, Span};
 use ucd_lines::missing_rest;
-use ucd_model::{SourceFile, Span};
 
 /// The number of fields of a line.
 const FIELDS: usize = 2;

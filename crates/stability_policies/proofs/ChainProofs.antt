@@ -2,7 +2,7 @@
 use Rattle.std.proofs.Common.{◌≡◌, ℕ, List, [], ◌∷◌, ◌∙◌}
 use Rattle.std.specs.List.{AllByRecursion as Each}
 use Rattle.release_rows.specs.Releases.{ReleaseItems, rows_now}
-use Rattle.ucd_model.specs.Facts.{Facts, facts}
+use Rattle.ucd_facts.specs.Facts.{Facts, facts}
 use Rattle.stability_policies.specs.ChainForms.{StepsKeepForms, FormsStayThrough}
 use Rattle.stability_policies.specs.StableForms.{Old, SameForms}
 use Rattle.stability_policies.proofs.ListedProofs.{each_old, stays_assigned, stays_normal}

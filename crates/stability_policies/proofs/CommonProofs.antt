@@ -1,8 +1,8 @@
 -- What two releases have in common where the report lists nothing of some policies.
 use Rattle.std.proofs.Common.{◌≡◌, ℕ, true, List, sym, subst, ◌∙◌}
 use Rattle.release_rows.specs.Releases.{ReleaseItems, rows_now}
-use Rattle.ucd_model.specs.Facts.{Facts, facts}
-use Rattle.ucd_model.specs.declared.form.Form.{Form}
+use Rattle.ucd_facts.specs.Facts.{Facts, facts}
+use Rattle.ucd_facts.specs.declared.form.Form.{Form}
 use Rattle.normalisation.specs.FormValues.{AreForms, HasList, form_of}
 use Rattle.normalisation.specs.declared.all_forms.Forms.{Forms}
 use Rattle.stability_policies.specs.CommonForms.{AllAssigned, KeepsForms, ListsNone}

@@ -3,18 +3,18 @@ use Rattle.std.proofs.Common.{◌≡◌, ◌≢◌, ◌<◌, ℕ, Bool, true, fa
 use Rattle.std.specs.Str.{bytes_eq}
 use Rattle.std.proofs.lemmas.Bool.{cases_lt, eq-eqb}
 use Rattle.ucd_model.specs.CanonicalOrder.{class_of, order}
-use Rattle.ucd_model.specs.Composites.{is_canonical}
-use Rattle.ucd_model.specs.EnumerationProofs.{place-injective}
-use Rattle.ucd_model.specs.Facts.{Facts}
-use Rattle.ucd_model.specs.Predicates.{category_place}
+use Rattle.ucd_facts.specs.Composites.{is_canonical}
+use Rattle.ucd_facts.specs.EnumerationProofs.{place-injective}
+use Rattle.ucd_facts.specs.Facts.{Facts}
+use Rattle.ucd_facts.specs.Predicates.{category_place}
 use Rattle.ucd_model.specs.Records.{Record, core_at, kept_record, record_at}
-use Rattle.ucd_model.specs.Sets.{has_core}
-use Rattle.ucd_model.specs.declared.category.Category.{Category}
-use Rattle.ucd_model.specs.declared.category.Category.TheVariants.{Cc, Cs, Co}
-use Rattle.ucd_model.specs.declared.decomposition.Kind.{Kind}
-use Rattle.ucd_model.specs.declared.property.Core.{Core}
-use Rattle.ucd_model.specs.declared.property.Core.TheVariants.{IdStart, IdContinue, XidStart, XidContinue}
-use Rattle.ucd_model.specs.declared.property.Flag.TheVariants.{NoncharacterCodePoint, PatternSyntax, PatternWhiteSpace}
+use Rattle.ucd_facts.specs.Sets.{has_core}
+use Rattle.ucd_facts.specs.declared.category.Category.{Category}
+use Rattle.ucd_facts.specs.declared.category.Category.TheVariants.{Cc, Cs, Co}
+use Rattle.ucd_facts.specs.declared.decomposition.Kind.{Kind}
+use Rattle.ucd_facts.specs.declared.property.Core.{Core}
+use Rattle.ucd_facts.specs.declared.property.Core.TheVariants.{IdStart, IdContinue, XidStart, XidContinue}
+use Rattle.ucd_facts.specs.declared.property.Flag.TheVariants.{NoncharacterCodePoint, PatternSyntax, PatternWhiteSpace}
 use Rattle.ucd_model.specs.declared.records.Record.{Record as KeptRecord}
 use Rattle.stability_policies.specs.BrokenStretches.{has_policy}
 use Rattle.stability_policies.specs.KeptPoints.{IsKept}

@@ -5,19 +5,19 @@ use Rattle.std.specs.Str.{bytes_eq}
 use Rattle.std.proofs.lemmas.Bool.{and_parts, cases_lt, eq-eqb, eqb-true}
 use Rattle.std.proofs.lemmas.Slice.Eq.{bytes_eq-Decides}
 use Rattle.release_rows.specs.Releases.{ReleaseItems, rows_now}
-use Rattle.ucd_model.specs.Composites.{first_has_class_zero, is_canonical, primary}
-use Rattle.ucd_model.specs.Facts.{Facts, Sources, data_row, facts, given, kind_in}
-use Rattle.ucd_model.specs.FactsLemmas.{facts_inside, facts_outside}
+use Rattle.ucd_facts.specs.Composites.{first_has_class_zero, is_canonical, primary}
+use Rattle.ucd_facts.specs.Facts.{Facts, Sources, data_row, facts, given, kind_in}
+use Rattle.ucd_facts.specs.FactsLemmas.{facts_inside, facts_outside}
 use Rattle.ucd_model.specs.Forms.{nfkc}
 use Rattle.ucd_points.specs.Limits.{point_count}
 use Rattle.ucd_model.specs.Validity.{lacks_row}
 use Rattle.ucd_model.specs.ValidityLaws.{IsValid as AllHaveRecords}
 use Rattle.ucd_model.specs.ValidityProofs.{broken-none, broken-rules, valid_expands, valid_is_unbroken}
 use Rattle.ucd_points.specs.declared.files.SourceFile.TheVariants.{UnicodeData}
-use Rattle.ucd_model.specs.declared.form.Bad.{Bad as Rule}
-use Rattle.ucd_model.specs.declared.form.Form.{Form}
-use Rattle.ucd_model.specs.declared.form.Form.TheVariants.{Nfkc}
-use Rattle.ucd_model.specs.declared.row.DataRow.{DataRow}
+use Rattle.ucd_facts.specs.declared.form.Bad.{Bad as Rule}
+use Rattle.ucd_facts.specs.declared.form.Form.{Form}
+use Rattle.ucd_facts.specs.declared.form.Form.TheVariants.{Nfkc}
+use Rattle.ucd_facts.specs.declared.row.DataRow.{DataRow}
 use Rattle.normalisation.specs.FormValues.{HasList, form_of}
 use Rattle.normalisation.specs.FormLaws.{HasExpansion, HaveExpansions}
 use Rattle.normalisation.specs.FormValueProofs.{forms_given}

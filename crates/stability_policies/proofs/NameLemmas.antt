@@ -7,9 +7,9 @@ use mathlib.Core.Path.{fun_ext}
 use Rattle.release_rows.specs.Releases.{ReleaseItems, rows_now}
 use Rattle.ucd_points.specs.Limits.{point_count}
 use Rattle.ucd_points.specs.declared.files.SourceFile.TheVariants.{UnicodeData}
-use Rattle.ucd_model.specs.Facts.{data_in, data_row, is_data_of, within}
-use Rattle.ucd_model.specs.declared.row.Row.{Row}
-use Rattle.ucd_model.specs.declared.row.Row.TheVariants.{Unit as DataLine, Value as ValueLine, Exclusion as ExclusionLine, Fold as FoldLine, Casing as CasingLine, Alias as AliasLine, Missing as MissingLine}
+use Rattle.ucd_facts.specs.Facts.{data_in, data_row, is_data_of, within}
+use Rattle.ucd_facts.specs.declared.row.Row.{Row}
+use Rattle.ucd_facts.specs.declared.row.Row.TheVariants.{Unit as DataLine, Value as ValueLine, Exclusion as ExclusionLine, Fold as FoldLine, Casing as CasingLine, Alias as AliasLine, Missing as MissingLine}
 use Rattle.stability_policies.specs.NamedRows.{AreAbove, BeginsAt, IsRest, end_at, left_behind, name_at, name_here, named}
 use Rattle.stability_policies.specs.Policies.{differ, is_renamed, name_of}
 use Rattle.stability_policies.specs.Reports.{breaks_of}

@@ -3,14 +3,14 @@ use Rattle.std.proofs.Common.{◌≡◌, ℕ, Bool, true, false, ◌&&◌, not, 
 use Rattle.std.specs.Str.{bytes_eq}
 use Rattle.std.proofs.lemmas.Slice.Eq.{bytes_eq-Decides}
 use Rattle.std.proofs.lemmas.List.{append-nil}
-use Rattle.ucd_model.specs.Composites.{first_has_class_zero, is_canonical, primary}
-use Rattle.ucd_model.specs.Expansion.{counts, counted}
-use Rattle.ucd_model.specs.Facts.{Facts, image_points, is_plain}
+use Rattle.ucd_facts.specs.Composites.{first_has_class_zero, is_canonical, primary}
+use Rattle.ucd_facts.specs.Expansion.{counts, counted}
+use Rattle.ucd_facts.specs.Facts.{Facts, image_points, is_plain}
 use Rattle.ucd_model.specs.Forms.{appended, composed, in_order, nfkc}
-use Rattle.ucd_model.specs.Uniform.{IsPlain}
-use Rattle.ucd_model.specs.declared.decomposition.Kind.{Kind}
-use Rattle.ucd_model.specs.declared.decomposition.Kind.TheVariants.{Plain, Canonical, Compat}
-use Rattle.ucd_model.specs.declared.form.Bad.{Bad as Rule}
+use Rattle.ucd_facts.specs.Uniform.{IsPlain}
+use Rattle.ucd_facts.specs.declared.decomposition.Kind.{Kind}
+use Rattle.ucd_facts.specs.declared.decomposition.Kind.TheVariants.{Plain, Canonical, Compat}
+use Rattle.ucd_facts.specs.declared.form.Bad.{Bad as Rule}
 use Rattle.normalisation.specs.FormLemmas.{expansion_alone}
 use Rattle.stability_policies.specs.CaselessLists.{folding_of, same_where, where_list}
 use Rattle.stability_policies.specs.Policies.{caseless, folded, same_list}

@@ -3,7 +3,7 @@ use Rattle.std.proofs.Common.{◌≡◌, ◌≢◌, ℕ, zero, suc, ◌+◌, ◌
 use Rattle.std.specs.Bool.{Decides, beq}
 use Rattle.std.specs.List.{list_any}
 use Rattle.std.proofs.lemmas.Bool.{cases_lt}
-use Rattle.ucd_model.specs.EnumerationProofs.{place-at, place-injective}
+use Rattle.ucd_facts.specs.EnumerationProofs.{place-at, place-injective}
 use Rattle.stability_policies.specs.BrokenStretches.{has_policy}
 use Rattle.stability_policies.specs.Policies.{place_of_policy, policies}
 use Rattle.stability_policies.specs.PolicyLists.{policies_are_whole}

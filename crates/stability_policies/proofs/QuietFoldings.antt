@@ -4,9 +4,9 @@ use Rattle.std.specs.Str.{bytes_eq}
 use Rattle.std.proofs.lemmas.Slice.Eq.{bytes_eq-Decides}
 use Rattle.release_rows.specs.Releases.{ReleaseItems, rows_now}
 use Rattle.ucd_model.specs.Casing.{fold_of}
-use Rattle.ucd_model.specs.Facts.{Facts, facts}
+use Rattle.ucd_facts.specs.Facts.{Facts, facts}
 use Rattle.ucd_points.specs.Limits.{point_count}
-use Rattle.ucd_model.specs.declared.form.Bad.{Bad as Rule}
+use Rattle.ucd_facts.specs.declared.form.Bad.{Bad as Rule}
 use Rattle.stability_policies.specs.Policies.{breaks, caseless, same_list}
 use Rattle.stability_policies.specs.StableForms.{IsRooted, Old, StaysNormal, all_kept, keeps_forms}
 use Rattle.stability_policies.specs.Views.{IsValid}

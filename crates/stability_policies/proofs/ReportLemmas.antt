@@ -5,10 +5,10 @@ use Rattle.std.proofs.lemmas.List.{append-nil, append_assoc, take_all, take_more
 use Rattle.std.proofs.lemmas.Grind.{flat_map-append}
 use Rattle.std.proofs.lemmas.Bool.Decides.{nat_tests}
 use Rattle.release_rows.specs.Releases.{ReleaseItems, rows_now}
-use Rattle.ucd_model.specs.Facts.{Facts, facts}
+use Rattle.ucd_facts.specs.Facts.{Facts, facts}
 use Rattle.ucd_points.specs.Limits.{point_count}
 use Rattle.ucd_points.specs.declared.files.SourceFile.{SourceFile}
-use Rattle.ucd_model.specs.declared.row.Row.{Row}
+use Rattle.ucd_facts.specs.declared.row.Row.{Row}
 use Rattle.stability_policies.specs.BrokenStretches.{AreStretches, breaking}
 use Rattle.stability_policies.specs.Policies.{policies}
 use Rattle.stability_policies.specs.Reports.{breaks_of, is_lost, keeps_names, lost_rows, names_in, report}

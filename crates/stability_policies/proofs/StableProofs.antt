@@ -9,21 +9,21 @@ use Rattle.std.proofs.lemmas.Slice.Eq.{bytes_eq-Decides}
 use mathlib.Core.Path.{fun_ext}
 use Rattle.ucd_model.specs.CanonicalOrder.{class_of, order}
 use Rattle.ucd_model.specs.Casing.{fold, fold_of}
-use Rattle.ucd_model.specs.Composites.{composes, is_pair, pair_of, primary}
+use Rattle.ucd_facts.specs.Composites.{composes, is_pair, pair_of, primary}
 use Rattle.ucd_model.specs.Composition.{Split, compose, compose_onto, composed_with, reached, with_composite, with_point}
-use Rattle.ucd_model.specs.Expansion.{alone_or_joined, both, counted, counts, expand, expansion, full, joined, judged}
-use Rattle.ucd_model.specs.Facts.{Facts}
+use Rattle.ucd_facts.specs.Expansion.{alone_or_joined, both, counted, counts, expand, expansion, full, joined, judged}
+use Rattle.ucd_facts.specs.Facts.{Facts}
 use Rattle.ucd_model.specs.Forms.{appended, composed, decomposed, expansions, in_order, nfkc}
 use Rattle.ucd_points.specs.Limits.{point_count}
-use Rattle.ucd_model.specs.declared.decomposition.Kind.{Kind}
-use Rattle.ucd_model.specs.declared.decomposition.Kind.TheVariants.{Plain, Canonical, Compat}
-use Rattle.ucd_model.specs.declared.form.Bad.{Bad as Rule}
-use Rattle.ucd_model.specs.declared.form.Bad.TheVariants.{V3}
+use Rattle.ucd_facts.specs.declared.decomposition.Kind.{Kind}
+use Rattle.ucd_facts.specs.declared.decomposition.Kind.TheVariants.{Plain, Canonical, Compat}
+use Rattle.ucd_facts.specs.declared.form.Bad.{Bad as Rule}
+use Rattle.ucd_facts.specs.declared.form.Bad.TheVariants.{V3}
 use Rattle.normalisation.specs.ExpandedLemmas.{Each-append}
 use Rattle.normalisation.specs.FormLaws.{HaveExpansions}
 use Rattle.normalisation.specs.FormProofs.{nfkc_of_members}
-use Rattle.ucd_model.specs.CompositeLaws.{IsPair}
-use Rattle.ucd_model.specs.CompositeProofs.{pair_is_least}
+use Rattle.ucd_facts.specs.CompositeLaws.{IsPair}
+use Rattle.ucd_facts.specs.CompositeProofs.{pair_is_least}
 use Rattle.stability_policies.specs.Policies.{all_assigned, caseless, folded, same_list, sort_of}
 use Rattle.stability_policies.specs.StableForms.{CaselessStays, FoldsAlike, FormsStay, Old, SameForms, StaysNormal}
 use Rattle.stability_policies.proofs.SameOrder.{Cut, Each-if, Each-ordered, Each-to, order_same, point_each, reached_parts, reached_same}

@@ -5,10 +5,10 @@ use Rattle.std.proofs.lemmas.List.{append-nil, append_assoc, map-append, take_mo
 use Rattle.std.proofs.lemmas.Grind.{flat_map-append}
 use Rattle.std.specs.Bool.{Decides}
 use Rattle.std.specs.Str.{bytes_eq}
-use Rattle.ucd_model.specs.Facts.{Facts}
+use Rattle.ucd_facts.specs.Facts.{Facts}
 use Rattle.ucd_points.specs.Limits.{point_count}
-use Rattle.ucd_model.specs.Shown.{shown_facts}
-use Rattle.ucd_model.specs.declared.view.FactsRef.{FactsRef}
+use Rattle.ucd_facts.specs.Shown.{shown_facts}
+use Rattle.ucd_facts.specs.declared.view.FactsRef.{FactsRef}
 use Rattle.stability_policies.proofs.PointLemmas.{filter_span}
 use Rattle.stability_policies.specs.BrokenStretches.{KeepAllForms, breaking, broken_to, has_policy, points_in, points_of}
 use Rattle.stability_policies.specs.CaselessLists.{folding_of}

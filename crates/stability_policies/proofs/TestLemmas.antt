@@ -1,9 +1,9 @@
 -- What the sets of core properties tell of the policies on them.
 use Rattle.std.proofs.Common.{◌≡◌, ℕ, Bool, ◌&&◌, not, ap, sym, ◌∙◌}
-use Rattle.ucd_model.specs.Facts.{Facts}
+use Rattle.ucd_facts.specs.Facts.{Facts}
 use Rattle.ucd_model.specs.Records.{core_at}
-use Rattle.ucd_model.specs.Sets.{has_core}
-use Rattle.ucd_model.specs.declared.property.Core.{Core}
+use Rattle.ucd_facts.specs.Sets.{has_core}
+use Rattle.ucd_facts.specs.declared.property.Core.{Core}
 use Rattle.stability_policies.specs.Policies.{breaks}
 use Rattle.stability_policies.specs.declared.policy.Policy.{Policy}
 

@@ -3,11 +3,11 @@ use Rattle.std.proofs.Common.{◌≡◌, ℕ, Bool, true, false, ◌&&◌, ◌||
 use Rattle.std.specs.Str.{bytes_eq}
 use Rattle.std.proofs.lemmas.Bool.{cases_lt, eq-eqb}
 use Rattle.ucd_model.specs.Casing.{where_form}
-use Rattle.ucd_model.specs.Composites.{primary}
-use Rattle.ucd_model.specs.Facts.{Facts, image_points}
+use Rattle.ucd_facts.specs.Composites.{primary}
+use Rattle.ucd_facts.specs.Facts.{Facts, image_points}
 use Rattle.ucd_model.specs.Identifiers.{continues, starts, xid_continue, xid_start}
-use Rattle.ucd_model.specs.Predicates.{id_continue, id_start}
-use Rattle.ucd_model.specs.Uniform.{Alike, IsPlain, Uniform}
+use Rattle.ucd_facts.specs.Predicates.{id_continue, id_start}
+use Rattle.ucd_facts.specs.Uniform.{Alike, IsPlain, Uniform}
 use Rattle.stability_policies.specs.Policies.{all_assigned, breaks, is_case_pair, same_list, same_mapping, sort_of, caseless}
 use Rattle.stability_policies.specs.BrokenStretches.{IsAlikeTo}
 use Rattle.stability_policies.specs.StableForms.{all_kept, keeps_forms}

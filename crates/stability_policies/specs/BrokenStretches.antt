@@ -12,7 +12,7 @@
 -- AreStretches O N found   those found have exactly the code points that break P, for each policy P
 use Rattle.std.specs.Prelude.{◌≡◌, ◌≢◌, ◌≤◌, ◌<◌, ◌+◌, ◌-◌, ℕ, Bool, true, false, List, [], cond, filter, get_or}
 use Rattle.std.specs.List.{flat_map, range_with_len}
-use Rattle.ucd_model.specs.Facts.{Facts}
+use Rattle.ucd_facts.specs.Facts.{Facts}
 use Rattle.ucd_points.specs.Limits.{point_count}
 use Rattle.stability_policies.specs.Policies.{breaks, place_of_policy}
 use Rattle.stability_policies.specs.StableForms.{keeps_forms}

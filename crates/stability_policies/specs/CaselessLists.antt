@@ -5,8 +5,8 @@
 -- folding_of c F    the full folding of the code point c, which has the facts F
 use Rattle.std.specs.Prelude.{ℕ, Bool, true, false, List, Option, Some, None, Result, Ok, Err}
 use Rattle.std.specs.Str.{bytes_eq}
-use Rattle.ucd_model.specs.Facts.{Facts, image_points}
-use Rattle.ucd_model.specs.declared.form.Bad.{Bad as Rule}
+use Rattle.ucd_facts.specs.Facts.{Facts, image_points}
+use Rattle.ucd_facts.specs.declared.form.Bad.{Bad as Rule}
 
 abbrev pub where_list : Result (List ℕ) Rule → Option (List ℕ)
 where_list (Ok s) = Some s

@@ -7,7 +7,7 @@
 use Rattle.std.specs.Prelude.{ℕ, List, [], ◌∷◌}
 use Rattle.std.specs.List.{AllByRecursion as Each}
 use Rattle.release_rows.specs.Releases.{ReleaseItems, rows_now}
-use Rattle.ucd_model.specs.Facts.{facts}
+use Rattle.ucd_facts.specs.Facts.{facts}
 use Rattle.stability_policies.specs.CommonForms.{AllAssigned, KeepsForms}
 use Rattle.stability_policies.specs.Reports.{report}
 use Rattle.stability_policies.specs.StableForms.{SameForms}

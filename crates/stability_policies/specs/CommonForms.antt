@@ -5,7 +5,7 @@
 -- KeepsForms breaks     nothing of P01, P03, P04 and P05 is listed
 use Rattle.std.specs.Prelude.{◌≡◌, ℕ, true, false, List}
 use Rattle.std.specs.List.{list_all, list_any}
-use Rattle.ucd_model.specs.Facts.{Facts}
+use Rattle.ucd_facts.specs.Facts.{Facts}
 use Rattle.stability_policies.specs.Reports.{is_of}
 use Rattle.stability_policies.specs.declared.breaks.Break.{Break}
 use Rattle.stability_policies.specs.declared.policy.Policy.{Policy}

@@ -3,17 +3,17 @@
 -- The facts are those of code points of real releases where the policy is kept; where it is broken, one of them is changed.
 use Rattle.std.proofs.Common.{◌≡◌, ℕ, true, false, ◌==◌, [], ◌∷◌, if◌then◌else◌, codes, refl}
 use Rattle.std.specs.Prelude.{Some, None}
-use Rattle.ucd_model.specs.Expansion.{full}
-use Rattle.ucd_model.specs.Facts.{Facts, unassigned}
-use Rattle.ucd_model.specs.declared.category.Category.{Category}
-use Rattle.ucd_model.specs.declared.category.Category.TheVariants.{Lu, Ll, Lo, Mn, Mc, Cc, Cs, Co, Po, Zs}
-use Rattle.ucd_model.specs.declared.decomposition.Kind.{Kind}
-use Rattle.ucd_model.specs.declared.decomposition.Kind.TheVariants.{Canonical, Compat}
-use Rattle.ucd_model.specs.declared.decomposition.Tag.TheVariants as tag
-use Rattle.ucd_model.specs.declared.image.Image.TheVariants.{To}
-use Rattle.ucd_model.specs.declared.property.Flag.{Flag}
-use Rattle.ucd_model.specs.declared.property.Flag.TheVariants.{NoncharacterCodePoint, PatternSyntax, PatternWhiteSpace}
-use Rattle.ucd_model.specs.Sets.{flag_place}
+use Rattle.ucd_facts.specs.Expansion.{full}
+use Rattle.ucd_facts.specs.Facts.{Facts, unassigned}
+use Rattle.ucd_facts.specs.declared.category.Category.{Category}
+use Rattle.ucd_facts.specs.declared.category.Category.TheVariants.{Lu, Ll, Lo, Mn, Mc, Cc, Cs, Co, Po, Zs}
+use Rattle.ucd_facts.specs.declared.decomposition.Kind.{Kind}
+use Rattle.ucd_facts.specs.declared.decomposition.Kind.TheVariants.{Canonical, Compat}
+use Rattle.ucd_facts.specs.declared.decomposition.Tag.TheVariants as tag
+use Rattle.ucd_facts.specs.declared.image.Image.TheVariants.{To}
+use Rattle.ucd_facts.specs.declared.property.Flag.{Flag}
+use Rattle.ucd_facts.specs.declared.property.Flag.TheVariants.{NoncharacterCodePoint, PatternSyntax, PatternWhiteSpace}
+use Rattle.ucd_facts.specs.Sets.{flag_place}
 use Rattle.stability_policies.specs.Policies.{breaks, differ}
 use Rattle.stability_policies.specs.declared.policy.Policy.TheVariants.{P01, P03, P04, P05, P06, P07, P08, P09, P10, P11, P12, P13, P14, P15, P16, P18, P19, P20}
 

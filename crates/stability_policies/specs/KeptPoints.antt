@@ -3,9 +3,9 @@
 -- IsKept c G H P Q   of the point c the old release has the facts G and the core properties P, and the new one H and Q: the row and
 --                    the properties are the same, and neither has a decomposition mapping or a mapping to lower case
 use Rattle.std.specs.Prelude.{◌≡◌, ℕ, Bool, []}
-use Rattle.ucd_model.specs.Facts.{Facts}
-use Rattle.ucd_model.specs.declared.property.Core.{Core}
-use Rattle.ucd_model.specs.declared.property.Flag.{Flag}
+use Rattle.ucd_facts.specs.Facts.{Facts}
+use Rattle.ucd_facts.specs.declared.property.Core.{Core}
+use Rattle.ucd_facts.specs.declared.property.Flag.{Flag}
 
 pub record IsKept (c : ℕ) (G H : Facts) (P Q : Core → Bool) : Type 0 where
   pub assigned : G.assigned ≡ H.assigned

@@ -21,9 +21,9 @@
 -- olds step, news step   how many rows of each release a step takes
 use Rattle.std.specs.Prelude.{◌≡◌, ◌≤◌, ◌+◌, ℕ, Bool, true, false, nat_le, if◌then◌else◌, List, [], ◌∷◌, ◌++◌, Option, Some, None}
 use Rattle.std.specs.List.{flat_map}
-use Rattle.ucd_model.specs.Facts.{within}
-use Rattle.ucd_model.specs.declared.row.Row.{Row}
-use Rattle.ucd_model.specs.declared.row.Row.TheVariants.{Unit as DataLine}
+use Rattle.ucd_facts.specs.Facts.{within}
+use Rattle.ucd_facts.specs.declared.row.Row.{Row}
+use Rattle.ucd_facts.specs.declared.row.Row.TheVariants.{Unit as DataLine}
 use Rattle.stability_policies.specs.Policies.{differ}
 use Rattle.stability_policies.specs.declared.differing.Step.{Step}
 use Rattle.stability_policies.specs.declared.differing.Step.TheVariants.{Same, Old, New}

@@ -27,20 +27,20 @@ use Rattle.std.specs.List.{list_all}
 use Rattle.std.specs.Str.{bytes_eq}
 use Rattle.ucd_model.specs.CanonicalOrder.{class_of, order}
 use Rattle.ucd_model.specs.Casing.{fold}
-use Rattle.ucd_model.specs.Composites.{is_canonical, primary}
-use Rattle.ucd_model.specs.Facts.{Facts, Sources, data_row, facts}
+use Rattle.ucd_facts.specs.Composites.{is_canonical, primary}
+use Rattle.ucd_facts.specs.Facts.{Facts, Sources, data_row, facts}
 use Rattle.ucd_model.specs.Forms.{nfkc}
-use Rattle.ucd_model.specs.Predicates.{category_place, is_one_of}
+use Rattle.ucd_facts.specs.Predicates.{category_place, is_one_of}
 use Rattle.ucd_model.specs.Records.{core_at}
-use Rattle.ucd_model.specs.declared.category.Category.{Category}
-use Rattle.ucd_model.specs.declared.category.Category.TheVariants.{Cc, Cs, Co, Mn, Mc, Me}
-use Rattle.ucd_model.specs.declared.decomposition.Kind.{Kind}
-use Rattle.ucd_model.specs.declared.decomposition.Kind.TheVariants.{Plain, Canonical, Compat}
+use Rattle.ucd_facts.specs.declared.category.Category.{Category}
+use Rattle.ucd_facts.specs.declared.category.Category.TheVariants.{Cc, Cs, Co, Mn, Mc, Me}
+use Rattle.ucd_facts.specs.declared.decomposition.Kind.{Kind}
+use Rattle.ucd_facts.specs.declared.decomposition.Kind.TheVariants.{Plain, Canonical, Compat}
 use Rattle.ucd_points.specs.declared.files.SourceFile.TheVariants.{UnicodeData}
-use Rattle.ucd_model.specs.declared.form.Bad.{Bad as Rule}
-use Rattle.ucd_model.specs.declared.property.Core.TheVariants.{IdStart, IdContinue, XidStart, XidContinue}
-use Rattle.ucd_model.specs.declared.property.Flag.TheVariants.{NoncharacterCodePoint, PatternSyntax, PatternWhiteSpace}
-use Rattle.ucd_model.specs.declared.row.DataRow.{DataRow}
+use Rattle.ucd_facts.specs.declared.form.Bad.{Bad as Rule}
+use Rattle.ucd_facts.specs.declared.property.Core.TheVariants.{IdStart, IdContinue, XidStart, XidContinue}
+use Rattle.ucd_facts.specs.declared.property.Flag.TheVariants.{NoncharacterCodePoint, PatternSyntax, PatternWhiteSpace}
+use Rattle.ucd_facts.specs.declared.row.DataRow.{DataRow}
 use Rattle.stability_policies.specs.declared.policy.Policy.{Policy}
 use Rattle.stability_policies.specs.declared.policy.Policy.TheVariants.{P01, P02, P03, P04, P05, P06, P07, P08, P09, P10, P11, P12, P13, P14, P15, P16, P17, P18, P19, P20}
 

@@ -4,7 +4,7 @@
 -- place_below        there are twenty places
 use Rattle.std.proofs.Common.{◌≡◌, ◌<◌, Some, refl, arith}
 use Rattle.std.specs.Prelude.{slice_get}
-use Rattle.ucd_model.specs.Enumerations.{IsEnumeration}
+use Rattle.ucd_facts.specs.Enumerations.{IsEnumeration}
 use Rattle.stability_policies.specs.Policies.{place_of_policy, policies}
 use Rattle.stability_policies.specs.declared.policy.Policy.{Policy}
 use Rattle.stability_policies.specs.declared.policy.Policy.TheVariants.{P01, P02, P03, P04, P05, P06, P07, P08, P09, P10, P11, P12, P13, P14, P15, P16, P17, P18, P19, P20}

@@ -5,7 +5,7 @@
 -- EmptyPartKeepsCaseless   if it lists nothing of P10 either, so is the full folding of their Normalisation Form KC
 use Rattle.std.specs.Prelude.{◌≡◌, ℕ, List}
 use Rattle.release_rows.specs.Releases.{ReleaseItems, rows_now}
-use Rattle.ucd_model.specs.Facts.{facts}
+use Rattle.ucd_facts.specs.Facts.{facts}
 use Rattle.stability_policies.specs.CommonForms.{AllAssigned, KeepsForms, ListsNone}
 use Rattle.stability_policies.specs.Policies.{caseless}
 use Rattle.stability_policies.specs.Reports.{report}

@@ -15,8 +15,8 @@
 use Rattle.std.specs.Prelude.{◌≡◌, ◌<◌, ℕ, Bool, true, false, ◌&&◌, ◌||◌, not, [], ◌∷◌, List}
 use Rattle.std.specs.List.{AllByRecursion as Each}
 use Rattle.std.specs.Str.{bytes_eq}
-use Rattle.ucd_model.specs.Composites.{primary}
-use Rattle.ucd_model.specs.Facts.{Facts}
+use Rattle.ucd_facts.specs.Composites.{primary}
+use Rattle.ucd_facts.specs.Facts.{Facts}
 use Rattle.ucd_model.specs.Forms.{nfd, nfc, nfkd, nfkc}
 use Rattle.ucd_points.specs.Limits.{point_count}
 use Rattle.normalisation.specs.FormLaws.{HaveExpansions}

@@ -4,7 +4,7 @@
 -- IsValid release       no code point breaks a rule of a valid release
 use Rattle.std.specs.Prelude.{◌≡◌, ℕ, None}
 use Rattle.release_rows.specs.Releases.{ReleaseItems, rows_now}
-use Rattle.ucd_model.specs.Facts.{Facts, facts}
+use Rattle.ucd_facts.specs.Facts.{Facts, facts}
 use Rattle.ucd_model.specs.Records.{Record, record_at}
 use Rattle.ucd_model.specs.Validity.{first_broken}
 

@@ -1,7 +1,7 @@
 //! Policies on case pairs. The Unicode Standard, section 3.13.
 
 ghost use Rattle.std.specs.Prelude.{◌≡◌};
-ghost use Rattle.ucd_model.specs.Shown.{shown_facts};
+ghost use Rattle.ucd_facts.specs.Shown.{shown_facts};
 ghost use Rattle.stability_policies.specs.Policies.{breaks, is_case_pair};
 ghost use Rattle.stability_policies.specs.declared.policy.Policy.TheVariants.{P11, P12};
 

@@ -2,8 +2,8 @@
 
 ghost use Rattle.std.specs.Prelude.{◌≡◌, [], ◌∷◌, not, IfOk};
 ghost use Rattle.std.specs.Str.{bytes_eq};
-ghost use Rattle.ucd_model.specs.Facts.{is_plain};
-ghost use Rattle.ucd_model.specs.Shown.{shown_facts};
+ghost use Rattle.ucd_facts.specs.Facts.{is_plain};
+ghost use Rattle.ucd_facts.specs.Shown.{shown_facts};
 ghost use Rattle.stability_policies.specs.CaselessLists.{folding_of, same_where, where_list};
 ghost use Rattle.stability_policies.specs.Policies.{breaks, caseless, same_list};
 ghost use Rattle.stability_policies.specs.declared.policy.Policy.TheVariants.{P10};

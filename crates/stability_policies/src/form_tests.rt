@@ -2,7 +2,7 @@
 
 ghost use Rattle.std.specs.Prelude.{◌≡◌, ◌||◌, not};
 ghost use Rattle.std.specs.Str.{bytes_eq};
-ghost use Rattle.ucd_model.specs.Shown.{shown_facts};
+ghost use Rattle.ucd_facts.specs.Shown.{shown_facts};
 ghost use Rattle.stability_policies.specs.BrokenStretches.{has_policy};
 ghost use Rattle.stability_policies.specs.CaselessLists.{folding_of};
 ghost use Rattle.stability_policies.specs.StableForms.{all_kept};

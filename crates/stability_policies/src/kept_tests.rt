@@ -2,8 +2,8 @@
 
 ghost use Rattle.std.specs.Prelude.{◌≡◌, ◌≢◌, ◌&&◌, ◌==◌, not, false, []};
 ghost use Rattle.std.specs.Bool.{Decides};
-ghost use Rattle.ucd_model.specs.Sets.{has_core};
-ghost use Rattle.ucd_model.specs.Shown.{shown_facts};
+ghost use Rattle.ucd_facts.specs.Sets.{has_core};
+ghost use Rattle.ucd_facts.specs.Shown.{shown_facts};
 ghost use Rattle.stability_policies.specs.BrokenStretches.{has_policy};
 ghost use Rattle.stability_policies.specs.KeptPoints.{IsKept};
 ghost use Rattle.stability_policies.specs.Policies.{is_mark, place_of_policy};

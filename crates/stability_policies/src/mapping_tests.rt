@@ -3,8 +3,8 @@
 ghost use Rattle.std.specs.Prelude.{◌≡◌, ◌&&◌, ◌||◌, not, ◌==◌, IfOk};
 ghost use Rattle.std.specs.Str.{bytes_eq};
 ghost use Rattle.ucd_model.specs.CanonicalOrder.{class_of, order};
-ghost use Rattle.ucd_model.specs.Composites.{is_canonical};
-ghost use Rattle.ucd_model.specs.Shown.{shown_facts};
+ghost use Rattle.ucd_facts.specs.Composites.{is_canonical};
+ghost use Rattle.ucd_facts.specs.Shown.{shown_facts};
 ghost use Rattle.stability_policies.specs.Policies.{all_assigned, breaks, second_maps};
 ghost use Rattle.stability_policies.specs.declared.policy.Policy.TheVariants.{P05};
 

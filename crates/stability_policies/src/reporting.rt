@@ -1,7 +1,7 @@
 //! The report of the breaks of all policies.
 
 ghost use Rattle.std.specs.Prelude.{◌≡◌, ◌++◌, IfOk, OnOk};
-ghost use Rattle.ucd_model.specs.Facts.{facts};
+ghost use Rattle.ucd_facts.specs.Facts.{facts};
 ghost use Rattle.ucd_points.specs.declared.files.SourceFile.TheVariants.{PropertyAliases, PropertyValueAliases};
 ghost use Rattle.stability_policies.specs.BrokenStretches.{AreStretches};
 ghost use Rattle.stability_policies.specs.Reports.{breaks_of, lost_in, report};

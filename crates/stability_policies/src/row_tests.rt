@@ -1,9 +1,9 @@
 //! Policies on what the rows say of a code point by itself.
 
 ghost use Rattle.std.specs.Prelude.{◌≡◌, ◌&&◌, ◌||◌, not, ◌==◌};
-ghost use Rattle.ucd_model.specs.Shown.{shown_facts};
-ghost use Rattle.ucd_model.specs.declared.category.Category.TheVariants.{Cc, Cs, Co};
-ghost use Rattle.ucd_model.specs.declared.property.Flag.TheVariants.{NoncharacterCodePoint, PatternSyntax, PatternWhiteSpace};
+ghost use Rattle.ucd_facts.specs.Shown.{shown_facts};
+ghost use Rattle.ucd_facts.specs.declared.category.Category.TheVariants.{Cc, Cs, Co};
+ghost use Rattle.ucd_facts.specs.declared.property.Flag.TheVariants.{NoncharacterCodePoint, PatternSyntax, PatternWhiteSpace};
 ghost use Rattle.stability_policies.specs.Policies.{in_one, is_mark, is_of_category, same_mapping, sort_of};
 
 use ucd_model::{Category, FactsRef, Flag, Kind};

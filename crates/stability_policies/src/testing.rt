@@ -2,9 +2,9 @@
 
 ghost use Rattle.std.specs.Prelude.{◌≡◌, ◌≢◌, ◌&&◌, not, IfOk};
 ghost use Rattle.ucd_model.specs.Records.{core_at, record_at};
-ghost use Rattle.ucd_model.specs.Sets.{has_core};
-ghost use Rattle.ucd_model.specs.Shown.{shown_facts};
-ghost use Rattle.ucd_model.specs.declared.property.Core.{Core as CoreValue};
+ghost use Rattle.ucd_facts.specs.Sets.{has_core};
+ghost use Rattle.ucd_facts.specs.Shown.{shown_facts};
+ghost use Rattle.ucd_facts.specs.declared.property.Core.{Core as CoreValue};
 ghost use Rattle.stability_policies.specs.BrokenStretches.{has_policy};
 ghost use Rattle.stability_policies.specs.Policies.{breaks};
 ghost use Rattle.stability_policies.specs.declared.policy.Policy.{Policy as PolicyValue};

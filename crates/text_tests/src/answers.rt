@@ -6,7 +6,7 @@ ghost use Rattle.property_aliases.specs.Found.{AreAliasesOf};
 ghost use Rattle.property_aliases.specs.Numbers.{AreNumbersOf};
 ghost use Rattle.property_aliases.specs.Sources.{sources_of};
 ghost use Rattle.release_rows.specs.Releases.{items_now, rows_now};
-ghost use Rattle.ucd_model.specs.declared.category.Category.TheVariants.{Cn};
+ghost use Rattle.ucd_facts.specs.declared.category.Category.TheVariants.{Cn};
 ghost use Rattle.ucd_points.specs.declared.files.SourceFile.TheVariants.{UnicodeData};
 ghost use Rattle.unicodeset_eval.specs.Found.{AreRowSets};
 

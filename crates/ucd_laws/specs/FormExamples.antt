@@ -7,7 +7,7 @@ use Rattle.std.proofs.Common.{◌≡◌, ℕ, [], ◌∷◌, Option, Some, None,
 use Rattle.ucd_model.specs.CanonicalOrder.{placed, order}
 use Rattle.ucd_model.specs.Composition.{last_starter, compose}
 use Rattle.ucd_model.specs.Forms.{appended}
-use Rattle.ucd_model.specs.declared.form.Bad.TheVariants.{V2, V3}
+use Rattle.ucd_facts.specs.declared.form.Bad.TheVariants.{V2, V3}
 
 abbrev class : ℕ → ℕ
 class c = if c == 0x301 then 230 else if c == 0x307 then 230 else if c == 0x323 then 220 else if c == 0x327 then 202 else if c == 0x345 then 240 else 0

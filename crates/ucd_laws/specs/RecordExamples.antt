@@ -9,28 +9,28 @@
 --                       <noBreak>, and Lu with a canonical mapping; all others have no row
 use Rattle.std.proofs.Common.{◌≡◌, ℕ, true, false, List, [], ◌∷◌, ◌++◌, None, ◌||◌, ◌==◌, get_or, filter, map, refl, codes}
 use Rattle.std.specs.Fmt.{digits}
-use Rattle.ucd_model.specs.Expansion.{full}
-use Rattle.ucd_model.specs.Facts.{Facts, unassigned}
-use Rattle.ucd_model.specs.Names.{tag_text, tag_name}
-use Rattle.ucd_model.specs.Predicates.{holds, core_properties}
+use Rattle.ucd_facts.specs.Expansion.{full}
+use Rattle.ucd_facts.specs.Facts.{Facts, unassigned}
+use Rattle.ucd_facts.specs.Names.{tag_text, tag_name}
+use Rattle.ucd_facts.specs.Predicates.{holds, core_properties}
 use Rattle.ucd_model.specs.Records.{Record, record_at}
 use Rattle.ucd_model.specs.DerivedText.{section_text}
 use Rattle.ucd_points.specs.HexText.{span_text, hex_text}
 use Rattle.ucd_model.specs.DerivedFiles.{derived_text, listed, category_label, class_label, kind_label}
-use Rattle.ucd_model.specs.RowTexts.{mapping_text}
-use Rattle.ucd_model.specs.Sets.{flag_place}
-use Rattle.ucd_model.specs.declared.category.Category.{Category}
-use Rattle.ucd_model.specs.declared.category.Category.TheVariants.{Lu, Ll, Lt, Lm, Lo, Mn, Mc, Me, Nd, Nl, No, Pc, Po, Sm, Sk, Zs, Zl, Cc, Cf, Cs, Co, Cn}
-use Rattle.ucd_model.specs.declared.decomposition.Kind.TheVariants.{Plain, Canonical, Compat}
-use Rattle.ucd_model.specs.declared.decomposition.Tag.{Tag}
-use Rattle.ucd_model.specs.declared.decomposition.Tag.TheVariants.{Font, NoBreak, Initial, Medial, Final, Isolated, Circle, Super, Sub, Vertical, Wide, Narrow, Small, Square, Fraction, Compat as CompatTag}
-use Rattle.ucd_model.specs.declared.files.DerivedFile.TheVariants.{CoreProperties, NormalizationProps, GeneralCategory, CombiningClass, DecompositionType}
-use Rattle.ucd_model.specs.declared.form.Quick.TheVariants.{Yes, No, Maybe}
-use Rattle.ucd_model.specs.declared.image.Image.TheVariants.{Same, To}
-use Rattle.ucd_model.specs.declared.property.Core.{Core}
-use Rattle.ucd_model.specs.declared.property.Core.TheVariants.{Math, Alphabetic, Lowercase, Uppercase, Cased, CaseIgnorable, IdStart, IdContinue, DefaultIgnorableCodePoint, GraphemeExtend, GraphemeBase, GraphemeLink}
-use Rattle.ucd_model.specs.declared.property.Flag.{Flag}
-use Rattle.ucd_model.specs.declared.property.Flag.TheVariants.{WhiteSpace, OtherMath, OtherLowercase, OtherAlphabetic, OtherIdStart, OtherIdContinue, PatternSyntax, PatternWhiteSpace, OtherDefaultIgnorableCodePoint, VariationSelector, PrependedConcatenationMark, OtherGraphemeExtend}
+use Rattle.ucd_facts.specs.RowTexts.{mapping_text}
+use Rattle.ucd_facts.specs.Sets.{flag_place}
+use Rattle.ucd_facts.specs.declared.category.Category.{Category}
+use Rattle.ucd_facts.specs.declared.category.Category.TheVariants.{Lu, Ll, Lt, Lm, Lo, Mn, Mc, Me, Nd, Nl, No, Pc, Po, Sm, Sk, Zs, Zl, Cc, Cf, Cs, Co, Cn}
+use Rattle.ucd_facts.specs.declared.decomposition.Kind.TheVariants.{Plain, Canonical, Compat}
+use Rattle.ucd_facts.specs.declared.decomposition.Tag.{Tag}
+use Rattle.ucd_facts.specs.declared.decomposition.Tag.TheVariants.{Font, NoBreak, Initial, Medial, Final, Isolated, Circle, Super, Sub, Vertical, Wide, Narrow, Small, Square, Fraction, Compat as CompatTag}
+use Rattle.ucd_facts.specs.declared.files.DerivedFile.TheVariants.{CoreProperties, NormalizationProps, GeneralCategory, CombiningClass, DecompositionType}
+use Rattle.ucd_facts.specs.declared.form.Quick.TheVariants.{Yes, No, Maybe}
+use Rattle.ucd_facts.specs.declared.image.Image.TheVariants.{Same, To}
+use Rattle.ucd_facts.specs.declared.property.Core.{Core}
+use Rattle.ucd_facts.specs.declared.property.Core.TheVariants.{Math, Alphabetic, Lowercase, Uppercase, Cased, CaseIgnorable, IdStart, IdContinue, DefaultIgnorableCodePoint, GraphemeExtend, GraphemeBase, GraphemeLink}
+use Rattle.ucd_facts.specs.declared.property.Flag.{Flag}
+use Rattle.ucd_facts.specs.declared.property.Flag.TheVariants.{WhiteSpace, OtherMath, OtherLowercase, OtherAlphabetic, OtherIdStart, OtherIdContinue, PatternSyntax, PatternWhiteSpace, OtherDefaultIgnorableCodePoint, VariationSelector, PrependedConcatenationMark, OtherGraphemeExtend}
 
 abbrev point : Category → ℕ → Facts
 point k class = record (unassigned 0) { category = k; class = class }

@@ -4,8 +4,8 @@
 --                    mapping: its mapping is not empty
 use Rattle.std.specs.Prelude.{◌≡◌, ◌≢◌, ℕ, false, []}
 use Rattle.std.specs.List.{All}
-use Rattle.ucd_model.specs.Facts.{Sources, facts, is_plain}
-use Rattle.ucd_model.specs.RowValues.{RowOk}
+use Rattle.ucd_facts.specs.Facts.{Sources, facts, is_plain}
+use Rattle.ucd_facts.specs.RowValues.{RowOk}
 use Rattle.ucd_points.specs.declared.files.SourceFile.TheVariants.{UnicodeData}
 
 abbrev pub KindsAreMapped : Type 0

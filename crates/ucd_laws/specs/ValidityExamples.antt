@@ -5,13 +5,13 @@
 --                     and 7 to 64 times 6 and to 6 once more; 6 has no mapping; 8 folds to 6 and 2, of which 2 has no row, and its
 --                     other case mappings are 8 itself
 use Rattle.std.proofs.Common.{◌≡◌, ℕ, true, false, List, [], ◌∷◌, get_or, refl, replicate}
-use Rattle.ucd_model.specs.Expansion.{full}
-use Rattle.ucd_model.specs.Facts.{Facts, unassigned}
+use Rattle.ucd_facts.specs.Expansion.{full}
+use Rattle.ucd_facts.specs.Facts.{Facts, unassigned}
 use Rattle.ucd_model.specs.Validity.{lacks_row, lacks_a_row, is_endless, is_too_long}
-use Rattle.ucd_model.specs.declared.decomposition.Kind.{Kind}
-use Rattle.ucd_model.specs.declared.decomposition.Kind.TheVariants.{Plain, Canonical, Compat}
-use Rattle.ucd_model.specs.declared.decomposition.Tag.TheVariants.{Compat as CompatTag}
-use Rattle.ucd_model.specs.declared.image.Image.TheVariants.{To}
+use Rattle.ucd_facts.specs.declared.decomposition.Kind.{Kind}
+use Rattle.ucd_facts.specs.declared.decomposition.Kind.TheVariants.{Plain, Canonical, Compat}
+use Rattle.ucd_facts.specs.declared.decomposition.Tag.TheVariants.{Compat as CompatTag}
+use Rattle.ucd_facts.specs.declared.image.Image.TheVariants.{To}
 
 abbrev mapped : Kind → List ℕ → ℕ → Facts
 mapped kind points c = record (unassigned c) { assigned = true; kind = kind; mapping = points }

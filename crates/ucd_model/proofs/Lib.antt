@@ -1,2 +1,1 @@
-pub mod FactLemmas
 pub mod RecordLemmas

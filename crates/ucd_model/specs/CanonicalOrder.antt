@@ -10,7 +10,7 @@
 -- order class xs         D109: the list in canonical order
 use Rattle.std.specs.Prelude.{ℕ, Bool, List, [], ◌∷◌, ◌++◌, nat_lt, ◌==◌, if◌then◌else◌}
 use Rattle.std.specs.List.{list_all}
-use Rattle.ucd_model.specs.Facts.{Facts}
+use Rattle.ucd_facts.specs.Facts.{Facts}
 
 abbrev pub class_of : (ℕ → Facts) → ℕ → ℕ
 class_of F c = (F c).class

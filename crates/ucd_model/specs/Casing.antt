@@ -16,12 +16,12 @@
 use Rattle.std.specs.Prelude.{ℕ, Bool, false, ◌||◌, not, List, [], ◌∷◌, ◌++◌, Result, Ok, Err, map, if◌then◌else◌}
 use Rattle.std.specs.List.{flat_map}
 use Rattle.std.specs.Str.{bytes_eq}
-use Rattle.ucd_model.specs.Facts.{Facts, image_points}
+use Rattle.ucd_facts.specs.Facts.{Facts, image_points}
 use Rattle.ucd_model.specs.Forms.{nfd}
-use Rattle.ucd_model.specs.Predicates.{cased}
-use Rattle.ucd_model.specs.declared.folding.Folding.{Folding}
-use Rattle.ucd_model.specs.declared.folding.Folding.TheVariants.{Full, Simple}
-use Rattle.ucd_model.specs.declared.form.Bad.{Bad as Rule}
+use Rattle.ucd_facts.specs.Predicates.{cased}
+use Rattle.ucd_facts.specs.declared.folding.Folding.{Folding}
+use Rattle.ucd_facts.specs.declared.folding.Folding.TheVariants.{Full, Simple}
+use Rattle.ucd_facts.specs.declared.form.Bad.{Bad as Rule}
 
 abbrev pub lower_of : (ℕ → Facts) → ℕ → List ℕ
 lower_of F c = image_points c (F c).lower

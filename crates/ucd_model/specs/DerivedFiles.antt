@@ -22,29 +22,28 @@
 -- normalization_listings     the sections of DerivedNormalizationProps.txt: exclusion, the checks of NFD, NFC, NFKD and NFKC,
 --                            NFKC_CF, NFKC_SCF, changes
 -- file_sections file         the sections of a file, in order
--- derived_files              the files that are written, in order
 -- section_of n R s           the text of a section, over the records R of the points below n
 -- derived_text n file R      the text of a file
 use Rattle.std.specs.Prelude.{ℕ, Bool, List, [], ◌∷◌, ◌++◌, Some, None, map, ◌==◌, if◌then◌else◌, codes}
 use Rattle.std.specs.List.{flat_map}
 use Rattle.std.specs.Fmt.{decimal}
-use Rattle.ucd_model.specs.Names.{core_name, category_code, tag_name}
-use Rattle.ucd_model.specs.Predicates.{is_one_of, core_properties}
+use Rattle.ucd_facts.specs.Names.{core_name, category_code, tag_name}
+use Rattle.ucd_facts.specs.Predicates.{is_one_of, core_properties}
 use Rattle.ucd_model.specs.Records.{Record}
 use Rattle.ucd_model.specs.Labels.{Label}
 use Rattle.ucd_model.specs.DerivedText.{section_text}
-use Rattle.ucd_model.specs.RowTexts.{mapping_text}
-use Rattle.ucd_model.specs.declared.form.Quick.{Quick}
-use Rattle.ucd_model.specs.declared.form.Quick.TheVariants.{Yes, No, Maybe}
-use Rattle.ucd_model.specs.declared.image.Image.{Image}
-use Rattle.ucd_model.specs.declared.image.Image.TheVariants.{Same, To}
-use Rattle.ucd_model.specs.declared.category.Category.{Category}
-use Rattle.ucd_model.specs.declared.category.Category.TheVariants.{Cn}
-use Rattle.ucd_model.specs.declared.decomposition.Kind.{Kind}
-use Rattle.ucd_model.specs.declared.decomposition.Kind.TheVariants.{Plain, Canonical, Compat}
-use Rattle.ucd_model.specs.declared.property.Core.{Core}
-use Rattle.ucd_model.specs.declared.files.DerivedFile.{DerivedFile}
-use Rattle.ucd_model.specs.declared.files.DerivedFile.TheVariants.{CoreProperties, NormalizationProps, GeneralCategory, CombiningClass, DecompositionType}
+use Rattle.ucd_facts.specs.RowTexts.{mapping_text}
+use Rattle.ucd_facts.specs.declared.form.Quick.{Quick}
+use Rattle.ucd_facts.specs.declared.form.Quick.TheVariants.{Yes, No, Maybe}
+use Rattle.ucd_facts.specs.declared.image.Image.{Image}
+use Rattle.ucd_facts.specs.declared.image.Image.TheVariants.{Same, To}
+use Rattle.ucd_facts.specs.declared.category.Category.{Category}
+use Rattle.ucd_facts.specs.declared.category.Category.TheVariants.{Cn}
+use Rattle.ucd_facts.specs.declared.decomposition.Kind.{Kind}
+use Rattle.ucd_facts.specs.declared.decomposition.Kind.TheVariants.{Plain, Canonical, Compat}
+use Rattle.ucd_facts.specs.declared.property.Core.{Core}
+use Rattle.ucd_facts.specs.declared.files.DerivedFile.{DerivedFile}
+use Rattle.ucd_facts.specs.declared.files.DerivedFile.TheVariants.{CoreProperties, NormalizationProps, GeneralCategory, CombiningClass, DecompositionType}
 
 pub record Section : Type 0 where
   pub name : List ℕ
@@ -120,9 +119,6 @@ file_sections NormalizationProps = normalization_listings
 file_sections GeneralCategory = category_listing ∷ []
 file_sections CombiningClass = class_listing ∷ []
 file_sections DecompositionType = type_listing ∷ []
-
-abbrev pub derived_files : List DerivedFile
-derived_files = CoreProperties ∷ NormalizationProps ∷ GeneralCategory ∷ CombiningClass ∷ DecompositionType ∷ []
 
 abbrev pub section_of : ℕ → (ℕ → Record) → Section → List ℕ
 section_of n R s = section_text s.name n (λ c. s.label (R c))

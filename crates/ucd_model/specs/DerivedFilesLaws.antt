@@ -10,7 +10,7 @@ use Rattle.ucd_model.specs.Labels.{Label, same_label, begins, span_end, span_fro
 use Rattle.ucd_model.specs.DerivedText.{section_text}
 use Rattle.ucd_model.specs.DerivedFiles.{Section, file_sections, derived_text}
 use Rattle.ucd_model.specs.Records.{Record}
-use Rattle.ucd_model.specs.declared.files.DerivedFile.{DerivedFile}
+use Rattle.ucd_facts.specs.declared.files.DerivedFile.{DerivedFile}
 
 prefix_len_same : (p q : ℕ → Bool) (a m : ℕ) → ((d : ℕ) → a ≤ d → d < a + m → p d ≡ q d) → prefix_len p (range_with_len a m) ≡ prefix_len q (range_with_len a m)
 prefix_len_same p q a zero h = refl

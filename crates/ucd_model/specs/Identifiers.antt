@@ -8,9 +8,9 @@
 use Rattle.std.specs.Prelude.{ℕ, Bool, false, ◌&&◌, List, [], ◌∷◌}
 use Rattle.std.specs.List.{list_all}
 use Rattle.ucd_model.specs.Casing.{where_form}
-use Rattle.ucd_model.specs.Facts.{Facts}
+use Rattle.ucd_facts.specs.Facts.{Facts}
 use Rattle.ucd_model.specs.Forms.{nfkc}
-use Rattle.ucd_model.specs.Predicates.{id_start, id_continue}
+use Rattle.ucd_facts.specs.Predicates.{id_start, id_continue}
 
 abbrev pub continues : (ℕ → Facts) → List ℕ → Bool
 continues F s = list_all (λ x. id_continue (F x)) s

@@ -14,14 +14,14 @@
 -- quick_or_yes r             the value, and Yes where there is none
 use Rattle.std.specs.Prelude.{ℕ, Bool, true, false, ◌&&◌, ◌||◌, not, List, [], ◌∷◌, Result, Ok, Err, ◌==◌, if◌then◌else◌}
 use Rattle.std.specs.Str.{bytes_eq}
-use Rattle.ucd_model.specs.Facts.{Facts, is_plain}
-use Rattle.ucd_model.specs.Composites.{is_canonical, second_of}
+use Rattle.ucd_facts.specs.Facts.{Facts, is_plain}
+use Rattle.ucd_facts.specs.Composites.{is_canonical, second_of}
 use Rattle.ucd_model.specs.Forms.{nfd, nfc, nfkd, nfkc}
-use Rattle.ucd_model.specs.declared.form.Bad.{Bad as Rule}
-use Rattle.ucd_model.specs.declared.form.Form.{Form}
-use Rattle.ucd_model.specs.declared.form.Form.TheVariants.{Nfd, Nfc, Nfkd, Nfkc}
-use Rattle.ucd_model.specs.declared.form.Quick.{Quick}
-use Rattle.ucd_model.specs.declared.form.Quick.TheVariants.{Yes, No, Maybe}
+use Rattle.ucd_facts.specs.declared.form.Bad.{Bad as Rule}
+use Rattle.ucd_facts.specs.declared.form.Form.{Form}
+use Rattle.ucd_facts.specs.declared.form.Form.TheVariants.{Nfd, Nfc, Nfkd, Nfkc}
+use Rattle.ucd_facts.specs.declared.form.Quick.{Quick}
+use Rattle.ucd_facts.specs.declared.form.Quick.TheVariants.{Yes, No, Maybe}
 
 abbrev pub excludes_mapping : (ℕ → Facts) → ℕ → List ℕ → Bool
 excludes_mapping F c (s ∷ []) = true

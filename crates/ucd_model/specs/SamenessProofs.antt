@@ -2,34 +2,30 @@
 --
 -- members_are_told, records_are_told, facts_are_told, sets_are_told, kept_records_are_told   the laws of the same names
 -- same_image-decides, same_cores-decides, same_flags-decides, same_kind-decides   the parts of the tests decide equality
--- core_sets_are_told, flag_sets_are_told   the parts of sets_are_told
 use Rattle.std.proofs.Common.{◌≡◌, ℕ, zero, suc, ◌<◌, ◌^◌, Bool, true, ◌&&◌, ◌==◌, List, [], ◌∷◌, length, get_or, slice_index_or, refl, sym, ap, subst, arith, inl, inr}
 use mathlib.Core.Path.{fun_ext}
 use Rattle.std.specs.Bool.{Decides, beq}
 use Rattle.std.specs.Cmp.{booleans_Decides}
-use Rattle.std.specs.Int.{bit_at}
 use Rattle.std.specs.List.{Contains, list_all}
 use Rattle.std.specs.Str.{bytes_eq}
 use Rattle.std.proofs.lemmas.Bool.{true≢false, eqb-true, eq-eqb, or_cases, or_left, or_right, and_from}
 use Rattle.std.proofs.lemmas.Bool.Decides.{Decides-and}
-use Rattle.std.proofs.lemmas.Nat.Bits.{bit_at-lt, same_from_bits_below}
 use Rattle.std.proofs.lemmas.Slice.Eq.{bytes_eq-Decides}
-use Rattle.ucd_model.specs.Enumerations.{categories, kinds, place_of_kind, flags, quick_values, place_of_quick}
-use Rattle.ucd_model.specs.EnumerationProofs.{enumerates_categories, enumerates_kinds, enumerates_flags, enumerates_core_properties, enumerates_quick_values, true_of_each, place-at, place-decides}
-use Rattle.ucd_model.specs.Facts.{Facts}
-use Rattle.ucd_model.specs.Predicates.{category_place, core_properties}
+use Rattle.ucd_facts.specs.Enumerations.{categories, kinds, place_of_kind, flags, quick_values, place_of_quick}
+use Rattle.ucd_facts.specs.EnumerationProofs.{enumerates_categories, enumerates_kinds, enumerates_flags, enumerates_core_properties, enumerates_quick_values, true_of_each, place-decides}
+use Rattle.ucd_facts.specs.Facts.{Facts}
+use Rattle.ucd_facts.specs.Predicates.{category_place, core_properties}
 use Rattle.ucd_model.specs.Records.{Record}
-use Rattle.ucd_model.specs.Sets.{has_bit, has_flag, has_core, flag_place, core_place}
+use Rattle.ucd_facts.specs.SetProofs.{core_sets_are_told, flag_sets_are_told}
+use Rattle.ucd_facts.specs.Sets.{flag_place, core_place}
 use Rattle.ucd_model.specs.Sameness.{is_in, same_image, same_cores, same_flags, same_record, same_row, same_simple, same_images, same_marks, same_facts, MembersAreTold, RecordsAreTold, FactsAreTold, SetsAreTold, KeptRecordsAreTold}
-use Rattle.ucd_model.specs.declared.category.Category.{Category}
-use Rattle.ucd_model.specs.declared.decomposition.Kind.{Kind}
-use Rattle.ucd_model.specs.declared.form.Quick.{Quick}
-use Rattle.ucd_model.specs.declared.image.Image.{Image}
-use Rattle.ucd_model.specs.declared.image.Image.TheVariants.{Same, To}
-use Rattle.ucd_model.specs.declared.property.Flag.{Flag}
-use Rattle.ucd_model.specs.declared.property.Flag.TheVariants.{WhiteSpace}
-use Rattle.ucd_model.specs.declared.property.Core.{Core}
-use Rattle.ucd_model.specs.declared.property.Core.TheVariants.{Math}
+use Rattle.ucd_facts.specs.declared.category.Category.{Category}
+use Rattle.ucd_facts.specs.declared.decomposition.Kind.{Kind}
+use Rattle.ucd_facts.specs.declared.form.Quick.{Quick}
+use Rattle.ucd_facts.specs.declared.image.Image.{Image}
+use Rattle.ucd_facts.specs.declared.image.Image.TheVariants.{Same, To}
+use Rattle.ucd_facts.specs.declared.property.Flag.{Flag}
+use Rattle.ucd_facts.specs.declared.property.Core.{Core}
 
 -- ---- members
 
@@ -154,27 +150,6 @@ facts_are_told F G =
     decides_as (same_facts F G) (both_decide (row_decides F G) (both_decide (simple_decides F G) (both_decide (images_decides F G) (marks_decides F G)))) (facts_from F G) (facts_parts F G)
 
 -- ---- kept sets
-
-bit_or_none : (a b : ℕ) → a < 2 → b < 2 → (a == 1) ≡ (b == 1) → a ≡ b
-bit_or_none zero zero p q e = refl
-bit_or_none zero (suc zero) p q e = cc
-bit_or_none (suc zero) zero p q e = cc
-bit_or_none (suc zero) (suc zero) p q e = refl
-bit_or_none (suc (suc a)) b p q e = absurd (omega (arith, p))
-bit_or_none a (suc (suc b)) p q e = absurd (omega (arith, q))
-
-same_bit : (m n i : ℕ) → has_bit m i ≡ has_bit n i → bit_at m i ≡ bit_at n i
-same_bit m n i e = bit_or_none (bit_at m i) (bit_at n i) (bit_at-lt m i) (bit_at-lt n i) e
-
-pub core_sets_are_told : (m n : ℕ) → m < 2 ^ 19 → n < 2 ^ 19 → ((core : Core) → has_core m core ≡ has_core n core) → m ≡ n
-core_sets_are_told m n small below same =
-    same_from_bits_below 19 m n small below (λ i lt.
-    same_bit m n i (subst (λ k. has_bit m k ≡ has_bit n k) (place-at core_properties core_place enumerates_core_properties i Math lt) (same (get_or core_properties i Math))))
-
-pub flag_sets_are_told : (m n : ℕ) → m < 2 ^ 14 → n < 2 ^ 14 → ((flag : Flag) → has_flag m flag ≡ has_flag n flag) → m ≡ n
-flag_sets_are_told m n small below same =
-    same_from_bits_below 14 m n small below (λ i lt.
-    same_bit m n i (subst (λ k. has_bit m k ≡ has_bit n k) (place-at flags flag_place enumerates_flags i WhiteSpace lt) (same (get_or flags i WhiteSpace))))
 
 pub sets_are_told : SetsAreTold
 sets_are_told = record { core = core_sets_are_told; flag = flag_sets_are_told }

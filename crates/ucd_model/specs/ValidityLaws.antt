@@ -17,12 +17,12 @@
 use Rattle.std.specs.Prelude.{◌≡◌, ℕ, ◌<◌, Bool, true, List, [], ◌∷◌, length, Some, None, Ok, Err, ◌↔◌, ⊤}
 use Rattle.std.specs.List.{Contains}
 use Rattle.ucd_points.specs.Limits.{point_count}
-use Rattle.ucd_model.specs.Facts.{Facts}
-use Rattle.ucd_model.specs.Expansion.{counted, full, expansion}
-use Rattle.ucd_model.specs.CompositeLaws.{Composes}
+use Rattle.ucd_facts.specs.Facts.{Facts}
+use Rattle.ucd_facts.specs.Expansion.{counted, full, expansion}
+use Rattle.ucd_facts.specs.CompositeLaws.{Composes}
 use Rattle.ucd_model.specs.Records.{Record, derived}
 use Rattle.ucd_model.specs.Validity.{is_hidden, first_broken}
-use Rattle.ucd_model.specs.declared.form.Broken.{Broken}
+use Rattle.ucd_facts.specs.declared.form.Broken.{Broken}
 
 abbrev pub HasRecord : (ℕ → Facts) → ℕ → Type 0
 HasRecord F c = (R : Record) × (derived F c ≡ Ok R)

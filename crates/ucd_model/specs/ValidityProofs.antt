@@ -15,17 +15,17 @@ use Rattle.std.specs.Option.{option_map}
 use Rattle.std.proofs.lemmas.Bool.{cases_lt, and_parts, and_from, or_parts, true≢false}
 use Rattle.std.proofs.lemmas.Bool.Decides.{nat_tests}
 use Rattle.ucd_points.specs.Limits.{point_count}
-use Rattle.ucd_model.specs.Facts.{Facts}
-use Rattle.ucd_model.specs.Expansion.{counted, both, joined, alone_or_joined, expand, full, judged, expansion}
-use Rattle.ucd_model.specs.Composites.{primary, pair_of}
-use Rattle.ucd_model.specs.CompositeLaws.{Composes, IsPair}
-use Rattle.ucd_model.specs.CompositeProofs.{Least, find_least, find_first, find_none_below, pair_is_least}
+use Rattle.ucd_facts.specs.Facts.{Facts}
+use Rattle.ucd_facts.specs.Expansion.{counted, both, joined, alone_or_joined, expand, full, judged, expansion}
+use Rattle.ucd_facts.specs.Composites.{primary, pair_of}
+use Rattle.ucd_facts.specs.CompositeLaws.{Composes, IsPair}
+use Rattle.ucd_facts.specs.CompositeProofs.{Least, find_least, find_first, find_none_below, pair_is_least}
 use Rattle.ucd_model.specs.Records.{Record, record_at, record_or_rule, derived}
 use Rattle.ucd_model.specs.Validity.{lacks_a_row, is_none, is_endless, is_long, is_too_long, composite_of, is_other, is_hidden, is_unfolded, broken, broken_at, first_broken}
 use Rattle.ucd_model.specs.ValidityLaws.{HasRecord, IsValid, IsLeastBroken, IsChain, HasLesser, ValidIsUnbroken, BrokenIsLeast, ValidExpands, EndlessHasChain, HiddenHasLesser, ValidPairIsSingle}
-use Rattle.ucd_model.specs.declared.form.Bad.{Bad as Rule}
-use Rattle.ucd_model.specs.declared.form.Bad.TheVariants.{V1, V2, V3, V4, V5}
-use Rattle.ucd_model.specs.declared.form.Broken.{Broken}
+use Rattle.ucd_facts.specs.declared.form.Bad.{Bad as Rule}
+use Rattle.ucd_facts.specs.declared.form.Bad.TheVariants.{V1, V2, V3, V4, V5}
+use Rattle.ucd_facts.specs.declared.form.Broken.{Broken}
 
 -- ---- records and rules
 

@@ -1,52 +1,24 @@
 //! The types, values and definitions that every other crate of the bench speaks in.
 #![tactic(auto)]
 
-mod bits;
-mod category;
-mod composite;
-pub mod composite_laws;
-mod decomposition;
-mod enumeration;
-pub mod enumeration_laws;
-mod fact_list;
-mod facts;
-pub mod facts_laws;
-mod files;
-mod folding;
-mod form;
-mod image;
+pub mod label_laws;
 mod pieces;
-mod property;
-mod query;
 mod records;
-mod row;
 pub mod sameness_laws;
-mod sets;
-mod shown;
 mod steps;
 pub mod validity_laws;
-mod view;
 
-pub use category::{CATEGORIES, Category};
-pub use decomposition::{Kind, TAGS, Tag};
-pub use fact_list::FactList;
-pub use facts::Facts;
-pub use files::{DERIVED_FILES, DerivedFile};
-pub use folding::{FOLDINGS, Folding};
-pub use form::{Bad, Broken, Form, FormStop, Quick};
-pub use image::Image;
 pub use pieces::equal_pieces;
-pub use property::{CORE_PROPERTIES, Core, FLAGS, Flag};
-pub use query::{Queries, Query};
 pub use records::{Record, Records};
-pub use row::{
-    AliasRow, CasingRow, DataRow, ExclusionRow, FoldRow, FoldStatus, Kept, Row, ValueRow,
-};
-pub use sets::{CoreSet, Flags};
-pub use shown::same_facts;
 pub use steps::Steps;
+pub use ucd_facts::{
+    AliasRow, Bad, Broken, CATEGORIES, CORE_PROPERTIES, CasingRow, Category, Core, CoreSet,
+    DERIVED_FILES, DataRow, DerivedFile, ExclusionRow, FLAGS, FOLDINGS, FactList, FactView, Facts,
+    FactsRef, Flag, Flags, FoldRow, FoldStatus, Folding, Form, FormStop, Image, Kept, Kind,
+    Queries, Query, Quick, Row, TAGS, Tag, ValueRow, composite_laws, enumeration_laws, facts_laws,
+    same_facts,
+};
 pub use ucd_points::{
     Copied, FILE_LIMIT, ListOf, Memory, Point, Points, SOURCE_FILES, SourceFile, Span, Spans, Text,
     Texts, file_limit, point_count, same_points,
 };
-pub use view::{FactView, FactsRef};

@@ -4,11 +4,7 @@ ghost use Rattle.std.specs.Prelude.{◌≡◌, ℕ, IsTrue};
 ghost use Rattle.std.specs.Bool.{Decides};
 ghost use Rattle.ucd_model.specs.Records.{Record, kept_record};
 
-use crate::category::Category;
-use crate::decomposition::Kind;
-use crate::form::Quick;
-use crate::image::Image;
-use crate::sets::CoreSet;
+use ucd_facts::{Category, CoreSet, Image, Kind, Quick};
 use ucd_points::Point;
 
 /// The derived properties of a code point. UAX #44, section 5.3.

@@ -6,8 +6,8 @@ use Rattle.std.proofs.Common.{◌≡◌, ℕ, Bool, true, false, List, [], ◌�
 use Rattle.std.proofs.lemmas.List.{map-append}
 use Rattle.std.specs.List.{flat_map}
 use Rattle.std.specs.Str.{bytes_eq}
-use Rattle.ucd_model.specs.DerivedFiles.{derived_files}
-use Rattle.ucd_model.specs.Names.{derived_path}
+use Rattle.ucd_facts.specs.Enumerations.{derived_files}
+use Rattle.ucd_facts.specs.Names.{derived_path}
 use Rattle.ucd_points.specs.SourceFiles.{source_files, source_path}
 use Rattle.run_endings.specs.Endings.{NewFile}
 use Rattle.run_endings.specs.Paths.{path_in}

@@ -22,7 +22,7 @@
 use Rattle.std.specs.Prelude.{ℕ, List, [], ◌∷◌, ◌++◌, map, Option, Some, None, option_to_list, if◌then◌else◌, codes}
 use Rattle.std.specs.List.{flat_map}
 use Rattle.std.specs.Str.{bytes_eq}
-use Rattle.ucd_model.specs.DerivedFiles.{derived_files}
+use Rattle.ucd_facts.specs.Enumerations.{derived_files}
 use Rattle.run_inputs.specs.Paths.{derived_in, sources_in}
 use Rattle.ucdshop_core.specs.Making.{number_of}
 use Rattle.ucdshop_core.specs.Paths.{log_in, sets_in, script_in, policy_in}

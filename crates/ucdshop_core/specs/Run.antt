@@ -49,7 +49,7 @@
 -- ucdshop                          this program
 use Rattle.std.specs.Prelude.{ℕ, ◌+◌, ◌||◌, List, [], ◌∷◌, ◌++◌, length, map, Option, Some, None, Result, Ok, Err, nat_lt, option_to_list}
 use Rattle.std.specs.List.{flat_map}
-use Rattle.ucd_model.specs.DerivedFiles.{derived_files}
+use Rattle.ucd_facts.specs.Enumerations.{derived_files}
 use Rattle.ucd_points.specs.declared.files.SourceFile.{SourceFile}
 use Rattle.ucd_points.specs.SourceFiles.{source_files}
 use Rattle.release_rows.specs.FileItems.{FileItem}

@@ -7,7 +7,7 @@ use Rattle.std.specs.Fmt.{digits}
 use Rattle.std.specs.List.{slice_split}
 use Rattle.ucd_points.specs.HexText.{hex_text}
 use Rattle.ucd_points.specs.declared.files.SourceFile.TheVariants.{UnicodeData}
-use Rattle.ucd_model.specs.declared.form.Bad.TheVariants.{V1}
+use Rattle.ucd_facts.specs.declared.form.Bad.TheVariants.{V1}
 use Rattle.release_rows.specs.declared.key_rule.KeyRule.TheVariants.{K1}
 use Rattle.edit_session.specs.declared.apply_stop.Refused.TheVariants.{Key, Valid}
 use Rattle.unicodeset_eval.specs.declared.stop.NameRule.TheVariants.{S8}

@@ -10,8 +10,8 @@ use Rattle.std.specs.Fmt.{decimal}
 use Rattle.std.specs.List.{flat_map}
 use Rattle.ucd_points.specs.HexText.{hex_text}
 use Rattle.ucd_model.specs.DerivedText.{line_end}
-use Rattle.ucd_model.specs.declared.form.Form.{Form}
-use Rattle.ucd_model.specs.declared.form.Form.TheVariants.{Nfd, Nfc, Nfkd, Nfkc}
+use Rattle.ucd_facts.specs.declared.form.Form.{Form}
+use Rattle.ucd_facts.specs.declared.form.Form.TheVariants.{Nfd, Nfc, Nfkd, Nfkc}
 use Rattle.edit_session.specs.Benches.{bench_facts}
 use Rattle.norm_conformance.specs.Misses.{misses}
 use Rattle.norm_conformance.specs.declared.miss.Miss.{Miss}

@@ -55,7 +55,7 @@ use Rattle.release_rows.specs.FileItems.{FileItem}
 use Rattle.release_rows.specs.Releases.{ReleaseItems}
 use Rattle.ucd_points.specs.Limits.{point_count}
 use Rattle.ucd_points.specs.SourceFiles.{source_files}
-use Rattle.ucd_model.specs.DerivedFiles.{derived_files}
+use Rattle.ucd_facts.specs.Enumerations.{derived_files}
 use Rattle.ucd_model.specs.Labels.{labelled}
 use Rattle.age_chain.specs.Ages.{age, age_label, age_text}
 use Rattle.bench_editors.specs.Desks.{DeskState, after_events, replies, started}

@@ -7,19 +7,19 @@ use Rattle.std.specs.Prelude.{slice_get}
 use Rattle.std.specs.List.{All}
 use Rattle.std.proofs.lemmas.Bool.{eqb-true}
 use Rattle.std.proofs.lemmas.List.Elements.{All-cons, All-head, All-nil, All-tail}
-use Rattle.ucd_model.specs.EnumerationProofs.{enumerates_categories}
-use Rattle.ucd_model.specs.Enumerations.{categories}
-use Rattle.ucd_model.specs.Facts.{Sources, facts, data_row, data_in, is_data_of, category_in}
-use Rattle.ucd_model.specs.FactsLemmas.{facts_inside}
+use Rattle.ucd_facts.specs.EnumerationProofs.{enumerates_categories}
+use Rattle.ucd_facts.specs.Enumerations.{categories}
+use Rattle.ucd_facts.specs.Facts.{Sources, facts, data_row, data_in, is_data_of, category_in}
+use Rattle.ucd_facts.specs.FactsLemmas.{facts_inside}
 use Rattle.ucd_points.specs.Limits.{point_count}
-use Rattle.ucd_model.specs.Predicates.{category_place}
-use Rattle.ucd_model.specs.RowValues.{RowOk, DataOk}
-use Rattle.ucd_model.specs.declared.category.Category.{Category}
-use Rattle.ucd_model.specs.declared.category.Category.TheVariants.{Cn}
+use Rattle.ucd_facts.specs.Predicates.{category_place}
+use Rattle.ucd_facts.specs.RowValues.{RowOk, DataOk}
+use Rattle.ucd_facts.specs.declared.category.Category.{Category}
+use Rattle.ucd_facts.specs.declared.category.Category.TheVariants.{Cn}
 use Rattle.ucd_points.specs.declared.files.SourceFile.TheVariants.{UnicodeData}
-use Rattle.ucd_model.specs.declared.row.DataRow.{DataRow}
-use Rattle.ucd_model.specs.declared.row.Row.{Row}
-use Rattle.ucd_model.specs.declared.row.Row.TheVariants.{Unit as DataLine, Value as ValueLine, Exclusion as ExclusionLine, Fold as FoldLine, Casing as CasingLine, Alias as AliasLine, Missing as MissingLine}
+use Rattle.ucd_facts.specs.declared.row.DataRow.{DataRow}
+use Rattle.ucd_facts.specs.declared.row.Row.{Row}
+use Rattle.ucd_facts.specs.declared.row.Row.TheVariants.{Unit as DataLine, Value as ValueLine, Exclusion as ExclusionLine, Fold as FoldLine, Casing as CasingLine, Alias as AliasLine, Missing as MissingLine}
 use Rattle.ucd_points.specs.MissingLines.{is_trivia}
 use Rattle.source_rows.specs.Faults.{row_or_fault}
 use Rattle.source_rows.specs.Laws.{RowsAreOk, RowsAreRead}

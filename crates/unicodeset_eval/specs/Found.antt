@@ -8,11 +8,11 @@
 -- AreSetsBut sets edited rows  the sets are those of rows of which only the edited files have others than these
 -- says R sets test c          what the records and these sets say of c
 use Rattle.std.specs.Prelude.{◌≡◌, ℕ, ◌<◌, Bool, true, false, not, ◌==◌, nat_lt, List, [], slice_index_or}
-use Rattle.ucd_model.specs.Facts.{Sources}
-use Rattle.ucd_model.specs.Predicates.{category_place}
+use Rattle.ucd_facts.specs.Facts.{Sources}
+use Rattle.ucd_facts.specs.Predicates.{category_place}
 use Rattle.ucd_model.specs.Records.{Record}
-use Rattle.ucd_model.specs.Values.{script_at, word_break_at}
-use Rattle.ucd_model.specs.declared.category.Category.TheVariants.{Cn}
+use Rattle.ucd_facts.specs.Values.{script_at, word_break_at}
+use Rattle.ucd_facts.specs.declared.category.Category.TheVariants.{Cn}
 use Rattle.ucd_points.specs.declared.files.SourceFile.TheVariants.{PropList, Scripts, WordBreakProperty}
 use Rattle.property_aliases.specs.Edits.{AreSameBut}
 use Rattle.property_aliases.specs.Sources.{break_names, script_names}

@@ -17,8 +17,8 @@ use Rattle.std.proofs.lemmas.Option.{get_or_from_slice_get, slice_get-get_or, sl
 use Rattle.std.specs.Option.{option_map_or}
 use Rattle.std.specs.Str.{bytes_eq}
 use Rattle.ucd_points.specs.Bounds.{Bounds}
-use Rattle.ucd_model.specs.Facts.{within}
-use Rattle.ucd_model.specs.declared.row.ValueRow.{ValueRow}
+use Rattle.ucd_facts.specs.Facts.{within}
+use Rattle.ucd_facts.specs.declared.row.ValueRow.{ValueRow}
 use Rattle.property_aliases.specs.Numbers.{AreNumbered, IsNumbered}
 use Rattle.property_aliases.specs.declared.file_values.NumberedRow.{NumberedRow}
 use Rattle.unicodeset_eval.specs.Edges.{Edges, has}

@@ -14,10 +14,10 @@ use Rattle.std.proofs.lemmas.List.Sums.{fold-append}
 use Rattle.layered_table.specs.Layers.{covered, word_at}
 use Rattle.layered_table.specs.declared.painting.Layer.{Layer}
 use Rattle.ucd_points.specs.Bounds.{Bounds, within}
-use Rattle.ucd_model.specs.Values.{gives_some, missing_value, taken_missing, value_at, value_in}
-use Rattle.ucd_model.specs.declared.row.ValueRow.{ValueRow}
-use Rattle.ucd_model.specs.declared.row.Row.{Row}
-use Rattle.ucd_model.specs.declared.row.Row.TheVariants.{Unit as DataLine, Value as ValueLine, Exclusion as ExclusionLine, Fold as FoldLine, Casing as CasingLine, Alias as AliasLine, Missing as MissingLine}
+use Rattle.ucd_facts.specs.Values.{gives_some, missing_value, taken_missing, value_at, value_in}
+use Rattle.ucd_facts.specs.declared.row.ValueRow.{ValueRow}
+use Rattle.ucd_facts.specs.declared.row.Row.{Row}
+use Rattle.ucd_facts.specs.declared.row.Row.TheVariants.{Unit as DataLine, Value as ValueLine, Exclusion as ExclusionLine, Fold as FoldLine, Casing as CasingLine, Alias as AliasLine, Missing as MissingLine}
 use Rattle.property_aliases.specs.Numbers.{AreNumbered, AreValues, IsNumbered, names_in}
 use Rattle.property_aliases.specs.Sources.{missing_rows, numbered, value_names, value_rows}
 use Rattle.property_aliases.specs.declared.file_values.FileValues.{FileValues}

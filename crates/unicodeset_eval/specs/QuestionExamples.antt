@@ -9,7 +9,7 @@ use Rattle.std.specs.Str.{bytes_eq}
 use Rattle.property_aliases.specs.declared.property.Property.TheVariants.{Category as CategoryOf}
 use Rattle.property_aliases.specs.declared.property.Test.TheVariants.{Category}
 use Rattle.ucd_points.specs.Bounds.{Bounds}
-use Rattle.ucd_model.specs.declared.category.Category.TheVariants.{Lu}
+use Rattle.ucd_facts.specs.declared.category.Category.TheVariants.{Lu}
 use Rattle.unicodeset_eval.specs.Questions.{NameFault, fault, Names, members, spans_of}
 use Rattle.unicodeset_eval.specs.declared.stop.NameRule.TheVariants.{S8, S9}
 use Rattle.unicodeset_parser.specs.Trees.{Tree, Step, chars, named, valued, complement, bracket, no_steps, step_then, steps_of}

@@ -19,10 +19,10 @@ use Rattle.ucd_points.specs.Bounds.{Bounds}
 use Rattle.ucd_model.specs.Cuts.{IsCut}
 use Rattle.ucd_points.specs.Limits.{point_count}
 use Rattle.ucd_model.specs.Records.{Record}
-use Rattle.ucd_model.specs.Sets.{has_core}
-use Rattle.ucd_model.specs.declared.form.Form.{Form}
-use Rattle.ucd_model.specs.declared.form.Form.TheVariants.{Nfd, Nfc, Nfkd, Nfkc}
-use Rattle.ucd_model.specs.declared.image.Image.TheVariants.{Same}
+use Rattle.ucd_facts.specs.Sets.{has_core}
+use Rattle.ucd_facts.specs.declared.form.Form.{Form}
+use Rattle.ucd_facts.specs.declared.form.Form.TheVariants.{Nfd, Nfc, Nfkd, Nfkc}
+use Rattle.ucd_facts.specs.declared.image.Image.TheVariants.{Same}
 use Rattle.property_aliases.specs.declared.property.Test.{Test}
 use Rattle.property_aliases.specs.declared.property.Test.TheVariants as test
 use Rattle.unicodeset_eval.specs.Found.{tells}

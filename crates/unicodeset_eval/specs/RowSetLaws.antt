@@ -9,9 +9,9 @@ use Rattle.std.specs.Prelude.{slice_get}
 use Rattle.std.specs.List.{list_any}
 use Rattle.std.specs.Option.{option_map_or}
 use Rattle.std.specs.Str.{bytes_eq}
-use Rattle.ucd_model.specs.Facts.{gives_value}
-use Rattle.ucd_model.specs.Values.{gives_some, missing_value, value_at}
-use Rattle.ucd_model.specs.declared.row.Row.{Row}
+use Rattle.ucd_facts.specs.Facts.{gives_value}
+use Rattle.ucd_facts.specs.Values.{gives_some, missing_value, value_at}
+use Rattle.ucd_facts.specs.declared.row.Row.{Row}
 use Rattle.std.proofs.lemmas.Option.{slice_get_within}
 use Rattle.property_aliases.specs.Numbers.{AreValues, names_in}
 use Rattle.property_aliases.specs.Sources.{listed_names, numbered, value_names, value_rows}

@@ -12,18 +12,18 @@ use Rattle.std.specs.Prelude.{ℕ, Bool, true, false, not, nat_lt, ◌==◌, Lis
 use Rattle.std.specs.List.{list_any}
 use Rattle.std.specs.Option.{option_map_or}
 use Rattle.std.specs.Str.{bytes_eq}
-use Rattle.ucd_model.specs.Enumerations.{place_of_kind, place_of_quick}
-use Rattle.ucd_model.specs.Facts.{Sources, data_row, gives_value}
-use Rattle.ucd_model.specs.Predicates.{category_place, is_one_of}
+use Rattle.ucd_facts.specs.Enumerations.{place_of_kind, place_of_quick}
+use Rattle.ucd_facts.specs.Facts.{Sources, data_row, gives_value}
+use Rattle.ucd_facts.specs.Predicates.{category_place, is_one_of}
 use Rattle.ucd_model.specs.Records.{Record}
-use Rattle.ucd_model.specs.Values.{script_at, word_break_at}
-use Rattle.ucd_model.specs.declared.category.Category.{Category}
-use Rattle.ucd_model.specs.declared.category.Category.TheVariants.{Lu, Ll, Lt, Lm, Lo, Mn, Mc, Me, Nd, Nl, No, Pc, Pd, Ps, Pe, Pi, Pf, Po, Sm, Sc, Sk, So, Zs, Zl, Zp, Cc, Cf, Cs, Co, Cn}
+use Rattle.ucd_facts.specs.Values.{script_at, word_break_at}
+use Rattle.ucd_facts.specs.declared.category.Category.{Category}
+use Rattle.ucd_facts.specs.declared.category.Category.TheVariants.{Lu, Ll, Lt, Lm, Lo, Mn, Mc, Me, Nd, Nl, No, Pc, Pd, Ps, Pe, Pi, Pf, Po, Sm, Sc, Sk, So, Zs, Zl, Zp, Cc, Cf, Cs, Co, Cn}
 use Rattle.ucd_points.specs.declared.files.SourceFile.TheVariants.{UnicodeData, PropList, Scripts, WordBreakProperty}
-use Rattle.ucd_model.specs.declared.form.Form.{Form}
-use Rattle.ucd_model.specs.declared.form.Form.TheVariants.{Nfd, Nfc, Nfkd, Nfkc}
-use Rattle.ucd_model.specs.declared.form.Quick.{Quick as QuickValue}
-use Rattle.ucd_model.specs.declared.row.Row.{Row}
+use Rattle.ucd_facts.specs.declared.form.Form.{Form}
+use Rattle.ucd_facts.specs.declared.form.Form.TheVariants.{Nfd, Nfc, Nfkd, Nfkc}
+use Rattle.ucd_facts.specs.declared.form.Quick.{Quick as QuickValue}
+use Rattle.ucd_facts.specs.declared.row.Row.{Row}
 use Rattle.property_aliases.specs.Sources.{break_names, listed_names, script_names}
 use Rattle.property_aliases.specs.declared.property.Group.{Group as GroupValue}
 use Rattle.property_aliases.specs.declared.property.Group.TheVariants.{L, LC, M, N, P, S, Z, C}

@@ -10,12 +10,12 @@ use Rattle.std.specs.Prelude.{find}
 use Rattle.std.specs.List.{list_any}
 use Rattle.std.specs.Str.{bytes_eq}
 use Rattle.std.proofs.lemmas.Bool.{or_parts}
-use Rattle.ucd_model.specs.Facts.{gives_value}
+use Rattle.ucd_facts.specs.Facts.{gives_value}
 use Rattle.ucd_points.specs.Bounds.{within}
-use Rattle.ucd_model.specs.Values.{gives_some, value_in}
-use Rattle.ucd_model.specs.declared.row.ValueRow.{ValueRow}
-use Rattle.ucd_model.specs.declared.row.Row.{Row}
-use Rattle.ucd_model.specs.declared.row.Row.TheVariants.{Unit as DataLine, Value as ValueLine, Exclusion as ExclusionLine, Fold as FoldLine, Casing as CasingLine, Alias as AliasLine, Missing as MissingLine}
+use Rattle.ucd_facts.specs.Values.{gives_some, value_in}
+use Rattle.ucd_facts.specs.declared.row.ValueRow.{ValueRow}
+use Rattle.ucd_facts.specs.declared.row.Row.{Row}
+use Rattle.ucd_facts.specs.declared.row.Row.TheVariants.{Unit as DataLine, Value as ValueLine, Exclusion as ExclusionLine, Fold as FoldLine, Casing as CasingLine, Alias as AliasLine, Missing as MissingLine}
 use Rattle.property_aliases.specs.Sources.{value_rows}
 use Rattle.release_rows.specs.ValuesApart.{AreApart}
 

@@ -2,7 +2,7 @@
 
 ghost use Rattle.std.specs.Prelude.{◌≡◌, ℕ, Bool, ◌&&◌, ◌<◌, nat_lt, IfOk};
 ghost use Rattle.property_aliases.specs.declared.property.Test.{Test as TestValue};
-ghost use Rattle.ucd_model.specs.Facts.{facts};
+ghost use Rattle.ucd_facts.specs.Facts.{facts};
 ghost use Rattle.ucd_points.specs.Limits.{point_count};
 ghost use Rattle.release_rows.specs.Releases.{rows_now};
 ghost use Rattle.unicodeset_eval.specs.Edges.{has, holds};

@@ -3,8 +3,8 @@
 ghost use Rattle.std.specs.Prelude.{◌≡◌, ◌<◌, ◌&&◌, ◌||◌, [], ℕ, List, length, map, nat_eq, IfOk, OnOk};
 ghost use Rattle.std.specs.List.{IsDistinct, list_any};
 ghost use Rattle.std.specs.Str.{bytes_eq};
-ghost use Rattle.ucd_model.specs.Facts.{within};
-ghost use Rattle.ucd_model.specs.declared.row.ValueRow.{ValueRow};
+ghost use Rattle.ucd_facts.specs.Facts.{within};
+ghost use Rattle.ucd_facts.specs.declared.row.ValueRow.{ValueRow};
 ghost use Rattle.property_aliases.specs.Numbers.{AreNumbered, names_in};
 ghost use Rattle.unicodeset_eval.specs.Given.{given};
 ghost use Rattle.unicodeset_eval.specs.Numbers.{bucket, is_of};

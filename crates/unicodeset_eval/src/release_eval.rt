@@ -4,7 +4,7 @@ ghost use Rattle.std.specs.Prelude.{◌≡◌, ℕ, ◌<◌};
 ghost use Rattle.property_aliases.specs.Found.{AreAliasesOf};
 ghost use Rattle.property_aliases.specs.Numbers.{AreNumbersOf};
 ghost use Rattle.property_aliases.specs.Sources.{sources_of};
-ghost use Rattle.ucd_model.specs.Facts.{facts};
+ghost use Rattle.ucd_facts.specs.Facts.{facts};
 ghost use Rattle.ucd_points.specs.Limits.{point_count};
 ghost use Rattle.release_rows.specs.Releases.{rows_now};
 ghost use Rattle.unicodeset_eval.specs.Answers.{Gives};

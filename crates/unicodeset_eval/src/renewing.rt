@@ -1,8 +1,8 @@
 //! The sets of a file again, after an edit.
 
 ghost use Rattle.std.specs.Prelude.{◌≡◌, ◌<◌, ℕ, List, false, length, IfOk};
-ghost use Rattle.ucd_model.specs.Values.{value_at};
-ghost use Rattle.ucd_model.specs.declared.row.Row.{Row};
+ghost use Rattle.ucd_facts.specs.Values.{value_at};
+ghost use Rattle.ucd_facts.specs.declared.row.Row.{Row};
 ghost use Rattle.property_aliases.specs.Numbers.{AreNumbersOf, AreValues};
 ghost use Rattle.property_aliases.specs.Sources.{listed_names, numbered};
 ghost use Rattle.release_rows.specs.Releases.{rows_now};

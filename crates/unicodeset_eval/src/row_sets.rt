@@ -3,10 +3,10 @@
 ghost use Rattle.std.specs.Prelude.{◌≡◌, ◌<◌, ℕ, List, false, nat_eq, not, ◌&&◌, ◌||◌, length, IfOk, OnOk};
 ghost use Rattle.std.specs.List.{IsDistinct, list_any};
 ghost use Rattle.std.specs.Str.{bytes_eq};
-ghost use Rattle.ucd_model.specs.Facts.{within};
-ghost use Rattle.ucd_model.specs.Values.{value_at};
-ghost use Rattle.ucd_model.specs.declared.row.Row.{Row};
-ghost use Rattle.ucd_model.specs.declared.row.ValueRow.{ValueRow};
+ghost use Rattle.ucd_facts.specs.Facts.{within};
+ghost use Rattle.ucd_facts.specs.Values.{value_at};
+ghost use Rattle.ucd_facts.specs.declared.row.Row.{Row};
+ghost use Rattle.ucd_facts.specs.declared.row.ValueRow.{ValueRow};
 ghost use Rattle.property_aliases.specs.Numbers.{AreNumbered, AreNumbersOf, AreValues, names_in};
 ghost use Rattle.property_aliases.specs.Sources.{listed_names, numbered};
 ghost use Rattle.release_rows.specs.Releases.{rows_now};

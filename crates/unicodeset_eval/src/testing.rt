@@ -2,7 +2,7 @@
 
 ghost use Rattle.std.specs.Prelude.{◌≡◌, ℕ, ◌&&◌, map, nat_lt, IfOk};
 ghost use Rattle.ucd_points.specs.Limits.{point_count};
-ghost use Rattle.ucd_model.specs.Predicates.{is_one_of};
+ghost use Rattle.ucd_facts.specs.Predicates.{is_one_of};
 ghost use Rattle.unicodeset_eval.specs.Edges.{has};
 ghost use Rattle.unicodeset_eval.specs.Found.{tells};
 ghost use Rattle.unicodeset_eval.specs.RecordPieces.{at_first, piece_turns, piece_value, values_record};

@@ -2,7 +2,7 @@
 
 ghost use Rattle.std.specs.Prelude.{◌≡◌, ℕ, IfOk};
 ghost use Rattle.std.specs.List.{list_any};
-ghost use Rattle.ucd_model.specs.Facts.{within};
+ghost use Rattle.ucd_facts.specs.Facts.{within};
 ghost use Rattle.unicodeset_eval.specs.Edges.{has};
 
 use crate::point_set::PointSet;

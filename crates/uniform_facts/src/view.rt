@@ -1,7 +1,7 @@
 //! A view of the facts that knows how far they are uniform.
 
 ghost use Rattle.std.specs.Prelude.{◌≡◌, ◌≤◌, ◌<◌, ℕ};
-ghost use Rattle.ucd_model.specs.Uniform.{IsPlain, Uniform};
+ghost use Rattle.ucd_facts.specs.Uniform.{IsPlain, Uniform};
 
 use ucd_model::{FactView, Point};
 

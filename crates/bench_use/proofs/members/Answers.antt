@@ -1,6 +1,6 @@
 use Rattle.std.proofs.Common.{sym, ap}
 use Rattle.release_rows.specs.Releases.{ReleaseItems, rows_now}
-use Rattle.ucd_model.specs.Facts.{facts}
+use Rattle.ucd_facts.specs.Facts.{facts}
 use Rattle.bench_use.proofs.members.Goals as goal
 
 pub eval-requires-clause-categories : goal.eval-requires-clause-categories

@@ -1,4 +1,4 @@
-use Rattle.asked_queries.specs.AnswerProofs.{queries_are_told as law}
+use Rattle.ucd_facts.specs.AnswerProofs.{queries_are_told as law}
 use Rattle.asked_queries.proofs.laws.queries_are_told.Goals as goal
 
 pub returns : goal.returns

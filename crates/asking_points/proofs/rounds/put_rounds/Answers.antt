@@ -1,5 +1,5 @@
 use Rattle.std.proofs.Common.{◌≡◌, ℕ, ◌++◌, [], ◌∷◌, false, Some, sym, ◌∙◌, arith}
-use Rattle.ucd_model.specs.Facts.{Facts}
+use Rattle.ucd_facts.specs.Facts.{Facts}
 use Rattle.asking_points.specs.KnownForms.{after_round, after_is_form, puts_from, round_covered, rounds_stop, rounds_more, rounds_end}
 use Rattle.asking_points.proofs.rounds.put_rounds.Goals as goal
 

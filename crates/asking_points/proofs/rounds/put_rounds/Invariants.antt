@@ -1,6 +1,6 @@
 use Rattle.std.proofs.Common.{◌≡◌, ◌-◌, ◌++◌, [], ◌∷◌, true, false, Some}
 use Rattle.ucd_model.specs.Forms.{nfkc}
-use Rattle.ucd_model.specs.declared.folding.Folding.{Folding}
+use Rattle.ucd_facts.specs.declared.folding.Folding.{Folding}
 use Rattle.fold_rounds.specs.Steps.{IsCovered}
 use Rattle.asking_points.specs.Forms.{list_in}
 use Rattle.asking_points.specs.KnownForms.{puts_from}

@@ -2,8 +2,8 @@ use Rattle.std.proofs.Common.{◌∙◌, ◌-◌, ℕ, Bool, List, sym, ap}
 use Rattle.std.specs.List.{list_any}
 use Rattle.std.proofs.Math.ListN.{drop_of_length-le}
 use Rattle.std.proofs.lemmas.List.Folds.{list_any_at}
-use Rattle.ucd_model.specs.Facts.{Facts}
-use Rattle.ucd_model.specs.Expansion.{is_compat}
+use Rattle.ucd_facts.specs.Facts.{Facts}
+use Rattle.ucd_facts.specs.Expansion.{is_compat}
 use Rattle.asking_points.specs.Compat.{has_compat, compat_here, compat_there, compat_nowhere}
 use Rattle.asking_points.proofs.trees.+has_compat_within.Goals as goal
 

@@ -1,8 +1,8 @@
 use Rattle.std.proofs.Common.{◌≡◌, ℕ, List, ap, ◌∙◌, ◌||◌, arith}
 use Rattle.ucd_model.specs.Casing.{lower_of, upper_of, fold_of}
-use Rattle.ucd_model.specs.Facts.{Facts, image_points}
-use Rattle.ucd_model.specs.Predicates.{cased}
-use Rattle.ucd_model.specs.Shown.{shown_facts}
+use Rattle.ucd_facts.specs.Facts.{Facts, image_points}
+use Rattle.ucd_facts.specs.Predicates.{cased}
+use Rattle.ucd_facts.specs.Shown.{shown_facts}
 use Rattle.case_derivation.specs.Steps.{title_image}
 use Rattle.case_derivation.proofs.MatchingLemmas.{mapped_more, titled_more}
 use Rattle.case_derivation.proofs.changes.changes_behind.Goals as goal

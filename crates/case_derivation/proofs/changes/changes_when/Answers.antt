@@ -2,9 +2,9 @@ use Rattle.std.proofs.Common.{◌≡◌, ℕ, Bool, List, ap, sym, not, ◌∙�
 use Rattle.std.proofs.lemmas.List.{take_all}
 use Rattle.std.specs.Str.{bytes_eq}
 use Rattle.ucd_model.specs.Casing.{lower, upper, fold, lower_of, upper_of, fold_of}
-use Rattle.ucd_model.specs.Facts.{Facts, image_points}
-use Rattle.ucd_model.specs.Predicates.{cased}
-use Rattle.ucd_model.specs.Shown.{shown_facts}
+use Rattle.ucd_facts.specs.Facts.{Facts, image_points}
+use Rattle.ucd_facts.specs.Predicates.{cased}
+use Rattle.ucd_facts.specs.Shown.{shown_facts}
 use Rattle.case_derivation.specs.Matching.{matches}
 use Rattle.case_derivation.specs.Steps.{titled, title_image}
 use Rattle.case_derivation.proofs.MatchingLemmas.{mapped_more, mapped_stays, StaysBy, titled_more, titled_stays, unmapped_stays}

@@ -2,7 +2,7 @@ use Rattle.std.proofs.Common.{◌≡◌, drop, take}
 use Rattle.std.specs.List.{list_any}
 use Rattle.std.specs.Str.{bytes_eq}
 use Rattle.ucd_model.specs.Casing.{lower, upper, title, fold}
-use Rattle.ucd_model.specs.Predicates.{cased}
+use Rattle.ucd_facts.specs.Predicates.{cased}
 use Rattle.case_derivation.specs.Steps.{titled}
 use Rattle.case_derivation.proofs.changes.changes_when.Given as goal
 

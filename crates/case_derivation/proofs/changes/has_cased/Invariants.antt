@@ -1,6 +1,6 @@
 use Rattle.std.proofs.Common.{◌≡◌, drop}
 use Rattle.std.specs.List.{list_any}
-use Rattle.ucd_model.specs.Predicates.{cased}
+use Rattle.ucd_facts.specs.Predicates.{cased}
 use Rattle.case_derivation.proofs.changes.has_cased.Given as goal
 
 -- what holds of those that are left is what holds of all

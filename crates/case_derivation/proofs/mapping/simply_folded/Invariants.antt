@@ -1,6 +1,6 @@
 use Rattle.std.proofs.Common.{◌≡◌, ◌++◌, drop}
 use Rattle.ucd_model.specs.Casing.{folded}
-use Rattle.ucd_model.specs.declared.folding.Folding.TheVariants.{Simple}
+use Rattle.ucd_facts.specs.declared.folding.Folding.TheVariants.{Simple}
 use Rattle.case_derivation.proofs.mapping.simply_folded.Given as goal
 
 -- what is left, behind the points so far, is what all gives

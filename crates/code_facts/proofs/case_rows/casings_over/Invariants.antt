@@ -1,5 +1,5 @@
 use Rattle.std.proofs.Common.{◌≡◌, ℕ, List, [], take}
-use Rattle.ucd_model.specs.declared.row.Row.{Row}
+use Rattle.ucd_facts.specs.declared.row.Row.{Row}
 use Rattle.code_facts.specs.CaseImages.{all_images, cases_at}
 use Rattle.code_facts.proofs.case_rows.casings_over.Given as goal
 

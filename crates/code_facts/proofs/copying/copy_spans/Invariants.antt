@@ -1,7 +1,7 @@
 use Rattle.std.proofs.Common.{◌≡◌, ℕ, true, take}
 use Rattle.std.specs.List.{list_any}
 use Rattle.range_table.specs.Values.{SameValues}
-use Rattle.ucd_model.specs.Facts.{within}
+use Rattle.ucd_facts.specs.Facts.{within}
 use Rattle.code_facts.specs.Copying.{with_spans, IsListed}
 use Rattle.code_facts.specs.Index.{is_gathered}
 use Rattle.code_facts.specs.RowTables.{word_in, rest_in}

@@ -1,5 +1,5 @@
 use Rattle.std.proofs.Common.{◌≡◌, ℕ, ◌<◌, ◌&&◌, cond, leb, ltb}
-use Rattle.ucd_model.specs.Facts.{hangul_mapping}
+use Rattle.ucd_facts.specs.Facts.{hangul_mapping}
 use Rattle.code_facts.specs.PointLists.{lists_next}
 use Rattle.code_facts.proofs.data_tables.add_syllables.Given as goal
 

@@ -1,6 +1,6 @@
 use Rattle.std.proofs.Common.{◌≡◌, ◌||◌, ℕ, take}
 use Rattle.std.specs.List.{list_any}
-use Rattle.ucd_model.specs.Facts.{within}
+use Rattle.ucd_facts.specs.Facts.{within}
 use Rattle.code_facts.specs.JoinedSpans.{is_in}
 use Rattle.code_facts.proofs.joined_spans.joined.Given as goal
 

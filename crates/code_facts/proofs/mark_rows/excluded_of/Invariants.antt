@@ -1,6 +1,6 @@
 use Rattle.std.proofs.Common.{◌≡◌, ℕ, take}
 use Rattle.std.specs.List.{list_any}
-use Rattle.ucd_model.specs.Facts.{within, excluded_at}
+use Rattle.ucd_facts.specs.Facts.{within, excluded_at}
 use Rattle.code_facts.proofs.mark_rows.excluded_of.Given as goal
 
 -- the spans of the rows before this one

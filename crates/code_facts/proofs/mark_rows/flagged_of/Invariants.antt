@@ -1,7 +1,7 @@
 use Rattle.std.proofs.Common.{◌≡◌, ℕ, take}
 use Rattle.std.specs.List.{list_any}
-use Rattle.ucd_model.specs.Facts.{flag_at}
-use Rattle.ucd_model.specs.declared.property.Flag.{Flag}
+use Rattle.ucd_facts.specs.Facts.{flag_at}
+use Rattle.ucd_facts.specs.declared.property.Flag.{Flag}
 use Rattle.code_facts.specs.MarkRows.{is_flagged}
 use Rattle.code_facts.proofs.mark_rows.flagged_of.Given as goal
 

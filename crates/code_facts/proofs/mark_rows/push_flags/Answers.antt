@@ -1,9 +1,9 @@
 use Rattle.std.proofs.Common.{◌≡◌, ◌||◌, List, take, ap, ◌∙◌, arith}
 use Rattle.std.specs.List.{list_any}
 use Rattle.std.proofs.lemmas.List.{take_all}
-use Rattle.ucd_model.specs.declared.property.Flag.{Flag}
+use Rattle.ucd_facts.specs.declared.property.Flag.{Flag}
 use Rattle.code_facts.specs.MarkRows.{is_flagged, names_flag}
-use Rattle.ucd_model.specs.Enumerations.{flags}
+use Rattle.ucd_facts.specs.Enumerations.{flags}
 use Rattle.code_facts.proofs.FlagLemmas.{flags_more, one_flag}
 use Rattle.code_facts.proofs.mark_rows.push_flags.Goals as goal
 

@@ -1,8 +1,8 @@
 use Rattle.std.proofs.Common.{◌≡◌, ◌||◌, ℕ, take}
 use Rattle.std.specs.List.{list_any}
-use Rattle.ucd_model.specs.declared.property.Flag.{Flag}
+use Rattle.ucd_facts.specs.declared.property.Flag.{Flag}
 use Rattle.code_facts.specs.MarkRows.{is_flagged, names_flag}
-use Rattle.ucd_model.specs.Enumerations.{flags}
+use Rattle.ucd_facts.specs.Enumerations.{flags}
 use Rattle.code_facts.proofs.mark_rows.push_flags.Given as goal
 
 -- those that stood there, and those of the flags before this one that have the name

@@ -1,7 +1,7 @@
 use Rattle.std.proofs.Common.{◌≡◌, ◌+◌, length, ap, ◌∙◌, arith}
 use Rattle.std.proofs.lemmas.Bool.Decides.{nat_tests}
 use Rattle.std.specs.List.{list_any}
-use Rattle.ucd_model.specs.Facts.{within}
+use Rattle.ucd_facts.specs.Facts.{within}
 use Rattle.range_table.specs.RunTable.{values_now}
 use Rattle.code_facts.proofs.MarkLemmas.{if_ok_map, bit_of, no_bit, cond_small}
 use Rattle.code_facts.proofs.marks.with_mark.Goals as goal

@@ -1,6 +1,6 @@
 use Rattle.std.proofs.Common.{◌≡◌, ◌≤◌, ℕ, drop, find, length}
 use Rattle.layered_table.specs.Layers.{word_at}
-use Rattle.ucd_model.specs.Values.{default_word_break, gives_some, is_mid_word, missing_value, value_in}
+use Rattle.ucd_facts.specs.Values.{default_word_break, gives_some, is_mid_word, missing_value, value_in}
 use Rattle.code_facts.specs.Word.{one_if}
 use Rattle.code_facts.proofs.mid_words.all_layers.Given as goal
 

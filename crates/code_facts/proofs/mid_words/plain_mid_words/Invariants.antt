@@ -1,6 +1,6 @@
 use Rattle.std.proofs.Common.{◌≡◌, ℕ, false, take}
 use Rattle.std.specs.List.{list_any}
-use Rattle.ucd_model.specs.Facts.{within}
+use Rattle.ucd_facts.specs.Facts.{within}
 use Rattle.code_facts.specs.MidWords.{gives_mid_word, is_missing_mid_word}
 use Rattle.code_facts.proofs.mid_words.plain_mid_words.Given as goal
 

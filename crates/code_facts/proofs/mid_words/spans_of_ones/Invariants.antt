@@ -1,7 +1,7 @@
 use Rattle.std.proofs.Common.{◌≡◌, ℕ, take}
 use Rattle.std.specs.List.{list_any}
 use Rattle.layered_table.specs.Layers.{puts}
-use Rattle.ucd_model.specs.Facts.{within}
+use Rattle.ucd_facts.specs.Facts.{within}
 use Rattle.code_facts.proofs.mid_words.spans_of_ones.Given as goal
 
 -- the spans of the layers before this one

@@ -1,6 +1,6 @@
 use Rattle.std.proofs.Common.{◌≡◌, ℕ, ◌<◌, cond, take}
 use Rattle.std.specs.List.{list_any}
-use Rattle.ucd_model.specs.Facts.{within}
+use Rattle.ucd_facts.specs.Facts.{within}
 use Rattle.range_table.specs.RunTable.{values_next}
 use Rattle.code_facts.proofs.painting.painted.Given as goal
 

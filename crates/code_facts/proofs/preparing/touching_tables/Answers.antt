@@ -1,5 +1,5 @@
 use Rattle.std.proofs.Common.{◌≡◌, ap, ◌∙◌}
-use Rattle.ucd_model.specs.Facts.{Sources, given}
+use Rattle.ucd_facts.specs.Facts.{Sources, given}
 use Rattle.code_facts.specs.RowLists.{sources_of}
 use Rattle.release_rows.specs.Touching.{meets}
 use Rattle.code_facts.specs.Locality.{rows_within}

@@ -1,8 +1,8 @@
 use Rattle.std.proofs.Common.{◌/◌, ◌%◌, ap, ◌∙◌}
 use Rattle.std.specs.Option.{unwrap_or}
 use Rattle.std.proofs.lemmas.Option.{unwrap_or-slice_get}
-use Rattle.ucd_model.specs.Enumerations.{categories}
-use Rattle.ucd_model.specs.declared.category.Category.TheVariants.{Cn}
+use Rattle.ucd_facts.specs.Enumerations.{categories}
+use Rattle.ucd_facts.specs.declared.category.Category.TheVariants.{Cn}
 use Rattle.code_facts.proofs.word.category_of.Goals as goal
 
 pub returns : goal.returns

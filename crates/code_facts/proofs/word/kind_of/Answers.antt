@@ -1,8 +1,8 @@
 use Rattle.std.proofs.Common.{◌/◌, ◌%◌, ap, ◌∙◌}
 use Rattle.std.specs.Option.{unwrap_or}
 use Rattle.std.proofs.lemmas.Option.{unwrap_or-slice_get}
-use Rattle.ucd_model.specs.Enumerations.{kinds}
-use Rattle.ucd_model.specs.declared.decomposition.Kind.TheVariants.{Plain}
+use Rattle.ucd_facts.specs.Enumerations.{kinds}
+use Rattle.ucd_facts.specs.declared.decomposition.Kind.TheVariants.{Plain}
 use Rattle.code_facts.proofs.word.kind_of.Goals as goal
 
 pub returns : goal.returns

@@ -1,6 +1,6 @@
 use Rattle.std.proofs.Common.{◌≡◌, ℕ, ◌-◌, List, length, Option, None, ◌∙◌, arith}
 use Rattle.std.proofs.lemmas.Result.{err_from_is_err_and}
-use Rattle.ucd_model.specs.Expansion.{expand}
+use Rattle.ucd_facts.specs.Expansion.{expand}
 use Rattle.decomposition.proofs.WalkLemmas.{Behind_full, Behind_alone, Behind_nothing, Behind_room, has_members, no_members, expand_alone, expand_joined, walk_more, walk_none, walk_end, Puts_err}
 use Rattle.decomposition.proofs.expansion.+put_expansion.Goals as goal
 

@@ -1,5 +1,5 @@
 use Rattle.std.proofs.Common.{◌≤◌, ◌-◌, length, take}
-use Rattle.ucd_model.specs.Expansion.{joined, expand}
+use Rattle.ucd_facts.specs.Expansion.{joined, expand}
 use Rattle.decomposition.specs.Walk.{Behind}
 use Rattle.decomposition.proofs.expansion.+put_expansion.Given as goal
 

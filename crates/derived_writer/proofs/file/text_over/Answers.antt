@@ -4,7 +4,7 @@ use Rattle.ucd_model.specs.DerivedFiles.{Section, section_of}
 use Rattle.derived_writer.specs.Listings.{listing_section}
 use Rattle.derived_writer.specs.declared.listing.Listing.{Listing}
 use Rattle.derived_writer.specs.declared.listing.Listing.TheVariants.{Core as CoreListing}
-use Rattle.ucd_model.specs.declared.property.Core.TheVariants.{Math}
+use Rattle.ucd_facts.specs.declared.property.Core.TheVariants.{Math}
 use Rattle.derived_writer.proofs.CutLemmas.{flat_map-more}
 use Rattle.derived_writer.proofs.file.text_over.Goals as goal
 

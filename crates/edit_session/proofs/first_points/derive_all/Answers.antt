@@ -1,7 +1,7 @@
 use Rattle.std.proofs.Common.{◌≡◌, ℕ, arith}
 use Rattle.code_facts.specs.FactTables.{tables_facts}
 use Rattle.paged_table.specs.Paged.{values_now}
-use Rattle.ucd_model.specs.Facts.{Facts}
+use Rattle.ucd_facts.specs.Facts.{Facts}
 use Rattle.ucd_points.specs.Limits.{point_count}
 use Rattle.record_list.specs.Records.{record_next, record_now}
 use Rattle.edit_session.proofs.FirstSteps.{all_count, all_records, all_valid}

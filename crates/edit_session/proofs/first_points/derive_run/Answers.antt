@@ -1,7 +1,7 @@
 use Rattle.std.proofs.Common.{◌≡◌, ℕ, ◌<◌, Ok, refl, ◌∙◌, arith}
 use Rattle.code_facts.specs.FactTables.{tables_facts}
 use Rattle.paged_table.specs.Paged.{values_now}
-use Rattle.ucd_model.specs.Facts.{Facts}
+use Rattle.ucd_facts.specs.Facts.{Facts}
 use Rattle.ucd_model.specs.Records.{derived, kept_record}
 use Rattle.edit_session.proofs.FirstSteps.{run_is, stops}
 use Rattle.edit_session.proofs.first_points.derive_run.Goals as goal

@@ -1,7 +1,7 @@
 use Rattle.std.proofs.Common.{◌≡◌, ℕ, ◌+◌, ◌≤◌, refl, ap, arith}
 use Rattle.code_facts.specs.FactTables.{tables_facts}
 use Rattle.paged_table.specs.Paged.{values_now}
-use Rattle.ucd_model.specs.Facts.{Facts}
+use Rattle.ucd_facts.specs.Facts.{Facts}
 use Rattle.ucd_model.specs.Records.{derived}
 use Rattle.edit_session.proofs.FirstSteps.{uniform_run}
 use Rattle.edit_session.proofs.first_points.end_of_alike.Goals as goal

@@ -3,8 +3,8 @@ use Rattle.code_facts.specs.FactTables.{tables_facts}
 use Rattle.dependency_map.specs.Maps.{asked_at}
 use Rattle.kept_values.specs.Kept.{values}
 use Rattle.paged_table.specs.Paged.{values_now, values_next}
-use Rattle.ucd_model.specs.Facts.{Facts}
-use Rattle.ucd_model.specs.declared.query.Query.{Query}
+use Rattle.ucd_facts.specs.Facts.{Facts}
+use Rattle.ucd_facts.specs.declared.query.Query.{Query}
 use Rattle.edit_session.specs.Questions.{IsListed}
 use Rattle.edit_session.proofs.ListedLemmas.{listed_all, listed_more, listed_none}
 use Rattle.edit_session.proofs.listed_points.list_points.Goals as goal

@@ -2,7 +2,7 @@ use Rattle.std.proofs.Common.{ℕ, ◌+◌, sym, subst}
 use Rattle.code_facts.specs.FactTables.{tables_facts}
 use Rattle.mention_index.specs.Mentions.{puts}
 use Rattle.paged_table.specs.Paged.{values_now}
-use Rattle.ucd_model.specs.Facts.{Facts}
+use Rattle.ucd_facts.specs.Facts.{Facts}
 use Rattle.edit_session.specs.Questions.{HasStepsBelow}
 use Rattle.edit_session.proofs.MentionLemmas.{steps_more, steps_run}
 use Rattle.edit_session.proofs.mentions.mention_run.Goals as goal

@@ -4,8 +4,8 @@ use Rattle.dependency_map.specs.Maps.{asked_at}
 use Rattle.kept_values.specs.Kept.{values}
 use Rattle.mention_index.specs.Mentions.{is_walked, leads}
 use Rattle.paged_table.specs.Paged.{values_now, values_next}
-use Rattle.ucd_model.specs.Facts.{Facts}
-use Rattle.ucd_model.specs.declared.query.Query.{Query}
+use Rattle.ucd_facts.specs.Facts.{Facts}
+use Rattle.ucd_facts.specs.declared.query.Query.{Query}
 use Rattle.edit_session.specs.Questions.{AreListed, KeepsWalked}
 use Rattle.edit_session.proofs.QuestionLemmas.{walked_more}
 use Rattle.edit_session.proofs.questions.go_on.Goals as goal

@@ -1,7 +1,7 @@
 use Rattle.std.proofs.Common.{◌≡◌, ◌<◌, ℕ, true, false, not, length, get_or, ap, sym, ◌∙◌, arith}
 use Rattle.std.proofs.lemmas.List.Filters.{FiltersInPlace-more_no, FiltersInPlace-more_set}
-use Rattle.ucd_model.specs.Facts.{Facts}
-use Rattle.ucd_model.specs.Predicates.{default_ignorable}
+use Rattle.ucd_facts.specs.Facts.{Facts}
+use Rattle.ucd_facts.specs.Predicates.{default_ignorable}
 use Rattle.fold_rounds.proofs.ignorable.drop_ignorable.Goals as goal
 use Rattle.fold_rounds.proofs.ignorable.drop_ignorable.Goals.{then-not-default_ignorable, else-not-default_ignorable}
 

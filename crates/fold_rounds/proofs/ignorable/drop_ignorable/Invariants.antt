@@ -1,6 +1,6 @@
 use Rattle.std.proofs.Common.{not}
 use Rattle.std.proofs.lemmas.List.Filters.{FiltersInPlace}
-use Rattle.ucd_model.specs.Predicates.{default_ignorable}
+use Rattle.ucd_facts.specs.Predicates.{default_ignorable}
 use Rattle.fold_rounds.proofs.ignorable.drop_ignorable.Given as goal
 
 abbrev pub invariant-points : goal.invariant-points

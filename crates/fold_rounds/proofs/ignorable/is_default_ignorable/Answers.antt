@@ -1,5 +1,5 @@
 use Rattle.std.proofs.Common.{refl}
-use Rattle.ucd_model.specs.Shown.{shown_facts}
+use Rattle.ucd_facts.specs.Shown.{shown_facts}
 use Rattle.fold_rounds.proofs.ignorable.is_default_ignorable.Goals as goal
 
 pub returns : goal.returns

@@ -1,5 +1,5 @@
 use Rattle.std.proofs.Common.{◌≡◌, ℕ, ◌≤◌, Bool, length, Some, None, sym, ap, ◌∙◌, subst, arith}
-use Rattle.ucd_model.specs.Facts.{Facts}
+use Rattle.ucd_facts.specs.Facts.{Facts}
 use Rattle.ucd_model.specs.FoldRounds.{drop_ignorable, short, short_fold, short_nfkc}
 use Rattle.fold_rounds.specs.AlikeProofs.{folded_covered}
 use Rattle.fold_rounds.specs.Steps.{IsCovered}

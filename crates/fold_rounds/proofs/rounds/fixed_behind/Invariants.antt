@@ -1,6 +1,6 @@
 use Rattle.std.proofs.Common.{◌≡◌, ℕ, ◌<◌, false, [], ◌∷◌, Some}
 use Rattle.ucd_model.specs.FoldRounds.{rounds, is_last}
-use Rattle.ucd_model.specs.declared.folding.Folding.{Folding}
+use Rattle.ucd_facts.specs.declared.folding.Folding.{Folding}
 use Rattle.fold_rounds.specs.Steps.{IsCovered}
 use Rattle.fold_rounds.proofs.rounds.fixed_behind.Given as goal
 

@@ -1,6 +1,6 @@
 use Rattle.std.proofs.Common.{◌≡◌, ℕ, true, Some, None, refl, sym, ◌∙◌, inl}
 use Rattle.std.specs.Str.{bytes_eq}
-use Rattle.ucd_model.specs.Facts.{Facts}
+use Rattle.ucd_facts.specs.Facts.{Facts}
 use Rattle.ucd_model.specs.FoldRounds.{short_nfkc}
 use Rattle.fold_rounds.specs.RoundProofs.{found_first_none, found_settled}
 use Rattle.fold_rounds.proofs.rounds.fixed_by.Goals as goal

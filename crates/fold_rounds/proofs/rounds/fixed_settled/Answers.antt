@@ -1,5 +1,5 @@
 use Rattle.std.proofs.Common.{◌≡◌, ℕ, Some, sym, ap, ◌∙◌}
-use Rattle.ucd_model.specs.Facts.{Facts}
+use Rattle.ucd_facts.specs.Facts.{Facts}
 use Rattle.fold_rounds.specs.RoundProofs.{found_form, settled_round}
 use Rattle.fold_rounds.proofs.rounds.fixed_settled.Goals as goal
 

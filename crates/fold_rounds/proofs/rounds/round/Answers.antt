@@ -1,5 +1,5 @@
 use Rattle.std.proofs.Common.{◌≡◌, ℕ, Bool, Some, ap, ◌∙◌, subst}
-use Rattle.ucd_model.specs.Facts.{Facts}
+use Rattle.ucd_facts.specs.Facts.{Facts}
 use Rattle.ucd_model.specs.FoldRounds.{short_nfkc}
 use Rattle.fold_rounds.specs.AlikeProofs.{round_covered}
 use Rattle.fold_rounds.specs.Steps.{folded_form, are_alike, IsCovered}

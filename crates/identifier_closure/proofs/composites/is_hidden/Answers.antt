@@ -1,5 +1,5 @@
 use Rattle.std.proofs.Common.{sym}
-use Rattle.ucd_model.specs.Shown.{shown_facts}
+use Rattle.ucd_facts.specs.Shown.{shown_facts}
 use Rattle.identifier_closure.proofs.HiddenLemmas.{form_shown}
 use Rattle.identifier_closure.proofs.composites.is_hidden.Goals as goal
 

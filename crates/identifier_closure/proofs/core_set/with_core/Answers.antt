@@ -1,6 +1,6 @@
 use Rattle.std.proofs.Common.{refl, ◌∙◌}
-use Rattle.ucd_model.specs.Sets.{core_place}
-use Rattle.ucd_model.specs.Shown.{shown_facts}
+use Rattle.ucd_facts.specs.Sets.{core_place}
+use Rattle.ucd_facts.specs.Shown.{shown_facts}
 use Rattle.identifier_closure.specs.CoreSets.{core_given}
 use Rattle.identifier_closure.proofs.CoreSteps.{one_more}
 use Rattle.identifier_closure.proofs.core_set.with_core.Goals as goal

@@ -1,5 +1,5 @@
 use Rattle.std.proofs.Common.{◌≡◌, ℕ, refl, sym, ap, ◌∙◌}
-use Rattle.ucd_model.specs.Facts.{Facts}
+use Rattle.ucd_facts.specs.Facts.{Facts}
 use Rattle.ucd_model.specs.declared.records.Record.{Record as KeptRecord}
 use Rattle.identifier_closure.specs.declared.predicates.ToldByForms.{ToldByForms}
 use Rattle.identifier_closure.proofs.RecordLemmas.{is_other, IsTold, record_is}

@@ -1,6 +1,6 @@
 use Rattle.std.proofs.Common.{◌≡◌, drop}
 use Rattle.std.specs.List.{list_any}
-use Rattle.ucd_model.specs.Expansion.{is_compat}
+use Rattle.ucd_facts.specs.Expansion.{is_compat}
 use Rattle.identifier_closure.proofs.point_forms.has_compat.Given as goal
 
 -- what holds of those that are left is what holds of all

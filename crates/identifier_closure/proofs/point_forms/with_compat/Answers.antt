@@ -1,7 +1,7 @@
 use Rattle.std.proofs.Common.{◌≡◌, ℕ, false}
 use Rattle.std.specs.List.{list_any}
-use Rattle.ucd_model.specs.Facts.{Facts}
-use Rattle.ucd_model.specs.Expansion.{is_compat}
+use Rattle.ucd_facts.specs.Facts.{Facts}
+use Rattle.ucd_facts.specs.Expansion.{is_compat}
 use Rattle.identifier_closure.proofs.CompatLemmas.{compat_same}
 use Rattle.identifier_closure.proofs.point_forms.with_compat.Goals as goal
 

@@ -1,5 +1,5 @@
 use Rattle.std.proofs.Common.{refl}
-use Rattle.ucd_model.specs.Shown.{shown_facts}
+use Rattle.ucd_facts.specs.Shown.{shown_facts}
 use Rattle.identifier_closure.proofs.predicates.is_id_continue.Goals as goal
 
 pub returns : goal.returns

@@ -1,5 +1,5 @@
 use Rattle.std.proofs.Common.{◌≡◌, ◌++◌, take}
-use Rattle.ucd_model.specs.RowTexts.{spaced}
+use Rattle.ucd_facts.specs.RowTexts.{spaced}
 use Rattle.label_runs.proofs.label.put_spaced.Given as goal
 
 -- what stood there, and the code points so far

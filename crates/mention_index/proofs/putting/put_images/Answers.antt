@@ -1,7 +1,7 @@
 use Rattle.std.proofs.Common.{ℕ, Bool, List, [], ◌++◌}
 use Rattle.key_set.specs.Keys.{is_in as has_key}
-use Rattle.ucd_model.specs.Facts.{image_points}
-use Rattle.ucd_model.specs.Shown.{image_shown}
+use Rattle.ucd_facts.specs.Facts.{image_points}
+use Rattle.ucd_facts.specs.Shown.{image_shown}
 use Rattle.mention_index.proofs.StepLemmas.{lead_both, lead_grows, lead_none}
 use Rattle.mention_index.proofs.putting.put_images.Goals as goal
 

@@ -1,7 +1,7 @@
 use Rattle.std.proofs.Common.{ℕ, Bool, ◌++◌}
 use Rattle.key_set.specs.Keys.{is_in as has_key}
-use Rattle.ucd_model.specs.Facts.{Facts}
-use Rattle.ucd_model.specs.Shown.{shown_facts}
+use Rattle.ucd_facts.specs.Facts.{Facts}
+use Rattle.ucd_facts.specs.Shown.{shown_facts}
 use Rattle.mention_index.specs.Steps.{image_members, simple_members}
 use Rattle.mention_index.proofs.StepLemmas.{lead_both, lead_grows}
 use Rattle.mention_index.proofs.putting.put_members.Goals as goal

@@ -1,8 +1,8 @@
 use Rattle.std.proofs.Common.{◌≡◌, ℕ, Bool, List, Ok, sym, ap, ◌∙◌}
 use Rattle.std.specs.Str.{bytes_eq}
-use Rattle.ucd_model.specs.Facts.{Facts}
-use Rattle.ucd_model.specs.declared.form.Form.{Form}
-use Rattle.ucd_model.specs.declared.form.Form.TheVariants.{Nfd, Nfc, Nfkd, Nfkc}
+use Rattle.ucd_facts.specs.Facts.{Facts}
+use Rattle.ucd_facts.specs.declared.form.Form.{Form}
+use Rattle.ucd_facts.specs.declared.form.Form.TheVariants.{Nfd, Nfc, Nfkd, Nfkc}
 use Rattle.normalisation.specs.FormValues.{form_of}
 use Rattle.norm_conformance.specs.Misses.{is_form, is_list}
 use Rattle.norm_conformance.proofs.ValidForms.{valid_forms}

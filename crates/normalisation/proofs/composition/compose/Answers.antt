@@ -1,6 +1,6 @@
 use Rattle.std.proofs.Common.{ℕ, List, Option, take, sym, ◌∙◌, arith}
 use Rattle.ucd_model.specs.CanonicalOrder.{class_of}
-use Rattle.ucd_model.specs.Composites.{pair_of}
+use Rattle.ucd_facts.specs.Composites.{pair_of}
 use Rattle.normalisation.proofs.JoiningLemmas.{compose_more, compose_end}
 use Rattle.normalisation.proofs.composition.compose.Goals as goal
 

@@ -1,6 +1,6 @@
 use Rattle.std.proofs.Common.{◌≡◌, ◌≤◌, [], length, take, drop}
 use Rattle.ucd_model.specs.CanonicalOrder.{class_of}
-use Rattle.ucd_model.specs.Composites.{pair_of}
+use Rattle.ucd_facts.specs.Composites.{pair_of}
 use Rattle.ucd_model.specs.Composition.{last_starter, compose_onto}
 use Rattle.normalisation.specs.SoFar.{Describes}
 use Rattle.normalisation.proofs.composition.compose.Given as goal

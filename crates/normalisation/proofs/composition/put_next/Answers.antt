@@ -1,7 +1,7 @@
 use Rattle.std.proofs.Common.{◌≡◌, ◌+◌, ℕ, List, take, drop, length, get_or, set, Option, Some, None, sym, ap, ◌∙◌, arith}
 use Rattle.std.proofs.lemmas.List.{get_or_read, length-take, drop-set-lt}
 use Rattle.ucd_model.specs.CanonicalOrder.{class_of}
-use Rattle.ucd_model.specs.Composites.{pair_of}
+use Rattle.ucd_facts.specs.Composites.{pair_of}
 use Rattle.ucd_model.specs.Composition.{composed_with}
 use Rattle.normalisation.specs.SoFar.{joined, starter_behind}
 use Rattle.normalisation.specs.PairLemmas.{pair_joins}

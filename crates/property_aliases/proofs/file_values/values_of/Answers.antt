@@ -2,7 +2,7 @@ use Rattle.std.proofs.Common.{◌≡◌, [], ℕ, List, fold, map, ap, subst, �
 use Rattle.std.specs.Prelude.{IfOk}
 use Rattle.release_rows.specs.FileLemmas.{rows_of_numbered}
 use Rattle.release_rows.specs.Releases.{items_now, rows_now}
-use Rattle.ucd_model.specs.declared.row.Row.{Row}
+use Rattle.ucd_facts.specs.declared.row.Row.{Row}
 use Rattle.property_aliases.specs.Numbers.{AreValues, names_in}
 use Rattle.property_aliases.specs.Sources.{add_name, unnumbered, value_names}
 use Rattle.property_aliases.proofs.file_values.values_of.Goals as goal

@@ -1,7 +1,7 @@
 use Rattle.std.proofs.Common.{◌≡◌, ◌∷◌, ◌++◌, List, fold, map, sym, ap, ◌∙◌}
 use Rattle.std.proofs.lemmas.List.{append_assoc, map-append}
 use Rattle.std.proofs.lemmas.List.Sums.{fold-append}
-use Rattle.ucd_model.specs.declared.row.Row.{Row}
+use Rattle.ucd_facts.specs.declared.row.Row.{Row}
 use Rattle.property_aliases.specs.Numbers.{names_in}
 use Rattle.property_aliases.specs.Sources.{add_name, missing_row_of, missing_rows, unnumbered, value_names, value_row_of, value_rows, valued_row_of, valued_rows}
 use Rattle.property_aliases.proofs.file_values.with_rows.Goals as goal

@@ -1,5 +1,5 @@
 use Rattle.std.proofs.Common.{◌≡◌, ◌++◌, List, fold, length}
-use Rattle.ucd_model.specs.declared.row.ValueRow.{ValueRow}
+use Rattle.ucd_facts.specs.declared.row.ValueRow.{ValueRow}
 use Rattle.property_aliases.specs.Numbers.{AreNumbered, names_in}
 use Rattle.property_aliases.specs.Sources.{add_name, missing_rows, unnumbered, value_names, value_rows}
 use Rattle.property_aliases.proofs.file_values.with_rows.Given as goal

@@ -3,7 +3,7 @@ use Rattle.std.specs.Prelude.{IfOk}
 use Rattle.property_aliases.specs.Sources.{alias_rows, unnumbered}
 use Rattle.release_rows.specs.FileLemmas.{rows_of_numbered}
 use Rattle.release_rows.specs.Releases.{items_now, rows_now}
-use Rattle.ucd_model.specs.declared.row.Row.{Row}
+use Rattle.ucd_facts.specs.declared.row.Row.{Row}
 use Rattle.property_aliases.proofs.rows.alias_rows.Goals as goal
 
 pub returns : goal.returns

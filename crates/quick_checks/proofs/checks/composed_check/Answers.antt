@@ -1,6 +1,6 @@
 use Rattle.std.proofs.Common.{◌≡◌, ℕ, false, Ok, ap, sym, ◌∙◌}
-use Rattle.ucd_model.specs.Facts.{Facts}
-use Rattle.ucd_model.specs.Expansion.{counts}
+use Rattle.ucd_facts.specs.Facts.{Facts}
+use Rattle.ucd_facts.specs.Expansion.{counts}
 use Rattle.quick_checks.specs.CheckProofs.{composed_check_alone}
 use Rattle.quick_checks.proofs.checks.composed_check.Goals as goal
 

@@ -1,8 +1,8 @@
 use Rattle.std.proofs.Common.{◌≡◌, ℕ, Result, Ok, ap, sym, ◌∙◌}
-use Rattle.ucd_model.specs.Facts.{Facts}
-use Rattle.ucd_model.specs.Expansion.{counts}
-use Rattle.ucd_model.specs.declared.form.Bad.{Bad as Rule}
-use Rattle.ucd_model.specs.declared.form.Quick.{Quick}
+use Rattle.ucd_facts.specs.Facts.{Facts}
+use Rattle.ucd_facts.specs.Expansion.{counts}
+use Rattle.ucd_facts.specs.declared.form.Bad.{Bad as Rule}
+use Rattle.ucd_facts.specs.declared.form.Quick.{Quick}
 use Rattle.quick_checks.specs.Checks.{quick_decomposed}
 use Rattle.quick_checks.specs.CheckProofs.{check_alone, check_expanded}
 use Rattle.quick_checks.proofs.checks.decomposed_check.Goals as goal

@@ -1,6 +1,6 @@
 use Rattle.std.proofs.Common.{◌≡◌, ℕ, List, [], ◌∷◌, map, refl, sym, ap, ◌∙◌}
 use Rattle.ucd_points.specs.Lines.{contents}
-use Rattle.ucd_model.specs.declared.row.Row.{Row}
+use Rattle.ucd_facts.specs.declared.row.Row.{Row}
 use Rattle.record_lines.specs.PointTexts.{with_more}
 use Rattle.record_lines.specs.RowLines.{rows_lines}
 use Rattle.record_lines.specs.declared.point_text.PointText.{PointText}

@@ -1,7 +1,7 @@
 use Rattle.std.proofs.Common.{◌≡◌, ℕ, List, sym, ap, ◌∙◌}
 use Rattle.std.specs.Prelude.{[], ◌∷◌}
 use Rattle.std.proofs.lemmas.Result.{on_ok_weaker}
-use Rattle.ucd_model.specs.declared.row.Row.{Row}
+use Rattle.ucd_facts.specs.declared.row.Row.{Row}
 use Rattle.record_lines.specs.FileLines.{place_lines}
 use Rattle.record_lines.specs.RowLines.{if_speaks, place_of, rows_lines}
 use Rattle.record_lines.proofs.ToldLemmas.{none_covered, one_row, same_more}

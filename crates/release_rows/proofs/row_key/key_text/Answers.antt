@@ -1,5 +1,5 @@
 use Rattle.std.proofs.Common.{ℕ, List, sym, ap, ◌∙◌}
-use Rattle.ucd_model.specs.declared.row.AliasRow.{AliasRow}
+use Rattle.ucd_facts.specs.declared.row.AliasRow.{AliasRow}
 use Rattle.source_rows.specs.Keys.{key_names}
 use Rattle.source_rows.specs.RowRefs.{casing_in, row_in}
 use Rattle.source_rows.specs.declared.row_ref.RowRef.{RowRef}

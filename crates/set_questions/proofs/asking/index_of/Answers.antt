@@ -2,7 +2,7 @@ use Rattle.std.proofs.Common.{sym, ap, ◌∙◌}
 use Rattle.std.specs.Prelude.{◌&&◌, nat_lt}
 use Rattle.edit_session.specs.Benches.{bench_record}
 use Rattle.release_rows.specs.Releases.{ReleaseItems, rows_now}
-use Rattle.ucd_model.specs.Facts.{facts}
+use Rattle.ucd_facts.specs.Facts.{facts}
 use Rattle.ucd_points.specs.Limits.{point_count}
 use Rattle.unicodeset_eval.specs.Indexes.{index_holds}
 use Rattle.unicodeset_eval.specs.Tests.{test_holds}

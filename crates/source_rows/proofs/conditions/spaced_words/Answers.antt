@@ -1,5 +1,5 @@
 use Rattle.std.proofs.Common.{List, ℕ, sym, ap, ◌∙◌}
-use Rattle.ucd_model.specs.Mappings.{words}
+use Rattle.ucd_facts.specs.Mappings.{words}
 use Rattle.source_rows.proofs.Words.{no_word, one_word, at_end}
 use Rattle.source_rows.proofs.Spaced.{behind_words, words_onto, all_behind}
 use Rattle.source_rows.proofs.conditions.spaced_words.Goals as goal

@@ -1,5 +1,5 @@
 use Rattle.std.proofs.Common.{◌≡◌, [], length}
-use Rattle.ucd_model.specs.Mappings.{words}
+use Rattle.ucd_facts.specs.Mappings.{words}
 use Rattle.source_rows.proofs.Spaced.{behind_words}
 use Rattle.source_rows.proofs.conditions.spaced_words.Given as goal
 

@@ -1,6 +1,6 @@
 use Rattle.std.proofs.Common.{◌≡◌, true, length, Some, None, refl, sym, ap, ◌∙◌, arith}
 use Rattle.ucd_points.specs.Fields.{point_of}
-use Rattle.ucd_model.specs.Mappings.{words, all_points}
+use Rattle.ucd_facts.specs.Mappings.{words, all_points}
 use Rattle.source_rows.proofs.Words.{is_spelled, no_word, one_word, at_end, none_first, spelled_first, some_spelled, none_mapping, over_mapping, fits_mapping}
 use Rattle.source_rows.proofs.mapping.mapping_of.Goals as goal
 

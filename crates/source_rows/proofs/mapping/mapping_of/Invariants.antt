@@ -1,5 +1,5 @@
 use Rattle.std.proofs.Common.{◌≡◌, ◌+◌, ◌≤◌, length}
-use Rattle.ucd_model.specs.Mappings.{words, all_points}
+use Rattle.ucd_facts.specs.Mappings.{words, all_points}
 use Rattle.source_rows.proofs.Words.{is_spelled}
 use Rattle.source_rows.proofs.mapping.mapping_of.Given as goal
 

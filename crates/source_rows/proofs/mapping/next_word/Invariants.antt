@@ -1,5 +1,5 @@
 use Rattle.std.proofs.Common.{◌≡◌, length}
-use Rattle.ucd_model.specs.Mappings.{words}
+use Rattle.ucd_facts.specs.Mappings.{words}
 use Rattle.source_rows.proofs.mapping.next_word.Given as goal
 
 -- what is left has all words

@@ -1,5 +1,5 @@
 use Rattle.std.proofs.Common.{◌≡◌, ◌++◌, ℕ, length, map}
-use Rattle.ucd_model.specs.declared.row.Row.{Row}
+use Rattle.ucd_facts.specs.declared.row.Row.{Row}
 use Rattle.release_rows.specs.Releases.{items_now, rows_at}
 use Rattle.stability_policies.specs.Reports.{lost_in, lost_rows, names_in}
 use Rattle.stability_policies.proofs.alias_rows.put_lost.Given as goal

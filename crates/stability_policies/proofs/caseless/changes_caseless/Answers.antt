@@ -1,5 +1,5 @@
 use Rattle.std.proofs.Common.{sym}
-use Rattle.ucd_model.specs.Shown.{shown_facts}
+use Rattle.ucd_facts.specs.Shown.{shown_facts}
 use Rattle.stability_policies.proofs.PlainLemmas.{plain_caseless}
 use Rattle.stability_policies.proofs.caseless.changes_caseless.Goals as goal
 

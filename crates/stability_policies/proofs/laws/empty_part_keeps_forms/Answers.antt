@@ -1,5 +1,5 @@
 use Rattle.std.proofs.Common.{refl}
-use Rattle.ucd_model.specs.Facts.{facts}
+use Rattle.ucd_facts.specs.Facts.{facts}
 use Rattle.stability_policies.specs.Reports.{report}
 use Rattle.release_rows.specs.Releases.{rows_now}
 use Rattle.stability_policies.proofs.CommonProofs.{same_forms}

@@ -1,6 +1,6 @@
 use Rattle.std.proofs.Common.{List, sym, subst}
 use Rattle.ucd_points.specs.declared.files.SourceFile.TheVariants.{UnicodeData}
-use Rattle.ucd_model.specs.declared.row.Row.{Row}
+use Rattle.ucd_facts.specs.declared.row.Row.{Row}
 use Rattle.release_rows.specs.Releases.{items_now}
 use Rattle.stability_policies.specs.NamedRows.{AreAbove, named}
 use Rattle.stability_policies.proofs.OrderedRows.{rows_follow}

@@ -1,5 +1,5 @@
 use Rattle.std.proofs.Common.{◌≡◌, ◌++◌, OnOk, List, ap, subst, sym, ◌∙◌}
-use Rattle.ucd_model.specs.Facts.{facts}
+use Rattle.ucd_facts.specs.Facts.{facts}
 use Rattle.ucd_points.specs.Limits.{point_count}
 use Rattle.stability_policies.specs.BrokenStretches.{breaking, points_of}
 use Rattle.release_rows.specs.Releases.{rows_now}

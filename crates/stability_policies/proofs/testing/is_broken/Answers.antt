@@ -1,5 +1,5 @@
 use Rattle.std.proofs.Common.{refl}
-use Rattle.ucd_model.specs.declared.property.Core.TheVariants.{IdStart, IdContinue, XidStart, XidContinue}
+use Rattle.ucd_facts.specs.declared.property.Core.TheVariants.{IdStart, IdContinue, XidStart, XidContinue}
 use Rattle.stability_policies.specs.declared.policy.Policy.TheVariants.{P06, P07, P08, P09}
 use Rattle.stability_policies.proofs.TestLemmas.{lost_core}
 use Rattle.stability_policies.proofs.testing.is_broken.Goals as goal

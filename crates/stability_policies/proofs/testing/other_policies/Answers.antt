@@ -1,8 +1,8 @@
 use Rattle.std.proofs.Common.{◌≡◌, ◌∙◌, ℕ, length, get_or, ap, arith}
-use Rattle.ucd_model.specs.Facts.{Facts}
+use Rattle.ucd_facts.specs.Facts.{Facts}
 use Rattle.ucd_model.specs.Records.{Record}
-use Rattle.ucd_model.specs.Sets.{has_core}
-use Rattle.ucd_model.specs.Shown.{shown_facts}
+use Rattle.ucd_facts.specs.Sets.{has_core}
+use Rattle.ucd_facts.specs.Shown.{shown_facts}
 use Rattle.stability_policies.specs.Policies.{breaks, policies}
 use Rattle.stability_policies.specs.PolicyLists.{place_below}
 use Rattle.stability_policies.specs.declared.policy.Policy.TheVariants.{P01}

@@ -5,8 +5,8 @@ use Rattle.std.proofs.Math.ListN.{get_or-eq_default}
 use Rattle.layered_table.specs.Layers.{puts, word_at}
 use Rattle.layered_table.specs.declared.painting.Layer.{Layer}
 use Rattle.ucd_points.specs.Bounds.{Bounds}
-use Rattle.ucd_model.specs.Facts.{within}
-use Rattle.ucd_model.specs.Values.{value_at}
+use Rattle.ucd_facts.specs.Facts.{within}
+use Rattle.ucd_facts.specs.Values.{value_at}
 use Rattle.unicodeset_eval.specs.Given.{numbers_are}
 use Rattle.unicodeset_eval.specs.LayeredRows.{layers_name, layers_of}
 use Rattle.unicodeset_eval.specs.Numbers.{bucket}

@@ -1,7 +1,7 @@
 use Rattle.std.proofs.Common.{◌≡◌, ◌<◌, ◌||◌, ℕ, length, drop}
 use Rattle.std.specs.List.{list_any}
 use Rattle.layered_table.specs.Layers.{puts}
-use Rattle.ucd_model.specs.Facts.{within}
+use Rattle.ucd_facts.specs.Facts.{within}
 use Rattle.unicodeset_eval.specs.Numbers.{bucket}
 use Rattle.unicodeset_eval.proofs.layers.push_pieces.Given as goal
 

@@ -1,6 +1,6 @@
 use Rattle.std.proofs.Common.{◌≡◌, ◌<◌, ◌||◌, ℕ, length, drop}
 use Rattle.std.specs.List.{list_any}
-use Rattle.ucd_model.specs.Facts.{within}
+use Rattle.ucd_facts.specs.Facts.{within}
 use Rattle.unicodeset_eval.specs.Numbers.{bucket, is_of}
 use Rattle.unicodeset_eval.proofs.numbers.push_rows.Given as goal
 

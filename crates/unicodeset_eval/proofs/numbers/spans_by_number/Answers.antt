@@ -1,7 +1,7 @@
 use Rattle.std.proofs.Common.{◌≡◌, ◌||◌, ◌<◌, List, length, sym, ap, subst, ◌∙◌}
 use Rattle.std.specs.List.{list_any}
 use Rattle.ucd_points.specs.Bounds.{Bounds}
-use Rattle.ucd_model.specs.Facts.{within}
+use Rattle.ucd_facts.specs.Facts.{within}
 use Rattle.property_aliases.specs.declared.file_values.NumberedRow.{NumberedRow}
 use Rattle.unicodeset_eval.specs.Given.{buckets_are}
 use Rattle.unicodeset_eval.specs.Numbers.{is_of}

@@ -1,6 +1,6 @@
 use Rattle.std.proofs.Common.{not, ap, ◌∙◌}
 use Rattle.std.specs.List.{list_any}
-use Rattle.ucd_model.specs.Facts.{within}
+use Rattle.ucd_facts.specs.Facts.{within}
 use Rattle.unicodeset_eval.specs.Given.{spans_cover}
 use Rattle.unicodeset_eval.proofs.row_sets.uncovered.Goals as goal
 

@@ -1,6 +1,6 @@
 use Rattle.std.proofs.Common.{◌≡◌, ℕ, length, take}
 use Rattle.std.specs.List.{list_any}
-use Rattle.ucd_model.specs.Facts.{within}
+use Rattle.ucd_facts.specs.Facts.{within}
 use Rattle.unicodeset_eval.specs.Found.{has_at}
 use Rattle.unicodeset_eval.specs.Numbers.{bucket}
 use Rattle.unicodeset_eval.proofs.row_sets.unions.Given as goal

@@ -1,5 +1,5 @@
 use Rattle.std.proofs.Common.{◌<◌, ◌≤◌, sym, subst, arith, length}
-use Rattle.ucd_model.specs.declared.row.Row.{Row}
+use Rattle.ucd_facts.specs.declared.row.Row.{Row}
 use Rattle.code_facts.specs.DataTables.{IsFresh, data_next}
 use Rattle.code_facts.proofs.DataLemmas.{row_is_fresh, rows_none, rows_added, rows_all}
 use Rattle.code_facts.proofs.data_tables.DataRuns.add_rows.Goals as goal

@@ -1,6 +1,6 @@
 use Rattle.std.proofs.Common.{◌≡◌, ℕ, ◌<◌, List, IfOk, OnOk, subst}
-use Rattle.ucd_model.specs.Facts.{data_row, class_in}
-use Rattle.ucd_model.specs.declared.row.Row.{Row}
+use Rattle.ucd_facts.specs.Facts.{data_row, class_in}
+use Rattle.ucd_facts.specs.declared.row.Row.{Row}
 use Rattle.code_facts.specs.DataTables.{data_now}
 use Rattle.code_facts.specs.Rows.{row_data}
 use Rattle.code_facts.proofs.data_tables.DataTables.of.Goals as goal

@@ -1,7 +1,7 @@
 use Rattle.std.proofs.Common.{◌≡◌, ℕ, ◌<◌, false, true, sym, ◌∙◌, arith}
 use Rattle.std.proofs.lemmas.Bool.Decides.{nat_tests}
-use Rattle.ucd_model.specs.Facts.{Facts}
-use Rattle.ucd_model.specs.Composites.{composes}
+use Rattle.ucd_facts.specs.Facts.{Facts}
+use Rattle.ucd_facts.specs.Composites.{composes}
 use Rattle.code_facts.specs.FactTables.{words_at, rests_at, facts_at}
 use Rattle.code_facts.proofs.IndexLemmas.{pair_of_mark, pair_unlisted, pair_found, pair_none, none_more, none_next}
 use Rattle.code_facts.proofs.TableLemmas.{listed_at, pair_inside}

@@ -1,5 +1,5 @@
 use Rattle.std.proofs.Common.{ℕ, ap, sym, ◌∙◌}
-use Rattle.ucd_model.specs.Facts.{Facts}
+use Rattle.ucd_facts.specs.Facts.{Facts}
 use Rattle.code_facts.specs.FactTables.{words_at, rests_at}
 use Rattle.kept_values.specs.Kept.{values}
 use Rattle.code_facts.specs.declared.version.Version.TheVariants.{Now}

@@ -1,5 +1,5 @@
 use Rattle.std.proofs.Common.{ℕ, ap, sym, ◌∙◌}
-use Rattle.ucd_model.specs.Facts.{Facts}
+use Rattle.ucd_facts.specs.Facts.{Facts}
 use Rattle.kept_values.specs.Kept.{values}
 use Rattle.code_facts.proofs.FactLemmas.{same_kept}
 use Rattle.code_facts.proofs.TableLemmas.{made_point, sound_made}

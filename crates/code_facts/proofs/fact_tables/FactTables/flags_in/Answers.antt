@@ -1,6 +1,6 @@
 use Rattle.std.proofs.Common.{ap, sym, ◌∙◌, arith}
-use Rattle.ucd_model.specs.Facts.{Facts}
-use Rattle.ucd_model.specs.Sets.{has_flag}
+use Rattle.ucd_facts.specs.Facts.{Facts}
+use Rattle.ucd_facts.specs.Sets.{has_flag}
 use Rattle.code_facts.specs.FactTables.{words_at, rests_at}
 use Rattle.code_facts.specs.Word.{flags_of_word}
 use Rattle.code_facts.proofs.FactLemmas.{kept_point}

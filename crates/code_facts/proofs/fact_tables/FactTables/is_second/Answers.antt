@@ -1,6 +1,6 @@
 use Rattle.std.proofs.Common.{◌≡◌, ℕ, ◌<◌, false, true, sym, ◌∙◌, arith}
-use Rattle.ucd_model.specs.Facts.{Facts}
-use Rattle.ucd_model.specs.Composites.{ends_with}
+use Rattle.ucd_facts.specs.Facts.{Facts}
+use Rattle.ucd_facts.specs.Composites.{ends_with}
 use Rattle.code_facts.specs.FactTables.{words_at, rests_at, facts_at}
 use Rattle.code_facts.proofs.IndexLemmas.{second_unlisted, second_found, second_none, none_more, none_next}
 use Rattle.code_facts.proofs.TableLemmas.{listed_at, second_inside}

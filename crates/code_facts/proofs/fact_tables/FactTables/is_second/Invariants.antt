@@ -1,5 +1,5 @@
 use Rattle.std.proofs.Common.{◌≤◌, ◌-◌}
-use Rattle.ucd_model.specs.Composites.{ends_with}
+use Rattle.ucd_facts.specs.Composites.{ends_with}
 use Rattle.code_facts.specs.FactTables.{facts_at}
 use Rattle.code_facts.specs.Index.{NoneBelow}
 use Rattle.code_facts.proofs.fact_tables.FactTables.is_second.Given as goal

@@ -1,5 +1,5 @@
 use Rattle.std.proofs.Common.{◌≡◌, ap, sym, ◌∙◌, arith}
-use Rattle.ucd_model.specs.Unmapped.{is_unmapped}
+use Rattle.ucd_facts.specs.Unmapped.{is_unmapped}
 use Rattle.code_facts.specs.FactTables.{words_at, rests_at}
 use Rattle.code_facts.proofs.PlainLemmas.{bare_unmapped}
 use Rattle.code_facts.proofs.fact_tables.FactTables.is_unmapped_in.Goals as goal

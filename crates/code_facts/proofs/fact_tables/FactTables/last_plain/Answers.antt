@@ -1,5 +1,5 @@
 use Rattle.std.proofs.Common.{◌≡◌, ◌==◌, ℕ, true, List, [], length, refl, ap, sym, ◌∙◌, arith}
-use Rattle.ucd_model.specs.Facts.{Facts}
+use Rattle.ucd_facts.specs.Facts.{Facts}
 use Rattle.code_facts.specs.FactTables.{words_at, rests_at}
 use Rattle.code_facts.specs.Rest.{RestOf, no_rest}
 use Rattle.code_facts.specs.declared.version.Version.TheVariants.{Now}

@@ -1,5 +1,5 @@
 use Rattle.std.proofs.Common.{◌≡◌, ℕ, ◌≤◌, ◌<◌, false, sym, ◌∙◌, arith}
-use Rattle.ucd_model.specs.Composites.{second_of}
+use Rattle.ucd_facts.specs.Composites.{second_of}
 use Rattle.code_facts.specs.FactTables.{facts_at}
 use Rattle.code_facts.specs.declared.version.Version.TheVariants.{Now}
 use Rattle.code_facts.proofs.IndexLemmas.{second_absent}

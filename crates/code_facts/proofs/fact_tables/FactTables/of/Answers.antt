@@ -1,5 +1,5 @@
 use Rattle.std.proofs.Common.{sym, ◌∙◌}
-use Rattle.ucd_model.specs.FactsLemmas.{facts_inside}
+use Rattle.ucd_facts.specs.FactsLemmas.{facts_inside}
 use Rattle.code_facts.specs.FactTables.{words_at, rests_at}
 use Rattle.release_rows.specs.Releases.{rows_now}
 use Rattle.code_facts.specs.declared.version.Version.TheVariants.{Now, Next}

@@ -1,5 +1,5 @@
 use Rattle.std.proofs.Common.{◌≡◌, ℕ, subst, arith}
-use Rattle.ucd_model.specs.Uniform.{IsPlain}
+use Rattle.ucd_facts.specs.Uniform.{IsPlain}
 use Rattle.code_facts.specs.FactTables.{facts_at}
 use Rattle.code_facts.specs.declared.version.Version.TheVariants.{Now}
 use Rattle.code_facts.proofs.fact_tables.FactTables.plain.Goals as goal

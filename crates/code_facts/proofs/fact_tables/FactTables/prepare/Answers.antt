@@ -3,7 +3,7 @@ use Rattle.std.proofs.lemmas.Bool.Decides.{nat_tests}
 use Rattle.std.proofs.lemmas.List.{nil_from_length}
 use Rattle.std.specs.List.{list_any}
 use Rattle.ucd_points.specs.Bounds.{Bounds}
-use Rattle.ucd_model.specs.Facts.{Facts, within}
+use Rattle.ucd_facts.specs.Facts.{Facts, within}
 use Rattle.code_facts.specs.FactTables.{words_at, rests_at, facts_at}
 use Rattle.release_rows.specs.Touching.{meets}
 use Rattle.code_facts.specs.Locality.{rows_within}

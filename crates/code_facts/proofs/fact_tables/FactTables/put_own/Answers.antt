@@ -1,6 +1,6 @@
 use Rattle.std.proofs.Common.{inl, inr}
 use Rattle.std.proofs.lemmas.Bool.{or_cases}
-use Rattle.ucd_model.specs.Composites.{composes}
+use Rattle.ucd_facts.specs.Composites.{composes}
 use Rattle.code_facts.specs.FactTables.{facts_at}
 use Rattle.code_facts.specs.declared.version.Version.TheVariants.{Now, Next}
 use Rattle.code_facts.proofs.TableLemmas.{on_ok_both}

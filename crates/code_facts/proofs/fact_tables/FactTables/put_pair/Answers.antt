@@ -1,5 +1,5 @@
-use Rattle.ucd_model.specs.Composites.{pair_of}
-use Rattle.ucd_model.specs.declared.query.Query.TheVariants.{Pair}
+use Rattle.ucd_facts.specs.Composites.{pair_of}
+use Rattle.ucd_facts.specs.declared.query.Query.TheVariants.{Pair}
 use Rattle.code_facts.specs.FactTables.{facts_at}
 use Rattle.code_facts.specs.declared.version.Version.TheVariants.{Now, Next}
 use Rattle.code_facts.proofs.ChangeLemmas.{gathers_put, told_put, decides_via}

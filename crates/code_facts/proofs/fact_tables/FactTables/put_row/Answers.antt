@@ -1,4 +1,4 @@
-use Rattle.ucd_model.specs.declared.query.Query.TheVariants.{Row}
+use Rattle.ucd_facts.specs.declared.query.Query.TheVariants.{Row}
 use Rattle.code_facts.specs.FactTables.{facts_at}
 use Rattle.code_facts.specs.declared.version.Version.TheVariants.{Now, Next}
 use Rattle.code_facts.proofs.ChangeLemmas.{gathers_put, told_put}

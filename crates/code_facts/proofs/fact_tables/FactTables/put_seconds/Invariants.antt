@@ -1,5 +1,5 @@
 use Rattle.std.proofs.Common.{◌≡◌, ℕ, true, take}
-use Rattle.ucd_model.specs.declared.query.Query.TheVariants.{Second}
+use Rattle.ucd_facts.specs.declared.query.Query.TheVariants.{Second}
 use Rattle.code_facts.specs.Changes.{Gathers, IsTold, is_among}
 use Rattle.code_facts.specs.FactTables.{facts_at}
 use Rattle.code_facts.specs.declared.version.Version.TheVariants.{Now, Next}

@@ -1,6 +1,6 @@
 use Rattle.std.proofs.Common.{◌≡◌, [], unwrap_or, ap, sym, ◌∙◌, arith}
 use Rattle.std.specs.Option.{option_copied}
-use Rattle.ucd_model.specs.Facts.{Facts, only_or}
+use Rattle.ucd_facts.specs.Facts.{Facts, only_or}
 use Rattle.code_facts.specs.FactTables.{words_at, rests_at}
 use Rattle.code_facts.specs.Rest.{RestOf}
 use Rattle.code_facts.proofs.FactLemmas.{kept_point}

@@ -1,5 +1,5 @@
 use Rattle.std.proofs.Common.{subst, sym, refl, ap, arith, length}
-use Rattle.ucd_model.specs.Facts.{data_row}
+use Rattle.ucd_facts.specs.Facts.{data_row}
 use Rattle.ucd_points.specs.declared.files.SourceFile.TheVariants.{UnicodeData}
 use Rattle.code_facts.specs.RowLists.{sources_of}
 use Rattle.code_facts.specs.DataTables.{data_now}

@@ -1,7 +1,7 @@
 use Rattle.std.proofs.Common.{◌≡◌, ◌∙◌, ◌<◌, ℕ, suc, true, List, ◌∷◌, Some, find, length, get_or, drop, refl, sym, ap}
 use Rattle.std.proofs.Math.Seq.{drop-cons}
 use Rattle.ucd_points.specs.Bounds.{Bounds}
-use Rattle.ucd_model.specs.Facts.{within}
+use Rattle.ucd_facts.specs.Facts.{within}
 use Rattle.ucd_model.specs.declared.records.Record.{Record as KeptRecord}
 use Rattle.derivation_tests.specs.Samples.{entry_or, sample_record}
 use Rattle.ucd_model.specs.Records.{kept_record}

@@ -1,5 +1,5 @@
 use Rattle.std.proofs.Common.{◌≡◌, drop, find}
-use Rattle.ucd_model.specs.Facts.{within}
+use Rattle.ucd_facts.specs.Facts.{within}
 use Rattle.derivation_tests.proofs.sample.SampleRecords.record.Given as goal
 
 -- what is found in what is left is what is found in all

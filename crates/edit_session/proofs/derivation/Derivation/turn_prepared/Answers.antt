@@ -4,8 +4,8 @@ use Rattle.dependency_map.specs.Maps.{asked_at}
 use Rattle.kept_values.specs.Kept.{values}
 use Rattle.paged_table.specs.Paged.{values_now, values_next}
 use Rattle.record_list.specs.Records.{record_next, record_now}
-use Rattle.ucd_model.specs.Facts.{Facts}
-use Rattle.ucd_model.specs.declared.query.Query.{Query}
+use Rattle.ucd_facts.specs.Facts.{Facts}
+use Rattle.ucd_facts.specs.declared.query.Query.{Query}
 use Rattle.ucd_points.specs.declared.list.ListOf.{ListOf}
 use Rattle.ucd_points.specs.declared.point.Point.{Point}
 use Rattle.edit_session.specs.CountProofs.{none_counted}

@@ -6,9 +6,9 @@ use Rattle.kept_values.specs.Kept.{values}
 use Rattle.paged_table.specs.Paged.{values_now}
 use Rattle.record_list.specs.Records.{record_now}
 use Rattle.rederivation.specs.Turned.{CountsWithin}
-use Rattle.ucd_model.specs.Facts.{Facts}
+use Rattle.ucd_facts.specs.Facts.{Facts}
 use Rattle.ucd_model.specs.Records.{Record}
-use Rattle.ucd_model.specs.declared.query.Query.{Query}
+use Rattle.ucd_facts.specs.declared.query.Query.{Query}
 use Rattle.ucd_points.specs.Bounds.{Bounds}
 use Rattle.edit_session.specs.Derivations.{IsNext}
 use Rattle.edit_session.specs.Groups.{changed, files_facts}

@@ -1,5 +1,5 @@
 use Rattle.std.proofs.Common.{ℕ, List, sym, ap, ◌∙◌}
-use Rattle.ucd_model.specs.declared.query.Query.{Query}
+use Rattle.ucd_facts.specs.declared.query.Query.{Query}
 use Rattle.edit_session.proofs.questions.Questions.new.Goals as goal
 
 pub returns-clause-now : goal.returns-clause-now

@@ -5,8 +5,8 @@ use Rattle.dependency_map.specs.Maps.{asked_at}
 use Rattle.kept_values.specs.Kept.{values}
 use Rattle.mention_index.specs.declared.mentions.Mentions.{Mentions}
 use Rattle.paged_table.specs.Paged.{values_now}
-use Rattle.ucd_model.specs.Facts.{Facts}
-use Rattle.ucd_model.specs.declared.query.Query.{Query}
+use Rattle.ucd_facts.specs.Facts.{Facts}
+use Rattle.ucd_facts.specs.declared.query.Query.{Query}
 use Rattle.edit_session.specs.Questions.{Keeps}
 use Rattle.edit_session.proofs.QuestionLemmas.{begun, cut}
 use Rattle.edit_session.proofs.questions.Questions.reached.Goals as goal

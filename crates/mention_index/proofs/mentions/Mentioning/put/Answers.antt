@@ -1,7 +1,7 @@
 use Rattle.std.proofs.Common.{◌≡◌, ℕ, Bool, [], ◌∷◌, ap, ◌∙◌, subst}
 use Rattle.key_set.specs.Keys.{is_in as has_key}
-use Rattle.ucd_model.specs.Facts.{Facts}
-use Rattle.ucd_model.specs.Shown.{shown_facts}
+use Rattle.ucd_facts.specs.Facts.{Facts}
+use Rattle.ucd_facts.specs.Shown.{shown_facts}
 use Rattle.mention_index.specs.Reached.{members_of}
 use Rattle.mention_index.specs.Steps.{LeadFrom, key}
 use Rattle.mention_index.proofs.mentions.Mentioning.put.Goals as goal

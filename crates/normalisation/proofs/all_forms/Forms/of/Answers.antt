@@ -1,5 +1,5 @@
 use Rattle.std.proofs.Common.{◌≡◌, ℕ, Err}
-use Rattle.ucd_model.specs.Facts.{Facts}
+use Rattle.ucd_facts.specs.Facts.{Facts}
 use Rattle.normalisation.specs.FormValueProofs.{forms_are_together, four_have_forms}
 use Rattle.normalisation.specs.FormValues.{four_forms}
 use Rattle.normalisation.proofs.all_forms.Forms.of.Goals as goal

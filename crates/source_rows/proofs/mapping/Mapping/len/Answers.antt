@@ -1,5 +1,5 @@
 use Rattle.std.proofs.Common.{sym, ap, ◌∙◌, length}
-use Rattle.ucd_model.specs.Mappings.{words}
+use Rattle.ucd_facts.specs.Mappings.{words}
 use Rattle.source_rows.specs.Mappings.{points_in}
 use Rattle.source_rows.proofs.Words.{points_count}
 use Rattle.source_rows.proofs.mapping.Mapping.len.Goals as goal

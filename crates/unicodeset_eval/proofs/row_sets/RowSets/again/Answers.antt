@@ -3,8 +3,8 @@ use Rattle.property_aliases.specs.Numbers.{AreValues}
 use Rattle.property_aliases.specs.Sources.{break_names, listed_names, script_names}
 use Rattle.property_aliases.specs.declared.file_values.FileValues.{FileValues}
 use Rattle.release_rows.specs.Releases.{rows_now}
-use Rattle.ucd_model.specs.Values.{default_script, default_word_break, script_at, word_break_at}
-use Rattle.ucd_model.specs.declared.row.Row.{Row}
+use Rattle.ucd_facts.specs.Values.{default_script, default_word_break, script_at, word_break_at}
+use Rattle.ucd_facts.specs.declared.row.Row.{Row}
 use Rattle.ucd_points.specs.declared.files.SourceFile.TheVariants.{PropList, Scripts, WordBreakProperty}
 use Rattle.unicodeset_eval.specs.RowSetLaws.{some_names}
 use Rattle.unicodeset_eval.specs.Tests.{is_listed, is_numbered}

@@ -1,0 +1,5 @@
+use Rattle.ucd_facts.specs.CompositeProofs.{pair_is_only}
+use Rattle.ucd_facts.proofs.composite_laws.pair_is_only.Goals as goal
+
+pub returns : goal.returns
+returns c = pair_is_only

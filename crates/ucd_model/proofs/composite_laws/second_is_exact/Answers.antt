@@ -1,5 +1,0 @@
-use Rattle.ucd_model.specs.CompositeProofs.{second_is_exact}
-use Rattle.ucd_model.proofs.composite_laws.second_is_exact.Goals as goal
-
-pub returns : goal.returns
-returns c = second_is_exact

@@ -1,5 +1,0 @@
-use Rattle.ucd_model.specs.NameProofs.{categories_are_spelled}
-use Rattle.ucd_model.proofs.enumeration_laws.categories_are_spelled.Goals as goal
-
-pub returns : goal.returns
-returns c = categories_are_spelled

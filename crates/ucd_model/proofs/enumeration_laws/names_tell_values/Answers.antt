@@ -1,5 +1,0 @@
-use Rattle.ucd_model.specs.NameProofs.{names_tell_values}
-use Rattle.ucd_model.proofs.enumeration_laws.names_tell_values.Goals as goal
-
-pub returns : goal.returns
-returns c = names_tell_values

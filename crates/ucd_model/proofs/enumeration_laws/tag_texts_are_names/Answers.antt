@@ -1,5 +1,0 @@
-use Rattle.ucd_model.specs.NameProofs.{tag_texts_are_names}
-use Rattle.ucd_model.proofs.enumeration_laws.tag_texts_are_names.Goals as goal
-
-pub returns : goal.returns
-returns c = tag_texts_are_names

@@ -1,5 +1,0 @@
-use Rattle.ucd_model.specs.FactsLemmas.{hangul_composes_back}
-use Rattle.ucd_model.proofs.facts_laws.hangul_composes_back.Goals as goal
-
-pub returns : goal.returns
-returns c = hangul_composes_back

@@ -1,5 +1,0 @@
-use Rattle.ucd_model.specs.FactsLemmas.{image_is_other}
-use Rattle.ucd_model.proofs.facts_laws.image_is_other.Goals as goal
-
-pub returns : goal.returns
-returns c = image_is_other

@@ -1,5 +1,0 @@
-use Rattle.ucd_model.specs.FactsLemmas.{image_is_same}
-use Rattle.ucd_model.proofs.facts_laws.image_is_same.Goals as goal
-
-pub returns : goal.returns
-returns c = image_is_same

@@ -6,7 +6,7 @@ ghost use Rattle.decomposition.specs.Walk.{Puts};
 
 use crate::levels::has_long_chain;
 use std::alloc::Global;
-use ucd_model::{Bad, FactView, FormStop, Point, Points};
+use ucd_facts::{Bad, FactView, FormStop, Point, Points};
 
 /// The levels of an expansion: one more than the longest chain of mappings (real releases need 3).
 pub const LEVELS: u8 = 8;

@@ -7,7 +7,7 @@ ghost use Rattle.decomposition.specs.Levels.{any_member};
 
 use crate::expansion::{LEVELS, counted};
 use std::alloc::Global;
-use ucd_model::{FactView, Memory, Point};
+use ucd_facts::{FactView, Memory, Point};
 
 /// Whether the expansion of a code point needs a chain of eight mappings or more. A level has the members of the mappings of
 /// the level above, each of them once: so no branch is walked once more for its depth.

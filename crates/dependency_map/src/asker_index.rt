@@ -14,7 +14,7 @@ ghost use Rattle.dependency_map.specs.Index.{query_key, is_own, least, may_ask, 
 
 use crate::number_set::next_point;
 use key_set::KeySet;
-use ucd_model::{Memory, Point, Queries, Query};
+use ucd_facts::{Memory, Point, Queries, Query};
 
 /// Stands in the keys of rows, in the place of a pair's first code point.
 const ROW: u64 = 0x11_0000;

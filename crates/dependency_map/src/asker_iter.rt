@@ -7,7 +7,7 @@ ghost use Rattle.dependency_map.specs.Maps.{asked_at};
 use crate::dependencies::DependencyMap;
 use kept_values::Store;
 use std::marker::Model;
-use ucd_model::{Point, Queries, Query};
+use ucd_facts::{Point, Queries, Query};
 
 /// The code points that ask a question and are left, ascending, each once. Contracts see the list of them.
 #[derive(Drop)]

@@ -14,7 +14,7 @@ use crate::dependencies::DependencyMap;
 use kept_values::Store;
 use key_set::KeySet;
 use std::alloc::Global;
-use ucd_model::{Memory, Point, Points, Queries, Query};
+use ucd_facts::{Memory, Point, Points, Queries, Query};
 
 impl<S: Store<Option<Queries>>> DependencyMap<S> {
     /// The code points that ask a question now, ascending, each once.

@@ -7,7 +7,7 @@ ghost use Rattle.dependency_map.specs.Askers.{points_from};
 use crate::number_set::next_in;
 use key_set::KeySet;
 use std::alloc::Global;
-use ucd_model::{Memory, Points};
+use ucd_facts::{Memory, Points};
 
 /// The code points whose numbers these are, ascending.
 ///

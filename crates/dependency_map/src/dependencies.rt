@@ -6,7 +6,7 @@ ghost use Rattle.dependency_map.specs.Index.{Lists, kept_at};
 use kept_values::Store;
 use key_set::KeySet;
 use std::alloc::Global;
-use ucd_model::Queries;
+use ucd_facts::Queries;
 
 /// The questions that each code point asks, now and next, and the code points that ask a question.
 /// `prepare` changes what is next, `commit` makes it what is now, and `discard` drops it.

@@ -12,7 +12,7 @@ use crate::relisting::few_beside;
 use kept_values::Store;
 use key_set::KeySet;
 use std::alloc::Global;
-use ucd_model::{Memory, Point, Queries};
+use ucd_facts::{Memory, Point, Queries};
 
 impl<S: Store<Option<Queries>>> Listing<S> {
     /// The listing in which all code points are plain. It takes no memory.

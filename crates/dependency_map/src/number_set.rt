@@ -5,7 +5,7 @@ ghost use Rattle.key_set.specs.Keys.{has};
 ghost use Rattle.dependency_map.specs.Index.{NoneFrom};
 
 use key_set::KeySet;
-use ucd_model::Point;
+use ucd_facts::Point;
 
 /// The least code point at or above `from` whose number is in the set, counted from `base` on.
 pub fn next_point(numbers: &KeySet, base: u64, from: u32) -> Option<Point>

@@ -12,7 +12,7 @@ use crate::relisting::FEW;
 use kept_values::Store;
 use key_set::KeySet;
 use std::alloc::Global;
-use ucd_model::{Memory, Point, Queries, Query, Span};
+use ucd_facts::{Memory, Point, Queries, Query, Span};
 
 impl<S: Store<Option<Queries>>> DependencyMap<S> {
     /// The map in which all code points are plain, now and next. It takes no memory.

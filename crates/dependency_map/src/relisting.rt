@@ -10,7 +10,7 @@ use crate::asker_index::push_keys;
 use kept_values::{Kept, Store};
 use range_table::Stretches;
 use std::alloc::Global;
-use ucd_model::{Memory, Point, Queries};
+use ucd_facts::{Memory, Point, Queries};
 
 /// The least number of questions that are prepared before the code points are listed anew.
 pub const FEW: usize = 4096;

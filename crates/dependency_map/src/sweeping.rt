@@ -9,7 +9,7 @@ use crate::relisting::{few_beside, keys_of};
 use kept_values::Kept;
 use key_set::KeySet;
 use range_table::Stretches;
-use ucd_model::Queries;
+use ucd_facts::Queries;
 
 impl<T: Stretches<u64>> DependencyMap<Kept<T, Option<Queries>>> {
     /// If many questions were prepared since this was done last, lets go of those that no code point asks any more, now

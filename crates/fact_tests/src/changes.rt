@@ -12,7 +12,7 @@ use release_rows::Release;
 use std::alloc::Global;
 use std::process::Abort;
 use std::test::Fail;
-use ucd_model::{Memory, Point, Query, SourceFile, Span, Spans};
+use ucd_facts::{Memory, Point, Query, SourceFile, Span, Spans};
 
 pub type Tables = FactTables<RunTable<u64>>;
 

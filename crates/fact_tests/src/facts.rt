@@ -9,7 +9,7 @@ use range_table::RunTable;
 use release_rows::Release;
 use std::alloc::Global;
 use std::test::Fail;
-use ucd_model::{Category, FactView, FactsRef, Flag, Kind, Point, SourceFile, Tag};
+use ucd_facts::{Category, FactView, FactsRef, Flag, Kind, Point, SourceFile, Tag};
 
 type Tables = FactTables<RunTable<u64>>;
 

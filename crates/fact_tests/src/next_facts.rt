@@ -8,7 +8,7 @@ use crate::changes::{Tables, empty_tables, point, prepare};
 use release_rows::Release;
 use std::alloc::Global;
 use std::test::Fail;
-use ucd_model::{FactView, Memory, SourceFile};
+use ucd_facts::{FactView, Memory, SourceFile};
 
 /// Whether a row covers 0041, and 00C0 is the composite of 0041 and 0300: now, and next.
 fn seen(tables: &Tables) -> (bool, bool) {

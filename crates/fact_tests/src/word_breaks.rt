@@ -6,7 +6,7 @@ use release_rows::Release;
 use std::alloc::Global;
 use std::process::Abort;
 use std::test::Fail;
-use ucd_model::{FactView, Point, SourceFile};
+use ucd_facts::{FactView, Point, SourceFile};
 
 type Tables = FactTables<RunTable<u64>>;
 

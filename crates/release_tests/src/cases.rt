@@ -3,7 +3,7 @@
 use norm_conformance::{Case, CaseRule, CaseStop, Cases, read_cases};
 use std::alloc::Global;
 use std::test::Fail;
-use ucd_model::{Point, file_limit};
+use ucd_facts::{Point, file_limit};
 
 /// Lines of NormalizationTest.txt as it is for 15.0.0, with the ends of the parts left out.
 const LINES: &[u8] =

@@ -4,7 +4,7 @@ use crate::files::is_answered;
 use release_rows::{LoadRule, LoadStop};
 use std::alloc::Global;
 use std::test::Fail;
-use ucd_model::{Memory, SourceFile, Text};
+use ucd_facts::{Memory, SourceFile, Text};
 
 /// Whether UnicodeData.txt of these lines is answered so.
 fn data_is_answered(

@@ -8,7 +8,7 @@ use release_rows::{Op, OpStop, Release};
 use source_rows::{RowStop, read_key, read_row};
 use std::alloc::Global;
 use std::test::Fail;
-use ucd_model::{Memory, SourceFile, Text};
+use ucd_facts::{Memory, SourceFile, Text};
 
 /// An operation, as a script writes it.
 #[derive(Clone, Copy)]

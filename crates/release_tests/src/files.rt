@@ -4,7 +4,7 @@ use release_rows::{LoadRule, LoadStop, Release};
 use source_rows::RowFault;
 use std::alloc::Global;
 use std::test::Fail;
-use ucd_model::{Memory, SourceFile, Text};
+use ucd_facts::{Memory, SourceFile, Text};
 
 /// Whether a file is answered so, of its bytes and of its text, and keeps its bytes if it loads and none if it does
 /// not.

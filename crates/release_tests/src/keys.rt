@@ -2,7 +2,7 @@
 
 use source_rows::*;
 use std::alloc::Global;
-use ucd_model::{Point, SourceFile, Text};
+use ucd_facts::{Point, SourceFile, Text};
 
 /// Whether a text is a key with this code point and these names.
 pub fn is_key(

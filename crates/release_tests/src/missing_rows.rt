@@ -6,7 +6,7 @@ use crate::rows::{has_fault, is_written};
 use release_rows::{KeyRule, OpStop};
 use source_rows::RowFault;
 use std::test::Fail;
-use ucd_model::SourceFile;
+use ucd_facts::SourceFile;
 
 /// Lines, and what each is written as again.
 const LINES: [(SourceFile, &[u8], &[u8]); 3] = [

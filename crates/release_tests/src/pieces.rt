@@ -3,7 +3,7 @@
 use script_lines::ScriptRule;
 use script_pieces::*;
 use std::alloc::Global;
-use ucd_model::file_limit;
+use ucd_facts::file_limit;
 
 /// The pieces of a file of a test, which is never above the limit.
 fn pieces_in(bytes: &[u8]) -> Option<Pieces<'_>> {

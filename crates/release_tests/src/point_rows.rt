@@ -4,7 +4,7 @@ use record_lines::{PointText, put_rows};
 use release_rows::{LoadStop, Release};
 use std::alloc::Global;
 use std::test::Fail;
-use ucd_model::{Point, SourceFile, Text};
+use ucd_facts::{Point, SourceFile, Text};
 
 /// Lines of UnicodeData.txt of Unicode 15.0.0, with CR LF.
 const DATA: &[u8] =

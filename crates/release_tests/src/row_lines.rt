@@ -4,7 +4,7 @@ use crate::files::{is_answered, release_of};
 use release_rows::{Release, RowText, Rows};
 use std::alloc::Global;
 use std::test::Fail;
-use ucd_model::{Memory, Row, SourceFile};
+use ucd_facts::{Memory, Row, SourceFile};
 
 /// Whether there are two rows, on these lines.
 fn are_on(mut rows: Rows<'_>, first: u64, second: u64) -> bool {

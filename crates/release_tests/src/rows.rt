@@ -5,7 +5,7 @@ ghost use Rattle.ucd_facts.specs.RowValues.{RowOk};
 use source_rows::*;
 use std::alloc::Global;
 use std::test::Fail;
-use ucd_model::{Point, Row, SourceFile, Text};
+use ucd_facts::{Point, Row, SourceFile, Text};
 
 /// Whether the row of a line is written so, or why the line has none.
 pub fn is_written(

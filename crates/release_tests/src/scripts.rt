@@ -4,7 +4,7 @@ use release_rows::Op;
 use script_lines::*;
 use source_rows::RowFault;
 use std::alloc::Global;
-use ucd_model::{SourceFile, file_limit};
+use ucd_facts::{SourceFile, file_limit};
 
 /// The commands of a script of a test, which is never above the limit.
 fn commands_in(alloc: Global, script: &[u8]) -> Result<Commands, ScriptStop> {

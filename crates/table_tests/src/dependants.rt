@@ -7,7 +7,7 @@ use range_table::RunTable;
 use std::alloc::Global;
 use std::process::Abort;
 use std::test::Fail;
-use ucd_model::{Memory, Point, Queries, Query, Span};
+use ucd_facts::{Memory, Point, Queries, Query, Span};
 
 type Store = Kept<RunTable<u64>, Option<Queries>>;
 

@@ -5,7 +5,7 @@ use paged_table::PagedTable;
 use range_table::{Stretches, Table};
 use std::alloc::Global;
 use std::process::Abort;
-use ucd_model::{Memory, Point, Span};
+use ucd_facts::{Memory, Point, Span};
 
 fn span(lo: u32, hi: u32) -> Option<Span> {
     Span::new(Point::new(lo)?, Point::new(hi)?)

@@ -6,7 +6,7 @@ ghost use Rattle.part_list.specs.Parts.{IsEntry};
 use part_list::{Entries, PartList, Reach, Seek, Spanned, Spot};
 use std::alloc::Global;
 use std::process::Abort;
-use ucd_model::Memory;
+use ucd_facts::Memory;
 
 /// Passes the entries whose first code point is this.
 #[derive(Clone, Copy)]

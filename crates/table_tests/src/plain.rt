@@ -4,7 +4,7 @@ ghost use Rattle.std.specs.Prelude.{◌<◌};
 
 use std::alloc::Global;
 use std::process::Abort;
-use ucd_model::{Memory, Span};
+use ucd_facts::{Memory, Span};
 
 /// Stops unless these two are seen at a number. One function for all tests keeps each of them small.
 pub fn expect(rt: &impl Abort, number: u32, seen: Option<(u64, u64)>, expected: (u64, u64)) {

@@ -1,7 +1,7 @@
 //! A pool in use.
 
 use page_pool::PagePool;
-use ucd_model::Memory;
+use ucd_facts::Memory;
 
 /// Whether all words of a new page are zeros.
 fn is_zeroed(pool: &mut PagePool) -> Result<bool, Memory> {

@@ -7,7 +7,7 @@ use crate::plain::expect;
 use range_table::{RunTable, Stretches, Table};
 use std::alloc::Global;
 use std::process::Abort;
-use ucd_model::{Memory, Point, Span};
+use ucd_facts::{Memory, Point, Span};
 
 type Runs = RunTable<u64>;
 

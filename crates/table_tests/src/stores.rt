@@ -9,7 +9,7 @@ use paged_table::PagedTable;
 use range_table::RunTable;
 use std::alloc::Global;
 use std::process::Abort;
-use ucd_model::{Memory, Point, Span};
+use ucd_facts::{Memory, Point, Span};
 
 /// A value that is not copied.
 #[derive(Drop)]

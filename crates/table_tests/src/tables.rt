@@ -5,7 +5,7 @@ use paged_table::PagedTable;
 use range_table::{RunTable, Table};
 use std::alloc::Global;
 use std::process::Abort;
-use ucd_model::{Memory, Point, Span};
+use ucd_facts::{Memory, Point, Span};
 
 /// How many code points are looked at: six blocks.
 const SHOWN: u32 = 0x600;

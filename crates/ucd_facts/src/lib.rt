@@ -1,4 +1,4 @@
-//! Rows and facts: the types, values and definitions that the crates speak in that read, keep and edit them.
+//! Rows, facts and questions about them: types, values and definitions for the crates that read, edit and keep them.
 #![tactic(auto)]
 
 mod bits;

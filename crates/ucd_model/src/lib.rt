@@ -1,4 +1,4 @@
-//! The types, values and definitions that every other crate of the bench speaks in.
+//! What is derived from facts: forms, records, valid releases and derived texts. It hands the types of `ucd_facts` out again.
 #![tactic(auto)]
 
 pub mod label_laws;

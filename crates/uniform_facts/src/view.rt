@@ -3,7 +3,7 @@
 ghost use Rattle.std.specs.Prelude.{◌≡◌, ◌≤◌, ◌<◌, ℕ};
 ghost use Rattle.ucd_facts.specs.Uniform.{IsPlain, Uniform};
 
-use ucd_model::{FactView, Point};
+use ucd_facts::{FactView, Point};
 
 /// The facts of all code points, as they are now, and how far code points without a mapping have the same other facts. No
 /// call takes memory. UAX #44, sections 5.6 and 5.7.

@@ -147,6 +147,12 @@ impl<T: Table<u64>> FactTables<T> {
     {
         &self.words
     }
+
+    /// About how many mappings are kept beside the words, for a hint of how much room is needed for what is derived of them.
+    /// Each Hangul syllable is counted.
+    pub fn mapping_count(&self) -> usize {
+        self.rests.count()
+    }
 }
 
 /// The tables of the rows of a release now.

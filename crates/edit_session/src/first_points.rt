@@ -63,7 +63,9 @@ fn derive_first<L: Ledger>(
 {
     match derive_one(alloc, tables, Point::at(0), steps) {
         Ok(value) => {
-            let table = RecordTable::filled(alloc, value)?;
+            // of three mappings about two are those of Hangul syllables, which share their records
+            let records = tables.mapping_count() / 3;
+            let table = RecordTable::with_room(alloc, value, records, tables.packed().pages())?;
             Ok(table)
         }
         Err(stop) => Err(stop),

@@ -98,6 +98,13 @@ impl<T: Table<u64>, V: Drop> Store<V> for Kept<T, V> {
     }
 }
 
+impl<T: Table<u64>, V: Drop> Kept<T, V> {
+    /// How many values are held beside the first one, for a hint of how much room as many others need.
+    pub fn count(&self) -> usize {
+        self.slots.count()
+    }
+}
+
 impl<T: Table<u64> + Copied, V: Drop> Kept<T, V> {
     /// The same values at the same places, now and next, each of them as `copy` makes it.
     ///

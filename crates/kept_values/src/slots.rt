@@ -138,7 +138,7 @@ impl<V: Drop> Slots<V> {
     }
 
     /// How many values are held behind the first.
-    fn count(&self) -> usize {
+    pub fn count(&self) -> usize {
         self.more.len().saturating_sub(self.free.len())
     }
 }

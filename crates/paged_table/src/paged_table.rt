@@ -138,7 +138,8 @@ impl Table<u64> for PagedTable {
     }
 
     fn reserve(&mut self, blocks: u32) {
-        let _done = self.pool.reserve(blocks);
+        // a span may need two more pages before it gives one back
+        let _done = self.pool.reserve(blocks.saturating_add(2));
     }
 
     fn shrink_to_fit(&mut self) {

@@ -41,6 +41,24 @@ impl RecordTable {
         })
     }
 
+    /// The same, with room for about so many records more, and for so many blocks of 256 code points whose records are not
+    /// all equal, as far as there is memory for it: a table that grows by and by leaves holes in the heap.
+    ///
+    /// - `Memory`: memory ran out.
+    pub fn with_room(
+        alloc: Global,
+        value: Record,
+        records: usize,
+        blocks: u32,
+    ) -> Result<RecordTable, Memory>
+        ensures now { IfOk result (λ table. SameValues (record_now table) (λ _. kept_record value)) }
+        ensures next { IfOk result (λ table. SameValues (record_next table) (λ _. kept_record value)) }
+    {
+        let mut table = RecordTable::filled(alloc, value)?;
+        table.records.reserve(records, blocks);
+        Ok(table)
+    }
+
     /// The same records, now and next. A record that is held once is held once in the copy.
     ///
     /// - `Memory`: memory ran out.

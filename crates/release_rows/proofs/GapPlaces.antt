@@ -75,7 +75,7 @@ module _ (s : Sought) (row : Row) (parts : List (List (Spanned Stretch))) (law :
   follow_any : list_any (comes_behind s) (flat parts) ≡ list_any (row_passes (follows s.file row)) (map (stored_at s.file s.text) (flat parts))
   follow_any = any_moved (comes_behind s) (row_passes (follows s.file row)) (stored_at s.file s.text) (flat parts) all_follow
 
-  alike_any : list_any (is_alike s) (flat parts) ≡ list_any (row_passes (same_group s.file row)) (map (stored_at s.file s.text) (flat parts))
+  pub alike_any : list_any (is_alike s) (flat parts) ≡ list_any (row_passes (same_group s.file row)) (map (stored_at s.file s.text) (flat parts))
   alike_any = any_moved (is_alike s) (row_passes (same_group s.file row)) (stored_at s.file s.text) (flat parts) all_alike
 
   place_following : is_missing_in s.file row ≡ false → (spot : Spot) → FirstAt (Some spot) (comes_behind s) parts → place_in s.file row (map (stored_at s.file s.text) (flat parts)) ≡ place parts spot

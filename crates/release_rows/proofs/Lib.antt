@@ -37,6 +37,7 @@ pub mod ConditionTags
 pub mod Gathered
 mod StoredRows
 mod FoundRows
+mod FirstOfGroup
 mod Edited
 mod OneRow
 mod EntrySpans

@@ -224,7 +224,7 @@ fits_by : (told : Bool) (a b : ℕ) → (told ≡ true → a ≡ b) → tag_fits
 fits_by true a b h = rw (h refl) (self_equal b)
 fits_by false a b h = refl
 
-names_same : (a b : List (List ℕ)) → is_eq (names_cmp a b) ≡ true → a ≡ b
+pub names_same : (a b : List (List ℕ)) → is_eq (names_cmp a b) ≡ true → a ≡ b
 names_same [] [] h = refl
 names_same [] (y ∷ b) h = absurd cc
 names_same (x ∷ a) [] h = absurd cc

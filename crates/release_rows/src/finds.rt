@@ -1,19 +1,22 @@
 //! What an operation finds among the entries of a file: its row's place, or the rule that it breaks.
 
-ghost use Rattle.std.specs.Prelude.{◌≡◌, Ok, map};
+ghost use Rattle.std.specs.Prelude.{◌≡◌, Ok, false, map, true};
 ghost use Rattle.std.specs.List.{All};
+ghost use Rattle.ucd_points.specs.declared.files.SourceFile.TheVariants.{PropertyValueAliases};
 ghost use Rattle.ucd_facts.specs.declared.row.Row.{Row as RowValue};
 ghost use Rattle.source_rows.specs.Faults.{row_or_fault};
 ghost use Rattle.source_rows.specs.Keys.{key_of};
 ghost use Rattle.part_list.specs.Parts.{next_in};
 ghost use Rattle.release_rows.specs.Finding.{FindsGap, FindsRow, FindsSpot, items_of};
-ghost use Rattle.release_rows.specs.Groups.{AreMarked};
+ghost use Rattle.part_list.specs.Tags.{may_have};
+ghost use Rattle.release_rows.specs.Groups.{AreMarked, group_tag};
 ghost use Rattle.release_rows.specs.Keys.{is_missing_row};
 ghost use Rattle.release_rows.specs.Operations.{has_key};
 ghost use Rattle.release_rows.specs.Searches.{IsSoughtRow};
 ghost use Rattle.release_rows.specs.StoredItems.{IsStored, stored_at};
 
 use crate::edits::{Gap, gap_for};
+use crate::groups::group_tag;
 use crate::key_rule::KeyRule;
 use crate::op_spans::{code_of, has_code};
 use crate::row_key::row_end;
@@ -71,6 +74,9 @@ pub fn added_gap(
     ensures { (row : RowValue) → IsSoughtRow search.now.file row search.now.text search.now → FindsGap result search.now.file search.now.text row items.now.next }
 {
     contents_have_keys();
+    if is_first_of_group(groups, search) {
+        return Ok(gap_for(items, groups, search));
+    }
     if items.first(&search.with(Test::SameKey)).is_some() {
         return Err(KeyRule::K1);
     }
@@ -78,6 +84,15 @@ pub fn added_gap(
         return Err(KeyRule::K4);
     }
     Ok(gap_for(items, groups, search))
+}
+
+/// Whether it is known that no row has the group of what is looked for, in the file whose keys begin with the name of their group:
+/// then no row has its key either.
+fn is_first_of_group(groups: &Tags, search: &Search<'_>) -> bool
+    ensures file { result ≡ true → search.now.file ≡ PropertyValueAliases }
+    ensures group { result ≡ true → may_have groups.now (group_tag search.now.group) ≡ false }
+{
+    search.file == SourceFile::PropertyValueAliases && !groups.may_have(group_tag(search.group))
 }
 
 /// Where the row stands that a change replaces.

@@ -1,4 +1,4 @@
-use Rattle.std.proofs.Common.{Bool, true, false, ◌&&◌, sym, ap, ◌∙◌}
+use Rattle.std.proofs.Common.{Bool, ◌&&◌, sym, ap, ◌∙◌}
 use Rattle.ucd_points.specs.MissingLines.{takes_missing}
 use Rattle.release_rows.proofs.edits.gap_for.Goals as goal
 

@@ -62,21 +62,21 @@ listed_next xs start place ascends point = elim ((slice_get_cases xs place).1) [
 
 -- ---- between two places
 
--- the numbers up to a place are below start, where the one there is
+-- the numbers up to a place are below start, if the one there is
 pub behind_all : (xs : List ℕ) (start place : ℕ) → IsStrictlyIncreasing xs → place < length xs → get_or xs place 0 < start → (i d : ℕ) → i < place + 1 → get_or xs i d < start
 behind_all xs start place ascends inside low i d lt =
     let rises = non_decreasing_from_sorted xs (sorted_from_strictly_increasing xs ascends) i place d (omega arith) inside in
     let at = get_or_default xs place d 0 inside in
     omega (arith, rises, at, low)
 
--- the numbers from a place on are not, where the one there is not
+-- the numbers from a place on are not, if the one there is not
 pub before_all : (xs : List ℕ) (start place : ℕ) → IsStrictlyIncreasing xs → start ≤ get_or xs place 0 → (i d : ℕ) → place ≤ i → i < length xs → start ≤ get_or xs i d
 before_all xs start place ascends high i d from inside =
     let rises = non_decreasing_from_sorted xs (sorted_from_strictly_increasing xs ascends) place i d from inside in
     let at = get_or_default xs place d 0 (omega arith) in
     omega (arith, rises, at, high)
 
--- where no place is left between the two, it is that of the next number
+-- if no place is left between the two, it is that of the next number
 pub parted : (xs : List ℕ) (start place : ℕ) → IsBetween xs start place place → IsPartitionPoint (λ y. ltb y start ≡ true) (λ y. ltb y start ≡ false) xs place
 parted xs start place between = (
   λ i d inside lt. let below = between.below i d lt in grind (arith, nat_tests),

@@ -2,7 +2,7 @@
 --
 -- is_in keys k           k is in the list
 -- has keys k             k is in the set: in its sorted list, or among those that were put in later
--- IsNext p start found   `found` is the least number at or above start that passes p; None where none does
+-- IsNext p start found   `found` is the least number at or above start that passes p; None if none does
 -- IsBetween keys start a b   the keys before place a are below start, and those from place b on are not
 -- least a b              the lesser of two numbers, of those that are there
 use Rattle.std.specs.Prelude.{◌≡◌, ℕ, ◌<◌, ◌≤◌, Bool, true, false, ◌==◌, ◌||◌, nat_le, if◌then◌else◌, List, length, slice_index_or, Option, Some, None, MatchOption}

@@ -12,7 +12,7 @@ const FEW: usize = 64;
 /// The numbers of a bucket have the same upper bits.
 #[derive(Drop)]
 pub struct Buckets {
-    // where in the list each bucket begins, and behind these where the last one ends; none where nothing is known
+    // where in the list each bucket begins, and behind these where the last one ends; none if nothing is known
     begins: Vec<usize>,
     // how many lower bits the numbers of a bucket differ in
     bits: u32,

@@ -10,7 +10,8 @@ ghost use Rattle.part_list.specs.Puts.{put_entries};
 ghost use Rattle.part_list.specs.declared.spanned.Spanned.{Spanned as Entry};
 
 use crate::bits::{set_all, some_set};
-use crate::part::{Part, first_in};
+use crate::find::first_in;
+use crate::part::Part;
 use crate::put::Put;
 use crate::seek::Seek;
 use crate::spanned::Spanned;

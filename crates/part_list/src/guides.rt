@@ -1,6 +1,6 @@
 //! Bounds of blocks of parts, by which a search passes many parts at once.
 
-ghost use Rattle.std.specs.Prelude.{◌≡◌, ℕ, ◌<◌, ◌≤◌, length};
+ghost use Rattle.std.specs.Prelude.{ℕ, ◌<◌, ◌≤◌, length};
 ghost use Rattle.std.specs.List.{All};
 ghost use Rattle.part_list.specs.Guides.{Covers, CoversBut, RulesOut};
 ghost use Rattle.part_list.specs.Parts.{part_at};

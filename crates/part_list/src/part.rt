@@ -1,17 +1,17 @@
 //! A part of a list, now and next.
 
-ghost use Rattle.std.specs.Prelude.{◌≡◌, ◌+◌, ◌<◌, ◌≤◌, [], ◌∷◌, ◌++◌, true, false, length, take, drop, IfOk, OnOk, OnErr};
-ghost use Rattle.std.specs.List.{All, filter, position_or_len};
+ghost use Rattle.std.specs.Prelude.{◌≡◌, ◌+◌, ◌<◌, ◌≤◌, [], ◌∷◌, ◌++◌, true, false, length, take, IfOk, OnOk, OnErr};
+ghost use Rattle.std.specs.List.{All, filter};
 ghost use Rattle.part_list.specs.Parts.{spliced};
-ghost use Rattle.std.specs.Option.{option_to_list};
 ghost use Rattle.part_list.specs.Finds.{FirstIn, LastIn};
 ghost use Rattle.part_list.specs.Orders.{IsOrdered, IsWindow};
 ghost use Rattle.part_list.specs.PartValues.{committed, discarded, has_entries, shown};
 ghost use Rattle.part_list.specs.Puts.{put_entries};
 ghost use Rattle.part_list.specs.Reaches.{IsWithin};
 
+use crate::find::{first_in, last_in};
 use crate::order::{goes_on, is_ordered, is_ordered_around, window};
-use crate::put::Put;
+use crate::put::{Put, spliced};
 use crate::reach::Reach;
 use crate::seek::Seek;
 use crate::spanned::Spanned;
@@ -50,95 +50,6 @@ impl<T: Copy> Model for Part<T> {
     ghost view = { λ p. record { now = p.kept; next = unwrap_or p.edit p.kept; edited = is_some p.edit } };
 
     ghost invariant = { λ p. All (IsWithin p.reach) (unwrap_or p.edit p.kept) × (p.ordered ≡ true → IsOrdered (unwrap_or p.edit p.kept)) };
-}
-
-/// Puts an entry, if there is one, at the end.
-///
-/// - `Memory`: memory ran out.
-fn push_some<T: Copy>(
-    entries: &mut Vec<Spanned<T>>,
-    entry: Option<Spanned<T>>,
-) -> Result<(), Memory>
-    ensures { OnOk result (entries.new.items ≡ entries.old.items ++ option_to_list entry) }
-{
-    if let Some(entry) = entry {
-        entries.push(entry)?;
-    }
-    Ok(())
-}
-
-/// A copy of entries, with others in the place of the `removed` ones from `at` on.
-///
-/// - `Memory`: memory ran out.
-fn spliced<T: Copy>(
-    alloc: Global,
-    old: &[Spanned<T>],
-    at: usize,
-    removed: usize,
-    put: Put<T>,
-) -> Result<ListOf<Spanned<T>>, Memory>
-    requires { at + removed ≤ length old.now }
-    ensures { IfOk result (λ new. new ≡ spliced old.now at removed (put_entries put)) }
-{
-    let mut new = Vec::with_capacity(alloc, old.len().saturating_add(2))?;
-    new.extend_from_slice(&old[..at])?;
-    push_some(&mut new, put.first)?;
-    push_some(&mut new, put.second)?;
-    new.extend_from_slice(&old[at + removed..])?;
-    Ok(ListOf::from_vec(new))
-}
-
-/// The place from `from` on of the first entry that its bounds do not rule out; the length if they rule out all. The
-/// loop calls nothing, so it is a few comparisons for each entry.
-fn next_candidate<T: Copy, S: Seek<T>>(entries: &[Spanned<T>], seek: &S, from: usize) -> usize
-    requires from { from ≤ length entries.now }
-    ensures within { result ≤ length entries.now }
-    ensures from { from ≤ result }
-    ensures none { position_or_len (S.passing seek.now) (drop from entries.now) + from ≡ position_or_len (S.passing seek.now) (drop result entries.now) + result }
-{
-    let mut at = from;
-    'entries: while at < entries.len() {
-        if !seek.skips(Reach::NONE.with(&entries[at])) {
-            return at;
-        }
-        at += 1;
-    }
-    at
-}
-
-/// The place of the first entry that passes.
-pub fn first_in<T: Copy, S: Seek<T>>(entries: &[Spanned<T>], seek: &S) -> Option<usize>
-    ensures { FirstIn result (S.passing seek.now) entries.now }
-{
-    let mut at = next_candidate(entries, seek, 0);
-    'entries: while at < entries.len() {
-        if seek.passes(&entries[at]) {
-            return Some(at);
-        }
-        at = next_candidate(entries, seek, at + 1);
-    }
-    None
-}
-
-/// Whether an entry passes. Mostly its bounds rule it out, which is a few comparisons.
-fn is_sought<T: Copy, S: Seek<T>>(entry: &Spanned<T>, seek: &S) -> bool
-    ensures { result ≡ S.passing seek.now entry.now }
-{
-    !seek.skips(Reach::NONE.with(entry)) && seek.passes(entry)
-}
-
-/// The place of the last entry that passes.
-fn last_in<T: Copy, S: Seek<T>>(entries: &[Spanned<T>], seek: &S) -> Option<usize>
-    ensures { LastIn result (S.passing seek.now) entries.now }
-{
-    let mut left = entries.len();
-    'entries: while left > 0 {
-        if is_sought(&entries[left - 1], seek) {
-            return Some(left - 1);
-        }
-        left -= 1;
-    }
-    None
 }
 
 impl<T: Copy> Part<T> {

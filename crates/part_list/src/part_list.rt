@@ -1,27 +1,20 @@
 //! Lists that can be edited.
 
-ghost use Rattle.std.specs.Prelude.{◌≡◌, ◌+◌, ◌<◌, ◌≤◌, [], ◌∷◌, ◌++◌, length, slice_index_or, slice_set, OnOk, OnErr};
-ghost use Rattle.std.specs.List.{filter, insert, remove};
-ghost use Rattle.std.specs.Option.{MatchOption};
+ghost use Rattle.std.specs.Prelude.{◌≡◌, ◌+◌, ◌<◌, ◌≤◌, [], ◌∷◌, ◌++◌, length, slice_set, OnOk, OnErr};
+ghost use Rattle.std.specs.List.{insert, remove};
 ghost use Rattle.part_list.specs.Parts.{IsEntry, IsGap, now_in, next_in, part_at, place, spliced};
-ghost use Rattle.part_list.specs.Finds.{FirstAt, IsBefore, LastAt, StandsAt};
 ghost use Rattle.part_list.specs.Puts.{put_entries};
 
 use crate::change::{commit_all, discard_all, tidy};
 use crate::copy::copied_parts;
-use crate::entries::Entries;
 use crate::fill::{begin, edit, push};
 use crate::guides::{renew, renew_all};
 use crate::hints::Hints;
 use crate::part::Part;
-use crate::passing::Passing;
 use crate::put::Put;
 use crate::reach::Reach;
-use crate::search::{first_spot, last_spot, spot_at, spot_before};
-use crate::seek::Seek;
 use crate::spanned::Spanned;
 use crate::spot::Spot;
-use crate::version::Version;
 use std::alloc::Global;
 use std::marker::Model;
 use ucd_points::{Copied, Memory};
@@ -40,11 +33,11 @@ use ucd_points::{Copied, Memory};
 #[derive(Debug, Drop)]
 pub struct PartList<T: Copy> {
     alloc: Global,
-    parts: Vec<Part<T>>,
+    pub(crate) parts: Vec<Part<T>>,
     /// Bounds of the first blocks of the parts, by which searches pass many at once.
-    guides: Vec<Reach>,
+    pub(crate) guides: Vec<Reach>,
     /// Tags, of which each entry has one now and next, and code points of which it speaks, by which searches for others end at once.
-    hints: Hints<T>,
+    pub(crate) hints: Hints<T>,
     /// Whether there may be a part whose entries next are others than now.
     edited: bool,
     /// Whether an entry was taken out of what is next since the last `commit` or `discard`.
@@ -189,100 +182,6 @@ impl<T: Copy> PartList<T> {
     {
         self.shrunk = true;
         self.edit(spot, 1, Put::none())
-    }
-
-    /// The entry next at a spot.
-    pub fn get(&self, spot: Spot) -> Spanned<T>
-        requires { IsEntry self.now.next spot }
-        ensures { result ≡ slice_index_or (next_in self.now) (place self.now.next spot) result }
-    {
-        self.parts[spot.slot].next()[spot.at]
-    }
-
-    /// The spot of the first entry next that passes; `None` if none passes.
-    pub fn first<S: Seek<T>>(&self, seek: &S) -> Option<Spot>
-        ensures { FirstAt result (S.passing seek.now) self.now.next }
-    {
-        if self.hints.lacks(seek) {
-            return None;
-        }
-        first_spot(&self.parts, &self.guides, seek)
-    }
-
-    /// The spot of the last entry next that passes; `None` if none passes.
-    pub fn last<S: Seek<T>>(&self, seek: &S) -> Option<Spot>
-        ensures { LastAt result (S.passing seek.now) self.now.next }
-    {
-        if self.hints.lacks(seek) {
-            return None;
-        }
-        last_spot(&self.parts, seek)
-    }
-
-    /// The entries next that pass, in order. It looks at no entry of a part whose bounds tell that none passes.
-    pub fn passing<'a, S: Seek<T>>(&'a self, seek: &'a S) -> Passing<'a, T, S>
-        ensures { result ≡ filter (S.passing seek.now) (next_in self.now) }
-    {
-        Passing::new(&self.parts, &self.guides, seek)
-    }
-
-    /// The spot of the entry next before another one; `None` if that one is the first.
-    pub fn before(&self, spot: Spot) -> Option<Spot>
-        requires { IsEntry self.now.next spot }
-        ensures { IsBefore result spot self.now.next }
-    {
-        spot_before(&self.parts, spot)
-    }
-
-    /// The spot of the entry next at a place of the list, counted from 0; `None` past the last. It takes time by the parts
-    /// before it.
-    pub fn at(&self, place: usize) -> Option<Spot>
-        ensures { StandsAt result place self.now.next }
-    {
-        spot_at(&self.parts, place)
-    }
-
-    /// How many parts there are, now and next.
-    pub fn part_count(&self) -> usize
-        ensures now { result ≡ length self.now.now }
-        ensures next { result ≡ length self.now.next }
-    {
-        self.parts.len()
-    }
-
-    /// The entries now of a part, counted from 0.
-    pub fn part(&self, slot: usize) -> &[Spanned<T>]
-        requires { slot < length self.now.now }
-        ensures { result.now ≡ part_at self.now.now slot }
-    {
-        self.parts[slot].shown(Version::Now)
-    }
-
-    /// The entries next of a part that was edited since the last `commit` or `discard`; `None` of one that was not, which
-    /// has the entries next that it has now.
-    pub fn edited_part(&self, slot: usize) -> Option<&[Spanned<T>]>
-        requires { slot < length self.now.now }
-        ensures { MatchOption result (part_at self.now.next slot ≡ part_at self.now.now slot) (λ entries. entries.now ≡ part_at self.now.next slot) }
-    {
-        let part = &self.parts[slot];
-        if part.is_edited() {
-            return Some(part.next());
-        }
-        None
-    }
-
-    /// The entries now, in order.
-    pub fn entries(&self) -> Entries<'_, T>
-        ensures { result ≡ now_in self.now }
-    {
-        Entries::new(Version::Now, &self.parts)
-    }
-
-    /// The entries next, in order.
-    pub fn next_entries(&self) -> Entries<'_, T>
-        ensures { result ≡ next_in self.now }
-    {
-        Entries::new(Version::Next, &self.parts)
     }
 
     /// Makes what is next what is now. It takes no memory.

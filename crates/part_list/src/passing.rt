@@ -1,13 +1,14 @@
 //! Goes over the entries of a list that pass.
 
-ghost use Rattle.std.specs.Prelude.{◌≡◌, ◌+◌, ◌<◌, [], ◌∷◌, drop, length};
+ghost use Rattle.std.specs.Prelude.{◌≡◌, ◌+◌, ◌<◌, [], drop, length};
 ghost use Rattle.std.specs.List.{filter};
 ghost use Rattle.part_list.specs.Guides.{Covers};
 ghost use Rattle.part_list.specs.Parts.{flat};
 ghost use Rattle.part_list.specs.PartValues.{parts_next};
 
+use crate::find::first_in;
 use crate::guides::next_slot;
-use crate::part::{Part, first_in};
+use crate::part::Part;
 use crate::reach::Reach;
 use crate::seek::Seek;
 use crate::spanned::Spanned;

@@ -1,9 +1,13 @@
-//! What an edit puts into a list.
+//! What an edit puts into a list, and entries with it put in.
 
-ghost use Rattle.std.specs.Prelude.{◌≡◌, ◌∷◌, []};
+ghost use Rattle.std.specs.Prelude.{◌≡◌, ◌+◌, ◌≤◌, [], ◌∷◌, ◌++◌, length, IfOk, OnOk};
+ghost use Rattle.std.specs.Option.{option_to_list};
+ghost use Rattle.part_list.specs.Parts.{spliced};
 ghost use Rattle.part_list.specs.Puts.{put_entries};
 
 use crate::spanned::Spanned;
+use std::alloc::Global;
+use ucd_points::{ListOf, Memory};
 
 /// No entry, one, or two, one behind the other.
 #[derive(Clone, Copy)]
@@ -44,4 +48,40 @@ impl<T: Copy> Put<T> {
             second: Some(second),
         }
     }
+}
+
+/// Puts an entry, if there is one, at the end.
+///
+/// - `Memory`: memory ran out.
+fn push_some<T: Copy>(
+    entries: &mut Vec<Spanned<T>>,
+    entry: Option<Spanned<T>>,
+) -> Result<(), Memory>
+    ensures { OnOk result (entries.new.items ≡ entries.old.items ++ option_to_list entry) }
+{
+    if let Some(entry) = entry {
+        entries.push(entry)?;
+    }
+    Ok(())
+}
+
+/// A copy of entries, with others in the place of the `removed` ones from `at` on.
+///
+/// - `Memory`: memory ran out.
+pub fn spliced<T: Copy>(
+    alloc: Global,
+    old: &[Spanned<T>],
+    at: usize,
+    removed: usize,
+    put: Put<T>,
+) -> Result<ListOf<Spanned<T>>, Memory>
+    requires { at + removed ≤ length old.now }
+    ensures { IfOk result (λ new. new ≡ spliced old.now at removed (put_entries put)) }
+{
+    let mut new = Vec::with_capacity(alloc, old.len().saturating_add(2))?;
+    new.extend_from_slice(&old[..at])?;
+    push_some(&mut new, put.first)?;
+    push_some(&mut new, put.second)?;
+    new.extend_from_slice(&old[at + removed..])?;
+    Ok(ListOf::from_vec(new))
 }

@@ -1,6 +1,6 @@
 use Rattle.std.proofs.Common.{◌≡◌, ◌+◌, ◌≤◌, length, take, not}
 use Rattle.std.specs.List.{suffix_len}
-use Rattle.part_list.proofs.part.last_in.Given as goal
+use Rattle.part_list.proofs.find.last_in.Given as goal
 
 -- none of the entries behind those that are left passes
 abbrev pub invariant-entries : goal.invariant-entries

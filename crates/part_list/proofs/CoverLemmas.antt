@@ -1,30 +1,16 @@
 -- The code points of which entries of a list may speak.
-use Rattle.std.proofs.Common.{◌≡◌, ℕ, ◌+◌, ◌<◌, ◌≤◌, Bool, true, false, List, length, max, take, map, get_or, not, Option, Some, None, is_some, inl, inr, refl, subst, sym, ◌∙◌, arith}
+use Rattle.std.proofs.Common.{◌≡◌, ℕ, ◌≤◌, Bool, true, false, List, length, max, not, Option, Some, None, is_some, inl, inr, refl, subst, sym, ◌∙◌, arith}
 use Rattle.std.specs.Box.{box_value}
 use Rattle.std.specs.Global.{Box}
-use Rattle.std.specs.List.{All, position_or_len}
-use Rattle.std.proofs.lemmas.List.{length-map}
-use Rattle.std.proofs.lemmas.List.Elements.{All-weaker, All-append}
+use Rattle.std.specs.List.{position_or_len}
 use Rattle.std.proofs.lemmas.List.Sums.{fails_before_first}
 use Rattle.part_list.specs.declared.cover.Cover.{Cover}
 use Rattle.part_list.specs.declared.cover.Known.{Known}
 use Rattle.part_list.specs.declared.spanned.Spanned.{Spanned}
-use Rattle.part_list.specs.Covers.{AllMeet, CoversMore, IsCovered, IsHeld, NoneSet}
+use Rattle.part_list.specs.Covers.{AllMeet, IsCovered, IsHeld, NoneSet}
 use Rattle.part_list.specs.Finds.{FirstIn}
-use Rattle.part_list.specs.Parts.{flat}
-use Rattle.part_list.proofs.FlatLemmas.{flat-take_more, part_by}
 
-pub all_more : {A : Type 0} (old new : Cover A) → CoversMore old new → (xs : List (Spanned A)) → All (IsCovered old) xs → All (IsCovered new) xs
-all_more old new grows xs = All-weaker (IsCovered old) (IsCovered new) grows xs
-
--- the entries of one more part are covered
-pub covered_more : {A B : Type 0} (f : B → List (Spanned A)) (old new : Cover A) (ps : List B) (k : ℕ) (part : B) → CoversMore old new → k < length ps → part ≡ get_or ps k part → All (IsCovered old) (flat (take k (map f ps))) → All (IsCovered new) (f part) → All (IsCovered new) (flat (take (k + 1) (map f ps)))
-covered_more f old new ps k part grows lt is before here =
-    let long = length-map ps f in
-    rw (flat-take_more (map f ps) k (omega arith), part_by f ps k part lt is)
-    (All-append (IsCovered new) _ _ (all_more old new grows _ before) here)
-
--- an entry that is held does not pass where no code point is in and no wide entry passes
+-- an entry that is held does not pass if no code point is in and no wide entry passes
 pub none_held : {A : Type 0} (p : Spanned A → Bool) (known : Known A) (first last : ℕ) → AllMeet p first last → first ≤ last → NoneSet known.points first last → position_or_len p known.wide.items ≡ length known.wide.items → (entry : Spanned A) → IsHeld known entry → p entry ≡ false
 none_held {A = A} p known first last meet up none wide entry held = by (p entry) refl
   where
@@ -43,12 +29,12 @@ none_held {A = A} p known first last meet up none wide entry held = by (p entry)
           sym (subst (λ (x : Spanned A). p x ≡ p entry) (sym one.2) refl) ∙ fails_before_first p known.wide.items k entry (omega (arith, lt, wide))
     ]
 
--- no entry passes where the first one is not found
+-- no entry passes if the first one is not found
 pub none_found : {A : Type 0} (found : Option ℕ) (p : A → Bool) (xs : List A) (none : Bool) → is_some found ≡ not none → none ≡ true → FirstIn found p xs → position_or_len p xs ≡ length xs
 none_found None p xs none is told h = h
 none_found (Some at) p xs true is told h = absurd cc
 none_found (Some at) p xs false is told h = absurd cc
 
--- what is covered is held, where something is known
+-- what is covered is held, if something is known
 pub held_in : {A : Type 0} (cover : Cover A) (known : Box (Known A)) → cover.known ≡ Some known → (entry : Spanned A) → IsCovered cover entry → IsHeld (box_value known) entry
 held_in cover known is entry h = (rw is at h)

@@ -4,6 +4,7 @@ pub mod BeforeLemmas
 pub mod FindLemmas
 pub mod PassingLemmas
 pub mod GuideLemmas
+pub mod GatherLemmas
 pub mod TagLemmas
 pub mod CoverLemmas
 pub mod HintLemmas

@@ -22,7 +22,8 @@ none_held {A = A} p known first last meet up none wide entry held = by (p entry)
           let code = m.code in
           let end = m.end in
           let at = max first entry.code in
-          absurd (none at (omega arith) (omega arith) (set at (omega arith) (omega arith)))
+          let clash : true ≡ false = sym (set at (omega arith) (omega arith)) ∙ none at (omega arith) (omega arith) in
+          absurd cc
       | inr one ↦
           let k = one.0 in
           let lt = one.1 in

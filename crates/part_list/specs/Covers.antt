@@ -1,16 +1,15 @@
 -- The code points of which entries of a list may speak.
 --
 -- AllSet, NoneSet points first last   the code points from one to another are in; none of them is
--- SetMore old new           what is in stays so
 -- end_of entry              the greater one of an entry's first and last code points
 -- Meets entry first last    an entry has one of the code points from one to another, which do not descend
 -- AllMeet p first last      so has each entry that passes p
 -- IsOneOf xs x              x is one of the list
 -- IsHeld known entry        all code points of the entry are in, or it is one of the wide ones
 -- HoldsMore old new         what is held stays so
--- IsCovered cover entry     the entry is held; each is where nothing is known
+-- IsCovered cover entry     the entry is held; each is if nothing is known
 -- CoversMore old new        what is covered stays so
-use Rattle.std.specs.Prelude.{◌≡◌, ◌⊎◌, ℕ, ◌<◌, ◌≤◌, Bool, true, List, length, max, Option, Some, None, slice_index_or}
+use Rattle.std.specs.Prelude.{◌≡◌, ◌⊎◌, ℕ, ◌<◌, ◌≤◌, Bool, true, false, List, length, max, Option, Some, None, slice_index_or}
 use Rattle.std.specs.Box.{box_value}
 use Rattle.std.specs.Global.{Box}
 use Rattle.key_set.specs.Bits.{has_number}
@@ -23,10 +22,7 @@ abbrev pub AllSet : BitSet → ℕ → ℕ → Type 0
 AllSet points first last = (p : ℕ) → first ≤ p → p ≤ last → has_number points p ≡ true
 
 abbrev pub NoneSet : BitSet → ℕ → ℕ → Type 0
-NoneSet points first last = (p : ℕ) → first ≤ p → p ≤ last → has_number points p ≡ true → ⊥
-
-abbrev pub SetMore : BitSet → BitSet → Type 0
-SetMore old new = (p : ℕ) → has_number old p ≡ true → has_number new p ≡ true
+NoneSet points first last = (p : ℕ) → first ≤ p → p ≤ last → has_number points p ≡ false
 
 abbrev pub end_of : {A : Type 0} → Spanned A → ℕ
 end_of entry = max entry.code entry.last

@@ -1,9 +1,9 @@
 -- What a search answers.
 --
--- FirstAt result p parts    the spot of the first entry of the list that passes p; None where none passes
+-- FirstAt result p parts    the spot of the first entry of the list that passes p; None if none passes
 -- LastAt result p parts     the same of the last entry that passes p
 -- StandsAt result n parts   the spot of the entry at the place n of the list, counted from 0; None past the last
--- IsBefore result spot parts   the spot of the entry before the one at a spot; None where that one is the first of the list
+-- IsBefore result spot parts   the spot of the entry before the one at a spot; None if that one is the first of the list
 -- FirstIn, LastIn           the same within one part, whose entries are counted from 0
 use Rattle.std.specs.Prelude.{◌≡◌, ℕ, ◌+◌, ◌<◌, ◌≤◌, Bool, not, List, length, Option, Some, None}
 use Rattle.std.specs.List.{position_or_len, suffix_len}

@@ -1,7 +1,7 @@
 -- A list in parts.
 --
 -- flat parts            the parts put together, one behind the other: the list
--- part_at parts k       part k, counted from 0; no entries where there is no such part
+-- part_at parts k       part k, counted from 0; no entries if there is no such part
 -- before parts k        how many entries the first k parts have
 -- place parts spot      the place in the list that a spot stands for, counted from 0
 -- IsGap parts spot      the spot is before an entry of its part, or at the part's end

@@ -3,8 +3,8 @@
 -- place-lt           the place of an entry lies in the list
 -- IsGap-from_entry   the spot of an entry is that of the gap before it
 -- first_passes       the first entry that passes does pass
--- first_some         where there is a first one, some entry passes
--- first_none         where there is none, no entry passes
+-- first_some         if there is a first one, some entry passes
+-- first_none         if there is none, no entry passes
 -- last_passes        the last entry that passes does pass
 use Rattle.std.specs.Prelude.{◌≡◌, ℕ, ◌+◌, ◌<◌, Bool, true, false, List, length, take, drop, slice_index_or, Some, None}
 use Rattle.std.specs.List.{list_any, suffix_len}

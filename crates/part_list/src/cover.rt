@@ -9,7 +9,6 @@ ghost use Rattle.part_list.specs.PartValues.{parts_now, parts_next};
 ghost use Rattle.part_list.specs.Puts.{put_entries};
 ghost use Rattle.part_list.specs.declared.spanned.Spanned.{Spanned as Entry};
 
-use crate::bits::{set_all, some_set};
 use crate::find::first_in;
 use crate::part::Part;
 use crate::put::Put;
@@ -21,8 +20,8 @@ use key_set::BitSet;
 use std::alloc::Global;
 use ucd_points::Point;
 
-/// An entry with so many code points or more is wide: those of others are put in and looked at one by one.
-const WIDE: u32 = 256;
+/// An entry with so many code points or more is wide: those of others are put in and looked at, 64 at once.
+const WIDE: u32 = 4096;
 /// How many wide entries there are at most.
 const MOST_WIDE: usize = 512;
 /// How many edits there are before code points are gathered, and before those of a short list are gathered anew.
@@ -59,7 +58,7 @@ fn are_clear(points: &BitSet, first: u32, last: u32) -> bool
     ensures some { result ≡ true → first ≤ last }
     ensures none { result ≡ true → NoneSet points.now first last }
 {
-    first <= last && last - first < WIDE && last < Point::COUNT && !some_set(points, first, last)
+    first <= last && last - first < WIDE && last < Point::COUNT && !points.has_any(first, last)
 }
 
 impl<T: Copy> Known<T> {
@@ -77,7 +76,7 @@ impl<T: Copy> Known<T> {
     {
         let last = entry.code.max(entry.last);
         if last - entry.code < WIDE {
-            return last < Point::COUNT && set_all(&mut self.points, entry.code, last);
+            return last < Point::COUNT && self.points.insert_all(entry.code, last).is_ok();
         }
         self.wide.len() < MOST_WIDE && self.wide.push(*entry).is_ok()
     }

@@ -1,7 +1,6 @@
 //! Lists that can be edited: what is now stays until what is next is committed.
 #![tactic(auto)]
 
-mod bits;
 mod change;
 mod copy;
 mod cover;

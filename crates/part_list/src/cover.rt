@@ -22,7 +22,7 @@ use ucd_points::Point;
 
 /// An entry with so many code points or more is wide: those of others are put in and looked at, 64 at once.
 const WIDE: u32 = 4096;
-/// How many wide entries there are at most.
+/// How many wide entries there are at most. Of those that have no code point in common there are no more than 272.
 const MOST_WIDE: usize = 512;
 /// How many edits there are before code points are gathered, and before those of a short list are gathered anew.
 const FEW: usize = 64;

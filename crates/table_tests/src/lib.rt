@@ -1,6 +1,8 @@
-//! Tests of tables, lists in parts, the pool of pages, stores and maps of dependants. They stand above the crates that they test, so that each is proved once.
+//! Tests of sets of bits, tables, lists in parts, the pool of pages, stores and maps of dependants. They stand above the crates that they test, so that each is proved once.
 #![tactic(auto)]
 
+#[cfg(test)]
+mod bits;
 #[cfg(test)]
 mod dependants;
 #[cfg(test)]

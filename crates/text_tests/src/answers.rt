@@ -1,25 +1,20 @@
-//! Sets of values by the rows of files, and answers, without rows of UnicodeData.txt beside them: every code point is
-//! unassigned.
+//! Answers by the rows of files, without rows of UnicodeData.txt beside them: every code point is unassigned.
 
 ghost use Rattle.std.specs.Prelude.{◌≡◌, [], IfOk};
 ghost use Rattle.property_aliases.specs.Found.{AreAliasesOf};
-ghost use Rattle.property_aliases.specs.Numbers.{AreNumbersOf};
 ghost use Rattle.property_aliases.specs.Sources.{sources_of};
-ghost use Rattle.release_rows.specs.Releases.{items_now, rows_now};
+ghost use Rattle.release_rows.specs.Releases.{items_now};
 ghost use Rattle.ucd_facts.specs.declared.category.Category.TheVariants.{Cn};
 ghost use Rattle.ucd_points.specs.declared.files.SourceFile.TheVariants.{UnicodeData};
-ghost use Rattle.unicodeset_eval.specs.Found.{AreRowSets};
 
-use crate::members::{are, has_spans};
-use property_aliases::{Aliases, Test, ValueNumbers};
+use crate::members::are;
+use property_aliases::Aliases;
 use release_rows::Release;
 use std::alloc::Global;
 use std::process::Abort;
 use std::test::Fail;
-use ucd_model::{
-    Category, CoreSet, Image, Kind, Point, Quick, Record, Records, SourceFile, equal_pieces,
-};
-use unicodeset_eval::{RecordPieces, RowSets, SetIndex, TestSets, eval};
+use ucd_model::{Category, CoreSet, Image, Kind, Point, Quick, Record, Records, SourceFile};
+use unicodeset_eval::eval;
 use unicodeset_parser::parse;
 
 /// One record for all code points.
@@ -80,121 +75,22 @@ fn release(alloc: Global) -> Result<Release, Fail>
     Ok(release)
 }
 
-/// A test, and the spans of its set.
-pub(crate) type SetRow = (Test, &'static [(u32, u32)]);
-
 /// A text, and the spans of its answer.
 pub(crate) type AnswerRow = (&'static [u8], &'static [(u32, u32)]);
 
-/// Tests with their sets, by `release`. Number 0 of the scripts is the default, which has what no row covers too; a number
-/// that is not used has no code points. A code point may have two listed properties; those that have not one of them end
-/// with 10FFFF.
-const SETS: [SetRow; 9] = [
+/// Texts with their answers, by `release`. The default script has what no row covers too. A code point may have two listed
+/// properties; those that have not one of them end with 10FFFF.
+const ANSWERS: [AnswerRow; 10] = [
     (
-        Test::Script(0),
+        b"\\p{sc=Unknown}",
         &[(0, 0x40), (0x5B, 0x60), (0x7B, 0x36F), (0x374, 0x10_FFFF)],
     ),
-    (Test::Script(1), &[(0x41, 0x5A), (0x61, 0x7A)]),
-    (Test::Script(2), &[(0x370, 0x373)]),
-    (Test::Script(3), &[]),
-    (Test::WordBreak(2), &[(0x27, 0x27)]),
-    (Test::Listed(0, true), &[(0x9, 0xD), (0x20, 0x20)]),
-    (Test::Listed(1, true), &[(0x20, 0x20)]),
-    (Test::Listed(1, false), &[(0, 0x1F), (0x21, 0x10_FFFF)]),
-    (Test::Listed(2, false), &[(0, 0x10_FFFD)]),
-];
-
-#[test]
-fn tests_have_sets(rt: HostRuntime) -> Result<(), Fail> {
-    let release = release(rt.alloc())?;
-    sets_are_made(&rt, rt.alloc(), &release, &SETS)
-}
-
-/// Each of the calls below owns one value or two: the parts of more would else fill one function's proof.
-pub(crate) fn sets_are_made(
-    rt: &impl Abort,
-    alloc: Global,
-    release: &Release,
-    sets: &[SetRow],
-) -> Result<(), Fail>
-    requires { items_now release.now UnicodeData ≡ [] }
-{
-    let numbers = ValueNumbers::of(alloc, release)?;
-    sets_are_numbered(rt, alloc, release, &numbers, sets)
-}
-
-fn sets_are_numbered(
-    rt: &impl Abort,
-    alloc: Global,
-    release: &Release,
-    numbers: &ValueNumbers,
-    sets: &[SetRow],
-) -> Result<(), Fail>
-    requires unassigned { items_now release.now UnicodeData ≡ [] }
-    requires numbers { AreNumbersOf numbers.now (rows_now release.now) }
-{
-    let rows = RowSets::of(alloc, release, numbers)?;
-    sets_of_rows(rt, alloc, release, &rows, sets)
-}
-
-fn sets_of_rows(
-    rt: &impl Abort,
-    alloc: Global,
-    release: &Release,
-    rows: &RowSets,
-    sets: &[SetRow],
-) -> Result<(), Fail>
-    requires unassigned { items_now release.now UnicodeData ≡ [] }
-    requires rows { AreRowSets rows.now (rows_now release.now) }
-{
-    let bench = unassigned();
-    sets_of_record(rt, alloc, &bench, release, rows, sets)
-}
-
-#[tactic(auto, using(crate::proofs::NoRows::unassigned))]
-fn sets_of_record(
-    rt: &impl Abort,
-    alloc: Global,
-    bench: &OneRecord,
-    release: &Release,
-    rows: &RowSets,
-    sets: &[SetRow],
-) -> Result<(), Fail>
-    requires record { bench.now.record.category ≡ Cn }
-    requires unassigned { items_now release.now UnicodeData ≡ [] }
-    requires rows { AreRowSets rows.now (rows_now release.now) }
-{
-    let spans = equal_pieces(alloc, bench)?;
-    let pieces = RecordPieces::of(alloc, bench, spans.as_slice())?;
-    let index = SetIndex::of(bench, &pieces, release, rows);
-    sets_are_found(rt, alloc, &index, sets)
-}
-
-fn sets_are_found<T: TestSets>(
-    rt: &impl Abort,
-    alloc: Global,
-    index: &T,
-    sets: &[SetRow],
-) -> Result<(), Fail> {
-    for (test, expected) in sets {
-        assert!(rt; has_set(alloc, index, *test, expected)?);
-    }
-    Ok(())
-}
-
-/// Whether a test has this set.
-fn has_set<T: TestSets>(
-    alloc: Global,
-    index: &T,
-    test: Test,
-    expected: &[(u32, u32)],
-) -> Result<bool, Fail> {
-    let set = index.set_of(alloc, test)?;
-    has_spans(alloc, &set, expected)
-}
-
-/// Texts with their answers, by `release`.
-const ANSWERS: [AnswerRow; 3] = [
+    (b"\\p{sc=Latin}", &[(0x41, 0x5A), (0x61, 0x7A)]),
+    (b"\\p{WB=Single_Quote}", &[(0x27, 0x27)]),
+    (b"\\p{White_Space}", &[(0x9, 0xD), (0x20, 0x20)]),
+    (b"\\p{Pattern_White_Space}", &[(0x20, 0x20)]),
+    (b"\\P{Pattern_White_Space}", &[(0, 0x1F), (0x21, 0x10_FFFF)]),
+    (b"\\P{Noncharacter_Code_Point}", &[(0, 0x10_FFFD)]),
     (
         b"[\\p{sc=Greek}\\p{White_Space}]",
         &[(0x9, 0xD), (0x20, 0x20), (0x370, 0x373)],

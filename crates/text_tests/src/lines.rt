@@ -1,25 +1,11 @@
 //! The edges of lines, fields and code points, and callers that know the lists by the contracts alone.
 
 ghost use Rattle.std.specs.Prelude.{◌≡◌, length, IfOk};
-ghost use Rattle.ucd_points.specs.Lines.{contents};
 ghost use Rattle.ucd_points.specs.Fields.{fields};
 
 use std::alloc::Global;
 use ucd_lines::*;
-use ucd_model::{Memory, Point, SourceFile, Text, Texts};
-
-/// The contents of all lines.
-fn all_contents(alloc: Global, bytes: &[u8]) -> Result<Texts, Memory>
-    ensures { IfOk result (λ texts. texts ≡ contents bytes.now) }
-{
-    let mut texts = Texts::new(alloc);
-    'lines: for item in items(bytes) {
-        let mut text = Text::new(alloc);
-        text.append(item.content)?;
-        texts.push(text)?;
-    }
-    Ok(texts)
-}
+use ucd_model::{Memory, Point, SourceFile, Text};
 
 /// The text again, line by line.
 fn copied(alloc: Global, bytes: &[u8]) -> Result<Text, Memory>
@@ -78,21 +64,6 @@ fn lines_and_their_endings(rt: HostRuntime) {
             "{bytes:?}"
         );
     }
-}
-
-/// Whether texts are these.
-fn are_texts(texts: &[Text], wanted: &[&[u8]]) -> bool {
-    texts.len() == wanted.len()
-        && texts
-            .iter()
-            .zip(wanted)
-            .all(|(text, content)| text.as_slice() == *content)
-}
-
-#[test]
-fn contents_of_lines(rt: HostRuntime) {
-    let texts = all_contents(rt.alloc(), b"a\r\n\n# c").expect(&rt, "memory");
-    assert!(rt; are_texts(texts.as_slice(), &[b"a", b"", b"# c"]));
 }
 
 /// Lines, and whether each is passed over in all files but Scripts.txt and WordBreakProperty.txt.
@@ -256,22 +227,6 @@ fn is_written(alloc: Global, number: u32, digits: &[u8]) -> Result<bool, Memory>
     Ok(text.as_slice().strip_prefix(b"U+") == Some(digits))
 }
 
-/// Digits, and the number that they spell.
-const NUMBERS: [(&[u8], Option<u32>); 5] = [
-    (b"", Some(0)),
-    (b"4a", Some(0x4a)),
-    (b"0010FFFF", Some(0x10_ffff)),
-    (b"ffffFFFF", Some(u32::MAX)),
-    (b"4g", None),
-];
-
-#[test]
-fn numbers_that_are_read(rt: HostRuntime) {
-    for (digits, number) in &NUMBERS {
-        assert!(rt; hex_number(digits) == *number, "{digits:?}");
-    }
-}
-
 /// Code points, and the digits that they are written in.
 const DIGITS: [(u32, &[u8]); 8] = [
     (0, b"0000"),
@@ -291,18 +246,5 @@ fn code_points_that_are_written(rt: HostRuntime) {
             is_written(rt.alloc(), *number, digits) == Ok(true),
             "{digits:?}"
         );
-    }
-}
-
-#[test]
-fn refused_memory_leaves_the_text(rt: HostRuntime) {
-    let item = Item {
-        content: b"0041;A",
-        ending: Ending::CrLf,
-    };
-    let mut text = Text::new(rt.alloc());
-    for _ in 0..20 {
-        let _ = join(item, &mut text);
-        assert_eq!(rt; text.len() % 8, 0);
     }
 }

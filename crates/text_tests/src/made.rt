@@ -1,4 +1,4 @@
-//! The texts of releases that are made. The lengths and lines are worked out by the format alone.
+//! The texts of the least release that is made. The lengths and lines are worked out by the format alone.
 
 use release_maker::{Made, make};
 use ucd_model::SourceFile;
@@ -12,12 +12,6 @@ fn is_least(data: &[u8]) -> bool {
         && data.ends_with(b"\n403E7;COMPAT;Lo;0;L;<compat> 203E7 0300;;;;N;;;;;\n")
 }
 
-#[test]
-fn the_least_release(rt: HostRuntime) {
-    let made = make(rt.alloc(), 1).expect(&rt, "memory");
-    assert!(rt; is_least(made.text(SourceFile::UnicodeData)));
-}
-
 /// Whether just the first file has rows.
 fn has_one_file(made: &Made) -> bool {
     for file in SourceFile::all() {
@@ -26,12 +20,6 @@ fn has_one_file(made: &Made) -> bool {
         }
     }
     true
-}
-
-#[test]
-fn the_other_files(rt: HostRuntime) {
-    let made = make(rt.alloc(), 1).expect(&rt, "memory");
-    assert!(rt; has_one_file(&made));
 }
 
 fn is_script(script: &[u8]) -> bool {
@@ -43,20 +31,9 @@ fn is_script(script: &[u8]) -> bool {
 }
 
 #[test]
-fn the_script(rt: HostRuntime) {
+fn the_least_release(rt: HostRuntime) {
     let made = make(rt.alloc(), 1).expect(&rt, "memory");
+    assert!(rt; is_least(made.text(SourceFile::UnicodeData)));
+    assert!(rt; has_one_file(&made));
     assert!(rt; is_script(made.script()));
-}
-
-/// Whether these are the texts of the greatest release.
-fn is_greatest(data: &[u8], script: &[u8]) -> bool {
-    data.len() == 6_150_032
-        && data.ends_with(b"\n4C34F;COMPAT;Lo;0;L;<compat> 2C34F 0300;;;;N;;;;;\n")
-        && script.len() == 36_000
-}
-
-#[test]
-fn the_greatest_release(rt: HostRuntime) {
-    let made = make(rt.alloc(), 50).expect(&rt, "memory");
-    assert!(rt; is_greatest(made.text(SourceFile::UnicodeData), made.script()));
 }

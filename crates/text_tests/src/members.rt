@@ -27,11 +27,7 @@ fn union(alloc: Global, spans: &[(u32, u32)]) -> Result<PointSet, Fail> {
 }
 
 /// Whether these are the spans of a set.
-pub(crate) fn has_spans(
-    alloc: Global,
-    set: &PointSet,
-    expected: &[(u32, u32)],
-) -> Result<bool, Fail> {
+fn has_spans(alloc: Global, set: &PointSet, expected: &[(u32, u32)]) -> Result<bool, Fail> {
     are(alloc, &set.spans(alloc)?, expected)
 }
 
@@ -172,33 +168,6 @@ fn answer_of(
     Ok(eval_over(alloc, &index, aliases, &expr))
 }
 
-/// What is looked at by names without rows. One function owns their meaning for both tests, and a call lets that go: so
-/// each stays small.
-#[derive(Clone, Copy)]
-enum Look {
-    Members,
-    Faults,
-}
-
-fn on_aliases(rt: &impl Abort, alloc: Global, look: Look) -> Result<(), Fail> {
-    let aliases = aliases(alloc)?;
-    let looked = look_at(rt, alloc, &aliases, look);
-    drop(aliases);
-    looked
-}
-
-fn look_at(rt: &impl Abort, alloc: Global, aliases: &Aliases, look: Look) -> Result<(), Fail> {
-    match look {
-        Look::Members => members_are_found(rt, alloc, aliases),
-        Look::Faults => faults_are_told(rt, alloc, aliases),
-    }
-}
-
-#[test]
-fn sets_have_their_members(rt: HostRuntime) -> Result<(), Fail> {
-    on_aliases(&rt, rt.alloc(), Look::Members)
-}
-
 fn members_are_found(rt: &impl Abort, alloc: Global, aliases: &Aliases) -> Result<(), Fail> {
     for (text, expected) in &ANSWERS {
         assert!(rt; has_members(alloc, aliases, text, expected)?);
@@ -215,11 +184,6 @@ fn has_members(
 ) -> Result<bool, Fail> {
     let spans = answer_of(alloc, aliases, text)??;
     are(alloc, &spans, expected)
-}
-
-#[test]
-fn the_first_name_without_meaning_is_told(rt: HostRuntime) -> Result<(), Fail> {
-    on_aliases(&rt, rt.alloc(), Look::Faults)
 }
 
 fn faults_are_told(rt: &impl Abort, alloc: Global, aliases: &Aliases) -> Result<(), Fail> {
@@ -241,4 +205,18 @@ fn is_stopped(
     expected: EvalStop,
 ) -> Result<bool, Fail> {
     Ok(answer_of(alloc, aliases, text)?.err() == Some(expected))
+}
+
+fn texts_are_answered(rt: &impl Abort, alloc: Global, aliases: &Aliases) -> Result<(), Fail> {
+    members_are_found(rt, alloc, aliases)?;
+    faults_are_told(rt, alloc, aliases)
+}
+
+/// A call lets the names go, so that this function stays small.
+#[test]
+fn sets_have_their_members_or_a_fault(rt: HostRuntime) -> Result<(), Fail> {
+    let aliases = aliases(rt.alloc())?;
+    let answered = texts_are_answered(&rt, rt.alloc(), &aliases);
+    drop(aliases);
+    answered
 }

@@ -4,8 +4,7 @@ ghost use Rattle.std.specs.Prelude.{◌≡◌, [], IfOk};
 ghost use Rattle.release_rows.specs.Releases.{items_now};
 ghost use Rattle.ucd_points.specs.declared.files.SourceFile.TheVariants.{UnicodeData};
 
-use crate::answers::{AnswerRow, SetRow, sets_are_made, texts_are_answered};
-use property_aliases::Test;
+use crate::answers::{AnswerRow, texts_are_answered};
 use release_rows::Release;
 use std::alloc::Global;
 use std::test::Fail;
@@ -27,28 +26,15 @@ fn release(alloc: Global) -> Result<Release, Fail>
     Ok(release)
 }
 
-/// Tests with their sets: of the missing rows that cover a code point the last one counts, and none does if another row
-/// covers it. Values have numbers in the order of the file, those of missing rows among the others.
-const SETS: [SetRow; 7] = [
-    (Test::Script(0), &[(0, 0x3FF), (0x500, 0x10_FFFF)]),
-    (Test::Script(1), &[(0x401, 0x4FF)]),
-    (Test::Script(2), &[(0x400, 0x400)]),
-    (Test::WordBreak(0), &[(0, 0x40), (0x44, 0x10_FFFF)]),
-    (Test::WordBreak(1), &[(0x42, 0x42)]),
-    (Test::WordBreak(2), &[(0x43, 0x43)]),
-    (Test::WordBreak(3), &[(0x41, 0x41)]),
-];
-
-#[test]
-fn last_missing_row_counts(rt: HostRuntime) -> Result<(), Fail> {
-    let release = release(rt.alloc())?;
-    sets_are_made(&rt, rt.alloc(), &release, &SETS)
-}
-
-/// Texts with their answers.
-const ANSWERS: [AnswerRow; 4] = [
+/// Texts with their answers: of the missing rows that cover a code point the last one counts, and none does if another row
+/// covers it. The values of missing rows have names too.
+const ANSWERS: [AnswerRow; 8] = [
     (b"\\p{sc=Cyrillic}", &[(0x401, 0x4FF)]),
     (b"\\p{sc=Unknown}", &[(0, 0x3FF), (0x500, 0x10_FFFF)]),
+    (b"\\p{sc=Latin}", &[(0x400, 0x400)]),
+    (b"\\p{WB=Other}", &[(0, 0x40), (0x44, 0x10_FFFF)]),
+    (b"\\p{WB=MidLetter}", &[(0x42, 0x42)]),
+    (b"\\p{WB=ALetter}", &[(0x41, 0x41)]),
     (b"\\p{WB=MidNum}", &[(0x43, 0x43)]),
     (
         b"[\\p{WB=MidLetter}\\p{sc=Latin}]",
@@ -57,7 +43,7 @@ const ANSWERS: [AnswerRow; 4] = [
 ];
 
 #[test]
-fn missing_values_have_names(rt: HostRuntime) -> Result<(), Fail> {
+fn last_missing_row_counts(rt: HostRuntime) -> Result<(), Fail> {
     let release = release(rt.alloc())?;
     texts_are_answered(&rt, rt.alloc(), &release, &ANSWERS)
 }

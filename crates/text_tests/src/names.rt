@@ -79,32 +79,6 @@ fn aliases(alloc: Global) -> Result<Aliases, Fail> {
     Ok(Aliases::of(alloc, &release)?)
 }
 
-/// What is looked at by that release. One function owns what names mean for all tests, and a call lets that go: so each of
-/// them stays small.
-#[derive(Clone, Copy)]
-enum Look {
-    Properties,
-    Numbers,
-    Values,
-    Lone,
-}
-
-fn on_aliases(rt: &impl Abort, alloc: Global, look: Look) -> Result<(), Fail> {
-    let aliases = aliases(alloc)?;
-    let looked = look_at(rt, &aliases, look);
-    drop(aliases);
-    looked
-}
-
-fn look_at(rt: &impl Abort, aliases: &Aliases, look: Look) -> Result<(), Fail> {
-    match look {
-        Look::Properties => properties_are_found(rt, aliases),
-        Look::Numbers => numbers_are_found(rt, aliases),
-        Look::Values => values_are_found(rt, aliases),
-        Look::Lone => lone_names_are_found(rt, aliases),
-    }
-}
-
 /// Names of properties, and what they mean by `release`.
 const PROPERTY_CASES: [(&[u8], Option<Property>); 16] = [
     (b"gc", Some(Property::Category)),
@@ -125,11 +99,6 @@ const PROPERTY_CASES: [(&[u8], Option<Property>); 16] = [
     (b"", None),
 ];
 
-#[test]
-fn names_match_loosely(rt: HostRuntime) -> Result<(), Fail> {
-    on_aliases(&rt, rt.alloc(), Look::Properties)
-}
-
 fn properties_are_found(rt: &impl Abort, aliases: &Aliases) -> Result<(), Fail> {
     for (name, property) in &PROPERTY_CASES {
         assert_eq!(rt; aliases.property(name), *property);
@@ -144,11 +113,6 @@ const SCRIPT_CASES: [(u64, Option<&[u8]>); 4] = [
     (2, Some(b"Greek")),
     (3, None),
 ];
-
-#[test]
-fn names_are_numbered(rt: HostRuntime) -> Result<(), Fail> {
-    on_aliases(&rt, rt.alloc(), Look::Numbers)
-}
 
 fn numbers_are_found(rt: &impl Abort, aliases: &Aliases) -> Result<(), Fail> {
     scripts_are_found(rt, aliases)?;
@@ -204,11 +168,6 @@ const VALUE_CASES: [(Property, &[u8], Option<Test>); 29] = [
     (SPACE, b"", None),
 ];
 
-#[test]
-fn values_have_names(rt: HostRuntime) -> Result<(), Fail> {
-    on_aliases(&rt, rt.alloc(), Look::Values)
-}
-
 fn values_are_found(rt: &impl Abort, aliases: &Aliases) -> Result<(), Fail> {
     for (property, name, test) in &VALUE_CASES {
         assert!(rt; aliases.value(*property, name) == *test);
@@ -235,14 +194,26 @@ const LONE_CASES: [(&[u8], Option<Test>); 15] = [
     (b"is", None),
 ];
 
-#[test]
-fn names_stand_alone(rt: HostRuntime) -> Result<(), Fail> {
-    on_aliases(&rt, rt.alloc(), Look::Lone)
-}
-
 fn lone_names_are_found(rt: &impl Abort, aliases: &Aliases) -> Result<(), Fail> {
     for (name, test) in &LONE_CASES {
         assert!(rt; aliases.lone(name) == *test);
     }
     Ok(())
+}
+
+/// Whether each name means what it is to mean, of properties, of values, and alone.
+fn names_are_found(rt: &impl Abort, aliases: &Aliases) -> Result<(), Fail> {
+    properties_are_found(rt, aliases)?;
+    numbers_are_found(rt, aliases)?;
+    values_are_found(rt, aliases)?;
+    lone_names_are_found(rt, aliases)
+}
+
+/// A call lets the names go, so that this function stays small.
+#[test]
+fn names_have_their_meaning(rt: HostRuntime) -> Result<(), Fail> {
+    let aliases = aliases(rt.alloc())?;
+    let found = names_are_found(&rt, &aliases);
+    drop(aliases);
+    found
 }

@@ -4,6 +4,7 @@ mod second_reading;
 
 use second_reading::is_text;
 use std::alloc::Global;
+use std::process::Abort;
 use ucd_lines::put_hex;
 use ucd_model::{Memory, Text};
 use unicodeset_parser::*;
@@ -118,8 +119,11 @@ fn has_fault(alloc: Global, text: &[u8], rule: SetRule, at: usize) -> Result<boo
     Ok(fault_of(alloc, text)? == Some((rule, at)))
 }
 
-/// Texts that end too early, and the fault of each.
-const EARLY_ENDS: [(&[u8], SetRule, usize); 19] = [
+/// A text, and its fault: the rule and the place.
+type FaultCase = (&'static [u8], SetRule, usize);
+
+/// Texts that end too early, or are no UTF-8.
+const EARLY_ENDS: [FaultCase; 19] = [
     (b"[\xff]", SetRule::S1, 1),
     (b"\xe2\x89", SetRule::S1, 0),
     (b"[z-a]\xc0", SetRule::S1, 5),
@@ -141,60 +145,40 @@ const EARLY_ENDS: [(&[u8], SetRule, usize); 19] = [
     (b"[:^", SetRule::S2, 3),
 ];
 
-#[test]
-fn texts_that_end_too_early(rt: HostRuntime) {
-    for (text, rule, at) in &EARLY_ENDS {
-        assert!(rt;
-            has_fault(rt.alloc(), text, *rule, *at) == Ok(true),
-            "{text:?}"
-        );
-    }
-}
-
-/// Texts with a character that is not allowed, and its place.
-const OTHERS: [(&[u8], usize); 28] = [
-    (b"a", 0),
-    (b"]", 0),
-    (b"{", 0),
-    (b"\\n", 0),
-    (b"[a]b", 3),
-    (b"[a][b]", 3),
-    (b"[a]\\", 3),
-    (b"[a]\\p", 3),
-    (b"[a]\\p{x\xe2\x89\xa0y}", 3),
-    (b"[a][:x=/y:]", 3),
-    (b"[a]&\\p{x\xe2\x89\xa0y}", 3),
-    (b"\\p{L}\\P{gc=/L}", 5),
-    (b"[a]$", 3),
-    (b"[ ^a]", 2),
-    (b"[a&b]", 2),
-    (b"[a}", 2),
-    (b"[a-b-c]", 4),
-    (b"[a-[b]]", 3),
-    (b"[a-{]", 3),
-    (b"[a-\\p", 3),
-    (b"[a-\\p{\xe2\x89\xa0}]", 3),
-    (b"[a-[:b", 3),
-    (b"[[a]-b]", 5),
-    (b"[[a]&]", 5),
-    (b"[[a]&\\n]", 5),
-    (b"[[a]&$]", 5),
-    (b"[+--x]", 3),
-    (b"[[a]-{]", 5),
+/// Texts with a character that is not allowed.
+const OTHERS: [FaultCase; 28] = [
+    (b"a", SetRule::S3, 0),
+    (b"]", SetRule::S3, 0),
+    (b"{", SetRule::S3, 0),
+    (b"\\n", SetRule::S3, 0),
+    (b"[a]b", SetRule::S3, 3),
+    (b"[a][b]", SetRule::S3, 3),
+    (b"[a]\\", SetRule::S3, 3),
+    (b"[a]\\p", SetRule::S3, 3),
+    (b"[a]\\p{x\xe2\x89\xa0y}", SetRule::S3, 3),
+    (b"[a][:x=/y:]", SetRule::S3, 3),
+    (b"[a]&\\p{x\xe2\x89\xa0y}", SetRule::S3, 3),
+    (b"\\p{L}\\P{gc=/L}", SetRule::S3, 5),
+    (b"[a]$", SetRule::S3, 3),
+    (b"[ ^a]", SetRule::S3, 2),
+    (b"[a&b]", SetRule::S3, 2),
+    (b"[a}", SetRule::S3, 2),
+    (b"[a-b-c]", SetRule::S3, 4),
+    (b"[a-[b]]", SetRule::S3, 3),
+    (b"[a-{]", SetRule::S3, 3),
+    (b"[a-\\p", SetRule::S3, 3),
+    (b"[a-\\p{\xe2\x89\xa0}]", SetRule::S3, 3),
+    (b"[a-[:b", SetRule::S3, 3),
+    (b"[[a]-b]", SetRule::S3, 5),
+    (b"[[a]&]", SetRule::S3, 5),
+    (b"[[a]&\\n]", SetRule::S3, 5),
+    (b"[[a]&$]", SetRule::S3, 5),
+    (b"[+--x]", SetRule::S3, 3),
+    (b"[[a]-{]", SetRule::S3, 5),
 ];
 
-#[test]
-fn characters_that_are_not_allowed(rt: HostRuntime) {
-    for (text, at) in &OTHERS {
-        assert!(rt;
-            has_fault(rt.alloc(), text, SetRule::S3, *at) == Ok(true),
-            "{text:?}"
-        );
-    }
-}
-
-/// Texts with a range, an escape or a form that is refused, and the fault of each.
-const REFUSED: [(&[u8], SetRule, usize); 25] = [
+/// Texts with a range, an escape or a form that is refused.
+const REFUSED: [FaultCase; 25] = [
     (b"[z-a]", SetRule::S4, 3),
     (b"[a--]", SetRule::S4, 3),
     (b"[a - \\u0041]", SetRule::S4, 5),
@@ -222,14 +206,17 @@ const REFUSED: [(&[u8], SetRule, usize); 25] = [
     (b"[a[:x=/y:]]", SetRule::S7, 2),
 ];
 
-#[test]
-fn ranges_escapes_and_forms_that_are_refused(rt: HostRuntime) {
-    for (text, rule, at) in &REFUSED {
-        assert!(rt;
-            has_fault(rt.alloc(), text, *rule, *at) == Ok(true),
-            "{text:?}"
-        );
+fn faults_are_told(rt: &impl Abort, alloc: Global, cases: &[FaultCase]) {
+    for (text, rule, at) in cases {
+        assert!(rt; has_fault(alloc, text, *rule, *at) == Ok(true), "{text:?}");
     }
+}
+
+#[test]
+fn texts_with_a_fault(rt: HostRuntime) {
+    faults_are_told(&rt, rt.alloc(), &EARLY_ENDS);
+    faults_are_told(&rt, rt.alloc(), &OTHERS);
+    faults_are_told(&rt, rt.alloc(), &REFUSED);
 }
 
 /// Texts, and the tree of each.

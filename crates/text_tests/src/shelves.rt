@@ -1,76 +1,11 @@
 //! Shelves and sinks in memory at work. Each is owned by a function that makes one call on it.
 
-ghost use Rattle.std.specs.Prelude.{◌≡◌, ◌≢◌, ◌++◌, [], List, Some, IsTrue, take, ℕ};
+ghost use Rattle.std.specs.Prelude.{◌≡◌, ◌++◌, [], IsTrue};
 ghost use Rattle.shelf_io.specs.Counts.{Rose};
-ghost use Rattle.shelf_io.specs.Contents.{ReplacedAt};
 
 use shelf_io::{Failed, Found, MemoryShelf, MemorySink, PerfectShelf, ReadStop, Shelf, Sink};
 use std::alloc::Global;
 use ucd_model::{Memory, Text};
-
-/// What became of two files that were to be joined.
-#[derive(Clone, Copy, Debug, PartialEq, Eq)]
-enum Joined {
-    Joined,
-    Absent,
-    Failed,
-    Memory,
-}
-
-/// Joins the first bytes of two files in a third one.
-fn join_files<S: Shelf>(
-    alloc: Global,
-    shelf: &mut S,
-    first: &[u8],
-    second: &[u8],
-    most: usize,
-    to: &[u8],
-) -> Joined
-    ensures { IsTrue S.tells → result ≢ Joined.Memory
-        → ¬ Rose (S.read_faults shelf.old) (S.read_faults shelf.new)
-        → ¬ Rose (S.write_faults shelf.old) (S.write_faults shelf.new)
-        → (a b : List ℕ)
-        → S.holds shelf.old first.now ≡ Some a → S.holds shelf.old second.now ≡ Some b
-        → ReplacedAt to.now (take most a ++ take most b) (S.holds shelf.old) (S.holds shelf.new) }
-{
-    let mut front = Vec::new(alloc);
-    match shelf.read(first, most, &mut front) {
-        Ok(Found::Found) => {}
-        Ok(Found::Absent) => return Joined::Absent,
-        Err(ReadStop::Failed) => return Joined::Failed,
-        Err(ReadStop::Memory) => return Joined::Memory,
-    }
-    let mut back = Vec::new(alloc);
-    match shelf.read(second, most, &mut back) {
-        Ok(Found::Found) => {}
-        Ok(Found::Absent) => return Joined::Absent,
-        Err(ReadStop::Failed) => return Joined::Failed,
-        Err(ReadStop::Memory) => return Joined::Memory,
-    }
-    let Ok(()) = front.extend_from_slice(back.as_slice()) else {
-        return Joined::Memory;
-    };
-    write_joined(alloc, shelf, to, front)
-}
-
-/// Writes the bytes of two files to a third one.
-fn write_joined<S: Shelf>(alloc: Global, shelf: &mut S, to: &[u8], bytes: Vec<u8>) -> Joined
-    ensures replaced { IsTrue S.tells → result ≢ Joined.Memory
-        → ¬ Rose (S.write_faults shelf.old) (S.write_faults shelf.new)
-        → ReplacedAt to.now bytes.items (S.holds shelf.old) (S.holds shelf.new) }
-    ensures read_faults_stay { S.read_faults shelf.new ≡ S.read_faults shelf.old }
-{
-    let Ok(path) = Text::of(alloc, to) else {
-        return Joined::Memory;
-    };
-    let Ok(()) = shelf.room(1) else {
-        return Joined::Memory;
-    };
-    match shelf.write(path, Text::from_vec(bytes)) {
-        Ok(()) => Joined::Joined,
-        Err(Failed) => Joined::Failed,
-    }
-}
 
 /// Puts two texts, one after the other.
 fn put_both<K: Sink>(out: &mut K, first: &[u8], second: &[u8]) -> Result<(), Failed>
@@ -159,51 +94,22 @@ pub fn write_once<S: Shelf>(
     Ok(shelf.write(path, bytes))
 }
 
-/// Whether two files are joined, of which at most three bytes count each.
-fn joins_two(alloc: Global, shelf: &mut MemoryShelf) -> Result<bool, Memory> {
+/// Whether a file is moved on a shelf that never fails.
+fn moves(alloc: Global, shelf: &mut PerfectShelf) -> Result<bool, Memory> {
     shelf.place(b"d/a", b"front")?;
-    shelf.place(b"d/b", b"back")?;
-    Ok(
-        join_files(alloc, shelf, b"d/a", b"d/b", 3, b"o/c") == Joined::Joined
-            && are_bytes(shelf.held(b"o/c"), b"frobac")
-            && are_bytes(shelf.held(b"d/a"), b"front"),
-    )
-}
-
-/// The same for a shelf that was made for it.
-fn joins_in_memory(alloc: Global) -> Result<bool, Memory> {
-    joins_two(alloc, &mut MemoryShelf::new(alloc))
-}
-
-#[test]
-fn joins_files_in_memory(rt: HostRuntime) -> Result<(), Memory> {
-    assert!(rt; joins_in_memory(rt.alloc())?);
-    Ok(())
-}
-
-/// Whether a file is joined with itself and then moved, on a shelf that never fails.
-fn joins_and_moves(alloc: Global, shelf: &mut PerfectShelf) -> Result<bool, Memory> {
-    shelf.place(b"d/a", b"front")?;
-    let joined = join_files(alloc, shelf, b"d/a", b"d/a", 9, b"d/a");
-    let is_joined = are_bytes(shelf.held(b"d/a"), b"frontfront") && shelf.held(b"d/b").is_none();
     let to = Text::of(alloc, b"d/b")?;
     let moved = move_perfectly(alloc, shelf, b"d/a", to)?;
-    Ok(
-        joined == Joined::Joined
-            && is_joined
-            && moved == Found::Found
-            && are_bytes(shelf.held(b"d/b"), b"frontfron"),
-    )
+    Ok(moved == Found::Found && are_bytes(shelf.held(b"d/b"), b"front"))
 }
 
 /// The same for a shelf that was made for it.
-fn joins_perfectly(alloc: Global) -> Result<bool, Memory> {
-    joins_and_moves(alloc, &mut PerfectShelf::new(alloc))
+fn is_moved(alloc: Global) -> Result<bool, Memory> {
+    moves(alloc, &mut PerfectShelf::new(alloc))
 }
 
 #[test]
-fn joins_files_that_never_fail(rt: HostRuntime) -> Result<(), Memory> {
-    assert!(rt; joins_perfectly(rt.alloc())?);
+fn a_file_is_moved_without_a_fault(rt: HostRuntime) -> Result<(), Memory> {
+    assert!(rt; is_moved(rt.alloc())?);
     Ok(())
 }
 

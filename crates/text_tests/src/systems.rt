@@ -286,15 +286,10 @@ fn write_that_stops(alloc: Global, stops_at: u8) -> Result<Result<(), Failed>, M
 }
 
 #[test]
-fn a_write_that_nothing_stops_succeeds(rt: HostRuntime) -> Result<(), Memory> {
-    assert_eq!(rt; write_that_stops(rt.alloc(), 0)?, Ok(()));
-    Ok(())
-}
-
-#[test]
 fn a_write_fails_at_each_step(rt: HostRuntime) -> Result<(), Memory> {
-    assert_eq!(rt; write_that_stops(rt.alloc(), 1)?, Err(Failed));
-    assert_eq!(rt; write_that_stops(rt.alloc(), 2)?, Err(Failed));
+    for (stops_at, answer) in [(0, Ok(())), (1, Err(Failed)), (2, Err(Failed))] {
+        assert_eq!(rt; write_that_stops(rt.alloc(), stops_at)?, answer);
+    }
     Ok(())
 }
 

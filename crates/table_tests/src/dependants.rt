@@ -89,9 +89,7 @@ fn grave_pair() -> Option<Query> {
 /// What is looked at on a map of its own. One function owns the map for all tests: that keeps each of them small.
 #[derive(Clone, Copy)]
 enum Look {
-    Letters,
     Listing,
-    NoQuestions,
     Sweeps,
     Steps,
 }
@@ -110,28 +108,10 @@ fn map_of(alloc: Global, look: Look) -> Result<Map, Fail> {
 
 fn look_at(rt: &impl Abort, alloc: Global, map: &mut Map, look: Look) -> Result<(), Fail> {
     match look {
-        Look::Letters => look_at_letters(rt, alloc, map),
         Look::Listing => look_at_listing(rt, alloc, map),
-        Look::NoQuestions => take_questions(rt, alloc, map),
         Look::Sweeps => sweep_letters(rt, alloc, map),
         Look::Steps => take_steps(rt, alloc, map),
     }
-}
-
-#[test]
-fn askers_of_letters_with_marks(rt: HostRuntime) -> Result<(), Fail> {
-    on_a_map(&rt, rt.alloc(), Look::Letters)
-}
-
-/// A with acute is put before A with grave: the answers ascend all the same.
-fn look_at_letters(rt: &impl Abort, alloc: Global, map: &mut Map) -> Result<(), Fail> {
-    put(alloc, map, acute().ok_or("a letter")?)?;
-    put(alloc, map, grave().ok_or("a letter")?)?;
-    expect(rt, map, row(0x41), &[0x41]);
-    map.commit();
-    expect(rt, map, row(0x41), &[0x41, 0xC0, 0xC1]);
-    expect(rt, map, grave_pair(), &[0xC0]);
-    Ok(())
 }
 
 #[test]
@@ -189,29 +169,6 @@ fn look_at_listing(rt: &impl Abort, alloc: Global, map: &mut Map) -> Result<(), 
     map.commit();
     expect(rt, map, row(0x41), &[0x41, 0xC0, 0xC1]);
     expect(rt, map, grave_pair(), &[0xC0]);
-    Ok(())
-}
-
-#[test]
-fn a_list_without_questions(rt: HostRuntime) -> Result<(), Fail> {
-    on_a_map(&rt, rt.alloc(), Look::NoQuestions)
-}
-
-/// Gives A with grave no questions.
-fn put_none(alloc: Global, map: &mut Map) -> Result<(), Fail> {
-    let [c, _, _] = grave().ok_or("a letter")?;
-    Ok(map.prepare(c, &Queries::new(alloc))?)
-}
-
-/// A list without questions is not that of a plain code point.
-fn take_questions(rt: &impl Abort, alloc: Global, map: &mut Map) -> Result<(), Fail> {
-    put_none(alloc, map)?;
-    map.discard();
-    map.commit();
-    expect(rt, map, row(0xC0), &[0xC0]);
-    put_none(alloc, map)?;
-    map.commit();
-    expect(rt, map, row(0xC0), &[]);
     Ok(())
 }
 

@@ -1,7 +1,4 @@
-//! Worked tables, and a caller that knows only the trait.
-
-ghost use Rattle.std.specs.Prelude.{◌≡◌, IfOk};
-ghost use Rattle.range_table.specs.Values.{with_span};
+//! Worked tables of runs.
 
 use crate::plain::expect;
 use range_table::{RunTable, Stretches, Table};
@@ -11,40 +8,8 @@ use ucd_facts::{Memory, Point, Span};
 
 type Runs = RunTable<u64>;
 
-/// The value of a code point before and after two spans of a new table were set and committed.
-fn two_spans<T: Table<u64>>(
-    alloc: Global,
-    one: Span,
-    other: Span,
-    c: Point,
-) -> Result<(u64, u64), Memory>
-    ensures before { IfOk result (λ seen. seen.0 ≡ 0) }
-    ensures after { IfOk result (λ seen. seen.1 ≡ with_span (with_span (λ _. 0) one.lo one.hi 5) other.lo other.hi 7 c) }
-{
-    let mut table = T::filled(alloc, 0)?;
-    table.prepare(one, 5)?;
-    table.prepare(other, 7)?;
-    let before = table.get(c);
-    table.commit();
-    Ok((before, table.get(c)))
-}
-
 fn span(lo: u32, hi: u32) -> Option<Span> {
     Span::new(Point::new(lo)?, Point::new(hi)?)
-}
-
-/// What a caller sees at a code point that sets 41 to 5A and then 5A to 60.
-fn seen_by_a_caller<T: Table<u64>>(alloc: Global, number: u32) -> Option<(u64, u64)> {
-    let c = Point::new(number)?;
-    two_spans::<T>(alloc, span(0x41, 0x5A)?, span(0x5A, 0x60)?, c).ok()
-}
-
-#[test]
-fn a_caller_that_knows_only_the_trait(rt: HostRuntime) {
-    for (number, value) in [(0x40, 0), (0x41, 5), (0x5A, 7), (0x60, 7), (0x61, 0)] {
-        let seen = seen_by_a_caller::<Runs>(rt.alloc(), number);
-        expect(&rt, number, seen, (0, value));
-    }
 }
 
 /// What is looked at on a table of its own. One function owns the table for all tests: that keeps each of them small.

@@ -1,7 +1,4 @@
-//! Worked stores, a caller that knows only the trait, and a store against plain lists.
-
-ghost use Rattle.std.specs.Prelude.{◌≡◌, IfOk};
-ghost use Rattle.range_table.specs.Values.{with_span};
+//! Worked stores, and a store against plain lists.
 
 use crate::plain::{Plain, drawn, expect};
 use kept_values::{Kept, Store};
@@ -17,9 +14,7 @@ struct Name {
     number: u64,
 }
 
-fn named(number: u64) -> Name
-    ensures { result ≡ record { number = number } }
-{
+fn named(number: u64) -> Name {
     Name { number }
 }
 
@@ -29,46 +24,6 @@ type PagedNames = Kept<PagedTable, Name>;
 
 fn span(lo: u32, hi: u32) -> Option<Span> {
     Span::new(Point::new(lo)?, Point::new(hi)?)
-}
-
-/// The value of a code point before and after two spans of a new store were set and committed.
-fn two_spans<S: Store<Name>>(
-    alloc: Global,
-    one: Span,
-    other: Span,
-    c: Point,
-) -> Result<(u64, u64), Memory>
-    ensures before { IfOk result (λ seen. seen.0 ≡ 0) }
-    ensures after { IfOk result (λ seen. seen.1 ≡ with_span (with_span (λ _. 0) one.lo one.hi 5) other.lo other.hi 7 c) }
-{
-    let mut store = S::filled(alloc, named(0))?;
-    store.prepare(one, named(5))?;
-    store.prepare(other, named(7))?;
-    let before = store.get(c).number;
-    store.commit();
-    Ok((before, store.get(c).number))
-}
-
-/// What a caller sees at a code point that sets 41 to 5A and then 5A to 60.
-fn seen_by_a_caller<S: Store<Name>>(alloc: Global, number: u32) -> Option<(u64, u64)> {
-    let c = Point::new(number)?;
-    two_spans::<S>(alloc, span(0x41, 0x5A)?, span(0x5A, 0x60)?, c).ok()
-}
-
-#[test]
-fn a_caller_that_knows_only_the_trait(rt: HostRuntime) {
-    for (number, value) in [(0x40, 0), (0x41, 5), (0x5A, 7), (0x60, 7), (0x61, 0)] {
-        let seen = seen_by_a_caller::<Names>(rt.alloc(), number);
-        expect(&rt, number, seen, (0, value));
-    }
-}
-
-/// Prepares a span with a value; whether it was.
-fn is_prepared(store: &mut Names, lo: u32, hi: u32, value: u64) -> bool {
-    match span(lo, hi) {
-        Some(span) => store.prepare(span, named(value)).is_ok(),
-        None => false,
-    }
 }
 
 /// Holds 5 at a place and gives it to two spans, the first of which then has 6 within; the place.
@@ -122,37 +77,6 @@ fn look_at_shares(rt: &impl Abort, store: &mut Names) {
             are_at(store, *number, place),
             (0, u64::from(*shares)),
         );
-    }
-}
-
-/// Where the stretches of a code point end, now and next.
-fn ends(store: &Names, number: u32) -> Option<(u64, u64)> {
-    let c = Point::new(number)?;
-    let (now, next) = (store.last_of_stretch(c), store.last_of_stretch_next(c));
-    Some((u64::from(now.number()), u64::from(next.number())))
-}
-
-/// Code points with the ends of their stretches, now and next.
-const ENDS: [(u32, (u64, u64)); 4] = [
-    (0x0, (0x40, 0x40)),
-    (0x41, (0x5A, 0x44)),
-    (0x45, (0x5A, 0x45)),
-    (0x5B, (0x10_FFFF, 0x10_FFFF)),
-];
-
-#[test]
-fn stretches_reach_to_the_next_place(rt: HostRuntime) -> Result<(), Memory> {
-    let mut store: Names = Kept::filled(rt.alloc(), named(0))?;
-    look_at_stretches(&rt, &mut store);
-    Ok(())
-}
-
-fn look_at_stretches(rt: &impl Abort, store: &mut Names) {
-    assert!(rt; is_prepared(store, 0x41, 0x5A, 1));
-    store.commit();
-    assert!(rt; is_prepared(store, 0x45, 0x45, 2));
-    for (number, expected) in &ENDS {
-        expect(rt, *number, ends(store, *number), *expected);
     }
 }
 
@@ -262,11 +186,6 @@ fn any_steps<S: Store<Name>>(rt: &impl Abort, alloc: Global) -> Result<(), Memor
     let mut store = S::filled(alloc, named(0))?;
     steps(rt, &mut store, &mut plain);
     Ok(())
-}
-
-#[test]
-fn any_steps_over_runs_as_in_plain_lists(rt: HostRuntime) -> Result<(), Memory> {
-    any_steps::<Names>(&rt, rt.alloc())
 }
 
 #[test]

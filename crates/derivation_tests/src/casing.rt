@@ -1,13 +1,10 @@
 //! Worked mappings, over a view that lists a few rows of the Unicode Character Database.
 
 use crate::facts::{PLAIN, are, facts_of, point, points, put_flagged};
-use case_derivation::{
-    Changes, case_ignorable, cased, changes_when, fold, is_case_ignorable, is_cased, is_lowercase,
-    is_uppercase, lower, title, upper,
-};
+use case_derivation::{Changes, case_ignorable, cased, changes_when, fold, lower, title, upper};
 use std::alloc::Global;
 use std::test::Fail;
-use ucd_model::{Category, FactList, FactView, Facts, Flag, Flags, Image, Memory, Point, Points};
+use ucd_model::{Category, FactList, Facts, Flag, Flags, Image, Memory, Point, Points};
 
 /// A code point, its category, and its full mappings: lower, upper, title, and the folding.
 type CaseRow = (
@@ -265,38 +262,5 @@ fn others_are_told(alloc: Global, list: &mut FactList) -> Result<bool, Fail> {
 fn which_points_are_cased_and_ignored_around_them(rt: HostRuntime) -> Result<(), Fail> {
     let mut list = listed_cased(rt.alloc(), &LETTERS)?;
     assert!(rt; others_are_told(rt.alloc(), &mut list)?);
-    Ok(())
-}
-
-/// Whether the facts of a code point are those of a Lowercase, an Uppercase, a Cased and a Case_Ignorable one.
-fn shown_case<W: FactView>(view: &W, c: Point) -> [bool; 4] {
-    let facts = view.facts(c);
-    [
-        is_lowercase(&facts),
-        is_uppercase(&facts),
-        is_cased(&facts),
-        is_case_ignorable(&facts),
-    ]
-}
-
-const SHOWN_CASES: [(u32, [bool; 4]); 3] = [
-    (0x0053, [false, true, true, false]),
-    (0x00DF, [true, false, true, false]),
-    (0x01C5, [false, false, true, false]),
-];
-
-fn are_shown(list: &FactList) -> Result<bool, Fail> {
-    for (c, wanted) in &SHOWN_CASES {
-        if shown_case(list, point(*c)?) != *wanted {
-            return Ok(false);
-        }
-    }
-    Ok(true)
-}
-
-#[test]
-fn which_facts_are_lowercase_and_uppercase(rt: HostRuntime) -> Result<(), Fail> {
-    let list = listed_cased(rt.alloc(), &LETTERS)?;
-    assert!(rt; are_shown(&list)?);
     Ok(())
 }

@@ -2,159 +2,11 @@
 //! and for points that the sample leaves out.
 
 use crate::sample::Sample;
-use crate::sample_text::{
-    Forms, Letters, Mapped, Marks, Normal, Spans, has_text, put_mapped, put_marks,
-};
+use crate::sample_text::{Forms, Mapped, Marks, Normal, has_text, put_mapped, put_marks};
 use derived_writer::text_over;
 use std::alloc::Global;
 use std::test::Fail;
-use ucd_model::{Category, Core, DerivedFile, Kind, Tag, equal_pieces};
-
-/// Two records of one category that follow one another are one span.
-const CATEGORIES: [Mapped; 7] = [
-    (0x0000, 0x001F, Category::Cc, Kind::Plain),
-    (0x0041, 0x005A, Category::Lu, Kind::Plain),
-    (0x0061, 0x007A, Category::Ll, Kind::Plain),
-    (0x00C0, 0x00C5, Category::Lu, Kind::Canonical),
-    (0x00C6, 0x00C6, Category::Lu, Kind::Plain),
-    (0x01C5, 0x01C5, Category::Lt, Kind::Plain),
-    (0x10_0000, 0x10_FFFF, Category::Co, Kind::Plain),
-];
-
-const CATEGORY_TEXT: &[u8] =
-    b"# General_Category\n0000..001F ; Cc\n0041..005A ; Lu\n0061..007A ; Ll\n00C0..00C6 ; Lu\n01C5 ; Lt\n100000..10FFFF ; Co\n# total 65628\n\n";
-
-#[test]
-fn categories_up_to_the_last_code_point(rt: HostRuntime) -> Result<(), Fail> {
-    let (spans, file) = (Spans::Mapped(&CATEGORIES), DerivedFile::GeneralCategory);
-    assert!(rt; has_text(rt.alloc(), spans, file, CATEGORY_TEXT)?);
-    Ok(())
-}
-
-const CLASSES: [Marks; 5] = [
-    (0x0300, 0x0314, 230),
-    (0x0315, 0x0315, 232),
-    (0x0316, 0x0319, 220),
-    (0x0334, 0x0338, 1),
-    (0x10A0D, 0x10A0D, 220),
-];
-
-const CLASS_TEXT: &[u8] =
-    b"# Canonical_Combining_Class\n0300..0314 ; 230\n0315 ; 232\n0316..0319 ; 220\n0334..0338 ; 1\n10A0D ; 220\n# total 32\n\n";
-
-#[test]
-fn combining_classes_in_decimal(rt: HostRuntime) -> Result<(), Fail> {
-    let (spans, file) = (Spans::Marks(&CLASSES), DerivedFile::CombiningClass);
-    assert!(rt; has_text(rt.alloc(), spans, file, CLASS_TEXT)?);
-    Ok(())
-}
-
-const MAPPINGS: [Mapped; 5] = [
-    (0x00A0, 0x00A0, Category::Zs, Kind::Compat(Tag::NoBreak)),
-    (0x00C0, 0x00C5, Category::Lu, Kind::Canonical),
-    (0xAC00, 0xD7A3, Category::Lo, Kind::Canonical),
-    (0xFF01, 0xFF60, Category::Po, Kind::Compat(Tag::Wide)),
-    (0xFF61, 0xFFBE, Category::Po, Kind::Compat(Tag::Narrow)),
-];
-
-const MAPPING_TEXT: &[u8] =
-    b"# Decomposition_Type\n00A0 ; noBreak\n00C0..00C5 ; canonical\nAC00..D7A3 ; canonical\nFF01..FF60 ; wide\nFF61..FFBE ; narrow\n# total 11369\n\n";
-
-#[test]
-fn decomposition_types_without_brackets(rt: HostRuntime) -> Result<(), Fail> {
-    let (spans, file) = (Spans::Mapped(&MAPPINGS), DerivedFile::DecompositionType);
-    assert!(rt; has_text(rt.alloc(), spans, file, MAPPING_TEXT)?);
-    Ok(())
-}
-
-/// The core properties of `+`, of `A` to `Z`, of `a` to `z`, of GREEK YPOGEGRAMMENI and of DEVANAGARI SIGN VIRAMA; a
-/// sample of no other point.
-const CORE_TEXT: &[u8] = b"# Math\n002B ; Math\n# total 1\n\n\
-      # Alphabetic\n0041..005A ; Alphabetic\n0061..007A ; Alphabetic\n037A ; Alphabetic\n# total 53\n\n\
-      # Lowercase\n0061..007A ; Lowercase\n037A ; Lowercase\n# total 27\n\n\
-      # Uppercase\n0041..005A ; Uppercase\n# total 26\n\n\
-      # Cased\n0041..005A ; Cased\n0061..007A ; Cased\n037A ; Cased\n# total 53\n\n\
-      # Case_Ignorable\n037A ; Case_Ignorable\n094D ; Case_Ignorable\n# total 2\n\n\
-      # Changes_When_Lowercased\n0041..005A ; Changes_When_Lowercased\n# total 26\n\n\
-      # Changes_When_Uppercased\n0061..007A ; Changes_When_Uppercased\n# total 26\n\n\
-      # Changes_When_Titlecased\n0061..007A ; Changes_When_Titlecased\n# total 26\n\n\
-      # Changes_When_Casefolded\n0041..005A ; Changes_When_Casefolded\n# total 26\n\n\
-      # Changes_When_Casemapped\n0041..005A ; Changes_When_Casemapped\n0061..007A ; Changes_When_Casemapped\n# total 52\n\n\
-      # ID_Start\n0041..005A ; ID_Start\n0061..007A ; ID_Start\n037A ; ID_Start\n# total 53\n\n\
-      # ID_Continue\n0041..005A ; ID_Continue\n0061..007A ; ID_Continue\n037A ; ID_Continue\n094D ; ID_Continue\n# total 54\n\n\
-      # XID_Start\n0041..005A ; XID_Start\n0061..007A ; XID_Start\n# total 52\n\n\
-      # XID_Continue\n0041..005A ; XID_Continue\n0061..007A ; XID_Continue\n094D ; XID_Continue\n# total 53\n\n\
-      # Default_Ignorable_Code_Point\n# total 0\n\n\
-      # Grapheme_Extend\n094D ; Grapheme_Extend\n# total 1\n\n\
-      # Grapheme_Base\n002B ; Grapheme_Base\n0041..005A ; Grapheme_Base\n0061..007A ; Grapheme_Base\n037A ; Grapheme_Base\n# total 54\n\n\
-      # Grapheme_Link\n094D ; Grapheme_Link\n# total 1\n\n";
-
-/// `+`, `A` to `Z`, `a` to `z`, GREEK YPOGEGRAMMENI and DEVANAGARI SIGN VIRAMA.
-const LETTERS: [Letters; 5] = [
-    (
-        0x002B,
-        0x002B,
-        Category::Sm,
-        &[Core::Math, Core::GraphemeBase],
-    ),
-    (0x0041, 0x005A, Category::Lu, &CAPITAL),
-    (0x0061, 0x007A, Category::Ll, &SMALL),
-    (0x037A, 0x037A, Category::Lm, &MODIFIER),
-    (0x094D, 0x094D, Category::Mn, &VIRAMA),
-];
-
-const CAPITAL: [Core; 11] = [
-    Core::Alphabetic,
-    Core::Cased,
-    Core::IdStart,
-    Core::IdContinue,
-    Core::GraphemeBase,
-    Core::Uppercase,
-    Core::ChangesWhenLowercased,
-    Core::ChangesWhenCasefolded,
-    Core::ChangesWhenCasemapped,
-    Core::XidStart,
-    Core::XidContinue,
-];
-
-const SMALL: [Core; 11] = [
-    Core::Alphabetic,
-    Core::Cased,
-    Core::IdStart,
-    Core::IdContinue,
-    Core::GraphemeBase,
-    Core::Lowercase,
-    Core::ChangesWhenUppercased,
-    Core::ChangesWhenTitlecased,
-    Core::ChangesWhenCasemapped,
-    Core::XidStart,
-    Core::XidContinue,
-];
-
-const MODIFIER: [Core; 7] = [
-    Core::Alphabetic,
-    Core::Cased,
-    Core::IdStart,
-    Core::IdContinue,
-    Core::GraphemeBase,
-    Core::Lowercase,
-    Core::CaseIgnorable,
-];
-
-const VIRAMA: [Core; 5] = [
-    Core::CaseIgnorable,
-    Core::IdContinue,
-    Core::XidContinue,
-    Core::GraphemeExtend,
-    Core::GraphemeLink,
-];
-
-#[test]
-fn all_core_properties(rt: HostRuntime) -> Result<(), Fail> {
-    let (spans, file) = (Spans::Letters(&LETTERS), DerivedFile::CoreProperties);
-    assert!(rt; has_text(rt.alloc(), spans, file, CORE_TEXT)?);
-    Ok(())
-}
+use ucd_model::{Category, DerivedFile, Kind, equal_pieces};
 
 /// The normalisation properties of `A` and `B`, of DIAERESIS and SOFT HYPHEN, of five combining marks, of two that are
 /// excluded from composition, and of the spaces from EN QUAD to HAIR SPACE; a sample of no other point.
@@ -213,8 +65,8 @@ const NORMAL: [Normal; 9] = [
 
 #[test]
 fn all_normalization_properties(rt: HostRuntime) -> Result<(), Fail> {
-    let (spans, file) = (Spans::Normal(&NORMAL), DerivedFile::NormalizationProps);
-    assert!(rt; has_text(rt.alloc(), spans, file, NORMALIZATION_TEXT)?);
+    let file = DerivedFile::NormalizationProps;
+    assert!(rt; has_text(rt.alloc(), &NORMAL, file, NORMALIZATION_TEXT)?);
     Ok(())
 }
 

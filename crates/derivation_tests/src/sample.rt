@@ -7,9 +7,7 @@ ghost use Rattle.derivation_tests.specs.Samples.{sample_record};
 use crate::facts::points;
 use std::alloc::Global;
 use std::test::Fail;
-use ucd_model::{
-    Category, Core, CoreSet, Image, Kind, ListOf, Point, Quick, Record, Records, Span,
-};
+use ucd_model::{Category, CoreSet, Image, Kind, ListOf, Point, Quick, Record, Records, Span};
 
 /// Records of a few spans. If two cover a code point, the first one counts; all other code points have the default.
 #[derive(Drop)]
@@ -66,19 +64,6 @@ pub fn with_kind(category: Category, kind: Kind) -> Record {
 pub fn with_class(class: u8) -> Record {
     let mut record = plain(Category::Mn);
     record.class = class;
-    record
-}
-
-/// A record with nothing but a category and these properties.
-pub fn with_core(category: Category, properties: &[Core]) -> Record {
-    with_more(plain(category), properties)
-}
-
-/// A record with these properties as well.
-pub fn with_more(mut record: Record, properties: &[Core]) -> Record {
-    for property in properties {
-        record.core = record.core.with(*property, true);
-    }
     record
 }
 

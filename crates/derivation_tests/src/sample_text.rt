@@ -1,21 +1,16 @@
 //! Samples that are made of spans, and the text of a file over one.
 
-use crate::sample::{
-    Sample, excluded, plain, with_checks, with_class, with_core, with_folding, with_kind,
-};
+use crate::sample::{Sample, excluded, plain, with_checks, with_class, with_folding, with_kind};
 use derived_writer::file_text;
 use std::alloc::Global;
 use std::test::Fail;
-use ucd_model::{Category, Core, DerivedFile, Kind, Quick, Record};
+use ucd_model::{Category, DerivedFile, Kind, Quick, Record};
 
 /// A span with its category and the kind of its mappings.
 pub type Mapped = (u32, u32, Category, Kind);
 
 /// A span of marks with their combining class.
 pub type Marks = (u32, u32, u8);
-
-/// A code point or a span with its category and its core properties.
-pub type Letters = (u32, u32, Category, &'static [Core]);
 
 /// Whether code points are in the forms: those of NFD and NFC, and those of NFKD and NFKC; or no form, since they are
 /// excluded from composition.
@@ -30,39 +25,21 @@ pub enum Forms {
 /// A span with its category, what it is folded to, if that is not itself, and its forms.
 pub type Normal = (u32, u32, Category, Option<&'static [u32]>, Forms);
 
-/// What a sample is made of.
-#[derive(Clone, Copy)]
-pub enum Spans<'a> {
-    Mapped(&'a [Mapped]),
-    Marks(&'a [Marks]),
-    Letters(&'a [Letters]),
-    Normal(&'a [Normal]),
-}
-
-/// Whether a file over a sample has this text. One function owns the sample for all tests: that keeps each of them small.
+/// Whether a file over a sample of these spans has this text.
 pub fn has_text(
     alloc: Global,
-    spans: Spans<'_>,
+    spans: &[Normal],
     file: DerivedFile,
     wanted: &[u8],
 ) -> Result<bool, Fail> {
     let mut bench = Sample::new(alloc);
-    put(alloc, &mut bench, spans)?;
+    put_normal(alloc, &mut bench, spans)?;
     is_text(alloc, &bench, file, wanted)
 }
 
 fn is_text(alloc: Global, bench: &Sample, file: DerivedFile, wanted: &[u8]) -> Result<bool, Fail> {
     let text = file_text(alloc, bench, file)?;
     Ok(text.as_slice() == wanted)
-}
-
-fn put(alloc: Global, bench: &mut Sample, spans: Spans<'_>) -> Result<(), Fail> {
-    match spans {
-        Spans::Mapped(spans) => put_mapped(bench, spans),
-        Spans::Marks(spans) => put_marks(bench, spans),
-        Spans::Letters(spans) => put_letters(bench, spans),
-        Spans::Normal(spans) => put_normal(alloc, bench, spans),
-    }
 }
 
 /// Puts each of these spans into a sample.
@@ -77,13 +54,6 @@ pub fn put_mapped(bench: &mut Sample, spans: &[Mapped]) -> Result<(), Fail> {
 pub fn put_marks(bench: &mut Sample, spans: &[Marks]) -> Result<(), Fail> {
     for (lo, hi, class) in spans {
         bench.put(*lo, *hi, with_class(*class))?;
-    }
-    Ok(())
-}
-
-fn put_letters(bench: &mut Sample, spans: &[Letters]) -> Result<(), Fail> {
-    for (lo, hi, category, properties) in spans {
-        bench.put(*lo, *hi, with_core(*category, properties))?;
     }
     Ok(())
 }

@@ -1,12 +1,12 @@
 //! Worked foldings of letters whose simple folding differs from the full one.
 
 use crate::asking::asks;
-use crate::facts::{COMPAT, FoldedRow, PLAIN, facts_of, point, points, rule_of};
+use crate::facts::{COMPAT, FoldedRow, PLAIN, facts_of, point, points};
 use crate::records::record;
 use fold_rounds::{nfkc_casefold, nfkc_simple_casefold};
 use std::alloc::Global;
 use std::test::Fail;
-use ucd_model::{Bad, Category, FactList, Image, Point, Query};
+use ucd_model::{Category, FactList, Image, Point, Query};
 
 /// The capital sharp s, which CaseFolding.txt folds to two letters with status F, and to the small one with status S.
 const SHARP: FoldedRow<'static> = (0x1E9E, Category::Lo, 0, PLAIN, &[], &[0x0073, 0x0073]);
@@ -48,46 +48,6 @@ fn each_folding_has_its_own_list(rt: HostRuntime) -> Result<(), Fail> {
     let mut list = FactList::new(rt.alloc());
     put_simple(rt.alloc(), &mut list, SHARP, 0x00DF)?;
     assert!(rt; sharp_folds_to(rt.alloc(), &list, &[0x0073, 0x0073], &[0x00DF])?);
-    Ok(())
-}
-
-/// Two letters that CaseFolding.txt folds by the simple folding alone.
-const SWAPPED: [(FoldedRow<'static>, u32); 2] = [
-    ((0x0061, Category::Lo, 0, PLAIN, &[], &[]), 0x0062),
-    ((0x0062, Category::Lo, 0, PLAIN, &[], &[]), 0x0061),
-];
-
-/// Whether the full folding leaves a letter as it is, and the simple one comes to no end.
-fn only_simple_is_endless(alloc: Global, list: &FactList, c: u32) -> Result<bool, Fail> {
-    let simple = rule_of(nfkc_simple_casefold(alloc, list, point(c)?))?;
-    let full = nfkc_casefold(alloc, list, point(c)?)?;
-    Ok(full.is_same(&Image::Same) && simple == Some(Bad::V5))
-}
-
-/// Whether it is so for both letters.
-fn are_endless(alloc: Global, list: &FactList) -> Result<bool, Fail> {
-    Ok(only_simple_is_endless(alloc, list, 0x0061)? && only_simple_is_endless(alloc, list, 0x0062)?)
-}
-
-fn put_swapped(alloc: Global, list: &mut FactList) -> Result<(), Fail> {
-    for (row, simple) in &SWAPPED {
-        put_simple(alloc, list, *row, *simple)?;
-    }
-    Ok(())
-}
-
-/// The same over the facts of both.
-fn swapped_are_endless(alloc: Global) -> Result<bool, Fail> {
-    let mut list = FactList::new(alloc);
-    put_swapped(alloc, &mut list)?;
-    let held = are_endless(alloc, &list);
-    drop(list);
-    held
-}
-
-#[test]
-fn the_simple_folding_has_its_own_end(rt: HostRuntime) -> Result<(), Fail> {
-    assert!(rt; swapped_are_endless(rt.alloc())?);
     Ok(())
 }
 
@@ -211,11 +171,6 @@ fn are_folded(alloc: Global, cases: &[BothCase]) -> Result<bool, Fail> {
 #[test]
 fn records_have_both_foldings(rt: HostRuntime) -> Result<(), Fail> {
     assert!(rt; are_folded(rt.alloc(), &FOLDED)?);
-    Ok(())
-}
-
-#[test]
-fn records_have_one_folding_for_both(rt: HostRuntime) -> Result<(), Fail> {
     assert!(rt; are_folded(rt.alloc(), &OTHERS)?);
     Ok(())
 }

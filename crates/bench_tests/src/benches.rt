@@ -8,15 +8,11 @@ use std::alloc::Global;
 use std::marker::Brand;
 use std::sync::ledger::{Blank, Ledger};
 use std::test::Fail;
-use ucd_model::{Bad, Core, FactView, Memory, Point, Records, SourceFile, Steps};
+use ucd_model::{Core, FactView, Memory, Point, Records, SourceFile, Steps};
 
 /// A letter with a mark, its parts, and another letter, as UnicodeData.txt has them.
 const LETTERS: &[u8] =
     b"0041;LATIN CAPITAL LETTER A;Lu;0;L;;;;;N;;;;0061;\n0061;LATIN SMALL LETTER A;Ll;0;L;;;;;N;;;0041;;0041\n00C0;LATIN CAPITAL LETTER A WITH GRAVE;Lu;0;L;0041 0300;;;;N;;;;;\n0300;COMBINING GRAVE ACCENT;Mn;230;NSM;;;;;N;;;;;\n";
-
-fn point(number: u32) -> Result<Point, Fail> {
-    Ok(Point::new(number).ok_or("a code point")?)
-}
 
 /// A bench over a release, which is counted on a ledger of its own.
 fn counted<L: Ledger>(alloc: Global, release: Release, blank: Blank) -> Result<Bench, OpenStop>
@@ -86,18 +82,5 @@ fn are_shown(alloc: Global) -> Result<bool, Fail> {
 #[test]
 fn a_bench_shows_records_and_facts(rt: HostRuntime) -> Result<(), Fail> {
     assert!(rt; are_shown(rt.alloc())?);
-    Ok(())
-}
-
-#[test]
-fn a_release_that_is_not_valid_has_no_bench(rt: HostRuntime) -> Result<(), Fail> {
-    // 1E00 and 1E02 have no rows for what they give
-    let lines = b"1E00;X;Lu;0;L;;;;;N;;;;1E01;\n1E02;Y;Lu;0;L;1E03;;;;N;;;;;\n";
-    let opened = bench_over(rt.alloc(), lines)?;
-    let expected = OpenStop::Invalid {
-        rule: Bad::V1,
-        point: point(0x1E00)?,
-    };
-    assert_eq!(rt; opened.err(), Some(expected));
     Ok(())
 }

@@ -164,33 +164,6 @@ fn are_answered(alloc: Global, acts: &[(Act, &[Edit])], expected: &[Told]) -> Re
     all_answered::<Brand>(alloc, acts, expected, Blank::new(1))
 }
 
-const EXCLUDE: Edit = Edit::Add(SourceFile::CompositionExclusions, b"00C0");
-
-const INCLUDE: Edit = Edit::Withdraw(SourceFile::CompositionExclusions, b"00C0");
-
-#[test]
-fn an_editor_who_has_not_seen_a_revision_is_told(rt: HostRuntime) -> Result<(), Fail> {
-    let both = with_point(0x00C0, 0x0300);
-    let acts: [(Act, &[Edit]); 6] = [
-        (Act::Enter(1), &[]),
-        (Act::Enter(2), &[]),
-        (Act::Propose(1, 0), &[EXCLUDE]),
-        (Act::Propose(2, 0), &[INCLUDE]),
-        (Act::Propose(2, 1), &[INCLUDE]),
-        (Act::Leave(3), &[]),
-    ];
-    let expected = [
-        Told::Entered(0),
-        Told::Entered(0),
-        Told::Accepted(1, both),
-        Told::Stale(1, 1),
-        Told::Accepted(2, both),
-        Told::Absent,
-    ];
-    assert!(rt; are_answered(rt.alloc(), &acts, &expected)?);
-    Ok(())
-}
-
 #[test]
 fn one_key_has_many_spellings(rt: HostRuntime) -> Result<(), Fail> {
     const RULE: Edit = Edit::Add(
@@ -198,12 +171,18 @@ fn one_key_has_many_spellings(rt: HostRuntime) -> Result<(), Fail> {
         b"00C0; 00C0; 00C0; 00C0; tr  More_Above;",
     );
     const AGAIN: Edit = Edit::Withdraw(SourceFile::SpecialCasing, b"00C0;tr More_Above");
-    let acts: [(Act, &[Edit]); 3] = [
+    let acts: [(Act, &[Edit]); 4] = [
         (Act::Enter(1), &[]),
         (Act::Propose(1, 0), &[RULE]),
         (Act::Propose(1, 0), &[AGAIN]),
+        (Act::Leave(3), &[]),
     ];
-    let expected = [Told::Entered(0), Told::Accepted(1, 0), Told::Stale(1, 1)];
+    let expected = [
+        Told::Entered(0),
+        Told::Accepted(1, 0),
+        Told::Stale(1, 1),
+        Told::Absent,
+    ];
     assert!(rt; are_answered(rt.alloc(), &acts, &expected)?);
     Ok(())
 }

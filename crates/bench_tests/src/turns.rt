@@ -1,21 +1,18 @@
-//! Groups at random on a bench, beside benches that are opened anew on the same rows.
+//! Groups at random, and benches that are opened anew on the rows after them.
 
-ghost use Rattle.std.specs.Prelude.{◌≡◌, ◌≢◌, ◌≤◌, [], IfOk, OnOk, length};
+ghost use Rattle.std.specs.Prelude.{◌≡◌, ◌≢◌, ◌≤◌, [], IfOk, OnOk};
 ghost use Rattle.std.specs.List.{All};
 ghost use Rattle.ucd_points.specs.declared.files.SourceFile.{SourceFile as FileValue};
 ghost use Rattle.release_rows.specs.Operations.{IsOp};
 ghost use Rattle.release_rows.specs.Releases.{items_now};
-ghost use Rattle.script_lines.specs.Groups.{IsReady};
 
 use edit_session::{Accepted, ApplyStop, Bench, OpenStop, Refused};
 use release_rows::{Op, OpStop, Release};
-use script_lines::{What, commands, groups_are_ready};
 use std::alloc::Global;
-use std::marker::Brand;
 use std::slice::Iter;
-use std::sync::ledger::{Blank, Ledger};
+use std::sync::ledger::Ledger;
 use std::test::Fail;
-use ucd_model::{FactView, Point, Records, SourceFile, Steps, file_limit, same_facts};
+use ucd_model::{FactView, Point, Records, SourceFile, Steps, same_facts};
 
 /// Letters, marks and their composites, to begin with.
 pub const DATA: &[u8] =
@@ -233,84 +230,4 @@ pub fn is_as_opened(
         (Err(stop), Err(other)) => stop == other && are_same(bench, before),
         _ => false,
     }
-}
-
-/// Applies a group, and answers the bench that is opened anew after it; `None` if the two do not agree.
-fn turned<L: Ledger>(
-    alloc: Global,
-    bench: &mut Bench,
-    before: Box<Bench>,
-    ops: &[Op],
-    steps: &mut Steps<L>,
-) -> Result<Option<Box<Bench>>, Fail>
-    requires operations { All IsOp ops.now }
-    requires few { length ops.now ≤ 4096 }
-{
-    let expected = anew(alloc, &before, ops, steps)?;
-    let told = bench.apply(alloc, ops, steps);
-    if !is_as_opened(bench, &before, &told, &expected) {
-        return Ok(None);
-    }
-    Ok(Some(expected.unwrap_or(before)))
-}
-
-/// Applies the group of a script of this number, and answers the bench that is opened anew after it.
-fn turned_by<L: Ledger>(
-    alloc: Global,
-    bench: &mut Bench,
-    before: Box<Bench>,
-    number: u32,
-    steps: &mut Steps<L>,
-) -> Result<Option<Box<Bench>>, Fail> {
-    groups_are_ready();
-    let text = script(alloc, number)?;
-    if text.len() > file_limit() {
-        return Ok(None);
-    }
-    let group = commands(alloc, text.as_slice())?;
-    let Some(first) = group.as_slice().first() else {
-        return Ok(None);
-    };
-    match &first.what {
-        What::Group(ops) => turned(alloc, bench, before, ops.as_slice(), steps),
-        What::Question(_) => Ok(None),
-    }
-}
-
-/// A bench over the release to begin with.
-fn began<L: Ledger>(alloc: Global, steps: &mut Steps<L>) -> Result<Box<Bench>, Fail> {
-    let mut release = Release::empty(alloc);
-    release.load_file(SourceFile::UnicodeData, DATA)?;
-    Ok(opened(alloc, release, steps)?.ok().ok_or("a bench")?)
-}
-
-/// Whether so many groups at random leave a bench as one that is opened anew.
-fn all_turned<L: Ledger>(alloc: Global, count: u32, first: u32, blank: Blank) -> Result<bool, Fail>
-    requires name { blank.name ≡ L.name }
-    requires parts { blank.parts ≡ L.parts }
-    requires some { blank.parts ≡ 1 }
-{
-    let mut steps = Steps::<L>::new(blank);
-    let mut bench = began(alloc, &mut steps)?;
-    let mut model = began(alloc, &mut steps)?;
-    let mut number = first;
-    for _ in 0..count {
-        number = follows(number);
-        match turned_by(alloc, &mut bench, model, number, &mut steps)? {
-            Some(after) => model = after,
-            None => return Ok(false),
-        }
-    }
-    Ok(true)
-}
-
-/// Whether they do, on a ledger of their own.
-fn agree(alloc: Global, count: u32, first: u32) -> Result<bool, Fail> {
-    all_turned::<Brand>(alloc, count, first, Blank::new(1))
-}
-
-#[test]
-fn groups_at_random_leave_a_bench_as_one_opened_anew(rt: HostRuntime) -> Result<(), Fail> {
-    assert!(rt; agree(rt.alloc(), 60, 7)?);
-    Ok(())
 }

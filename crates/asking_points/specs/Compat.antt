@@ -6,6 +6,8 @@
 -- forms_alike          where no point of the tree has such a mapping, both forms of c ask the same
 use Rattle.std.proofs.Common.{◌≡◌, ◌≢◌, ◌∙◌, ℕ, zero, suc, ◌-◌, Bool, true, false, ◌||◌, List, [], ◌∷◌, Option, if◌then◌else◌, refl, sym, ap, arith}
 use Rattle.std.specs.List.{flat_map, list_any}
+use Rattle.std.proofs.lemmas.Bool.{or_parts}
+use Rattle.std.proofs.Math.Bool.{or-true}
 use Rattle.ucd_facts.specs.Expansion.{counts, counted, joined, alone_or_joined, expand, full}
 use Rattle.ucd_facts.specs.Facts.{Facts}
 use Rattle.ucd_facts.specs.declared.decomposition.Kind.{Kind}
@@ -30,19 +32,11 @@ compat_below F (suc n) c some =
 pub compat_here : (F : ℕ → Facts) (n c : ℕ) → n ≢ 0 → is_compat (F c).kind ≡ true → true ≡ has_compat F n c
 compat_here F n c some e = sym (compat_below F n c some ∙ ap (λ b. b || list_any (has_compat F (n - 1)) (counted F true c)) e)
 
-either_true : (a : Bool) → (a || true) ≡ true
-either_true true = refl
-either_true false = refl
-
 pub compat_there : (F : ℕ → Facts) (n c : ℕ) (ms : List ℕ) → n ≢ 0 → ms ≡ counted F true c → list_any (has_compat F (n - 1)) ms ≡ true → true ≡ has_compat F n c
-compat_there F n c ms some is e = sym (compat_below F n c some ∙ ap (λ b. is_compat (F c).kind || b) (ap (list_any (has_compat F (n - 1))) (sym is) ∙ e) ∙ either_true (is_compat (F c).kind))
+compat_there F n c ms some is e = sym (compat_below F n c some ∙ ap (λ b. is_compat (F c).kind || b) (ap (list_any (has_compat F (n - 1))) (sym is) ∙ e) ∙ or-true (is_compat (F c).kind))
 
 pub compat_nowhere : (F : ℕ → Facts) (n c : ℕ) (ms : List ℕ) → n ≢ 0 → is_compat (F c).kind ≡ false → ms ≡ counted F true c → list_any (has_compat F (n - 1)) ms ≡ false → false ≡ has_compat F n c
 compat_nowhere F n c ms some here is e = sym (compat_below F n c some ∙ ap (λ b. b || list_any (has_compat F (n - 1)) (counted F true c)) here ∙ ap (list_any (has_compat F (n - 1))) (sym is) ∙ e)
-
-neither : (a b : Bool) → (a || b) ≡ false → (a ≡ false) × (b ≡ false)
-neither true b e = cc
-neither false b e = (refl, e)
 
 counts_alike : (kind : Kind) (m : List ℕ) → is_compat kind ≡ false → (if counts true kind then m else []) ≡ (if counts false kind then m else [])
 counts_alike Plain m e = refl
@@ -57,20 +51,20 @@ module _ (F : ℕ → Facts) where
   trees_alike : (n : ℕ) (f g : ℕ → List ℕ) → Alike n f g → (xs : List ℕ) → list_any (has_compat F n) xs ≡ false → flat_map f xs ≡ flat_map g xs
   trees_alike n f g same [] e = refl
   trees_alike n f g same (x ∷ xs) e =
-      let parts = neither (has_compat F n x) (list_any (has_compat F n) xs) e in
+      let parts = or_parts (has_compat F n x) (list_any (has_compat F n) xs) e in
       rw (same x parts.0, trees_alike n f g same xs parts.1) refl
 
   tree_alike : (n c : ℕ) → has_compat F n c ≡ false → tree F true n c ≡ tree F false n c
   tree_alike zero c e = refl
   tree_alike (suc n) c e =
-      let parts = neither (is_compat (F c).kind) (list_any (has_compat F n) (counted F true c)) e in
+      let parts = or_parts (is_compat (F c).kind) (list_any (has_compat F n) (counted F true c)) e in
       ap (λ (xs : List ℕ). c ∷ xs) (trees_alike n (tree F true n) (tree F false n) (λ x none. tree_alike n x none) (counted F true c) parts.1)
       ∙ ap (λ xs. c ∷ flat_map (tree F false n) xs) (counts_alike (F c).kind (F c).mapping parts.0)
 
   joined_alike : (n : ℕ) (f g : ℕ → Option (List ℕ)) → Alike n f g → (xs : List ℕ) → list_any (has_compat F n) xs ≡ false → joined f xs ≡ joined g xs
   joined_alike n f g same [] e = refl
   joined_alike n f g same (x ∷ xs) e =
-      let parts = neither (has_compat F n x) (list_any (has_compat F n) xs) e in
+      let parts = or_parts (has_compat F n x) (list_any (has_compat F n) xs) e in
       rw (same x parts.0, joined_alike n f g same xs parts.1) refl
 
   alone_alike : (n : ℕ) (f g : ℕ → Option (List ℕ)) → Alike n f g → (c : ℕ) (xs : List ℕ) → list_any (has_compat F n) xs ≡ false → alone_or_joined c xs f ≡ alone_or_joined c xs g
@@ -80,7 +74,7 @@ module _ (F : ℕ → Facts) where
   expand_alike : (n c : ℕ) → has_compat F n c ≡ false → expand F true n c ≡ expand F false n c
   expand_alike zero c e = refl
   expand_alike (suc n) c e =
-      let parts = neither (is_compat (F c).kind) (list_any (has_compat F n) (counted F true c)) e in
+      let parts = or_parts (is_compat (F c).kind) (list_any (has_compat F n) (counted F true c)) e in
       alone_alike n (expand F true n) (expand F false n) (λ x none. expand_alike n x none) c (counted F true c) parts.1
       ∙ ap (λ m. alone_or_joined c m (expand F false n)) (counts_alike (F c).kind (F c).mapping parts.0)
 

@@ -21,6 +21,7 @@ use Rattle.std.specs.Str.{bytes_eq}
 use Rattle.std.proofs.lemmas.Bool.{true≢false}
 use Rattle.std.proofs.lemmas.List.Folds.{list_any-append}
 use Rattle.std.proofs.lemmas.Slice.Eq.{bytes_eq-Decides}
+use Rattle.std.proofs.Math.Bool.{or-true}
 use Rattle.ucd_model.specs.Casing.{folded}
 use Rattle.ucd_facts.specs.Facts.{Facts}
 use Rattle.ucd_model.specs.FoldRounds.{drop_ignorable, short, round}
@@ -121,10 +122,6 @@ of_round true true next t e = of_short next t e
 of_round true false next t e = cc
 of_round false b next t e = cc
 
-or_true : (b : Bool) → (b || true) ≡ true
-or_true true = refl
-or_true false = refl
-
 module _ (folding : Folding) (F : ℕ → Facts) (s : List ℕ) (a : After) (known : a.known ≡ true) where
   form_of : (r : Option (List ℕ)) → after_form folding F s r ≡ Some a → Some a.list ≡ list_in (nfkc F a.list)
   form_of (Some form) is =
@@ -141,7 +138,7 @@ module _ (folding : Folding) (F : ℕ → Facts) (s : List ℕ) (a : After) (kno
       list_any-append (same_query q) (row_queries (folded folding F form)) (again_puts F s kept)
       ∙ ap (λ (Q : List Query). is_asked (row_queries (folded folding F form)) q || is_asked Q q) put
       ∙ ap (λ b. is_asked (row_queries (folded folding F form)) q || b) e
-      ∙ or_true (is_asked (row_queries (folded folding F form)) q)
+      ∙ or-true (is_asked (row_queries (folded folding F form)) q)
   asked_of None is q e = cc
 
 pub after_is_form : (folding : Folding) (F : ℕ → Facts) (s : List ℕ) (a : After) → Some a ≡ after_round folding F s → a.known ≡ true → Some a.list ≡ list_in (nfkc F a.list)
@@ -177,7 +174,7 @@ module _ (folding : Folding) (F : ℕ → Facts) where
       let rest : List Query = folding_puts folding F s (list_in (nfkc F s)) in
       in_three P form rest q
       ∙ ap (λ b. (is_asked P q || is_asked form q) || b) (asked_of folding F s a k (list_in (nfkc F s)) is q e)
-      ∙ or_true (is_asked P q || is_asked form q)
+      ∙ or-true (is_asked P q || is_asked form q)
 
   later : (n : ℕ) (P : List Query) (s : List ℕ)
       → ((known : Bool) (t : List ℕ) (Q : List Query) → Stands Q known t → SameQueries (Q ++ puts_from folding F n known t) (Q ++ asks_from folding F n t))

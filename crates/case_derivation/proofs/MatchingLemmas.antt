@@ -8,6 +8,7 @@ use Rattle.std.proofs.lemmas.Slice.Eq.{bytes_eq-Decides}
 use Rattle.std.proofs.lemmas.Bool.Decides.{nat_tests}
 use Rattle.std.proofs.lemmas.List.{at_drop_more}
 use Rattle.std.proofs.lemmas.List.Folds.{list_any_more}
+use Rattle.std.proofs.lemmas.Bool.{and_parts, eq-eqb}
 use Rattle.ucd_model.specs.Casing.{lower, title, title_of}
 use Rattle.ucd_facts.specs.Facts.{Facts, image_points}
 use Rattle.ucd_facts.specs.Predicates.{cased}
@@ -19,11 +20,8 @@ use Rattle.case_derivation.specs.Steps.{titled, title_image}
 
 -- ---- what is left behind an image
 
-same_point : (c : ℕ) → (c == c) ≡ true
-same_point c = grind (arith, nat_tests)
-
 same_head : (c : ℕ) (xs ys : List ℕ) → bytes_eq (c ∷ xs) (c ∷ ys) ≡ bytes_eq xs ys
-same_head c xs ys = ap (λ b. b && bytes_eq xs ys) (same_point c)
+same_head c xs ys = ap (λ b. b && bytes_eq xs ys) (eq-eqb c c refl)
 
 same_prefix : (points xs ys : List ℕ) → bytes_eq (points ++ xs) (points ++ ys) ≡ bytes_eq xs ys
 same_prefix [] xs ys = refl
@@ -77,10 +75,6 @@ same_image : (i : Image) → is_same i ≡ true → i ≡ Same
 same_image Same e = refl
 same_image (To points) e = cc
 
-both_true : (t u : Bool) → (t && u) ≡ true → (t ≡ true) × (u ≡ true)
-both_true true u e = (refl, e)
-both_true false u e = cc
-
 pub record StaysBy (G : Facts) : Type 0 where
   pub lower : G.lower ≡ Same
   pub upper : G.upper ≡ Same
@@ -89,9 +83,9 @@ pub record StaysBy (G : Facts) : Type 0 where
 
 pub unmapped_stays : (G : Facts) → is_unmapped G ≡ true → StaysBy G
 unmapped_stays G e =
-    let first = both_true (is_same G.lower) (is_same G.upper && (is_same G.title && is_same G.fold)) e in
-    let second = both_true (is_same G.upper) (is_same G.title && is_same G.fold) first.1 in
-    let third = both_true (is_same G.title) (is_same G.fold) second.1 in
+    let first = and_parts (is_same G.lower) (is_same G.upper && (is_same G.title && is_same G.fold)) e in
+    let second = and_parts (is_same G.upper) (is_same G.title && is_same G.fold) first.1 in
+    let third = and_parts (is_same G.title) (is_same G.fold) second.1 in
     record { lower = same_image G.lower first.0; upper = same_image G.upper second.0; title = same_image G.title third.0; fold = same_image G.fold third.1 }
 
 if_same : (t : Bool) (i : Image) → i ≡ Same → (if t then i else Same) ≡ Same

@@ -1,7 +1,7 @@
 -- The first row that gives an image.
-use Rattle.std.proofs.Common.{◌≡◌, ℕ, ◌+◌, ◌<◌, Bool, true, false, cond, ◌==◌, List, [], ◌∷◌, ◌++◌, length, take, get_or, find, Option, Some, None, is_some, refl, sym, ap, ◌∙◌, arith}
-use Rattle.std.proofs.lemmas.Bool.Decides.{nat_tests}
+use Rattle.std.proofs.Common.{◌≡◌, ℕ, ◌+◌, ◌<◌, Bool, true, false, cond, ◌==◌, List, [], ◌∷◌, ◌++◌, length, take, get_or, find, Option, Some, None, is_some, refl, sym, ap, ◌∙◌}
 use Rattle.std.proofs.lemmas.List.{take_more}
+use Rattle.std.proofs.lemmas.Bool.{eqb-true}
 use Rattle.ucd_facts.specs.declared.row.Row.{Row}
 use Rattle.ucd_facts.specs.declared.row.Row.TheVariants.{Unit as DataLine, Value as ValueLine, Exclusion as ExclusionLine, Fold as FoldLine, Casing as CasingLine, Alias as AliasLine, Missing as MissingLine}
 use Rattle.code_facts.specs.Found.{first_some, passes, image_in, image_by, image_of_row}
@@ -89,16 +89,13 @@ set_by : (b : Bool) (case : Case) (taken old left new : Cases) (image : Option (
 set_by true case taken old left new image same others is = is ∙ ap (λ cases. with_image case cases image) (same refl)
 set_by false case taken old left new image same others is = is ∙ others refl ∙ sym (nothing_more case old)
 
-key_is : (a b : ℕ) → (a == b) ≡ true → a ≡ b
-key_is a b e = grind (arith, nat_tests)
-
 -- the images of one code point taken out, and set again with one more
 pub one_more : (old left new : ℕ → Cases) (case : Case) (code : ℕ) (taken given : Cases) (image : Option (List ℕ)) → taken ≡ old code → given ≡ with_image case taken image
     → ((c : ℕ) → (code == c) ≡ false → left c ≡ old c)
     → ((c : ℕ) → new c ≡ cond (code == c) given (left c))
     → (c : ℕ) → new c ≡ with_image case (old c) (cond (code == c) image None)
 one_more old left new case code taken given image is with others set c =
-    set_by (code == c) case taken (old c) (left c) (new c) image (λ e. is ∙ ap old (key_is code c e)) (others c) (set c ∙ ap (λ cases. cond (code == c) cases (left c)) with)
+    set_by (code == c) case taken (old c) (left c) (new c) image (λ e. is ∙ ap old (eqb-true code c e)) (others c) (set c ∙ ap (λ cases. cond (code == c) cases (left c)) with)
 
 -- the images of one row more
 more_foldings : (rows casings : List Row) (i c : ℕ) (d : Row) → i < length rows

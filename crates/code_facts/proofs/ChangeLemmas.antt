@@ -2,12 +2,13 @@
 use Rattle.std.proofs.Common.{◌≡◌, ℕ, ◌+◌, ◌%◌, ◌<◌, ◌≤◌, nat_lt, Bool, true, false, cond, ◌&&◌, ◌||◌, not, ◌==◌, List, [], ◌∷◌, ◌++◌, length, take, get_or, refl, sym, ap, subst, ◌∙◌, find, arith, inl, inr}
 use mathlib.Core.Path.{fun_ext}
 use Rattle.std.specs.Bool.{Decides, beq}
-use Rattle.std.specs.Cmp.{booleans_Decides}
+use Rattle.std.specs.Cmp.{booleans_Decides, both_ways as same_from_both}
 use Rattle.std.specs.List.{list_any, range_with_len}
 use Rattle.key_set.specs.Keys.{has}
-use Rattle.std.proofs.lemmas.Bool.{true≢false, both_ways, cases_lt, or_left, or_right, or_cases, and_from, and_parts, eq-eqb, eqb-true}
+use Rattle.std.proofs.lemmas.Bool.{true≢false, both_ways, cases_lt, or_left, or_right, or_cases, and_from, and_parts, eq-eqb, eqb-true, false_from_ne_true}
 use Rattle.std.proofs.lemmas.Bool.Decides.{nat_tests}
 use Rattle.std.proofs.lemmas.List.Folds.{list_any-append, list_any_more}
+use Rattle.std.proofs.Math.Bool.{and-false}
 use Rattle.ucd_facts.specs.Answers.{SameAnswer, TellsChanges, is_asked, same_query}
 use Rattle.ucd_facts.specs.AnswerProofs.{queries_are_told}
 use Rattle.ucd_points.specs.Bounds.{Bounds}
@@ -27,17 +28,9 @@ use Rattle.code_facts.proofs.TableLemmas.{pair_inside}
 
 -- ---- tests
 
-false_by : (b : Bool) → (b ≡ true → ⊥) → b ≡ false
-false_by true h = absurd (h refl)
-false_by false h = refl
-
-pub same_by : (a b : Bool) → (a ≡ true → b ≡ true) → (b ≡ true → a ≡ true) → a ≡ b
-same_by true b f g = sym (f refl)
-same_by false b f g = sym (false_by b (λ is. true≢false (sym (g is))))
-
 -- what is not asked of more was not asked of less
 not_before : (a b : Bool) → (a ≡ true → b ≡ true) → b ≡ false → a ≡ false
-not_before a b f none = false_by a (λ is. true≢false (sym (f is) ∙ none))
+not_before a b f none = false_from_ne_true a (λ is. true≢false (sym (f is) ∙ none))
 
 -- ---- questions that are put one by one
 
@@ -143,18 +136,11 @@ done_more spans i d c index F G old new lt is more grows before here =
 
 -- ---- composites that stay
 
-and_false : (b : Bool) → (b && false) ≡ false
-and_false true = refl
-and_false false = refl
-
 -- whether a mapping with s in front is that of a composite asks of s alone whether its class is 0
 zero_alike_by : (F G : ℕ → Facts) (s y a b : ℕ) (first second k d x : Bool) → (first ≡ true → ((F a).class == 0) ≡ ((G a).class == 0))
     → ((k && (d && (((F a).class == 0) && x))) && (first && second)) ≡ ((k && (d && (((G a).class == 0) && x))) && (first && second))
 zero_alike_by F G s y a b true second k d x same = ap (λ (z : Bool). (k && (d && (z && x))) && second) (same refl)
-zero_alike_by F G s y a b false second k d x same = and_false (k && (d && (((F a).class == 0) && x))) ∙ sym (and_false (k && (d && (((G a).class == 0) && x))))
-
-number_is : (a s : ℕ) → (a == s) ≡ true → a ≡ s
-number_is a s is = grind (arith, nat_tests)
+zero_alike_by F G s y a b false second k d x same = and-false (k && (d && (((F a).class == 0) && x))) ∙ sym (and-false (k && (d && (((G a).class == 0) && x))))
 
 zero_alike : (F G : ℕ → Facts) (s y : ℕ) (m : List ℕ) (k d x : Bool) → ((F s).class == 0) ≡ ((G s).class == 0)
     → ((k && (d && (first_has_class_zero F m && x))) && is_pair s y m) ≡ ((k && (d && (first_has_class_zero G m && x))) && is_pair s y m)
@@ -162,7 +148,7 @@ zero_alike F G s y [] k d x same = refl
 zero_alike F G s y (a ∷ []) k d x same = refl
 zero_alike F G s y (a ∷ b ∷ e ∷ m) k d x same = refl
 zero_alike F G s y (a ∷ b ∷ []) k d x same =
-    zero_alike_by F G s y a b (a == s) (b == y) k d x (λ is. subst (λ (n : ℕ). ((F n).class == 0) ≡ ((G n).class == 0)) (sym (number_is a s is)) same)
+    zero_alike_by F G s y a b (a == s) (b == y) k d x (λ is. subst (λ (n : ℕ). ((F n).class == 0) ≡ ((G n).class == 0)) (sym (eqb-true a s is)) same)
 
 composes_alike : (F G : ℕ → Facts) (s y q : ℕ) → F q ≡ G q → ((F s).class == 0) ≡ ((G s).class == 0) → composes F s y q ≡ composes G s y q
 composes_alike F G s y q e same =
@@ -175,7 +161,7 @@ both_false false b none = sym none
 
 not_reached : (F G : ℕ → Facts) (pairs : List (ℕ × ℕ)) (s y q : ℕ) → ReachesOwn F G pairs q → is_reached pairs s y ≡ false → composes F s y q ≡ composes G s y q
 not_reached F G pairs s y q reaches none =
-    both_false (composes F s y q) (composes G s y q) (false_by (composes_either F G s y q) (λ is. true≢false (sym (reaches s y is) ∙ none)))
+    both_false (composes F s y q) (composes G s y q) (false_from_ne_true (composes_either F G s y q) (λ is. true≢false (sym (reaches s y is) ∙ none)))
 
 zero_same : (a b : Bool) → not (beq a b) ≡ false → a ≡ b
 zero_same a b same = (booleans_Decides a b).0 (by_not (beq a b) same) where
@@ -245,7 +231,7 @@ second_alike : (F G : ℕ → Facts) (y : ℕ) → ((s q : ℕ) → composes F s
 unfolding second_of
 second_alike F G y same =
     ap (λ (p : ℕ → Bool). list_any p (range_with_len 0 point_count))
-    (fun_ext (λ q. same_by (ends_with F y q) (ends_with G y q) (ends_too F G y q (λ s. same s q)) (ends_too G F y q (λ s. sym (same s q)))))
+    (fun_ext (λ q. same_from_both (ends_with F y q) (ends_with G y q) (ends_too F G y q (λ s. same s q)) (ends_too G F y q (λ s. sym (same s q)))))
 
 ends_in : ℕ → ℕ × ℕ → Bool
 ends_in y pair = pair.1 == y
@@ -292,7 +278,7 @@ tells_all index F G spans reached Q R now next stays only done more pairs second
 
   second : (y : ℕ) (t : Bool) → list_any (ends_in y) reached.pairs.items ≡ t → is_asked Q (Second y) ≡ false → second_of F y ≡ second_of G y
   second y true is none = let there = pair_with y reached.pairs.items is in seconds there.0 y there.1 none
-  second y false absent none = second_alike F G y (λ s q. all s y q (false_by (is_reached reached.pairs.items s y) (λ is. true≢false (sym (with_pair s y reached.pairs.items is) ∙ absent))))
+  second y false absent none = second_alike F G y (λ s q. all s y q (false_from_ne_true (is_reached reached.pairs.items s y) (λ is. true≢false (sym (with_pair s y reached.pairs.items is) ∙ absent))))
 
   unchanged : (q : Query) → is_asked Q q ≡ false → SameAnswer F G q
   unchanged (Row x) none = row x (list_any (within x) spans) refl none

@@ -2,7 +2,7 @@
 use Rattle.std.proofs.Common.{◌≡◌, ℕ, ◌+◌, ◌<◌, ◌≤◌, Bool, true, false, cond, not, ◌==◌, ◌&&◌, ◌||◌, List, [], ◌∷◌, length, take, get_or, nat_lt, Option, Some, None, MatchOption, refl, sym, ap, ap₂, subst, ◌∙◌, arith, inl, inr}
 use Rattle.key_set.specs.Keys.{has, is_in, IsNext}
 use Rattle.key_set.specs.declared.key_set.KeySet.{KeySet}
-use Rattle.std.proofs.lemmas.Bool.{cases_lt, eqb-true, true≢false}
+use Rattle.std.proofs.lemmas.Bool.{cases_lt, eqb-true, true≢false, false_from_ne_true}
 use Rattle.std.proofs.lemmas.Bool.Decides.{nat_tests}
 use Rattle.ucd_points.specs.Limits.{point_count}
 use Rattle.ucd_facts.specs.Facts.{Facts}
@@ -11,6 +11,7 @@ use Rattle.ucd_facts.specs.CompositeProofs.{pair_of_first, pair_of_none, second_
 use Rattle.code_facts.specs.Index.{Lists, is_gathered, pair_key, second_key, NoneBelow, is_candidate, is_that, ends_that, two_of, may_compose, picked}
 use Rattle.std.specs.List.{list_any}
 use Rattle.std.proofs.lemmas.List.Folds.{list_any_more}
+use Rattle.std.specs.Cmp.{first_so, second_so}
 use Rattle.ucd_points.specs.Bounds.{Bounds}
 use Rattle.ucd_facts.specs.Facts.{within}
 use Rattle.code_facts.specs.Copying.{IsListed}
@@ -19,18 +20,6 @@ use Rattle.code_facts.specs.declared.pair_keys.PairKeys.{PairKeys}
 use Rattle.code_facts.specs.declared.row_tables.RowTables.{RowTables}
 
 -- ---- a primary composite is listed
-
-and_first : (a b : Bool) → a && b ≡ true → a ≡ true
-and_first true b e = refl
-and_first false b e = absurd cc
-
-and_second : (a b : Bool) → a && b ≡ true → b ≡ true
-and_second true b e = e
-and_second false b e = absurd cc
-
-false_by : (b : Bool) → (b ≡ true → ⊥) → b ≡ false
-false_by true h = absurd (h refl)
-false_by false h = refl
 
 pub pair_members : (s y : ℕ) (m : List ℕ) → is_pair s y m ≡ true → m ≡ s ∷ y ∷ []
 pair_members s y [] e = absurd cc
@@ -92,34 +81,34 @@ primary_candidate : (F : ℕ → Facts) (q : ℕ) → primary F q ≡ true → i
 primary_candidate F q is = candidate_by (is_canonical (F q).kind) ((F q).class == 0) (first_has_class_zero F (F q).mapping) (not (F q).excluded) is
 
 pub pair_candidate : (F : ℕ → Facts) (s y q : ℕ) → composes F s y q ≡ true → is_candidate (F q) ≡ true
-pair_candidate F s y q is = primary_candidate F q (and_first (primary F q) (is_pair s y (F q).mapping) is)
+pair_candidate F s y q is = primary_candidate F q (first_so (primary F q) (is_pair s y (F q).mapping) is)
 
 pub second_candidate : (F : ℕ → Facts) (y q : ℕ) → ends_with F y q ≡ true → is_candidate (F q) ≡ true
-second_candidate F y q is = primary_candidate F q (and_first (primary F q) (is_second y (F q).mapping) is)
+second_candidate F y q is = primary_candidate F q (first_so (primary F q) (is_second y (F q).mapping) is)
 
 pub pair_listed : (F : ℕ → Facts) (index : PairIndex) (s y q : ℕ) → Lists index F → composes F s y q ≡ true → has index.pairs (pair_key s y + q) ≡ true
 pair_listed F index s y q lists is =
-    let members = pair_members s y (F q).mapping (and_second (primary F q) (is_pair s y (F q).mapping) is) in
-    and_first (has index.pairs (pair_key s y + q)) _ (and_second (nat_lt y 2097152) _ (lists s y q (primary_candidate F q (and_first (primary F q) (is_pair s y (F q).mapping) is)) members))
+    let members = pair_members s y (F q).mapping (second_so (primary F q) (is_pair s y (F q).mapping) is) in
+    first_so (has index.pairs (pair_key s y + q)) _ (second_so (nat_lt y 2097152) _ (lists s y q (primary_candidate F q (first_so (primary F q) (is_pair s y (F q).mapping) is)) members))
 
 second_members : (F : ℕ → Facts) (index : PairIndex) (y q : ℕ) (m : List ℕ) → m ≡ (F q).mapping → is_second y m ≡ true → is_candidate (F q) ≡ true → Lists index F → has index.seconds (second_key y + q) ≡ true
 second_members F index y q [] e is kind lists = absurd cc
 second_members F index y q (a ∷ []) e is kind lists = absurd cc
 second_members F index y q (a ∷ b ∷ []) e is kind lists =
     let same : b ≡ y = grind (arith, nat_tests) in
-    subst (λ (n : ℕ). has index.seconds (second_key n + q) ≡ true) same (and_second (has index.pairs (pair_key a b + q)) _ (and_second (nat_lt b 2097152) _ (lists a b q kind (sym e))))
+    subst (λ (n : ℕ). has index.seconds (second_key n + q) ≡ true) same (second_so (has index.pairs (pair_key a b + q)) _ (second_so (nat_lt b 2097152) _ (lists a b q kind (sym e))))
 second_members F index y q (a ∷ b ∷ d ∷ m) e is kind lists = absurd cc
 
 pub second_listed : (F : ℕ → Facts) (index : PairIndex) (y q : ℕ) → Lists index F → ends_with F y q ≡ true → has index.seconds (second_key y + q) ≡ true
 second_listed F index y q lists is =
-    second_members F index y q (F q).mapping refl (and_second (primary F q) (is_second y (F q).mapping) is) (primary_candidate F q (and_first (primary F q) (is_second y (F q).mapping) is)) lists
+    second_members F index y q (F q).mapping refl (second_so (primary F q) (is_second y (F q).mapping) is) (primary_candidate F q (first_so (primary F q) (is_second y (F q).mapping) is)) lists
 
 -- what is not listed is no composite
 pub pair_unlisted : (F : ℕ → Facts) (index : PairIndex) (s y q : ℕ) → Lists index F → has index.pairs (pair_key s y + q) ≡ false → composes F s y q ≡ false
-pair_unlisted F index s y q lists absent = false_by (composes F s y q) (λ is. true≢false (sym (pair_listed F index s y q lists is) ∙ absent))
+pair_unlisted F index s y q lists absent = false_from_ne_true (composes F s y q) (λ is. true≢false (sym (pair_listed F index s y q lists is) ∙ absent))
 
 pub second_unlisted : (F : ℕ → Facts) (index : PairIndex) (y q : ℕ) → Lists index F → has index.seconds (second_key y + q) ≡ false → ends_with F y q ≡ false
-second_unlisted F index y q lists absent = false_by (ends_with F y q) (λ is. true≢false (sym (second_listed F index y q lists is) ∙ absent))
+second_unlisted F index y q lists absent = false_from_ne_true (ends_with F y q) (λ is. true≢false (sym (second_listed F index y q lists is) ∙ absent))
 
 -- ---- the least one
 
@@ -152,12 +141,12 @@ first_by F s y m members is = sym (ap (first_has_class_zero F) members) ∙ is
 
 first_zero : (F : ℕ → Facts) (s y q : ℕ) → composes F s y q ≡ true → ((F s).class == 0) ≡ true
 first_zero F s y q is =
-    let primary_is : primary F q ≡ true = and_first (primary F q) (is_pair s y (F q).mapping) is in
-    first_by F s y (F q).mapping (pair_members s y (F q).mapping (and_second (primary F q) (is_pair s y (F q).mapping) is))
-    (and_first (first_has_class_zero F (F q).mapping) _ (and_second ((F q).class == 0) _ (and_second (is_canonical (F q).kind) _ primary_is)))
+    let primary_is : primary F q ≡ true = first_so (primary F q) (is_pair s y (F q).mapping) is in
+    first_by F s y (F q).mapping (pair_members s y (F q).mapping (second_so (primary F q) (is_pair s y (F q).mapping) is))
+    (first_so (first_has_class_zero F (F q).mapping) _ (second_so ((F q).class == 0) _ (second_so (is_canonical (F q).kind) _ primary_is)))
 
 pub pair_of_mark : (F : ℕ → Facts) (s y : ℕ) → ((F s).class == 0) ≡ false → None ≡ pair_of F s y
-pair_of_mark F s y other = pair_none F s y (λ q lt. false_by (composes F s y q) (λ is. true≢false (sym (first_zero F s y q is) ∙ other)))
+pair_of_mark F s y other = pair_none F s y (λ q lt. false_from_ne_true (composes F s y q) (λ is. true≢false (sym (first_zero F s y q is) ∙ other)))
 
 pub second_found : (F : ℕ → Facts) (y q : ℕ) → q < 1114112 → ends_with F y q ≡ true → true ≡ second_of F y
 second_found F y q lt is = sym (second_of_some F y q (below_count q lt) is)

@@ -5,6 +5,7 @@ use Rattle.std.specs.Result.{IfOk}
 use Rattle.std.proofs.lemmas.List.{length-take}
 use Rattle.std.proofs.lemmas.List.Sums.{sum_by_more, sum_by-cons}
 use Rattle.std.proofs.lemmas.Bool.{ltb-true}
+use Rattle.std.proofs.lemmas.Result.{IfOk-weaker}
 use Rattle.ucd_facts.specs.Enumerations.{flags}
 use Rattle.ucd_facts.specs.EnumerationProofs.{true_of_each, enumerates_flags}
 use Rattle.ucd_facts.specs.Facts.{Sources, within, flag_at, excluded_at}
@@ -19,10 +20,6 @@ use Rattle.code_facts.specs.Word.{one_if, mark_part}
 use Rattle.code_facts.specs.Marks.{word_of, mark_bit, marks_before, marks_at, all_marks, holds, file_of}
 use Rattle.code_facts.specs.declared.mark.Mark.{Mark}
 use Rattle.code_facts.specs.declared.mark.Mark.TheVariants.{Excluded, MidWord, Flagged}
-
-pub if_ok_map : {A E : Type 0} (r : Result A E) (P Q : A → Type 0) → ((x : A) → P x → Q x) → IfOk r P → IfOk r Q
-if_ok_map (Ok x) P Q f p = f x p
-if_ok_map (Err e) P Q f p = p
 
 pub cond_bit : (b : Bool) (v : ℕ) → cond b v 0 ≡ v * one_if b
 cond_bit true v = omega arith

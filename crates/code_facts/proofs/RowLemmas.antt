@@ -4,6 +4,7 @@ use Rattle.std.specs.List.{list_any}
 use Rattle.std.proofs.lemmas.List.{take_more, append-nil}
 use Rattle.std.proofs.lemmas.List.Elements.{filter-append}
 use Rattle.std.proofs.lemmas.Bool.Decides.{nat_tests}
+use Rattle.std.proofs.lemmas.Bool.{or_parts}
 use Rattle.ucd_facts.specs.Facts.{is_data_of, within, data_in, data_row}
 use Rattle.ucd_points.specs.declared.files.SourceFile.{SourceFile}
 use Rattle.ucd_points.specs.declared.files.SourceFile.TheVariants.{UnicodeData}
@@ -26,14 +27,6 @@ no_second_rule false false e = refl
 two_spans : (c a b d e : ℕ) → (leb a c && leb c b) ≡ true → (leb a e && leb d b) ≡ false → (leb d c && leb c e) ≡ false
 two_spans c a b d e inside meet = grind (arith, nat_tests)
 
-or_left_false : (a b : Bool) → (a || b) ≡ false → a ≡ false
-or_left_false true b e = e
-or_left_false false b e = refl
-
-or_right_false : (a b : Bool) → (a || b) ≡ false → b ≡ false
-or_right_false true b e = absurd cc
-or_right_false false b e = e
-
 no_cover_one : (c : ℕ) (row : DataRow) (other : Row) → within c row.span ≡ true → overlaps UnicodeData (DataLine row) other ≡ false → is_data_of c other ≡ false
 no_cover_one c row (DataLine x) inside apart = two_spans c row.span.lo row.span.hi x.span.lo x.span.hi inside apart
 no_cover_one c row (ValueLine x) inside apart = refl
@@ -46,9 +39,8 @@ no_cover_one c row (MissingLine x) inside apart = refl
 no_cover : (c : ℕ) (row : DataRow) (above : List Row) → within c row.span ≡ true → list_any (overlaps UnicodeData (DataLine row)) above ≡ false → find (is_data_of c) above ≡ None
 no_cover c row [] inside apart = refl
 no_cover c row (a ∷ above) inside apart =
-    let first = or_left_false (overlaps UnicodeData (DataLine row) a) (list_any (overlaps UnicodeData (DataLine row)) above) apart in
-    let rest = or_right_false (overlaps UnicodeData (DataLine row) a) (list_any (overlaps UnicodeData (DataLine row)) above) apart in
-    rw (no_cover_one c row a inside first) (no_cover c row above inside rest)
+    let parts = or_parts (overlaps UnicodeData (DataLine row) a) (list_any (overlaps UnicodeData (DataLine row)) above) apart in
+    rw (no_cover_one c row a inside parts.0) (no_cover c row above inside parts.1)
 
 none_above : (c : ℕ) (above : List Row) (row : Row) → key_rule UnicodeData above row ≡ None → is_data_of c row ≡ true → find (is_data_of c) above ≡ None
 none_above c above (DataLine row) free inside = no_cover c row above inside (no_second_rule (list_any (same_key UnicodeData (DataLine row)) above) (list_any (overlaps UnicodeData (DataLine row)) above) free)

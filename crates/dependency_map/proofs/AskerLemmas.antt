@@ -4,7 +4,7 @@
 -- none_more     one more that does not pass
 -- none_between  where none of a stretch passes, and none behind it may pass, none of both does
 use Rattle.std.proofs.Common.{◌≡◌, ◌∙◌, ℕ, ◌+◌, ◌<◌, ◌≤◌, Bool, true, false, ◌||◌, List, Option, Some, None, refl, sym, ap, arith, inl, inr}
-use Rattle.std.proofs.lemmas.Bool.{cases_lt, true≢false}
+use Rattle.std.proofs.lemmas.Bool.{cases_lt, true≢false, or_parts}
 use Rattle.ucd_facts.specs.declared.query.Query.{Query}
 use Rattle.ucd_facts.specs.declared.query.Query.TheVariants.{Row, Pair, Second}
 use Rattle.ucd_facts.specs.Answers.{is_asked}
@@ -17,16 +17,12 @@ own_is_asked (Row x) c h = grind arith
 own_is_asked (Pair s y) c h = refl
 own_is_asked (Second y) c h = grind arith
 
-or_second : (a b : Bool) → (a || b) ≡ false → b ≡ false
-or_second true b h = absurd (true≢false h)
-or_second false b h = h
-
 kept_may_ask : (queries : List Query) (q : Query) (may b : Bool) → is_asked queries q ≡ b → (keeps (Some queries) q ≡ true → may ≡ true) → may ≡ false → is_asked queries q ≡ false
 kept_may_ask queries q may true is lists not = absurd (true≢false (sym (lists is) ∙ not))
 kept_may_ask queries q may false is lists not = is
 
 unasked_by : (has : ℕ → Bool) (kept : Option (List Query)) (c : ℕ) (q : Query) → (keeps kept q ≡ true → may_ask has q c ≡ true) → may_ask has q c ≡ false → is_asked (asked_by c kept) q ≡ false
-unasked_by has None c q lists h = own_is_asked q c (or_second (is_listed has q c) (is_own q c) h)
+unasked_by has None c q lists h = own_is_asked q c (or_parts (is_listed has q c) (is_own q c) h).1
 unasked_by has (Some queries) c q lists h = kept_may_ask queries q (may_ask has q c) (is_asked queries q) refl lists h
 
 pub unasked : (has : ℕ → Bool) (kept : ℕ → Option (List Query)) → Lists has kept → (q : Query) (c : ℕ) → c < 1114112 → may_ask has q c ≡ false → asks (λ k. asked_by k (kept k)) q c ≡ false

@@ -2,14 +2,15 @@
 --
 -- points_are_those p   the code points that pass p are all that do, no others, and rise
 -- askers_are_those     so are the askers of a question, and of questions
-use Rattle.std.proofs.Common.{◌≡◌, ◌∙◌, ℕ, zero, suc, ◌+◌, ◌-◌, ◌<◌, ◌≤◌, Bool, true, false, ◌&&◌, ◌==◌, List, get_or, filter, refl, sym, ap, arith, inl, inr}
-use Rattle.std.proofs.lemmas.Bool.{cases_lt, true≢false, eqb-true}
+use Rattle.std.proofs.Common.{◌≡◌, ◌∙◌, ℕ, zero, suc, ◌+◌, ◌-◌, ◌<◌, ◌≤◌, Bool, true, false, ◌&&◌, ◌==◌, List, get_or, filter, sym, ap, arith, inl, inr}
+use Rattle.std.proofs.lemmas.Bool.{cases_lt, true≢false, eqb-true, and_from}
 use Rattle.std.proofs.lemmas.Map.Views.{any-filter_same}
 use Rattle.std.proofs.lemmas.Bool.Decides.{nat_tests}
 use Rattle.std.proofs.lemmas.List.FromFn.{length-range_with_len, get_or-range_with_len}
 use Rattle.std.proofs.lemmas.List.Kept.{IsStrictlyIncreasing-filter}
 use Rattle.std.specs.List.{range_with_len}
 use Rattle.std.specs.List.Sorted.{IsStrictlyIncreasing}
+use Rattle.std.specs.Cmp.{first_so, second_so}
 use Rattle.ucd_points.specs.Limits.{point_count}
 use Rattle.range_table.specs.Values.{point_count-is}
 use Rattle.dependency_map.specs.Askers.{points_from, asks, asks_any}
@@ -40,25 +41,14 @@ below_end a (suc n) c h = let rest : is_in (range_with_len (a + 1) n) c ≡ true
 is_in-filter : (p : ℕ → Bool) (c : ℕ) (xs : List ℕ) → is_in (filter p xs) c ≡ (p c && is_in xs c)
 is_in-filter p c xs = any-filter_same (λ k. k == c) p (p c) (λ k is. ap p (eqb-true k c is)) xs
 
-both : (a b : Bool) → a ≡ true → b ≡ true → (a && b) ≡ true
-both a b ha hb = rw (ha, hb) refl
-
-and_first : (a b : Bool) → (a && b) ≡ true → a ≡ true
-and_first true b h = refl
-and_first false b h = h
-
-and_second : (a b : Bool) → (a && b) ≡ true → b ≡ true
-and_second true b h = h
-and_second false b h = absurd (true≢false (sym h))
-
 pub points_are_those : (p : ℕ → Bool) → AreThose p (points_from p 0)
 points_are_those p =
     let n : ℕ = point_count - 0 in
     record {
-      all = λ c inside is. is_in-filter p c (range_with_len 0 n) ∙ both (p c) (is_in (range_with_len 0 n) c) is (in_range 0 n c (omega arith) (omega (arith, point_count-is)));
+      all = λ c inside is. is_in-filter p c (range_with_len 0 n) ∙ and_from (p c) (is_in (range_with_len 0 n) c) is (in_range 0 n c (omega arith) (omega (arith, point_count-is)));
       only = λ c is. let parts : (p c && is_in (range_with_len 0 n) c) ≡ true = sym (is_in-filter p c (range_with_len 0 n)) ∙ is in
-          let below = below_end 0 n c (and_second (p c) (is_in (range_with_len 0 n) c) parts) in
-          (omega (arith, below, point_count-is), and_first (p c) (is_in (range_with_len 0 n) c) parts);
+          let below = below_end 0 n c (second_so (p c) (is_in (range_with_len 0 n) c) parts) in
+          (omega (arith, below, point_count-is), first_so (p c) (is_in (range_with_len 0 n) c) parts);
       rising = IsStrictlyIncreasing-filter p (range_with_len 0 n) (range_rises 0 n);
     }
 

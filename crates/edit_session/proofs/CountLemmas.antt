@@ -1,8 +1,8 @@
 -- The counter, and how many code points there are.
-use Rattle.std.proofs.Common.{◌≡◌, ℕ, zero, suc, ◌+◌, ◌-◌, ◌<◌, ◌≤◌, ◌==◌, Bool, true, false, ◌||◌, List, [], ◌∷◌, length, get_or, Ok, Err, Result, refl, ap, subst, arith, inl, inr}
+use Rattle.std.proofs.Common.{◌≡◌, ℕ, zero, suc, ◌+◌, ◌-◌, ◌<◌, ◌≤◌, ◌==◌, true, ◌||◌, List, [], ◌∷◌, length, get_or, Ok, Err, Result, ap, subst, arith, inl, inr}
 use Rattle.std.specs.List.Sorted.{IsStrictlyIncreasing}
 use Rattle.std.specs.Result.{IsErr}
-use Rattle.std.proofs.lemmas.Bool.{cases_lt}
+use Rattle.std.proofs.lemmas.Bool.{cases_lt, or_right}
 use Rattle.std.proofs.lemmas.Bool.Decides.{nat_tests}
 use Rattle.ucd_facts.specs.Facts.{Facts}
 use Rattle.ucd_points.specs.Limits.{point_count}
@@ -25,10 +25,6 @@ rises_from xs rising (suc k) lt =
     let step = rising k (omega (arith, lt)) in
     let next : k + 1 ≡ suc k = omega arith in
     subst (λ j. suc k ≤ get_or xs j 0) next (omega (arith, before, step))
-
-or_right : (a b : Bool) → b ≡ true → (a || b) ≡ true
-or_right true b e = refl
-or_right false b e = e
 
 in_at : (xs : List ℕ) (k : ℕ) → k < length xs → is_in xs (get_or xs k 0) ≡ true
 in_at [] k lt = absurd (omega (arith, lt))

@@ -7,10 +7,9 @@
 -- cut           the facts of tables are those of a code point without a row, past the code points
 -- begun         what is kept before one went on from a code point
 -- walked_more   and after one went on from some, and what they ask was listed
-use Rattle.std.proofs.Common.{◌≡◌, ◌∙◌, ℕ, ◌<◌, ◌≤◌, nat_lt, Bool, true, false, ◌||◌, ◌⊎◌, if◌then◌else◌, List, [], ◌∷◌, Option, Some, None, refl, sym, ap, subst, arith, inl, inr}
+use Rattle.std.proofs.Common.{◌≡◌, ◌∙◌, ℕ, ◌<◌, ◌≤◌, nat_lt, Bool, true, false, ◌||◌, ◌⊎◌, if◌then◌else◌, List, [], ◌∷◌, Option, Some, None, refl, sym, ap, subst, inl, inr}
 use Rattle.std.specs.List.{list_any}
-use Rattle.std.proofs.lemmas.Bool.{true≢false, or_cases, or_left, or_parts, or_right}
-use Rattle.std.proofs.lemmas.Bool.Decides.{nat_tests}
+use Rattle.std.proofs.lemmas.Bool.{true≢false, or_cases, or_left, or_parts, or_right, false_from_ne_true, le-ltb}
 use Rattle.range_table.specs.Values.{SameValues, point_count-is}
 use Rattle.ucd_points.specs.Limits.{point_count}
 use Rattle.ucd_facts.specs.Facts.{Facts, unassigned}
@@ -60,10 +59,6 @@ own_about c q e =
       ]
     ]
 
-never : (b : Bool) → (b ≡ true → ⊥) → b ≡ false
-never true refuted = absurd (refuted refl)
-never false refuted = refl
-
 pub below_count : (c : ℕ) → c < 1114112 → c < point_count
 below_count c lt = subst (λ n. c < n) (sym point_count-is) lt
 
@@ -84,13 +79,13 @@ keeps_same (Some m) A B F same k = record {
 module _ (step : ℕ → ℕ → Bool) (walked : ℕ → Bool) (A : ℕ → List Query) (F : ℕ → Facts) (k : KeepsWalked step walked A F) (Q : List Query) (all : (q : Query) → is_asked Q q ≡ true → walked (about q) ≡ true) where
   none_kept : (c : ℕ) → c < 1114112 → walked c ≡ false → list_any (is_asked (A c)) Q ≡ false
   none_kept c lt out =
-      any_none (A c) Q (λ q e. never (is_asked (A c) q) (λ a.
+      any_none (A c) Q (λ q e. false_from_ne_true (is_asked (A c) q) (λ a.
       let is : about q ≡ c = own_about c q (sym (same_asked (A c) (own_queries c) q (k.plain c lt out)) ∙ a) in
       true≢false (sym (all q e) ∙ ap walked is ∙ out)))
 
   none_asked : (c : ℕ) → c < 1114112 → walked c ≡ false → list_any (is_asked (asked F c)) Q ≡ false
   none_asked c lt out =
-      any_none (asked F c) Q (λ q e. never (is_asked (asked F c) q) (λ a. true≢false (sym (closed_leads step walked c (about q) k.closed (k.lead c lt out q a) (all q e)) ∙ out)))
+      any_none (asked F c) Q (λ q e. false_from_ne_true (is_asked (asked F c) q) (λ a. true≢false (sym (closed_leads step walked c (about q) k.closed (k.lead c lt out q a) (all q e)) ∙ out)))
 
   alike_at : (c : ℕ) → c < 1114112 → (b : Bool) → walked c ≡ b → asks_one A Q c ≡ asks_one (asked F) Q c
   alike_at c lt true e = any_alike (A c) (asked F c) Q (k.known c lt e)
@@ -122,9 +117,6 @@ keeps_next (Some m) A B F G Q k all r = walked_next (leads m) (is_walked m) A F 
 
 -- ---- the first mentions
 
-not_below : (c n : ℕ) → n ≤ c → nat_lt c n ≡ false
-not_below c n le = grind (arith, nat_tests)
-
 unassigned_plain : (c : ℕ) → IsPlain c (unassigned c)
 unassigned_plain c = record { mapping = refl; simple_upper = refl; simple_lower = refl; simple_title = refl; simple_fold = refl; upper = refl; lower = refl; title = refl; fold = refl }
 
@@ -133,7 +125,7 @@ unfolding all_kept
 past_all words rests c past = ap (λ b. if b then kept_at c (words c) (rests c) else unassigned c) past
 
 pub cut : (words : ℕ → ℕ) (rests : ℕ → RestOf) → IsCut (all_kept words rests)
-cut words rests c past = subst (IsPlain c) (sym (past_all words rests c (not_below c point_count (subst (λ n. n ≤ c) (sym point_count-is) past)))) (unassigned_plain c)
+cut words rests c past = subst (IsPlain c) (sym (past_all words rests c (le-ltb c point_count (subst (λ n. n ≤ c) (sym point_count-is) past)))) (unassigned_plain c)
 
 pub begun : (m : Mentions) (A : ℕ → List Query) (F : ℕ → Facts) → SameValues A own_queries → HasSteps (leads m) F → IsCut F → ((x : ℕ) → is_walked m x ≡ false) → KeepsWalked (leads m) (is_walked m) A F
 begun m A F plain steps cut none = record {

@@ -1,7 +1,7 @@
 -- The code points that operations touch.
 use Rattle.std.proofs.Common.{◌≡◌, ℕ, Bool, true, false, cond, true≢false, ◌||◌, List, [], ◌++◌, length, set, get_or, filter, Result, Ok, Err, refl, sym, ap, subst, ◌∙◌, inl, inr}
 use Rattle.std.specs.List.{list_any}
-use Rattle.std.proofs.lemmas.Bool.{cases_eq, cases_lt}
+use Rattle.std.proofs.lemmas.Bool.{cases_eq, cases_lt, or_parts}
 use Rattle.std.proofs.lemmas.List.{get_or-set_other, get_or-set_same, set_past}
 use Rattle.std.proofs.lemmas.List.Folds.{list_any-append}
 use Rattle.ucd_points.specs.Bounds.{Bounds}
@@ -21,10 +21,6 @@ abbrev Files : Type 0
 Files = List (List FileItem)
 
 -- ---- spans one behind the other
-
-or_parts : (a b : Bool) → (a || b) ≡ false → (a ≡ false) × (b ≡ false)
-or_parts true b e = absurd (true≢false e)
-or_parts false b e = (refl, e)
 
 apart : (c : ℕ) (before spans after : List Bounds) → after ≡ before ++ spans → list_any (within c) after ≡ false → (list_any (within c) before ≡ false) × (list_any (within c) spans ≡ false)
 apart c before spans after is out =

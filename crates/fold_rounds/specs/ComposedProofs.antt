@@ -7,6 +7,7 @@ use Rattle.std.proofs.Common.{◌≡◌, ℕ, Bool, true, false, cond, ◌||◌,
 use Rattle.std.specs.List.{list_any}
 use Rattle.std.proofs.lemmas.List.{append-nil}
 use Rattle.std.proofs.lemmas.List.Folds.{list_any-append}
+use Rattle.std.proofs.Math.Bool.{or-true}
 use Rattle.ucd_model.specs.CanonicalOrder.{class_of}
 use Rattle.ucd_facts.specs.Composites.{is_canonical, pair_of}
 use Rattle.ucd_model.specs.Composition.{Split, compose, compose_onto, composed_with, is_open, last_starter, where_open, with_composite, with_point}
@@ -17,10 +18,6 @@ use Rattle.normalisation.specs.ExpandedLemmas.{ok_same}
 use Rattle.normalisation.specs.FormProofs.{nfkd_twice}
 use Rattle.normalisation.specs.PairLemmas.{pair_joins}
 use Rattle.fold_rounds.specs.Steps.{has_composite}
-
-either_true : (t : Bool) → (t || true) ≡ true
-either_true true = refl
-either_true false = refl
 
 -- ---- what is composed so far is what was read, or it has a composite
 
@@ -35,7 +32,7 @@ module _ (F : ℕ → Facts) where
   front xs ys e = list_any-append canonical xs ys ∙ ap (λ b. b || list_any canonical ys) e
 
   behind : (xs ys : List ℕ) → list_any canonical ys ≡ true → list_any canonical (xs ++ ys) ≡ true
-  behind xs ys e = list_any-append canonical xs ys ∙ ap (λ b. list_any canonical xs || b) e ∙ either_true (list_any canonical xs)
+  behind xs ys e = list_any-append canonical xs ys ∙ ap (λ b. list_any canonical xs || b) e ∙ or-true (list_any canonical xs)
 
   pushed : (done read : List ℕ) (y : ℕ) → IsRead done read → IsRead (done ++ y ∷ []) (read ++ y ∷ [])
   pushed done read y (inl same) = inl (ap (λ (zs : List ℕ). zs ++ y ∷ []) same)

@@ -18,7 +18,7 @@ use Rattle.std.proofs.Common.{◌≡◌, ℕ, zero, suc, ◌+◌, ◌==◌, ◌<
 use Rattle.std.specs.List.{list_all}
 use Rattle.std.specs.Option.{option_and_then}
 use Rattle.std.specs.Str.{bytes_eq}
-use Rattle.std.proofs.lemmas.Bool.{cases_lt, eqb-true}
+use Rattle.std.proofs.lemmas.Bool.{cases_lt, eqb-true, and_parts}
 use Rattle.std.proofs.lemmas.Bool.Decides.{nat_tests}
 use Rattle.std.proofs.lemmas.Slice.Eq.{bytes_eq-Decides}
 use Rattle.ucd_facts.specs.CompositeProofs.{find_first, find_none_below}
@@ -41,12 +41,6 @@ use Rattle.fold_rounds.specs.RoundLaws.{IsFixed, FixedIsFound, FoundIsFixed}
 
 -- ---- lists
 
-bytes_same : (xs ys : List ℕ) → bytes_eq xs ys ≡ true → xs ≡ ys
-bytes_same xs ys e = (bytes_eq-Decides xs ys).0 e
-
-same_bytes : (xs ys : List ℕ) → xs ≡ ys → bytes_eq xs ys ≡ true
-same_bytes xs ys e = (bytes_eq-Decides xs ys).1 e
-
 some_same : (xs ys : List ℕ) → ◌≡◌ {A = Option (List ℕ)} (Some xs) (Some ys) → xs ≡ ys
 some_same xs ys e = cc
 
@@ -59,18 +53,14 @@ round_known folding F s form e few =
 
 -- ---- settled lists
 
-both_true : (t u : Bool) → (t && u) ≡ true → (t ≡ true) × (u ≡ true)
-both_true true u e = (refl, e)
-both_true false u e = cc
-
 own_image : (c : ℕ) (i : Image) → is_same i ≡ true → image_points c i ≡ c ∷ []
 own_image c Same e = refl
 own_image c (To points) e = cc
 
 -- a member that is its own folding stays in the folded list
 own_first : (folding : Folding) (F : ℕ → Facts) (x : ℕ) (s : List ℕ) → is_own x (F x) ≡ true → folded folding F (x ∷ s) ≡ x ∷ folded folding F s
-own_first Full F x s e = ap (λ xs. xs ++ fold F s) (own_image x (F x).fold (both_true (is_same (F x).fold) ((F x).simple_fold == x) e).0)
-own_first Simple F x s e = ap (λ (y : ℕ). y ∷ folded Simple F s) (eqb-true (F x).simple_fold x (both_true (is_same (F x).fold) ((F x).simple_fold == x) e).1)
+own_first Full F x s e = ap (λ xs. xs ++ fold F s) (own_image x (F x).fold (and_parts (is_same (F x).fold) ((F x).simple_fold == x) e).0)
+own_first Simple F x s e = ap (λ (y : ℕ). y ∷ folded Simple F s) (eqb-true (F x).simple_fold x (and_parts (is_same (F x).fold) ((F x).simple_fold == x) e).1)
 
 folded_none : (folding : Folding) (F : ℕ → Facts) → folded folding F [] ≡ []
 folded_none Full F = refl
@@ -79,8 +69,8 @@ folded_none Simple F = refl
 settled_fold : (folding : Folding) (F : ℕ → Facts) (s : List ℕ) → list_all (λ x. is_settled x (F x)) s ≡ true → drop_ignorable F (folded folding F s) ≡ s
 settled_fold folding F [] e = ap (drop_ignorable F) (folded_none folding F)
 settled_fold folding F (x ∷ s) e =
-    let parts = both_true (is_settled x (F x)) (list_all (λ y. is_settled y (F y)) s) e in
-    let own = both_true (is_own x (F x)) (not (default_ignorable x (F x))) parts.0 in
+    let parts = and_parts (is_settled x (F x)) (list_all (λ y. is_settled y (F y)) s) e in
+    let own = and_parts (is_own x (F x)) (not (default_ignorable x (F x))) parts.0 in
     let rest : List ℕ = drop_ignorable F (folded folding F s) in
     ap (drop_ignorable F) (own_first folding F x s own.0) ∙ ap (λ b. cond b (x ∷ rest) rest) own.1 ∙ ap (λ zs. x ∷ zs) (settled_fold folding F s parts.1)
 
@@ -112,7 +102,7 @@ module _ (folding : Folding) (F : ℕ → Facts) (c : ℕ) where
   rounds_more i s next e r = rw add-one (ap (option_and_then (round folding F)) e ∙ r)
 
   last_here : (i : ℕ) (s : List ℕ) → rounds folding F i (c ∷ []) ≡ Some s → round folding F s ≡ Some s → is_last folding F c i ≡ true
-  last_here i s e r = ap (is_fixed folding F) e ∙ ap (is_list s) r ∙ same_bytes s s refl
+  last_here i s e r = ap (is_fixed folding F) e ∙ ap (is_list s) r ∙ (bytes_eq-Decides s s).1 refl
 
   not_last_none : (i : ℕ) → rounds folding F i (c ∷ []) ≡ None → is_last folding F c i ≡ false
   not_last_none i e = ap (is_fixed folding F) e
@@ -121,7 +111,7 @@ module _ (folding : Folding) (F : ℕ → Facts) (c : ℕ) where
   not_last_stop i s e r = ap (is_fixed folding F) e ∙ ap (is_list s) r
 
   list_stays : (s : List ℕ) (r : Option (List ℕ)) → is_list s r ≡ true → r ≡ Some s
-  list_stays s (Some t) e = ap (λ zs. Some zs) (bytes_same t s e)
+  list_stays s (Some t) e = ap (λ zs. Some zs) ((bytes_eq-Decides t s).0 e)
   list_stays s None e = cc
 
   fixed_parts : (r : Option (List ℕ)) → is_fixed folding F r ≡ true → (s : List ℕ) × (r ≡ Some s) × (round folding F s ≡ Some s)
@@ -199,7 +189,7 @@ module _ (folding : Folding) (F : ℕ → Facts) (c : ℕ) where
 
   pub found_same : (i : ℕ) (s t : List ℕ) → i < 8 → rounds folding F i (c ∷ []) ≡ Some s → round folding F s ≡ Some t → bytes_eq t s ≡ true → casefold folding F c ≡ Some t
   found_same i s t few e r test =
-      let same : t ≡ s = bytes_same t s test in
+      let same : t ≡ s = (bytes_eq-Decides t s).0 test in
       found_is t i few (e ∙ ap (λ zs. Some zs) (sym same)) (ap (round folding F) same ∙ r)
 
   pub found_first_none : round folding F (c ∷ []) ≡ None → casefold folding F c ≡ None
@@ -208,7 +198,7 @@ module _ (folding : Folding) (F : ℕ → Facts) (c : ℕ) where
   pub found_settled : (folded list : List ℕ) → round folding F (c ∷ []) ≡ Some list → short_nfkc F folded ≡ Some list → list_all (λ x. is_settled x (F x)) folded ≡ true → bytes_eq list folded ≡ true
       → casefold folding F c ≡ Some list
   found_settled folded list r k settled test =
-      let same : folded ≡ list = sym (bytes_same list folded test) in
+      let same : folded ≡ list = sym ((bytes_eq-Decides list folded).0 test) in
       let own : short_nfkc F list ≡ Some list = ap (short_nfkc F) (sym same) ∙ k in
       let folds : short_fold folding F list ≡ Some list = ap (short_fold folding F) (sym same) ∙ ap short (settled_fold folding F folded settled) ∙ ap short same ∙ form_is_short (nfkc F folded) list k in
       let again : round folding F list ≡ Some list = ap (λ r. option_and_then (short_nfkc F) (option_and_then (short_fold folding F) r)) own ∙ ap (option_and_then (short_nfkc F)) folds ∙ own in
@@ -218,7 +208,7 @@ module _ (folding : Folding) (F : ℕ → Facts) (c : ℕ) where
   found_form form e few settled none =
       let test : nat_le (length form) 255 ≡ true = grind (arith, nat_tests) in
       let own : short_nfkc F form ≡ Some form = ap short_form (form_twice F (c ∷ []) form e none) ∙ ap (λ b. cond b (Some form) None) test in
-      found_settled form form (settled_round folding F c form e few settled ∙ own) own settled (same_bytes form form refl)
+      found_settled form form (settled_round folding F c form e few settled ∙ own) own settled ((bytes_eq-Decides form form).1 refl)
 
   found_fixed : (s : List ℕ) → casefold folding F c ≡ Some s → (i : ℕ) × IsFixed folding F c i s
   found_fixed s e =
@@ -250,7 +240,7 @@ module _ (folding : Folding) (F : ℕ → Facts) (c : ℕ) (form : nfkc F (c ∷
   alone_same : default_ignorable c (F c) ≡ false → casefold_image folding F c ≡ Ok Same
   alone_same e =
       let once : round folding F (c ∷ []) ≡ Some (c ∷ []) = round_known folding F (c ∷ []) (c ∷ []) form (omega arith) ∙ ap (option_and_then (short_nfkc F)) (alone_fold false e) ∙ ap short_form form in
-      ap (image_or_rule c) (found_is folding F c (c ∷ []) 0 (omega arith) refl once) ∙ ap (λ b. Ok (cond b Same (To (c ∷ [])))) (same_bytes (c ∷ []) (c ∷ []) refl)
+      ap (image_or_rule c) (found_is folding F c (c ∷ []) 0 (omega arith) refl once) ∙ ap (λ b. Ok (cond b Same (To (c ∷ [])))) ((bytes_eq-Decides (c ∷ []) (c ∷ [])).1 refl)
 
   alone_ignored : default_ignorable c (F c) ≡ true → casefold_image folding F c ≡ Ok (To [])
   alone_ignored e =
@@ -270,4 +260,4 @@ pub ignored : (F : ℕ → Facts) (c : ℕ) (shown : FactsRef) (t : Bool) → sh
 ignored F c shown t shows e = ap (default_ignorable c) (sym shows) ∙ sym e
 
 pub alone_form : (F : ℕ → Facts) (c : ℕ) (form : List ℕ) → nfkc F (c ∷ []) ≡ Ok form → bytes_eq form (c ∷ []) ≡ true → nfkc F (c ∷ []) ≡ Ok (c ∷ [])
-alone_form F c form e test = e ∙ ap (λ zs. Ok zs) (bytes_same form (c ∷ []) test)
+alone_form F c form e test = e ∙ ap (λ zs. Ok zs) ((bytes_eq-Decides form (c ∷ [])).0 test)

@@ -1,12 +1,13 @@
 -- Expansions without compatibility mappings.
 use Rattle.std.proofs.Common.{◌≡◌, ℕ, zero, suc, Bool, true, false, cond, ◌||◌, nat_lt, List, [], ◌∷◌, ◌++◌, length, Option, Some, None, Ok, Err, if◌then◌else◌, refl, sym, ap, ◌∙◌, subst}
 use Rattle.std.specs.List.{AllByRecursion as Each, list_any}
+use Rattle.std.proofs.lemmas.Option.{same_Some, none-some}
 use Rattle.ucd_facts.specs.Expansion.{counts, counted, joined, alone_or_joined, expand, full, judged, expansion}
 use Rattle.ucd_facts.specs.Facts.{Facts}
 use Rattle.ucd_facts.specs.declared.decomposition.Kind.{Kind}
 use Rattle.ucd_facts.specs.declared.decomposition.Kind.TheVariants.{Plain, Canonical, Compat}
 use Rattle.ucd_facts.specs.declared.form.Bad.TheVariants.{V3}
-use Rattle.decomposition.specs.ExpansionProofs.{none_some, some_same, both_some}
+use Rattle.decomposition.specs.ExpansionProofs.{both_some}
 use Rattle.normalisation.specs.ExpandedLemmas.{Each-front, Each-back, ok_same}
 use Rattle.identifier_closure.specs.PointForms.{ExpandTo}
 use Rattle.ucd_facts.specs.Expansion.{is_compat}
@@ -50,13 +51,13 @@ module _ (F : ℕ → Facts) where
   level_same n c points gives e each false t =
       ap (λ m. alone_or_joined c m (expand F true n)) (counts_alike (F c).kind (F c).mapping t) ∙ alone_same (expand F false n) (expand F true n) gives c (counted F false c) points e each
   level_same n c points gives e each true t =
-      let alone : c ∷ [] ≡ points = some_same (c ∷ []) points (sym (ap (λ m. alone_or_joined c m (expand F false n)) (counts_not (F c).kind (F c).mapping t)) ∙ e) in
+      let alone : c ∷ [] ≡ points = same_Some (c ∷ []) points (sym (ap (λ m. alone_or_joined c m (expand F false n)) (counts_not (F c).kind (F c).mapping t)) ∙ e) in
       let own : Each NotCompat (c ∷ []) = subst (Each NotCompat) (sym alone) each in
       let other : is_compat (F c).kind ≡ false = own.0 in
       cc
 
   expand_same : (n c : ℕ) (points : List ℕ) → expand F false n c ≡ Some points → Each NotCompat points → expand F true n c ≡ Some points
-  expand_same zero c points e each = absurd (none_some points e)
+  expand_same zero c points e each = absurd (none-some points e)
   expand_same (suc n) c points e each = level_same n c points (λ x xs h p. expand_same n x xs h p) e each (is_compat (F c).kind) refl
 
   neither : (t u : Bool) → (t || u) ≡ false → (t ≡ false) × (u ≡ false)

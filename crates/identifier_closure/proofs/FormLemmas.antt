@@ -2,6 +2,7 @@
 use Rattle.std.proofs.Common.{◌≡◌, ◌≢◌, ℕ, Bool, true, false, cond, ◌||◌, nat_lt, List, [], ◌∷◌, length, Option, Some, None, unwrap_or, Ok, Err, if◌then◌else◌, refl, sym, ap, ◌∙◌, ◌⊎◌, inl, inr}
 use Rattle.std.specs.Option.{option_map}
 use Rattle.std.proofs.lemmas.List.{append-nil}
+use Rattle.std.proofs.Math.Bool.{or-true}
 use Rattle.ucd_model.specs.CanonicalOrder.{class_of, order}
 use Rattle.ucd_facts.specs.Composites.{pair_of}
 use Rattle.ucd_model.specs.Composition.{compose}
@@ -51,12 +52,8 @@ second_of : (a b : Option (List ℕ)) (rule : Rule) → IsSound a → Faulty b r
 second_of a b rule x (inl y) = rw (x.0, y.0, y.1) refl
 second_of a b rule x (inr y) = rw (x.0, x.1, y.0, y.1, y.2) refl
 
-either_true : (b : Bool) → (b || true) ≡ true
-either_true true = refl
-either_true false = refl
-
 endless_of : (a b : Option (List ℕ)) → is_none b ≡ true → rule_of a b ≡ Some V2
-endless_of a b y = ap (λ t. if is_none a || t then Some V2 else (if is_long a || is_long b then Some V3 else None)) y ∙ ap (λ t. if t then Some V2 else (if is_long a || is_long b then Some V3 else None)) (either_true (is_none a))
+endless_of a b y = ap (λ t. if is_none a || t then Some V2 else (if is_long a || is_long b then Some V3 else None)) y ∙ ap (λ t. if t then Some V2 else (if is_long a || is_long b then Some V3 else None)) (or-true (is_none a))
 
 first_of : (a b : Option (List ℕ)) (rule : Rule) → Faulty a rule → is_none b ≡ false → rule_of a b ≡ Some rule
 first_of a b rule (inl x) y = rw (x.0, x.1) refl

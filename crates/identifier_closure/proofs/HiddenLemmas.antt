@@ -1,7 +1,8 @@
 -- A code point that is its own Normalisation Form C is hidden by no other composite.
-use Rattle.std.proofs.Common.{◌≡◌, ℕ, Bool, true, false, cond, ◌&&◌, ◌==◌, not, List, [], ◌∷◌, ◌++◌, Option, Some, None, Result, Ok, Err, refl, sym, ap, ◌∙◌, subst, arith, ◌⊎◌, inl, inr}
+use Rattle.std.proofs.Common.{◌≡◌, ℕ, Bool, true, false, cond, ◌&&◌, ◌==◌, not, List, [], ◌∷◌, ◌++◌, Option, Some, None, Result, Ok, Err, refl, ap, ◌∙◌, subst, arith, ◌⊎◌, inl, inr}
 use Rattle.std.specs.List.{AllByRecursion as Each}
 use Rattle.std.proofs.lemmas.Bool.Decides.{nat_tests}
+use Rattle.std.proofs.lemmas.Bool.{and_right}
 use Rattle.ucd_model.specs.CanonicalOrder.{class_of, order}
 use Rattle.ucd_facts.specs.Composites.{is_canonical, pair_of, primary_of}
 use Rattle.ucd_model.specs.Composition.{Split, compose, compose_onto, composed_with, is_open, last_starter, where_open, with_composite, with_point}
@@ -61,18 +62,14 @@ form_own F (Err rule) form is full = cc
 itself : (c : ℕ) → not (c == c) ≡ false
 itself c = grind (arith, nat_tests)
 
-and_false : (t u : Bool) → u ≡ false → (t && u) ≡ false
-and_false true u e = e
-and_false false u e = refl
-
 unmapped_other : (F : ℕ → Facts) (c : ℕ) (kind : Kind) (m : List ℕ) (t : Bool) → cond (counts false kind) m [] ≡ [] → ((is_canonical kind && t) && is_other c (composite_of F m)) ≡ false
-unmapped_other F c Canonical m t e = and_false t (is_other c (composite_of F m)) (ap (λ (xs : List ℕ). is_other c (composite_of F xs)) e)
+unmapped_other F c Canonical m t e = and_right t (is_other c (composite_of F m)) (ap (λ (xs : List ℕ). is_other c (composite_of F xs)) e)
 unmapped_other F c Plain m t e = refl
 unmapped_other F c (Compat tag) m t e = refl
 
 own_shown : (F : ℕ → Facts) (c : ℕ) → Own F c → hidden_of F c (F c) ≡ false
 own_shown F c (inl unmapped) = unmapped_other F c (F c).kind (F c).mapping _ unmapped
-own_shown F c (inr own) = and_false (primary_of F (F c)) (is_other c (composite_of F (F c).mapping)) (ap (is_other c) own ∙ itself c)
+own_shown F c (inr own) = and_right (primary_of F (F c)) (is_other c (composite_of F (F c).mapping)) (ap (is_other c) own ∙ itself c)
 
 pub form_shown : (F : ℕ → Facts) (c : ℕ) (form : List ℕ) (G : Facts) → nfc F (c ∷ []) ≡ Ok form → form ≡ c ∷ [] → G ≡ F c → hidden_of F c G ≡ false
 form_shown F c form G is alone shown =

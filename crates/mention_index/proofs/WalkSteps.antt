@@ -4,7 +4,7 @@
 -- goes     and after one more
 -- ends     and if nothing is pending any more, what was walked is closed, and holds the points that the walk began with
 use Rattle.std.proofs.Common.{◌≡◌, ℕ, ◌<◌, Bool, true, false, not, ◌&&◌, ◌||◌, ◌==◌, ◌⊎◌, List, [], ◌∷◌, ◌++◌, refl, sym, ap, ◌∙◌, subst, inl, inr}
-use Rattle.std.proofs.lemmas.Bool.{true≢false, and_parts, cases_Bool, eq-eqb, eqb-true, or_cases, or_left, or_parts, or_right}
+use Rattle.std.proofs.lemmas.Bool.{true≢false, and_parts, cases_Bool, eq-eqb, eqb-true, or_cases, or_left, or_parts, or_right, not-true}
 use Rattle.std.proofs.lemmas.List.Folds.{list_any-append}
 use Rattle.ucd_model.specs.Sameness.{is_in}
 use Rattle.mention_index.specs.StepProofs.{leads_more}
@@ -15,10 +15,6 @@ use Rattle.mention_index.specs.Walks.{ComesFrom, Going}
 or_none : (b : Bool) → b ≡ (b || false)
 or_none true = refl
 or_none false = refl
-
-not_true : (b : Bool) → not b ≡ true → b ≡ false
-not_true true h = sym h
-not_true false h = refl
 
 joined : (a r t w : Bool) → (t ≡ true → (a || r) ≡ w) → ((a || r) || t) ≡ (a || (r || (not w && t)))
 joined true r t w f = refl
@@ -93,7 +89,7 @@ module _ (step : ℕ → ℕ → Bool) (W : ℕ → Bool) (P : List ℕ) where
           | inl old ↦ g.only c old
           | inr now ↦
               let two = and_parts (not (walked x)) (c == x) now in
-              let none : (W x || is_in reached x) ≡ false = sym (g.told x) ∙ not_true (walked x) two.0 in
+              let none : (W x || is_in reached x) ≡ false = sym (g.told x) ∙ not-true (walked x) two.0 in
               subst (λ k. (W k ≡ false) × ComesFrom step P k) (sym (eqb-true c x two.1)) ((or_parts (W x) (is_in reached x) none).0, g.comes x was)
         ]
 

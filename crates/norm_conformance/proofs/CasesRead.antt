@@ -3,6 +3,7 @@ use Rattle.std.proofs.Common.{◌≡◌, ◌↔◌, ◌⊎◌, inl, inr, ℕ, Bo
 use Rattle.std.specs.List.{AllByRecursion as Each}
 use Rattle.std.proofs.lemmas.Bool.{true≢false}
 use Rattle.std.proofs.lemmas.Bool.Decides.{nat_tests}
+use Rattle.std.specs.Cmp.{both_ways}
 use Rattle.norm_conformance.proofs.LinesSaid.{lines_are_said}
 use Rattle.norm_conformance.specs.Cases.{CaseFault, NumberedLine, case_of, cases_from, cases_or_fault, numbered_lines, with_case, with_line, with_part}
 use Rattle.norm_conformance.specs.Grammar.{AreCases, AreTests, CasesAreRead, FaultsAreFirst, FirstFault, HasPartOne, IsPart, SaysSome, marked, nothing_left, passed, tested}
@@ -81,16 +82,11 @@ given (passed {part} {l} {ls} {cases} is more) = let rest = given more in (rest.
 given (marked {part} {l} {ls} {cases} k is more) = let rest = given more in ((k == 1) || rest.0, rw (((lines_are_said l.content).part k).1 is) (ap (with_part k) rest.1))
 given (tested {part} {l} {ls} {cases} columns is more) = let rest = given more in (rest.0, rw (((lines_are_said l.content).columns columns).1 is) (ap (with_case (case_of l.number part columns)) rest.1))
 
-same_truth : (a b : Bool) → (a ≡ true → b ≡ true) → (b ≡ true → a ≡ true) → a ≡ b
-same_truth true b f g = sym (f refl)
-same_truth false true f g = g refl
-same_truth false false f g = refl
-
 tests_given : (ls : List NumberedLine) (cases : Cases) → AreTests ls cases → cases_from 0 ls ≡ Ok cases
 tests_given ls cases are =
     let g = given are.list in
     let t : Told 0 ls (Ok (record { list = cases.list; part_one = g.0 })) = subst (Told 0 ls) g.1 (told ls 0) in
-    let same : g.0 ≡ cases.part_one = same_truth g.0 cases.part_one (λ e. are.part_one.1 (t.1.0 e)) (λ e. t.1.1 (are.part_one.0 e)) in
+    let same : g.0 ≡ cases.part_one = both_ways g.0 cases.part_one (λ e. are.part_one.1 (t.1.0 e)) (λ e. t.1.1 (are.part_one.0 e)) in
     g.1 ∙ ap (λ (b : Bool). Ok (record { list = cases.list; part_one = b })) same
 
 said_on : (fault : CaseFault) (part : ℕ) (l : NumberedLine) (ls : List NumberedLine) (line : Line) → said l.content ≡ Ok line → ((next : ℕ) → cases_from next ls ≡ Err fault) → cases_from part (l ∷ ls) ≡ Err fault

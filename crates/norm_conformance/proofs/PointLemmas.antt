@@ -12,6 +12,8 @@ use Rattle.std.specs.List.{flat_map, range_with_len}
 use Rattle.std.specs.Str.{bytes_eq}
 use Rattle.std.proofs.lemmas.Bool.Decides.{nat_tests}
 use Rattle.std.proofs.lemmas.List.{flat_map_more}
+use Rattle.std.proofs.Math.Bool.{and-false}
+use Rattle.std.proofs.lemmas.Slice.Eq.{bytes_eq-Decides}
 use Rattle.ucd_points.specs.Limits.{point_count}
 use Rattle.ucd_facts.specs.Facts.{Facts}
 use Rattle.ucd_facts.specs.declared.decomposition.Kind.TheVariants.{Plain}
@@ -24,15 +26,8 @@ use Rattle.norm_conformance.specs.declared.miss.Miss.{Miss}
 
 -- ---- a code point that is passed over
 
-and_false : (t : Bool) → t && false ≡ false
-and_false true = refl
-and_false false = refl
-
-one_same : (c : ℕ) → bytes_eq (c ∷ []) (c ∷ []) ≡ true
-one_same c = let t : (c == c) ≡ true = grind (arith, nat_tests) in rw t refl
-
 plain_is_form : (F : ℕ → Facts) (c : ℕ) → (F c).kind ≡ Plain → (form : Form) → is_form F form (c ∷ []) (c ∷ []) ≡ true
-plain_is_form F c plain form = ap (λ r. is_list r (c ∷ [])) (plain_forms F c plain form) ∙ one_same c
+plain_is_form F c plain form = ap (λ r. is_list r (c ∷ [])) (plain_forms F c plain form) ∙ (bytes_eq-Decides (c ∷ []) (c ∷ [])).1 refl
 
 all_kept : (a b c d : Bool) (j k l m : Miss) → a ≡ true → b ≡ true → c ≡ true → d ≡ true → unless a j ++ (unless b k ++ (unless c l ++ (unless d m ++ []))) ≡ []
 all_kept a b c d j k l m p q r s = rw (p, q, r, s) refl
@@ -44,7 +39,7 @@ plain_none F c plain =
 
 pub passed_over : (F : ℕ → Facts) (listed : ℕ → Bool) (c : ℕ) → ((F c).assigned ≡ false) ⊎ (listed c ≡ true) → misses_at F listed c ≡ []
 passed_over F listed c (inl other) = rw other refl
-passed_over F listed c (inr is) = rw (is, and_false (F c).assigned) refl
+passed_over F listed c (inr is) = rw (is, and-false (F c).assigned) refl
 
 if_empty : (t : Bool) (xs : List Miss) → xs ≡ [] → (if t then xs else []) ≡ []
 if_empty true xs e = e

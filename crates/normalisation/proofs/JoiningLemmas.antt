@@ -4,6 +4,7 @@ use Rattle.std.specs.Option.{option_map, ForSome}
 use Rattle.std.proofs.lemmas.Bool.Decides.{nat_tests}
 use Rattle.std.proofs.lemmas.List.{length-append, get_or_at, get_or-take, set_at, length-take, take_more_set, at_drop_more, at_drop_all}
 use Rattle.std.proofs.lemmas.List.Folds.{list_all-append}
+use Rattle.std.proofs.Math.Bool.{and-true}
 use Rattle.ucd_model.specs.Composition.{Split, where_open, last_starter, with_point, with_composite, composed_with, compose_onto}
 use Rattle.normalisation.specs.declared.starter.Starter.{Starter}
 use Rattle.normalisation.specs.declared.composition.Join.{Join}
@@ -20,13 +21,9 @@ take_set (suc n) (x ∷ xs) (suc i) v = ap (λ zs. x ∷ zs) (take_set n xs i v)
 
 -- ---- the kept starter of a list that grows
 
-and_true : (b : Bool) → b && true ≡ b
-and_true true = refl
-and_true false = refl
-
 passes_with : (highest : Option ℕ) (m k : ℕ) → passes highest k && (nat_lt m k && true) ≡ nat_lt (highest_with highest m) k
-passes_with (Some h) m k = grind (arith, nat_tests, and_true)
-passes_with None m k = and_true (nat_lt m k)
+passes_with (Some h) m k = grind (arith, nat_tests, and-true)
+passes_with None m k = and-true (nat_lt m k)
 
 raised_describes : (class : ℕ → ℕ) (y : ℕ) (cut : Option Split) (starter : Option (Starter ℕ)) → Describes class cut starter → Describes class (option_map (push_after y) cut) (raised starter (class y))
 raised_describes class y (Some cut) (Some starter) d = (d.0, λ z. list_all-append (λ x. nat_lt (class x) (class z)) cut.after (y ∷ []) ∙ ap (λ b. b && (nat_lt (class y) (class z) && true)) (d.1 z) ∙ passes_with starter.highest (class y) (class z))

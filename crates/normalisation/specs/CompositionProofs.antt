@@ -10,6 +10,7 @@
 -- composites_replace, blocked_stay, unpaired_stay, starterless_stay, nothing_composes   the laws of the same names
 use Rattle.std.proofs.Common.{◌≡◌, ℕ, Bool, true, false, cond, not, ◌&&◌, ◌||◌, ◌==◌, nat_lt, nat_le, List, [], ◌∷◌, ◌++◌, Option, Some, None, refl, ap, ◌∙◌, arith}
 use Rattle.std.proofs.lemmas.Bool.Decides.{nat_tests}
+use Rattle.std.proofs.lemmas.Bool.{and_parts, not-true}
 use Rattle.ucd_model.specs.Composition.{is_open, where_open, last_starter, reached, with_composite, with_point, composed_with, compose_onto, compose}
 use Rattle.normalisation.specs.StarterLemmas.{last_starter_at}
 use Rattle.normalisation.specs.CompositionLaws.{has_no_starter, is_blocked, LastStarter, CompositesReplace, BlockedStay, UnpairedStay, StarterlessStay, NothingComposes}
@@ -23,19 +24,11 @@ compose_push class pair xs y = compose_onto-append class pair [] xs (y ∷ [])
 
 -- ---- the last starter
 
-both_true : (t u : Bool) → t && u ≡ true → (t ≡ true) × (u ≡ true)
-both_true true u e = (refl, e)
-both_true false u e = cc
-
-not_true : (b : Bool) → not b ≡ true → b ≡ false
-not_true true e = cc
-not_true false e = refl
-
 pub no_last_starter : (class : ℕ → ℕ) (xs : List ℕ) → has_no_starter class xs ≡ true → last_starter class xs ≡ None
 no_last_starter class [] e = refl
 no_last_starter class (x ∷ xs) e =
-    let parts = both_true (not (class x == 0)) (has_no_starter class xs) e in
-    rw (no_last_starter class xs parts.1, not_true (class x == 0) parts.0) refl
+    let parts = and_parts (not (class x == 0)) (has_no_starter class xs) e in
+    rw (no_last_starter class xs parts.1, not-true (class x == 0) parts.0) refl
 
 last_starter_is : (class : ℕ → ℕ) (xs before after : List ℕ) (s : ℕ) → LastStarter class xs before s after → last_starter class xs ≡ Some (record { before = before; starter = s; after = after })
 last_starter_is class xs before after s last = ap (last_starter class) last.list ∙ last_starter_at class before after s last.starter (no_last_starter class after last.last)
@@ -51,8 +44,8 @@ open_one n k false false e f = cc
 open_blocked : (class : ℕ → ℕ) (y : ℕ) (after : List ℕ) → has_no_starter class after ≡ true → is_open class y after ≡ not (is_blocked class after y)
 open_blocked class y [] none = refl
 open_blocked class y (x ∷ after) none =
-    let parts = both_true (not (class x == 0)) (has_no_starter class after) none in
-    open_one (class x) (class y) (is_open class y after) (is_blocked class after y) (not_true (class x == 0) parts.0) (open_blocked class y after parts.1)
+    let parts = and_parts (not (class x == 0)) (has_no_starter class after) none in
+    open_one (class x) (class y) (is_open class y after) (is_blocked class after y) (not-true (class x == 0) parts.0) (open_blocked class y after parts.1)
 
 -- ---- one point more
 

@@ -15,6 +15,7 @@ use Rattle.std.proofs.Common.{◌≡◌, ℕ, Bool, true, false, cond, ◌==◌,
 use Rattle.std.specs.List.{AllByRecursion as Each, list_all}
 use Rattle.std.proofs.lemmas.List.{append-nil}
 use Rattle.std.proofs.lemmas.List.Elements.{recursion_from_All}
+use Rattle.std.proofs.lemmas.Option.{same_Some}
 use Rattle.ucd_facts.specs.declared.form.Bad.{Bad as Rule}
 use Rattle.ucd_facts.specs.declared.form.Bad.TheVariants.{V3}
 use Rattle.ucd_facts.specs.declared.decomposition.Kind.{Kind}
@@ -24,7 +25,7 @@ use Rattle.ucd_facts.specs.Composites.{is_canonical}
 use Rattle.ucd_model.specs.CanonicalOrder.{greater, placed, with_next, order_onto, order}
 use Rattle.ucd_facts.specs.Expansion.{counts, counted, both, alone_or_joined, expand, full, judged, expansion}
 use Rattle.ucd_model.specs.Forms.{appended, expansions}
-use Rattle.decomposition.specs.ExpansionProofs.{some_same, both_some, unmapped_is_alone, more_levels_give_the_same, expansions_are_full}
+use Rattle.decomposition.specs.ExpansionProofs.{both_some, unmapped_is_alone, more_levels_give_the_same, expansions_are_full}
 use Rattle.normalisation.specs.FormLaws.{HasExpansion}
 use Rattle.normalisation.specs.FormLemmas.{expansion_alone, appended-assoc, nil-appended}
 use Rattle.normalisation.specs.PairLemmas.{Joins}
@@ -111,7 +112,7 @@ counted_pair F compat s y q joins = rw (counts_canonical compat (F q).kind joins
 
 seven_full : (F : ℕ → Facts) (compat : Bool) (c : ℕ) (p e : List ℕ) → expand F compat 7 c ≡ Some p → full F compat c ≡ Some e → p ≡ e
 unfolding full
-seven_full F compat c p e seven eight = some_same p e (sym (more_levels_give_the_same F compat 7 8 c p (omega arith) seven) ∙ eight)
+seven_full F compat c p e seven eight = same_Some p e (sym (more_levels_give_the_same F compat 7 8 c p (omega arith) seven) ∙ eight)
 
 pair_parts : (F : ℕ → Facts) (compat : Bool) (s y q : ℕ) (points : List ℕ) → counted F compat q ≡ s ∷ y ∷ [] → full F compat q ≡ Some points → both (expand F compat 7 s) (both (expand F compat 7 y) (Some [])) ≡ Some points
 unfolding full
@@ -124,7 +125,7 @@ pair_expansion F compat s y q es joins alone first has =
     let more = both_some (expand F compat 7 y) (Some []) parts.1 parts.3 in
     let front : parts.0 ≡ es = seven_full F compat s parts.0 es parts.2 (judged_some (full F compat s) es first) in
     let second : more.0 ≡ y ∷ [] = seven_full F compat y more.0 (y ∷ []) more.2 (unmapped_is_alone F compat y alone) in
-    let end : more.1 ≡ [] = sym (some_same [] more.1 more.3) in
+    let end : more.1 ≡ [] = sym (same_Some [] more.1 more.3) in
     let back : parts.1 ≡ y ∷ [] = sym more.4 ∙ ap (λ zs. more.0 ++ zs) end ∙ append-nil more.0 ∙ second in
     let both : has.0 ≡ es ++ y ∷ [] = sym parts.4 ∙ ap (λ zs. zs ++ parts.1) front ∙ ap (λ zs. es ++ zs) back in
     has.1 ∙ ap (λ zs. Ok zs) both

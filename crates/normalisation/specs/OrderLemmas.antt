@@ -28,6 +28,7 @@ use Rattle.std.specs.List.{list_all}
 use Rattle.std.proofs.lemmas.Bool.{lt-ltb, le-ltb}
 use Rattle.std.proofs.lemmas.Bool.Decides.{nat_tests}
 use Rattle.std.proofs.lemmas.List.{append_assoc, append-nil}
+use Rattle.std.proofs.Math.Bool.{and-false}
 use Rattle.ucd_model.specs.CanonicalOrder.{greater, placed, with_next, order_onto, order}
 
 abbrev pub last_class : (ℕ → ℕ) → ℕ → List ℕ → ℕ
@@ -46,13 +47,9 @@ with_next_starter class xs y e = let t : (class y == 0) ≡ true = grind (arith,
 pub with_next_mark : (class : ℕ → ℕ) (xs : List ℕ) (y : ℕ) → 0 < class y → with_next class xs y ≡ placed class y xs
 with_next_mark class xs y lt = let t : (class y == 0) ≡ false = grind (arith, nat_tests) in rw t refl
 
-and_false : (b : Bool) → b && false ≡ false
-and_false true = refl
-and_false false = refl
-
 last_stops : (class : ℕ → ℕ) (y x : ℕ) (xs : List ℕ) → last_class class (class x) xs ≤ class y → list_all (greater class y) (x ∷ xs) ≡ false
 last_stops class y x [] le = rw (le-ltb (class y) (class x) le) refl
-last_stops class y x (x' ∷ xs) le = rw (last_stops class y x' xs le) (and_false (greater class y x))
+last_stops class y x (x' ∷ xs) le = rw (last_stops class y x' xs le) (and-false (greater class y x))
 
 pub placed_end : (class : ℕ → ℕ) (y k : ℕ) (xs : List ℕ) → last_class class k xs ≤ class y → placed class y xs ≡ xs ++ y ∷ []
 placed_end class y k [] le = refl
@@ -175,7 +172,7 @@ module _ (class : ℕ → ℕ) (a b : ℕ) (lt : class b < class a) where
       rw (past_b (x ∷ xs), e, all) refl
   placed_both x xs false false e f rest =
       let over_b : list_all (greater class b) (x ∷ placed class a xs) ≡ false = ap (λ t. greater class b x && t) (list_all-placed class (greater class b) a xs ∙ ap (λ t. t && list_all (greater class b) xs) b_passes) ∙ f in
-      let over_a : list_all (greater class a) (x ∷ placed class b xs) ≡ false = ap (λ t. greater class a x && t) (list_all-placed class (greater class a) b xs ∙ ap (λ t. t && list_all (greater class a) xs) a_stays) ∙ and_false (greater class a x) in
+      let over_a : list_all (greater class a) (x ∷ placed class b xs) ≡ false = ap (λ t. greater class a x && t) (list_all-placed class (greater class a) b xs ∙ ap (λ t. t && list_all (greater class a) xs) a_stays) ∙ and-false (greater class a x) in
       rw (over_b, over_a) (ap (λ zs. x ∷ zs) rest)
 
   pub placed_either : (xs : List ℕ) → placed class b (placed class a xs) ≡ placed class a (placed class b xs)

@@ -3,7 +3,7 @@
 -- order_twice, order_is_reached, order_is_only, starters_stay, marks_move, equals_keep_order   the laws of the same names
 use Rattle.std.proofs.Common.{◌≡◌, ℕ, zero, suc, ◌<◌, ◌≤◌, Bool, true, false, cond, ◌&&◌, ◌==◌, List, [], ◌∷◌, ◌++◌, refl, sym, ap, ◌∙◌, subst, inl, inr, arith}
 use Rattle.std.specs.List.{list_all, All, filter}
-use Rattle.std.proofs.lemmas.Bool.{cases_lt, lt-ltb, le-ltb}
+use Rattle.std.proofs.lemmas.Bool.{cases_lt, lt-ltb, le-ltb, and_parts}
 use Rattle.std.proofs.lemmas.Bool.Decides.{nat_tests}
 use Rattle.std.proofs.lemmas.List.{append_assoc, append-nil}
 use Rattle.std.proofs.lemmas.List.Elements.{All-head, All-tail, filter-append}
@@ -45,14 +45,10 @@ exchanges_on class end middle xs (ended _ e) more = subst (Exchanges class end) 
 exchanges_on class end middle xs (exchanged _ before after a b is pair rest) more =
     exchanged xs before after a b is pair (exchanges_on class end middle (before ++ b ∷ a ∷ after) rest more)
 
-both_true : (t u : Bool) → t && u ≡ true → (t ≡ true) × (u ≡ true)
-both_true true u e = (refl, e)
-both_true false u e = cc
-
 moved_past : (class : ℕ → ℕ) (y : ℕ) (xs rest : List ℕ) → 0 < class y → list_all (greater class y) xs ≡ true → Exchanges class (y ∷ (xs ++ rest)) (xs ++ y ∷ rest)
 moved_past class y [] rest some all = ended (y ∷ rest) refl
 moved_past class y (x ∷ xs) rest some all =
-    let parts = both_true (greater class y x) (list_all (greater class y) xs) all in
+    let parts = and_parts (greater class y x) (list_all (greater class y) xs) all in
     let here : greater class y x ≡ true = parts.0 in
     let lt : class y < class x = grind (arith, nat_tests) in
     exchanges_on class (y ∷ x ∷ (xs ++ rest)) (x ∷ y ∷ (xs ++ rest)) (x ∷ (xs ++ y ∷ rest)) (exchanges_behind class x (y ∷ (xs ++ rest)) (xs ++ y ∷ rest) (moved_past class y xs rest some parts.1))
@@ -135,7 +131,7 @@ module _ (class : ℕ → ℕ) (k : ℕ) where
   filter_moved : (y : ℕ) (xs : List ℕ) → list_all (greater class y) xs ≡ true → filter (λ x. class x == k) (y ∷ xs) ≡ filter (λ x. class x == k) (xs ++ y ∷ [])
   filter_moved y [] all = refl
   filter_moved y (x ∷ xs) all =
-      let parts = both_true (greater class y x) (list_all (greater class y) xs) all in
+      let parts = and_parts (greater class y x) (list_all (greater class y) xs) all in
       let here : greater class y x ≡ true = parts.0 in
       let lt : class y < class x = grind (arith, nat_tests) in
       moved_if x y (filter (λ x. class x == k) xs) (class y == k) (class x == k) lt refl refl ∙ ap (λ zs. cond (class x == k) (x ∷ zs) zs) (filter_moved y xs parts.1)

@@ -2,8 +2,9 @@
 --
 -- Joins F s y q   q is a code point with a canonical mapping, s y; q and s have class 0
 -- pair_joins      the pair of two points, where there is one, joins them so
-use Rattle.std.proofs.Common.{◌≡◌, ℕ, ◌<◌, Bool, true, false, ◌&&◌, ◌==◌, [], ◌∷◌, Option, Some, None, refl, ap, ◌∙◌, sym, subst, arith}
+use Rattle.std.proofs.Common.{◌≡◌, ℕ, ◌<◌, true, ◌&&◌, ◌==◌, [], ◌∷◌, Option, Some, None, ap, ◌∙◌, sym, subst, arith}
 use Rattle.std.proofs.lemmas.Bool.Decides.{nat_tests}
+use Rattle.std.proofs.lemmas.Bool.{and_parts}
 use Rattle.ucd_points.specs.Limits.{point_count}
 use Rattle.ucd_facts.specs.Facts.{Facts}
 use Rattle.ucd_facts.specs.Composites.{is_canonical, first_has_class_zero, pair_of}
@@ -17,10 +18,6 @@ pub record Joins (F : ℕ → Facts) (s y q : ℕ) : Type 0 where
   pub first : class_of F s ≡ 0
   pub canonical : is_canonical (F q).kind ≡ true
   pub mapping : (F q).mapping ≡ s ∷ y ∷ []
-
-and_parts : (a b : Bool) → a && b ≡ true → (a ≡ true) × (b ≡ true)
-and_parts true b e = (refl, e)
-and_parts false b e = cc
 
 zero_if : (n : ℕ) → (n == 0) ≡ true → n ≡ 0
 zero_if n e = grind (arith, nat_tests)

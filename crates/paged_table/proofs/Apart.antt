@@ -1,6 +1,6 @@
 -- A block is changed, and no two blocks have one page then.
 use Rattle.std.proofs.Common.{◌≡◌, ◌≢◌, ℕ, ◌+◌, ◌*◌, ◌/◌, ◌%◌, ◌<◌, ◌⊎◌, inl, inr, Bool, true, false, leb, ◌&&◌, ◌||◌, cond, List, length, set, refl, sym, ap, subst, ◌∙◌, arith}
-use Rattle.std.proofs.lemmas.Bool.{cases_eq, cases_Bool, or_cases, true≢false, eq-eqb}
+use Rattle.std.proofs.lemmas.Bool.{cases_eq, cases_Bool, or_cases, true≢false, eq-eqb, or_parts, or_right, or_left}
 use Rattle.std.proofs.lemmas.Bool.Decides.{nat_tests}
 use Rattle.std.proofs.Math.ListN.{length-set}
 use Rattle.std.proofs.lemmas.List.{get_or-set_same, get_or-set_other}
@@ -12,24 +12,12 @@ use Rattle.paged_table.specs.Puts.{StaysPage, Puts}
 use Rattle.paged_table.specs.Layers.{IsApart, IsUnused, uses}
 use Rattle.range_table.specs.Values.{with_span}
 
-pub or_left : (x y : Bool) → x ≡ true → (x || y) ≡ true
-or_left true y h = refl
-or_left false y h = absurd (true≢false (sym h))
-
-pub or_right : (x y : Bool) → y ≡ true → (x || y) ≡ true
-or_right true y h = refl
-or_right false y h = h
-
-or_none : (x y : Bool) → (x || y) ≡ false → (x ≡ false) × (y ≡ false)
-or_none true y h = absurd (true≢false h)
-or_none false y h = (refl, h)
-
 -- a page of another block is none of this block's
 pub apart_of : (pool : Pool) (xs ys : List Block) (b d p : ℕ) → IsApart pool xs ys → d ≢ b → uses xs ys d p ≡ true → (is_page p (block_at xs b) ≡ false) × (is_page p (block_at ys b) ≡ false)
 apart_of pool xs ys b d p ok differs used =
     elim (cases_Bool (uses xs ys b p)) [
       | inl both ↦ absurd (differs (sym (ok.apart b d p both used)))
-      | inr none ↦ or_none (is_page p (block_at xs b)) (is_page p (block_at ys b)) none
+      | inr none ↦ or_parts (is_page p (block_at xs b)) (is_page p (block_at ys b)) none
     ]
 
 pub set_here : (ys : List Block) (b : ℕ) (r : Block) → b < length ys → block_at (set ys b r) b ≡ r
@@ -48,7 +36,7 @@ uses_there xs ys b d r p differs used =
 
 none_here : (xs ys : List Block) (b : ℕ) (r : Block) (p : ℕ) → b < length ys → uses xs (set ys b r) b p ≡ false → (is_page p (block_at xs b) ≡ false) × (is_page p r ≡ false)
 none_here xs ys b r p lt none =
-    or_none (is_page p (block_at xs b)) (is_page p r) (subst (λ z. (is_page p (block_at xs b) || is_page p z) ≡ false) (set_here ys b r lt) none)
+    or_parts (is_page p (block_at xs b)) (is_page p r) (subst (λ z. (is_page p (block_at xs b) || is_page p z) ≡ false) (set_here ys b r lt) none)
 
 none_there : (xs ys : List Block) (b d : ℕ) (r : Block) (p : ℕ) → d ≢ b → uses xs (set ys b r) d p ≡ false → uses xs ys d p ≡ false
 none_there xs ys b d r p differs none =
@@ -236,7 +224,7 @@ module _ (pool pool' : Pool) (xs ys : List Block) (b : ℕ) (ok : IsApart pool x
 or_none_swap : (x y : Bool) → (y || x) ≡ false → (x || y) ≡ false
 or_none_swap true true h = h
 or_none_swap true false h = h
-or_none_swap false y h = (or_none y false h).0
+or_none_swap false y h = (or_parts y false h).0
 
 uses_swap : (xs ys : List Block) (b p : ℕ) → uses ys xs b p ≡ true → uses xs ys b p ≡ true
 uses_swap xs ys b p used =

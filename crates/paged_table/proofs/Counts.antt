@@ -2,7 +2,7 @@
 use Rattle.std.proofs.Common.{◌≡◌, ℕ, zero, suc, ◌+◌, ◌*◌, ◌/◌, ◌%◌, ◌<◌, Bool, true, false, not, cond, eqb, List, refl, sym, ap, ◌∙◌, arith, inl, inr}
 use Rattle.std.specs.Bool.{Decides}
 use Rattle.std.specs.List.{count_by, range_with_len}
-use Rattle.std.proofs.lemmas.Bool.{cases_lt, cases_Bool, and_from, and_parts, eq-eqb, eqb-true}
+use Rattle.std.proofs.lemmas.Bool.{cases_lt, cases_Bool, and_from, and_parts, eq-eqb, eqb-true, or_left}
 use Rattle.std.proofs.lemmas.List.{map-id}
 use Rattle.std.proofs.lemmas.List.FromFn.{sum_by-map-range_with_len_more}
 use Rattle.page_pool.specs.Pool.{Pool, word_of}
@@ -11,7 +11,6 @@ use Rattle.paged_table.specs.declared.block.Block.TheVariants.{One, Page}
 use Rattle.paged_table.specs.Blocks.{block_at, value_of, values, is_page}
 use Rattle.paged_table.specs.Layers.{IsApart}
 use Rattle.paged_table.specs.Pages.{block_width, in_block, IsEvenBlock, all_same, even_block, uneven_count, IsPageOf}
-use Rattle.paged_table.proofs.Apart.{or_left}
 
 block_width-is : block_width ≡ 256
 unfolding block_width

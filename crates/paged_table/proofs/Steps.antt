@@ -6,7 +6,9 @@ use Rattle.paged_table.specs.declared.block.Block.{Block}
 use Rattle.paged_table.specs.Blocks.{block_at, values, is_page}
 use Rattle.paged_table.specs.Layers.{IsApart}
 use Rattle.std.proofs.Math.Seq.{take-append_seam}
-use Rattle.paged_table.proofs.Apart.{value_of-stays, or_left, or_right}
+use Rattle.std.proofs.lemmas.Bool.{or_right, or_left}
+use Rattle.std.proofs.lemmas.Result.{on_ok_weaker, on_err_weaker}
+use Rattle.paged_table.proofs.Apart.{value_of-stays}
 
 -- the first block, those between, and the last one
 three_spans : (lo hi f l v w c : ℕ) → lo < f + 256 → f + 256 ≤ l → l ≤ hi → cond (leb l c && leb c hi) v (cond (leb (f + 256) c && ltb c l) v (cond (leb lo c && leb c (f + 255)) v w)) ≡ cond (leb lo c && leb c hi) v w
@@ -37,15 +39,6 @@ module _ (pool pool' : Pool) (xs ys : List Block) (ok : IsApart pool xs ys) (liv
 
   pub values_next-stays : (c : ℕ) → values pool' ys c ≡ values pool ys c
   values_next-stays c = value_of-stays pool pool' (block_at ys (c / 256)) (c % 256) (λ p is. let used = or_right (is_page p (block_at xs (c / 256))) (is_page p (block_at ys (c / 256))) is in record { live = live p ∙ ok.live (c / 256) p used; words = λ a lt. words p a (ok.live (c / 256) p used) lt }) (omega arith)
-
--- clauses of a result
-pub on_ok : {T E P Q : Type 0} (r : Result T E) → (P → Q) → OnOk r P → OnOk r Q
-on_ok (Ok x) f h = f h
-on_ok (Err e) f h = h
-
-pub on_err : {T E P Q : Type 0} (r : Result T E) → (P → Q) → OnErr r P → OnErr r Q
-on_err (Ok x) f h = h
-on_err (Err e) f h = f h
 
 pub with_err : {T E P : Type 0} (r : Result T E) → P → OnErr r P
 with_err (Ok x) h = tt

@@ -5,12 +5,12 @@
 -- numbered_more    one row more, with a name that is there or goes last
 -- numbered_still   no row more, but such a name
 -- on_ok_then       what follows where a call answers
-use Rattle.std.proofs.Common.{◌≡◌, ℕ, zero, suc, Bool, true, false, if◌then◌else◌, ◌||◌, List, [], ◌∷◌, ◌++◌, Option, Some, None, Result, Ok, Err, OnOk, refl, sym, ap, subst, arith}
+use Rattle.std.proofs.Common.{◌≡◌, ℕ, zero, suc, Bool, true, false, if◌then◌else◌, ◌||◌, List, [], ◌∷◌, ◌++◌, Some, None, Result, Ok, Err, OnOk, refl, sym, ap, subst, arith}
 use Rattle.std.specs.Prelude.{slice_get}
 use Rattle.std.specs.List.{list_any}
 use Rattle.std.specs.Str.{bytes_eq}
 use Rattle.std.proofs.lemmas.List.{append-nil}
-use Rattle.std.proofs.lemmas.Option.{slice_get_within}
+use Rattle.std.proofs.lemmas.Option.{slice_get_within, same_Some}
 use Rattle.std.proofs.lemmas.Slice.Eq.{bytes_eq-Decides}
 use Rattle.indexmap.proofs.SetLemmas.{AllZip-push}
 use Rattle.release_rows.specs.StoredItems.{ShowsMissing, ShowsValue}
@@ -25,16 +25,9 @@ use Rattle.property_aliases.specs.declared.file_values.NumberedRow.{NumberedRow}
 
 -- ---- names
 
-some_is : {A : Type 0} (a b : A) → Some a ≡ Some b → a ≡ b
-some_is {A} a b e = ap from e
-  where
-    from : Option A → A
-    from (Some x) = x
-    from None = a
-
 any_at : (names : List (List ℕ)) (k : ℕ) (value : List ℕ) → slice_get names k ≡ Some value → list_any (bytes_eq value) names ≡ true
 any_at [] k value e = absurd (let lt = slice_get_within [] k value e in omega (arith, lt))
-any_at (x ∷ xs) zero value e = rw ((bytes_eq-Decides value x).1 (sym (some_is x value e))) refl
+any_at (x ∷ xs) zero value e = rw ((bytes_eq-Decides value x).1 (sym (same_Some x value e))) refl
 any_at (x ∷ xs) (suc k) value e = by (bytes_eq value x) (any_at xs k value e)
   where
     by : (b : Bool) → list_any (bytes_eq value) xs ≡ true → b || list_any (bytes_eq value) xs ≡ true

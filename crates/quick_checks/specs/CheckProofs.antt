@@ -12,6 +12,7 @@ use Rattle.std.specs.List.{AllByRecursion as Each}
 use Rattle.std.specs.Str.{bytes_eq}
 use Rattle.std.proofs.lemmas.Bool.Decides.{nat_tests}
 use Rattle.std.proofs.lemmas.Slice.Eq.{bytes_eq-Decides}
+use Rattle.std.proofs.lemmas.Bool.{eq-eqb}
 use Rattle.ucd_facts.specs.Facts.{Facts, is_plain}
 use Rattle.ucd_model.specs.CanonicalOrder.{class_of, order}
 use Rattle.ucd_facts.specs.Composites.{is_canonical, second_of}
@@ -28,9 +29,6 @@ use Rattle.normalisation.specs.FormLemmas.{expansion_alone}
 use Rattle.normalisation.specs.ExpandedLemmas.{Unmapped, Each-order, ok_same, expansions_full}
 use Rattle.quick_checks.specs.Checks.{quick_decomposed, decomposed_check, composed_check}
 use Rattle.quick_checks.specs.CheckLaws.{IsMapped, KindsTell, UnchangedIsYes, NoIsOther, OthersAreSame}
-
-bytes_same : (xs ys : List ℕ) → bytes_eq xs ys ≡ true → xs ≡ ys
-bytes_same xs ys e = (bytes_eq-Decides xs ys).0 e
 
 -- ---- a point without a mapping that counts is each form of itself
 
@@ -111,14 +109,8 @@ not_counted F compat c mapped is = alone_counts F compat c mapped is (counts com
 check_yes : (F : ℕ → Facts) (compat : Bool) (c : ℕ) → IsMapped F c → decomposed F compat (c ∷ []) ≡ Ok (c ∷ []) → decomposed_check F compat c ≡ Ok Yes
 check_yes F compat c mapped is = check_alone F compat c (not_counted F compat c mapped is) ∙ ap (λ b. Ok (cond b No Yes)) (not_counted F compat c mapped is)
 
-eqb_self : (a : ℕ) → (a == a) ≡ true
-eqb_self a = grind (arith, nat_tests)
-
-bytes_self : (c : ℕ) → bytes_eq (c ∷ []) (c ∷ []) ≡ true
-bytes_self c = rw (eqb_self c) refl
-
 composed_yes : (F : ℕ → Facts) (c : ℕ) (r : Result (List ℕ) Rule) → r ≡ Ok (c ∷ []) → second_of F c ≡ false → quick_where (quick_composed F c) r ≡ Ok Yes
-composed_yes F c r is alone = ap (quick_where (quick_composed F c)) is ∙ ap (λ b. Ok (cond b (cond (second_of F c) Maybe Yes) No)) (bytes_self c) ∙ ap (λ b. Ok (cond b Maybe Yes)) alone
+composed_yes F c r is alone = ap (quick_where (quick_composed F c)) is ∙ ap (λ b. Ok (cond b (cond (second_of F c) Maybe Yes) No)) ((bytes_eq-Decides (c ∷ []) (c ∷ [])).1 refl) ∙ ap (λ b. Ok (cond b Maybe Yes)) alone
 
 pub unchanged_is_yes : UnchangedIsYes
 unchanged_is_yes F c mapped same alone Nfd = quick_nfd F c ∙ check_yes F false c mapped (same Nfd)
@@ -134,7 +126,7 @@ not_no true e = cc
 not_no false e = cc
 
 composed_not_no : (F : ℕ → Facts) (c : ℕ) (r : Result (List ℕ) Rule) → quick_where (quick_composed F c) r ≡ Ok No → r ≡ Ok (c ∷ []) → ⊥
-composed_not_no F c r e is = not_no (second_of F c) (sym (ap (quick_where (quick_composed F c)) is ∙ ap (λ b. Ok (cond b (cond (second_of F c) Maybe Yes) No)) (bytes_self c)) ∙ e)
+composed_not_no F c r e is = not_no (second_of F c) (sym (ap (quick_where (quick_composed F c)) is ∙ ap (λ b. Ok (cond b (cond (second_of F c) Maybe Yes) No)) ((bytes_eq-Decides (c ∷ []) (c ∷ [])).1 refl)) ∙ e)
 
 pub no_is_other : NoIsOther
 no_is_other F c Nfd mapped e = λ same. yes_not_no (decomposed_check F false c) (check_yes F false c mapped same) (sym (quick_nfd F c) ∙ e)
@@ -158,7 +150,7 @@ composed_same : (F : ℕ → Facts) (c : ℕ) (value : Quick) (r : Result (List 
 composed_same F c value (Err rule) is other = cc
 composed_same F c value (Ok s) is other =
     let here : quick_composed F c s ≡ value = cc in
-    ap (λ zs. Ok zs) (bytes_same s (c ∷ []) (same_if F c s value here other (bytes_eq s (c ∷ [])) refl))
+    ap (λ zs. Ok zs) ((bytes_eq-Decides s (c ∷ [])).0 (same_if F c s value here other (bytes_eq s (c ∷ [])) refl))
 
 pub others_are_same : OthersAreSame
 others_are_same F c Nfd value is other = decomposed_same F false c value (sym (quick_nfd F c) ∙ is) other (counts false (F c).kind) refl

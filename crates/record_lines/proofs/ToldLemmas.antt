@@ -1,6 +1,7 @@
 -- What is told of code points, row by row.
 use Rattle.std.proofs.Common.{◌≡◌, ℕ, Bool, true, false, ◌||◌, List, [], ◌∷◌, ◌++◌, map, refl, sym, ap, ◌∙◌, append_assoc, append-nil, if◌then◌else◌}
-use Rattle.std.specs.List.{flat_map, list_any}
+use Rattle.std.specs.List.{list_any}
+use Rattle.std.proofs.lemmas.Bool.{or_parts}
 use Rattle.ucd_points.specs.Bounds.{within}
 use Rattle.ucd_points.specs.declared.files.SourceFile.{SourceFile}
 use Rattle.ucd_facts.specs.declared.row.Row.{Row}
@@ -9,7 +10,7 @@ use Rattle.release_rows.specs.OperationLaws.{speaks_of}
 use Rattle.source_rows.specs.Keys.{row_span}
 use Rattle.record_lines.specs.FileLines.{place_lines}
 use Rattle.record_lines.specs.PointTexts.{with_more}
-use Rattle.record_lines.specs.RowLines.{if_speaks, place_of, rows_lines, speaking}
+use Rattle.record_lines.specs.RowLines.{if_speaks, place_of, rows_lines}
 use Rattle.record_lines.specs.declared.point_text.PointText.{PointText}
 
 -- ---- more and more
@@ -67,10 +68,6 @@ not_spoken_of row text one is = told_at one.point (one.text ++ if_speaks row tex
 
 -- ---- a row that covers none
 
-or_false : (a b : Bool) → (a || b) ≡ false → (a ≡ false) × (b ≡ false)
-or_false true b h = cc
-or_false false b h = (refl, h)
-
 unspoken : (row : Row) (c : ℕ) → within c (row_span row) ≡ false → speaks_of c row ≡ false
 unspoken (DataLine row) c out = rw out refl
 unspoken (ValueLine row) c out = rw out refl
@@ -86,6 +83,6 @@ quiet row text c out = rw (unspoken row c out) refl
 pub none_covered : (row : Row) (text : List ℕ) (told : List PointText) → list_any (λ (one : PointText). within one.point (row_span row)) told ≡ false → map (with_more (if_speaks row text)) told ≡ told
 none_covered row text [] none = refl
 none_covered row text (one ∷ others) none =
-    let parts = or_false (within one.point (row_span row)) (list_any (λ (one : PointText). within one.point (row_span row)) others) none in
+    let parts = or_parts (within one.point (row_span row)) (list_any (λ (one : PointText). within one.point (row_span row)) others) none in
     ap (λ (xs : List PointText). with_more (if_speaks row text) one ∷ xs) (none_covered row text others parts.1)
     ∙ ap (λ (x : PointText). x ∷ others) (told_at one.point (one.text ++ if_speaks row text one.point) one.text (ap (λ xs. one.text ++ xs) (quiet row text one.point parts.0) ∙ append-nil one.text))

@@ -2,11 +2,13 @@
 use Rattle.std.proofs.Common.{◌≡◌, ℕ, zero, suc, ◌+◌, ◌-◌, ◌<◌, ◌≤◌, ◌==◌, nat_lt, Bool, true, false, true≢false, not, cond, ◌&&◌, ◌||◌, List, [], ◌∷◌, ◌++◌, length, get_or, filter, inl, inr, refl, sym, ap, subst, ◌∙◌, arith}
 use Rattle.std.specs.List.{range_with_len}
 use Rattle.std.specs.List.Sorted.{IsStrictlyIncreasing}
-use Rattle.std.proofs.lemmas.Bool.{cases_Bool, or_cases}
+use Rattle.std.proofs.lemmas.Bool.{cases_Bool, or_cases, and_parts, and_from, lt-ltb, ltb-true}
 use Rattle.std.proofs.lemmas.Bool.Decides.{nat_tests}
 use Rattle.std.proofs.lemmas.List.{get_or-append-add, length-append}
 use Rattle.std.proofs.lemmas.List.Folds.{Any-from_list_any, list_any-append}
 use Rattle.std.proofs.lemmas.List.Kept.{AllPairs-from_increasing}
+use Rattle.std.proofs.Math.Bool.{and-false}
+use Rattle.std.specs.Cmp.{both_ways}
 use Rattle.range_table.specs.Values.{point_count-is}
 use Rattle.ucd_facts.specs.Facts.{Facts}
 use Rattle.ucd_points.specs.Limits.{point_count}
@@ -15,7 +17,6 @@ use Rattle.ucd_model.specs.Sameness.{is_in, same_record}
 use Rattle.ucd_model.specs.SamenessProofs.{records_are_told}
 use Rattle.ucd_model.specs.Validity.{broken}
 use Rattle.ucd_facts.specs.declared.query.Query.{Query}
-use Rattle.ucd_facts.specs.AnswerProofs.{same_bool}
 use Rattle.asked_queries.specs.Questions.{asked}
 use Rattle.asked_queries.specs.Turns.{IsTurn, asks_one}
 use Rattle.asked_queries.specs.TurnProofs.{collected_are_counted, next_is_broken, next_is_valid, others_stay}
@@ -29,28 +30,6 @@ use Rattle.rederivation.specs.declared.again_stop.AgainStop.TheVariants.{Broken,
 use Rattle.rederivation.proofs.AgainSteps.{ok_is}
 
 -- ---- tests
-
-below_true : (c n : ℕ) → c < n → nat_lt c n ≡ true
-below_true c n lt = grind (arith, nat_tests)
-
-true_below : (c n : ℕ) → nat_lt c n ≡ true → c < n
-true_below c n h = grind (arith, nat_tests)
-
-both : (x y : Bool) → x ≡ true → y ≡ true → (x && y) ≡ true
-both true y h k = k
-both false y h k = absurd (true≢false (sym h))
-
-parts : (x y : Bool) → (x && y) ≡ true → (x ≡ true) × (y ≡ true)
-parts true y h = (refl, h)
-parts false y h = absurd (true≢false (sym h))
-
-not_true : (b : Bool) → not b ≡ false → b ≡ true
-not_true true h = refl
-not_true false h = absurd (true≢false h)
-
-and_false : (b : Bool) → (b && false) ≡ false
-and_false true = refl
-and_false false = refl
 
 -- ---- lists
 
@@ -97,12 +76,12 @@ module _ (F G : ℕ → Facts) (R : ℕ → Record) (A N : ℕ → List Query) (
 
   members : (c : ℕ) → is_in points c ≡ (nat_lt c point_count && asks_one A Q c)
   members c =
-      same_bool (is_in points c) (nat_lt c point_count && asks_one A Q c)
-      (λ h. let one = those.only c h in both (nat_lt c point_count) (asks_one A Q c) (below_true c point_count (subst (λ n. c < n) (sym point_count-is) one.0)) one.1)
-      (λ h. let two = parts (nat_lt c point_count) (asks_one A Q c) h in those.all c (subst (λ n. c < n) point_count-is (true_below c point_count two.0)) two.1)
+      both_ways (is_in points c) (nat_lt c point_count && asks_one A Q c)
+      (λ h. let one = those.only c h in and_from (nat_lt c point_count) (asks_one A Q c) (lt-ltb c point_count (subst (λ n. c < n) (sym point_count-is) one.0)) one.1)
+      (λ h. let two = and_parts (nat_lt c point_count) (asks_one A Q c) h in those.all c (subst (λ n. c < n) point_count-is (ltb-true c point_count two.0)) two.1)
 
   asks_count : (c : ℕ) (b : Bool) → nat_lt c point_count ≡ b → (b && asks_one A Q c) ≡ (b && asks_one (asked F) Q c)
-  asks_count c true e = ready.alike c (true_below c point_count e)
+  asks_count c true e = ready.alike c (ltb-true c point_count e)
   asks_count c false e = refl
 
   -- it is a turn in which all that is asked is kept
@@ -159,7 +138,7 @@ module _ (F G : ℕ → Facts) (R : ℕ → Record) (A N : ℕ → List Query) (
       (λ c le lt. ap (λ (r : Record). not (same_record r (record_at G c))) (ready.records c (subst (λ n. c < n) all lt)))
       (λ c le lt none.
       let inside : c < point_count = subst (λ n. c < n) all lt in
-      let same : record_at G c ≡ record_at F c = same_others c inside (members c ∙ ap (λ b. nat_lt c point_count && b) none ∙ and_false (nat_lt c point_count)) in
+      let same : record_at G c ≡ record_at F c = same_others c inside (members c ∙ ap (λ b. nat_lt c point_count && b) none ∙ and-false (nat_lt c point_count)) in
       ap not ((records_are_told (record_at F c) (record_at G c)).1 (sym same)))
       ∙ ap (λ n. filter (λ c. not (same_record (record_at F c) (record_at G c))) (range_with_len 0 n)) whole
 
@@ -175,10 +154,10 @@ module _ (F G : ℕ → Facts) (R : ℕ → Record) (A N : ℕ → List Query) (
   -- the questions
   rekept : (B : ℕ → List Query) → AsksAnew G points N B → IsRekept F G A B Q
   rekept B asks = record {
-    anew = λ c lt one. asks.anew c (subst (λ n. c < n) point_count-is lt) (members c ∙ both (nat_lt c point_count) (asks_one A Q c) (below_true c point_count lt) one);
+    anew = λ c lt one. asks.anew c (subst (λ n. c < n) point_count-is lt) (members c ∙ and_from (nat_lt c point_count) (asks_one A Q c) (lt-ltb c point_count lt) one);
     others = λ c lt none.
         let inside : c < 1114112 = subst (λ n. c < n) point_count-is lt in
-        let other : is_in points c ≡ false = members c ∙ ap (λ b. nat_lt c point_count && b) none ∙ and_false (nat_lt c point_count) in
+        let other : is_in points c ≡ false = members c ∙ ap (λ b. nat_lt c point_count && b) none ∙ and-false (nat_lt c point_count) in
         (asks.others c inside other ∙ ready.still c inside, (others_stay F G (asked F) Q points turn_of c lt other).1);
   }
 

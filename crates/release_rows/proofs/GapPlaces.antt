@@ -5,6 +5,7 @@ use Rattle.std.proofs.lemmas.List.{length-map, length-reverse, get_or-reverse, g
 use Rattle.std.proofs.lemmas.List.Elements.{All-weaker}
 use Rattle.std.proofs.lemmas.List.Folds.{list_any-from_Any, list_any_none}
 use Rattle.std.proofs.lemmas.List.Sums.{prefix_len_passes}
+use Rattle.std.proofs.lemmas.Bool.{not-true}
 use Rattle.ucd_facts.specs.declared.row.Row.{Row}
 use Rattle.ucd_lines.specs.declared.item.Ending.TheVariants.{Lf}
 use Rattle.part_list.specs.declared.spanned.Spanned.{Spanned}
@@ -37,17 +38,13 @@ last_some p parts spot d h =
     let x = get_or (flat parts) n d in
     list_any-from_Any p (flat parts) (n, x, place-lt parts spot h.0, get_or_default (flat parts) n x d (place-lt parts spot h.0), last_passes p parts spot d h)
 
-not_true : (b : Bool) → not b ≡ true → b ≡ false
-not_true true h = absurd cc
-not_true false h = refl
-
 last_none : {A : Type 0} (p : A → Bool) (xs : List A) → suffix_len (λ x. not (p x)) xs ≡ length xs → list_any p xs ≡ false
 last_none p xs h = list_any_none p xs (λ k d lt.
     let long = length-reverse xs in
     let back = get_or-reverse xs (length xs - 1 - k) d (omega arith) in
     let here : length xs - 1 - (length xs - 1 - k) ≡ k = omega arith in
     let passes = prefix_len_passes (λ x. not (p x)) (reverse xs) (length xs - 1 - k) d (omega arith) in
-    not_true (p (get_or xs k d)) (subst (λ n. not (p (get_or xs n d)) ≡ true) here (subst (λ x. not (p x) ≡ true) back passes)))
+    not-true (p (get_or xs k d)) (subst (λ n. not (p (get_or xs n d)) ≡ true) here (subst (λ x. not (p x) ≡ true) back passes)))
 
 no_front : {A : Type 0} (xs : List A) → prefix_len (λ x. false) xs ≡ 0
 no_front [] = refl

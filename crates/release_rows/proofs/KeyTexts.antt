@@ -1,12 +1,13 @@
 -- The texts of the names of keys.
-use Rattle.std.proofs.Common.{◌≡◌, ℕ, zero, suc, ◌-◌, ◌<◌, ◌≤◌, Bool, true, false, not, ◌&&◌, ◌||◌, leb, eqb, List, [], ◌∷◌, ◌++◌, take, Result, Ok, Err, refl, ap, ◌∙◌, arith, append_assoc, lit≤, sym, inl, inr}
+use Rattle.std.proofs.Common.{◌≡◌, ℕ, zero, suc, ◌-◌, ◌<◌, ◌≤◌, true, false, not, ◌&&◌, ◌||◌, leb, eqb, List, [], ◌∷◌, ◌++◌, take, Result, Ok, Err, refl, ap, ◌∙◌, arith, append_assoc, lit≤, sym, inl, inr}
 use Rattle.std.specs.Prelude.{codes}
 use Rattle.std.specs.List.{All, list_all, list_any, slice_split, flat_map, join_with_byte}
 use Rattle.std.specs.Result.{IfOk}
-use Rattle.std.proofs.lemmas.Bool.{and_parts, ne_eqb}
+use Rattle.std.proofs.lemmas.Bool.{and_parts, ne_eqb, or_parts, not-true}
 use Rattle.std.proofs.lemmas.List.{append-nil}
 use Rattle.std.proofs.lemmas.List.Elements.{All-nil, All-cons, All-head, All-tail, All-take, All-weaker}
 use Rattle.std.proofs.lemmas.List.Splits.{slice_split_none, slice_split_at}
+use Rattle.std.proofs.lemmas.Result.{IfOk-weaker}
 use Rattle.ucd_points.specs.Fields.{field, is_semicolon, is_name, is_name_byte}
 use Rattle.ucd_points.specs.HexText.{hex_text}
 use Rattle.ucd_points.specs.HexTextLaws.{IsUpperHex}
@@ -23,33 +24,20 @@ use Rattle.source_rows.specs.Keys.{condition_names, alias_count, missing_names, 
 use Rattle.release_rows.specs.Names.{first_names}
 use Rattle.release_rows.specs.Places.{names_of}
 
--- what follows of a value that is there
-pub if_ok_map : {A E : Type 0} (r : Result A E) (P Q : A → Type 0) → ((x : A) → P x → Q x) → IfOk r P → IfOk r Q
-if_ok_map (Ok x) P Q f p = f x p
-if_ok_map (Err e) P Q f p = p
-
 -- no byte is a `;`
 abbrev pub Plain : List ℕ → Type 0
 Plain n = All (λ b. is_semicolon b ≡ false) n
 
-not_true : (b : Bool) → not b ≡ true → b ≡ false
-not_true false h = refl
-not_true true h = absurd cc
-
 plain_byte : (b : ℕ) → is_name_byte b ≡ true → is_semicolon b ≡ false
-plain_byte b h = not_true (eqb b 59) (and_parts (leb 32 b && leb b 126) (not (eqb b 59)) h).1
+plain_byte b h = not-true (eqb b 59) (and_parts (leb 32 b && leb b 126) (not (eqb b 59)) h).1
 
 plain_bytes : (bs : List ℕ) → list_all is_name_byte bs ≡ true → Plain bs
 plain_bytes [] h = All-nil (λ b. is_semicolon b ≡ false)
 plain_bytes (b ∷ bs) h = let parts = and_parts (is_name_byte b) (list_all is_name_byte bs) h in All-cons (λ b. is_semicolon b ≡ false) b bs (plain_byte b parts.0) (plain_bytes bs parts.1)
 
-or_none : (a b : Bool) → (a || b) ≡ false → (a ≡ false) × (b ≡ false)
-or_none false b h = (refl, h)
-or_none true b h = absurd cc
-
 plain_from : (bs : List ℕ) → list_any is_semicolon bs ≡ false → Plain bs
 plain_from [] h = All-nil (λ b. is_semicolon b ≡ false)
-plain_from (b ∷ bs) h = let parts = or_none (is_semicolon b) (list_any is_semicolon bs) h in All-cons (λ b. is_semicolon b ≡ false) b bs parts.0 (plain_from bs parts.1)
+plain_from (b ∷ bs) h = let parts = or_parts (is_semicolon b) (list_any is_semicolon bs) h in All-cons (λ b. is_semicolon b ≡ false) b bs parts.0 (plain_from bs parts.1)
 
 plain_name : (n : List ℕ) → is_name_or_empty n ≡ true → Plain n
 plain_name [] h = All-nil (λ b. is_semicolon b ≡ false)

@@ -3,6 +3,7 @@ use Rattle.std.proofs.Common.{◌≡◌, ℕ, suc, Bool, true, false, List, [], 
 use Rattle.std.specs.List.{All, insert, list_any, remove}
 use Rattle.std.proofs.lemmas.List.Elements.{All-append, All-cons, All-drop, All-set, All-take, All-weaker, All-head, All-tail}
 use Rattle.std.proofs.lemmas.List.Folds.{list_any_none}
+use Rattle.std.proofs.lemmas.Slice.Eq.{bytes_eq-Decides}
 use Rattle.ucd_points.specs.declared.files.SourceFile.{SourceFile}
 use Rattle.ucd_facts.specs.declared.row.Row.{Row}
 use Rattle.source_rows.specs.Faults.{row_or_fault}
@@ -19,7 +20,6 @@ use Rattle.release_rows.specs.declared.stretch.Stretch.{Stretch}
 use Rattle.release_rows.proofs.Arena.{items_kept}
 use Rattle.release_rows.proofs.Edited.{map_remove}
 use Rattle.release_rows.proofs.Seeking.{StoredAs, stored_as}
-use Rattle.release_rows.proofs.Texts.{same_text}
 use Rattle.release_rows.proofs.Walks.{first_of}
 
 -- ---- what is marked stays so
@@ -112,7 +112,7 @@ marks_without file text groups at old new marks now next = record {
 none_with : (file : SourceFile) (groups : Tags) (row other : Row) (b : Bool) → same_group file row other ≡ b → may_have groups (group_tag (group_of file row)) ≡ false → may_have groups (group_tag (group_of file other)) ≡ true → same_group file row other ≡ false
 none_with file groups row other false is lacks has = is
 none_with file groups row other true is lacks has =
-    absurd (let e : false ≡ true = sym lacks ∙ ap (λ group. may_have groups (group_tag group)) (same_text (group_of file row) (group_of file other) is) ∙ has in cc)
+    absurd (let e : false ≡ true = sym lacks ∙ ap (λ group. may_have groups (group_tag group)) ((bytes_eq-Decides (group_of file row) (group_of file other)).0 is) ∙ has in cc)
 
 none_passes : (file : SourceFile) (groups : Tags) (row : Row) (item : FileItem) (o : Option Row) → item.row ≡ o → may_have groups (group_tag (group_of file row)) ≡ false → HasMark file groups o → row_passes (same_group file row) item ≡ false
 none_passes file groups row item None is lacks has = rw is refl

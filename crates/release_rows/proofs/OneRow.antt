@@ -1,7 +1,7 @@
 -- Where one row passes and no other one does.
 use Rattle.std.proofs.Common.{◌≡◌, ℕ, suc, ◌+◌, Bool, true, false, not, ◌&&◌, ◌||◌, List, [], ◌∷◌, map, filter, set, get_or, Option, Some, None, refl, sym, ap, ◌∙◌, arith}
 use Rattle.std.specs.List.{list_any, position_or_len, remove}
-use Rattle.std.proofs.lemmas.Bool.{and_parts, or_parts, eqb-true, eq-eqb, and_from}
+use Rattle.std.proofs.lemmas.Bool.{and_parts, or_parts, eqb-true, eq-eqb, and_from, not-true}
 use Rattle.std.proofs.lemmas.List.{append-nil}
 use Rattle.ucd_points.specs.declared.files.SourceFile.{SourceFile}
 use Rattle.ucd_facts.specs.declared.row.Row.{Row}
@@ -89,10 +89,6 @@ none_other file p r (s ∷ rows) one h free =
     let apart = (or_parts _ _ k.0).0 in
     rw (no_true (p s) (λ also. sym apart ∙ one r s h also)) (none_other file p r rows one h k.1)
 
-not_false : (b : Bool) → not b ≡ true → b ≡ false
-not_false true h = absurd cc
-not_false false h = refl
-
 pub once_rows : (file : SourceFile) (p : Row → Bool) (items : List FileItem) → OneKey file p → all_apart file (rows_in items) ≡ true → Once (row_passes p) items
 once_rows file p [] one apart = tt
 once_rows file p (item ∷ items) one apart = by item.row refl (once_rows file p items one)
@@ -102,7 +98,7 @@ once_rows file p (item ∷ items) one apart = by item.row refl (once_rows file p
     by (Some r) e later =
         let k : (not (list_any (clashes file r) (rows_in items)) && all_apart file (rows_in items)) ≡ true = (rw e at apart) in
         let parts = and_parts _ _ k in
-        (λ passes. sym (any_rows p items) ∙ none_other file p r (rows_in items) one (rw e at passes) (not_false _ parts.0), later parts.1)
+        (λ passes. sym (any_rows p items) ∙ none_other file p r (rows_in items) one (rw e at passes) (not-true _ parts.0), later parts.1)
 
 pub once_kept : (file : SourceFile) (p : Row → Bool) (items : List FileItem) → OneKey file p → AreKept file items → Once (row_passes p) items
 once_kept file p items one kept = once_rows file p items one (all_are_apart file items kept)

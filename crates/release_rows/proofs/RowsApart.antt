@@ -1,16 +1,17 @@
 -- Rows of which no two may not stand together: one more between them, one less, and one in the place of another.
 use Rattle.std.proofs.Common.{◌≡◌, ℕ, Bool, true, false, cond, not, eqb, leb, ◌&&◌, ◌||◌, List, [], ◌∷◌, ◌++◌, map, filter, Some, None, refl, sym, ap, ◌∙◌, arith}
 use Rattle.std.specs.List.{list_any}
-use Rattle.std.proofs.lemmas.Bool.{and_parts, and_from, or_parts, or_from, eqb-true, eq-eqb, false_from_ne_true}
+use Rattle.std.proofs.lemmas.Bool.{and_parts, and_from, or_parts, or_from, eqb-true, eq-eqb, false_from_ne_true, not-true}
 use Rattle.std.proofs.lemmas.Bool.Decides.{nat_tests}
 use Rattle.std.proofs.lemmas.List.Folds.{list_any-append}
+use Rattle.std.specs.Cmp.{both_ways}
 use Rattle.ucd_points.specs.declared.files.SourceFile.{SourceFile}
 use Rattle.ucd_facts.specs.declared.row.Row.{Row}
 use Rattle.source_rows.specs.Keys.{row_span, key_names, same_texts}
 use Rattle.release_rows.specs.Keys.{own_end, same_key, overlaps, key_rule}
 use Rattle.release_rows.specs.Operations.{overlaps_another}
 use Rattle.release_rows.specs.declared.conflict.Conflict.TheVariants.{K1, K4}
-use Rattle.release_rows.proofs.Texts.{texts_same, texts_itself, both_or_none}
+use Rattle.release_rows.proofs.Texts.{texts_same, texts_itself}
 
 -- the rows may not stand together
 abbrev pub clashes : SourceFile → Row → Row → Bool
@@ -24,7 +25,7 @@ all_apart file (row ∷ rows) = not (list_any (clashes file row) rows) && all_ap
 -- ---- both ways
 
 pub texts_swap : (a b : List (List ℕ)) → same_texts a b ≡ same_texts b a
-texts_swap a b = both_or_none (same_texts a b) (same_texts b a) (λ h. rw (texts_same a b h) (texts_itself b)) (λ h. rw (texts_same b a h) (texts_itself a))
+texts_swap a b = both_ways (same_texts a b) (same_texts b a) (λ h. rw (texts_same a b h) (texts_itself b)) (λ h. rw (texts_same b a h) (texts_itself a))
 
 pub numbers_swap : (a b : ℕ) → eqb a b ≡ eqb b a
 numbers_swap a b = grind (arith, nat_tests)
@@ -79,16 +80,12 @@ breaks_no_rule file above row h = let f = any_parts file row above h in rw (f.0,
 
 -- ---- one more row between the others
 
-not_false : (b : Bool) → not b ≡ true → b ≡ false
-not_false true h = absurd cc
-not_false false h = refl
-
 pub put_between : (file : SourceFile) (xs : List Row) (row : Row) (ys : List Row) → all_apart file (xs ++ ys) ≡ true → list_any (clashes file row) (xs ++ ys) ≡ false → all_apart file (xs ++ row ∷ ys) ≡ true
 put_between file [] row ys apart free = and_from _ _ (ap not free) apart
 put_between file (x ∷ xs) row ys apart free =
     let p = and_parts (not (list_any (clashes file x) (xs ++ ys))) (all_apart file (xs ++ ys)) apart in
     let q = or_parts (clashes file row x) (list_any (clashes file row) (xs ++ ys)) free in
-    let x_free = or_parts (list_any (clashes file x) xs) (list_any (clashes file x) ys) (sym (list_any-append (clashes file x) xs ys) ∙ not_false _ p.0) in
+    let x_free = or_parts (list_any (clashes file x) xs) (list_any (clashes file x) ys) (sym (list_any-append (clashes file x) xs ys) ∙ not-true _ p.0) in
     let x_row : clashes file x row ≡ false = clashes_swap file x row ∙ q.0 in
     let x_all : list_any (clashes file x) (xs ++ row ∷ ys) ≡ false = list_any-append (clashes file x) xs (row ∷ ys) ∙ or_from _ _ x_free.0 (or_from _ _ x_row x_free.1) in
     and_from _ _ (ap not x_all) (put_between file xs row ys p.1 q.1)
@@ -98,7 +95,7 @@ pub free_before : (file : SourceFile) (xs : List Row) (row : Row) (ys : List Row
 free_before file [] row ys apart = refl
 free_before file (x ∷ xs) row ys apart =
     let p = and_parts (not (list_any (clashes file x) (xs ++ row ∷ ys))) (all_apart file (xs ++ row ∷ ys)) apart in
-    let q = or_parts (list_any (clashes file x) xs) (list_any (clashes file x) (row ∷ ys)) (sym (list_any-append (clashes file x) xs (row ∷ ys)) ∙ not_false _ p.0) in
+    let q = or_parts (list_any (clashes file x) xs) (list_any (clashes file x) (row ∷ ys)) (sym (list_any-append (clashes file x) xs (row ∷ ys)) ∙ not-true _ p.0) in
     let here = or_parts (clashes file x row) (list_any (clashes file x) ys) q.1 in
     or_from _ _ (clashes_swap file row x ∙ here.0) (free_before file xs row ys p.1)
 
@@ -116,7 +113,7 @@ pub taken_out : (file : SourceFile) (p : Row → Bool) (rows : List Row) → all
 taken_out file p [] h = refl
 taken_out file p (r ∷ rows) h =
     let k = and_parts (not (list_any (clashes file r) rows)) (all_apart file rows) h in
-    by (p r) (any_filter p (clashes file r) rows (not_false _ k.0)) (taken_out file p rows k.1)
+    by (p r) (any_filter p (clashes file r) rows (not-true _ k.0)) (taken_out file p rows k.1)
   where
     by : (b : Bool) → list_any (clashes file r) (filter p rows) ≡ false → all_apart file (filter p rows) ≡ true → all_apart file (cond b (r ∷ filter p rows) (filter p rows)) ≡ true
     by true h k = and_from _ _ (ap not h) k
@@ -166,7 +163,7 @@ put_instead file row [] apart free = refl
 put_instead file row (r ∷ rows) apart free =
     let p = and_parts (not (list_any (clashes file r) rows)) (all_apart file rows) apart in
     let q = or_parts (overlaps_another file row r) (list_any (overlaps_another file row) rows) free in
-    by (same_key file row r) refl (not_false _ p.0) p.1 q.0 q.1 (put_instead file row rows p.1 q.1)
+    by (same_key file row r) refl (not-true _ p.0) p.1 q.0 q.1 (put_instead file row rows p.1 q.1)
   where
     by : (same : Bool) → same_key file row r ≡ same → list_any (clashes file r) rows ≡ false → all_apart file rows ≡ true → (not (same_key file row r) && overlaps file row r) ≡ false → list_any (overlaps_another file row) rows ≡ false → all_apart file (map (row_instead file row) rows) ≡ true → all_apart file (cond (same_key file row r) row r ∷ map (row_instead file row) rows) ≡ true
     by true e here rest over free later =

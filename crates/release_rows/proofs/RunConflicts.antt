@@ -6,6 +6,7 @@ use Rattle.std.specs.Str.{bytes_eq}
 use Rattle.std.proofs.lemmas.Bool.Decides.{nat_tests}
 use Rattle.std.proofs.lemmas.List.{map-append}
 use Rattle.std.proofs.lemmas.List.Folds.{list_any-append}
+use Rattle.std.proofs.lemmas.Bool.{or_parts}
 use Rattle.source_rows.specs.Keys.{same_texts}
 use Rattle.release_rows.specs.Extents.{Extent, same_start, meets, conflict_with}
 use Rattle.release_rows.specs.Places.{names_in, extent_at}
@@ -60,15 +61,11 @@ not_met names other first last end code stop h le = by (same_texts names other)
     by true = (grind (arith, nat_tests), grind (arith, nat_tests))
     by false = (refl, refl)
 
-neither : (a b : Bool) → (a || b) ≡ false → (a ≡ false) × (b ≡ false)
-neither true b h = absurd cc
-neither false b h = (refl, h)
-
 module _ (place : Place) (last end : ℕ) (le : end ≤ place.code) where
   none_before : (above : List Extent) → AllBefore end above → (list_any (same_start (extent_at place last)) above ≡ false) × (list_any (meets (extent_at place last)) above ≡ false)
   none_before [] h = (refl, refl)
   none_before (x ∷ above) h =
-      let parts = neither (is_from end x) (list_any (is_from end) above) h in
+      let parts = or_parts (is_from end x) (list_any (is_from end) above) h in
       let here = not_met (names_in place) x.names x.first x.last end place.code last parts.0 le in
       let rest = none_before above parts.1 in
       (rw (here.0, rest.0) refl, rw (here.1, rest.1) refl)
@@ -82,7 +79,7 @@ not_from a b first last le h = grind (arith, nat_tests)
 pub before_more : (a b : ℕ) → a ≤ b → (above : List Extent) → AllBefore a above → AllBefore b above
 before_more a b le [] h = refl
 before_more a b le (x ∷ above) h =
-    let parts = neither (is_from a x) (list_any (is_from a) above) h in
+    let parts = or_parts (is_from a x) (list_any (is_from a) above) h in
     rw (not_from a b x.first x.last le parts.0, before_more a b le above parts.1) refl
 
 -- ---- one more extent

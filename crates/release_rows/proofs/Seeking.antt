@@ -3,6 +3,7 @@ use Rattle.std.proofs.Common.{◌≡◌, ℕ, Bool, true, false, not, eqb, leb, 
 use Rattle.std.specs.Cmp.Lexicographic.{slice_cmp}
 use Rattle.std.specs.Ordering.{ordering_then, nat_cmp, is_eq, is_lt}
 use Rattle.std.proofs.lemmas.Map.Text.{is_eq-slice_cmp}
+use Rattle.std.proofs.Math.Bool.{and-false, and_comm}
 use Rattle.ucd_points.specs.MissingLines.{is_trivia}
 use Rattle.ucd_points.specs.declared.files.SourceFile.{SourceFile}
 use Rattle.ucd_facts.specs.declared.row.Row.{Row}
@@ -57,16 +58,6 @@ names_alike file c row r law t h = rw (t, ← (law file c r h).names) (names_equ
 group_alike : (file : SourceFile) (c : List ℕ) (row r : Row) → ContentsHaveKeys → is_trivia file c ≡ false → row_or_fault file c ≡ Ok r → is_of_group file (group_of file row) c ≡ same_group file row r
 group_alike file c row r law t h = rw (t, ← (law file c r h).group) refl
 
-pub and_false : (a : Bool) → (a && false) ≡ false
-and_false true = refl
-and_false false = refl
-
-pub and_swap : (a b : Bool) → (a && b) ≡ (b && a)
-and_swap true true = refl
-and_swap true false = refl
-and_swap false true = refl
-and_swap false false = refl
-
 pub code_is : (row : Row) → code_number (key_code row) ≡ (row_span row).lo
 code_is (DataLine row) = refl
 code_is (ValueLine row) = refl
@@ -106,9 +97,9 @@ order_told s file row text e i h =
 -- ---- the same key
 
 key_by : (file : SourceFile) (text : List ℕ) (e : Spanned Stretch) (row : Row) (o : Option Row) → ContentsHaveKeys → (item_at file text e.item).row ≡ o → StoredAs file (content_at text e.item) o → HasSpan o e.code e.last → (eqb (row_span row).lo e.code && has_names file (key_names file row) (content_at text e.item)) ≡ row_passes (same_key file row) (stored_at file text e)
-key_by file text e row None law is st span = rw (is, st) (and_false (eqb (row_span row).lo e.code))
+key_by file text e row None law is st span = rw (is, st) (and-false (eqb (row_span row).lo e.code))
 key_by file text e row (Some r) law is st span =
-    rw (is, names_alike file (content_at text e.item) row r law st.0 st.1, span.0) (and_swap (eqb (row_span row).lo (row_span r).lo) (same_texts (key_names file row) (key_names file r)))
+    rw (is, names_alike file (content_at text e.item) row r law st.0 st.1, span.0) (and_comm (eqb (row_span row).lo (row_span r).lo) (same_texts (key_names file row) (key_names file r)))
 
 pub key_found : (file : SourceFile) (text : List ℕ) (e : Spanned Stretch) (row : Row) (s : Sought) → ContentsHaveKeys → IsSoughtRow file row text s → IsStored file text e → starts_alike s e ≡ row_passes (same_key file row) (stored_at file text e)
 key_found file text e row s law i h =
@@ -148,7 +139,7 @@ another_by file text e row false true (Some r) law m sp is st span =
     rw (is, m, names_alike file (content_at text e.item) row r law st.0 st.1, span.0, span.1, sp)
     (meets_by true (eqb (row_span row).lo (row_span r).lo) (same_texts (key_names file row) (key_names file r)) (leb (row_span row).lo (row_span r).hi && leb (row_span r).lo (own_end row))
     ∙ own_meets file row r m)
-another_by file text e row false false (Some r) law m sp is st span = rw (is, m, sp) (sym (and_false (not (same_key file row r))))
+another_by file text e row false false (Some r) law m sp is st span = rw (is, m, sp) (sym (and-false (not (same_key file row r))))
 
 pub another_found : (file : SourceFile) (text : List ℕ) (e : Spanned Stretch) (row : Row) (s : Sought) → ContentsHaveKeys → IsSoughtRow file row text s → IsStored file text e → meets_another s e ≡ row_passes (overlaps_another file row) (stored_at file text e)
 another_found file text e row s law i h =

@@ -3,6 +3,7 @@ use Rattle.std.proofs.Common.{◌≡◌, ℕ, Bool, true, false, not, eqb, ◌&&
 use mathlib.Core.Bool.{beq}
 use Rattle.std.specs.List.{All, list_any}
 use Rattle.std.proofs.lemmas.List.Elements.{All-weaker}
+use Rattle.std.proofs.Math.Bool.{and-false, and_comm}
 use Rattle.ucd_points.specs.declared.files.SourceFile.{SourceFile}
 use Rattle.ucd_facts.specs.declared.row.Row.{Row}
 use Rattle.source_rows.specs.KeyNames.{ContentsHaveKeys, has_code}
@@ -22,7 +23,7 @@ use Rattle.release_rows.specs.declared.stretch.Stretch.{Stretch}
 use Rattle.release_rows.proofs.FoundRows.{found_any}
 use Rattle.release_rows.proofs.Moved.{any_moved, first_moved}
 use Rattle.release_rows.proofs.RowsApart.{numbers_swap, texts_swap}
-use Rattle.release_rows.proofs.Seeking.{StoredAs, and_false, and_swap, code_is, names_equal, stored_as, stored_tag}
+use Rattle.release_rows.proofs.Seeking.{StoredAs, code_is, names_equal, stored_as, stored_tag}
 use Rattle.release_rows.proofs.Tagging.{guarded, key_fits}
 
 -- what is looked for is the key
@@ -61,12 +62,12 @@ code_apart None (Some b) h = refl
 code_apart None None h = absurd (let k = h refl in cc)
 
 found_by : (file : SourceFile) (text : List ℕ) (e : Spanned Stretch) (key : Key) (o : Option Row) → ContentsHaveKeys → is_some key.code ≡ has_code file → (item_at file text e.item).row ≡ o → StoredAs file (content_at text e.item) o → HasSpan o e.code e.last → (eqb (code_number key.code) e.code && has_names file key.names (content_at text e.item)) ≡ row_passes (has_key file key) (stored_at file text e)
-found_by file text e key None law code is st span = rw (is, st) (and_false (eqb (code_number key.code) e.code))
+found_by file text e key None law code is st span = rw (is, st) (and-false (eqb (code_number key.code) e.code))
 found_by file text e key (Some r) law code is st span =
     let answers = law file (content_at text e.item) r st.1 in
     let same : is_some (key_code r) ≡ is_some key.code = answers.code ∙ sym code in
     rw (is, st.0, ← answers.names, names_equal key.names (key_names file r), span.0, ← code_is r, code_tells (key_code r) key.code same, texts_swap (key_names file r) key.names)
-    (and_swap (eqb (code_number key.code) (code_number (key_code r))) (same_texts key.names (key_names file r)))
+    (and_comm (eqb (code_number key.code) (code_number (key_code r))) (same_texts key.names (key_names file r)))
 
 stored_found : (file : SourceFile) (text : List ℕ) (e : Spanned Stretch) (key : Key) (s : Sought) → ContentsHaveKeys → is_some key.code ≡ has_code file → IsSoughtKey file key text s → IsStored file text e → starts_alike s e ≡ row_passes (has_key file key) (stored_at file text e)
 stored_found file text e key s law code i h =
@@ -80,7 +81,7 @@ apart_by : (file : SourceFile) (text : List ℕ) (e : Spanned Stretch) (key : Ke
 apart_by file text e key None law code is st = rw is refl
 apart_by file text e key (Some r) law code is st =
     let answers = law file (content_at text e.item) r st.1 in
-    rw (is, code_apart (key_code r) key.code (λ same. code (sym same ∙ answers.code))) (sym (and_false (same_texts (key_names file r) key.names)))
+    rw (is, code_apart (key_code r) key.code (λ same. code (sym same ∙ answers.code))) (sym (and-false (same_texts (key_names file r) key.names)))
 
 none_passes : {A : Type 0} (xs : List A) → list_any (λ x. false) xs ≡ false
 none_passes [] = refl

@@ -4,6 +4,7 @@ use Rattle.std.specs.Prelude.{codes}
 use Rattle.std.specs.Str.{bytes_eq}
 use Rattle.std.proofs.lemmas.Bool.Decides.{nat_tests}
 use Rattle.std.proofs.Common.{arith}
+use Rattle.std.proofs.Math.Bool.{and-false}
 use Rattle.ucd_facts.specs.Names.{status_code}
 use Rattle.ucd_points.specs.declared.files.SourceFile.{SourceFile}
 use Rattle.ucd_points.specs.declared.files.SourceFile.TheVariants.{PropList}
@@ -18,12 +19,8 @@ use Rattle.release_rows.proofs.RowsApart.{keys_swap, overlaps_swap, texts_swap}
 
 -- ---- names of other rows
 
-second_false : (b : Bool) → (b && false) ≡ false
-second_false true = refl
-second_false false = refl
-
 one_name : (n : List ℕ) (c : ℕ) → same_texts (n ∷ []) (missing_names c) ≡ false
-one_name n c = second_false (bytes_eq n (codes "@missing"))
+one_name n c = and-false (bytes_eq n (codes "@missing"))
 
 conditions : (cs : List ℕ) (c : ℕ) → same_texts (condition_names cs) (missing_names c) ≡ false
 conditions [] c = refl
@@ -50,16 +47,16 @@ both_ways a b = grind (arith, nat_tests)
 
 -- rows that share their first code point alone, and have one key then
 point_free : (spans names : Bool) (a b : ℕ) → (not (names && eqb a b) && (spans && (names && (leb a b && leb b a)))) ≡ false
-point_free spans false a b = second_false spans
+point_free spans false a b = and-false spans
 point_free spans true a b = rw (both_ways a b) (by (eqb a b) spans)
   where
     by : (e s : Bool) → (not e && (s && e)) ≡ false
     by true s = refl
-    by false s = second_false s
+    by false s = and-false s
 
 names_free : (file : SourceFile) (m : ValueRow) (r : Row) → is_missing_row r ≡ false → overlaps_another file (MissingLine m) r ≡ false
 names_free file m r h = elim (other_kind file r m.span.hi h) [
-  | inl other ↦ rw (texts_swap (missing_names m.span.hi) (key_names file r) ∙ other) (second_false (has_spans file))
+  | inl other ↦ rw (texts_swap (missing_names m.span.hi) (key_names file r) ∙ other) (and-false (has_spans file))
   | inr none ↦ rw (none.0, none.1) (point_free (has_spans file) (same_texts (missing_names m.span.hi) (key_names file r)) m.span.lo 0)
 ]
 

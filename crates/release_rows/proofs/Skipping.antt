@@ -4,7 +4,7 @@ use Rattle.std.specs.Ordering.{ordering_then, nat_cmp, is_lt}
 use Rattle.std.specs.declared.cmp.Ordering.{Ordering}
 use Rattle.std.specs.declared.cmp.Ordering.TheVariants.{Greater}
 use Rattle.std.specs.Cmp.{nat_cmp_is}
-use Rattle.std.proofs.lemmas.Bool.{and_parts, or_cases, eqb-true, leb-true, ltb-true, ne_eqb, lt-leb}
+use Rattle.std.proofs.lemmas.Bool.{and_parts, or_cases, eqb-true, leb-true, ltb-true, ne_eqb, lt-leb, and_right, and_left}
 use Rattle.std.proofs.lemmas.Bool.Decides.{nat_tests}
 use Rattle.part_list.specs.Covers.{Meets}
 use Rattle.part_list.specs.Reaches.{IsWithin}
@@ -38,23 +38,16 @@ no_rise true c a reach h e w =
     lt-not : (x y : ℕ) → y ≤ x → ltb x y ≡ false
     lt-not x y h = grind (arith, nat_tests)
 
-both_fail : (a b : Bool) → a ≡ false → (a && b) ≡ false
-both_fail a b h = rw h refl
-
-second_fails : (a b : Bool) → b ≡ false → (a && b) ≡ false
-second_fails true b h = h
-second_fails false b h = refl
-
 pub key_skips : (s : Sought) (reach : Reach) → ((ltb s.code reach.least || ltb reach.most s.code) || misses_tag (tells_key s.file) s.tag reach) ≡ true → (e : Spanned Stretch) → IsWithin reach e → starts_alike s e ≡ false
 key_skips s reach h e w =
     let least = w.least in
     let code = w.code in
     elim (or_cases (ltb s.code reach.least || ltb reach.most s.code) (misses_tag (tells_key s.file) s.tag reach) h) [
-      | inl points ↦ both_fail (eqb s.code e.code) _ (elim (or_cases (ltb s.code reach.least) (ltb reach.most s.code) points) [
+      | inl points ↦ and_left (eqb s.code e.code) _ (elim (or_cases (ltb s.code reach.least) (ltb reach.most s.code) points) [
         | inl below ↦ ne_eqb s.code e.code (λ same. absurd (omega (arith, ltb-true s.code reach.least below, same)))
         | inr above ↦ ne_eqb s.code e.code (λ same. absurd (omega (arith, ltb-true reach.most s.code above, same)))
       ])
-      | inr tags ↦ second_fails (eqb s.code e.code) _ (both_fail (tag_fits (tells_key s.file) s.tag e.tag) _ (other_tag (tells_key s.file) s.tag reach tags e w))
+      | inr tags ↦ and_right (eqb s.code e.code) _ (and_left (tag_fits (tells_key s.file) s.tag e.tag) _ (other_tag (tells_key s.file) s.tag reach tags e w))
     ]
 
 no_meeting : (spans code names : Bool) (a b : Bool) → (a && b) ≡ false → (spans && (code && ((a && b) && names))) ≡ false
@@ -63,7 +56,7 @@ no_meeting true false names a b h = refl
 no_meeting false code names a b h = refl
 
 no_names : (spans code meets names : Bool) → names ≡ false → (spans && (code && (meets && names))) ≡ false
-no_names spans code meets names h = second_fails spans _ (second_fails code _ (second_fails meets names h))
+no_names spans code meets names h = and_right spans _ (and_right code _ (and_right meets names h))
 
 pub another_skips : (s : Sought) (reach : Reach) → (((not (forbids s) || ltb s.last reach.least) || ltb reach.most s.code) || misses_tag (tells_key s.file) s.tag reach) ≡ true → (e : Spanned Stretch) → IsWithin reach e → meets_another s e ≡ false
 another_skips s reach h e w =
@@ -71,12 +64,12 @@ another_skips s reach h e w =
     let last = w.last in
     let names = tag_fits (tells_key s.file) s.tag e.tag && has_names s.file s.names (content_at s.text e.item) in
     elim (or_cases ((not (forbids s) || ltb s.last reach.least) || ltb reach.most s.code) (misses_tag (tells_key s.file) s.tag reach) h) [
-      | inr tags ↦ no_names (forbids s) (not (eqb s.code e.code)) (leb s.code e.last && leb e.code s.last) names (both_fail (tag_fits (tells_key s.file) s.tag e.tag) _ (other_tag (tells_key s.file) s.tag reach tags e w))
+      | inr tags ↦ no_names (forbids s) (not (eqb s.code e.code)) (leb s.code e.last && leb e.code s.last) names (and_left (tag_fits (tells_key s.file) s.tag e.tag) _ (other_tag (tells_key s.file) s.tag reach tags e w))
       | inl points ↦ elim (or_cases (not (forbids s) || ltb s.last reach.least) (ltb reach.most s.code) points) [
-        | inr above ↦ no_meeting (forbids s) (not (eqb s.code e.code)) names (leb s.code e.last) (leb e.code s.last) (both_fail (leb s.code e.last) (leb e.code s.last) (lt-leb s.code e.last (omega (arith, ltb-true reach.most s.code above))))
+        | inr above ↦ no_meeting (forbids s) (not (eqb s.code e.code)) names (leb s.code e.last) (leb e.code s.last) (and_left (leb s.code e.last) (leb e.code s.last) (lt-leb s.code e.last (omega (arith, ltb-true reach.most s.code above))))
         | inl more ↦ elim (or_cases (not (forbids s)) (ltb s.last reach.least) more) [
-          | inl none ↦ both_fail (forbids s) _ (is_false (forbids s) none)
-          | inr below ↦ no_meeting (forbids s) (not (eqb s.code e.code)) names (leb s.code e.last) (leb e.code s.last) (second_fails (leb s.code e.last) (leb e.code s.last) (lt-leb e.code s.last (omega (arith, ltb-true s.last reach.least below))))
+          | inl none ↦ and_left (forbids s) _ (is_false (forbids s) none)
+          | inr below ↦ no_meeting (forbids s) (not (eqb s.code e.code)) names (leb s.code e.last) (leb e.code s.last) (and_right (leb s.code e.last) (leb e.code s.last) (lt-leb e.code s.last (omega (arith, ltb-true s.last reach.least below))))
         ]
       ]
     ]
@@ -86,16 +79,16 @@ another_skips s reach h e w =
     is_false false h = refl
 
 pub group_skips : (s : Sought) (reach : Reach) → misses_tag (tells_group s.file) s.tag reach ≡ true → (e : Spanned Stretch) → IsWithin reach e → is_alike s e ≡ false
-group_skips s reach h e w = both_fail (tag_fits (tells_group s.file) s.tag e.tag) _ (other_tag (tells_group s.file) s.tag reach h e w)
+group_skips s reach h e w = and_left (tag_fits (tells_group s.file) s.tag e.tag) _ (other_tag (tells_group s.file) s.tag reach h e w)
 
 pub behind_skips : (s : Sought) (reach : Reach) → ((ltb reach.most s.code || misses_tag (tells_group s.file) s.tag reach) || falls_short (tells_order s.file) s.code s.tag reach) ≡ true → (e : Spanned Stretch) → IsWithin reach e → comes_behind s e ≡ false
 behind_skips s reach h e w =
     let rises = tag_rises (tells_order s.file) s.code e.code s.tag e.tag in
     elim (or_cases (ltb reach.most s.code || misses_tag (tells_group s.file) s.tag reach) (falls_short (tells_order s.file) s.code s.tag reach) h) [
-      | inr short ↦ both_fail rises _ (no_rise (tells_order s.file) s.code s.tag reach short e w)
+      | inr short ↦ and_left rises _ (no_rise (tells_order s.file) s.code s.tag reach short e w)
       | inl more ↦ elim (or_cases (ltb reach.most s.code) (misses_tag (tells_group s.file) s.tag reach) more) [
-        | inr tags ↦ second_fails rises _ (both_fail (is_alike s e) _ (group_skips s reach tags e w))
-        | inl below ↦ second_fails rises _ (second_fails (is_alike s e) _ (greater s.code e.code _ (let code = w.code in omega (arith, ltb-true reach.most s.code below))))
+        | inr tags ↦ and_right rises _ (and_left (is_alike s e) _ (group_skips s reach tags e w))
+        | inl below ↦ and_right rises _ (and_right (is_alike s e) _ (greater s.code e.code _ (let code = w.code in omega (arith, ltb-true reach.most s.code below))))
       ]
     ]
   where

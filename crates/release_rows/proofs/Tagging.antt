@@ -6,7 +6,7 @@ use Rattle.std.specs.Ordering.{ordering_then, nat_cmp, is_eq, is_lt}
 use Rattle.std.specs.Str.{bytes_eq}
 use Rattle.std.specs.declared.cmp.Ordering.{Ordering}
 use Rattle.std.specs.declared.cmp.Ordering.TheVariants.{Less, Equal, Greater}
-use Rattle.std.proofs.lemmas.Bool.{and_parts, cases_lt}
+use Rattle.std.proofs.lemmas.Bool.{and_parts, cases_lt, eq-eqb}
 use Rattle.std.proofs.lemmas.Bool.Decides.{nat_tests}
 use Rattle.std.proofs.lemmas.Map.Text.{is_eq-slice_cmp}
 use Rattle.std.proofs.lemmas.Slice.Eq.{bytes_eq-Decides}
@@ -17,7 +17,7 @@ use Rattle.source_rows.specs.KeyNames.{content_group, content_names, names_cmp}
 use Rattle.release_rows.specs.Searches.{has_names, is_of_group, is_row}
 use Rattle.release_rows.specs.Tags.{HasTag, behind_first, content_tag, digit, end_of, first_digit, is_inner, key_tag, number, tag_fits, tag_rises, tells_group, tells_key, tells_order}
 use Rattle.release_rows.proofs.ConditionTags.{conditions_number}
-use Rattle.release_rows.proofs.Texts.{equal_is, is_eq-then, same_text}
+use Rattle.release_rows.proofs.Texts.{equal_is, is_eq-then}
 
 -- ---- texts in order
 
@@ -217,11 +217,8 @@ guarded true b h = refl
 guarded false true h = absurd (let k = h refl in cc)
 guarded false false h = refl
 
-self_equal : (n : ℕ) → eqb n n ≡ true
-self_equal n = grind (arith, nat_tests)
-
 fits_by : (told : Bool) (a b : ℕ) → (told ≡ true → a ≡ b) → tag_fits told a b ≡ true
-fits_by true a b h = rw (h refl) (self_equal b)
+fits_by true a b h = rw (h refl) (eq-eqb b b refl)
 fits_by false a b h = refl
 
 pub names_same : (a b : List (List ℕ)) → is_eq (names_cmp a b) ≡ true → a ≡ b
@@ -230,7 +227,7 @@ names_same [] (y ∷ b) h = absurd cc
 names_same (x ∷ a) [] h = absurd cc
 names_same (x ∷ a) (y ∷ b) h =
     let both = and_parts (is_eq (slice_cmp nat_cmp x y)) (is_eq (names_cmp a b)) (sym (is_eq-then (slice_cmp nat_cmp x y) (names_cmp a b)) ∙ h) in
-    rw (same_text x y (sym (is_eq-slice_cmp x y) ∙ both.0), names_same a b both.1) refl
+    rw ((bytes_eq-Decides x y).0 (sym (is_eq-slice_cmp x y) ∙ both.0), names_same a b both.1) refl
 
 -- a row that has the names has the tag
 pub key_fits : (file : SourceFile) (a b : ℕ) (names : List (List ℕ)) (c : List ℕ) → (tells_key file ≡ true → a ≡ key_tag file names) → HasTag file b (content_names file c) (content_group file c) → has_names file names c ≡ true → tag_fits (tells_key file) a b ≡ true
@@ -241,7 +238,7 @@ key_fits file a b names c sought stored h =
 -- so has a row of the group
 pub group_fits : (file : SourceFile) (a b : ℕ) (names : List (List ℕ)) (group c : List ℕ) → HasTag file a names group → HasTag file b (content_names file c) (content_group file c) → is_of_group file group c ≡ true → tag_fits (tells_group file) a b ≡ true
 group_fits file a b names group c sought stored h =
-    let same = same_text group (content_group file c) (and_parts (is_row file c) (bytes_eq group (content_group file c)) h).1 in
+    let same = (bytes_eq-Decides group (content_group file c)).0 (and_parts (is_row file c) (bytes_eq group (content_group file c)) h).1 in
     fits_by (tells_group file) a b (λ told. sought.by_group told ∙ ap (λ (x : List ℕ). number (end_of x)) same ∙ sym (stored.by_group told))
 
 -- ---- and in order
@@ -288,5 +285,5 @@ rises PropertyValueAliases x y a b names others group s e h =
 pub order_rises : (file : SourceFile) (x y a b : ℕ) (names : List (List ℕ)) (group c : List ℕ) → HasTag file a names group → HasTag file b (content_names file c) (content_group file c) → (is_of_group file group c && is_lt (ordering_then (nat_cmp x y) (names_cmp names (content_names file c)))) ≡ true → tag_rises (tells_order file) x y a b ≡ true
 order_rises file x y a b names group c s e h =
     let both = and_parts (is_of_group file group c) (is_lt (ordering_then (nat_cmp x y) (names_cmp names (content_names file c)))) h in
-    let same = same_text group (content_group file c) (and_parts (is_row file c) (bytes_eq group (content_group file c)) both.0).1 in
+    let same = (bytes_eq-Decides group (content_group file c)).0 (and_parts (is_row file c) (bytes_eq group (content_group file c)) both.0).1 in
     rises file x y a b names (content_names file c) group s (subst (λ (g : List ℕ). HasTag file b (content_names file c) g) (sym same) e) both.1

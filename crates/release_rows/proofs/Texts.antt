@@ -1,5 +1,5 @@
 -- Texts and the names that stand in them: when they are the same.
-use Rattle.std.proofs.Common.{◌≡◌, ℕ, Bool, true, false, ◌&&◌, List, [], ◌∷◌, refl, sym, ap, ◌∙◌}
+use Rattle.std.proofs.Common.{◌≡◌, ℕ, true, ◌&&◌, List, [], ◌∷◌, refl, sym, ap, ◌∙◌}
 use Rattle.std.specs.declared.cmp.Ordering.{Ordering}
 use Rattle.std.specs.declared.cmp.Ordering.TheVariants.{Less, Equal, Greater}
 use Rattle.std.specs.Ordering.{ordering_then, is_eq}
@@ -8,6 +8,7 @@ use Rattle.std.specs.Str.{bytes_eq}
 use Rattle.std.proofs.lemmas.Bool.{and_parts, and_from}
 use Rattle.std.proofs.lemmas.List.Splits.{join_with_byte-slice_split}
 use Rattle.std.proofs.lemmas.Slice.Eq.{bytes_eq-Decides}
+use Rattle.std.specs.Cmp.{both_ways}
 use Rattle.source_rows.specs.Keys.{same_texts}
 use Rattle.release_rows.specs.Places.{names_of}
 
@@ -22,16 +23,13 @@ equal_is Less h = absurd cc
 equal_is Equal h = refl
 equal_is Greater h = absurd cc
 
-pub same_text : (a b : List ℕ) → bytes_eq a b ≡ true → a ≡ b
-same_text a b h = (bytes_eq-Decides a b).0 h
-
 pub texts_same : (a b : List (List ℕ)) → same_texts a b ≡ true → a ≡ b
 texts_same [] [] h = refl
 texts_same [] (y ∷ b) h = absurd cc
 texts_same (x ∷ a) [] h = absurd cc
 texts_same (x ∷ a) (y ∷ b) h =
     let parts = and_parts (bytes_eq x y) (same_texts a b) h in
-    rw (same_text x y parts.0, texts_same a b parts.1) refl
+    rw ((bytes_eq-Decides x y).0 parts.0, texts_same a b parts.1) refl
 
 -- texts are the same as themselves
 pub texts_itself : (a : List (List ℕ)) → same_texts a a ≡ true
@@ -46,13 +44,8 @@ joined_again (b ∷ bs) = join_with_byte-slice_split 59 (b ∷ bs)
 pub names_tell_text : (a b : List ℕ) → names_of a ≡ names_of b → a ≡ b
 names_tell_text a b h = sym (joined_again a) ∙ ap (λ (ns : List (List ℕ)). join_with_byte 59 ns) h ∙ joined_again b
 
-pub both_or_none : (p q : Bool) → (p ≡ true → q ≡ true) → (q ≡ true → p ≡ true) → p ≡ q
-both_or_none true q h k = sym (h refl)
-both_or_none false true h k = k refl
-both_or_none false false h k = refl
-
 -- texts are the same where their names are
 pub texts_tell_names : (a b : List ℕ) → bytes_eq a b ≡ same_texts (names_of a) (names_of b)
-texts_tell_names a b = both_or_none (bytes_eq a b) (same_texts (names_of a) (names_of b))
-    (λ h. ap (λ (x : List ℕ). same_texts (names_of a) (names_of x)) (sym (same_text a b h)) ∙ texts_itself (names_of a))
+texts_tell_names a b = both_ways (bytes_eq a b) (same_texts (names_of a) (names_of b))
+    (λ h. ap (λ (x : List ℕ). same_texts (names_of a) (names_of x)) (sym ((bytes_eq-Decides a b).0 h)) ∙ texts_itself (names_of a))
     (λ h. (bytes_eq-Decides a b).1 (names_tell_text a b (texts_same (names_of a) (names_of b) h)))

@@ -24,9 +24,6 @@ paths_of files = map (λ (file : NewFile). file.path) files
 
 -- ---- below one folder
 
-eq_self : (path : List ℕ) → bytes_eq path path ≡ true
-eq_self path = (bytes_eq-Decides path path).1 refl
-
 below_one : (folder a b : List ℕ) → bytes_eq (path_in folder a) (path_in folder b) ≡ bytes_eq a b
 below_one [] a b = refl
 below_one (x ∷ folder) a b =
@@ -53,7 +50,7 @@ pub put_own : (files : List NewFile) (holds : Contents) → all_apart (paths_of 
 put_own [] holds apart = All-nil (λ (file : NewFile). after [] holds file.path ≡ Some file.bytes)
 put_own (file ∷ files) holds apart =
     let parts = and_parts (others_of file.path (paths_of files)) (all_apart (paths_of files)) apart in
-    let here : put file holds file.path ≡ Some file.bytes = ap (λ (b : Bool). cond b (Some file.bytes) (holds file.path)) (eq_self file.path) in
+    let here : put file holds file.path ≡ Some file.bytes = ap (λ (b : Bool). cond b (Some file.bytes) (holds file.path)) ((bytes_eq-Decides file.path file.path).1 refl) in
     All-cons (λ (f : NewFile). after (file ∷ files) holds f.path ≡ Some f.bytes) file files
     (put_others files (put file holds) file.path parts.0 ∙ here)
     (put_own files (put file holds) parts.1)

@@ -8,12 +8,6 @@ use Rattle.std.proofs.lemmas.List.{take-append-drop}
 use Rattle.std.proofs.Math.Seq.{take-append_seam, drop-append_seam}
 use Rattle.ucd_points.specs.Fields.{is_name, is_label_closed_by, label_of}
 
-pub same_bytes : (xs ys : List ℕ) → bytes_eq xs ys ≡ true → xs ≡ ys
-same_bytes xs ys h = (bytes_eq-Decides xs ys).0 h
-
-pub bytes_same : (xs ys : List ℕ) → xs ≡ ys → bytes_eq xs ys ≡ true
-bytes_same xs ys h = (bytes_eq-Decides xs ys).1 h
-
 begins : (front closing : List ℕ) → is_name (drop 1 front) ≡ true → take 1 (front ++ closing) ≡ 60 ∷ [] → front ≡ 60 ∷ drop 1 front
 begins [] closing name h = absurd cc
 begins (f ∷ fs) closing name h = let first : f ≡ 60 = cc in ap (λ (b : ℕ). b ∷ fs) first
@@ -29,9 +23,9 @@ unfolding is_label_closed_by
 label_read closing bs h =
     let a = and_parts (bytes_eq (take 1 bs) (codes "<") && bytes_eq (back_of closing bs) closing) (is_name (label_of closing bs)) h in
     let b = and_parts (bytes_eq (take 1 bs) (codes "<")) (bytes_eq (back_of closing bs) closing) a.0 in
-    let back : back_of closing bs ≡ closing = same_bytes _ _ b.1 in
+    let back : back_of closing bs ≡ closing = (bytes_eq-Decides _ _).0 b.1 in
     let whole : bs ≡ front_of closing bs ++ closing = sym (take-append-drop (length bs - length closing) bs) ∙ ap (λ (xs : List ℕ). front_of closing bs ++ xs) back in
-    let first : take 1 (front_of closing bs ++ closing) ≡ 60 ∷ [] = ap (λ (xs : List ℕ). take 1 xs) (sym whole) ∙ same_bytes _ _ b.0 in
+    let first : take 1 (front_of closing bs ++ closing) ≡ 60 ∷ [] = ap (λ (xs : List ℕ). take 1 xs) (sym whole) ∙ (bytes_eq-Decides _ _).0 b.0 in
     let front : front_of closing bs ≡ 60 ∷ label_of closing bs = begins (front_of closing bs) closing a.1 first in
     (whole ∙ ap (λ (xs : List ℕ). xs ++ closing) front, a.1)
 
@@ -51,6 +45,6 @@ label_is label closing = ap (λ (xs : List ℕ). drop 1 xs) (front_given label c
 pub label_given : (label closing : List ℕ) → is_name label ≡ true → is_label_closed_by closing (60 ∷ label ++ closing) ≡ true
 unfolding is_label_closed_by
 label_given label closing name =
-    let back : bytes_eq (back_of closing (60 ∷ label ++ closing)) closing ≡ true = bytes_same _ _ (back_given label closing) in
+    let back : bytes_eq (back_of closing (60 ∷ label ++ closing)) closing ≡ true = (bytes_eq-Decides _ _).1 (back_given label closing) in
     let named : is_name (label_of closing (60 ∷ label ++ closing)) ≡ true = ap is_name (label_is label closing) ∙ name in
     and_from _ _ (and_from _ _ refl back) named

@@ -3,6 +3,7 @@ use Rattle.std.proofs.Common.{◌≡◌, ℕ, ◌≤◌, Bool, true, false, cond
 use Rattle.std.specs.Prelude.{codes}
 use Rattle.std.specs.Str.{bytes_eq}
 use Rattle.std.proofs.lemmas.Bool.{eqb-true, eq-eqb, leb-true, le-leb, and_parts, and_from}
+use Rattle.std.proofs.lemmas.Slice.Eq.{bytes_eq-Decides}
 use Rattle.ucd_points.specs.Bounds.{Bounds}
 use Rattle.ucd_points.specs.Fields.{field, point_of, is_name, is_range_name, label_of}
 use Rattle.ucd_facts.specs.DataLines.{ReadsValues, ReadsSingle, ReadsPair, kept_of}
@@ -16,7 +17,7 @@ use Rattle.source_rows.specs.DataFaults.{values_or_fault, unit_of, unit_or_fault
 use Rattle.source_rows.specs.declared.data_values.Values.{Values}
 use Rattle.source_rows.specs.declared.fault.RowFault.{RowFault}
 use Rattle.source_rows.specs.declared.fault.RowFault.TheVariants.{G03, G04, G09, G11}
-use Rattle.source_rows.proofs.Labels.{same_bytes, bytes_same, label_read, label_is, label_given}
+use Rattle.source_rows.proofs.Labels.{label_read, label_is, label_given}
 use Rattle.source_rows.proofs.DataGrammar.{ValuesAre, values_read, values_given}
 use Rattle.source_rows.proofs.Found.{passed, failed, found, after}
 
@@ -105,7 +106,7 @@ end_read label lo last span h =
     let c = passed (leb lo b.0) (Ok (record { lo = lo; hi = b.0 })) G04 span b.2 in
     let same : record { lo = lo; hi = b.0 } ≡ span = cc in
     let name = (label_read (codes ", Last>") (field last 1) m.0).0 in
-    let named : field last 1 ≡ codes "<" ++ label ++ codes ", Last>" = name ∙ ap (λ (l : List ℕ). codes "<" ++ l ++ codes ", Last>") (same_bytes (last_label last) label m.1) in
+    let named : field last 1 ≡ codes "<" ++ label ++ codes ", Last>" = name ∙ ap (λ (l : List ℕ). codes "<" ++ l ++ codes ", Last>") ((bytes_eq-Decides (last_label last) label).0 m.1) in
     subst (λ (s : Bounds). EndIs label lo last s) same (record { count = eqb-true _ _ n.0; name = named; from = refl; code = b.1; ordered = leb-true lo b.0 c.0 })
 
 abbrev with_lo : List (List ℕ) → List (List ℕ) → ℕ → Result Row RowFault
@@ -124,7 +125,7 @@ pair_read first last row h =
 
 last_given : (label name : List ℕ) → is_name label ≡ true → name ≡ codes "<" ++ label ++ codes ", Last>" → (has_last_name name ≡ true) × (bytes_eq (label_of (codes ", Last>") name) label ≡ true)
 last_given label name named e =
-    (ap has_last_name e ∙ label_given label (codes ", Last>") named, bytes_same _ _ (ap (λ (n : List ℕ). label_of (codes ", Last>") n) e ∙ label_is label (codes ", Last>")))
+    (ap has_last_name e ∙ label_given label (codes ", Last>") named, (bytes_eq-Decides _ _).1 (ap (λ (n : List ℕ). label_of (codes ", Last>") n) e ∙ label_is label (codes ", Last>")))
 
 end_given : (first last : List (List ℕ)) (row : DataRow) → ReadsPair first last row → pair_end row.name row.span.lo last ≡ Ok row.span
 unfolding pair_end

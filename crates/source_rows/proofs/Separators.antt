@@ -1,7 +1,7 @@
 -- The separators of a line, and what is none.
 use Rattle.std.proofs.Common.{◌≡◌, ℕ, ◌<◌, ◌≤◌, Bool, true, false, List, [], ◌∷◌, refl, arith}
 use Rattle.std.specs.List.{list_all}
-use Rattle.std.proofs.lemmas.Bool.{ne_eqb, and_parts, leb-true}
+use Rattle.std.proofs.lemmas.Bool.{ne_eqb, and_parts, leb-true, not-true}
 use Rattle.std.proofs.lemmas.Bool.Decides.{nat_tests}
 use Rattle.std.specs.Prelude.{nat_le, ◌&&◌, not, ◌==◌}
 use Rattle.ucd_points.specs.Lines.{is_lf}
@@ -41,12 +41,8 @@ feed_separates = record { digit = no_feed_digit; decimal = λ b low high. ne_eqb
 
 -- ---- names
 
-not_semicolon : (b : Bool) → not b ≡ true → b ≡ false
-not_semicolon true h = absurd cc
-not_semicolon false h = refl
-
 name_semicolon : (b : ℕ) → is_name_byte b ≡ true → is_semicolon b ≡ false
-name_semicolon b h = not_semicolon (is_semicolon b) (and_parts (nat_le 32 b && nat_le b 126) (not (b == 59)) h).1
+name_semicolon b h = not-true (is_semicolon b) (and_parts (nat_le 32 b && nat_le b 126) (not (b == 59)) h).1
 
 name_feed : (b : ℕ) → is_name_byte b ≡ true → is_lf b ≡ false
 name_feed b h =

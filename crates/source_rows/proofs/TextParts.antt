@@ -3,16 +3,13 @@ use Rattle.std.proofs.Common.{◌≡◌, ℕ, List, [], ◌∷◌, ◌++◌, len
 use Rattle.std.specs.Prelude.{codes, OnOk}
 use Rattle.std.specs.Fmt.{decimal}
 use Rattle.std.proofs.lemmas.List.{append-nil, take_all}
+use Rattle.std.proofs.lemmas.Result.{on_ok_weaker}
 use Rattle.ucd_facts.specs.Names.{category_code}
 use Rattle.ucd_points.specs.HexText.{hex_text}
 use Rattle.ucd_facts.specs.RowTexts.{mapping_text, spaced, decomposition_text, case_text, data_line, names_text}
 use Rattle.ucd_facts.specs.RowTextLemmas.{mapping_text-is}
 use Rattle.ucd_facts.specs.declared.row.DataRow.{DataRow}
 use Rattle.source_rows.specs.Texts.{ended, named}
-
-pub on_ok : {T E P Q : Type 0} (r : Result T E) → (P → Q) → OnOk r P → OnOk r Q
-on_ok (Ok x) f h = f h
-on_ok (Err e) f h = h
 
 pub no_points : mapping_text [] ≡ []
 unfolding mapping_text

@@ -1,7 +1,8 @@
 -- A code point of which a new release says what the old one says breaks no policy but P20, and P10 maybe.
 use Rattle.std.proofs.Common.{◌≡◌, ◌≢◌, ◌<◌, ℕ, Bool, true, false, ◌&&◌, ◌||◌, ◌==◌, not, List, [], refl, ap, ap₂, sym, subst, ◌∙◌, arith, inl, inr}
 use Rattle.std.specs.Str.{bytes_eq}
-use Rattle.std.proofs.lemmas.Bool.{cases_lt, eq-eqb}
+use Rattle.std.proofs.lemmas.Bool.{cases_lt, eq-eqb, and_right}
+use Rattle.std.proofs.Math.Bool.{and-not_self}
 use Rattle.ucd_model.specs.CanonicalOrder.{class_of, order}
 use Rattle.ucd_facts.specs.Composites.{is_canonical}
 use Rattle.ucd_facts.specs.EnumerationProofs.{place-injective}
@@ -28,16 +29,8 @@ use Rattle.stability_policies.proofs.UniformBreaks.{no_pair}
 
 -- ---- formulas over the same values
 
-never : (b : Bool) → (b && not b) ≡ false
-never true = refl
-never false = refl
-
 lost : (a b : Bool) → a ≡ b → (a && not b) ≡ false
-lost a b e = ap (λ x. x && not b) e ∙ never b
-
-none_right : (a b : Bool) → b ≡ false → (a && b) ≡ false
-none_right true b e = e
-none_right false b e = refl
+lost a b e = ap (λ x. x && not b) e ∙ and-not_self b
 
 in_both : (b : Bool) → in_one b b ≡ false
 in_both true = refl
@@ -47,11 +40,11 @@ alike : (a b : Bool) → a ≡ b → in_one a b ≡ false
 alike a b e = ap (λ x. in_one x b) e ∙ in_both b
 
 same_number : (a b : Bool) (m n : ℕ) → m ≡ n → (a && (b && not (m == n))) ≡ false
-same_number a b m n e = none_right a _ (none_right b _ (ap not (eq-eqb m n e)))
+same_number a b m n e = and_right a _ (and_right b _ (ap not (eq-eqb m n e)))
 
 same_sort : (a b : Bool) (k l : Kind) (s t : List ℕ) → k ≡ l → s ≡ [] → t ≡ [] → (a && (b && not ((sort_of k == sort_of l) && bytes_eq s t))) ≡ false
 same_sort a b k l s t e p q =
-    none_right a _ (none_right b _ (ap₂ (λ x y. not (x && y)) (eq-eqb (sort_of k) (sort_of l) (ap sort_of e)) (ap₂ bytes_eq p q)))
+    and_right a _ (and_right b _ (ap₂ (λ x y. not (x && y)) (eq-eqb (sort_of k) (sort_of l) (ap sort_of e)) (ap₂ bytes_eq p q)))
 
 -- ---- policy by policy
 
@@ -95,10 +88,10 @@ module _ (O N : ℕ → Facts) (c : ℕ) (is : IsKept c (O c) (N c) (core_at O c
       (alike ((O c).flag PatternWhiteSpace) ((N c).flag PatternWhiteSpace) (is.flag PatternWhiteSpace))
 
   kept_P18 : breaks P18 O N c ≡ false
-  kept_P18 = none_right (is_canonical (N c).kind) (second_maps N (N c).mapping) (ap (second_maps N) is.new_mapping)
+  kept_P18 = and_right (is_canonical (N c).kind) (second_maps N (N c).mapping) (ap (second_maps N) is.new_mapping)
 
   kept_P19 : breaks P19 O N c ≡ false
-  kept_P19 = none_right (is_canonical (N c).kind) _ (ap (λ m. not (bytes_eq (order (class_of N) m) m)) is.new_mapping)
+  kept_P19 = and_right (is_canonical (N c).kind) _ (ap (λ m. not (bytes_eq (order (class_of N) m) m)) is.new_mapping)
 
   kept_core : (core : Core) → (core_at O c core && not (core_at N c core)) ≡ false
   kept_core core = lost (core_at O c core) (core_at N c core) (is.core core)

@@ -2,7 +2,7 @@
 use Rattle.std.proofs.Common.{◌≡◌, ℕ, zero, suc, ◌+◌, ◌<◌, Bool, true, false, cond, ◌&&◌, ◌||◌, not, ◌==◌, List, [], ◌∷◌, ◌++◌, drop, map, filter, Option, Some, None, Result, Ok, Err, is_some, refl, sym, ap, subst, ◌∙◌, arith, inl, inr}
 use Rattle.std.specs.List.{AllByRecursion as Each, flat_map, list_all, list_any, range_with_len}
 use Rattle.std.specs.Str.{bytes_eq}
-use Rattle.std.proofs.lemmas.Bool.{and_parts, cases_lt, eq-eqb, eqb-true}
+use Rattle.std.proofs.lemmas.Bool.{and_parts, cases_lt, eq-eqb, eqb-true, not-false, or_parts}
 use Rattle.std.proofs.lemmas.Slice.Eq.{bytes_eq-Decides}
 use Rattle.release_rows.specs.Releases.{ReleaseItems, rows_now}
 use Rattle.ucd_facts.specs.Composites.{first_has_class_zero, is_canonical, primary}
@@ -34,20 +34,8 @@ use Rattle.stability_policies.proofs.PointLemmas.{filter_more}
 
 -- ---- tests
 
-or_left_false : (a b : Bool) → (a || b) ≡ false → a ≡ false
-or_left_false true b e = e
-or_left_false false b e = refl
-
-or_right_false : (a b : Bool) → (a || b) ≡ false → b ≡ false
-or_right_false true b e = absurd cc
-or_right_false false b e = e
-
 true_false : {A : Type 0} → true ≡ false → A
 true_false e = absurd cc
-
-not_false : (a : Bool) → not a ≡ false → a ≡ true
-not_false true e = refl
-not_false false e = cc
 
 and_left_true : (a b : Bool) → a ≡ true → (a && b) ≡ false → b ≡ false
 and_left_true true b is e = e
@@ -59,15 +47,15 @@ all_each p (c ∷ s) e = let parts = and_parts (p c) (list_all p s) e in (parts.
 
 none_each : (p : ℕ → Bool) (s : List ℕ) → list_any (λ c. not (p c)) s ≡ false → Each (λ c. p c ≡ true) s
 none_each p [] e = tt
-none_each p (c ∷ s) e = (not_false (p c) (or_left_false (not (p c)) (list_any (λ d. not (p d)) s) e), none_each p s (or_right_false (not (p c)) (list_any (λ d. not (p d)) s) e))
+none_each p (c ∷ s) e = (not-false (p c) (or_parts (not (p c)) (list_any (λ d. not (p d)) s) e).0, none_each p s (or_parts (not (p c)) (list_any (λ d. not (p d)) s) e).1)
 
 -- ---- what is not listed
 
 any_append : {X : Type 0} (p : X → Bool) (xs ys : List X) → list_any p (xs ++ ys) ≡ false → (list_any p xs ≡ false) × (list_any p ys ≡ false)
 any_append p [] ys e = (refl, e)
 any_append p (x ∷ xs) ys e =
-    let rest = any_append p xs ys (or_right_false (p x) (list_any p (xs ++ ys)) e) in
-    (rw (or_left_false (p x) (list_any p (xs ++ ys)) e, rest.0) refl, rest.1)
+    let rest = any_append p xs ys (or_parts (p x) (list_any p (xs ++ ys)) e).1 in
+    (rw ((or_parts (p x) (list_any p (xs ++ ys)) e).0, rest.0) refl, rest.1)
 
 module _ {X : Type 0} (p : Break → Bool) (f : X → List Break) where
   first : (x : X) (xs : List X) → list_any p (flat_map f (x ∷ xs)) ≡ false → list_any p (f x) ≡ false
@@ -86,7 +74,7 @@ is_of_own policy x = eq-eqb (place_of_policy policy) (place_of_policy policy) re
 
 none_listed : (policy : Policy) (xs : List ℕ) → list_any (is_of policy) (map (At policy) xs) ≡ false → xs ≡ []
 none_listed policy [] e = refl
-none_listed policy (x ∷ xs) e = true_false (sym (is_of_own policy x) ∙ or_left_false (is_of policy (At policy x)) (list_any (is_of policy) (map (At policy) xs)) e)
+none_listed policy (x ∷ xs) e = true_false (sym (is_of_own policy x) ∙ (or_parts (is_of policy (At policy x)) (list_any (is_of policy) (map (At policy) xs)) e).0)
 
 append_nil : {X : Type 0} (xs ys : List X) → (let l : List X = xs ++ ys in l ≡ []) → (xs ≡ []) × (ys ≡ [])
 append_nil [] ys e = (refl, e)
@@ -174,7 +162,7 @@ primary_rooted rows c e = rooted rows c (and_parts (is_canonical (facts rows c).
 -- ---- what stays
 
 kept : (a b t : Bool) → a ≡ true → b ≡ true → (a && (b && not t)) ≡ false → t ≡ true
-kept a b t old new e = not_false t (and_left_true b (not t) new (and_left_true a (b && not t) old e))
+kept a b t old new e = not-false t (and_left_true b (not t) new (and_left_true a (b && not t) old e))
 
 mapping_members : (F : ℕ → Facts) (c : ℕ) (m : List ℕ) (b : Bool) → bytes_eq m (c ∷ []) ≡ b → Old F c → (not b && list_any (λ x. not (F x).assigned) m) ≡ false → Each (Old F) m
 mapping_members F c m true is old e = subst (Each (Old F)) (sym ((bytes_eq-Decides m (c ∷ [])).0 is)) (old, tt)
@@ -188,7 +176,7 @@ gained false o a p is e = absurd cc
 -- where no code point breaks the policies on forms
 pub stays_by : (O N : ℕ → Facts) → IsRooted O N → IsQuiet O N P01 → IsQuiet O N P03 → IsQuiet O N P04 → IsQuiet O N P05 → StaysNormal O N
 stays_by O N roots no_loss no_class no_mapping no_composite =
-    let still : (c : ℕ) → Old O c → (N c).assigned ≡ true = λ c is. not_false (N c).assigned (and_left_true (O c).assigned (not (N c).assigned) is (no_loss c (roots.within c is))) in
+    let still : (c : ℕ) → Old O c → (N c).assigned ≡ true = λ c is. not-false (N c).assigned (and_left_true (O c).assigned (not (N c).assigned) is (no_loss c (roots.within c is))) in
     let mapped : (c : ℕ) → Old O c → same_mapping (O c) (N c) ≡ true = λ c is. kept (O c).assigned (N c).assigned (same_mapping (O c) (N c)) is (still c is) (no_mapping c (roots.within c is)) in
     record {
       class = λ c is. eqb-true (O c).class (N c).class (kept (O c).assigned (N c).assigned ((O c).class == (N c).class) is (still c is) (no_class c (roots.within c is)));
@@ -197,8 +185,8 @@ stays_by O N roots no_loss no_class no_mapping no_composite =
       members = roots.members;
       composed = λ c is.
           let row : Old O c = roots.composites c is in
-          (row, not_false (primary N c) (and_left_true (primary O c) (not (primary N c)) is (or_left_false (primary O c && not (primary N c)) _ (no_composite c (roots.within c row)))));
-      composing = λ c is none. gained (primary N c) (primary O c) (all_assigned O (N c).mapping) is none (or_right_false (primary O c && not (primary N c)) _ (no_composite c (roots.later c is)));
+          (row, not-false (primary N c) (and_left_true (primary O c) (not (primary N c)) is (or_parts (primary O c && not (primary N c)) _ (no_composite c (roots.within c row))).0));
+      composing = λ c is none. gained (primary N c) (primary O c) (all_assigned O (N c).mapping) is none (or_parts (primary O c && not (primary N c)) _ (no_composite c (roots.later c is))).1;
     }
 
 module _ (old new : ReleaseItems) where
@@ -218,7 +206,7 @@ module _ (old new : ReleaseItems) where
   members_old valid c is =
       let lt : c < point_count = point_of (rows_now old) c is in
       let rules = broken-rules F c (broken-none F c (have_records valid c lt)) in
-      let first : lacks_row F c (F c).mapping ≡ false = or_left_false (lacks_row F c (F c).mapping) _ rules.rows in
+      let first : lacks_row F c (F c).mapping ≡ false = (or_parts (lacks_row F c (F c).mapping) _ rules.rows).0 in
       mapping_members F c (F c).mapping (bytes_eq (F c).mapping (c ∷ [])) refl is first
 
   pub has_rows : IsValid old → IsRooted F G
@@ -234,11 +222,11 @@ module _ (old new : ReleaseItems) where
       stays_by F G (has_rows valid) (quiet_assigned old new keeps.assigned) (quiet_class old new keeps.class) (quiet_mapping old new keeps.mapping) (quiet_composites old new keeps.composites)
 
   pub stays_assigned : KeepsForms (report old new) → (c : ℕ) → Old F c → Old G c
-  stays_assigned keeps c is = not_false (G c).assigned (and_left_true (F c).assigned (not (G c).assigned) is (quiet_assigned old new keeps.assigned c (point_of (rows_now old) c is)))
+  stays_assigned keeps c is = not-false (G c).assigned (and_left_true (F c).assigned (not (G c).assigned) is (quiet_assigned old new keeps.assigned c (point_of (rows_now old) c is)))
 
   pub folds_alike : ListsNone P10 (report old new) → FoldsAlike F G
   folds_alike none c is =
-      not_false (same_list (caseless F (c ∷ [])) (caseless G (c ∷ [])))
+      not-false (same_list (caseless F (c ∷ [])) (caseless G (c ∷ [])))
       (and_left_true (F c).assigned (not (same_list (caseless F (c ∷ [])) (caseless G (c ∷ [])))) is (quiet_foldings old new none c (point_of (rows_now old) c is)))
 
   pub each_old : (s : List ℕ) → AllAssigned F s → Each (Old F) s

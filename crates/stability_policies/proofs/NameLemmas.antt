@@ -1,7 +1,7 @@
 -- The names of code points, row after row.
 use Rattle.std.proofs.Common.{◌≡◌, ℕ, ◌+◌, ◌<◌, ◌≤◌, Bool, true, false, cond, ◌&&◌, leb, if◌then◌else◌, List, [], ◌∷◌, ◌++◌, ◌-◌, map, filter, find, Some, None, refl, sym, ap, subst, ◌∙◌, arith, inl, inr}
 use Rattle.std.specs.List.{range_with_len}
-use Rattle.std.proofs.lemmas.Bool.{cases_lt}
+use Rattle.std.proofs.lemmas.Bool.{cases_lt, le-leb, lt-leb}
 use Rattle.std.proofs.lemmas.Bool.Decides.{nat_tests}
 use mathlib.Core.Path.{fun_ext}
 use Rattle.release_rows.specs.Releases.{ReleaseItems, rows_now}
@@ -46,12 +46,6 @@ outside_above c a b lt = grind (arith, nat_tests)
 inside : (c a b : ℕ) → a ≤ c → c ≤ b → (leb a c && leb c b) ≡ true
 inside c a b from to = grind (arith, nat_tests)
 
-le_true : (a b : ℕ) → a ≤ b → leb a b ≡ true
-le_true a b le = grind (arith, nat_tests)
-
-le_false : (a b : ℕ) → b < a → leb a b ≡ false
-le_false a b lt = grind (arith, nat_tests)
-
 pub none_below : (n c : ℕ) (rows : List NamedRow) → AreAbove n rows → c < n → name_at rows c ≡ None
 none_below n c [] above lt = refl
 none_below n c (row ∷ rows) above lt =
@@ -65,12 +59,12 @@ pub name_same : (n c : ℕ) (rows : List NamedRow) → BeginsAt n rows → n ≤
 name_same n c [] begins from lt = refl
 name_same n c (row ∷ rows) begins from lt = elim (cases_lt n row.span.lo) [
   | inr le ↦
-      let test : leb row.span.lo n ≡ true = le_true row.span.lo n le in
+      let test : leb row.span.lo n ≡ true = le-leb row.span.lo n le in
       let end : end_at n (row ∷ rows) ≡ row.span.hi + 1 = ap (λ b. if b then row.span.hi + 1 else row.span.lo) test in
       let cover : within c row.span ≡ true = inside c row.span.lo row.span.hi (omega arith) (omega (arith, lt, end)) in
       ap (λ b. if b then Some row.name else name_at rows c) cover ∙ sym (ap (λ b. if b then Some row.name else None) test)
   | inl past ↦
-      let test : leb row.span.lo n ≡ false = le_false row.span.lo n past in
+      let test : leb row.span.lo n ≡ false = lt-leb row.span.lo n past in
       let end : end_at n (row ∷ rows) ≡ row.span.lo = ap (λ b. if b then row.span.hi + 1 else row.span.lo) test in
       let before : c < row.span.lo = omega (arith, lt, end) in
       let ordered : row.span.lo ≤ row.span.hi = begins.1 in
@@ -88,8 +82,8 @@ whole_rest rows above = record { begins = begins_above 0 rows above; same = λ c
 
 end_within : (row : NamedRow) (rows : List NamedRow) (n e : ℕ) → e ≤ end_at n (row ∷ rows) → row.span.lo ≤ row.span.hi → e ≤ row.span.hi + 1
 end_within row rows n e to ordered = elim (cases_lt n row.span.lo) [
-  | inr le ↦ let end : end_at n (row ∷ rows) ≡ row.span.hi + 1 = ap (λ b. if b then row.span.hi + 1 else row.span.lo) (le_true row.span.lo n le) in omega (arith, to, end)
-  | inl past ↦ let end : end_at n (row ∷ rows) ≡ row.span.lo = ap (λ b. if b then row.span.hi + 1 else row.span.lo) (le_false row.span.lo n past) in omega (arith, to, end)
+  | inr le ↦ let end : end_at n (row ∷ rows) ≡ row.span.hi + 1 = ap (λ b. if b then row.span.hi + 1 else row.span.lo) (le-leb row.span.lo n le) in omega (arith, to, end)
+  | inl past ↦ let end : end_at n (row ∷ rows) ≡ row.span.lo = ap (λ b. if b then row.span.hi + 1 else row.span.lo) (lt-leb row.span.lo n past) in omega (arith, to, end)
 ]
 
 -- what is left behind e, which is at most one past the end of the first row
@@ -97,10 +91,10 @@ pub rest_behind : (whole rest : List NamedRow) (n e : ℕ) → n ≤ e → e ≤
 rest_behind whole [] n e from to left = record { begins = tt; same = λ c le. left.same c (omega arith) }
 rest_behind whole (row ∷ rows) n e from to left = elim (cases_lt row.span.hi e) [
   | inr le ↦
-      let same : left_behind e (row ∷ rows) ≡ row ∷ rows = ap (λ b. if b then row ∷ rows else rows) (le_true e row.span.hi le) in
+      let same : left_behind e (row ∷ rows) ≡ row ∷ rows = ap (λ b. if b then row ∷ rows else rows) (le-leb e row.span.hi le) in
       subst (IsRest whole e) (sym same) (record { begins = (le, left.begins.1, left.begins.2); same = λ c k. left.same c (omega arith) })
   | inl past ↦
-      let same : left_behind e (row ∷ rows) ≡ rows = ap (λ b. if b then row ∷ rows else rows) (le_false e row.span.hi past) in
+      let same : left_behind e (row ∷ rows) ≡ rows = ap (λ b. if b then row ∷ rows else rows) (lt-leb e row.span.hi past) in
       let ordered : row.span.lo ≤ row.span.hi = left.begins.1 in
       let here : n ≤ row.span.hi = left.begins.0 in
       let end : e ≤ row.span.hi + 1 = end_within row rows n e to ordered in

@@ -4,6 +4,7 @@ use Rattle.std.specs.List.{All, list_any}
 use Rattle.std.proofs.lemmas.Bool.Decides.{nat_tests}
 use Rattle.std.proofs.lemmas.List.{append-nil}
 use Rattle.std.proofs.lemmas.List.Elements.{All-cons, All-head, All-nil}
+use Rattle.std.proofs.lemmas.Bool.{or_parts}
 use Rattle.ucd_points.specs.MissingLines.{is_trivia}
 use Rattle.ucd_facts.specs.RowValues.{RowOk}
 use Rattle.ucd_points.specs.declared.files.SourceFile.TheVariants.{UnicodeData}
@@ -45,17 +46,9 @@ no_second_rule true overlap e = absurd cc
 no_second_rule false true e = absurd cc
 no_second_rule false false e = refl
 
-or_left_false : (a b : Bool) → (a || b) ≡ false → a ≡ false
-or_left_false true b e = e
-or_left_false false b e = refl
-
-or_right_false : (a b : Bool) → (a || b) ≡ false → b ≡ false
-or_right_false true b e = absurd cc
-or_right_false false b e = e
-
 any_last : {X : Type 0} (p : X → Bool) (xs : List X) (x : X) → list_any p (xs ++ x ∷ []) ≡ false → p x ≡ false
-any_last p [] x e = or_left_false (p x) false e
-any_last p (y ∷ xs) x e = any_last p xs x (or_right_false (p y) (list_any p (xs ++ x ∷ [])) e)
+any_last p [] x e = (or_parts (p x) false e).0
+any_last p (y ∷ xs) x e = any_last p xs x (or_parts (p y) (list_any p (xs ++ x ∷ [])) e).1
 
 apart_spans : (a b d e : ℕ) → d ≤ a → a ≤ b → (leb a e && leb d b) ≡ false → e + 1 ≤ a
 apart_spans a b d e from ordered meet = grind (arith, nat_tests)

@@ -11,7 +11,7 @@ use Rattle.std.specs.Ordering.{is_eq, is_lt, nat_cmp, ordering_reverse, ordering
 use Rattle.std.specs.declared.cmp.Ordering.{Ordering}
 use Rattle.std.specs.declared.cmp.Ordering.TheVariants.{Less, Equal, Greater}
 use Rattle.std.specs.Str.{bytes_eq}
-use Rattle.std.proofs.lemmas.Bool.{cases_lt, eqb-true}
+use Rattle.std.proofs.lemmas.Bool.{cases_lt, eqb-true, and_parts, false_from_ne_true, or_right}
 use Rattle.std.proofs.lemmas.Bool.Decides.{nat_tests}
 use Rattle.std.proofs.lemmas.List.{get_or_past, get_or_default}
 use Rattle.std.proofs.lemmas.List.Folds.{Any-from_list_any, list_any_at, list_any-append}
@@ -26,15 +26,6 @@ use Rattle.stability_policies.specs.NamePlaces.{AreNames, IsNext, NoneFrom, entr
 
 abbrev pub Entry : Type 0
 Entry = Bor (List ℕ) × ℕ
-
-pub absent : (b : Bool) → (b ≡ true → ⊥) → b ≡ false
-absent true h = absurd (h refl)
-absent false h = refl
-
-both : (a b : Bool) → (a && b) ≡ true → (a ≡ true) × (b ≡ true)
-both true true h = (refl, refl)
-both true false h = absurd (cc)
-both false b h = absurd (cc)
 
 -- ---- the order
 
@@ -91,7 +82,7 @@ module _ (rows : List (List (List ℕ))) (entries : List Entry) (h : AreNames ro
   stands : (p : ℕ) → has_name rows x.0.now p ≡ true → Stands p
   stands p has =
       let found = Any-from_list_any (is_at x.0.now p) entries (h.whole x.0.now p ∙ has) in
-      let is = both (bytes_eq x.0.now found.1.0.now) (found.1.1 == p) found.4 in
+      let is = and_parts (bytes_eq x.0.now found.1.0.now) (found.1.1 == p) found.4 in
       record { place = found.0; entry = found.1; inside = found.2; at = found.3; named = sym ((bytes_eq-Decides x.0.now found.1.0.now).0 is.0); of = eqb-true found.1.1 p is.1 }
 
   has_it : (i : ℕ) (a : Entry) → i < length entries → get_or entries i a ≡ a → a.0.now ≡ x.0.now → has_name rows x.0.now a.1 ≡ true
@@ -103,7 +94,7 @@ module _ (rows : List (List (List ℕ))) (entries : List Entry) (h : AreNames ro
   -- no row at p has the name, if no entry from i on tells it
   none_at : (i p : ℕ) → IsPartitionPoint (λ (y : Entry). entry_cmp y x ≡ Less) (λ (y : Entry). entry_cmp y x ≡ Greater) entries i → x.1 ≤ p
       → ((s : Stands p) → i ≤ s.place → ⊥) → has_name rows x.0.now p ≡ false
-  none_at i p point le later = absent (has_name rows x.0.now p) (λ has.
+  none_at i p point le later = false_from_ne_true (has_name rows x.0.now p) (λ has.
       let s = stands p has in
       elim (cases_lt s.place i) [
         | inl before ↦
@@ -188,7 +179,7 @@ module _ (file : SourceFile) (rows : List (List (List ℕ))) (names : List (List
   loses false all not = refl
 
   pub none_keeps : (start : ℕ) → NoneBefore start → length rows ≤ start → list_any (keeps_names file names) rows ≡ false
-  none_keeps start none past = absent (list_any (keeps_names file names) rows) (λ some.
+  none_keeps start none past = false_from_ne_true (list_any (keeps_names file names) rows) (λ some.
       let found = Any-from_list_any (keeps_names file names) rows some in
       let not = none found.0 (let lt = found.2 in omega (arith, lt, past)) in
       let at : get_or rows found.0 [] ≡ found.1 = get_or_default rows found.0 [] found.1 found.2 ∙ found.3 in
@@ -208,10 +199,6 @@ module _ (file : SourceFile) (rows : List (List (List ℕ))) (names : List (List
   ]) (omega arith)
 
 -- ---- a row keeps its own names
-
-or_right : (a b : Bool) → b ≡ true → (a || b) ≡ true
-or_right true b h = refl
-or_right false b h = h
 
 itself : (name : List ℕ) → bytes_eq name name ≡ true
 itself name = (bytes_eq-Decides name name).1 refl

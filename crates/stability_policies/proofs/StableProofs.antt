@@ -6,6 +6,7 @@ use Rattle.std.proofs.lemmas.List.{append-nil}
 use Rattle.std.proofs.lemmas.List.Elements.{All-head, All-tail}
 use Rattle.std.specs.List.{All}
 use Rattle.std.proofs.lemmas.Slice.Eq.{bytes_eq-Decides}
+use Rattle.std.specs.Cmp.{both_ways}
 use mathlib.Core.Path.{fun_ext}
 use Rattle.ucd_model.specs.CanonicalOrder.{class_of, order}
 use Rattle.ucd_model.specs.Casing.{fold, fold_of}
@@ -35,11 +36,6 @@ some_same xs ys e = cc
 
 ok_same : (xs ys : List ℕ) → (let x : Result (List ℕ) Rule = Ok xs in x ≡ Ok ys) → xs ≡ ys
 ok_same xs ys e = cc
-
-same_bool : (a b : Bool) → (a ≡ true → b ≡ true) → (b ≡ true → a ≡ true) → a ≡ b
-same_bool true b to from = sym (to refl)
-same_bool false true to from = from refl
-same_bool false false to from = refl
 
 true_false : {A : Type 0} → true ≡ false → A
 true_false e = absurd cc
@@ -182,7 +178,7 @@ module _ (O N : ℕ → Facts) (stays : StaysNormal O N) where
   unfolding pair_of
   pair_same s y first second =
       ap (λ (p : ℕ → Bool). find p (range_with_len 0 point_count))
-      (fun_ext (λ q. same_bool (composes O s y q) (composes N s y q) (composes_to s y q) (composes_by s y q (primary O q) first second refl)))
+      (fun_ext (λ q. both_ways (composes O s y q) (composes N s y q) (composes_to s y q) (composes_by s y q (primary O q) first second refl)))
 
   pair_old : (s y q : ℕ) → pair_of O s y ≡ Some q → Old O q
   pair_old s y q e = (stays.composed q (primary_of_pair O s y q e)).0

@@ -2,6 +2,7 @@
 use Rattle.std.proofs.Common.{◌≡◌, ℕ, Bool, true, false, ◌&&◌, ◌||◌, not, ◌==◌, ◌<◌, ◌≤◌, [], ◌∷◌, Ok, refl, sym, ap, ◌∙◌, arith, inl, inr}
 use Rattle.std.specs.Str.{bytes_eq}
 use Rattle.std.proofs.lemmas.Bool.{cases_lt, eq-eqb}
+use Rattle.std.proofs.Math.Bool.{and-false, or-true}
 use Rattle.ucd_model.specs.Casing.{where_form}
 use Rattle.ucd_facts.specs.Composites.{primary}
 use Rattle.ucd_facts.specs.Facts.{Facts, image_points}
@@ -18,14 +19,6 @@ use Rattle.stability_policies.proofs.PlainLemmas.{caseless_plain, nfkc_plain, pr
 and_self : (b : Bool) → (b && (b && true)) ≡ b
 and_self true = refl
 and_self false = refl
-
-and_false : (b : Bool) → (b && false) ≡ false
-and_false true = refl
-and_false false = refl
-
-or_true : (b : Bool) → (b || true) ≡ true
-or_true true = refl
-or_true false = refl
 
 abbrev keeps_folding : (ℕ → Facts) → (ℕ → Facts) → ℕ → Bool
 keeps_folding O N e = not (O e).assigned || bytes_eq (image_points e (O e).fold) (image_points e (N e).fold)
@@ -68,7 +61,7 @@ module _ (O N : ℕ → Facts) (c d : ℕ) (p : IsPlain c (O c)) (u : Uniform O 
       let before : caseless O (e ∷ []) ≡ Ok (e ∷ []) = caseless_plain O e r in
       let after : caseless N (e ∷ []) ≡ Ok (e ∷ []) = caseless_plain N e s in
       let same : same_list (Ok (e ∷ [])) (Ok (e ∷ [])) ≡ true = same_bytes (e ∷ []) in
-      rw (before, after) (ap (λ b. (O e).assigned && not b) same ∙ and_false (O e).assigned)
+      rw (before, after) (ap (λ b. (O e).assigned && not b) same ∙ and-false (O e).assigned)
 
   pub same_breaks : (policy : Policy) → breaks policy O N d ≡ breaks policy O N c
   same_breaks P01 = rw (u.alike.assigned, v.alike.assigned) refl
@@ -97,7 +90,7 @@ module _ (O N : ℕ → Facts) (c d : ℕ) (p : IsPlain c (O c)) (u : Uniform O 
   folding_kept : (e : ℕ) → IsPlain e (O e) → IsPlain e (N e) → keeps_folding O N e ≡ true
   folding_kept e r s =
       ap (λ i. not (O e).assigned || bytes_eq (image_points e i) (image_points e (N e).fold)) r.fold ∙ ap (λ i. not (O e).assigned || bytes_eq (e ∷ []) (image_points e i)) s.fold
-      ∙ ap (λ b. not (O e).assigned || b) (same_bytes (e ∷ [])) ∙ or_true (not (O e).assigned)
+      ∙ ap (λ b. not (O e).assigned || b) (same_bytes (e ∷ [])) ∙ or-true (not (O e).assigned)
 
   pub same_forms_kept : keeps_forms O N d ≡ keeps_forms O N c
   same_forms_kept =

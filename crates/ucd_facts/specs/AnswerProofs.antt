@@ -2,10 +2,9 @@
 --
 -- queries_are_told         the law of the same name
 -- same_query-equivalence   the test is an equivalence
--- same_bool                two tests are the same where each holds if the other does
-use Rattle.std.proofs.Common.{◌≡◌, ℕ, Bool, true, false, ◌==◌, refl, sym, ap}
+use Rattle.std.proofs.Common.{◌≡◌, ℕ, true, false, ◌==◌, refl, sym, ap}
 use Rattle.std.specs.Bool.{Decides}
-use Rattle.std.specs.Cmp.{IsEquivalence}
+use Rattle.std.specs.Cmp.{IsEquivalence, both_ways}
 use Rattle.std.proofs.lemmas.Bool.{true≢false, eqb-true, eq-eqb}
 use Rattle.std.proofs.lemmas.Bool.Decides.{Decides-and, Decides-eqb}
 use Rattle.ucd_facts.specs.declared.query.Query.{Query}
@@ -28,14 +27,9 @@ queries_are_told (Pair s x) (Second y) = differ (λ e. cc)
 queries_are_told (Second x) (Row y) = differ (λ e. cc)
 queries_are_told (Second x) (Pair s y) = differ (λ e. cc)
 
-pub same_bool : (a b : Bool) → (a ≡ true → b ≡ true) → (b ≡ true → a ≡ true) → a ≡ b
-same_bool true b f g = sym (f refl)
-same_bool false true f g = g refl
-same_bool false false f g = refl
-
 pub same_query-equivalence : IsEquivalence same_query
 same_query-equivalence = record {
   refl = λ x. (queries_are_told x x).1 refl;
-  symm = λ x y. same_bool (same_query x y) (same_query y x) (λ e. (queries_are_told y x).1 (sym ((queries_are_told x y).0 e))) (λ e. (queries_are_told x y).1 (sym ((queries_are_told y x).0 e)));
+  symm = λ x y. both_ways (same_query x y) (same_query y x) (λ e. (queries_are_told y x).1 (sym ((queries_are_told x y).0 e))) (λ e. (queries_are_told x y).1 (sym ((queries_are_told y x).0 e)));
   congr = λ x y z e. ap (λ q. same_query q z) ((queries_are_told x y).0 e);
 }

@@ -19,7 +19,7 @@ use Rattle.std.specs.Bool.{Decides}
 use Rattle.std.proofs.lemmas.Bool.{and_parts, eqb-true, eq-eqb}
 use Rattle.std.proofs.lemmas.List.FromFn.{get_or-range_with_len}
 use Rattle.std.proofs.Math.ListN.{get_or-map}
-use Rattle.std.proofs.lemmas.Option.{get_or_from_slice_get, slice_get-get_or, slice_get-map}
+use Rattle.std.proofs.lemmas.Option.{get_or_from_slice_get, slice_get-get_or, slice_get-map, same_Some}
 use Rattle.ucd_facts.specs.Enumerations.{derived_files, IsEnumeration, EnumerationsAreWhole, categories, statuses, tags, place_of_tag, kinds, place_of_kind, flags, place_of_derived, foldings, place_of_folding, forms, place_of_form, quick_values, place_of_quick, rules, place_of_rule}
 use Rattle.ucd_facts.specs.Facts.{status_place}
 use Rattle.ucd_facts.specs.Predicates.{category_place, core_properties}
@@ -244,12 +244,9 @@ enumerations_are_whole = record {
 
 -- ---- true of the list, so true of each
 
-some_same : {X : Type 0} (a b : X) → Some a ≡ Some b → a ≡ b
-some_same a b e = cc
-
 true_at : {X : Type 0} (p : X → Bool) (xs : List X) (i : ℕ) (x : X) → list_all p xs ≡ true → slice_get xs i ≡ Some x → p x ≡ true
 true_at p [] i x all e = cc
-true_at p (y ∷ xs) zero x all e = ap p (some_same x y (sym e)) ∙ (and_parts (p y) (list_all p xs) all).0
+true_at p (y ∷ xs) zero x all e = ap p (same_Some x y (sym e)) ∙ (and_parts (p y) (list_all p xs) all).0
 true_at p (y ∷ xs) (suc i) x all e = true_at p xs i x (and_parts (p y) (list_all p xs) all).1 e
 
 below_at : {X : Type 0} (xs : List X) (i : ℕ) (x : X) → slice_get xs i ≡ Some x → i < length xs
@@ -265,7 +262,7 @@ module _ {X : Type 0} (values : List X) (place : X → ℕ) (whole : IsEnumerati
   place-below x = below_at values (place x) x (whole.each x)
 
   pub place-injective : (x y : X) → place x ≡ place y → x ≡ y
-  place-injective x y e = some_same x y (sym (whole.each x) ∙ ap (slice_get values) e ∙ whole.each y)
+  place-injective x y e = same_Some x y (sym (whole.each x) ∙ ap (slice_get values) e ∙ whole.each y)
 
   pub value-at : (x d : X) → get_or values (place x) d ≡ x
   value-at x d = get_or_from_slice_get values (place x) x d (whole.each x)

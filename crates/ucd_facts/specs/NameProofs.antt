@@ -1,28 +1,20 @@
 -- Proofs of the laws of names. No word but those of the laws is defined here for others.
 --
 -- categories_are_spelled, statuses_are_spelled, tag_texts_are_names, names_tell_values   the laws of the same names
-use Rattle.std.proofs.Common.{◌≡◌, ◌≢◌, ℕ, ◌≤◌, Bool, true, false, ◌&&◌, ◌||◌, not, ◌==◌, if◌then◌else◌, List, [], ◌∷◌, ◌++◌, map, Option, Some, None, refl, sym, ap, ◌∙◌, arith, ◌⊎◌, inl, inr, codes}
-use Rattle.std.specs.Fmt.{decimal}
-use Rattle.std.specs.List.{All, list_all, slice_split, join_with_byte}
+use Rattle.std.proofs.Common.{◌≡◌, ◌≢◌, ℕ, ◌≤◌, Bool, true, false, ◌&&◌, ◌||◌, not, ◌==◌, if◌then◌else◌, List, [], ◌∷◌, ◌++◌, Option, Some, None, refl, sym, ap, ◌∙◌, ◌⊎◌, inl, inr, codes}
+use Rattle.std.specs.List.{list_all}
 use Rattle.std.specs.Str.{bytes_eq}
-use Rattle.std.proofs.lemmas.Bool.{true≢false, and_parts, or_cases, eqb-true, ne_eqb, not-true, cases_eq}
-use Rattle.std.proofs.lemmas.Fmt.{decimal_injective}
-use Rattle.std.proofs.lemmas.List.{append_cancel_left}
-use Rattle.std.proofs.lemmas.List.Elements.{All-weaker, All-head, All-tail}
-use Rattle.std.proofs.lemmas.List.Splits.{slice_split_none, slice_split_at}
+use Rattle.std.proofs.lemmas.Bool.{true≢false, and_parts, or_cases, eqb-true, not-true}
 use Rattle.std.proofs.lemmas.Slice.Eq.{bytes_eq-Decides}
-use Rattle.ucd_points.specs.Fields.{point_of}
+use Rattle.std.proofs.lemmas.Option.{same_Some}
 use Rattle.ucd_facts.specs.Names.{category_of, category_code, status_of, status_code, tag_text, tag_name, flag_name, core_name, derived_path}
 use Rattle.ucd_points.specs.SourceFiles.{source_path}
-use Rattle.ucd_points.specs.HexText.{hex_text}
-use Rattle.ucd_facts.specs.Enumerations.{derived_files, categories, statuses, tags, place_of_tag, kinds, place_of_kind, flags, place_of_derived}
-use Rattle.ucd_points.specs.HexTextLaws.{IsUpperHex}
-use Rattle.ucd_points.specs.HexTextProofs.{hex_text_is_upper_case, hex_text_spells_its_point}
+use Rattle.ucd_facts.specs.Enumerations.{derived_files, categories, statuses, tags, place_of_tag, flags, place_of_derived}
 use Rattle.ucd_facts.specs.Facts.{status_place}
 use Rattle.ucd_facts.specs.Predicates.{category_place, core_properties}
 use Rattle.ucd_facts.specs.Sets.{flag_place, core_place}
 use Rattle.ucd_points.specs.SourceFiles.{source_files, file_place}
-use Rattle.ucd_facts.specs.EnumerationProofs.{enumerates_categories, enumerates_statuses, enumerates_tags, enumerates_kinds, enumerates_flags, enumerates_core_properties, enumerates_source_files, enumerates_derived_files, true_of_each, place-injective, text-injective}
+use Rattle.ucd_facts.specs.EnumerationProofs.{enumerates_categories, enumerates_statuses, enumerates_tags, enumerates_flags, enumerates_core_properties, enumerates_source_files, enumerates_derived_files, true_of_each, place-injective, text-injective}
 use Rattle.ucd_facts.specs.NameLaws.{CategoriesAreSpelled, StatusesAreSpelled, TagTextsAreNames, NamesTellValues}
 use Rattle.ucd_facts.specs.declared.category.Category.{Category}
 use Rattle.ucd_facts.specs.declared.category.Category.TheVariants.{Lu, Ll, Lt, Lm, Lo, Mn, Mc, Me, Nd, Nl, No, Pc, Pd, Ps, Pe, Pi, Pf, Po, Sm, Sc, Sk, So, Zs, Zl, Zp, Cc, Cf, Cs, Co, Cn}
@@ -30,9 +22,6 @@ use Rattle.ucd_facts.specs.declared.row.FoldStatus.{FoldStatus}
 use Rattle.ucd_facts.specs.declared.row.FoldStatus.TheVariants as status
 
 -- ---- what a ladder of tests gives: a list of numbers, each with its value
-
-some_same : {X : Type 0} (a b : X) → Some a ≡ Some b → a ≡ b
-some_same a b e = cc
 
 if_some : {X : Type 0} (a n : ℕ) (r s : Option X) (x : X) (t : Bool) → (a == n) ≡ t → (if t then r else s) ≡ Some x → ((a ≡ n) × (r ≡ Some x)) ⊎ (s ≡ Some x)
 if_some a n r s x true e is = inl (eqb-true a n e, is)
@@ -47,7 +36,7 @@ named-true p [] b x all is = cc
 named-true p (e ∷ rest) b x all is =
     let parts = and_parts (p e.0 e.1) (list_all (λ e. p e.0 e.1) rest) all in
     elim (if_some b e.0 (Some e.1) (named rest b) x (b == e.0) refl is) [
-      | inl here ↦ ap (λ n. p n x) here.0 ∙ ap (p e.0) (sym (some_same e.1 x here.1)) ∙ parts.0
+      | inl here ↦ ap (λ n. p n x) here.0 ∙ ap (p e.0) (sym (same_Some e.1 x here.1)) ∙ parts.0
       | inr later ↦ named-true p rest b x parts.1 later
     ]
 

@@ -3,6 +3,7 @@ use Rattle.std.proofs.Common.{◌≡◌, ◌≢◌, ℕ, zero, suc, ◌-◌, ◌
 use Rattle.std.specs.List.{slice_split, onto_first, list_any, join_with_byte}
 use Rattle.std.proofs.lemmas.List.{append_assoc, append-nil, length-append}
 use Rattle.std.proofs.lemmas.List.Splits.{join_with_byte-slice_split, length-slice_split}
+use Rattle.std.proofs.lemmas.Bool.{or_parts}
 use Rattle.ucd_points.specs.Lines.{LineItem, LineEnding, unended, lf, cr_lf, is_lf, ending_bytes, without_return, ends_in_return, ended_item, contents_of_pieces, contents, items_of_pieces, items_of, item_bytes, joined}
 use Rattle.ucd_lines.specs.Laws.{IsLine, AreLines}
 use Rattle.ucd_lines.proofs.ItemCuts.{ended}
@@ -71,14 +72,10 @@ split_lacks : (bs : List ℕ) → AllLack (slice_split is_lf bs)
 split_lacks [] = (refl, tt)
 split_lacks (b ∷ bs) = split_step b bs (is_lf b) refl (split_lacks bs)
 
-first_lacks : (b c : Bool) → (b || c) ≡ false → (b ≡ false) × (c ≡ false)
-first_lacks true c h = absurd cc
-first_lacks false c h = (refl, h)
-
 take_lacks : (n : ℕ) (bs : List ℕ) → Lacks bs → Lacks (take n bs)
 take_lacks zero bs h = refl
 take_lacks (suc n) [] h = refl
-take_lacks (suc n) (b ∷ bs) h = let parts = first_lacks (is_lf b) (list_any is_lf bs) h in rw parts.0 (take_lacks n bs parts.1)
+take_lacks (suc n) (b ∷ bs) h = let parts = or_parts (is_lf b) (list_any is_lf bs) h in rw parts.0 (take_lacks n bs parts.1)
 
 content_lacks : (piece : List ℕ) (cr : Bool) → ends_in_return piece ≡ cr → Lacks piece → Lacks (without_return piece)
 content_lacks piece true e h = rw e (take_lacks (length piece - 1) piece h)
@@ -114,11 +111,11 @@ is_line bytes front item rest e = line_behind front item rest (rw e at (are_line
 
 split_behind : (bs after : List ℕ) → Lacks bs → slice_split is_lf (bs ++ 10 ∷ after) ≡ bs ∷ slice_split is_lf after
 split_behind [] after h = refl
-split_behind (b ∷ bs) after h = let parts = first_lacks (is_lf b) (list_any is_lf bs) h in rw (parts.0, split_behind bs after parts.1) refl
+split_behind (b ∷ bs) after h = let parts = or_parts (is_lf b) (list_any is_lf bs) h in rw (parts.0, split_behind bs after parts.1) refl
 
 split_lone : (bs : List ℕ) → Lacks bs → slice_split is_lf bs ≡ bs ∷ []
 split_lone [] h = refl
-split_lone (b ∷ bs) h = let parts = first_lacks (is_lf b) (list_any is_lf bs) h in rw (parts.0, split_lone bs parts.1) refl
+split_lone (b ∷ bs) h = let parts = or_parts (is_lf b) (list_any is_lf bs) h in rw (parts.0, split_lone bs parts.1) refl
 
 behind : (piece after : List ℕ) → Lacks piece → items_of (piece ++ 10 ∷ after) ≡ ended_item piece ∷ items_of after
 unfolding items_of
@@ -131,7 +128,7 @@ lone (b ∷ bs) h some = rw (split_lone (b ∷ bs) h) refl
 
 with_return_lacks : (bs : List ℕ) → Lacks bs → Lacks (bs ++ 13 ∷ [])
 with_return_lacks [] h = refl
-with_return_lacks (b ∷ bs) h = let parts = first_lacks (is_lf b) (list_any is_lf bs) h in rw parts.0 (with_return_lacks bs parts.1)
+with_return_lacks (b ∷ bs) h = let parts = or_parts (is_lf b) (list_any is_lf bs) h in rw parts.0 (with_return_lacks bs parts.1)
 
 first_line_of : (content : List ℕ) (ending : LineEnding) (rest : List LineItem) → IsLine (record { content = content; ending = ending }) rest → items_of (joined rest) ≡ rest → items_of ((content ++ ending_bytes ending) ++ joined rest) ≡ record { content = content; ending = ending } ∷ rest
 first_line_of content unended rest h e =

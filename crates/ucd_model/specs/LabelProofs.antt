@@ -2,44 +2,33 @@
 --
 -- labels_tell_values   the law of the same name
 -- mapping_text-injective   two mappings of one code point or more with one text are one
-use Rattle.std.proofs.Common.{◌≡◌, ◌≢◌, ℕ, ◌≤◌, Bool, true, false, ◌&&◌, ◌||◌, not, ◌==◌, if◌then◌else◌, List, [], ◌∷◌, ◌++◌, map, Option, Some, None, refl, sym, ap, ◌∙◌, arith, ◌⊎◌, inl, inr, codes}
+use Rattle.std.proofs.Common.{◌≡◌, ◌≢◌, ℕ, ◌≤◌, Bool, true, false, ◌&&◌, ◌||◌, ◌==◌, if◌then◌else◌, List, [], ◌∷◌, ◌++◌, map, Some, None, refl, sym, ap, ◌∙◌, arith, ◌⊎◌, inl, inr, codes}
 use Rattle.std.specs.Fmt.{decimal}
-use Rattle.std.specs.List.{All, list_all, slice_split, join_with_byte}
+use Rattle.std.specs.List.{All, slice_split, join_with_byte}
 use Rattle.std.specs.Str.{bytes_eq}
-use Rattle.std.proofs.lemmas.Bool.{true≢false, and_parts, or_cases, eqb-true, ne_eqb, not-true, cases_eq}
+use Rattle.std.proofs.lemmas.Bool.{true≢false, ne_eqb, cases_eq}
 use Rattle.std.proofs.lemmas.Fmt.{decimal_injective}
 use Rattle.std.proofs.lemmas.List.{append_cancel_left}
 use Rattle.std.proofs.lemmas.List.Elements.{All-weaker, All-head, All-tail}
 use Rattle.std.proofs.lemmas.List.Splits.{slice_split_none, slice_split_at}
-use Rattle.std.proofs.lemmas.Slice.Eq.{bytes_eq-Decides}
+use Rattle.std.proofs.lemmas.Option.{same_Some}
 use Rattle.ucd_points.specs.Fields.{point_of}
-use Rattle.ucd_facts.specs.Names.{category_of, category_code, status_of, status_code, tag_text, tag_name, flag_name, core_name, derived_path}
-use Rattle.ucd_points.specs.SourceFiles.{source_path}
 use Rattle.ucd_model.specs.Labels.{Label}
 use Rattle.ucd_points.specs.HexText.{hex_text}
 use Rattle.ucd_model.specs.DerivedFiles.{listed, binary_label, category_label, class_label, kind_label, quick_label, image_text, casefold_label}
-use Rattle.ucd_facts.specs.Enumerations.{derived_files, categories, statuses, tags, place_of_tag, kinds, place_of_kind, flags, place_of_derived}
+use Rattle.ucd_facts.specs.Enumerations.{categories, kinds, place_of_kind}
 use Rattle.ucd_points.specs.HexTextLaws.{IsUpperHex}
 use Rattle.ucd_points.specs.HexTextProofs.{hex_text_is_upper_case, hex_text_spells_its_point}
 use Rattle.ucd_facts.specs.RowTexts.{mapping_text}
 use Rattle.ucd_facts.specs.RowValues.{IsPoint}
-use Rattle.ucd_facts.specs.Facts.{status_place}
-use Rattle.ucd_facts.specs.Predicates.{category_place, core_properties}
-use Rattle.ucd_facts.specs.Sets.{flag_place, core_place}
-use Rattle.ucd_points.specs.SourceFiles.{source_files, file_place}
-use Rattle.ucd_facts.specs.EnumerationProofs.{enumerates_categories, enumerates_statuses, enumerates_tags, enumerates_kinds, enumerates_flags, enumerates_core_properties, enumerates_source_files, enumerates_derived_files, true_of_each, place-injective, text-injective}
+use Rattle.ucd_facts.specs.Predicates.{category_place}
+use Rattle.ucd_facts.specs.EnumerationProofs.{enumerates_categories, enumerates_kinds, text-injective}
 use Rattle.ucd_model.specs.LabelLaws.{HasPoints, LabelsTellValues}
-use Rattle.ucd_facts.specs.declared.category.Category.{Category}
-use Rattle.ucd_facts.specs.declared.category.Category.TheVariants.{Lu, Ll, Lt, Lm, Lo, Mn, Mc, Me, Nd, Nl, No, Pc, Pd, Ps, Pe, Pi, Pf, Po, Sm, Sc, Sk, So, Zs, Zl, Zp, Cc, Cf, Cs, Co, Cn}
 use Rattle.ucd_facts.specs.declared.form.Quick.{Quick}
 use Rattle.ucd_facts.specs.declared.form.Quick.TheVariants.{Yes, No as NoValue, Maybe}
 use Rattle.ucd_facts.specs.declared.image.Image.{Image}
 use Rattle.ucd_facts.specs.declared.image.Image.TheVariants.{Same, To}
-use Rattle.ucd_facts.specs.declared.row.FoldStatus.{FoldStatus}
 use Rattle.ucd_facts.specs.declared.row.FoldStatus.TheVariants as status
-
-some_same : {X : Type 0} (a b : X) → Some a ≡ Some b → a ≡ b
-some_same a b e = cc
 
 -- ---- labels
 
@@ -60,13 +49,13 @@ class_told m n small below e =
       | inr some ↦ elim (cases_eq n 0) [
         | inl none ↦ let wrong : listed (decimal m) ≡ None = sym (class_zero m some) ∙ e ∙ ap class_label none in cc
         | inr other ↦ decimal_injective m n (omega (arith, small)) (omega (arith, below))
-            (append_cancel_left (codes " ; ") (decimal m) (decimal n) (some_same (codes " ; " ++ decimal m) (codes " ; " ++ decimal n) (sym (class_zero m some) ∙ e ∙ class_zero n other)))
+            (append_cancel_left (codes " ; ") (decimal m) (decimal n) (same_Some (codes " ; " ++ decimal m) (codes " ; " ++ decimal n) (sym (class_zero m some) ∙ e ∙ class_zero n other)))
       ]
     ]
 
 no_is_maybe : (name : List ℕ) → quick_label name NoValue ≡ quick_label name Maybe → ⊥
 no_is_maybe name e =
-    let behind = append_cancel_left (codes " ; ") (name ++ codes " ; N") (name ++ codes " ; M") (some_same (codes " ; " ++ name ++ codes " ; N") (codes " ; " ++ name ++ codes " ; M") e) in
+    let behind = append_cancel_left (codes " ; ") (name ++ codes " ; N") (name ++ codes " ; M") (same_Some (codes " ; " ++ name ++ codes " ; N") (codes " ; " ++ name ++ codes " ; M") e) in
     let letters = append_cancel_left name (codes " ; N") (codes " ; M") behind in
     true≢false (ap (bytes_eq (codes " ; N")) letters)
 
@@ -109,7 +98,7 @@ same_points [] (d ∷ ds) p q e = cc
 same_points (c ∷ cs) [] p q e = cc
 same_points (c ∷ cs) (d ∷ ds) p q e =
     let parts = same_head (hex_text c) (hex_text d) (map hex_text cs) (map hex_text ds) e in
-    let first : c ≡ d = some_same c d (sym (hex_text_spells_its_point c (All-head IsPoint c cs p)) ∙ ap point_of parts.0 ∙ hex_text_spells_its_point d (All-head IsPoint d ds q)) in
+    let first : c ≡ d = same_Some c d (sym (hex_text_spells_its_point c (All-head IsPoint c cs p)) ∙ ap point_of parts.0 ∙ hex_text_spells_its_point d (All-head IsPoint d ds q)) in
     let rest : cs ≡ ds = same_points cs ds (All-tail IsPoint c cs p) (All-tail IsPoint d ds q) parts.1 in
     cc
 
@@ -122,7 +111,7 @@ mapping_text-injective c d cs ds p q e =
 value_told : (name value other : List ℕ) → ◌≡◌ {A = Label} (listed (name ++ value)) (listed (name ++ other)) → value ≡ other
 value_told name value other e =
     append_cancel_left name value other
-    (append_cancel_left (codes " ; ") (name ++ value) (name ++ other) (some_same (codes " ; " ++ name ++ value) (codes " ; " ++ name ++ other) e))
+    (append_cancel_left (codes " ; ") (name ++ value) (name ++ other) (same_Some (codes " ; " ++ name ++ value) (codes " ; " ++ name ++ other) e))
 
 no_points : (d : ℕ) (ds : List ℕ) → image_text [] ≡ image_text (d ∷ ds) → ⊥
 no_points d ds e =

@@ -2,10 +2,10 @@
 --
 -- members_are_told, records_are_told, facts_are_told, sets_are_told, kept_records_are_told   the laws of the same names
 -- same_image-decides, same_cores-decides, same_flags-decides, same_kind-decides   the parts of the tests decide equality
-use Rattle.std.proofs.Common.{◌≡◌, ℕ, zero, suc, ◌<◌, ◌^◌, Bool, true, ◌&&◌, ◌==◌, List, [], ◌∷◌, length, get_or, slice_index_or, refl, sym, ap, subst, arith, inl, inr}
+use Rattle.std.proofs.Common.{◌≡◌, ℕ, zero, suc, ◌<◌, ◌^◌, Bool, true, ◌&&◌, ◌==◌, List, [], ◌∷◌, length, slice_index_or, refl, sym, ap, arith, inl, inr}
 use mathlib.Core.Path.{fun_ext}
 use Rattle.std.specs.Bool.{Decides, beq}
-use Rattle.std.specs.Cmp.{booleans_Decides}
+use Rattle.std.specs.Cmp.{booleans_Decides, unsigned_Decides}
 use Rattle.std.specs.List.{Contains, list_all}
 use Rattle.std.specs.Str.{bytes_eq}
 use Rattle.std.proofs.lemmas.Bool.{true≢false, eqb-true, eq-eqb, or_cases, or_left, or_right, and_from}
@@ -49,9 +49,6 @@ members_are_told xs c = (any_contains xs c, λ has. contains_any xs has.0 c has.
 
 decides_as : {P Q : Type 0} (r : Bool) → Decides r P → (P → Q) → (Q → P) → Decides r Q
 decides_as r d f g = (λ t. f (d.0 t), λ q. d.1 (g q))
-
-nat_decides : (a b : ℕ) → Decides (a == b) (a ≡ b)
-nat_decides a b = (eqb-true a b, eq-eqb a b)
 
 category_decides : (a b : Category) → Decides (category_place a == category_place b) (a ≡ b)
 category_decides = place-decides categories category_place enumerates_categories
@@ -103,7 +100,7 @@ record_fields R S e =
 pub records_are_told : RecordsAreTold
 records_are_told R S =
     decides_as (same_record R S)
-    (both_decide (category_decides R.category S.category) (both_decide (nat_decides R.class S.class) (both_decide (same_kind-decides R.kind S.kind)
+    (both_decide (category_decides R.category S.category) (both_decide (unsigned_Decides R.class S.class) (both_decide (same_kind-decides R.kind S.kind)
     (both_decide (same_cores-decides R.core S.core) (both_decide (booleans_Decides R.exclusion S.exclusion)
     (both_decide (quick_decides R.nfd S.nfd) (both_decide (quick_decides R.nfc S.nfc) (both_decide (quick_decides R.nfkd S.nfkd) (both_decide (quick_decides R.nfkc S.nfkc)
     (both_decide (same_image-decides R.casefold S.casefold) (both_decide (same_image-decides R.simple_casefold S.simple_casefold) (booleans_Decides R.changes_casefold S.changes_casefold))))))))))))
@@ -115,13 +112,13 @@ abbrev SameRow : Facts → Facts → Type 0
 SameRow F G = (F.assigned ≡ G.assigned) × ((F.category ≡ G.category) × ((F.class ≡ G.class) × ((F.kind ≡ G.kind) × ((F.mapping ≡ G.mapping)))))
 
 row_decides : (F G : Facts) → Decides (same_row F G) (SameRow F G)
-row_decides F G = both_decide (booleans_Decides F.assigned G.assigned) (both_decide (category_decides F.category G.category) (both_decide (nat_decides F.class G.class) (both_decide (same_kind-decides F.kind G.kind) (bytes_eq-Decides F.mapping G.mapping))))
+row_decides F G = both_decide (booleans_Decides F.assigned G.assigned) (both_decide (category_decides F.category G.category) (both_decide (unsigned_Decides F.class G.class) (both_decide (same_kind-decides F.kind G.kind) (bytes_eq-Decides F.mapping G.mapping))))
 
 abbrev SameSimple : Facts → Facts → Type 0
 SameSimple F G = (F.simple_upper ≡ G.simple_upper) × ((F.simple_lower ≡ G.simple_lower) × ((F.simple_title ≡ G.simple_title) × ((F.simple_fold ≡ G.simple_fold))))
 
 simple_decides : (F G : Facts) → Decides (same_simple F G) (SameSimple F G)
-simple_decides F G = both_decide (nat_decides F.simple_upper G.simple_upper) (both_decide (nat_decides F.simple_lower G.simple_lower) (both_decide (nat_decides F.simple_title G.simple_title) (nat_decides F.simple_fold G.simple_fold)))
+simple_decides F G = both_decide (unsigned_Decides F.simple_upper G.simple_upper) (both_decide (unsigned_Decides F.simple_lower G.simple_lower) (both_decide (unsigned_Decides F.simple_title G.simple_title) (unsigned_Decides F.simple_fold G.simple_fold)))
 
 abbrev SameImages : Facts → Facts → Type 0
 SameImages F G = (F.upper ≡ G.upper) × ((F.lower ≡ G.lower) × ((F.title ≡ G.title) × ((F.fold ≡ G.fold))))

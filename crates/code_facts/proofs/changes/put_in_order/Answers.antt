@@ -1,11 +1,10 @@
 use Rattle.std.proofs.Common.{◌≡◌, Bool, true, List, sym, ◌∙◌}
 use Rattle.std.specs.List.{Contains, dedup, list_any}
-use Rattle.std.specs.Cmp.{IsEquivalence}
+use Rattle.std.specs.Cmp.{IsEquivalence, both_ways}
 use Rattle.std.proofs.lemmas.List.Filters.{dedup_is}
 use Rattle.std.proofs.lemmas.List.Folds.{Any-from_list_any, list_any-from_Any}
 use Rattle.std.proofs.lemmas.List.Kept.{Contains-dedup, Contains-from_dedup, IsStrictlySortedBy-dedup}
 use Rattle.std.proofs.lemmas.List.Sorted.{list_any-IsPermutation}
-use Rattle.code_facts.proofs.ChangeLemmas.{same_by}
 use Rattle.code_facts.proofs.changes.put_in_order.Goals as goal
 
 any_by : {X : Type 0} (p : X → Bool) (xs ys : List X) → ((x : X) → Contains xs x → Contains ys x) → list_any p xs ≡ true → list_any p ys ≡ true
@@ -17,7 +16,7 @@ any_by p xs ys all is =
 -- one of each passes the same tests
 any_dedup : {X : Type 0} (E : X → X → Bool) (p : X → Bool) (xs : List X) → IsEquivalence E → ((x y : X) → E x y ≡ true → x ≡ y) → list_any p (dedup E xs) ≡ list_any p xs
 any_dedup E p xs laws same =
-    same_by (list_any p (dedup E xs)) (list_any p xs) (any_by p (dedup E xs) xs (Contains-from_dedup E xs)) (any_by p xs (dedup E xs) (Contains-dedup laws same xs))
+    both_ways (list_any p (dedup E xs)) (list_any p xs) (any_by p (dedup E xs) xs (Contains-from_dedup E xs)) (any_by p xs (dedup E xs) (Contains-dedup laws same xs))
 
 pub returns-clause-same : goal.returns-clause-same
 returns-clause-same g c p =

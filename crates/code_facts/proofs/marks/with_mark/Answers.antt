@@ -1,9 +1,10 @@
 use Rattle.std.proofs.Common.{◌≡◌, ◌+◌, length, ap, ◌∙◌, arith}
 use Rattle.std.proofs.lemmas.Bool.Decides.{nat_tests}
 use Rattle.std.specs.List.{list_any}
+use Rattle.std.proofs.lemmas.Result.{IfOk-weaker}
 use Rattle.ucd_facts.specs.Facts.{within}
 use Rattle.range_table.specs.RunTable.{values_now}
-use Rattle.code_facts.proofs.MarkLemmas.{if_ok_map, bit_of, no_bit, cond_small}
+use Rattle.code_facts.proofs.MarkLemmas.{bit_of, no_bit, cond_small}
 use Rattle.code_facts.proofs.marks.with_mark.Goals as goal
 
 pub returns-then-is_empty : goal.returns-then-is_empty
@@ -17,5 +18,5 @@ summed-requires c k lt =
 
 pub returns : goal.returns
 returns c = λ sources keeps.
-    if_ok_map c.summed.result _ _ (λ sum h k lt.
+    IfOk-weaker c.summed.result _ _ (λ sum h k lt.
     h k lt ∙ ap (λ n. values_now c.args.table k + n) (c.in_ok-one.ensures k lt ∙ bit_of c.in_ok-spans.spans.items c.args.mark sources k c.word.result lt (c.in_ok-spans.ensures sources keeps) c.word.ensures.value)) c.summed.ensures

@@ -1,8 +1,9 @@
 use Rattle.std.proofs.Common.{◌∙◌, refl, append_assoc}
-use Rattle.source_rows.proofs.TextParts.{on_ok, line_parts}
+use Rattle.std.proofs.lemmas.Result.{on_ok_weaker}
+use Rattle.source_rows.proofs.TextParts.{line_parts}
 use Rattle.source_rows.proofs.put_data.put_line.Goals as goal
 
 pub returns : goal.returns
 returns c =
     let parts = line_parts c.args.row.now c.args.point c.args.name.now in
-    on_ok c.put_cases.result (λ e. e ∙ rw (c.in_ok-put_kept.ensures, c.in_ok-put_decomposed.ensures, c.in_ok-put_front.ensures, parts) (simp append_assoc refl)) c.put_cases.ensures
+    on_ok_weaker c.put_cases.result (λ e. e ∙ rw (c.in_ok-put_kept.ensures, c.in_ok-put_decomposed.ensures, c.in_ok-put_front.ensures, parts) (simp append_assoc refl)) c.put_cases.ensures

@@ -1,8 +1,9 @@
 use Rattle.std.proofs.Common.{◌≡◌, length, drop, ap, ◌∙◌, arith}
+use Rattle.std.proofs.lemmas.Result.{on_ok_weaker, on_err_weaker}
 use Rattle.range_table.specs.Values.{with_span}
 use Rattle.paged_table.specs.Blocks.{values}
 use Rattle.paged_table.specs.Paged.{Paged, values_next}
-use Rattle.paged_table.proofs.Steps.{on_ok, on_err, refill}
+use Rattle.paged_table.proofs.Steps.{refill}
 use Rattle.paged_table.proofs.paged_table.PagedTableTableU64.prepare.Goals as goal
 
 pub returns-clause-ok : goal.returns-clause-ok
@@ -12,7 +13,7 @@ returns-clause-ok c =
     let span = c.args.span in
     let len : length next ≡ t.prepared.len = omega arith in
     let same = refill t.prepared.len next (drop (length next) t.prepared.items) len in
-    on_ok c.prepare_span.result
+    on_ok_weaker c.prepare_span.result
     (λ done d lt.
     ap (λ xs. values c.prepare_span.new.pool xs d) same
     ∙ done d
@@ -26,7 +27,7 @@ returns-clause-err c =
     let next = c.prepare_span.new.next in
     let len : length next ≡ t.prepared.len = omega arith in
     let same = refill t.prepared.len next (drop (length next) t.prepared.items) len in
-    on_err c.prepare_span.result
+    on_err_weaker c.prepare_span.result
     (λ stays d lt.
     ap (λ xs. values c.prepare_span.new.pool xs d) same
     ∙ stays d

@@ -4,12 +4,13 @@
 -- Each-both                of the joined list, where it holds of both parts
 -- Each-if                  of either of two lists
 -- Each-to                  what follows for each member holds of each
+-- to_all, from_all         in std's words, and back
 -- Each-filter              of the members that pass a test
 -- list_all-same, filter-same, flat_map-same, map-same   the same where the functions are the same at each member
 -- every                    what holds of everything holds of each
 -- both_parts, appended_parts   where both of two optional lists are there, and where neither of two results is a rule
 use Rattle.std.proofs.Common.{◌≡◌, ℕ, Bool, true, false, cond, List, [], ◌∷◌, ◌++◌, Option, Some, None, Result, Ok, Err, filter, map, refl}
-use Rattle.std.specs.List.{list_all, flat_map}
+use Rattle.std.specs.List.{AllByRecursion, list_all, flat_map}
 use Rattle.ucd_facts.specs.Expansion.{both}
 use Rattle.ucd_model.specs.Forms.{appended}
 use Rattle.ucd_facts.specs.declared.form.Bad.{Bad as Rule}
@@ -38,6 +39,14 @@ every P each (x ∷ xs) = (each x, every P each xs)
 pub Each-to : {X : Type 0} (P Q : X → Type 0) → ((x : X) → P x → Q x) → (xs : List X) → Each P xs → Each Q xs
 Each-to P Q f [] e = tt
 Each-to P Q f (x ∷ xs) e = (f x e.0, Each-to P Q f xs e.1)
+
+pub to_all : {X : Type 0} (P : X → Type 0) (xs : List X) → Each P xs → AllByRecursion P xs
+to_all P [] e = tt
+to_all P (x ∷ xs) e = (e.0, to_all P xs e.1)
+
+pub from_all : {X : Type 0} (P : X → Type 0) (xs : List X) → AllByRecursion P xs → Each P xs
+from_all P [] e = tt
+from_all P (x ∷ xs) e = (e.0, from_all P xs e.1)
 
 pub list_all-same : (p q : ℕ → Bool) (xs : List ℕ) → Each (λ x. p x ≡ q x) xs → list_all p xs ≡ list_all q xs
 list_all-same p q [] e = refl

@@ -1,9 +1,6 @@
 -- What is expanded, and what expands to it.
 --
 -- Unmapped F compat x     x has no mapping that counts
--- Each-append             what holds of each member of two lists holds of each member of them joined
--- Each-front, Each-back   what holds of each member of two joined lists holds of each member of the first, and of the second
--- Each-order              what holds of each member of a list holds of each member of the ordered list
 -- ok_same                 two lists in Ok that are the same are the same list
 -- appended_ok             where two results appended are a list, both are lists, and that list is the two joined
 -- expansions-append       the expansions of two joined lists are those of the two, appended
@@ -12,7 +9,7 @@
 -- pair_expansion          the expansion of a composite that has one is that of its first member, and behind it the second member,
 --                         where that has no mapping that counts
 use Rattle.std.proofs.Common.{◌≡◌, ℕ, Bool, true, false, cond, ◌==◌, nat_lt, List, [], ◌∷◌, ◌++◌, length, Option, Some, None, Result, Ok, Err, refl, sym, ap, ◌∙◌, subst, arith}
-use Rattle.std.specs.List.{AllByRecursion as Each, list_all}
+use Rattle.std.specs.List.{AllByRecursion as Each}
 use Rattle.std.proofs.lemmas.List.{append-nil}
 use Rattle.std.proofs.lemmas.List.Elements.{recursion_from_All}
 use Rattle.std.proofs.lemmas.Option.{same_Some}
@@ -22,9 +19,9 @@ use Rattle.ucd_facts.specs.declared.decomposition.Kind.{Kind}
 use Rattle.ucd_facts.specs.declared.decomposition.Kind.TheVariants.{Plain, Canonical, Compat}
 use Rattle.ucd_facts.specs.Facts.{Facts}
 use Rattle.ucd_facts.specs.Composites.{is_canonical}
-use Rattle.ucd_model.specs.CanonicalOrder.{greater, placed, with_next, order_onto, order}
 use Rattle.ucd_facts.specs.Expansion.{counts, counted, both, alone_or_joined, expand, full, judged, expansion}
 use Rattle.ucd_model.specs.Forms.{appended, expansions}
+pub use Rattle.ucd_model.specs.MemberProofs.{Each-append, Each-front, Each-back, Each-order}
 use Rattle.decomposition.specs.ExpansionProofs.{both_some, unmapped_is_alone, more_levels_give_the_same, expansions_are_full}
 use Rattle.normalisation.specs.FormLaws.{HasExpansion}
 use Rattle.normalisation.specs.FormLemmas.{expansion_alone, appended-assoc, nil-appended}
@@ -32,38 +29,6 @@ use Rattle.normalisation.specs.PairLemmas.{Joins}
 
 abbrev pub Unmapped : (ℕ → Facts) → Bool → ℕ → Type 0
 Unmapped F compat x = counted F compat x ≡ []
-
--- ---- each of a list
-
-pub Each-append : (P : ℕ → Type 0) (xs ys : List ℕ) → Each P xs → Each P ys → Each P (xs ++ ys)
-Each-append P [] ys p q = q
-Each-append P (x ∷ xs) ys p q = (p.0, Each-append P xs ys p.1 q)
-
-pub Each-front : (P : ℕ → Type 0) (xs ys : List ℕ) → Each P (xs ++ ys) → Each P xs
-Each-front P [] ys p = tt
-Each-front P (x ∷ xs) ys p = (p.0, Each-front P xs ys p.1)
-
-pub Each-back : (P : ℕ → Type 0) (xs ys : List ℕ) → Each P (xs ++ ys) → Each P ys
-Each-back P [] ys p = p
-Each-back P (x ∷ xs) ys p = Each-back P xs ys p.1
-
--- order keeps the points
-module _ (P : ℕ → Type 0) (class : ℕ → ℕ) where
-  each_if : (t : Bool) (xs ys : List ℕ) → Each P xs → Each P ys → Each P (cond t xs ys)
-  each_if true xs ys p q = p
-  each_if false xs ys p q = q
-
-  Each-placed : (y : ℕ) (xs : List ℕ) → P y → Each P xs → Each P (placed class y xs)
-  Each-placed y [] p each = (p, tt)
-  Each-placed y (x ∷ xs) p each = each_if (list_all (greater class y) (x ∷ xs)) (y ∷ x ∷ xs) (x ∷ placed class y xs) (p, each) (each.0, Each-placed y xs p each.1)
-
-  Each-order_onto : (done rest : List ℕ) → Each P done → Each P rest → Each P (order_onto class done rest)
-  Each-order_onto done [] each left = each
-  Each-order_onto done (y ∷ rest) each left =
-      Each-order_onto (with_next class done y) rest (each_if (class y == 0) (done ++ y ∷ []) (placed class y done) (Each-append P done (y ∷ []) each (left.0, tt)) (Each-placed y done left.0 each)) left.1
-
-  pub Each-order : (xs : List ℕ) → Each P xs → Each P (order class xs)
-  Each-order xs each = Each-order_onto [] xs tt each
 
 -- ---- results
 

@@ -10,7 +10,6 @@ pub mod NameLemmas
 pub mod PlaceLemmas
 pub mod LeftRows
 pub mod OrderedRows
-pub mod SameOrder
 pub mod StableProofs
 pub mod ListedProofs
 pub mod CommonProofs

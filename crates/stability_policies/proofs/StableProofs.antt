@@ -15,19 +15,18 @@ use Rattle.ucd_model.specs.Composition.{Split, compose, compose_onto, composed_w
 use Rattle.ucd_facts.specs.Expansion.{alone_or_joined, both, counted, counts, expand, expansion, full, joined, judged}
 use Rattle.ucd_facts.specs.Facts.{Facts}
 use Rattle.ucd_model.specs.Forms.{appended, composed, decomposed, expansions, in_order, nfkc}
+use Rattle.ucd_model.specs.MemberProofs.{Cut, Each-append, Each-if, Each-order, Each-to, order_same, point_each, reached_parts, reached_same}
 use Rattle.ucd_points.specs.Limits.{point_count}
 use Rattle.ucd_facts.specs.declared.decomposition.Kind.{Kind}
 use Rattle.ucd_facts.specs.declared.decomposition.Kind.TheVariants.{Plain, Canonical, Compat}
 use Rattle.ucd_facts.specs.declared.form.Bad.{Bad as Rule}
 use Rattle.ucd_facts.specs.declared.form.Bad.TheVariants.{V3}
-use Rattle.normalisation.specs.ExpandedLemmas.{Each-append}
 use Rattle.normalisation.specs.FormLaws.{HaveExpansions}
 use Rattle.normalisation.specs.FormProofs.{nfkc_of_members}
 use Rattle.ucd_facts.specs.CompositeLaws.{IsPair}
 use Rattle.ucd_facts.specs.CompositeProofs.{pair_is_least}
 use Rattle.stability_policies.specs.Policies.{all_assigned, caseless, folded, same_list, sort_of}
 use Rattle.stability_policies.specs.StableForms.{CaselessStays, FoldsAlike, FormsStay, Old, SameForms, StaysNormal}
-use Rattle.stability_policies.proofs.SameOrder.{Cut, Each-if, Each-ordered, Each-to, order_same, point_each, reached_parts, reached_same}
 
 -- ---- values
 
@@ -152,7 +151,7 @@ module _ (O N : ℕ → Facts) (stays : StaysNormal O N) where
   ordered_same (Err rule) old = refl
 
   ordered_old : (r : Result (List ℕ) Rule) → AllOld r → AllOld (in_order O r)
-  ordered_old (Ok xs) old ys e = subst (Each (Old O)) (ok_same (order (class_of O) xs) ys e) (Each-ordered (Old O) (class_of O) xs (old xs refl))
+  ordered_old (Ok xs) old ys e = subst (Each (Old O)) (ok_same (order (class_of O) xs) ys e) (Each-order (Old O) (class_of O) xs (old xs refl))
   ordered_old (Err rule) old ys e = cc
 
   -- ---- composition

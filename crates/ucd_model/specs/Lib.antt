@@ -1,6 +1,7 @@
 pub mod Records
 pub mod CanonicalOrder
 pub mod Composition
+pub mod MemberProofs
 pub mod Forms
 pub mod Casing
 pub mod QuickChecks

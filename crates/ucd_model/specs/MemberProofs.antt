@@ -1,9 +1,31 @@
--- Order and composition of lists whose members have the same classes.
+-- What holds of each member of a list, ordered and composed.
+--
+-- f and g are canonical combining classes.
+-- Each-append, Each-front, Each-back   of two lists joined, and of the first and the second of them
+-- Each-if                  of either of two lists
+-- Each-to                  what follows for each member holds of each
+-- list_all-same            the same where the tests are the same at each member
+-- Each-order               of the ordered list
+-- order_same, reached_same lists whose members have the same classes are put in the same order, and a point reaches the same starter
+-- Parts P cut, Cut P       P holds of the parts of a list around its last starter, where there is one
+-- reached_parts            of the parts around the starter that a point reaches
+-- composite_each, point_each   of the list with one more point, where it holds of each composite
 use Rattle.std.proofs.Common.{◌≡◌, ℕ, Bool, true, false, cond, ◌==◌, nat_lt, List, [], ◌∷◌, ◌++◌, Option, Some, None, refl, ap, ◌∙◌}
 use Rattle.std.specs.List.{AllByRecursion as Each, list_all}
 use Rattle.ucd_model.specs.CanonicalOrder.{greater, placed, with_next, order_onto, order}
 use Rattle.ucd_model.specs.Composition.{Split, starter_behind, last_starter, is_open, where_open, reached, with_composite, with_point}
-use Rattle.normalisation.specs.ExpandedLemmas.{Each-append}
+
+pub Each-append : (P : ℕ → Type 0) (xs ys : List ℕ) → Each P xs → Each P ys → Each P (xs ++ ys)
+Each-append P [] ys p q = q
+Each-append P (x ∷ xs) ys p q = (p.0, Each-append P xs ys p.1 q)
+
+pub Each-front : (P : ℕ → Type 0) (xs ys : List ℕ) → Each P (xs ++ ys) → Each P xs
+Each-front P [] ys p = tt
+Each-front P (x ∷ xs) ys p = (p.0, Each-front P xs ys p.1)
+
+pub Each-back : (P : ℕ → Type 0) (xs ys : List ℕ) → Each P (xs ++ ys) → Each P ys
+Each-back P [] ys p = p
+Each-back P (x ∷ xs) ys p = Each-back P xs ys p.1
 
 pub Each-if : (P : ℕ → Type 0) (b : Bool) (xs ys : List ℕ) → Each P xs → Each P ys → Each P (cond b xs ys)
 Each-if P true xs ys e f = e
@@ -27,12 +49,12 @@ module _ (P : ℕ → Type 0) (f : ℕ → ℕ) where
   Each-next : (y : ℕ) (xs : List ℕ) → P y → Each P xs → Each P (with_next f xs y)
   Each-next y xs here e = Each-if P (f y == 0) (xs ++ y ∷ []) (placed f y xs) (Each-append P xs (y ∷ []) e (here, tt)) (Each-placed y xs here e)
 
-  Each-onto : (done rest : List ℕ) → Each P done → Each P rest → Each P (order_onto f done rest)
-  Each-onto done [] d r = d
-  Each-onto done (y ∷ rest) d r = Each-onto (with_next f done y) rest (Each-next y done r.0 d) r.1
+  Each-order_onto : (done rest : List ℕ) → Each P done → Each P rest → Each P (order_onto f done rest)
+  Each-order_onto done [] d r = d
+  Each-order_onto done (y ∷ rest) d r = Each-order_onto (with_next f done y) rest (Each-next y done r.0 d) r.1
 
-  pub Each-ordered : (xs : List ℕ) → Each P xs → Each P (order f xs)
-  Each-ordered xs e = Each-onto [] xs tt e
+  pub Each-order : (xs : List ℕ) → Each P xs → Each P (order f xs)
+  Each-order xs e = Each-order_onto [] xs tt e
 
 module _ (f g : ℕ → ℕ) where
   abbrev Same : List ℕ → Type 0
@@ -51,14 +73,14 @@ module _ (f g : ℕ → ℕ) where
   next_same y xs here e =
       ap (λ k. cond (k == 0) (xs ++ y ∷ []) (placed f y xs)) here ∙ ap (λ rest. cond (g y == 0) (xs ++ y ∷ []) rest) (placed_same y xs here e)
 
-  onto_same : (done rest : List ℕ) → Same done → Same rest → order_onto f done rest ≡ order_onto g done rest
-  onto_same done [] d r = refl
-  onto_same done (y ∷ rest) d r =
-      onto_same (with_next f done y) rest (Each-next (λ x. f x ≡ g x) f y done r.0 d) r.1
+  order_onto_same : (done rest : List ℕ) → Same done → Same rest → order_onto f done rest ≡ order_onto g done rest
+  order_onto_same done [] d r = refl
+  order_onto_same done (y ∷ rest) d r =
+      order_onto_same (with_next f done y) rest (Each-next (λ x. f x ≡ g x) f y done r.0 d) r.1
       ∙ ap (λ done. order_onto g done rest) (next_same y done r.0 d)
 
   pub order_same : (xs : List ℕ) → Same xs → order f xs ≡ order g xs
-  order_same xs e = onto_same [] xs tt e
+  order_same xs e = order_onto_same [] xs tt e
 
 -- ---- composition
 
@@ -95,7 +117,7 @@ module _ (P : ℕ → Type 0) (f : ℕ → ℕ) where
   pub reached_parts : (xs : List ℕ) (y : ℕ) → Each P xs → Cut P (reached f xs y)
   reached_parts xs y e = where_parts y (last_starter f xs) (cut_parts xs e)
 
-  composite_each : (xs : List ℕ) (y : ℕ) (cut : Split) (r : Option ℕ) → ((q : ℕ) → r ≡ Some q → P q) → P y → Each P xs → Parts P cut → Each P (with_composite xs y cut r)
+  pub composite_each : (xs : List ℕ) (y : ℕ) (cut : Split) (r : Option ℕ) → ((q : ℕ) → r ≡ Some q → P q) → P y → Each P xs → Parts P cut → Each P (with_composite xs y cut r)
   composite_each xs y cut (Some q) here last e c = Each-append P cut.before (q ∷ cut.after) c.before (here q refl, c.after)
   composite_each xs y cut None here last e c = Each-append P xs (y ∷ []) e (last, tt)
 

@@ -89,15 +89,6 @@ rows_all rows n shows h old =
 data_same : (given : PointValues) (row : DataRow) (c : ℕ) → Gives given row → row_data c (Some row) ≡ row_data c (Some (given_row given))
 data_same given row c g = rw (g.category, g.class, g.kind, g.mapping, g.upper, g.lower, g.title) refl
 
-pub fresh_given : (given : PointValues) (row : Row) (old : ℕ → PointData) → ShowsGiven (Some given) row → IsFresh row old → IsFresh (DataLine (given_row given)) old
-fresh_given given (DataLine row) old g fresh = λ c lt covers. fresh c lt (ap (within c) g.span ∙ covers)
-fresh_given given (ValueLine row) old g fresh = absurd g
-fresh_given given (ExclusionLine row) old g fresh = absurd g
-fresh_given given (FoldLine row) old g fresh = absurd g
-fresh_given given (CasingLine row) old g fresh = absurd g
-fresh_given given (AliasLine row) old g fresh = absurd g
-fresh_given given (MissingLine row) old g fresh = absurd g
-
 pub adds_given : (given : PointValues) (row : Row) (old new : ℕ → PointData) → ShowsGiven (Some given) row → given.values.class < 256
     → ((c : ℕ) → c < 1114112 → new c ≡ cond (within c given.span) (row_data c (Some (given_row given))) (old c)) → Adds row old new
 adds_given given (DataLine row) old new g small gives = (

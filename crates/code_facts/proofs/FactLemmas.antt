@@ -6,7 +6,7 @@ use Rattle.std.proofs.lemmas.Bool.{cases_lt, lt-ltb, le-ltb}
 use Rattle.ucd_points.specs.Limits.{point_count}
 use Rattle.ucd_facts.specs.Sets.{has_flag}
 use Rattle.ucd_facts.specs.Facts.{Sources, Facts, facts, given, unassigned, data_row, class_in, category_in, kind_in, upper_in, lower_in, title_in, only_or, image, casing_row, full_upper, full_lower, full_title, full_folding, simple_folding, folding}
-use Rattle.ucd_facts.specs.FactsLemmas.{facts_inside, facts_outside}
+use Rattle.ucd_facts.specs.FactsLemmas.{facts_outside}
 use Rattle.ucd_facts.specs.declared.row.DataRow.{DataRow}
 use Rattle.ucd_facts.specs.declared.row.CasingRow.{CasingRow}
 use Rattle.ucd_facts.specs.declared.row.FoldStatus.TheVariants as status
@@ -73,10 +73,6 @@ same_kept words words' rests rests' same alike =
     kept_from_points words rests (all_kept words' rests')
     (λ c lt. ap₂ (kept_at c) (same c lt) (alike c lt) ∙ sym (kept_point words' rests' c lt))
     (kept_outside words' rests')
-
-pub kept_facts : (words : ℕ → ℕ) (rests : ℕ → RestOf) (rows : Sources) → ((c : ℕ) → c < 1114112 → kept_at c (words c) (rests c) ≡ given rows c) → all_kept words rests ≡ facts rows
-kept_facts words rests rows same =
-    kept_from_points words rests (facts rows) (λ c lt. same c lt ∙ sym (facts_inside rows c (point_below c lt))) (facts_outside rows)
 
 -- facts that are kept agree with those of rows where they do at each code point
 pub facts_from_points : (words : ℕ → ℕ) (rests : ℕ → RestOf) (rows : Sources) → ((c : ℕ) → c < 1114112 → all_kept words rests c ≡ facts rows c) → all_kept words rests ≡ facts rows

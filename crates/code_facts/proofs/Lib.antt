@@ -12,7 +12,6 @@ mod AlikeLemmas
 mod PlainLemmas
 pub mod TableLemmas
 pub mod ChangeLemmas
-pub mod BareLemmas
 mod RestLemmas
 mod JoinedLemmas
 mod MidWordLemmas

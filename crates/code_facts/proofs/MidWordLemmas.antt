@@ -1,8 +1,7 @@
 -- The code points that stand in the middle of a word.
-use Rattle.std.proofs.Common.{◌≡◌, ℕ, ◌+◌, ◌<◌, Bool, true, false, cond, ◌&&◌, ◌||◌, List, [], ◌∷◌, length, take, drop, get_or, find, Option, Some, refl, sym, ap, ◌∙◌}
+use Rattle.std.proofs.Common.{◌≡◌, ℕ, ◌+◌, ◌<◌, Bool, true, false, cond, ◌&&◌, ◌||◌, List, [], ◌∷◌, length, take, get_or, find, Option, Some, refl, sym, ap, ◌∙◌}
 use Rattle.std.specs.List.{list_any}
 use Rattle.std.proofs.lemmas.Bool.{or_parts}
-use Rattle.std.proofs.lemmas.List.{at_drop_more}
 use Rattle.std.proofs.lemmas.List.Sums.{fold_more}
 use Rattle.layered_table.specs.declared.painting.Layer.{Layer}
 use Rattle.ucd_points.specs.Bounds.{within}
@@ -10,7 +9,7 @@ use Rattle.ucd_facts.specs.Values.{default_word_break, gives_some, is_mid_word, 
 use Rattle.ucd_facts.specs.declared.row.Row.{Row}
 use Rattle.ucd_facts.specs.declared.row.Row.TheVariants.{Unit as DataLine, Value as ValueLine, Exclusion as ExclusionLine, Fold as FoldLine, Casing as CasingLine, Alias as AliasLine, Missing as MissingLine}
 use Rattle.release_rows.specs.ValuesApart.{AreApart}
-use Rattle.code_facts.specs.MidWords.{gives_mid_word, given_layer, is_missing_mid_word, layer_over, missing_layer}
+use Rattle.code_facts.specs.MidWords.{gives_mid_word, is_missing_mid_word, layer_over, missing_layer}
 use Rattle.code_facts.specs.Word.{one_if}
 
 -- ---- where no missing row has such a value
@@ -94,21 +93,6 @@ module _ (c : ℕ) where
   missing_over default word (CasingLine row) was = was
   missing_over default word (AliasLine row) was = was
 
-  -- another row lies over those below it
-  pub given_over : (default : List ℕ) (word : ℕ) (row : Row) (rows : List Row) → word ≡ one_if (is_mid_word (value_in default (find (gives_some c) rows)))
-      → layer_over c (given_layer row) word ≡ one_if (is_mid_word (value_in default (find (gives_some c) (row ∷ rows))))
-  given_over default word (ValueLine row) rows was = by (within c row.span)
-    where
-      by : (covers : Bool) → cond covers (one_if (is_mid_word row.value)) word ≡ one_if (is_mid_word (value_in default (cond covers (Some (ValueLine row)) (find (gives_some c) rows))))
-      by true = refl
-      by false = was
-  given_over default word (DataLine row) rows was = was
-  given_over default word (ExclusionLine row) rows was = was
-  given_over default word (FoldLine row) rows was = was
-  given_over default word (CasingLine row) rows was = was
-  given_over default word (AliasLine row) rows was = was
-  given_over default word (MissingLine row) rows was = was
-
   -- the layer of one more missing row, and of one more other row
   pub missing_more : (rows : List Row) (i : ℕ) (d row : Row) (word new : ℕ) (layer : Option Layer) → i < length rows → row ≡ get_or rows i d → new ≡ layer_over c layer word → layer ≡ missing_layer row
       → word ≡ one_if (is_mid_word (missing_value (take i rows) default_word_break c)) → new ≡ one_if (is_mid_word (missing_value (take (i + 1) rows) default_word_break c))
@@ -116,10 +100,3 @@ module _ (c : ℕ) where
       over ∙ ap (λ o. layer_over c o word) (of ∙ ap missing_layer is)
       ∙ missing_over (missing_value (take i rows) default_word_break c) word (get_or rows i d) was
       ∙ sym (ap (λ value. one_if (is_mid_word value)) (fold_more (taken_missing c) default_word_break rows i d inside))
-
-  pub given_more : (default : List ℕ) (rows : List Row) (at old : ℕ) (d row : Row) (word new : ℕ) (layer : Option Layer) → at < length rows → old ≡ at + 1 → row ≡ get_or rows at d → new ≡ layer_over c layer word
-      → layer ≡ given_layer row → word ≡ one_if (is_mid_word (value_in default (find (gives_some c) (drop old rows)))) → new ≡ one_if (is_mid_word (value_in default (find (gives_some c) (drop at rows))))
-  given_more default rows at old d row word new layer inside next is over of was =
-      over ∙ ap (λ o. layer_over c o word) (of ∙ ap given_layer is)
-      ∙ given_over default word (get_or rows at d) (drop (at + 1) rows) (was ∙ ap (λ n. one_if (is_mid_word (value_in default (find (gives_some c) (drop n rows))))) next)
-      ∙ sym (at_drop_more (λ (xs : List Row). one_if (is_mid_word (value_in default (find (gives_some c) xs)))) rows at d inside)

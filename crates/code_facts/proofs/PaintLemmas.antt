@@ -13,9 +13,6 @@ test_true b x y e = rw e refl
 test_false : {A : Type 0} (b : Bool) (x y : A) → b ≡ false → cond b x y ≡ y
 test_false b x y e = rw e refl
 
-here : (n : ℕ) → leb n n && leb n n ≡ true
-here n = grind (arith, nat_tests)
-
 apart : (n c : ℕ) → (c < n → ⊥) → (n < c → ⊥) → n ≡ c
 apart n c below above = omega arith
 

@@ -1,5 +1,5 @@
 -- Where nothing is kept of mappings, a code point has none.
-use Rattle.std.proofs.Common.{◌≡◌, ℕ, ◌<◌, ◌≤◌, IsTrue, Bool, true, false, List, [], ◌∷◌, Option, Some, None, refl, ap, subst, sym, ◌∙◌, ◌&&◌, arith}
+use Rattle.std.proofs.Common.{◌≡◌, ℕ, ◌<◌, ◌≤◌, true, false, List, [], ◌∷◌, Option, Some, None, refl, ap, subst, sym, ◌∙◌, ◌&&◌, arith}
 use Rattle.std.specs.Option.{IsSome}
 use Rattle.std.specs.Ordering.{nat_cmp, is_gt}
 use Rattle.std.proofs.lemmas.Slice.Eq.{bytes_eq-Decides}
@@ -26,14 +26,6 @@ none_is (Some x) h = absurd (h refl)
 -- before the least of the keys from some point on, there is none
 pub absent_before : {V : Type 0} (map : BTreeMap ℕ V) (next d : ℕ) → d < next → (IsSome (get nat_cmp map d) → IsLeBy nat_cmp next d) → get nat_cmp map d ≡ None
 absent_before map next d lt least = none_is (get nat_cmp map d) (λ some. omega (arith, le_from_not_gt next d (least some)))
-
-not_true : (b : Bool) → (IsTrue b → ⊥) → b ≡ false
-not_true false h = refl
-not_true true h = absurd (h refl)
-
--- and so of sets of keys
-pub key_absent : (b : Bool) (next d : ℕ) → d < next → (IsTrue b → IsLeBy nat_cmp next d) → b ≡ false
-key_absent b next d lt least = not_true b (λ some. omega (arith, le_from_not_gt next d (least some)))
 
 -- the point alone is no image
 pub itself : (c : ℕ) → image c (c ∷ []) ≡ Same

@@ -146,12 +146,3 @@ data_step_by rows i c row false e free = ap data_in (find_other (is_data_of c) (
 pub data_step : (rows : List Row) (i c : ℕ) (d : Row) → Apart rows → i < length rows → data_row (take (i + 1) rows) c ≡ cond (is_data_of c (get_or rows i d)) (data_in (Some (get_or rows i d))) (data_row (take i rows) c)
 data_step rows i c d apart h =
     rw (take_more rows i d h) (data_step_by rows i c (get_or rows i d) (is_data_of c (get_or rows i d)) refl (apart i c d h))
-
-pub not_data : (row : Row) → ((x : DataRow) → row ≡ DataLine x → ⊥) → (c : ℕ) → is_data_of c row ≡ false
-not_data (DataLine x) other c = absurd (other x refl)
-not_data (ValueLine x) other c = refl
-not_data (ExclusionLine x) other c = refl
-not_data (FoldLine x) other c = refl
-not_data (CasingLine x) other c = refl
-not_data (AliasLine x) other c = refl
-not_data (MissingLine x) other c = refl

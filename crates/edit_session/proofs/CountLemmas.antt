@@ -1,7 +1,6 @@
 -- The counter, and how many code points there are.
 use Rattle.std.proofs.Common.{◌≡◌, ℕ, zero, suc, ◌+◌, ◌-◌, ◌<◌, ◌≤◌, ◌==◌, true, ◌||◌, List, [], ◌∷◌, length, get_or, Ok, Err, Result, ap, subst, arith, inl, inr}
 use Rattle.std.specs.List.Sorted.{IsStrictlyIncreasing}
-use Rattle.std.specs.Result.{IsErr}
 use Rattle.std.proofs.lemmas.Bool.{cases_lt, or_right}
 use Rattle.std.proofs.lemmas.Bool.Decides.{nat_tests}
 use Rattle.ucd_facts.specs.Facts.{Facts}
@@ -10,7 +9,7 @@ use Rattle.ucd_model.specs.Sameness.{is_in}
 use Rattle.asked_queries.specs.Turns.{AreDependants}
 use Rattle.rederivation.specs.Turned.{CountsWithin}
 use Rattle.release_rows.specs.FileItems.{FileItem}
-use Rattle.edit_session.specs.Groups.{AnswersAs, CountsAs, files_facts}
+use Rattle.edit_session.specs.Groups.{CountsAs, files_facts}
 use Rattle.edit_session.specs.declared.apply_stop.Refused.{Refused}
 
 abbrev Files : Type 0
@@ -51,14 +50,6 @@ counts_no_more F G old new h =
     let few : length points ≤ point_count = few_below points point_count all.rising all.inside in
     omega (arith, h.2, h.1.2, few)
 
-pub counts_done : {A : Type 0} (x : A) (after : Result Files Refused) (next : Files) (F : ℕ → Facts) (old new : ℕ) → AnswersAs (Ok x) after next → CountsWithin F (files_facts next) old new → CountsAs after F old new
-counts_done x (Ok files) next F old new h k = subst (λ (fs : Files). CountsWithin F (files_facts fs) old new) h k
-counts_done x (Err refused) next F old new h k = absurd h
-
 pub counts_within : (after : Result Files Refused) (F : ℕ → Facts) (old new : ℕ) → CountsAs after F old new → new ≤ old + point_count
 counts_within (Ok files) F old new h = counts_no_more F (files_facts files) old new h
 counts_within (Err refused) F old new h = omega (arith, h)
-
-pub counts_not : (after : Result Files Refused) (F : ℕ → Facts) (old new : ℕ) → CountsAs after F old new → IsErr after → new ≡ old
-counts_not (Ok files) F old new h e = absurd cc
-counts_not (Err refused) F old new h e = h

@@ -25,7 +25,6 @@ use Rattle.dependency_map.specs.Maps.{asked_at}
 use Rattle.kept_values.specs.Kept.{values}
 use Rattle.mention_index.specs.declared.mentions.Mentions.{Mentions}
 use Rattle.paged_table.specs.Paged.{values_next, values_now}
-use Rattle.edit_session.specs.Benches.{NamesBroken}
 use Rattle.edit_session.specs.Derivations.{AreOf, IsNext, IsNow, IsStill}
 use Rattle.edit_session.specs.declared.derivation.Derivation.{Derivation}
 use Rattle.edit_session.specs.Questions.{HasWalked, Keeps}
@@ -34,15 +33,11 @@ use Rattle.edit_session.specs.Groups.{AnswersAs, changed, checked_files, files_f
 use Rattle.edit_session.specs.declared.apply_stop.ApplyStop.{ApplyStop}
 use Rattle.edit_session.specs.declared.apply_stop.ApplyStop.TheVariants.{Refused as Refuses}
 use Rattle.edit_session.specs.declared.apply_stop.Refused.TheVariants.{Valid}
-use Rattle.edit_session.specs.declared.open_stop.OpenStop.{OpenStop}
 
 abbrev Files : Type 0
 Files = List (List FileItem)
 
 -- ---- facts that are the same
-
-pub named_over : (F G : ℕ → Facts) (stop : OpenStop) → F ≡ G → NamesBroken stop F → NamesBroken stop G
-named_over F G stop same named = subst (NamesBroken stop) same named
 
 -- the same facts and records, kept elsewhere, and questions that are kept as well
 pub moved : (F before after : ℕ → Facts) (old new : ℕ → Record) (then now : Option Mentions) (A B : ℕ → List Query) → after ≡ before → SameValues new old → (Keeps then A F → Keeps now B F) → AreOf F before old then A → AreOf F after new now B

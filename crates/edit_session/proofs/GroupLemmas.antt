@@ -10,7 +10,7 @@ use Rattle.release_rows.specs.declared.operation.Op.{Op}
 use Rattle.edit_session.specs.Derivations.{IsNow, IsStill}
 use Rattle.edit_session.specs.Standing.{IsBench}
 use Rattle.edit_session.specs.declared.derivation.Derivation.{Derivation}
-use Rattle.edit_session.specs.Groups.{AnswersAs, AppliesAs, after_op, after_ops, changed, checked_files, files_facts, then_ops}
+use Rattle.edit_session.specs.Groups.{AnswersAs, AppliesAs, after_op, after_ops, changed, files_facts, then_ops}
 use Rattle.edit_session.specs.declared.accepted.Accepted.{Accepted}
 use Rattle.edit_session.specs.declared.apply_stop.ApplyStop.{ApplyStop}
 use Rattle.edit_session.specs.declared.apply_stop.ApplyStop.TheVariants.{Refused as Refuses, Memory}
@@ -72,18 +72,6 @@ unfolding after_ops
 all_done start files n ops past left =
     subst (λ (r : Result Files Refused). AnswersAs {A = Unit {0}} (Ok tt) r files) (sym (ap (after_ops files n) (drop_all n ops past)) ∙ left) refl
 
--- ---- operations, and then what is derived
-
-pub then_derived : {A B : Type 0} (x : A) (result : Result B ApplyStop) (after : Result Files Refused) (next : Files) → AnswersAs (Ok x) after next
-    → AnswersAs result (checked_files (Ok next)) next → AnswersAs result (checked_files after) next
-then_derived x result (Ok files) next h k = subst (λ (fs : Files). AnswersAs result (checked_files (Ok fs)) next) h k
-then_derived x result (Err refused) next h k = absurd h
-
-pub stopped_before : (B : Type 0) (stop : ApplyStop) (after : Result Files Refused) (next : Files) → AnswersAs {A = Unit {0}} (Err stop) after next → AnswersAs {A = B} (Err stop) (checked_files after) next
-stopped_before B (Refuses why) (Ok files) next h = absurd h
-stopped_before B (Refuses why) (Err refused) next h = h
-stopped_before B Memory after next h = tt
-
 -- ---- the group
 
 pub applied : {A : Type 0} (x : A) (accepted : Accepted) (expected : Result Files Refused) (old new : ReleaseItems) (next : Files)
@@ -97,8 +85,3 @@ applied x accepted (Err refused) old new next h is found = absurd h
 pub bench_after : (release : ReleaseItems) (next : Files) (d : Derivation) → release ≡ record { current = next; prepared = next } → IsNow (files_facts next) d → IsStill d → IsBench release d
 bench_after release next d is now still =
     subst (λ (r : ReleaseItems). IsBench r d) (sym is) (record { still = refl; now = now; next = still })
-
-pub not_applied : (A : Type 0) (stop : ApplyStop) (expected : Result Files Refused) (old new : ReleaseItems) (next : Files) → AnswersAs {A = A} (Err stop) expected next → new ≡ old → AppliesAs (Err stop) expected old new
-not_applied A (Refuses why) (Ok files) old new next h same = absurd h
-not_applied A (Refuses why) (Err rule) old new next h same = (h, same)
-not_applied A Memory expected old new next h same = same

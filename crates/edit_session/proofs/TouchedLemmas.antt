@@ -92,9 +92,6 @@ touched_by rows_stay facts_stay others op files next before spans after false gi
 
 -- ---- operations
 
-pub none_touched : (files : Files) (spans : List Bounds) → HasTouched files files spans spans
-none_touched files spans = record { stays = λ c out. refl; grows = λ c out. out }
-
 pub then_touched : (first second third : Files) (before between after : List Bounds) → HasTouched first second before between → HasTouched second third between after → HasTouched first third before after
 then_touched first second third before between after h k = record {
   stays = λ c out. k.stays c out ∙ h.stays c (k.grows c out);

@@ -2,7 +2,6 @@
 use Rattle.std.proofs.Common.{◌≡◌, ◌≢◌, ℕ, Bool, true, false, cond, ◌||◌, nat_lt, List, [], ◌∷◌, length, Option, Some, None, unwrap_or, Ok, Err, if◌then◌else◌, refl, sym, ap, ◌∙◌, ◌⊎◌, inl, inr}
 use Rattle.std.specs.Option.{option_map}
 use Rattle.std.proofs.lemmas.List.{append-nil}
-use Rattle.std.proofs.Math.Bool.{or-true}
 use Rattle.ucd_model.specs.CanonicalOrder.{class_of, order}
 use Rattle.ucd_facts.specs.Composites.{pair_of}
 use Rattle.ucd_model.specs.Composition.{compose}
@@ -52,33 +51,11 @@ second_of : (a b : Option (List ℕ)) (rule : Rule) → IsSound a → Faulty b r
 second_of a b rule x (inl y) = rw (x.0, y.0, y.1) refl
 second_of a b rule x (inr y) = rw (x.0, x.1, y.0, y.1, y.2) refl
 
-endless_of : (a b : Option (List ℕ)) → is_none b ≡ true → rule_of a b ≡ Some V2
-endless_of a b y = ap (λ t. if is_none a || t then Some V2 else (if is_long a || is_long b then Some V3 else None)) y ∙ ap (λ t. if t then Some V2 else (if is_long a || is_long b then Some V3 else None)) (or-true (is_none a))
-
-first_of : (a b : Option (List ℕ)) (rule : Rule) → Faulty a rule → is_none b ≡ false → rule_of a b ≡ Some rule
-first_of a b rule (inl x) y = rw (x.0, x.1) refl
-first_of a b rule (inr x) y = rw (x.0, x.1, x.2, y) refl
-
 pub both_expanded : (F : ℕ → Facts) (c : ℕ) (p q : List ℕ) → expansion F false c ≡ Ok p → expansion F true c ≡ Ok q → ExpandTo F c p q
 both_expanded F c p q x y = record { canonical = x; compat = y; rule = none_of (full F false c) (full F true c) (sound (full F false c) p x) (sound (full F true c) q y) }
 
 pub compat_rule : (F : ℕ → Facts) (c : ℕ) (p : List ℕ) (rule : Rule) → expansion F false c ≡ Ok p → expansion F true c ≡ Err rule → expansion_rule F c ≡ Some rule
 compat_rule F c p rule x y = second_of (full F false c) (full F true c) rule (sound (full F false c) p x) (faulty (full F true c) rule y)
-
-endless_faulty : (a : Option (List ℕ)) → judged a ≡ Err V2 → is_none a ≡ true
-endless_faulty a e = elim (faulty a V2 e) [ inl x ↦ x.1 | inr x ↦ cc ]
-
-pub compat_endless : (F : ℕ → Facts) (c : ℕ) → expansion F true c ≡ Err V2 → expansion_rule F c ≡ Some V2
-compat_endless F c y = endless_of (full F false c) (full F true c) (endless_faulty (full F true c) y)
-
-pub canonical_rule : (F : ℕ → Facts) (c : ℕ) (rule : Rule) → expansion F false c ≡ Err rule → is_none (full F true c) ≡ false → expansion_rule F c ≡ Some rule
-canonical_rule F c rule x y = first_of (full F false c) (full F true c) rule (faulty (full F false c) rule x) y
-
-pub has_one : (F : ℕ → Facts) (c : ℕ) (p : List ℕ) → expansion F true c ≡ Ok p → is_none (full F true c) ≡ false
-has_one F c p e = (sound (full F true c) p e).0
-
-pub has_long : (F : ℕ → Facts) (c : ℕ) (rule : Rule) → expansion F true c ≡ Err rule → rule ≢ V2 → is_none (full F true c) ≡ false
-has_long F c rule e other = elim (faulty (full F true c) rule e) [ inl x ↦ absurd (other x.0) | inr x ↦ x.1 ]
 
 -- ---- the forms
 

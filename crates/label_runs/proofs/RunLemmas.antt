@@ -1,47 +1,13 @@
 -- A run grows, ends, and the next one begins.
-use Rattle.std.proofs.Common.{◌≡◌, ℕ, ◌+◌, ◌-◌, ◌<◌, true, false, List, [], ◌∷◌, ◌++◌, Some, None, is_some, unwrap_or, refl, sym, ap, ◌∙◌, arith, inl, inr}
+use Rattle.std.proofs.Common.{◌≡◌, ℕ, ◌+◌, ◌-◌, ◌<◌, false, List, [], ◌∷◌, ◌++◌, Some, None, is_some, unwrap_or, sym, ap, ◌∙◌, arith, inl, inr}
 use Rattle.std.specs.List.{flat_map}
 use Rattle.std.proofs.lemmas.List.{append-nil}
 use Rattle.std.proofs.lemmas.Bool.{cases_lt}
 use Rattle.std.proofs.lemmas.Grind.{flat_map-append}
-use Rattle.std.proofs.lemmas.Slice.Eq.{bytes_eq-Decides}
 use Rattle.ucd_model.specs.Labels.{Label, LabelSpan, same_label}
 use Rattle.ucd_model.specs.LabelLemmas.{IsRun, spans_before, labelled_before, run_plain, run_labelled}
 use Rattle.ucd_model.specs.DerivedText.{span_line}
-use Rattle.label_runs.specs.Runs.{lines_before, run_line, run_length, IsStretch, IsOpen}
-
-same_label-only : (a b : Label) → same_label a b ≡ true → a ≡ b
-same_label-only None None e = refl
-same_label-only None (Some y) e = cc
-same_label-only (Some x) None e = cc
-same_label-only (Some x) (Some y) e = ap Some ((bytes_eq-Decides x y).0 e)
-
-pub open_extends : (n : ℕ) (f : ℕ → Label) (first mid end : ℕ) (a b : Label) → IsOpen n f first mid a → IsStretch n f mid end b → same_label a b ≡ true → IsOpen n f first end a
-open_extends n f first mid end a b run next same =
-    let ordered = run.ordered in
-    let some = next.some in
-    record {
-      ordered = omega arith;
-      inside = next.inside;
-      alike = λ k low high. elim (cases_lt k mid) [ inl lt ↦ run.alike k low lt | inr ge ↦ next.alike k ge high ∙ sym (same_label-only a b same) ];
-      starts = run.starts;
-      empty = λ e. absurd (omega arith);
-    }
-
-pub open_restarts : (n : ℕ) (f : ℕ → Label) (first mid end : ℕ) (a b : Label) → IsOpen n f first mid a → IsStretch n f mid end b → same_label a b ≡ false → IsOpen n f mid end b
-open_restarts n f first mid end a b run next other =
-    let ordered = run.ordered in
-    let some = next.some in
-    record {
-      ordered = omega arith;
-      inside = next.inside;
-      alike = next.alike;
-      starts = λ k e. elim (cases_lt first mid) [
-        | inl lt ↦ ap (λ (l : Label). same_label l b) (run.alike k (omega arith) (omega arith)) ∙ other
-        | inr ge ↦ let zero : first ≡ 0 = (run.empty (omega arith)).0 in absurd (omega arith)
-      ];
-      empty = λ e. absurd (omega arith);
-    }
+use Rattle.label_runs.specs.Runs.{lines_before, run_line, run_length, IsOpen}
 
 -- a run that is not empty, as one of the runs of the labels
 run_of_open : (n : ℕ) (f : ℕ → Label) (first end : ℕ) (label : Label) → IsOpen n f first end label → first < end → (end < n → same_label label (f end) ≡ false) → IsRun n f first end

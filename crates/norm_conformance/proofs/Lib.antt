@@ -2,5 +2,4 @@ mod CaseLemmas
 mod LinesSaid
 mod CasesRead
 mod ValidForms
-mod CheckLemmas
 mod PointLemmas

@@ -49,9 +49,6 @@ placed_is class (a ∷ A) (suc p) y le above stops =
     let lower : list_all (greater class y) (a ∷ A) ≡ false = list_all_at (greater class y) (a ∷ A) p 0 (omega arith) (stops p (omega arith)) in
     rw lower (ap (λ zs. a ∷ zs) (placed_is class A p y (omega arith) above (λ q e. stops (suc q) (omega arith))))
 
-pub with_next_zero : (class : ℕ → ℕ) (xs : List ℕ) (y : ℕ) → class y ≡ 0 → with_next class xs y ≡ xs ++ y ∷ []
-with_next_zero class xs y e = let t : (class y == 0) ≡ true = grind (arith, nat_tests) in rw t refl
-
 pub with_next_placed : (class : ℕ → ℕ) (xs : List ℕ) (y : ℕ) → 0 < class y → with_next class xs y ≡ placed class y xs
 with_next_placed class xs y lt = let t : (class y == 0) ≡ false = grind (arith, nat_tests) in rw t refl
 

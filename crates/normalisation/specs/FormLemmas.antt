@@ -2,11 +2,11 @@
 --
 -- expansion_alone              a point without a mapping that counts is its own expansion
 -- appended-assoc               of three results, it is the same whether the first two or the last two are appended first
--- appended-nil, nil-appended   a result with the empty list behind it, or before it, is that result
+-- nil-appended                 a result with the empty list before it is that result
 -- expansions_more              once the expansion of the member at place i is behind what stands so far, the expansions from
 --                              place i + 1 on are left to be appended
 use Rattle.std.proofs.Common.{◌≡◌, ℕ, ◌+◌, ◌<◌, Bool, List, [], ◌∷◌, length, drop, get_or, Result, Ok, Err, refl, sym, ap, ◌∙◌}
-use Rattle.std.proofs.lemmas.List.{append_assoc, append-nil, at_drop_more}
+use Rattle.std.proofs.lemmas.List.{append_assoc, at_drop_more}
 use Rattle.ucd_facts.specs.declared.form.Bad.{Bad as Rule}
 use Rattle.ucd_facts.specs.Facts.{Facts}
 use Rattle.ucd_facts.specs.Expansion.{counted, judged, expansion}
@@ -21,10 +21,6 @@ appended-assoc (Ok xs) (Ok ys) (Ok zs) = ap (λ ws. Ok ws) (append_assoc xs ys z
 appended-assoc (Ok xs) (Ok ys) (Err rule) = refl
 appended-assoc (Ok xs) (Err rule) c = refl
 appended-assoc (Err rule) b c = refl
-
-pub appended-nil : (a : Result (List ℕ) Rule) → appended a (Ok []) ≡ a
-appended-nil (Ok xs) = ap (λ ws. Ok ws) (append-nil xs)
-appended-nil (Err rule) = refl
 
 pub nil-appended : (a : Result (List ℕ) Rule) → appended (Ok []) a ≡ a
 nil-appended (Ok xs) = refl

@@ -9,8 +9,7 @@
 -- last_class-append             the last class of two joined lists is that of the second, behind that of the first
 -- Ordered-append                two joined lists are Ordered where the first is, and the second is behind the last class of the
 --                               first
--- Ordered-front, Ordered-back   where two joined lists are Ordered, so is the first, and the second behind the last class of the
---                               first
+-- Ordered-back                  where two joined lists are Ordered, so is the second, behind the last class of the first
 -- Ordered-push                  an Ordered list with one more point is Ordered, where its class is 0, or not less than the last
 --                               class
 -- order_onto-append             putting two joined lists in order is putting the first in order, and then the second behind it
@@ -70,10 +69,6 @@ last_class-append class k (x ∷ xs) ys = last_class-append class (class x) xs y
 pub Ordered-append : (class : ℕ → ℕ) (k : ℕ) (xs ys : List ℕ) → Ordered class k xs → Ordered class (last_class class k xs) ys → Ordered class k (xs ++ ys)
 Ordered-append class k [] ys o p = p
 Ordered-append class k (x ∷ xs) ys o p = (o.0, Ordered-append class (class x) xs ys o.1 p)
-
-pub Ordered-front : (class : ℕ → ℕ) (k : ℕ) (xs ys : List ℕ) → Ordered class k (xs ++ ys) → Ordered class k xs
-Ordered-front class k [] ys o = tt
-Ordered-front class k (x ∷ xs) ys o = (o.0, Ordered-front class (class x) xs ys o.1)
 
 pub Ordered-back : (class : ℕ → ℕ) (k : ℕ) (xs ys : List ℕ) → Ordered class k (xs ++ ys) → Ordered class (last_class class k xs) ys
 Ordered-back class k [] ys o = o

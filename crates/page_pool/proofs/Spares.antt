@@ -1,18 +1,12 @@
 -- Flags of pages, and the list of the pages that are not live.
-use Rattle.std.proofs.Common.{◌≡◌, ◌≢◌, ℕ, zero, suc, ◌+◌, ◌<◌, Bool, true, false, not, ◌&&◌, ◌||◌, eqb, cond, ap, List, [], ◌∷◌, ◌++◌, length, get_or, set, replicate, refl, sym, ◌∙◌, arith, append_assoc, inl, inr}
-use Rattle.std.proofs.lemmas.Bool.{cases_eq, cases_lt, eq-eqb, ne_eqb, true≢false}
+use Rattle.std.proofs.Common.{◌≡◌, ◌≢◌, ℕ, zero, suc, ◌+◌, ◌<◌, Bool, true, false, not, ◌&&◌, ◌||◌, cond, ap, List, [], ◌∷◌, ◌++◌, length, get_or, set, replicate, refl, sym, ◌∙◌, arith, append_assoc, inl, inr}
+use Rattle.std.proofs.lemmas.Bool.{cases_lt, true≢false}
 use Rattle.std.proofs.Math.ListN.{get_or-append, length-set}
 use Rattle.std.proofs.Math.Seq.{get_or-append_seam}
 use Rattle.std.proofs.lemmas.List.Sums.{sum_by-set, sum_by-append, count_by-le-length}
 use Rattle.std.proofs.lemmas.List.{get_or-set_same, get_or-set_other, length_push, replicate_more}
 use Rattle.std.specs.List.{count_by}
 use Rattle.page_pool.specs.Pool.{IsFree}
-
--- a flag that is there, whatever stands for one that is not
-pub flag_false : (xs : List Bool) (i : ℕ) → get_or xs i true ≡ false → get_or xs i false ≡ false
-flag_false [] i h = refl
-flag_false (x ∷ xs) zero h = h
-flag_false (x ∷ xs) (suc i) h = flag_false xs i h
 
 pub flag_false_below : (xs : List Bool) (i : ℕ) → get_or xs i true ≡ false → i < length xs
 flag_false_below [] i h = absurd (true≢false h)
@@ -57,29 +51,6 @@ spare-below xs i h =
 pub spare-push : (xs : List Bool) → count_by not (xs ++ false ∷ []) ≡ count_by not xs + 1
 unfolding weight
 spare-push xs = sum_by-append weight xs (false ∷ [])
-
--- which are live
-pub flag-set_true : (xs : List Bool) (i : ℕ) → get_or xs i true ≡ false → (p : ℕ) → get_or (set xs i true) p false ≡ (eqb p i || get_or xs p false)
-flag-set_true xs i h p =
-    elim (cases_eq p i) [
-      | inl is ↦ rw (is, eq-eqb i i refl) (get_or-set_same xs i true false (flag_false_below xs i h))
-      | inr differs ↦ rw (ne_eqb p i differs) (get_or-set_other xs i p true false differs)
-    ]
-
-and_true : (b : Bool) → b ≡ (b && true)
-and_true true = refl
-and_true false = refl
-
-and_false : (b : Bool) → false ≡ (b && false)
-and_false true = refl
-and_false false = refl
-
-pub flag-set_false : (xs : List Bool) (i : ℕ) → get_or xs i false ≡ true → (p : ℕ) → get_or (set xs i false) p false ≡ (get_or xs p false && not (eqb p i))
-flag-set_false xs i h p =
-    elim (cases_eq p i) [
-      | inl is ↦ rw (is, eq-eqb i i refl) (get_or-set_same xs i false false (flag_true_below xs i h) ∙ and_false (get_or xs i false))
-      | inr differs ↦ rw (ne_eqb p i differs) (get_or-set_other xs i p false false differs ∙ and_true (get_or xs p false))
-    ]
 
 -- the last of the list is taken
 pub last_listed : (live : List Bool) (old new : List ℕ) (p : ℕ) → IsFree live old → old ≡ new ++ p ∷ [] → get_or live p true ≡ false

@@ -1,5 +1,5 @@
 -- Spans are set one behind the other, and pools keep what blocks need.
-use Rattle.std.proofs.Common.{◌≡◌, ℕ, ◌+◌, ◌*◌, ◌/◌, ◌%◌, ◌<◌, ◌≤◌, true, cond, leb, ltb, ◌&&◌, List, ◌++◌, length, take, subst, sym, ◌∙◌, arith, Result, Ok, Err, OnOk, OnErr}
+use Rattle.std.proofs.Common.{◌≡◌, ℕ, ◌+◌, ◌*◌, ◌/◌, ◌%◌, ◌<◌, ◌≤◌, true, cond, leb, ltb, ◌&&◌, List, ◌++◌, length, take, subst, ◌∙◌, arith, Result, Ok, Err, OnErr}
 use Rattle.std.proofs.lemmas.Bool.Decides.{nat_tests}
 use Rattle.page_pool.specs.Pool.{Pool, is_live, word_of}
 use Rattle.paged_table.specs.declared.block.Block.{Block}
@@ -7,7 +7,6 @@ use Rattle.paged_table.specs.Blocks.{block_at, values, is_page}
 use Rattle.paged_table.specs.Layers.{IsApart}
 use Rattle.std.proofs.Math.Seq.{take-append_seam}
 use Rattle.std.proofs.lemmas.Bool.{or_right, or_left}
-use Rattle.std.proofs.lemmas.Result.{on_ok_weaker, on_err_weaker}
 use Rattle.paged_table.proofs.Apart.{value_of-stays}
 
 -- the first block, those between, and the last one
@@ -24,16 +23,6 @@ span-three lo hi first last v w c is too lt =
 
 -- a pool with more room
 module _ (pool pool' : Pool) (xs ys : List Block) (ok : IsApart pool xs ys) (live : (p : ℕ) → is_live pool' p ≡ is_live pool p) (words : (p a : ℕ) → is_live pool p ≡ true → a < 256 → word_of pool' p a ≡ word_of pool p a) where
-  pub IsApart-stays : IsApart pool' xs ys
-  IsApart-stays = record {
-    count = ok.count;
-    count_next = ok.count_next;
-    live = λ b p used. live p ∙ ok.live b p used;
-    apart = ok.apart;
-    unused = λ p none. live p ∙ ok.unused p none;
-    tight = λ b p used even. ok.tight b p used (λ a d la ld. sym (words p a (ok.live b p used) la) ∙ even a d la ld ∙ words p d (ok.live b p used) ld);
-  }
-
   pub values_now-stays : (c : ℕ) → values pool' xs c ≡ values pool xs c
   values_now-stays c = value_of-stays pool pool' (block_at xs (c / 256)) (c % 256) (λ p is. let used = or_left (is_page p (block_at xs (c / 256))) (is_page p (block_at ys (c / 256))) is in record { live = live p ∙ ok.live (c / 256) p used; words = λ a lt. words p a (ok.live (c / 256) p used) lt }) (omega arith)
 

@@ -13,14 +13,14 @@ use Rattle.std.proofs.lemmas.List.{append-nil}
 use Rattle.std.proofs.lemmas.Option.{slice_get_within, same_Some}
 use Rattle.std.proofs.lemmas.Slice.Eq.{bytes_eq-Decides}
 use Rattle.indexmap.proofs.SetLemmas.{AllZip-push}
-use Rattle.release_rows.specs.StoredItems.{ShowsMissing, ShowsValue}
+use Rattle.release_rows.specs.StoredItems.{ShowsValue}
 use Rattle.source_rows.specs.RowRefs.{value_in}
 use Rattle.source_rows.specs.declared.values.ValueText.{ValueText}
 use Rattle.ucd_facts.specs.declared.row.Row.{Row}
 use Rattle.ucd_facts.specs.declared.row.Row.TheVariants.{Unit as DataLine, Value as ValueLine, Exclusion as ExclusionLine, Fold as FoldLine, Casing as CasingLine, Alias as AliasLine, Missing as MissingLine}
 use Rattle.ucd_facts.specs.declared.row.ValueRow.{ValueRow}
 use Rattle.property_aliases.specs.Numbers.{AreNumbered, IsNumbered}
-use Rattle.property_aliases.specs.Sources.{add_name, missing_row_of, value_row_of, valued_row_of}
+use Rattle.property_aliases.specs.Sources.{add_name, missing_row_of, value_row_of}
 use Rattle.property_aliases.specs.declared.file_values.NumberedRow.{NumberedRow}
 
 -- ---- names
@@ -78,34 +78,6 @@ not_shown (FoldLine row) e = refl
 not_shown (CasingLine row) e = refl
 not_shown (AliasLine row) e = refl
 not_shown (MissingLine row) e = refl
-
-pub shown_missing : (row : Row) (text : ValueText) → ShowsMissing (Some text) row → missing_row_of row ≡ value_in text ∷ []
-shown_missing (MissingLine row) text e = ap (λ r. r ∷ []) e
-shown_missing (ValueLine row) text e = absurd e
-shown_missing (DataLine row) text e = absurd e
-shown_missing (ExclusionLine row) text e = absurd e
-shown_missing (FoldLine row) text e = absurd e
-shown_missing (CasingLine row) text e = absurd e
-shown_missing (AliasLine row) text e = absurd e
-
-pub not_missing : (row : Row) → ShowsMissing None row → missing_row_of row ≡ []
-not_missing (MissingLine row) e = absurd e
-not_missing (ValueLine row) e = refl
-not_missing (DataLine row) e = refl
-not_missing (ExclusionLine row) e = refl
-not_missing (FoldLine row) e = refl
-not_missing (CasingLine row) e = refl
-not_missing (AliasLine row) e = refl
-
--- both kinds of rows with a value
-pub valued_is : (row : Row) → valued_row_of row ≡ value_row_of row ++ missing_row_of row
-valued_is (ValueLine row) = refl
-valued_is (DataLine row) = refl
-valued_is (ExclusionLine row) = refl
-valued_is (FoldLine row) = refl
-valued_is (CasingLine row) = refl
-valued_is (AliasLine row) = refl
-valued_is (MissingLine row) = refl
 
 -- rows keep their numbers with one name more
 pub all_stay : (names : List (List ℕ)) (name : List ℕ) (rs : List NumberedRow) (rows : List ValueRow) → AreNumbered names rs rows → AreNumbered (add_name names name) rs rows

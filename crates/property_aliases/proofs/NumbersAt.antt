@@ -1,21 +1,14 @@
 -- Numbers in a list of maps.
 --
--- number_at_push_none   a map without a number at the end changes nothing
 -- number_at_push        a map at the end: those before it stay
 -- number_at_last        the map at the end
 -- number_at_set         a map put in the place of another
-use Rattle.std.proofs.Common.{◌≡◌, ℕ, zero, suc, ◌<◌, List, [], ◌∷◌, ◌++◌, length, None, refl, arith, cond}
+use Rattle.std.proofs.Common.{◌≡◌, ℕ, zero, suc, ◌<◌, List, [], ◌∷◌, ◌++◌, length, refl, arith, cond}
 use Rattle.std.proofs.Math.Dec.{eqb-suc-suc, eqb-suc-zero, eqb-zero-suc}
 use Rattle.std.specs.Prelude.{nat_eq, slice_set}
 use Rattle.property_aliases.specs.Kinds.{number_at}
 use Rattle.property_aliases.specs.NumberMaps.{number_in}
 use Rattle.property_aliases.specs.declared.number_map.NumberMap.{NumberMap}
-
-pub number_at_push_none : (ms : List NumberMap) (m : NumberMap) (k : ℕ) (key : List ℕ) → number_in m key ≡ None → number_at (ms ++ m ∷ []) k key ≡ number_at ms k key
-number_at_push_none [] m zero key none = none
-number_at_push_none [] m (suc k) key none = refl
-number_at_push_none (x ∷ xs) m zero key none = refl
-number_at_push_none (x ∷ xs) m (suc k) key none = number_at_push_none xs m k key none
 
 pub number_at_push : (ms : List NumberMap) (m : NumberMap) (k : ℕ) (key : List ℕ) → k < length ms → number_at (ms ++ m ∷ []) k key ≡ number_at ms k key
 number_at_push [] m k key lt = absurd (omega arith)

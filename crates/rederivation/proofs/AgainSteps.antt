@@ -4,7 +4,7 @@ use Rattle.std.specs.Bool.{Decides}
 use Rattle.std.proofs.Math.Seq.{drop-cons, take-suc}
 use Rattle.std.proofs.lemmas.Bool.{cases_eq, or_cases, true≢false}
 use Rattle.std.proofs.lemmas.Bool.Decides.{nat_tests, same_from_decides}
-use Rattle.std.proofs.lemmas.List.{append-nil, take-append-drop, take_all}
+use Rattle.std.proofs.lemmas.List.{append-nil, take-append-drop}
 use Rattle.std.proofs.lemmas.List.Elements.{filter-append}
 use Rattle.std.proofs.lemmas.List.Folds.{list_any-append}
 use Rattle.ucd_facts.specs.Facts.{Facts}
@@ -94,9 +94,6 @@ has_more G points c before here d h =
       | inr last ↦ subst (HasRecord G) (is_one c d last) here
     ]
 
-pub none_again : (R : ℕ → Record) (G : ℕ → Facts) (S : ℕ → Record) → SameValues S R → IsAgain R G [] [] S
-none_again R G S same = record { has = λ c h. cc; changed = refl; anew = λ c lt h. cc; others = λ c lt h. same c lt }
-
 module _ (R : ℕ → Record) (G : ℕ → Facts) (points : List ℕ) (c : ℕ) (old new : List ℕ) (A B : ℕ → Record) (all : IsAgain R G points old A) (put : IsPut (R c) c (record_at G c) old new A B) where
   before : (b : Bool) → is_in points c ≡ b → R c ≡ record_at G c → A c ≡ record_at G c
   before true h same = all.anew c put.inside h
@@ -129,9 +126,6 @@ again_to R G points i c old new A B R' lt is all same has put =
     let now : IsPut (R c) c (record_at G c) old new A B = subst (λ (r : Record). IsPut r c (record_at G c) old new A B) (same c put.inside) put in
     subst (λ (xs : List ℕ). IsAgain R G xs new B) front (again_more R G (take i points) c old new A B all now (record_at G c, has))
 
-pub again_all : (R : ℕ → Record) (G : ℕ → Facts) (points : List ℕ) (i : ℕ) (changed : List ℕ) (S : ℕ → Record) → length points ≤ i → IsAgain R G (take i points) changed S → IsAgain R G points changed S
-again_all R G points i changed S le all = subst (λ (xs : List ℕ). IsAgain R G xs changed S) (take_all i points le) all
-
 -- ---- what is asked
 
 anew_more : (G : ℕ → Facts) (points : List ℕ) (c : ℕ) (A B C : ℕ → List Query) → AsksAnew G points A B → IsAskedAnew G c B C → AsksAnew G (points ++ c ∷ []) A C
@@ -148,12 +142,6 @@ anew_to G points i c A B C lt is all more =
     let next : suc i ≡ i + 1 = omega arith in
     let front : take i points ++ c ∷ [] ≡ take (i + 1) points = ap (λ k. take i points ++ k ∷ []) is ∙ sym (take-suc points i c lt) ∙ ap (λ k. take k points) next in
     subst (λ (xs : List ℕ). AsksAnew G xs A C) front (anew_more G (take i points) c A B C all more)
-
-pub anew_all : (G : ℕ → Facts) (points : List ℕ) (i : ℕ) (A B : ℕ → List Query) → length points ≤ i → AsksAnew G (take i points) A B → AsksAnew G points A B
-anew_all G points i A B le all = subst (λ (xs : List ℕ). AsksAnew G xs A B) (take_all i points le) all
-
-pub anew_none : (G : ℕ → Facts) (A : ℕ → List Query) → AsksAnew G [] A A
-anew_none G A = record { anew = λ c lt h. cc; others = λ c lt h. refl }
 
 -- ---- a point without a record
 

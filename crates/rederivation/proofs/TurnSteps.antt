@@ -29,8 +29,6 @@ use Rattle.rederivation.specs.declared.again_stop.AgainStop.{AgainStop}
 use Rattle.rederivation.specs.declared.again_stop.AgainStop.TheVariants.{Broken, Memory}
 use Rattle.rederivation.proofs.AgainSteps.{ok_is}
 
--- ---- tests
-
 -- ---- lists
 
 head : (p d e : ℕ → Bool) (a : ℕ) (xs : List ℕ) (b : Bool) → p a ≡ b → (b ≡ true → d a ≡ e a) → (b ≡ false → e a ≡ false) → filter d (filter p xs) ≡ filter e xs → filter d (filter p (a ∷ xs)) ≡ filter e (a ∷ xs)
@@ -168,8 +166,3 @@ module _ (F G : ℕ → Facts) (R : ℕ → Record) (A N : ℕ → List Query) (
     kept = rekept B asks;
     changed = changed_is changed S again;
   }
-
--- ---- what needs no turn
-
-pub counts_none : (F G : ℕ → Facts) (n : ℕ) → CountsWithin F G n n
-counts_none F G n = (0, ([], record { rising = λ k lt. absurd (omega (arith, lt)); inside = λ c h. absurd (true≢false (sym h)); each = λ c h. absurd (true≢false (sym h)) }, omega arith), omega arith)

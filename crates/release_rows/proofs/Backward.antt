@@ -2,17 +2,13 @@
 use Rattle.std.proofs.Common.{◌≡◌, ℕ, suc, ◌+◌, ◌-◌, ◌<◌, ◌≤◌, ◌^◌, List, [], ◌∷◌, ◌++◌, length, map, take, drop, get_or, refl, sym, ap, subst, ◌∙◌, arith}
 use Rattle.std.specs.List.{All, insert, remove}
 use Rattle.std.proofs.Math.Seq.{drop-append-add}
-use Rattle.std.proofs.lemmas.List.{append_assoc, drop-drop, drop-map, drop_all, drop_at, drop_more, flat_map_more, length-take-le, map-append, take-append-drop, take-map, take_at, take_more}
+use Rattle.std.proofs.lemmas.List.{append_assoc, drop-drop, drop-map, drop_at, drop_more, length-take-le, map-append, take-map, take_at, take_more}
 use Rattle.std.proofs.lemmas.List.Edits.{length-insert, length-remove}
 use Rattle.std.proofs.lemmas.List.Elements.{All-append, All-cons, All-drop, All-push, All-take}
-use Rattle.ucd_points.specs.Bounds.{Bounds}
 use Rattle.ucd_points.specs.declared.files.SourceFile.{SourceFile}
 use Rattle.part_list.specs.Parts.{PartLists, now_in, next_in}
 use Rattle.part_list.specs.declared.spanned.Spanned.{Spanned}
 use Rattle.release_rows.specs.Back.{AreCopies, Grew}
-use Rattle.release_rows.specs.FileItems.{FileItem}
-use Rattle.release_rows.specs.Operations.{spans_of}
-use Rattle.release_rows.specs.Patches.{item_spans}
 use Rattle.release_rows.specs.StoredItems.{IsKeptFile, IsStored, stored_at}
 use Rattle.release_rows.specs.declared.stretch.Stretch.{Stretch}
 use Rattle.release_rows.proofs.Arena.{all_still_stored, items_kept}
@@ -34,11 +30,6 @@ taken_out {A} xs ys whole at left within some so_far is =
     ap (λ m. drop (m + (left - 1)) (front ++ rest)) (sym long) ∙ drop-append-add front rest (left - 1) ∙ drop-drop (left - 1) (suc at) xs ∙ ap (λ m. drop m xs) behind in
     (omega arith, rw is (ap (λ (l : List A). l ++ drop (at + (left - 1)) (front ++ rest)) first ∙ ap (λ (l : List A). front ++ l) last ∙ so_far))
 
-pub none_left : {A : Type 0} (xs whole : List A) (at left : ℕ) → left ≤ 0 → take at xs ++ drop (at + left) xs ≡ whole → xs ≡ whole
-none_left {A} xs whole at left none so_far =
-    let here : at + left ≡ at = omega arith in
-    sym (take-append-drop at xs) ∙ ap (λ m. take at xs ++ drop m xs) (sym here) ∙ so_far
-
 -- one more is put in, in front of those that were
 put_in_front : {A : Type 0} (front mid rest : List A) (at : ℕ) (e : A) → length front ≡ at → insert (front ++ mid ++ rest) at e ≡ front ++ (e ∷ mid) ++ rest
 put_in_front {A} front mid rest at e long =
@@ -59,14 +50,6 @@ longer xs ys at e within is =
     let size = ap length is in
     let more = length-insert xs at e within in
     omega arith
-
-pub none_put : {A B : Type 0} (f : B → A) (old : List A) (entries : List B) (at left : ℕ) → length entries ≤ left → old ≡ take at old ++ map f (drop left entries) ++ drop at old
-none_put {A} {B} f old entries at left past =
-    sym (ap (λ (l : List B). take at old ++ map f l ++ drop at old) (drop_all left entries past) ∙ ap (λ (l : List A). l ++ drop at old) (nil (take at old)) ∙ take-append-drop at old)
-  where
-    nil : (l : List A) → l ++ [] ≡ l
-    nil [] = refl
-    nil (x ∷ l) = ap (λ (m : List A). x ∷ m) (nil l)
 
 pub map_insert : {A B : Type 0} (f : A → B) (xs : List A) (i : ℕ) (y : A) → map f (insert xs i y) ≡ insert (map f xs) i (f y)
 map_insert f xs i y = rw (map-append f (take i xs) (y ∷ drop i xs), take-map f i xs, drop-map f i xs) refl
@@ -106,11 +89,3 @@ copied_more file from text new entries copies after d copy done grew are lt stor
       stored = subst (All (IsStored file new)) (sym put) (All-push (IsStored file new) copies copy kept.stored stored);
       items = ap (map (stored_at file new)) put ∙ map-append (stored_at file new) copies (copy ∷ []) ∙ rw (kept.items, same) (sym (ap (map st) more ∙ map-append st (take done entries) (entry ∷ [])));
     }
-
--- ---- what they speak of
-
-pub spans_more : (st : Spanned Stretch → FileItem) (entries : List (Spanned Stretch)) (entry : Spanned Stretch) (done : ℕ) (first old new : List Bounds) → done < length entries → entry ≡ get_or entries done entry → old ≡ first ++ item_spans (map st (take done entries)) → new ≡ old ++ spans_of (st entry).row → new ≡ first ++ item_spans (map st (take (done + 1) entries))
-spans_more st entries entry done first old new lt is so_far put =
-    let more : take (done + 1) entries ≡ take done entries ++ entry ∷ [] = take_more entries done entry lt ∙ ap (λ (e : Spanned Stretch). take done entries ++ e ∷ []) (sym is) in
-    put ∙ ap (λ (l : List Bounds). l ++ spans_of (st entry).row) so_far ∙ flat_map_more (λ (i : FileItem). spans_of i.row) first (map st (take done entries)) (st entry)
-    ∙ ap (λ (l : List FileItem). first ++ item_spans l) (sym (ap (map st) more ∙ map-append st (take done entries) (entry ∷ [])))

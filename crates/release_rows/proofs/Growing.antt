@@ -71,10 +71,6 @@ holds_one file above row kept new holds more = λ p.
     ∙ sym (list_any-append p (map (extent_in file) above) (x ∷ []))
     ∙ ap (list_any p) (sym (map-append (extent_in file) above (row ∷ [])))
 
-pub takes_none : (file : SourceFile) (above : List Row) (row : Option Row) (kept : List Extent) → HoldsRows file above kept → EntersSome file None row → TakesRow file above row kept None
-takes_none file above None kept holds enters = (refl, λ none. rw (append-nil above) holds)
-takes_none file above (Some row) kept holds enters = absurd enters
-
 pub takes_row : (file : SourceFile) (above : List Row) (row : Option Row) (kept new : List Extent) (before : Option ℕ) (e : Entry) (conflict : Option Conflict) (back : Bool) → HoldsRows file above kept → before ≡ last_start above → EntersSome file (Some e) row → conflict ≡ conflict_with kept (extent_at e.place e.last) → (conflict_with kept (extent_at e.place e.last) ≡ None → (p : Extent → Bool) → list_any p new ≡ (p (extent_at e.place e.last) || list_any p kept)) → back ≡ is_back file before e.place.code → TakesRow file above row new (rule_by conflict back)
 takes_row file above None kept new before e conflict back holds start enters is more falls = absurd enters
 takes_row file above (Some row) kept new before e conflict back holds start enters is more falls =

@@ -1,6 +1,5 @@
 -- What the items of a file keep: their rows, and their bytes.
-use Rattle.std.proofs.Common.{◌≡◌, ℕ, ◌+◌, Bool, true, false, cond, List, [], ◌∷◌, ◌++◌, map, Option, Some, None, Result, Ok, Err, refl, sym, ap, subst, ◌∙◌, append_assoc}
-use Rattle.std.proofs.lemmas.List.{append-nil}
+use Rattle.std.proofs.Common.{◌≡◌, ℕ, ◌+◌, Bool, true, false, cond, List, [], ◌∷◌, ◌++◌, map, Option, Some, None, Result, Ok, Err, refl, sym, ap, ◌∙◌, append_assoc}
 use Rattle.ucd_points.specs.Lines.{LineItem, item_bytes, ending_bytes, joined, items_of}
 use Rattle.ucd_points.specs.declared.files.SourceFile.{SourceFile}
 use Rattle.ucd_facts.specs.declared.row.Row.{Row}
@@ -8,8 +7,8 @@ use Rattle.source_rows.specs.declared.fault.RowFault.{RowFault}
 use Rattle.release_rows.specs.Keys.{key_rule}
 use Rattle.release_rows.specs.Pieces.{Lines, pieces, opens_range, piece_content, one_line, two_lines}
 use Rattle.release_rows.specs.FileItems.{FileItem, rows_in, bytes_of, file_item_bytes, lines_of}
-use Rattle.release_rows.specs.Loading.{LoadFault, content_row, file_item, piece_fault, first_fault, unless_fault, items_or_fault, file_or_fault, row_rule}
-use Rattle.release_rows.specs.Releases.{IsKept, AreKeptBelow, AreKept}
+use Rattle.release_rows.specs.Loading.{LoadFault, content_row, file_item, piece_fault, first_fault, unless_fault, file_or_fault, row_rule}
+use Rattle.release_rows.specs.Releases.{IsKept, AreKeptBelow}
 use Rattle.release_rows.specs.declared.load_stop.LoadRule.{LoadRule}
 use Rattle.release_rows.proofs.RowRules.{no_key_rule}
 
@@ -58,20 +57,9 @@ pub ok_by : (o : Option LoadFault) (items all : List FileItem) → unless_fault 
 ok_by None items all h = (refl, cc)
 ok_by (Some fault) items all h = absurd cc
 
-pub items_kept : (file : SourceFile) (bytes : List ℕ) (items : List FileItem) → file_or_fault file bytes ≡ Ok items → AreKept file items
-unfolding file_or_fault
-items_kept file bytes items h =
-    let ps = pieces file (items_of bytes) in
-    let parts = ok_by (first_fault file [] ps) items (map (file_item file) ps) h in
-    subst (AreKept file) parts.1 (kept_below file [] ps parts.0)
-
 pub items_join : (file : SourceFile) (bytes : List ℕ) (items : List FileItem) → joined (items_of bytes) ≡ bytes → file_or_fault file bytes ≡ Ok items → bytes_of items ≡ bytes
 unfolding file_or_fault
 items_join file bytes items whole h =
     let ps = pieces file (items_of bytes) in
     let parts = ok_by (first_fault file [] ps) items (map (file_item file) ps) h in
     ap bytes_of (sym parts.1) ∙ pieces_join file (items_of bytes) ∙ whole
-
--- where no piece is left, the items so far are those of the file
-pub at_end : (file : SourceFile) (items result : List FileItem) (ps : List Lines) (whole : Result (List FileItem) LoadFault) → items_or_fault file items ps ≡ whole → ps ≡ [] → result ≡ items → whole ≡ Ok result
-at_end file items result ps whole h none same = sym h ∙ rw (none, same) (ap (λ (is : List FileItem). Ok is) (append-nil items))

@@ -13,13 +13,12 @@ use Rattle.ucd_points.specs.HexText.{hex_text}
 use Rattle.ucd_points.specs.HexTextLaws.{IsUpperHex}
 use Rattle.ucd_points.specs.HexTextProofs.{hex_text_is_upper_case}
 use Rattle.ucd_facts.specs.OtherLines.{is_name_or_empty}
-use Rattle.ucd_facts.specs.RowValues.{IsAliasName, AliasOk, ValueOk, RowOk}
+use Rattle.ucd_facts.specs.RowValues.{IsAliasName, AliasOk, RowOk}
 use Rattle.ucd_points.specs.declared.files.SourceFile.{SourceFile}
 use Rattle.ucd_points.specs.declared.files.SourceFile.TheVariants.{UnicodeData, PropList, Scripts, WordBreakProperty, CompositionExclusions, CaseFolding, SpecialCasing, PropertyAliases, PropertyValueAliases}
 use Rattle.ucd_facts.specs.declared.row.AliasRow.{AliasRow}
 use Rattle.ucd_facts.specs.declared.row.CasingRow.{CasingRow}
-use Rattle.ucd_facts.specs.declared.row.ValueRow.{ValueRow}
-use Rattle.ucd_facts.specs.declared.row.Row.TheVariants.{Value as ValueLine, Casing as CasingLine, Alias as AliasLine}
+use Rattle.ucd_facts.specs.declared.row.Row.TheVariants.{Casing as CasingLine, Alias as AliasLine}
 use Rattle.source_rows.specs.Keys.{condition_names, alias_count, missing_names, key_names}
 use Rattle.release_rows.specs.Names.{first_names}
 use Rattle.release_rows.specs.Places.{names_of}
@@ -138,16 +137,3 @@ alias_text WordBreakProperty row ok = absurd ok
 alias_text CompositionExclusions row ok = absurd ok
 alias_text CaseFolding row ok = absurd ok
 alias_text SpecialCasing row ok = absurd ok
-
--- ---- rows of a span and a value
-
-pub value_ok : (file : SourceFile) (row : ValueRow) → RowOk file (ValueLine row) → ValueOk row
-value_ok PropList row ok = ok
-value_ok Scripts row ok = ok
-value_ok WordBreakProperty row ok = ok
-value_ok UnicodeData row ok = absurd ok
-value_ok CompositionExclusions row ok = absurd ok
-value_ok CaseFolding row ok = absurd ok
-value_ok SpecialCasing row ok = absurd ok
-value_ok PropertyAliases row ok = absurd ok
-value_ok PropertyValueAliases row ok = absurd ok

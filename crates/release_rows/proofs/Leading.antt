@@ -7,7 +7,7 @@ use Rattle.std.proofs.lemmas.List.Concat.{flat_map-append}
 use Rattle.std.proofs.lemmas.List.Elements.{All-drop, All-take}
 use Rattle.ucd_points.specs.SourceFiles.{file_place}
 use Rattle.ucd_points.specs.declared.files.SourceFile.{SourceFile}
-use Rattle.part_list.specs.Parts.{PartLists, flat, next_in, now_in, part_at, spliced}
+use Rattle.part_list.specs.Parts.{PartLists, flat, now_in, part_at, spliced}
 use Rattle.part_list.specs.declared.spanned.Spanned.{Spanned}
 use Rattle.release_rows.specs.Back.{LeadsOn, turned}
 use Rattle.release_rows.specs.FileItems.{FileItem}
@@ -116,9 +116,6 @@ same_trimmed now next a b front t none none' =
     t.next_is ∙ ap (λ (l : List FileItem). t.before ++ (l ++ t.behind)) (none' ∙ sym none) ∙ sym t.now_is
 
 -- ---- parts
-
-pub turned_none : {A : Type 0} (items : PartLists A) → turned items 0 ≡ next_in items
-turned_none items = refl
 
 pub turned_all : {A : Type 0} (items : PartLists A) (slot : ℕ) → length items.now ≤ slot → length items.next ≡ length items.now → turned items slot ≡ now_in items
 turned_all items slot past both = rw (take_all slot items.now past, drop_all slot items.next (omega arith)) (append-nil (now_in items))

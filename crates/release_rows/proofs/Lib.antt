@@ -21,7 +21,6 @@ pub mod Loads
 pub mod Tagging
 pub mod SharedSpans
 pub mod Seeking
-pub mod Skipping
 pub mod Moved
 pub mod Marking
 pub mod GapPlaces
@@ -44,7 +43,6 @@ mod EntrySpans
 mod FirstRows
 mod SeekingKeys
 mod FilesEdited
-pub mod SameTexts
 mod Backward
 mod Leading
 mod LeadingFiles

@@ -31,14 +31,6 @@ has_more file old new (Some row) grows h = grows (group_tag (group_of file row))
 pub marked_more : (file : SourceFile) (old new : Tags) (items : List FileItem) → Grows old new → AreMarked file old items → AreMarked file new items
 marked_more file old new items grows all = All-weaker (IsMarked file old) (IsMarked file new) (λ item h. has_more file old new item.row grows h) items all
 
-has_any : (file : SourceFile) (groups : Tags) (row : Option Row) → ((t : ℕ) → may_have groups t ≡ true) → HasMark file groups row
-has_any file groups None any = tt
-has_any file groups (Some row) any = any (group_tag (group_of file row))
-
--- where nothing is known
-pub any_marked : (file : SourceFile) (groups : Tags) (items : List FileItem) → ((t : ℕ) → may_have groups t ≡ true) → AreMarked file groups items
-any_marked file groups items any i d lt = has_any file groups _ any
-
 -- ---- an item that is put in, or comes in the place of another one
 
 pub marked_remove : (file : SourceFile) (groups : Tags) (items : List FileItem) (at : ℕ) → AreMarked file groups items → AreMarked file groups (remove items at)

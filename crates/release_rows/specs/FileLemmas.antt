@@ -4,15 +4,13 @@
 --                             there
 -- items_at-with_items_same    the file in which the items were put has them
 -- items_at-with_items_other   the other files keep theirs
--- items_at-none               where no file has an item, none has
 -- rows_of_numbered            without their lines, numbered rows are the rows
 -- numbered_one                the same of one item before others of which it holds
 use Rattle.std.proofs.Common.{◌≡◌, ◌≢◌, ℕ, ◌+◌, List, [], ◌∷◌, map, Option, Some, None, length, refl, sym, ap, subst, ◌∙◌, inl, inr, arith}
 use Rattle.ucd_points.specs.declared.files.SourceFile.{SourceFile}
-use Rattle.ucd_points.specs.declared.files.SourceFile.TheVariants.{UnicodeData, PropList, Scripts, WordBreakProperty, CompositionExclusions, CaseFolding, SpecialCasing, PropertyAliases, PropertyValueAliases}
 use Rattle.ucd_facts.specs.declared.row.Row.{Row}
 use Rattle.release_rows.specs.FileItems.{FileItem, rows_in, onto_rows}
-use Rattle.release_rows.specs.Releases.{items_at, with_items, no_items, numbered_rows, onto_numbered}
+use Rattle.release_rows.specs.Releases.{items_at, with_items, numbered_rows, onto_numbered}
 use Rattle.ucd_points.specs.SourceFiles.{file_at, file_at-place, file_place, file_place_small}
 use Rattle.std.proofs.lemmas.Bool.{cases_eq}
 use Rattle.std.proofs.lemmas.List.{get_or-set_same, get_or-set_other}
@@ -33,18 +31,6 @@ each_with_items P files file items nine all new other = elim (cases_eq (file_pla
 -- the other files keep their items
 pub items_at-with_items_other : (files : List (List FileItem)) (file other : SourceFile) (items : List FileItem) → other ≢ file → items_at (with_items files file items) other ≡ items_at files other
 items_at-with_items_other files file other items apart = get_or-set_other files (file_place file) (file_place other) items [] (λ same. apart (same_file file other same))
-
--- no file has an item
-pub items_at-none : (file : SourceFile) → items_at no_items file ≡ []
-items_at-none UnicodeData = refl
-items_at-none PropList = refl
-items_at-none Scripts = refl
-items_at-none WordBreakProperty = refl
-items_at-none CompositionExclusions = refl
-items_at-none CaseFolding = refl
-items_at-none SpecialCasing = refl
-items_at-none PropertyAliases = refl
-items_at-none PropertyValueAliases = refl
 
 -- ---- rows with their lines
 

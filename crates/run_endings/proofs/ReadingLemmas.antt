@@ -1,13 +1,8 @@
 -- What was read is what was seen, of which no more was read than decides it.
-use Rattle.std.proofs.Common.{◌≡◌, ◌≤◌, ℕ, ◌+◌, Bool, true, false, IsTrue, List, [], ◌∷◌, length, map, Some, refl, sym, ap, ◌∙◌}
-use Rattle.std.proofs.lemmas.List.{length-map, take_all}
-use Rattle.ucd_points.specs.Limits.{file_limit}
+use Rattle.std.proofs.Common.{◌≡◌, ◌≤◌, ℕ, ◌+◌, Bool, true, false, IsTrue, List, [], ◌∷◌, length, map, refl, ap, ◌∙◌}
+use Rattle.std.proofs.lemmas.List.{length-map}
 use Rattle.run_endings.specs.Endings.{Contents, Seen}
 use Rattle.run_endings.specs.Reading.{IsRead, cut}
-
--- bytes that are few enough are not cut
-pub few_bytes : (bytes : List ℕ) → length bytes ≤ file_limit + 1 → Some bytes ≡ cut (Some bytes)
-few_bytes bytes few = ap Some (sym (take_all (file_limit + 1) bytes few))
 
 cut_held : (holds : Contents) (paths : List (List ℕ)) → map (λ path. cut (holds path)) paths ≡ map cut (map holds paths)
 cut_held holds [] = refl

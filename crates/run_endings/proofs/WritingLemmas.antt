@@ -2,7 +2,7 @@
 use Rattle.std.proofs.Common.{◌≡◌, ◌≢◌, ℕ, zero, suc, IsTrue, ◌+◌, ◌-◌, ◌<◌, ◌≤◌, Bool, true, false, cond, List, [], ◌∷◌, ◌++◌, length, take, drop, map, get_or, Some, refl, sym, ap, ◌∙◌, arith}
 use Rattle.std.specs.List.{slice_get}
 use Rattle.std.specs.Str.{bytes_eq}
-use Rattle.std.proofs.lemmas.List.{drop_more, take_more, length-map, take_all}
+use Rattle.std.proofs.lemmas.List.{drop_more, take_more, length-map}
 use Rattle.std.proofs.lemmas.Slice.Eq.{bytes_eq-Decides}
 use Rattle.std.proofs.lemmas.Option.{slice_get-get_or}
 use Rattle.run_endings.specs.Endings.{Contents, NewFile, put, after}
@@ -21,9 +21,6 @@ pub record IsLeft (outputs rest : List Output) : Type 0 where
 -- the files that are done, in order, replaced
 abbrev pub done_of : List Output → List Output → List NewFile
 done_of outputs rest = take (length outputs - length rest) (files_of outputs)
-
-pub left_at_start : (outputs : List Output) → IsLeft outputs outputs
-left_at_start outputs = let none : length outputs - length outputs ≡ 0 = omega arith in record { few = omega arith; suffix = rw none refl }
 
 pub left_next : (outputs rest : List Output) (output : Output) → IsLeft outputs (output ∷ rest) → IsLeft outputs rest
 left_next outputs rest output left =
@@ -71,10 +68,6 @@ contents_next outputs rest output old now new left before here others path =
       | true ↦ λ e. let same : output.path ≡ path = (bytes_eq-Decides output.path path).0 e in ap new (sym same) ∙ here
       | false ↦ λ e. others path (λ same. absurd (let yes : bytes_eq output.path path ≡ true = (bytes_eq-Decides output.path path).1 (sym same) in cc)) ∙ before path
     ] refl ∙ sym done
-
--- nothing is left
-pub all_done : (outputs : List Output) → done_of outputs [] ≡ files_of outputs
-all_done outputs = take_all (length outputs - 0) (files_of outputs) (omega (arith, length-map outputs file_of))
 
 pub output_here : (outputs rest : List Output) (output : Output) → IsLeft outputs (output ∷ rest) → slice_get outputs (length outputs - suc (length rest)) ≡ Some output
 output_here outputs rest output left =

@@ -63,9 +63,6 @@ outside done = record { commands = done; group = None }
 abbrev grown : OpenGroup → List Op → OpenGroup
 grown group ops = record { line = group.line; ops = group.ops ++ ops }
 
-says_step : (n : ℕ) (script : Script) (next : Option (List ℕ)) (line : List ℕ) (what : Said) (made : Result Script ScriptFault) → said line ≡ what → step_by n script next what ≡ made → step_by n script next (said line) ≡ made
-says_step n script next line what made e h = ap (step_by n script next) e ∙ h
-
 room_step : (n : ℕ) (done : List Command) (group : OpenGroup) (op : Op) (count : ℕ) → length group.ops + (1 + count) ≤ 4096 → operated n (within done group) (Ok op) ≡ Ok (within done (grown group (op ∷ [])))
 room_step n done group op count room = let free : is_full (Some group) ≡ false = grind (arith, nat_tests) in rw free refl
 

@@ -60,10 +60,6 @@ values_never fs h = never G05 G09 (category_of (field fs 2)) _ (λ e. cc) (λ ca
 
 -- ---- the name of a first line is a name, and that of a range
 
-named_bytes : (bs : List ℕ) → list_all is_name_byte bs ≡ true → (bs ≡ [] → ⊥) → is_name bs ≡ true
-named_bytes [] h some = absurd (some refl)
-named_bytes (b ∷ bs) h some = h
-
 bytes_named : (bs : List ℕ) → is_name bs ≡ true → list_all is_name_byte bs ≡ true
 bytes_named [] h = refl
 bytes_named (b ∷ bs) h = h

@@ -1,5 +1,5 @@
 -- Code points without a mapping: their NFKC and their folding under it.
-use Rattle.std.proofs.Common.{◌≡◌, ℕ, Bool, true, false, ◌&&◌, not, ◌==◌, List, [], ◌∷◌, ◌++◌, Result, Ok, Err, if◌then◌else◌, refl, sym, ap, ◌∙◌}
+use Rattle.std.proofs.Common.{◌≡◌, ℕ, Bool, true, false, ◌&&◌, not, ◌==◌, List, [], ◌∷◌, ◌++◌, Ok, if◌then◌else◌, refl, sym, ap, ◌∙◌}
 use Rattle.std.specs.Str.{bytes_eq}
 use Rattle.std.proofs.lemmas.Slice.Eq.{bytes_eq-Decides}
 use Rattle.std.proofs.lemmas.List.{append-nil}
@@ -10,9 +10,8 @@ use Rattle.ucd_model.specs.Forms.{appended, composed, in_order, nfkc}
 use Rattle.ucd_facts.specs.Uniform.{IsPlain}
 use Rattle.ucd_facts.specs.declared.decomposition.Kind.{Kind}
 use Rattle.ucd_facts.specs.declared.decomposition.Kind.TheVariants.{Plain, Canonical, Compat}
-use Rattle.ucd_facts.specs.declared.form.Bad.{Bad as Rule}
 use Rattle.normalisation.specs.FormLemmas.{expansion_alone}
-use Rattle.stability_policies.specs.CaselessLists.{folding_of, same_where, where_list}
+use Rattle.stability_policies.specs.CaselessLists.{folding_of}
 use Rattle.stability_policies.specs.Policies.{caseless, folded, same_list}
 
 either : {A : Type 0} (b : Bool) (x : A) → (if b then x else x) ≡ x
@@ -42,12 +41,6 @@ caseless_plain_kind F c e = ap (folded F) (nfkc_plain_kind F c e) ∙ ap (λ s. 
 
 pub caseless_plain : (F : ℕ → Facts) (c : ℕ) → IsPlain c (F c) → caseless F (c ∷ []) ≡ Ok (c ∷ [])
 caseless_plain F c p = ap (folded F) (nfkc_plain F c p) ∙ ap (λ i. Ok (image_points c i ++ [])) p.fold
-
-pub same_list_where : (r s : Result (List ℕ) Rule) → same_where (where_list r) (where_list s) ≡ same_list r s
-same_list_where (Ok s) (Ok t) = refl
-same_list_where (Ok s) (Err b) = refl
-same_list_where (Err a) (Ok t) = refl
-same_list_where (Err a) (Err b) = refl
 
 no_mapping : (k : Kind) → not (is_plain k) ≡ false → k ≡ Plain
 no_mapping Plain e = refl

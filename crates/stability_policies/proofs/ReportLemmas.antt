@@ -1,9 +1,7 @@
 -- A report, policy after policy and row after row.
-use Rattle.std.proofs.Common.{◌≡◌, ◌≢◌, ℕ, suc, ◌+◌, ◌<◌, ◌≤◌, Bool, true, false, cond, not, ◌||◌, List, [], ◌∷◌, ◌++◌, length, get_or, take, map, filter, is_some, nat_lt, Some, None, refl, sym, ap, subst, ◌∙◌, arith}
-use Rattle.std.specs.List.{flat_map, list_any, position, position_or_len}
-use Rattle.std.proofs.lemmas.List.{append-nil, append_assoc, take_all, take_more}
-use Rattle.std.proofs.lemmas.Grind.{flat_map-append}
-use Rattle.std.proofs.lemmas.Bool.Decides.{nat_tests}
+use Rattle.std.proofs.Common.{◌≡◌, ◌≢◌, ℕ, ◌+◌, ◌<◌, ◌≤◌, Bool, true, false, cond, not, ◌||◌, List, [], ◌∷◌, ◌++◌, length, take, map, filter, refl, sym, ap, subst, ◌∙◌}
+use Rattle.std.specs.List.{flat_map, list_any}
+use Rattle.std.proofs.lemmas.List.{append_assoc, take_all}
 use Rattle.release_rows.specs.Releases.{ReleaseItems, rows_now}
 use Rattle.ucd_facts.specs.Facts.{Facts, facts}
 use Rattle.ucd_points.specs.Limits.{point_count}
@@ -20,44 +18,10 @@ use Rattle.stability_policies.specs.declared.policy.Policy.TheVariants.{P01, P02
 
 -- ---- lists that are put one after the other
 
-flat_one : {X Y : Type 0} (f : X → List Y) (x : X) → flat_map f (x ∷ []) ≡ f x
-flat_one f x = append-nil (f x)
-
-pub flat_more : {X Y : Type 0} (f : X → List Y) (before new now : List Y) (xs : List X) (i : ℕ) (x : X) → i < length xs → x ≡ get_or xs i x → now ≡ before ++ flat_map f (take i xs) → new ≡ now ++ f x → new ≡ before ++ flat_map f (take (i + 1) xs)
-flat_more f before new now xs i x lt here so_far more =
-    more ∙ ap (λ zs. zs ++ f x) so_far ∙ append_assoc before (flat_map f (take i xs)) (f x)
-    ∙ ap (λ zs. before ++ zs) (ap (λ zs. flat_map f (take i xs) ++ zs) (sym (flat_one f x)) ∙ sym (flat_map-append f (take i xs) (x ∷ [])))
-    ∙ ap (λ y. before ++ flat_map f (take i xs ++ y ∷ [])) here
-    ∙ ap (λ zs. before ++ flat_map f zs) (sym (take_more xs i x lt))
-
 pub flat_all : {X Y : Type 0} (f : X → List Y) (now : List Y) (xs : List X) (i : ℕ) → length xs ≤ i → now ≡ flat_map f (take i xs) → now ≡ flat_map f xs
 flat_all f now xs i le so_far = so_far ∙ ap (flat_map f) (take_all i xs le)
 
--- behind what was there, all of them
-pub flat_whole : {X Y : Type 0} (f : X → List Y) (before now : List Y) (xs : List X) (i : ℕ) → length xs ≤ i → now ≡ before ++ flat_map f (take i xs) → now ≡ before ++ flat_map f xs
-flat_whole f before now xs i le so_far = so_far ∙ ap (λ ys. before ++ flat_map f ys) (take_all i xs le)
-
 -- ---- rows of alias files
-
-place_is : (t : Bool) (a b : ℕ) → is_some (cond t (Some a) None) ≡ is_some (cond t (Some b) None)
-place_is true a b = refl
-place_is false a b = refl
-
-place_zero : (m : ℕ) → nat_lt 0 (suc m) ≡ true
-place_zero m = grind (arith, nat_tests)
-
-place_more : (n m : ℕ) → nat_lt (1 + n) (suc m) ≡ nat_lt n m
-place_more n m = grind (arith, nat_tests)
-
-place_by : (b : Bool) (n m : ℕ) (rest : Bool) → is_some (cond (nat_lt n m) (Some n) None) ≡ rest
-    → is_some (cond (nat_lt (cond (not b) (1 + n) 0) (suc m)) (Some (cond (not b) (1 + n) 0)) None) ≡ (b || rest)
-place_by true n m rest e = ap (λ t. is_some {T = ℕ} (cond t (Some 0) None)) (place_zero m)
-place_by false n m rest e = ap (λ t. is_some {T = ℕ} (cond t (Some (1 + n)) None)) (place_more n m) ∙ place_is (nat_lt n m) (1 + n) n ∙ e
-
--- there is a first place at which p passes if it passes at one
-pub some_place : {X : Type 0} (p : X → Bool) (xs : List X) → is_some (position p xs) ≡ list_any p xs
-some_place p [] = refl
-some_place p (x ∷ xs) = place_by (p x) (position_or_len p xs) (length xs) (list_any p xs) (some_place p xs)
 
 any_map : {X Y : Type 0} (p : Y → Bool) (f : X → Y) (xs : List X) → list_any p (map f xs) ≡ list_any (λ x. p (f x)) xs
 any_map p f [] = refl

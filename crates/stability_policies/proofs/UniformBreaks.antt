@@ -9,7 +9,7 @@ use Rattle.ucd_facts.specs.Facts.{Facts, image_points}
 use Rattle.ucd_model.specs.Identifiers.{continues, starts, xid_continue, xid_start}
 use Rattle.ucd_facts.specs.Predicates.{id_continue, id_start}
 use Rattle.ucd_facts.specs.Uniform.{Alike, IsPlain, Uniform}
-use Rattle.stability_policies.specs.Policies.{all_assigned, breaks, is_case_pair, same_list, same_mapping, sort_of, caseless}
+use Rattle.stability_policies.specs.Policies.{all_assigned, breaks, is_case_pair, same_list, same_mapping, caseless}
 use Rattle.stability_policies.specs.BrokenStretches.{IsAlikeTo}
 use Rattle.stability_policies.specs.StableForms.{all_kept, keeps_forms}
 use Rattle.stability_policies.specs.declared.policy.Policy.{Policy}
@@ -43,11 +43,6 @@ no_pair F c b G e = ap (λ d. is_case_pair F c d && b) e ∙ ap (λ t. (not t &&
 -- ---- what a code point that is uniform with another breaks
 
 module _ (O N : ℕ → Facts) (c d : ℕ) (p : IsPlain c (O c)) (u : Uniform O c d) (q : IsPlain c (N c)) (v : Uniform N c d) where
-  kind_old : sort_of (O d).kind ≡ sort_of (O c).kind
-  kind_old = ap sort_of u.alike.kind
-
-  kind_new : sort_of (N d).kind ≡ sort_of (N c).kind
-  kind_new = ap sort_of v.alike.kind
 
   mapping_same : same_mapping (O d) (N d) ≡ same_mapping (O c) (N c)
   mapping_same = rw (u.alike.kind, v.alike.kind, u.plain.mapping, v.plain.mapping, p.mapping, q.mapping) refl

@@ -1,10 +1,6 @@
 -- Hexadecimal digits.
 use Rattle.std.proofs.Common.{◌≡◌, ℕ, zero, suc, ◌+◌, ◌*◌, ◌^◌, ◌<◌, Option, Some, None, refl, arith}
-use Rattle.std.proofs.lemmas.Nat.{pow-add}
 use Rattle.ucd_points.specs.Fields.{with_digit}
-
-pub with_more : (i n d : ℕ) → n < 16 ^ i → d < 16 → 16 * n + d < 16 ^ (i + 1)
-with_more i n d lt small = omega (arith, pow-add 16 i 1)
 
 -- before an eighth digit
 pub seven_digits : (i n : ℕ) → i < 8 → n < 16 ^ i → n < 268435456

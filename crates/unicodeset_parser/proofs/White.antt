@@ -1,7 +1,6 @@
 -- White space that is passed over.
 use Rattle.std.proofs.Common.{◌≡◌, ℕ, zero, suc, ◌<◌, List, [], ◌∷◌, drop, refl, ap, ◌∙◌, arith}
 use Rattle.unicodeset_parser.specs.Blanks.{blank_size, closes, closes_by}
-use Rattle.unicodeset_parser.specs.Bytes.{begins_with}
 
 closes_skip : (k : ℕ) (bs : List ℕ) → closes k bs ≡ closes 0 (drop k bs)
 closes_skip zero bs = refl
@@ -12,7 +11,3 @@ pub closes_step : (n : ℕ) (bs : List ℕ) → blank_size bs ≡ n → 0 < n �
 closes_step zero bs e some = absurd (omega arith)
 closes_step (suc n) [] e some = refl
 closes_step (suc n) (b ∷ bs) e some = ap (λ m. closes_by m b (λ k. closes k bs)) e ∙ closes_skip n bs
-
-pub closes_none : (bs : List ℕ) → blank_size bs ≡ 0 → closes 0 bs ≡ begins_with 93 bs
-closes_none [] e = refl
-closes_none (b ∷ bs) e = ap (λ m. closes_by m b (λ k. closes k bs)) e

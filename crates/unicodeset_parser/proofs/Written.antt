@@ -57,9 +57,6 @@ good_when : (b : Bool) {x y : Lexed} → (b ≡ true → Good x) → Good y → 
 good_when true h k = h refl
 good_when false h k = k
 
-good_wrong : (w : _) → Good (sized 1 (wrong w))
-good_wrong w = record { sign = tt }
-
 -- ---- properties
 
 record IsName (negated : Bool) (name : List ℕ) : Type 0 where

@@ -18,6 +18,7 @@ use Rattle.code_facts.specs.Copying.{IsListed}
 use Rattle.code_facts.specs.declared.pair_index.PairIndex.{PairIndex}
 use Rattle.code_facts.specs.declared.pair_keys.PairKeys.{PairKeys}
 use Rattle.code_facts.specs.declared.row_tables.RowTables.{RowTables}
+use Rattle.code_facts.proofs.FactLemmas.{point_below}
 
 -- ---- a primary composite is listed
 
@@ -121,16 +122,12 @@ at_end k q from lt = omega arith
 pub none_next : (p : ℕ → Bool) (q n : ℕ) → n ≡ q → NoneBelow p q → p q ≡ false → NoneBelow p (n + 1)
 none_next p q n at below here k under = let lt : k < q + 1 = omega arith in elim (cases_lt k q) [ inl before ↦ below k before | inr from ↦ subst (λ (n : ℕ). p n ≡ false) (at_end k q from lt) here ]
 
-pub below_count : (q : ℕ) → q < 1114112 → q < point_count
-unfolding point_count
-below_count q lt = lt
-
 pub none_count : (p : ℕ → Bool) → NoneBelow p 1114112 → (k : ℕ) → k < point_count → p k ≡ false
 unfolding point_count
 none_count p none = none
 
 pub pair_found : (F : ℕ → Facts) (s y q : ℕ) → q < 1114112 → NoneBelow (composes F s y) q → composes F s y q ≡ true → Some q ≡ pair_of F s y
-pair_found F s y q lt none is = sym (pair_of_first F s y q (below_count q lt) is none)
+pair_found F s y q lt none is = sym (pair_of_first F s y q (point_below q lt) is none)
 
 pub pair_none : (F : ℕ → Facts) (s y : ℕ) → NoneBelow (composes F s y) 1114112 → None ≡ pair_of F s y
 pair_none F s y none = sym (pair_of_none F s y (none_count (composes F s y) none))
@@ -149,7 +146,7 @@ pub pair_of_mark : (F : ℕ → Facts) (s y : ℕ) → ((F s).class == 0) ≡ fa
 pair_of_mark F s y other = pair_none F s y (λ q lt. false_from_ne_true (composes F s y q) (λ is. true≢false (sym (first_zero F s y q is) ∙ other)))
 
 pub second_found : (F : ℕ → Facts) (y q : ℕ) → q < 1114112 → ends_with F y q ≡ true → true ≡ second_of F y
-second_found F y q lt is = sym (second_of_some F y q (below_count q lt) is)
+second_found F y q lt is = sym (second_of_some F y q (point_below q lt) is)
 
 pub second_none : (F : ℕ → Facts) (y : ℕ) → NoneBelow (ends_with F y) 1114112 → false ≡ second_of F y
 second_none F y none = sym (second_of_none F y (none_count (ends_with F y) none))

@@ -1,10 +1,10 @@
 -- How a point is moved into its place among those before it.
 use Rattle.std.proofs.Common.{◌≡◌, ℕ, zero, suc, ◌+◌, ◌≤◌, ◌<◌, Bool, true, false, cond, ◌==◌, List, [], ◌∷◌, ◌++◌, length, take, drop, get_or, set, refl, sym, ap, ◌∙◌, arith}
 use Rattle.std.specs.List.{list_all}
-use Rattle.std.proofs.lemmas.Bool.Decides.{nat_tests}
 use Rattle.std.proofs.lemmas.List.{append_assoc, length-append, length_push, length-set, length-drop, drop_more, take_at, drop_at, take_all, length-take, at_drop_more, at_drop_all}
 use Rattle.std.proofs.lemmas.List.Folds.{list_all_at}
 use Rattle.ucd_model.specs.CanonicalOrder.{greater, placed, with_next, order_onto}
+use Rattle.normalisation.specs.OrderLemmas.{with_next_mark}
 
 -- ---- one step to the front: what stands before the free place moves into it
 
@@ -49,9 +49,6 @@ placed_is class (a ∷ A) (suc p) y le above stops =
     let lower : list_all (greater class y) (a ∷ A) ≡ false = list_all_at (greater class y) (a ∷ A) p 0 (omega arith) (stops p (omega arith)) in
     rw lower (ap (λ zs. a ∷ zs) (placed_is class A p y (omega arith) above (λ q e. stops (suc q) (omega arith))))
 
-pub with_next_placed : (class : ℕ → ℕ) (xs : List ℕ) (y : ℕ) → 0 < class y → with_next class xs y ≡ placed class y xs
-with_next_placed class xs y lt = let t : (class y == 0) ≡ false = grind (arith, nat_tests) in rw t refl
-
 -- ---- the whole move
 
 pub shape_length : (A B s : List ℕ) (q y : ℕ) → q ≤ length A → set s q y ≡ take q A ++ y ∷ (drop q A ++ B) → q < length s
@@ -59,7 +56,7 @@ shape_length A B s q y le shape = omega (arith, length-set s q y, ap length shap
 
 pub put_back : (class : ℕ → ℕ) (A B s : List ℕ) (p y : ℕ) → p ≤ length A → set s p y ≡ take p A ++ y ∷ (drop p A ++ B) → list_all (greater class y) (drop p A) ≡ true → ((q : ℕ) → q + 1 ≡ p → greater class y (get_or A q 0) ≡ false) → 0 < class y → set s p y ≡ with_next class A y ++ B
 put_back class A B s p y le shape above stops lt =
-    shape ∙ sym (append_assoc (take p A) (y ∷ drop p A) B) ∙ ap (λ zs. zs ++ B) (sym (with_next_placed class A y lt ∙ placed_is class A p y le above stops))
+    shape ∙ sym (append_assoc (take p A) (y ∷ drop p A) B) ∙ ap (λ zs. zs ++ B) (sym (with_next_mark class A y lt ∙ placed_is class A p y le above stops))
 
 length-if : (t : Bool) (xs ys : List ℕ) (n : ℕ) → length xs ≡ n → length ys ≡ n → length (cond t xs ys) ≡ n
 length-if true xs ys n e f = e

@@ -87,7 +87,7 @@ pub record BreaksNone (above : List Extent) (x : Extent) : Type 0 where
   pub no_start : list_any (same_start x) above ≡ false
   pub no_meeting : list_any (meets x) above ≡ false
 
-none_by : (a b : Bool) → cond a (Some K1) (cond b (Some K4) None) ≡ None → (a ≡ false) × (b ≡ false)
+pub none_by : (a b : Bool) → cond a (Some K1) (cond b (Some K4) None) ≡ None → (a ≡ false) × (b ≡ false)
 none_by true b h = absurd cc
 none_by false true h = absurd cc
 none_by false false h = (refl, refl)
@@ -136,7 +136,7 @@ module _ (m n : BTreeMap Place ℕ) (place : Place) (last : ℕ) (ordered : plac
   pub still_apart : AreApart n
   still_apart = record { ordered = λ a x h. stays_ordered a x (has a x h); apart = λ a b x y h k same lt. stays_apart a b x y (has a x h) (has b y k) same lt }
 
-swapped : (a b c : Bool) → (b || (a || c)) ≡ (a || (b || c))
+pub swapped : (a b c : Bool) → (b || (a || c)) ≡ (a || (b || c))
 swapped true true c = refl
 swapped true false c = refl
 swapped false true c = refl

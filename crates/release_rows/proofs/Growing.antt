@@ -17,6 +17,7 @@ use Rattle.release_rows.specs.Progress.{HoldsRows, TakesRow, start_of_entry}
 use Rattle.release_rows.specs.declared.conflict.Conflict.{Conflict}
 use Rattle.release_rows.specs.declared.entry.Entry.{Entry}
 use Rattle.release_rows.proofs.RowRules.{back_is, extent_is, no_conflict, rule_told}
+use Rattle.release_rows.proofs.Operations.{rows-append}
 
 -- the first code point of the last row, with one more row or none
 abbrev start_with : Option ℕ → Option Row → Option ℕ
@@ -29,13 +30,8 @@ start_is file before (Some e) (Some row) h = ap (λ (n : ℕ). Some n) h.code
 start_is file before None (Some row) h = absurd h
 start_is file before (Some e) None h = absurd h
 
-onto_more : (row : Option Row) (rows more : List Row) → onto_rows row (rows ++ more) ≡ onto_rows row rows ++ more
-onto_more None rows more = refl
-onto_more (Some r) rows more = refl
-
 pub rows_with : (items : List FileItem) (item : FileItem) → rows_in (items ++ item ∷ []) ≡ rows_in items ++ onto_rows item.row []
-rows_with [] item = refl
-rows_with (i ∷ items) item = rw (rows_with items item) (onto_more i.row (rows_in items) (onto_rows item.row []))
+rows_with items item = rows-append items (item ∷ [])
 
 pub lines_with : (items : List FileItem) (item : FileItem) → lines_of (items ++ item ∷ []) ≡ lines_of items + item.lines
 lines_with items item = sum_by-append (λ i. i.lines) items (item ∷ []) ∙ omega arith

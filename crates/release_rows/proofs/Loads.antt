@@ -5,6 +5,7 @@ use Rattle.std.specs.List.{All}
 use Rattle.std.proofs.lemmas.Bool.Decides.{nat_tests}
 use Rattle.std.proofs.lemmas.List.{append-nil}
 use Rattle.std.proofs.lemmas.List.Elements.{All-nil, All-cons, All-head, All-tail}
+use Rattle.std.proofs.lemmas.Bool.{le-ltb}
 use Rattle.ucd_points.specs.declared.files.SourceFile.{SourceFile}
 use Rattle.ucd_points.specs.declared.files.SourceFile.TheVariants.{UnicodeData, PropList, Scripts, WordBreakProperty, CompositionExclusions, CaseFolding, SpecialCasing, PropertyAliases, PropertyValueAliases}
 use Rattle.ucd_facts.specs.declared.row.Row.{Row}
@@ -71,12 +72,9 @@ pieces_ascend PropertyValueAliases ps h = tt
 
 -- ---- pieces without a fault
 
-no_less : (a c : ℕ) → a ≤ c → nat_lt c a ≡ false
-no_less a c h = grind (arith, nat_tests)
-
 not_below : (xs : List Row) (row : Row) (ys : List Row) → Rises (xs ++ row ∷ ys) → is_below (start row) (last_start xs) ≡ false
 not_below [] row ys h = refl
-not_below (a ∷ []) row ys h = no_less (start a) (start row) (All-head (begins_from (start a)) row ys h.0)
+not_below (a ∷ []) row ys h = le-ltb (start row) (start a) (All-head (begins_from (start a)) row ys h.0)
 not_below (a ∷ b ∷ xs) row ys h = not_below (b ∷ xs) row ys h.1
 
 no_back : (file : SourceFile) (xs : List Row) (row : Row) (ys : List Row) → Ascends file (xs ++ row ∷ ys) → falls_back file xs row ≡ false

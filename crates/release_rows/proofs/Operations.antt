@@ -1,7 +1,6 @@
 -- What the items of a file keep, they keep after an operation.
 use Rattle.std.proofs.Common.{◌≡◌, ℕ, Bool, true, false, cond, not, ◌||◌, List, [], ◌∷◌, ◌++◌, map, filter, take, drop, Option, Some, None, Result, Ok, Err, refl, sym, ap, subst, ◌∙◌, append_assoc}
 use Rattle.std.specs.List.{list_any}
-use Rattle.std.proofs.lemmas.Bool.{or_parts, or_from}
 use Rattle.std.proofs.lemmas.List.{append-nil, take-append-drop}
 use Rattle.ucd_points.specs.declared.files.SourceFile.{SourceFile}
 use Rattle.ucd_facts.specs.declared.row.Row.{Row}
@@ -16,7 +15,7 @@ use Rattle.release_rows.specs.Releases.{IsKept, AreKeptBelow, AreKept}
 use Rattle.release_rows.specs.declared.key_rule.KeyRule.{KeyRule}
 use Rattle.release_rows.specs.declared.key_rule.KeyRule.TheVariants.{K1, K2, K4}
 use Rattle.release_rows.specs.declared.operation.Op.TheVariants.{Add, Change, Withdraw}
-use Rattle.release_rows.proofs.RowsApart.{clashes, all_apart, clashes_with_none, breaks_no_rule, put_between, free_before, taken_out, row_instead, put_instead}
+use Rattle.release_rows.proofs.RowsApart.{clashes, all_apart, clashes_with_none, breaks_no_rule, put_between, free_before, taken_out, row_instead, put_instead, any_both}
 
 -- ---- what is kept: each item is read, and no two rows clash
 
@@ -100,13 +99,6 @@ any_rows p (item ∷ items) = by item.row (any_rows p items)
     by None e = e
     by (Some row) e = ap (λ (b : Bool). p row || b) e
 
-any_or : (file : SourceFile) (row : Row) (rows : List Row) → list_any (same_key file row) rows ≡ false → list_any (overlaps file row) rows ≡ false → list_any (clashes file row) rows ≡ false
-any_or file row [] h k = refl
-any_or file row (r ∷ rows) h k =
-    let p = or_parts (same_key file row r) (list_any (same_key file row) rows) h in
-    let q = or_parts (overlaps file row r) (list_any (overlaps file row) rows) k in
-    or_from _ _ (or_from _ _ p.0 q.0) (any_or file row rows p.1 q.1)
-
 -- the rows of changed items
 pub rows_changed : (file : SourceFile) (row : Row) (bytes : List ℕ) (is : List FileItem) → rows_in (map (changed_item file row bytes) is) ≡ map (row_instead file row) (rows_in is)
 rows_changed file row bytes [] = refl
@@ -129,7 +121,7 @@ module _ (file : SourceFile) (items : List FileItem) (row : Row) (bytes : List �
       let parts = read_parts file xs ys (subst (AllRead file) (sym whole) (all_read file [] items kept)) in
       let read = read-append file (ended xs) (added_item row bytes ∷ ys) (read_ended file xs parts.0) (row_is_read file row bytes law reads, parts.1) in
       let rows : rows_in items ≡ rows_in xs ++ rows_in ys = ap rows_in (sym whole) ∙ rows-append xs ys in
-      let free : list_any (clashes file row) (rows_in items) ≡ false = any_or file row (rows_in items) (any_rows (same_key file row) items ∙ no_key) (any_rows (overlaps file row) items ∙ no_overlap) in
+      let free : list_any (clashes file row) (rows_in items) ≡ false = any_both file row (rows_in items) (any_rows (same_key file row) items ∙ no_key) (any_rows (overlaps file row) items ∙ no_overlap) in
       let apart : all_apart file (rows_in xs ++ row ∷ rows_in ys) ≡ true = put_between file (rows_in xs) row (rows_in ys) (subst (λ (rs : List Row). all_apart file rs ≡ true) rows (all_are_apart file items kept)) (subst (λ (rs : List Row). list_any (clashes file row) rs ≡ false) rows free) in
       are_kept file (put_in items n (added_item row bytes)) read (rw (rows-append (ended xs) (added_item row bytes ∷ ys), rows-ended xs) apart)
 

@@ -1,10 +1,9 @@
 -- The items of a file are those that its bytes are cut into again.
 use Rattle.std.proofs.Common.{◌≡◌, ◌≢◌, ℕ, suc, ◌+◌, ◌-◌, ◌≤◌, Bool, true, false, List, [], ◌∷◌, ◌++◌, length, map, take, get_or, Option, Some, None, Ok, refl, sym, ap, subst, ◌∙◌, append_assoc, arith}
 use Rattle.std.specs.Option.{option_eq}
-use Rattle.std.specs.Prelude.{nat_eq, nat_lt}
+use Rattle.std.specs.Prelude.{nat_eq}
 use Rattle.std.specs.List.{All, slice_get}
-use Rattle.std.proofs.lemmas.Bool.{eqb-true, false≢true, or_parts}
-use Rattle.std.proofs.lemmas.Bool.Decides.{nat_tests}
+use Rattle.std.proofs.lemmas.Bool.{eqb-true, false≢true, or_parts, le-ltb}
 use Rattle.std.proofs.lemmas.List.{take_all, take_more}
 use Rattle.std.proofs.lemmas.List.Elements.{All-head, All-tail}
 use Rattle.std.proofs.lemmas.List.Folds.{list_any-append}
@@ -162,8 +161,5 @@ same_file file items unique law kept rise cut told =
     let none : first_fault file [] ps ≡ None = no_faults file [] ps (subst (AreKept file) (sym again.cut) kept) (subst (λ (is : List FileItem). Ascends file (rows_in is)) (sym again.cut) rise) in
     rw (lines, none) (ap (λ (is : List FileItem). Ok is) again.cut)
 
-within_limit : (n limit : ℕ) → n ≤ limit → nat_lt limit n ≡ false
-within_limit n limit h = grind (arith, nat_tests)
-
 pub reloads_the_same : LinesAreUnique → RowsHaveLines → ReloadsTheSame
-reloads_the_same unique law file items sound told small = rw (within_limit (length (bytes_of items)) file_limit small) (same_file file items unique law sound.kept sound.ascends sound.cut told)
+reloads_the_same unique law file items sound told small = rw (le-ltb file_limit (length (bytes_of items)) small) (same_file file items unique law sound.kept sound.ascends sound.cut told)

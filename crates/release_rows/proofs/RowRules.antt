@@ -27,7 +27,7 @@ any_same : {A : Type 0} (p q : A → Bool) (xs : List A) → ((x : A) → p x �
 any_same p q [] h = refl
 any_same p q (x ∷ xs) h = rw (h x, any_same p q xs h) refl
 
-both_ways : (a b : ℕ) → (leb a b && leb b a) ≡ eqb a b
+pub both_ways : (a b : ℕ) → (leb a b && leb b a) ≡ eqb a b
 both_ways a b = grind (arith, nat_tests)
 
 none_overlap : (file : SourceFile) (row : Row) (above : List Row) → has_spans file ≡ false → list_any (overlaps file row) above ≡ false

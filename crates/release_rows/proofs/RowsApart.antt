@@ -1,5 +1,5 @@
 -- Rows of which no two may not stand together: one more between them, one less, and one in the place of another.
-use Rattle.std.proofs.Common.{◌≡◌, ℕ, Bool, true, false, cond, not, eqb, leb, ◌&&◌, ◌||◌, List, [], ◌∷◌, ◌++◌, map, filter, Some, None, refl, sym, ap, ◌∙◌, arith}
+use Rattle.std.proofs.Common.{◌≡◌, ℕ, Bool, true, false, cond, not, eqb, leb, ◌&&◌, ◌||◌, List, [], ◌∷◌, ◌++◌, map, filter, None, refl, sym, ap, ◌∙◌, arith}
 use Rattle.std.specs.List.{list_any}
 use Rattle.std.proofs.lemmas.Bool.{and_parts, and_from, or_parts, or_from, eqb-true, eq-eqb, false_from_ne_true, not-true}
 use Rattle.std.proofs.lemmas.Bool.Decides.{nat_tests}
@@ -10,8 +10,8 @@ use Rattle.ucd_facts.specs.declared.row.Row.{Row}
 use Rattle.source_rows.specs.Keys.{row_span, key_names, same_texts}
 use Rattle.release_rows.specs.Keys.{own_end, same_key, overlaps, key_rule}
 use Rattle.release_rows.specs.Operations.{overlaps_another}
-use Rattle.release_rows.specs.declared.conflict.Conflict.TheVariants.{K1, K4}
 use Rattle.release_rows.proofs.Texts.{texts_same, texts_itself}
+use Rattle.release_rows.proofs.Apart.{none_by}
 
 -- the rows may not stand together
 abbrev pub clashes : SourceFile → Row → Row → Bool
@@ -52,12 +52,7 @@ key_chain file a b c h k =
 
 -- ---- the rule that a row breaks
 
-free_by : (k o : Bool) → cond k (Some K1) (cond o (Some K4) None) ≡ None → (k ≡ false) × (o ≡ false)
-free_by true o h = absurd cc
-free_by false true h = absurd cc
-free_by false false h = (refl, refl)
-
-any_both : (file : SourceFile) (row : Row) (rows : List Row) → list_any (same_key file row) rows ≡ false → list_any (overlaps file row) rows ≡ false → list_any (clashes file row) rows ≡ false
+pub any_both : (file : SourceFile) (row : Row) (rows : List Row) → list_any (same_key file row) rows ≡ false → list_any (overlaps file row) rows ≡ false → list_any (clashes file row) rows ≡ false
 any_both file row [] h k = refl
 any_both file row (r ∷ rows) h k =
     let p = or_parts (same_key file row r) (list_any (same_key file row) rows) h in
@@ -73,7 +68,7 @@ any_parts file row (r ∷ rows) h =
     (or_from _ _ q.0 rest.0, or_from _ _ q.1 rest.1)
 
 pub clashes_with_none : (file : SourceFile) (above : List Row) (row : Row) → key_rule file above row ≡ None → list_any (clashes file row) above ≡ false
-clashes_with_none file above row h = let f = free_by (list_any (same_key file row) above) (list_any (overlaps file row) above) h in any_both file row above f.0 f.1
+clashes_with_none file above row h = let f = none_by (list_any (same_key file row) above) (list_any (overlaps file row) above) h in any_both file row above f.0 f.1
 
 pub breaks_no_rule : (file : SourceFile) (above : List Row) (row : Row) → list_any (clashes file row) above ≡ false → key_rule file above row ≡ None
 breaks_no_rule file above row h = let f = any_parts file row above h in rw (f.0, f.1) refl

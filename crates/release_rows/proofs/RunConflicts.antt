@@ -15,6 +15,7 @@ use Rattle.release_rows.specs.declared.conflict.Conflict.TheVariants.{K1, K4}
 use Rattle.release_rows.specs.declared.place.Place.{Place}
 use Rattle.release_rows.specs.declared.run.Run.{Run}
 use Rattle.release_rows.proofs.Texts.{texts_tell_names}
+use Rattle.release_rows.proofs.Apart.{swapped}
 
 -- ---- against runs
 
@@ -83,12 +84,6 @@ before_more a b le (x ∷ above) h =
     rw (not_from a b x.first x.last le parts.0, before_more a b le above parts.1) refl
 
 -- ---- one more extent
-
-swapped : (a b c : Bool) → (b || (a || c)) ≡ (a || (b || c))
-swapped true true c = refl
-swapped true false c = refl
-swapped false true c = refl
-swapped false false c = refl
 
 turned : (a b c : Bool) → ((b || (a || false)) || c) ≡ (a || (b || c))
 turned true true c = refl

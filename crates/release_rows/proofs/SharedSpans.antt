@@ -16,6 +16,7 @@ use Rattle.release_rows.specs.Keys.{has_spans, is_missing_row, own_end}
 use Rattle.release_rows.specs.Operations.{overlaps_another}
 use Rattle.release_rows.specs.OperationLaws.{MissingRowsOverlapNothing}
 use Rattle.release_rows.proofs.RowsApart.{keys_swap, overlaps_swap, texts_swap}
+use Rattle.release_rows.proofs.RowRules.{both_ways}
 
 -- ---- names of other rows
 
@@ -41,9 +42,6 @@ other_kind file (AliasLine row) c h = inr (refl, refl)
 other_kind file (MissingLine row) c h = absurd cc
 
 -- ---- a missing row against every row
-
-both_ways : (a b : ℕ) → (leb a b && leb b a) ≡ eqb a b
-both_ways a b = grind (arith, nat_tests)
 
 -- rows that share their first code point alone, and have one key then
 point_free : (spans names : Bool) (a b : ℕ) → (not (names && eqb a b) && (spans && (names && (leb a b && leb b a)))) ≡ false

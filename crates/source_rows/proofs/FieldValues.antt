@@ -11,9 +11,9 @@ use Rattle.ucd_points.specs.Fields.{trim_start, trim_end, trim, field, is_semico
 use Rattle.ucd_facts.specs.Mappings.{is_some_bytes, words}
 use Rattle.ucd_facts.specs.RowValues.{IsTrimmed, IsKept}
 use Rattle.source_rows.specs.Fields.{fields_of}
-use Rattle.source_rows.proofs.Lacks.{Lacks, lacks_parts, lacks_cons}
+use Rattle.source_rows.proofs.Lacks.{Lacks, lacks_parts}
 use Rattle.source_rows.proofs.Trims.{trim_none}
-use Rattle.source_rows.proofs.WordTexts.{parts_lack}
+use Rattle.source_rows.proofs.WordTexts.{parts_lack, part_lacks}
 
 -- ---- what is trimmed is trimmed
 
@@ -61,16 +61,12 @@ lacks_drop p n bs h = (lacks_parts p (take n bs) (drop n bs) (ap (λ (xs : List 
 lacks_trim : (p : ℕ → Bool) (bs : List ℕ) → Lacks p bs → Lacks p (trim bs)
 lacks_trim p bs h = lacks_take p (length (trim_start bs) - suffix_len is_blank (trim_start bs)) (trim_start bs) (lacks_drop p (prefix_len is_blank bs) bs h)
 
-kept_onto : (q : ℕ → Bool) (x : ℕ) (parts : List (List ℕ)) → q x ≡ false → All (Lacks q) parts → All (Lacks q) (onto_first x parts)
-kept_onto q x [] e h = All-cons (Lacks q) (x ∷ []) [] (lacks_cons q x [] e refl) (All-nil (Lacks q))
-kept_onto q x (part ∷ parts) e h = All-cons (Lacks q) (x ∷ part) parts (lacks_cons q x part e (All-head (Lacks q) part parts h)) (All-tail (Lacks q) part parts h)
-
 pub parts_keep : (p q : ℕ → Bool) (xs : List ℕ) → Lacks q xs → All (Lacks q) (slice_split p xs)
 parts_keep p q [] h = All-cons (Lacks q) [] [] refl (All-nil (Lacks q))
 parts_keep p q (x ∷ xs) h =
     let k = or_parts (q x) (list_any q xs) h in
     let rest = parts_keep p q xs k.1 in
-    cond_both (p x) ([] ∷ slice_split p xs) (onto_first x (slice_split p xs)) (λ (parts : List (List ℕ)). All (Lacks q) parts) (λ _. All-cons (Lacks q) [] (slice_split p xs) refl rest) (λ _. kept_onto q x (slice_split p xs) k.0 rest)
+    cond_both (p x) ([] ∷ slice_split p xs) (onto_first x (slice_split p xs)) (λ (parts : List (List ℕ)). All (Lacks q) parts) (λ _. All-cons (Lacks q) [] (slice_split p xs) refl rest) (λ _. part_lacks q x (slice_split p xs) k.0 rest)
 
 some_keep : (q : ℕ → Bool) (parts : List (List ℕ)) → All (Lacks q) parts → All (Lacks q) (filter is_some_bytes parts)
 some_keep q [] h = All-nil (Lacks q)

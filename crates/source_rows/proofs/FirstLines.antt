@@ -1,7 +1,7 @@
 -- What a first line of a range says of the fault of two lines.
 use Rattle.std.proofs.Common.{◌≡◌, ℕ, ◌<◌, Bool, true, false, cond, eqb, leb, List, [], ◌∷◌, ◌++◌, length, Option, Some, None, Result, Ok, Err, refl, sym, ap, subst, ◌∙◌, arith, inl, inr}
 use Rattle.std.specs.Prelude.{◌⊎◌, ◌↔◌, codes, IsSome, IsOk}
-use Rattle.std.specs.List.{list_all, before_first, after_first}
+use Rattle.std.specs.List.{before_first, after_first}
 use Rattle.std.proofs.lemmas.Bool.{and_parts, and_from, or_left, leb-true, leb-false, false≢true}
 use Rattle.std.proofs.lemmas.List.Folds.{list_all-append}
 use Rattle.ucd_points.specs.Bounds.{Bounds}
@@ -24,6 +24,7 @@ use Rattle.source_rows.proofs.Labels.{label_read}
 use Rattle.source_rows.proofs.Seams.{before_seam, after_seam}
 use Rattle.source_rows.proofs.Grammar.{has_feed}
 use Rattle.source_rows.proofs.FieldValues.{lacks_return}
+use Rattle.source_rows.proofs.Separators.{name_bytes}
 
 -- ---- the values of a line never lack a last line
 
@@ -60,15 +61,11 @@ values_never fs h = never G05 G09 (category_of (field fs 2)) _ (λ e. cc) (λ ca
 
 -- ---- the name of a first line is a name, and that of a range
 
-bytes_named : (bs : List ℕ) → is_name bs ≡ true → list_all is_name_byte bs ≡ true
-bytes_named [] h = refl
-bytes_named (b ∷ bs) h = h
-
 first_is_name : (name : List ℕ) → has_first_name name ≡ true → is_name name ≡ true
 first_is_name name h =
     let l = label_read (codes ", First>") name h in
     let label = label_of (codes ", First>") name in
-    let whole : is_name (60 ∷ (label ++ codes ", First>")) ≡ true = list_all-append is_name_byte label (codes ", First>") ∙ and_from _ _ (bytes_named label l.1) refl in
+    let whole : is_name (60 ∷ (label ++ codes ", First>")) ≡ true = list_all-append is_name_byte label (codes ", First>") ∙ and_from _ _ (name_bytes label l.1) refl in
     ap is_name l.0 ∙ whole
 
 -- ---- one line and two, by what their fields give

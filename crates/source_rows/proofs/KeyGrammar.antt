@@ -21,6 +21,7 @@ use Rattle.source_rows.specs.declared.fault.RowFault.TheVariants.{G03, G04, G08,
 use Rattle.source_rows.specs.declared.key.Key.{Key}
 use Rattle.source_rows.proofs.Found.{passed, failed, found}
 use Rattle.source_rows.proofs.Spans.{spelled, given}
+use Rattle.source_rows.proofs.WordTexts.{guarded}
 
 -- a key by its parts
 abbrev keyed : Option ℕ → List (List ℕ) → Result Key RowFault
@@ -128,17 +129,13 @@ casing_given fs key r = rw (le-leb (length fs) 2 r.most, r.spelled, r.worded) (i
 abbrev alias_named : List (List ℕ) → Result Key RowFault
 alias_named names = Ok (record { code = None; names = names })
 
-names_are : (b : Bool) (fs names : List (List ℕ)) → cond b (Some fs) None ≡ Some names → (b ≡ true) × (fs ≡ names)
-names_are true fs names h = (refl, cc)
-names_are false fs names h = absurd cc
-
 alias_read : (count : ℕ) (fs : List (List ℕ)) (key : Key) → alias_key count fs ≡ Ok key → ReadsAliasKey count fs key
 unfolding alias_key
 alias_read count fs key h =
     let a = passed (eqb (length fs) count) (cond (is_name (field fs 0)) (or_fault G11 (names_of fs) alias_named) (Err G11)) G03 key h in
     let b = passed (is_name (field fs 0)) (or_fault G11 (names_of fs) alias_named) G11 key a.1 in
     let c = found G11 (names_of fs) alias_named key b.1 in
-    let d = names_are (list_all is_name_or_empty fs) fs c.0 c.1 in
+    let d = guarded (list_all is_name_or_empty fs) fs c.0 c.1 in
     let same : record { code = None; names = c.0 } ≡ key = cc in
     subst (λ (k : Key). ReadsAliasKey count fs k) same (record { as_many = eqb-true _ _ a.0; first = b.0; others = d.0; code = refl; names = sym d.1 })
 

@@ -1,5 +1,5 @@
 -- Rows of the files beside UnicodeData.txt are given exactly where the grammar reads them.
-use Rattle.std.proofs.Common.{◌≡◌, ℕ, Bool, true, false, cond, eqb, leb, ◌&&◌, List, [], ◌∷◌, length, Option, Some, None, Result, Ok, Err, refl, sym, ap, subst, inl, inr}
+use Rattle.std.proofs.Common.{◌≡◌, ℕ, true, cond, eqb, leb, ◌&&◌, List, [], ◌∷◌, length, Option, Some, None, Result, Ok, Err, refl, sym, ap, subst, inl, inr}
 use Rattle.std.specs.Prelude.{◌⊎◌}
 use Rattle.std.specs.List.{list_all}
 use Rattle.std.proofs.lemmas.Bool.{eqb-true, eq-eqb, leb-true, le-leb, ltb-true, lt-ltb, and_parts, and_from, or_cases, or_left, or_right}
@@ -24,6 +24,7 @@ use Rattle.source_rows.specs.declared.fault.RowFault.TheVariants.{G03, G04, G07,
 use Rattle.source_rows.proofs.Spans.{spelled, given}
 use Rattle.source_rows.proofs.Mappings.{mapping_spelled, mapping_given}
 use Rattle.source_rows.proofs.Found.{passed, found}
+use Rattle.source_rows.proofs.WordTexts.{guarded}
 
 -- ---- a span and a value
 
@@ -97,10 +98,6 @@ folded C n h = eq-eqb n 1 h
 folded S n h = eq-eqb n 1 h
 folded F n h = lt-ltb 0 n h
 folded T n h = lt-ltb 0 n h
-
-guarded : (b : Bool) (cs ds : List ℕ) → cond b (Some cs) None ≡ Some ds → (b ≡ true) × (cs ≡ ds)
-guarded true cs ds h = (refl, cc)
-guarded false cs ds h = absurd cc
 
 of_status_is : (status : FoldStatus) (o : Option (List ℕ)) (cs : List ℕ) → of_status status o ≡ Some cs → (o ≡ Some cs) × FoldsTo status (length cs)
 of_status_is status (Some ds) cs h =
@@ -183,17 +180,13 @@ IsAliasOf least fs _ = ⊥
 abbrev alias_line : List (List ℕ) → Result Row RowFault
 alias_line names = Ok (AliasLine (record { names = names }))
 
-names_are : (b : Bool) (fs names : List (List ℕ)) → cond b (Some fs) None ≡ Some names → (b ≡ true) × (fs ≡ names)
-names_are true fs names h = (refl, cc)
-names_are false fs names h = absurd cc
-
 pub alias_read : (least : ℕ) (fs : List (List ℕ)) (row : Row) → alias_or_fault least fs ≡ Ok row → IsAliasOf least fs row
 unfolding alias_or_fault
 alias_read least fs row h =
     let a = passed (leb least (length fs)) (cond (is_name (field fs 0)) (or_fault G11 (names_of fs) alias_line) (Err G11)) G03 row h in
     let b = passed (is_name (field fs 0)) (or_fault G11 (names_of fs) alias_line) G11 row a.1 in
     let c = found G11 (names_of fs) alias_line row b.1 in
-    let d = names_are (list_all is_name_or_empty fs) fs c.0 c.1 in
+    let d = guarded (list_all is_name_or_empty fs) fs c.0 c.1 in
     let same : AliasLine (record { names = c.0 }) ≡ row = cc in
     subst (λ (r : Row). IsAliasOf least fs r) same (record { count = leb-true least (length fs) a.0; first = b.0; others = d.0; names = sym d.1 })
 

@@ -50,7 +50,7 @@ name_feed b h =
     let m = and_parts (nat_le 32 b) (nat_le b 126) k.0 in
     ne_eqb b 10 (λ e. omega (arith, leb-true 32 b m.0))
 
-name_bytes : (bs : List ℕ) → is_name bs ≡ true → list_all is_name_byte bs ≡ true
+pub name_bytes : (bs : List ℕ) → is_name bs ≡ true → list_all is_name_byte bs ≡ true
 name_bytes [] h = refl
 name_bytes (b ∷ bs) h = h
 

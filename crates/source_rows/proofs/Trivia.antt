@@ -1,5 +1,5 @@
 -- Bytes that are read as a row are no trivia.
-use Rattle.std.proofs.Common.{◌≡◌, ℕ, zero, suc, ◌+◌, ◌-◌, Bool, true, false, cond, eqb, leb, ◌&&◌, ◌||◌, List, [], ◌∷◌, length, take, drop, fold, Some, None, Ok, Err, refl, sym, ◌∙◌, arith}
+use Rattle.std.proofs.Common.{◌≡◌, ℕ, zero, suc, ◌+◌, ◌-◌, Bool, true, false, cond, eqb, leb, ◌&&◌, ◌||◌, List, [], ◌∷◌, length, take, drop, Some, None, Ok, Err, refl, sym, ◌∙◌, arith}
 use Rattle.std.specs.Prelude.{not}
 use Rattle.std.specs.List.{list_all, list_any, before_first, after_first, position_or_len, prefix_len, suffix_len}
 use Rattle.std.proofs.lemmas.Bool.{false_from_ne_true, and_from, and_parts, not-true}
@@ -7,7 +7,7 @@ use Rattle.std.proofs.lemmas.Bool.Decides.{nat_tests}
 use Rattle.std.proofs.lemmas.List.Splits.{slice_split_none}
 use Rattle.ucd_points.specs.Lines.{is_blank, is_lf, is_comment, holds_line_feed, without_return}
 use Rattle.ucd_points.specs.MissingLines.{missing_rest, is_missing, is_trivia}
-use Rattle.ucd_points.specs.Fields.{fields, field, trim, trim_start, is_hash, is_semicolon, point_of, span_of, hex_number, with_digit, digit_of, if_point}
+use Rattle.ucd_points.specs.Fields.{fields, field, trim, trim_start, is_hash, is_semicolon, point_of, span_of, hex_number, digit_of, if_point}
 use Rattle.ucd_points.specs.declared.files.SourceFile.{SourceFile}
 use Rattle.ucd_points.specs.declared.files.SourceFile.TheVariants.{UnicodeData, PropList, Scripts, WordBreakProperty, CompositionExclusions, CaseFolding, SpecialCasing, PropertyAliases, PropertyValueAliases}
 use Rattle.ucd_facts.specs.declared.row.ValueRow.{ValueRow}
@@ -25,6 +25,7 @@ use Rattle.source_rows.proofs.Found.{passed, failed, found, after}
 use Rattle.source_rows.proofs.Lacks.{Lacks, lacks_all, lacks_each}
 use Rattle.source_rows.proofs.MissingLines.{rest_is_none, fields_of_others}
 use Rattle.source_rows.proofs.Seams.{lacks_before}
+use Rattle.source_rows.proofs.Digits.{none_stays}
 
 -- ---- a comment byte by byte
 
@@ -61,16 +62,12 @@ trivia_trim bs h = trivia_take (length (trim_start bs) - suffix_len is_blank (tr
 
 -- ---- no code point begins so
 
-no_digits : (bs : List ℕ) → fold (λ n b. with_digit n (digit_of b)) None bs ≡ None
-no_digits [] = refl
-no_digits (b ∷ bs) = no_digits bs
-
 no_digit : (b : ℕ) (t trivia : Bool) → is_blank b ≡ t → cond t trivia (eqb b 35) ≡ true → digit_of b ≡ None
 no_digit b true trivia e h = grind (arith, nat_tests)
 no_digit b false trivia e h = grind (arith, nat_tests)
 
 no_number : (b : ℕ) (bs : List ℕ) → is_comment (b ∷ bs) ≡ true → hex_number (b ∷ bs) ≡ None
-no_number b bs h = rw (no_digit b (is_blank b) (is_comment bs) refl (sym (step b bs) ∙ h)) (no_digits bs)
+no_number b bs h = rw (no_digit b (is_blank b) (is_comment bs) refl (sym (step b bs) ∙ h)) (none_stays bs)
 
 either_none : (b : Bool) → cond b (if_point None) None ≡ None
 either_none true = refl

@@ -13,7 +13,7 @@ use Rattle.source_rows.proofs.TextValues.{words_join}
 
 -- ---- no part between separators holds one
 
-part_lacks : (p : ℕ → Bool) (x : ℕ) (parts : List (List ℕ)) → p x ≡ false → All (Lacks p) parts → All (Lacks p) (onto_first x parts)
+pub part_lacks : (p : ℕ → Bool) (x : ℕ) (parts : List (List ℕ)) → p x ≡ false → All (Lacks p) parts → All (Lacks p) (onto_first x parts)
 part_lacks p x [] e h = All-cons (Lacks p) (x ∷ []) [] (rw e refl) (All-nil (Lacks p))
 part_lacks p x (part ∷ parts) e h = All-cons (Lacks p) (x ∷ part) parts (rw e (All-head (Lacks p) part parts h)) (All-tail (Lacks p) part parts h)
 
@@ -67,13 +67,13 @@ spaced_trimmed bs = joined_trimmed (words bs) (words_lack bs) (words_some bs)
 
 -- ---- conditions
 
-conditions_step : (b : Bool) (xs ys : List ℕ) → cond b (Some xs) None ≡ Some ys → (b ≡ true) × (xs ≡ ys)
-conditions_step true xs ys h = (refl, cc)
-conditions_step false xs ys h = absurd cc
+pub guarded : {A : Type 0} (b : Bool) (x y : A) → cond b (Some x) None ≡ Some y → (b ≡ true) × (x ≡ y)
+guarded true x y h = (refl, cc)
+guarded false x y h = absurd cc
 
 pub conditions_are : (bs cs : List ℕ) → conditions_of bs ≡ Some cs → (list_all is_condition_byte bs ≡ true) × (spaced_words bs ≡ cs)
 unfolding conditions_of
-conditions_are bs cs h = conditions_step (list_all is_condition_byte bs) (spaced_words bs) cs h
+conditions_are bs cs h = guarded (list_all is_condition_byte bs) (spaced_words bs) cs h
 
 condition_no_feed : (b : ℕ) → is_condition_byte b ≡ true → is_lf b ≡ false
 condition_no_feed b h = ne_eqb b 10 (λ e. not_feed b e h)

@@ -13,7 +13,7 @@ use Rattle.stability_policies.specs.Policies.{differ}
 use Rattle.stability_policies.specs.declared.differing.Step.{Step}
 use Rattle.stability_policies.specs.declared.differing.Step.TheVariants.{Same, Old, New}
 use Rattle.stability_policies.specs.declared.named_row.NamedRow.{NamedRow}
-use Rattle.stability_policies.proofs.NameLemmas.{none_below}
+use Rattle.stability_policies.proofs.NameLemmas.{none_below, outside_above}
 
 -- ---- a row among others
 
@@ -39,9 +39,6 @@ begins_above n (x ∷ xs) ys r above =
 covered_from : (c a b : ℕ) → (leb a c && leb c b) ≡ true → (a ≤ c) × (c ≤ b)
 covered_from c a b e = (grind (arith, nat_tests), grind (arith, nat_tests))
 
-outside : (c a b : ℕ) → b < c → (leb a c && leb c b) ≡ false
-outside c a b lt = grind (arith, nat_tests)
-
 -- the one row that covers c gives the name, and without it there is none
 names_here : (n c : ℕ) (xs ys : List NamedRow) (r : NamedRow) → AreAbove n (xs ++ r ∷ ys) → within c r.span ≡ true → (name_at (xs ++ r ∷ ys) c ≡ Some r.name) × (name_at (xs ++ ys) c ≡ None)
 names_here n c [] ys r above here =
@@ -52,7 +49,7 @@ names_here n c (x ∷ xs) ys r above here =
     let cover = covered_from c r.span.lo r.span.hi here in
     let from : r.span.lo ≤ c = cover.0 in
     let behind : x.span.hi + 1 ≤ r.span.lo = begins_above (x.span.hi + 1) xs ys r above.2 in
-    let other : within c x.span ≡ false = outside c x.span.lo x.span.hi (omega arith) in
+    let other : within c x.span ≡ false = outside_above c x.span.lo x.span.hi (omega arith) in
     let rest = names_here (x.span.hi + 1) c xs ys r above.2 here in
     (ap (λ b. if b then Some x.name else name_at (xs ++ r ∷ ys) c) other ∙ rest.0, ap (λ b. if b then Some x.name else name_at (xs ++ ys) c) other ∙ rest.1)
 

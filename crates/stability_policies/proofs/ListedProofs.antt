@@ -2,7 +2,7 @@
 use Rattle.std.proofs.Common.{◌≡◌, ℕ, zero, suc, ◌+◌, ◌<◌, Bool, true, false, cond, ◌&&◌, ◌||◌, not, ◌==◌, List, [], ◌∷◌, ◌++◌, drop, map, filter, Option, Some, None, Result, Ok, Err, is_some, refl, sym, ap, subst, ◌∙◌, arith, inl, inr}
 use Rattle.std.specs.List.{AllByRecursion as Each, flat_map, list_all, list_any, range_with_len}
 use Rattle.std.specs.Str.{bytes_eq}
-use Rattle.std.proofs.lemmas.Bool.{and_parts, cases_lt, eq-eqb, eqb-true, not-false, or_parts}
+use Rattle.std.proofs.lemmas.Bool.{and_parts, cases_lt, eq-eqb, eqb-true, not-false, or_parts, true≢false}
 use Rattle.std.proofs.lemmas.Slice.Eq.{bytes_eq-Decides}
 use Rattle.release_rows.specs.Releases.{ReleaseItems, rows_now}
 use Rattle.ucd_facts.specs.Composites.{first_has_class_zero, is_canonical, primary}
@@ -33,9 +33,6 @@ use Rattle.stability_policies.specs.declared.policy.Policy.TheVariants.{P01, P03
 use Rattle.stability_policies.proofs.PointLemmas.{filter_more}
 
 -- ---- tests
-
-true_false : {A : Type 0} → true ≡ false → A
-true_false e = absurd cc
 
 and_left_true : (a b : Bool) → a ≡ true → (a && b) ≡ false → b ≡ false
 and_left_true true b is e = e
@@ -74,7 +71,7 @@ is_of_own policy x = eq-eqb (place_of_policy policy) (place_of_policy policy) re
 
 none_listed : (policy : Policy) (xs : List ℕ) → list_any (is_of policy) (map (At policy) xs) ≡ false → xs ≡ []
 none_listed policy [] e = refl
-none_listed policy (x ∷ xs) e = true_false (sym (is_of_own policy x) ∙ (or_parts (is_of policy (At policy x)) (list_any (is_of policy) (map (At policy) xs)) e).0)
+none_listed policy (x ∷ xs) e = absurd (true≢false (sym (is_of_own policy x) ∙ (or_parts (is_of policy (At policy x)) (list_any (is_of policy) (map (At policy) xs)) e).0))
 
 append_nil : {X : Type 0} (xs ys : List X) → (let l : List X = xs ++ ys in l ≡ []) → (xs ≡ []) × (ys ≡ [])
 append_nil [] ys e = (refl, e)
@@ -141,7 +138,7 @@ module _ (old new : ReleaseItems) where
 point_of : (rows : Sources) (c : ℕ) → (facts rows c).assigned ≡ true → c < point_count
 point_of rows c is = elim (cases_lt c point_count) [
   | inl lt ↦ lt
-  | inr le ↦ true_false (sym is ∙ ap (λ (F : Facts). F.assigned) (facts_outside rows c le))
+  | inr le ↦ absurd (true≢false (sym is ∙ ap (λ (F : Facts). F.assigned) (facts_outside rows c le)))
 ]
 
 row_of : (c : ℕ) (row : Option DataRow) → is_canonical (kind_in c row) ≡ true → is_some row ≡ true
@@ -153,7 +150,7 @@ rooted rows c e = elim (cases_lt c point_count) [
   | inl lt ↦
       let here : facts rows c ≡ given rows c = facts_inside rows c lt in
       ap (λ (F : Facts). F.assigned) here ∙ row_of c (data_row (rows UnicodeData) c) (ap (λ (F : Facts). is_canonical F.kind) (sym here) ∙ e)
-  | inr le ↦ true_false (sym e ∙ ap (λ (F : Facts). is_canonical F.kind) (facts_outside rows c le))
+  | inr le ↦ absurd (true≢false (sym e ∙ ap (λ (F : Facts). is_canonical F.kind) (facts_outside rows c le)))
 ]
 
 primary_rooted : (rows : Sources) (c : ℕ) → primary (facts rows) c ≡ true → (facts rows c).assigned ≡ true

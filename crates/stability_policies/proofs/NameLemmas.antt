@@ -40,7 +40,7 @@ name_is (MissingLine row ∷ rows) c = name_is rows c
 outside_below : (c a b : ℕ) → c < a → (leb a c && leb c b) ≡ false
 outside_below c a b lt = grind (arith, nat_tests)
 
-outside_above : (c a b : ℕ) → b < c → (leb a c && leb c b) ≡ false
+pub outside_above : (c a b : ℕ) → b < c → (leb a c && leb c b) ≡ false
 outside_above c a b lt = grind (arith, nat_tests)
 
 inside : (c a b : ℕ) → a ≤ c → c ≤ b → (leb a c && leb c b) ≡ true

@@ -23,6 +23,7 @@ use Rattle.ucd_points.specs.declared.files.SourceFile.{SourceFile}
 use Rattle.ucd_points.specs.declared.files.SourceFile.TheVariants.{UnicodeData, PropList, Scripts, WordBreakProperty, CompositionExclusions, CaseFolding, SpecialCasing, PropertyAliases, PropertyValueAliases}
 use Rattle.stability_policies.specs.Reports.{keeps_first, keeps_names, same_first}
 use Rattle.stability_policies.specs.NamePlaces.{AreNames, IsNext, NoneFrom, entry_cmp, has_name, has_names, is_at, place_of}
+use Rattle.stability_policies.proofs.PlainLemmas.{same_bytes}
 
 abbrev pub Entry : Type 0
 Entry = Bor (List ℕ) × ℕ
@@ -200,20 +201,17 @@ module _ (file : SourceFile) (rows : List (List (List ℕ))) (names : List (List
 
 -- ---- a row keeps its own names
 
-itself : (name : List ℕ) → bytes_eq name name ≡ true
-itself name = (bytes_eq-Decides name name).1 refl
-
 all_among : (front names : List (List ℕ)) → list_all (λ name. list_any (bytes_eq name) (front ++ names)) names ≡ true
 all_among front [] = refl
 all_among front (name ∷ names) =
     let here : list_any (bytes_eq name) (front ++ name ∷ names) ≡ true =
-    list_any-append (bytes_eq name) front (name ∷ names) ∙ or_right (list_any (bytes_eq name) front) (list_any (bytes_eq name) (name ∷ names)) (ap (λ b. b || list_any (bytes_eq name) names) (itself name)) in
+    list_any-append (bytes_eq name) front (name ∷ names) ∙ or_right (list_any (bytes_eq name) front) (list_any (bytes_eq name) (name ∷ names)) (ap (λ b. b || list_any (bytes_eq name) names) (same_bytes name)) in
     ap (λ b. b && list_all (λ n. list_any (bytes_eq n) (front ++ name ∷ names)) names) here
     ∙ subst (λ all. list_all (λ n. list_any (bytes_eq n) all) names ≡ true) (append_assoc front (name ∷ []) names) (all_among (front ++ name ∷ []) names)
 
 own_first : (names : List (List ℕ)) → same_first names names ≡ true
 own_first [] = refl
-own_first (name ∷ names) = itself name
+own_first (name ∷ names) = same_bytes name
 
 keeps_own_first : (file : SourceFile) (names : List (List ℕ)) → keeps_first file names names ≡ true
 keeps_own_first UnicodeData names = refl

@@ -1,7 +1,7 @@
 -- The forms of code points that were assigned stay.
 use Rattle.std.proofs.Common.{◌≡◌, ℕ, zero, suc, Bool, true, false, ◌==◌, nat_lt, if◌then◌else◌, List, [], ◌∷◌, ◌++◌, length, find, Option, Some, None, Result, Ok, Err, refl, sym, ap, subst, ◌∙◌, arith}
 use Rattle.std.specs.List.{AllByRecursion as Each, range_with_len}
-use Rattle.std.proofs.lemmas.Bool.{and_from, and_parts, eqb-true}
+use Rattle.std.proofs.lemmas.Bool.{and_from, and_parts, eqb-true, true≢false}
 use Rattle.std.proofs.lemmas.List.{append-nil}
 use Rattle.std.proofs.lemmas.List.Elements.{All-head, All-tail}
 use Rattle.std.specs.List.{All}
@@ -35,9 +35,6 @@ some_same xs ys e = cc
 
 ok_same : (xs ys : List ℕ) → (let x : Result (List ℕ) Rule = Ok xs in x ≡ Ok ys) → xs ≡ ys
 ok_same xs ys e = cc
-
-true_false : {A : Type 0} → true ≡ false → A
-true_false e = absurd cc
 
 counts_sort : (compat : Bool) (k l : Kind) → sort_of k ≡ sort_of l → counts compat k ≡ counts compat l
 counts_sort compat Plain Plain e = refl
@@ -171,7 +168,7 @@ module _ (O N : ℕ → Facts) (stays : StaysNormal O N) where
       let parts = and_parts (primary N q) (is_pair s y (N q).mapping) e in
       let mapping : (N q).mapping ≡ s ∷ y ∷ [] = pair_is s y (N q).mapping parts.1 in
       let old : all_assigned O (s ∷ y ∷ []) ≡ true = rw (first, second) refl in
-      true_false (sym (ap (all_assigned O) mapping ∙ old) ∙ stays.composing q parts.0 is)
+      absurd (true≢false (sym (ap (all_assigned O) mapping ∙ old) ∙ stays.composing q parts.0 is))
 
   pair_same : (s y : ℕ) → Old O s → Old O y → pair_of O s y ≡ pair_of N s y
   unfolding pair_of

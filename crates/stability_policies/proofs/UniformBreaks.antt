@@ -43,7 +43,6 @@ no_pair F c b G e = ap (λ d. is_case_pair F c d && b) e ∙ ap (λ t. (not t &&
 -- ---- what a code point that is uniform with another breaks
 
 module _ (O N : ℕ → Facts) (c d : ℕ) (p : IsPlain c (O c)) (u : Uniform O c d) (q : IsPlain c (N c)) (v : Uniform N c d) where
-
   mapping_same : same_mapping (O d) (N d) ≡ same_mapping (O c) (N c)
   mapping_same = rw (u.alike.kind, v.alike.kind, u.plain.mapping, v.plain.mapping, p.mapping, q.mapping) refl
 

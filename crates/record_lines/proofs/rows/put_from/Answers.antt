@@ -3,7 +3,6 @@ use Rattle.ucd_points.specs.Lines.{contents}
 use Rattle.ucd_facts.specs.declared.row.Row.{Row}
 use Rattle.record_lines.specs.PointTexts.{with_more}
 use Rattle.record_lines.specs.RowLines.{rows_lines}
-use Rattle.record_lines.specs.declared.point_text.PointText.{PointText}
 use Rattle.record_lines.proofs.ToldLemmas.{first_alone, more_twice, no_more}
 use Rattle.record_lines.proofs.rows.put_from.Goals as goal
 

@@ -1,6 +1,5 @@
 -- Tags of compatibility mappings.
 use Rattle.std.proofs.Common.{◌≡◌, ℕ, Bool, true, false, cond, List, ◌∷◌, ◌++◌, Option, Some, None, Decides, refl, ap, ◌∙◌}
-use Rattle.std.specs.Prelude.{codes}
 use Rattle.std.specs.List.{before_first, after_first}
 use Rattle.std.specs.Str.{bytes_eq}
 use Rattle.std.proofs.lemmas.Slice.Eq.{bytes_eq-Decides}
@@ -70,50 +69,38 @@ open_is_tag Compat = refl
 
 -- ---- the other way
 
-chosen_or : (b : Bool) (bs name : List ℕ) (one tag : Tag) (rest : Option Tag) → Decides b (bs ≡ name) → name ≡ tag_open one → cond b (Some one) rest ≡ Some tag → (rest ≡ Some tag → bs ≡ tag_open tag) → bs ≡ tag_open tag
-chosen_or true bs name one tag rest d e h others =
+one_or : (b : Bool) (bs : List ℕ) (one tag : Tag) (rest : Option Tag) → Decides b (bs ≡ tag_open one) → cond b (Some one) rest ≡ Some tag → (rest ≡ Some tag → bs ≡ tag_open tag) → bs ≡ tag_open tag
+one_or true bs one tag rest d e others =
     let same : one ≡ tag = cc in
-    d.0 refl ∙ e ∙ ap tag_open same
-chosen_or false bs name one tag rest d e h others = others h
+    d.0 refl ∙ ap tag_open same
+one_or false bs one tag rest d e others = others e
 
-one_or : (bs name : List ℕ) (one tag : Tag) (rest : Option Tag) → name ≡ tag_open one → cond (bytes_eq bs name) (Some one) rest ≡ Some tag → (rest ≡ Some tag → bs ≡ tag_open tag) → bs ≡ tag_open tag
-one_or bs name one tag rest e h others = chosen_or (bytes_eq bs name) bs name one tag rest (bytes_eq-Decides bs name) e h others
+abbrev or_one : List ℕ → Tag → Option Tag → Option Tag
+or_one bs one rest = cond (bytes_eq bs (tag_open one)) (Some one) rest
+
+one_of_four : (bs : List ℕ) (first second third fourth tag : Tag) → or_one bs first (or_one bs second (or_one bs third (or_one bs fourth None))) ≡ Some tag → bs ≡ tag_open tag
+one_of_four bs first second third fourth tag h =
+    one_or _ bs first tag _ (bytes_eq-Decides bs (tag_open first)) h (λ h1.
+    one_or _ bs second tag _ (bytes_eq-Decides bs (tag_open second)) h1 (λ h2.
+    one_or _ bs third tag _ (bytes_eq-Decides bs (tag_open third)) h2 (λ h3.
+    one_or _ bs fourth tag _ (bytes_eq-Decides bs (tag_open fourth)) h3 (λ h4.
+    absurd cc))))
 
 positional_is : (bs : List ℕ) (tag : Tag) → positional_tag_of bs ≡ Some tag → bs ≡ tag_open tag
 unfolding positional_tag_of
-positional_is bs tag h =
-    one_or bs (codes "<initial") Initial tag _ refl h (λ h1.
-    one_or bs (codes "<medial") Medial tag _ refl h1 (λ h2.
-    one_or bs (codes "<final") Final tag _ refl h2 (λ h3.
-    one_or bs (codes "<isolated") Isolated tag _ refl h3 (λ h4.
-    absurd cc))))
+positional_is bs tag h = one_of_four bs Initial Medial Final Isolated tag h
 
 shaped_is : (bs : List ℕ) (tag : Tag) → shaped_tag_of bs ≡ Some tag → bs ≡ tag_open tag
 unfolding shaped_tag_of
-shaped_is bs tag h =
-    one_or bs (codes "<circle") Circle tag _ refl h (λ h1.
-    one_or bs (codes "<super") Super tag _ refl h1 (λ h2.
-    one_or bs (codes "<sub") Sub tag _ refl h2 (λ h3.
-    one_or bs (codes "<vertical") Vertical tag _ refl h3 (λ h4.
-    absurd cc))))
+shaped_is bs tag h = one_of_four bs Circle Super Sub Vertical tag h
 
 sized_is : (bs : List ℕ) (tag : Tag) → sized_tag_of bs ≡ Some tag → bs ≡ tag_open tag
 unfolding sized_tag_of
-sized_is bs tag h =
-    one_or bs (codes "<wide") Wide tag _ refl h (λ h1.
-    one_or bs (codes "<narrow") Narrow tag _ refl h1 (λ h2.
-    one_or bs (codes "<small") Small tag _ refl h2 (λ h3.
-    one_or bs (codes "<square") Square tag _ refl h3 (λ h4.
-    absurd cc))))
+sized_is bs tag h = one_of_four bs Wide Narrow Small Square tag h
 
 other_is : (bs : List ℕ) (tag : Tag) → other_tag_of bs ≡ Some tag → bs ≡ tag_open tag
 unfolding other_tag_of
-other_is bs tag h =
-    one_or bs (codes "<font") Font tag _ refl h (λ h1.
-    one_or bs (codes "<noBreak") NoBreak tag _ refl h1 (λ h2.
-    one_or bs (codes "<fraction") Fraction tag _ refl h2 (λ h3.
-    one_or bs (codes "<compat") Compat tag _ refl h3 (λ h4.
-    absurd cc))))
+other_is bs tag h = one_of_four bs Font NoBreak Fraction Compat tag h
 
 first_or : (o rest : Option Tag) (bs : List ℕ) (tag : Tag) → or_else o rest ≡ Some tag → (o ≡ Some tag → bs ≡ tag_open tag) → (rest ≡ Some tag → bs ≡ tag_open tag) → bs ≡ tag_open tag
 first_or (Some t) rest bs tag h first others = first h

@@ -1,7 +1,10 @@
 -- The first row that gives an image.
 use Rattle.std.proofs.Common.{◌≡◌, ℕ, ◌+◌, ◌<◌, Bool, true, false, cond, ◌==◌, List, [], ◌∷◌, ◌++◌, length, take, get_or, find, Option, Some, None, is_some, refl, sym, ap, ◌∙◌}
+use Rattle.std.specs.Option.{option_map}
 use Rattle.std.proofs.lemmas.List.{take_more}
 use Rattle.std.proofs.lemmas.Bool.{eqb-true}
+use Rattle.ucd_facts.specs.Facts.{is_casing_of, casing_in}
+use Rattle.ucd_facts.specs.declared.row.CasingRow.{CasingRow}
 use Rattle.ucd_facts.specs.declared.row.Row.{Row}
 use Rattle.ucd_facts.specs.declared.row.Row.TheVariants.{Unit as DataLine, Value as ValueLine, Exclusion as ExclusionLine, Fold as FoldLine, Casing as CasingLine, Alias as AliasLine, Missing as MissingLine}
 use Rattle.code_facts.specs.Found.{first_some, passes, image_in, image_by, image_of_row}
@@ -21,6 +24,15 @@ none_image Lower = refl
 none_image Title = refl
 none_image Upper = refl
 
+casing_image : (f : CasingRow → List ℕ) (c : ℕ) (row : Row) → is_casing_of c row ≡ true → is_some (option_map f (casing_in (Some row))) ≡ true
+casing_image f c (CasingLine row) e = refl
+casing_image f c (DataLine row) e = absurd cc
+casing_image f c (ValueLine row) e = absurd cc
+casing_image f c (ExclusionLine row) e = absurd cc
+casing_image f c (FoldLine row) e = absurd cc
+casing_image f c (AliasLine row) e = absurd cc
+casing_image f c (MissingLine row) e = absurd cc
+
 fold_image : (case : Case) (c : ℕ) (row : Row) → passes case c row ≡ true → is_some (image_in case (Some row)) ≡ true
 fold_image (Fold status) c (FoldLine row) e = refl
 fold_image (Fold status) c (DataLine row) e = absurd cc
@@ -29,27 +41,9 @@ fold_image (Fold status) c (ExclusionLine row) e = absurd cc
 fold_image (Fold status) c (CasingLine row) e = absurd cc
 fold_image (Fold status) c (AliasLine row) e = absurd cc
 fold_image (Fold status) c (MissingLine row) e = absurd cc
-fold_image Lower c (CasingLine row) e = refl
-fold_image Lower c (DataLine row) e = absurd cc
-fold_image Lower c (ValueLine row) e = absurd cc
-fold_image Lower c (ExclusionLine row) e = absurd cc
-fold_image Lower c (FoldLine row) e = absurd cc
-fold_image Lower c (AliasLine row) e = absurd cc
-fold_image Lower c (MissingLine row) e = absurd cc
-fold_image Title c (CasingLine row) e = refl
-fold_image Title c (DataLine row) e = absurd cc
-fold_image Title c (ValueLine row) e = absurd cc
-fold_image Title c (ExclusionLine row) e = absurd cc
-fold_image Title c (FoldLine row) e = absurd cc
-fold_image Title c (AliasLine row) e = absurd cc
-fold_image Title c (MissingLine row) e = absurd cc
-fold_image Upper c (CasingLine row) e = refl
-fold_image Upper c (DataLine row) e = absurd cc
-fold_image Upper c (ValueLine row) e = absurd cc
-fold_image Upper c (ExclusionLine row) e = absurd cc
-fold_image Upper c (FoldLine row) e = absurd cc
-fold_image Upper c (AliasLine row) e = absurd cc
-fold_image Upper c (MissingLine row) e = absurd cc
+fold_image Lower c row e = casing_image (λ r. r.lower) c row e
+fold_image Title c row e = casing_image (λ r. r.title) c row e
+fold_image Upper c row e = casing_image (λ r. r.upper) c row e
 
 push_by : (case : Case) (c : ℕ) (row : Row) (b : Bool) → passes case c row ≡ b → image_in case (cond b (Some row) None) ≡ first_some (image_in case None) (cond b (image_in case (Some row)) None)
 push_by case c row true e = sym (ap (λ o. first_some o (image_in case (Some row))) (none_image case))

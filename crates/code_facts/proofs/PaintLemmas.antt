@@ -13,31 +13,6 @@ test_true b x y e = rw e refl
 test_false : {A : Type 0} (b : Bool) (x y : A) → b ≡ false → cond b x y ≡ y
 test_false b x y e = rw e refl
 
-apart : (n c : ℕ) → (c < n → ⊥) → (n < c → ⊥) → n ≡ c
-apart n c below above = omega arith
-
--- where the points from lo up to n have their values, and n gets its own, those up to n + 1 do
-pub one_more : {A : Type 0} (f : ℕ → A) (lo n c : ℕ) (new old first : A) → lo ≤ n → new ≡ cond (leb n c && leb c n) (f n) old → old ≡ cond (leb lo c && ltb c n) (f c) first → new ≡ cond (leb lo c && ltb c (n + 1)) (f c) first
-one_more f lo n c new old first le is was =
-    elim (cases_lt c n) [
-      | inl below ↦
-          let out : (leb n c && leb c n) ≡ false = grind (arith, nat_tests) in
-          let same : (leb lo c && ltb c (n + 1)) ≡ (leb lo c && ltb c n) = grind (arith, nat_tests) in
-          is ∙ test_false _ _ _ out ∙ was ∙ ap (λ b. cond b (f c) first) (let s = same in rw s refl)
-      | inr from ↦ elim (cases_lt n c) [
-        | inl above ↦
-            let out : (leb n c && leb c n) ≡ false = grind (arith, nat_tests) in
-            let before : (leb lo c && ltb c n) ≡ false = grind (arith, nat_tests) in
-            let after : (leb lo c && ltb c (n + 1)) ≡ false = grind (arith, nat_tests) in
-            rw after (is ∙ test_false _ _ _ out ∙ was ∙ test_false _ _ _ before)
-        | inr to ↦
-            let at : n ≡ c = omega arith in
-            let in_it : (leb n c && leb c n) ≡ true = grind (arith, nat_tests) in
-            let after : (leb lo c && ltb c (n + 1)) ≡ true = grind (arith, nat_tests) in
-            rw after (is ∙ test_true _ _ _ in_it ∙ ap f at)
-      ]
-    ]
-
 span_by : {A : Type 0} (was one now : Bool) (value new old first : A) → now ≡ (was || one) → new ≡ cond one value old → old ≡ cond was value first → new ≡ cond now value first
 span_by true true now value new old first e is before = is ∙ sym (ap (λ b. cond b value first) e)
 span_by true false now value new old first e is before = is ∙ before ∙ sym (ap (λ b. cond b value first) e)
@@ -48,8 +23,8 @@ span_by false false now value new old first e is before = is ∙ before ∙ sym 
 pub all_painted : {A : Type 0} (x y : A) (lo hi n c : ℕ) → n ≡ hi + 1 → cond (leb lo c && ltb c n) x y ≡ cond (leb lo c && leb c hi) x y
 all_painted x y lo hi n c e = let same : (leb lo c && ltb c n) ≡ (leb lo c && leb c hi) = grind (arith, nat_tests) in ap (λ b. cond b x y) same
 
--- the same of a stretch from n to last, told as m and end: where the points from lo up to n have their values, and those of the stretch get
--- the value v of m, which is theirs, those up to last + 1 do
+-- where the points from lo up to n have their values, and those of a stretch from n to last, told as m and end, get the value v of m,
+-- which is theirs, those up to last + 1 do
 pub stretch_more : {A : Type 0} (f : ℕ → A) (lo n m last end c : ℕ) (v new old first : A) → m ≡ n → end ≡ last → v ≡ f m → lo ≤ n → (m ≤ c → c ≤ end → f c ≡ f m)
     → new ≡ cond (leb m c && leb c end) v old → old ≡ cond (leb lo c && ltb c n) (f c) first → n ≤ last → new ≡ cond (leb lo c && ltb c (last + 1)) (f c) first
 stretch_more f lo n m last end c v new old first at to value le same is was up =
@@ -71,7 +46,12 @@ stretch_more f lo n m last end c v new old first at to value le same is was up =
       ]
     ]
 
--- the same of one more span of a list
+-- the same of a stretch of one point
+pub one_more : {A : Type 0} (f : ℕ → A) (lo n c : ℕ) (new old first : A) → lo ≤ n → new ≡ cond (leb n c && leb c n) (f n) old → old ≡ cond (leb lo c && ltb c n) (f c) first → new ≡ cond (leb lo c && ltb c (n + 1)) (f c) first
+one_more f lo n c new old first le is was =
+    stretch_more f lo n n n n c (f n) new old first refl refl refl le (λ low high. let same : c ≡ n = omega (arith, low, high) in ap f same) is was (omega arith)
+
+-- where the points of spans have a value, and those of one more span get it, those of all of them do
 pub span_more : {A : Type 0} (spans : List Bounds) (i : ℕ) (d : Bounds) (c : ℕ) (value new old first : A) → i < length spans
     → new ≡ cond (within c (get_or spans i d)) value old → old ≡ cond (list_any (within c) (take i spans)) value first
     → new ≡ cond (list_any (within c) (take (i + 1) spans)) value first

@@ -27,7 +27,8 @@ use Rattle.mention_index.specs.declared.mentions.Mentions.{Mentions}
 use Rattle.paged_table.specs.Paged.{values_next, values_now}
 use Rattle.edit_session.specs.Derivations.{AreOf, IsNext, IsNow, IsStill}
 use Rattle.edit_session.specs.declared.derivation.Derivation.{Derivation}
-use Rattle.edit_session.specs.Questions.{HasWalked, Keeps}
+use Rattle.edit_session.specs.Questions.{AreStill, HasWalked, Keeps, KeepsNow}
+use Rattle.edit_session.specs.declared.questions.Questions.{Questions}
 use Rattle.edit_session.proofs.QuestionLemmas.{alike, keeps_next, keeps_same}
 use Rattle.edit_session.specs.Groups.{AnswersAs, changed, checked_files, files_facts, refused_by, valid_files}
 use Rattle.edit_session.specs.declared.apply_stop.ApplyStop.{ApplyStop}
@@ -70,24 +71,35 @@ itself F before after R m A same is =
 
 -- ---- a turn
 
-pub ready : (F G view : ℕ → Facts) (R : ℕ → Record) (then now : Option Mentions) (A B N : ℕ → List Query) (Q : List Query) → AreOf F F R then A → Keeps now B F → HasWalked now Q → SameValues N B → view ≡ G → TellsChanges F G Q → IsReady F view R B N Q
-ready F G view R then now A B N Q is kept walked still shown tells = record {
-  valid = is.valid;
-  records = is.records;
-  alike = alike now B F Q kept walked;
-  still = still;
-  changes = subst (λ (H : ℕ → Facts). TellsChanges F H Q) (sym shown) tells;
-}
+module _ (d : Derivation) (asked : Questions) (view : ℕ → Facts) (Q : List Query) (kept : KeepsNow (tables_facts values_now d.tables) asked) (walked : HasWalked asked.mentions Q) (shown : view ≡ tables_next values_now d.tables) where
+  abbrev F : ℕ → Facts
+  F = tables_facts values_now d.tables
 
-pub turned : (F G view : ℕ → Facts) (S : ℕ → Record) (m : Option Mentions) (A B : ℕ → List Query) (Q : List Query) (points : List ℕ) → Keeps m A F → HasWalked m Q → view ≡ G → IsTurned F view S A B Q points → AreOf G G S m B
-turned F G view S m A B Q points kept walked shown turn =
-    let over : IsTurned F G S A B Q points = subst (λ (H : ℕ → Facts). IsTurned F H S A B Q points) shown turn in
-    record { same = refl; valid = over.valid; records = over.records; kept = keeps_next m A B F G Q kept walked over.kept }
+  abbrev G : ℕ → Facts
+  G = tables_next values_now d.tables
 
-pub turned_points : (F G view : ℕ → Facts) (S : ℕ → Record) (A B : ℕ → List Query) (Q : List Query) (points : List ℕ) → view ≡ G → IsTurned F view S A B Q points → points ≡ changed F G
-turned_points F G view S A B Q points shown turn =
-    let over : IsTurned F G S A B Q points = subst (λ (H : ℕ → Facts). IsTurned F H S A B Q points) shown turn in
-    over.changed
+  abbrev A : ℕ → List Query
+  A = asked_at (values values_now) asked.map
+
+  pub ready : IsNow F d → AreStill asked → TellsChanges F G Q → IsReady F view (record_now d.records) A (asked_at (values values_next) asked.map) Q
+  ready is still tells = record {
+    valid = is.valid;
+    records = is.records;
+    alike = alike asked.mentions A F Q kept walked;
+    still = still;
+    changes = subst (λ (H : ℕ → Facts). TellsChanges F H Q) (sym shown) tells;
+  }
+
+  over : (S : ℕ → Record) (B : ℕ → List Query) (points : List ℕ) → IsTurned F view S A B Q points → IsTurned F G S A B Q points
+  over S B points turn = subst (λ (H : ℕ → Facts). IsTurned F H S A B Q points) shown turn
+
+  pub turned : (S : ℕ → Record) (B : ℕ → List Query) (points : List ℕ) → IsTurned F view S A B Q points → AreOf G G S asked.mentions B
+  turned S B points turn =
+      let next = over S B points turn in
+      record { same = refl; valid = next.valid; records = next.records; kept = keeps_next asked.mentions A B F G Q kept walked next.kept }
+
+  pub turned_points : (S : ℕ → Record) (B : ℕ → List Query) (points : List ℕ) → IsTurned F view S A B Q points → points ≡ changed F G
+  turned_points S B points turn = let next = over S B points turn in next.changed
 
 pub counts_over : (F G view : ℕ → Facts) (old new : ℕ) → view ≡ G → CountsWithin F view old new → CountsWithin F G old new
 counts_over F G view old new shown counts = subst (λ (H : ℕ → Facts). CountsWithin F H old new) shown counts

@@ -1,11 +1,10 @@
-use Rattle.std.proofs.Common.{◌∙◌, List, ℕ, refl}
+use Rattle.std.proofs.Common.{◌∙◌, ℕ, refl}
 use Rattle.code_facts.specs.FactTables.{tables_facts, tables_next}
 use Rattle.dependency_map.specs.Maps.{asked_at}
 use Rattle.kept_values.specs.Kept.{values}
 use Rattle.paged_table.specs.Paged.{values_now, values_next}
 use Rattle.record_list.specs.Records.{record_next, record_now}
 use Rattle.ucd_facts.specs.Facts.{Facts}
-use Rattle.ucd_facts.specs.declared.query.Query.{Query}
 use Rattle.ucd_points.specs.declared.list.ListOf.{ListOf}
 use Rattle.ucd_points.specs.declared.point.Point.{Point}
 use Rattle.edit_session.specs.CountProofs.{none_counted}
@@ -24,15 +23,11 @@ returns-in_err-reach-clause-steps g c = none_counted (tables_facts values_now c.
 
 pub returns-in-Ok-clause-answer : goal.returns-in-Ok-clause-answer
 returns-in-Ok-clause-answer g c = λ files is.
-    let T : ℕ → Facts = tables_facts values_now c.args.self.now.tables in
-    let G : ℕ → Facts = tables_next values_now c.args.self.now.tables in
+    let d = c.args.self.now in
     let view : ℕ → Facts = tables_next values_now c.next-view.result.tables.now in
-    let B : ℕ → List Query = asked_at (values values_now) c.reach.new.self.map in
-    let rdy = ready T G view (record_now c.args.self.now.records) c.args.self.now.questions.mentions c.reach.new.self.mentions (asked_at (values values_now) c.args.self.now.questions.map) B (asked_at (values values_next) c.reach.new.self.map)
-    c.args.queries.now c.requires.now c.reach.ensures.kept c.in_ok-reach.ensures.walked c.reach.ensures.still c.next-view.ensures c.requires.tells in
-    let over = turned T G view (record_next c.turn.new.records) c.reach.new.self.mentions B (asked_at (values values_next) c.turn.new.map) c.args.queries.now c.in-Ok.changed c.reach.ensures.kept c.in_ok-reach.ensures.walked c.next-view.ensures
-    (c.in-Ok.ensures.turned T rdy) in
-    answers_valid c.in-Ok.changed files (valid_over G (files_facts files) is over.valid)
+    let rdy = ready d c.reach.new.self view c.args.queries.now c.reach.ensures.kept c.in_ok-reach.ensures.walked c.next-view.ensures c.requires.now c.reach.ensures.still c.requires.tells in
+    let over = turned d c.reach.new.self view c.args.queries.now c.reach.ensures.kept c.in_ok-reach.ensures.walked c.next-view.ensures (record_next c.turn.new.records) (asked_at (values values_next) c.turn.new.map) c.in-Ok.changed (c.in-Ok.ensures.turned (tables_facts values_now d.tables) rdy) in
+    answers_valid c.in-Ok.changed files (valid_over (tables_next values_now d.tables) (files_facts files) is over.valid)
 
 pub returns-in-Ok-clause-now : goal.returns-in-Ok-clause-now
 returns-in-Ok-clause-now g c = λ F is.
@@ -41,44 +36,31 @@ returns-in-Ok-clause-now g c = λ F is.
 
 pub returns-in-Ok-clause-next : goal.returns-in-Ok-clause-next
 returns-in-Ok-clause-next g c =
-    let T : ℕ → Facts = tables_facts values_now c.args.self.now.tables in
-    let G : ℕ → Facts = tables_next values_now c.args.self.now.tables in
+    let d = c.args.self.now in
     let view : ℕ → Facts = tables_next values_now c.next-view.result.tables.now in
-    let B : ℕ → List Query = asked_at (values values_now) c.reach.new.self.map in
-    let rdy = ready T G view (record_now c.args.self.now.records) c.args.self.now.questions.mentions c.reach.new.self.mentions (asked_at (values values_now) c.args.self.now.questions.map) B (asked_at (values values_next) c.reach.new.self.map)
-    c.args.queries.now c.requires.now c.reach.ensures.kept c.in_ok-reach.ensures.walked c.reach.ensures.still c.next-view.ensures c.requires.tells in
-    turned T G view (record_next c.turn.new.records) c.reach.new.self.mentions B (asked_at (values values_next) c.turn.new.map) c.args.queries.now c.in-Ok.changed c.reach.ensures.kept c.in_ok-reach.ensures.walked c.next-view.ensures
-    (c.in-Ok.ensures.turned T rdy)
+    let rdy = ready d c.reach.new.self view c.args.queries.now c.reach.ensures.kept c.in_ok-reach.ensures.walked c.next-view.ensures c.requires.now c.reach.ensures.still c.requires.tells in
+    turned d c.reach.new.self view c.args.queries.now c.reach.ensures.kept c.in_ok-reach.ensures.walked c.next-view.ensures (record_next c.turn.new.records) (asked_at (values values_next) c.turn.new.map) c.in-Ok.changed (c.in-Ok.ensures.turned (tables_facts values_now d.tables) rdy)
 
 pub returns-in-Ok-clause-changed : goal.returns-in-Ok-clause-changed
 returns-in-Ok-clause-changed g c =
-    let T : ℕ → Facts = tables_facts values_now c.args.self.now.tables in
-    let G : ℕ → Facts = tables_next values_now c.args.self.now.tables in
+    let d = c.args.self.now in
     let view : ℕ → Facts = tables_next values_now c.next-view.result.tables.now in
-    let B : ℕ → List Query = asked_at (values values_now) c.reach.new.self.map in
-    let rdy = ready T G view (record_now c.args.self.now.records) c.args.self.now.questions.mentions c.reach.new.self.mentions (asked_at (values values_now) c.args.self.now.questions.map) B (asked_at (values values_next) c.reach.new.self.map)
-    c.args.queries.now c.requires.now c.reach.ensures.kept c.in_ok-reach.ensures.walked c.reach.ensures.still c.next-view.ensures c.requires.tells in
-    turned_points T G view (record_next c.turn.new.records) B (asked_at (values values_next) c.turn.new.map) c.args.queries.now c.in-Ok.changed c.next-view.ensures (c.in-Ok.ensures.turned T rdy)
+    let rdy = ready d c.reach.new.self view c.args.queries.now c.reach.ensures.kept c.in_ok-reach.ensures.walked c.next-view.ensures c.requires.now c.reach.ensures.still c.requires.tells in
+    turned_points d c.reach.new.self view c.args.queries.now c.reach.ensures.kept c.in_ok-reach.ensures.walked c.next-view.ensures (record_next c.turn.new.records) (asked_at (values values_next) c.turn.new.map) c.in-Ok.changed (c.in-Ok.ensures.turned (tables_facts values_now d.tables) rdy)
 
 pub returns-in-Ok-clause-steps : goal.returns-in-Ok-clause-steps
 returns-in-Ok-clause-steps g c =
-    let T : ℕ → Facts = tables_facts values_now c.args.self.now.tables in
-    let G : ℕ → Facts = tables_next values_now c.args.self.now.tables in
+    let d = c.args.self.now in
     let view : ℕ → Facts = tables_next values_now c.next-view.result.tables.now in
-    let B : ℕ → List Query = asked_at (values values_now) c.reach.new.self.map in
-    let rdy = ready T G view (record_now c.args.self.now.records) c.args.self.now.questions.mentions c.reach.new.self.mentions (asked_at (values values_now) c.args.self.now.questions.map) B (asked_at (values values_next) c.reach.new.self.map)
-    c.args.queries.now c.requires.now c.reach.ensures.kept c.in_ok-reach.ensures.walked c.reach.ensures.still c.next-view.ensures c.requires.tells in
-    counts_over T G view c.args.steps.now c.turn.new.steps c.next-view.ensures (c.turn.ensures.steps T rdy)
+    let rdy = ready d c.reach.new.self view c.args.queries.now c.reach.ensures.kept c.in_ok-reach.ensures.walked c.next-view.ensures c.requires.now c.reach.ensures.still c.requires.tells in
+    counts_over (tables_facts values_now d.tables) (tables_next values_now d.tables) view c.args.steps.now c.turn.new.steps c.next-view.ensures (c.turn.ensures.steps (tables_facts values_now d.tables) rdy)
 
 pub returns-in-Err-clause-answer : goal.returns-in-Err-clause-answer
 returns-in-Err-clause-answer g c = λ files is.
-    let T : ℕ → Facts = tables_facts values_now c.args.self.now.tables in
-    let G : ℕ → Facts = tables_next values_now c.args.self.now.tables in
+    let d = c.args.self.now in
     let view : ℕ → Facts = tables_next values_now c.next-view.result.tables.now in
-    let B : ℕ → List Query = asked_at (values values_now) c.reach.new.self.map in
-    let rdy = ready T G view (record_now c.args.self.now.records) c.args.self.now.questions.mentions c.reach.new.self.mentions (asked_at (values values_now) c.args.self.now.questions.map) B (asked_at (values values_next) c.reach.new.self.map)
-    c.args.queries.now c.requires.now c.reach.ensures.kept c.in_ok-reach.ensures.walked c.reach.ensures.still c.next-view.ensures c.requires.tells in
-    answers_broken (ListOf Point) view c.in-Err.stop c.from.result files (c.next-view.ensures ∙ is) c.from.ensures (c.in-Err.ensures.stop T rdy)
+    let rdy = ready d c.reach.new.self view c.args.queries.now c.reach.ensures.kept c.in_ok-reach.ensures.walked c.next-view.ensures c.requires.now c.reach.ensures.still c.requires.tells in
+    answers_broken (ListOf Point) view c.in-Err.stop c.from.result files (c.next-view.ensures ∙ is) c.from.ensures (c.in-Err.ensures.stop (tables_facts values_now d.tables) rdy)
 
 pub returns-in-Err-clause-now : goal.returns-in-Err-clause-now
 returns-in-Err-clause-now g c = λ F is.
@@ -87,10 +69,7 @@ returns-in-Err-clause-now g c = λ F is.
 
 pub returns-in-Err-clause-steps : goal.returns-in-Err-clause-steps
 returns-in-Err-clause-steps g c =
-    let T : ℕ → Facts = tables_facts values_now c.args.self.now.tables in
-    let G : ℕ → Facts = tables_next values_now c.args.self.now.tables in
+    let d = c.args.self.now in
     let view : ℕ → Facts = tables_next values_now c.next-view.result.tables.now in
-    let B : ℕ → List Query = asked_at (values values_now) c.reach.new.self.map in
-    let rdy = ready T G view (record_now c.args.self.now.records) c.args.self.now.questions.mentions c.reach.new.self.mentions (asked_at (values values_now) c.args.self.now.questions.map) B (asked_at (values values_next) c.reach.new.self.map)
-    c.args.queries.now c.requires.now c.reach.ensures.kept c.in_ok-reach.ensures.walked c.reach.ensures.still c.next-view.ensures c.requires.tells in
-    counts_over T G view c.args.steps.now c.turn.new.steps c.next-view.ensures (c.turn.ensures.steps T rdy)
+    let rdy = ready d c.reach.new.self view c.args.queries.now c.reach.ensures.kept c.in_ok-reach.ensures.walked c.next-view.ensures c.requires.now c.reach.ensures.still c.requires.tells in
+    counts_over (tables_facts values_now d.tables) (tables_next values_now d.tables) view c.args.steps.now c.turn.new.steps c.next-view.ensures (c.turn.ensures.steps (tables_facts values_now d.tables) rdy)

@@ -3,7 +3,7 @@
 -- F is the facts of each code point.
 -- composed_same   where no member of a composed list has a canonical mapping, nothing was composed
 -- form_twice      where no member of the NFKC of a list has a canonical mapping, that NFKC is its own
-use Rattle.std.proofs.Common.{◌≡◌, ℕ, Bool, true, false, cond, ◌||◌, List, [], ◌∷◌, ◌++◌, Option, Some, None, Result, Ok, Err, refl, sym, ap, ◌∙◌, subst, append_assoc, ◌⊎◌, inl, inr}
+use Rattle.std.proofs.Common.{◌≡◌, ℕ, Bool, true, false, cond, ◌||◌, List, [], ◌∷◌, ◌++◌, Option, Some, None, Ok, refl, sym, ap, ◌∙◌, subst, append_assoc, ◌⊎◌, inl, inr}
 use Rattle.std.specs.List.{list_any}
 use Rattle.std.proofs.lemmas.List.{append-nil}
 use Rattle.std.proofs.lemmas.List.Folds.{list_any-append}
@@ -13,9 +13,7 @@ use Rattle.ucd_facts.specs.Composites.{is_canonical, pair_of}
 use Rattle.ucd_model.specs.Composition.{Split, compose, compose_onto, composed_with, is_open, last_starter, where_open, with_composite, with_point}
 use Rattle.ucd_facts.specs.Facts.{Facts}
 use Rattle.ucd_model.specs.Forms.{composed, nfkc, nfkd}
-use Rattle.ucd_facts.specs.declared.form.Bad.{Bad as Rule}
-use Rattle.normalisation.specs.ExpandedLemmas.{ok_same}
-use Rattle.normalisation.specs.FormProofs.{nfkd_twice}
+use Rattle.normalisation.specs.FormProofs.{nfkd_twice, composed_ok}
 use Rattle.normalisation.specs.PairLemmas.{pair_joins}
 use Rattle.fold_rounds.specs.Steps.{has_composite}
 
@@ -65,10 +63,6 @@ pub composed_same : (F : ℕ → Facts) (t : List ℕ) → has_composite F (comp
 composed_same F t none = read_all F (compose (class_of F) (pair_of F) t) t none (onto F [] [] t (inl refl))
 
 -- ---- the form of a form
-
-composed_ok : (F : ℕ → Facts) (r : Result (List ℕ) Rule) (u : List ℕ) → composed F r ≡ Ok u → (t : List ℕ) × (r ≡ Ok t) × (compose (class_of F) (pair_of F) t ≡ u)
-composed_ok F (Ok t) u is = (t, refl, ok_same (compose (class_of F) (pair_of F) t) u is)
-composed_ok F (Err rule) u is = cc
 
 pub form_twice : (F : ℕ → Facts) (s form : List ℕ) → nfkc F s ≡ Ok form → has_composite F form ≡ false → nfkc F form ≡ Ok form
 form_twice F s form is none =

@@ -1,14 +1,13 @@
 -- Expansions without compatibility mappings.
-use Rattle.std.proofs.Common.{◌≡◌, ℕ, zero, suc, Bool, true, false, cond, ◌||◌, nat_lt, List, [], ◌∷◌, ◌++◌, length, Option, Some, None, Ok, Err, if◌then◌else◌, refl, sym, ap, ◌∙◌, subst}
+use Rattle.std.proofs.Common.{◌≡◌, ℕ, zero, suc, Bool, true, false, ◌||◌, List, [], ◌∷◌, ◌++◌, Option, Some, Ok, if◌then◌else◌, refl, sym, ap, ◌∙◌, subst}
 use Rattle.std.specs.List.{AllByRecursion as Each, list_any}
 use Rattle.std.proofs.lemmas.Option.{same_Some, none-some}
 use Rattle.ucd_facts.specs.Expansion.{counts, counted, joined, alone_or_joined, expand, full, judged, expansion}
 use Rattle.ucd_facts.specs.Facts.{Facts}
 use Rattle.ucd_facts.specs.declared.decomposition.Kind.{Kind}
 use Rattle.ucd_facts.specs.declared.decomposition.Kind.TheVariants.{Plain, Canonical, Compat}
-use Rattle.ucd_facts.specs.declared.form.Bad.TheVariants.{V3}
 use Rattle.decomposition.specs.ExpansionProofs.{both_some}
-use Rattle.normalisation.specs.ExpandedLemmas.{Each-front, Each-back, ok_same}
+use Rattle.normalisation.specs.ExpandedLemmas.{Each-front, Each-back, judged_some}
 use Rattle.identifier_closure.specs.PointForms.{ExpandTo}
 use Rattle.ucd_facts.specs.Expansion.{is_compat}
 use Rattle.identifier_closure.proofs.FormLemmas.{both_expanded}
@@ -70,14 +69,6 @@ module _ (F : ℕ → Facts) where
 
 -- ---- the expansions
 
-judged_if : (t : Bool) (points p : List ℕ) → cond t (Err V3) (Ok points) ≡ Ok p → points ≡ p
-judged_if true points p e = cc
-judged_if false points p e = ok_same points p e
-
-judged_list : (a : Option (List ℕ)) (p : List ℕ) → judged a ≡ Ok p → a ≡ Some p
-judged_list None p e = cc
-judged_list (Some points) p e = ap (λ zs. Some zs) (judged_if (nat_lt 64 (length points)) points p e)
-
 full_same : (F : ℕ → Facts) (c : ℕ) (p : List ℕ) → full F false c ≡ Some p → Each (NotCompat F) p → full F true c ≡ Some p
 unfolding full
 full_same F c p e each = expand_same F 8 c p e each
@@ -85,6 +76,6 @@ full_same F c p e each = expand_same F 8 c p e each
 -- where no member of the canonical expansion has a compatibility mapping, the compatibility expansion is the same
 pub compat_same : (F : ℕ → Facts) (c : ℕ) (p : List ℕ) → expansion F false c ≡ Ok p → list_any (λ x. is_compat (F x).kind) p ≡ false → ExpandTo F c p p
 compat_same F c p e none =
-    let canonical : full F false c ≡ Some p = judged_list (full F false c) p e in
+    let canonical : full F false c ≡ Some p = judged_some (full F false c) p e in
     let compat : full F true c ≡ Some p = full_same F c p canonical (each_of F p none) in
     both_expanded F c p p e (ap judged (compat ∙ sym canonical) ∙ e)

@@ -44,7 +44,7 @@ judged_if : (t : Bool) (points p : List ℕ) → cond t (Err V3) (Ok points) ≡
 judged_if true points p e = cc
 judged_if false points p e = ok_same points p e
 
-judged_some : (r : Option (List ℕ)) (p : List ℕ) → judged r ≡ Ok p → r ≡ Some p
+pub judged_some : (r : Option (List ℕ)) (p : List ℕ) → judged r ≡ Ok p → r ≡ Some p
 judged_some (Some points) p e = ap (λ zs. Some zs) (judged_if (nat_lt 64 (length points)) points p e)
 judged_some None p e = cc
 

@@ -19,7 +19,7 @@ use Rattle.normalisation.specs.FormLaws.{HaveExpansions, NfdTwice, NfkdTwice, Nf
 use Rattle.normalisation.specs.ExpandedLemmas.{Unmapped, Each-order, ok_same, expansions_unmapped, expansions_full}
 
 -- what is decomposed: in order, and nothing in it is mapped
-in_order_ok : (F : ℕ → Facts) (r : Result (List ℕ) Rule) (t : List ℕ) → in_order F r ≡ Ok t → (e : List ℕ) × (r ≡ Ok e) × (order (class_of F) e ≡ t)
+pub in_order_ok : (F : ℕ → Facts) (r : Result (List ℕ) Rule) (t : List ℕ) → in_order F r ≡ Ok t → (e : List ℕ) × (r ≡ Ok e) × (order (class_of F) e ≡ t)
 in_order_ok F (Ok e) t is = (e, refl, ok_same (order (class_of F) e) t is)
 in_order_ok F (Err rule) t is = cc
 
@@ -49,7 +49,7 @@ decomposed_ordered F compat s t is =
     let parts = in_order_ok F (expansions F compat s) t is in
     subst (Ordered (class_of F) 0) parts.2 (order_is_ordered (class_of F) parts.0)
 
-composed_ok : (F : ℕ → Facts) (r : Result (List ℕ) Rule) (u : List ℕ) → composed F r ≡ Ok u → (t : List ℕ) × (r ≡ Ok t) × (compose (class_of F) (pair_of F) t ≡ u)
+pub composed_ok : (F : ℕ → Facts) (r : Result (List ℕ) Rule) (u : List ℕ) → composed F r ≡ Ok u → (t : List ℕ) × (r ≡ Ok t) × (compose (class_of F) (pair_of F) t ≡ u)
 composed_ok F (Ok t) u is = (t, refl, ok_same (compose (class_of F) (pair_of F) t) u is)
 composed_ok F (Err rule) u is = cc
 

@@ -7,12 +7,10 @@
 -- check_expanded          where c has an expansion, decomposed_check is told by the kind of c
 -- composed_check_alone    where the mapping of c does not count, composed_check is quick_composed of c alone
 -- kinds_tell, unchanged_is_yes, no_is_other, others_are_same   the laws of the same names
-use Rattle.std.proofs.Common.{◌≡◌, ℕ, Bool, true, false, cond, ◌==◌, List, [], ◌∷◌, Result, Ok, Err, refl, sym, ap, ◌∙◌, subst, arith}
+use Rattle.std.proofs.Common.{◌≡◌, ℕ, Bool, true, false, cond, ◌==◌, List, [], ◌∷◌, Result, Ok, Err, refl, sym, ap, ◌∙◌, subst}
 use Rattle.std.specs.List.{AllByRecursion as Each}
 use Rattle.std.specs.Str.{bytes_eq}
-use Rattle.std.proofs.lemmas.Bool.Decides.{nat_tests}
 use Rattle.std.proofs.lemmas.Slice.Eq.{bytes_eq-Decides}
-use Rattle.std.proofs.lemmas.Bool.{eq-eqb}
 use Rattle.ucd_facts.specs.Facts.{Facts, is_plain}
 use Rattle.ucd_model.specs.CanonicalOrder.{class_of, order}
 use Rattle.ucd_facts.specs.Composites.{is_canonical, second_of}
@@ -26,9 +24,10 @@ use Rattle.ucd_facts.specs.declared.form.Form.TheVariants.{Nfd, Nfc, Nfkd, Nfkc}
 use Rattle.ucd_facts.specs.declared.form.Quick.{Quick}
 use Rattle.ucd_facts.specs.declared.form.Quick.TheVariants.{Yes, No, Maybe}
 use Rattle.normalisation.specs.FormLemmas.{expansion_alone}
-use Rattle.normalisation.specs.ExpandedLemmas.{Unmapped, Each-order, ok_same, expansions_full}
+use Rattle.normalisation.specs.ExpandedLemmas.{Unmapped, Each-order, expansions_full}
 use Rattle.quick_checks.specs.Checks.{quick_decomposed, decomposed_check, composed_check}
 use Rattle.quick_checks.specs.CheckLaws.{IsMapped, KindsTell, UnchangedIsYes, NoIsOther, OthersAreSame}
+use Rattle.normalisation.specs.FormProofs.{in_order_ok}
 
 -- ---- a point without a mapping that counts is each form of itself
 
@@ -82,10 +81,6 @@ pub composed_check_alone : (F : ℕ → Facts) (compat : Bool) (c : ℕ) → cou
 composed_check_alone F compat c e = ap (quick_where (quick_composed F c)) (composed_alone F compat c e)
 
 -- ---- what the checks say of the forms
-
-in_order_ok : (F : ℕ → Facts) (r : Result (List ℕ) Rule) (t : List ℕ) → in_order F r ≡ Ok t → (e : List ℕ) × (r ≡ Ok e) × (order (class_of F) e ≡ t)
-in_order_ok F (Ok e) t is = (e, refl, ok_same (order (class_of F) e) t is)
-in_order_ok F (Err rule) t is = cc
 
 -- a point that is its own decomposition has no mapping that counts
 alone_unmapped : (F : ℕ → Facts) (compat : Bool) (c : ℕ) → decomposed F compat (c ∷ []) ≡ Ok (c ∷ []) → counted F compat c ≡ []

@@ -1,11 +1,10 @@
 //! A source file as it is kept.
 
-ghost use Rattle.std.specs.Prelude.{◌≡◌, ◌<◌, ◌≤◌, ◌^◌, [], filter, length, map, Ok, IfOk, OnOk};
-ghost use Rattle.std.specs.List.{All, insert, remove};
+ghost use Rattle.std.specs.Prelude.{◌≡◌, ◌<◌, ◌^◌, [], filter, length, map, Ok, IfOk};
+ghost use Rattle.std.specs.List.{All};
 ghost use Rattle.std.specs.Option.{IfSome};
 ghost use Rattle.part_list.specs.Parts.{now_in, next_in};
 ghost use Rattle.source_rows.specs.Faults.{row_or_fault};
-ghost use Rattle.release_rows.specs.Back.{LeadsOn};
 ghost use Rattle.release_rows.specs.FileItems.{bytes_of, rows_in};
 ghost use Rattle.release_rows.specs.Operations.{AnswersOp, IsOp, edited, op_file, touched};
 ghost use Rattle.release_rows.specs.Releases.{AreKept, committed, discarded, rows_at};
@@ -13,21 +12,18 @@ ghost use Rattle.release_rows.specs.StoredItems.{stored_at, IsStored, IsWhole};
 ghost use Rattle.release_rows.specs.Touching.{meets};
 ghost use Rattle.release_rows.specs.declared.operation.Op.TheVariants.{Add, Change, Withdraw};
 
-use crate::copy::copy_entry;
-use crate::edits::{put_at, put_in};
+use crate::edits::put_in;
 use crate::finds::{added_gap, changed_spot, search_row, withdrawn_spot};
-use crate::groups::{groups_of, note_group};
+use crate::groups::groups_of;
 use crate::join::joined;
 use crate::op_spans::{both_spans, entry_spans, row_spans};
 use crate::operation::{Op, OpStop};
-use crate::patch::Patch;
 use crate::row_iter::Rows;
 use crate::row_text::RowText;
 use crate::stored_row::store_row;
-use crate::stretch::{Stretch, content_in};
+use crate::stretch::Stretch;
 use crate::touching::touching_rows;
-use crate::way_back::put_way_back;
-use part_list::{PartList, Spanned, Tags};
+use part_list::{PartList, Tags};
 use source_rows::{Key, row_key};
 use std::alloc::Global;
 use std::marker::Model;
@@ -38,15 +34,15 @@ use ucd_lines::Ending;
 /// which are read as that row. Contracts see the items.
 #[derive(Debug, Drop)]
 pub struct FileText {
-    file: SourceFile,
-    text: Text,
-    items: PartList<Stretch>,
+    pub(crate) file: SourceFile,
+    pub(crate) text: Text,
+    pub(crate) items: PartList<Stretch>,
     /// Whether the items put together are the text, now and next, as they are until the first edit.
-    whole: bool,
+    pub(crate) whole: bool,
     /// How many items were added since the file was loaded.
-    added: u32,
+    pub(crate) added: u32,
     /// The groups of the rows, now and next, if the tags of rows do not tell them: noted from the first addition on.
-    groups: Tags,
+    pub(crate) groups: Tags,
 }
 
 impl Model for FileText {
@@ -282,61 +278,6 @@ impl FileText {
         ensures { self.new ≡ discarded self.old }
     {
         self.items.discard();
-    }
-}
-
-/// Ways back. What is now stays.
-impl FileText {
-    /// Puts the splices that lead from the items next back to those now behind others.
-    ///
-    /// - `Memory`: memory ran out, or the items of a splice have 2^32 bytes or more.
-    pub fn put_way_back(&self, alloc: Global, patch: &mut Patch) -> Result<(), Memory>
-        ensures { OnOk result (LeadsOn patch.old patch.new self.now.file self.now.next self.now.now) }
-    {
-        put_way_back(alloc, self.file, self.text.as_slice(), &self.items, patch)
-    }
-
-    /// Takes the item at a place out of what is next.
-    ///
-    /// - `Memory`: memory ran out. What is next may be anything then.
-    pub fn take_out(&mut self, at: usize) -> Result<(), Memory>
-        requires { at < length self.old.next }
-        ensures file { self.new.file ≡ self.old.file }
-        ensures now { self.new.now ≡ self.old.now }
-        ensures next { OnOk result (self.new.next ≡ remove self.old.next at) }
-    {
-        let Some(found) = self.items.at(at) else {
-            unreachable!()
-        };
-        self.whole = false;
-        self.items.remove(found)?;
-        Ok(())
-    }
-
-    /// Puts a copy of an item of another text in at a place, next.
-    ///
-    /// - `Memory`: memory ran out, or the text would have 2^32 bytes or more. What is next may be anything then.
-    pub fn put_copy(
-        &mut self,
-        at: usize,
-        from: &[u8],
-        entry: &Spanned<Stretch>,
-    ) -> Result<(), Memory>
-        requires stored { IsStored self.old.file from.now entry.now }
-        requires within { at ≤ length self.old.next }
-        ensures file { self.new.file ≡ self.old.file }
-        ensures now { self.new.now ≡ self.old.now }
-        ensures next { OnOk result (self.new.next ≡ insert self.old.next at (stored_at self.old.file from.now entry.now)) }
-    {
-        let Some(added) = self.added.checked_add(1) else {
-            return Err(Memory);
-        };
-        self.whole = false;
-        note_group(&mut self.groups, self.file, content_in(from, entry.item));
-        let copy = copy_entry(self.file, from, entry, &mut self.text)?;
-        put_at(&mut self.items, at, copy)?;
-        self.added = added;
-        Ok(())
     }
 }
 

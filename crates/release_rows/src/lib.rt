@@ -10,6 +10,7 @@ mod edits;
 mod end_map;
 mod entry;
 mod extents;
+mod file_back;
 mod file_text;
 mod finds;
 mod groups;

@@ -1,0 +1,10 @@
+//! Goes over all code points, stretch by stretch.
+#![tactic(auto)]
+
+mod counting;
+mod laws;
+mod stretch_iter;
+
+pub use counting::count_passing;
+pub use laws::stretches_cover;
+pub use stretch_iter::{StretchIter, stretches_by};

@@ -8,9 +8,10 @@ ghost use Rattle.ucd_model.specs.Labels.{labelled};
 ghost use Rattle.age_chain.specs.Ages.{age_label, age_of, ages_of};
 
 use label_runs::{LabelText, OpenSection};
+use point_stretches::{count_passing, stretches_by};
 use range_table::{RunTable, Table};
 use std::alloc::Global;
-use ucd_model::{Memory, Point, Text};
+use ucd_model::{Memory, Text};
 
 /// Puts the section `Age`: a line for each maximal span of one age. Code points without an age are not listed.
 /// UAX #44, section 5.3.
@@ -21,13 +22,9 @@ pub fn put_ages(alloc: Global, ages: &RunTable<u8>, text: &mut Text) -> Result<(
 {
     let mut section = OpenSection::begin(alloc, b"Age", text)?;
     let mut label = LabelText::none(alloc);
-    let mut number = 0;
-    'runs: while number < Point::COUNT {
-        let c = Point::at(number);
-        let last = ages.last_of_run(c);
-        set_age(alloc, ages.get(c), &mut label)?;
-        number = last.number() + 1;
-        section.go_on(&mut label, number, text)?;
+    'runs: for span in stretches_by(|c| ages.last_of_run(c)) {
+        set_age(alloc, ages.get(span.lo), &mut label)?;
+        section.go_on(&mut label, span.last() + 1, text)?;
     }
     section.end(alloc, text)
 }
@@ -36,17 +33,7 @@ pub fn put_ages(alloc: Global, ages: &RunTable<u8>, text: &mut Text) -> Result<(
 pub fn count_aged(ages: &RunTable<u8>) -> u32
     ensures { result ≡ labelled point_count (λ c. age_label (ages_of (values_now ages.now) c)) }
 {
-    let mut count = 0;
-    let mut number = 0;
-    'spans: while number < Point::COUNT {
-        let c = Point::at(number);
-        let end = ages.last_of_run(c).number() + 1;
-        if ages.get(c) != 0 {
-            count += end - number;
-        }
-        number = end;
-    }
-    count
+    count_passing(|c| ages.last_of_run(c), |c| ages.get(c) != 0)
 }
 
 /// Makes it the label of an age, which is listed in decimal; 0 stands for none.

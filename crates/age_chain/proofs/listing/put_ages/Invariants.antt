@@ -1,4 +1,4 @@
-use Rattle.std.proofs.Common.{◌≡◌, ◌-◌, ◌≤◌, ◌++◌}
+use Rattle.std.proofs.Common.{◌≡◌, ◌++◌}
 use Rattle.std.specs.Prelude.{codes}
 use Rattle.range_table.specs.RunTable.{values_now}
 use Rattle.ucd_points.specs.Limits.{point_count}
@@ -9,10 +9,7 @@ use Rattle.age_chain.proofs.listing.put_ages.Given as goal
 -- the section as far as the ages were passed
 abbrev pub invariant-runs : goal.invariant-runs
 invariant-runs l = record {
-  end : l.section.end ≡ l.number;
+  same : l.span-iterator.last_of ≡ l.initial.span-iterator.last_of;
+  end : l.section.end ≡ l.span-iterator.from;
   written : IsWritten point_count (λ c. age_label (ages_of (values_now l.ages) c)) (l.fn.text ++ section_head (codes "Age")) l.section l.text;
-  within : l.number ≤ 1114112;
 }
-
-abbrev pub decreases-runs : goal.decreases-runs
-decreases-runs l = 1114112 - l.number

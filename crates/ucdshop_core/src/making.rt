@@ -1,12 +1,13 @@
 //! What the summary of `make` counts.
 
-ghost use Rattle.std.specs.Prelude.{◌≡◌, ◌≤◌, IfOk, is_some, if◌then◌else◌};
+ghost use Rattle.std.specs.Prelude.{◌≡◌, ℕ, ◌≤◌, IfOk, is_some};
 ghost use Rattle.edit_session.specs.Benches.{bench_record};
 ghost use Rattle.ucd_model.specs.DerivedFiles.{casefold_listing};
 ghost use Rattle.ucd_model.specs.Records.{kept_record};
 ghost use Rattle.ucdshop_core.specs.Making.{casefolds, data_rows};
 
 use edit_session::Bench;
+use point_stretches::count_passing;
 use ucd_model::{Image, Memory, Point, Record, Records, SourceFile};
 
 /// How many rows UnicodeData.txt has on a bench.
@@ -31,28 +32,11 @@ pub fn data_rows(bench: &Bench) -> Result<usize, Memory>
 pub fn casefolds(bench: &Bench) -> usize
     ensures { result ≡ casefolds bench.now.current }
 {
-    let mut count = 0;
-    let mut number = 0;
-    'stretches: while number < Point::COUNT {
-        let lo = Point::at(number);
-        let hi = bench.last_alike(lo);
-        let end = hi.number() + 1;
-        count += listed(bench, lo, end - number);
-        number = end;
-    }
-    count
-}
-
-/// How many of so many code points with the record of this one the section NFKC_CF lists: all or none.
-fn listed(bench: &Bench, c: Point, len: u32) -> usize
-    ensures count { result ≡ (if is_some (casefold_listing.label (bench_record bench.now c)) then len else 0) }
-    ensures few { result ≤ len }
-{
-    if is_listed(bench.record(c)) {
-        len as usize
-    } else {
-        0
-    }
+    let last_of = |c: Point|
+        ensures from { c ≤ result }
+        ensures same { (k : ℕ) → c ≤ k → k ≤ result → bench_record bench.entry.now k ≡ bench_record bench.entry.now c }
+    { bench.last_alike(c) };
+    count_passing(last_of, |c| is_listed(bench.record(c))) as usize
 }
 
 /// Whether the section NFKC_CF lists a code point with this record.

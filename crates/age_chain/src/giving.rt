@@ -11,8 +11,8 @@ use edit_session::Bench;
 use range_table::{RunTable, Table};
 use stability_policies::{Breaks, report};
 use std::alloc::Global;
+use ucd_facts::UniformFacts;
 use ucd_model::{FactView, Memory, Point, Span};
-use uniform_facts::UniformFacts;
 
 /// The breaks of a bench against the last one. The code points that are assigned in it and have no age yet have this
 /// one next. Ages are numbers from 1, and 0 stands for none.

@@ -2,8 +2,8 @@
 
 ghost use Rattle.std.specs.Prelude.{◌≡◌};
 
-use asking_points::{Derived, derive_point};
 use code_facts::FactTables;
+use point_queries::{Derived, derive_point};
 use range_table::RunTable;
 use release_rows::Release;
 use std::alloc::Global;

@@ -1,7 +1,7 @@
 -- Composites that are found among those that are listed.
 use Rattle.std.proofs.Common.{◌≡◌, ℕ, ◌+◌, ◌<◌, ◌≤◌, Bool, true, false, cond, not, ◌==◌, ◌&&◌, ◌||◌, List, [], ◌∷◌, length, take, get_or, nat_lt, Option, Some, None, MatchOption, refl, sym, ap, ap₂, subst, ◌∙◌, arith, inl, inr}
-use Rattle.key_set.specs.Keys.{has, is_in, IsNext}
-use Rattle.key_set.specs.declared.key_set.KeySet.{KeySet}
+use Rattle.number_sets.specs.Keys.{has, is_in, IsNext}
+use Rattle.number_sets.specs.declared.key_set.KeySet.{KeySet}
 use Rattle.std.proofs.lemmas.Bool.{cases_lt, eqb-true, true≢false, false_from_ne_true}
 use Rattle.std.proofs.lemmas.Bool.Decides.{nat_tests}
 use Rattle.ucd_points.specs.Limits.{point_count}

@@ -15,7 +15,7 @@
 -- picked F q two         the two, where there are two and q may compose them
 -- NoneFrom p m n         no number from m up to n passes p (n does not count); NoneBelow p n: none below n does
 use Rattle.std.specs.Prelude.{◌≡◌, ℕ, ◌+◌, ◌*◌, ◌<◌, ◌≤◌, Bool, true, false, ◌&&◌, not, List, [], ◌∷◌, Option, Some, None, ◌==◌, nat_lt, if◌then◌else◌}
-use Rattle.key_set.specs.Keys.{has, is_in}
+use Rattle.number_sets.specs.Keys.{has, is_in}
 use Rattle.ucd_facts.specs.Facts.{Facts}
 use Rattle.ucd_facts.specs.Composites.{is_canonical}
 use Rattle.code_facts.specs.Word.{class_of_word, excluded_of_word, kind_of_word}

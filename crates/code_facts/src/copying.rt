@@ -18,7 +18,7 @@ use crate::point_lists::PointLists;
 use crate::points::{lesser, point};
 use crate::rest::Rest;
 use crate::row_tables::RowTables;
-use kept_values::Store;
+use point_store::Store;
 use range_table::{RunTable, Table};
 use std::alloc::Global;
 use ucd_facts::{Memory, Point, Span};

@@ -1,13 +1,13 @@
 //! The tables of facts, now and next.
 
-ghost use Rattle.kept_values.specs.Kept.{values};
+ghost use Rattle.point_store.specs.Kept.{values};
 ghost use Rattle.code_facts.specs.Changes.{StaysOutside};
 ghost use Rattle.code_facts.specs.Index.{Lists};
 ghost use Rattle.code_facts.specs.KeptFacts.{all_kept, Packs};
 
 use crate::pair_index::PairIndex;
 use crate::rest::Rest;
-use kept_values::Kept;
+use point_store::Kept;
 use range_table::Table;
 use ucd_facts::Spans;
 

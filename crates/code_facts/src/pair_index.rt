@@ -1,12 +1,12 @@
 //! The index of the code points that may compose the two members of their mapping.
 
 ghost use Rattle.std.specs.Prelude.{◌≡◌, ℕ, ◌+◌, ◌%◌, ◌<◌, ◌≤◌, true, false, IfOk, OnOk, MatchOption};
-ghost use Rattle.key_set.specs.Keys.{has, is_in};
+ghost use Rattle.number_sets.specs.Keys.{has, is_in};
 ghost use Rattle.code_facts.specs.Index.{pair_key, first_key, second_key, is_listed, is_gathered, NoneFrom};
 
 use crate::pair_keys::{PairKeys, pair_key, second_key};
 use crate::points::point;
-use key_set::KeySet;
+use number_sets::KeySet;
 use std::alloc::Global;
 use ucd_facts::{Memory, Point};
 

@@ -7,7 +7,7 @@
 //! | 42 to 62 | the first member, in the keys of pairs |
 
 ghost use Rattle.std.specs.Prelude.{◌≡◌, ℕ, ◌<◌, ◌≤◌, [], true, OnOk};
-ghost use Rattle.key_set.specs.Keys.{is_in};
+ghost use Rattle.number_sets.specs.Keys.{is_in};
 ghost use Rattle.code_facts.specs.Index.{pair_key, second_key, is_gathered};
 
 use crate::points::point;

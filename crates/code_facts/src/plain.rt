@@ -8,7 +8,7 @@ ghost use Rattle.code_facts.specs.Plain.{IsOwnImage, ShowsNoImage};
 ghost use Rattle.ucd_points.specs.Stretches.{HoldsTo};
 
 use crate::fact_tables::FactTables;
-use kept_values::Store;
+use point_store::Store;
 use range_table::Stretches;
 use ucd_facts::{FactView, FactsRef, Point};
 

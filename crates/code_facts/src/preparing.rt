@@ -25,7 +25,7 @@ use crate::rest::Rest;
 use crate::row_lists::RowLists;
 use crate::row_tables::RowTables;
 use crate::word::NO_ROW;
-use kept_values::{Kept, Store};
+use point_store::{Kept, Store};
 use range_table::Table;
 use release_rows::{Release, rows_meet};
 use std::alloc::Global;

@@ -12,7 +12,7 @@ use crate::rest::Rest;
 use crate::shown::shown;
 use crate::version::Version;
 use crate::word::{category_of, class_of, flags_of, is_assigned, kind_of};
-use kept_values::Store;
+use point_store::Store;
 use range_table::Table;
 use ucd_facts::{Category, FactsRef, Flags, Kind, Point};
 

@@ -5,7 +5,7 @@
 -- put_at at listing c the same of a listing
 use Rattle.std.specs.Prelude.{ℕ, List, Option}
 use Rattle.ucd_facts.specs.declared.query.Query.{Query}
-use Rattle.kept_values.specs.declared.store.Store.{Ghosts}
+use Rattle.point_store.specs.declared.store.Store.{Ghosts}
 use Rattle.dependency_map.specs.Askers.{asked_by}
 use Rattle.dependency_map.specs.Index.{kept_at}
 use Rattle.dependency_map.specs.declared.dependencies.DependencyMap.{DependencyMap}

@@ -9,11 +9,11 @@
 ghost use Rattle.std.specs.Prelude.{◌≡◌, ℕ, ◌+◌, ◌^◌, ◌<◌, ◌≤◌, true, MatchOption, OnOk};
 ghost use Rattle.ucd_facts.specs.declared.query.Query.{Query as Question};
 ghost use Rattle.ucd_facts.specs.Answers.{is_asked};
-ghost use Rattle.key_set.specs.Keys.{has, is_in};
+ghost use Rattle.number_sets.specs.Keys.{has, is_in};
 ghost use Rattle.dependency_map.specs.Index.{query_key, is_own, least, may_ask, NoneFrom};
 
 use crate::number_set::next_point;
-use key_set::KeySet;
+use number_sets::KeySet;
 use ucd_facts::{Memory, Point, Queries, Query};
 
 /// Stands in the keys of rows, in the place of a pair's first code point.

@@ -5,7 +5,7 @@ ghost use Rattle.dependency_map.specs.Askers.{askers_of};
 ghost use Rattle.dependency_map.specs.Maps.{asked_at};
 
 use crate::dependencies::DependencyMap;
-use kept_values::Store;
+use point_store::Store;
 use std::marker::Model;
 use ucd_facts::{Point, Queries, Query};
 

@@ -2,7 +2,7 @@
 
 ghost use Rattle.std.specs.Prelude.{◌≡◌, ℕ, ◌+◌, ◌<◌, ◌≤◌, ◌||◌, true, [], ◌∷◌, MatchOption, OnOk, IfOk};
 ghost use Rattle.std.specs.Option.{option_copied};
-ghost use Rattle.key_set.specs.Keys.{is_in};
+ghost use Rattle.number_sets.specs.Keys.{is_in};
 ghost use Rattle.dependency_map.specs.Askers.{asks, askers_of, askers_of_any, points_from};
 ghost use Rattle.dependency_map.specs.Index.{NoneFrom, kept_at};
 ghost use Rattle.dependency_map.specs.Maps.{asked_at};
@@ -11,8 +11,8 @@ use crate::asker_index::next_listed;
 use crate::asker_iter::Askers;
 use crate::collecting::points_of;
 use crate::dependencies::DependencyMap;
-use kept_values::Store;
-use key_set::KeySet;
+use number_sets::KeySet;
+use point_store::Store;
 use std::alloc::Global;
 use ucd_facts::{Memory, Point, Points, Queries, Query};
 

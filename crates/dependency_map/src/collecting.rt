@@ -1,11 +1,11 @@
 //! Code points that were gathered in any order.
 
 ghost use Rattle.std.specs.Prelude.{◌≡◌, IfOk};
-ghost use Rattle.key_set.specs.Keys.{has};
+ghost use Rattle.number_sets.specs.Keys.{has};
 ghost use Rattle.dependency_map.specs.Askers.{points_from};
 
 use crate::number_set::next_in;
-use key_set::KeySet;
+use number_sets::KeySet;
 use std::alloc::Global;
 use ucd_facts::{Memory, Points};
 

@@ -1,10 +1,10 @@
 //! The map of dependants, and a listing that it can be made of.
 
-ghost use Rattle.key_set.specs.Keys.{has, is_in};
+ghost use Rattle.number_sets.specs.Keys.{has, is_in};
 ghost use Rattle.dependency_map.specs.Index.{Lists, kept_at};
 
-use kept_values::Store;
-use key_set::KeySet;
+use number_sets::KeySet;
+use point_store::Store;
 use std::alloc::Global;
 use ucd_facts::Queries;
 

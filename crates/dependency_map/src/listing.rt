@@ -9,8 +9,8 @@ use crate::asker_index::push_keys;
 use crate::dependencies::{DependencyMap, Listing};
 use crate::preparing::put_list;
 use crate::relisting::few_beside;
-use kept_values::Store;
-use key_set::KeySet;
+use number_sets::KeySet;
+use point_store::Store;
 use std::alloc::Global;
 use ucd_facts::{Memory, Point, Queries};
 

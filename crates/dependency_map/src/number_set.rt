@@ -1,10 +1,10 @@
 //! Code points in a set of numbers.
 
 ghost use Rattle.std.specs.Prelude.{◌≡◌, ◌+◌, ◌^◌, ◌<◌, ◌≤◌, true, MatchOption};
-ghost use Rattle.key_set.specs.Keys.{has};
+ghost use Rattle.number_sets.specs.Keys.{has};
 ghost use Rattle.dependency_map.specs.Index.{NoneFrom};
 
-use key_set::KeySet;
+use number_sets::KeySet;
 use ucd_facts::Point;
 
 /// The least code point at or above `from` whose number is in the set, counted from `base` on.

@@ -9,8 +9,8 @@ ghost use Rattle.dependency_map.specs.Maps.{asked_at};
 use crate::asker_index::list;
 use crate::dependencies::DependencyMap;
 use crate::relisting::FEW;
-use kept_values::Store;
-use key_set::KeySet;
+use number_sets::KeySet;
+use point_store::Store;
 use std::alloc::Global;
 use ucd_facts::{Memory, Point, Queries, Query, Span};
 

@@ -1,13 +1,13 @@
 //! The keys of all that is asked, listed anew.
 
 ghost use Rattle.std.specs.Prelude.{◌≡◌, ℕ, ◌+◌, ◌<◌, ◌≤◌, true, None, IfOk, IfSome, IsTrue, OnOk};
-ghost use Rattle.key_set.specs.Keys.{is_in};
-ghost use Rattle.kept_values.specs.Kept.{values};
+ghost use Rattle.number_sets.specs.Keys.{is_in};
+ghost use Rattle.point_store.specs.Kept.{values};
 ghost use Rattle.ucd_facts.specs.declared.query.Query.{Query as Question};
 ghost use Rattle.dependency_map.specs.Index.{keeps, kept_at, may_ask, Lists, ListsFrom};
 
 use crate::asker_index::push_keys;
-use kept_values::{Kept, Store};
+use point_store::{Kept, Store};
 use range_table::Stretches;
 use std::alloc::Global;
 use ucd_facts::{Memory, Point, Queries};

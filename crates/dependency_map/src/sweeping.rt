@@ -1,13 +1,13 @@
 //! Questions of earlier states, which are let go.
 
 ghost use Rattle.dependency_map.specs.Maps.{asked_at};
-ghost use Rattle.kept_values.specs.Kept.{values};
+ghost use Rattle.point_store.specs.Kept.{values};
 ghost use Rattle.range_table.specs.Values.{SameValues};
 
 use crate::dependencies::DependencyMap;
 use crate::relisting::{few_beside, keys_of};
-use kept_values::Kept;
-use key_set::KeySet;
+use number_sets::KeySet;
+use point_store::Kept;
 use range_table::Stretches;
 use ucd_facts::Queries;
 

@@ -3,7 +3,7 @@
 ghost use Rattle.std.specs.Prelude.{◌≡◌};
 
 use crate::facts::{CANONICAL, COMPAT, FoldedRow, PLAIN, listed_folded, point};
-use asking_points::{Derived, derive_point};
+use point_queries::{Derived, derive_point};
 use std::alloc::Global;
 use std::marker::Brand;
 use std::sync::ledger::{Blank, Ledger};

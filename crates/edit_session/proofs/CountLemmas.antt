@@ -6,8 +6,8 @@ use Rattle.std.proofs.lemmas.Bool.Decides.{nat_tests}
 use Rattle.ucd_facts.specs.Facts.{Facts}
 use Rattle.ucd_points.specs.Limits.{point_count}
 use Rattle.ucd_model.specs.Sameness.{is_in}
-use Rattle.asked_queries.specs.Turns.{AreDependants}
-use Rattle.rederivation.specs.Turned.{CountsWithin}
+use Rattle.query_laws.specs.Turns.{AreDependants}
+use Rattle.record_turns.specs.Turned.{CountsWithin}
 use Rattle.release_rows.specs.FileItems.{FileItem}
 use Rattle.edit_session.specs.Groups.{CountsAs, files_facts}
 use Rattle.edit_session.specs.declared.apply_stop.Refused.{Refused}

@@ -15,14 +15,14 @@ use Rattle.ucd_model.specs.ValidityProofs.{valid_is_unbroken}
 use Rattle.ucd_facts.specs.declared.form.Broken.{Broken}
 use Rattle.ucd_facts.specs.declared.query.Query.{Query}
 use Rattle.ucd_facts.specs.Answers.{TellsChanges}
-use Rattle.record_list.specs.Records.{record_next, record_now}
-use Rattle.rederivation.specs.Turned.{CountsWithin, IsReady, IsTurned, StopsTurn}
-use Rattle.rederivation.specs.declared.again_stop.AgainStop.{AgainStop}
-use Rattle.rederivation.specs.declared.again_stop.AgainStop.TheVariants.{Broken as Breaks, Memory as Lacking}
+use Rattle.record_table.specs.Records.{record_next, record_now}
+use Rattle.record_turns.specs.Turned.{CountsWithin, IsReady, IsTurned, StopsTurn}
+use Rattle.record_turns.specs.declared.again_stop.AgainStop.{AgainStop}
+use Rattle.record_turns.specs.declared.again_stop.AgainStop.TheVariants.{Broken as Breaks, Memory as Lacking}
 use Rattle.release_rows.specs.FileItems.{FileItem}
 use Rattle.code_facts.specs.FactTables.{tables_facts, tables_next}
 use Rattle.dependency_map.specs.Maps.{asked_at}
-use Rattle.kept_values.specs.Kept.{values}
+use Rattle.point_store.specs.Kept.{values}
 use Rattle.mention_index.specs.declared.mentions.Mentions.{Mentions}
 use Rattle.paged_table.specs.Paged.{values_next, values_now}
 use Rattle.edit_session.specs.Derivations.{AreOf, IsNext, IsNow, IsStill}

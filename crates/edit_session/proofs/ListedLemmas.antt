@@ -13,8 +13,8 @@ use Rattle.ucd_model.specs.Sameness.{is_in}
 use Rattle.ucd_facts.specs.Uniform.{IsPlain}
 use Rattle.ucd_facts.specs.declared.query.Query.{Query}
 use Rattle.ucd_facts.specs.Answers.{is_asked}
-use Rattle.asked_queries.specs.Questions.{asked}
-use Rattle.asked_queries.specs.Turns.{SameQueries}
+use Rattle.query_laws.specs.Questions.{asked}
+use Rattle.query_laws.specs.Turns.{SameQueries}
 use Rattle.edit_session.specs.Questions.{AreListed, IsListed}
 
 span_here : (A : ℕ → List Query) (c : ℕ) (queries : List Query) → with_span A c c queries c ≡ queries

@@ -20,9 +20,9 @@ use Rattle.ucd_facts.specs.declared.query.Query.TheVariants.{Row, Second}
 use Rattle.ucd_facts.specs.AnswerProofs.{queries_are_told}
 use Rattle.ucd_facts.specs.Answers.{is_asked, same_query}
 use Rattle.mention_index.specs.Reached.{about}
-use Rattle.asked_queries.specs.PlainProofs.{plain_ask_own}
-use Rattle.asked_queries.specs.Questions.{asked}
-use Rattle.asked_queries.specs.Turns.{SameQueries, asks_one}
+use Rattle.query_laws.specs.PlainProofs.{plain_ask_own}
+use Rattle.query_laws.specs.Questions.{asked}
+use Rattle.query_laws.specs.Turns.{SameQueries, asks_one}
 use Rattle.code_facts.specs.KeptFacts.{all_kept, kept_at}
 use Rattle.code_facts.specs.Rest.{RestOf}
 use Rattle.dependency_map.specs.Askers.{own_queries}
@@ -31,7 +31,7 @@ use Rattle.mention_index.specs.Mentions.{is_walked, leads}
 use Rattle.mention_index.specs.StepProofs.{asked_lead, closed_leads}
 use Rattle.mention_index.specs.Steps.{HasSteps, IsClosed}
 use Rattle.mention_index.specs.declared.mentions.Mentions.{Mentions}
-use Rattle.rederivation.specs.Turned.{AsksAlike, IsRekept}
+use Rattle.record_turns.specs.Turned.{AsksAlike, IsRekept}
 use Rattle.edit_session.specs.Questions.{AreListed, HasWalked, Keeps, KeepsWalked}
 
 -- ---- lists of questions

@@ -6,7 +6,7 @@ use Rattle.std.proofs.Common.{ℕ, List, [], Result, Ok, Err, refl, sym, arith}
 use Rattle.std.proofs.lemmas.Bool.{true≢false}
 use Rattle.ucd_facts.specs.Facts.{Facts}
 use Rattle.release_rows.specs.FileItems.{FileItem}
-use Rattle.rederivation.specs.Turned.{CountsWithin}
+use Rattle.record_turns.specs.Turned.{CountsWithin}
 use Rattle.edit_session.specs.Groups.{CountsAs, files_facts}
 use Rattle.edit_session.specs.declared.apply_stop.Refused.{Refused}
 

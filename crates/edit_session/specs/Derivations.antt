@@ -12,11 +12,11 @@ use Rattle.ucd_model.specs.ValidityLaws.{IsValid}
 use Rattle.ucd_facts.specs.declared.query.Query.{Query}
 use Rattle.code_facts.specs.FactTables.{tables_facts, tables_next}
 use Rattle.dependency_map.specs.Maps.{asked_at}
-use Rattle.kept_values.specs.Kept.{values}
+use Rattle.point_store.specs.Kept.{values}
 use Rattle.mention_index.specs.declared.mentions.Mentions.{Mentions}
 use Rattle.paged_table.specs.Paged.{values_next, values_now}
 use Rattle.range_table.specs.Values.{SameValues}
-use Rattle.record_list.specs.Records.{record_next, record_now}
+use Rattle.record_table.specs.Records.{record_next, record_now}
 use Rattle.edit_session.specs.FirstRecords.{SameRecords}
 use Rattle.edit_session.specs.Questions.{AreStill, Keeps}
 use Rattle.edit_session.specs.declared.derivation.Derivation.{Derivation}

@@ -36,9 +36,9 @@ use Rattle.release_rows.specs.Operations.{op_or_rule}
 use Rattle.release_rows.specs.Releases.{ReleaseItems, items_at}
 use Rattle.release_rows.specs.declared.key_rule.KeyRule.{KeyRule}
 use Rattle.release_rows.specs.declared.operation.Op.{Op}
-use Rattle.rederivation.specs.Turned.{CountsWithin}
-use Rattle.rederivation.specs.declared.again_stop.AgainStop.{AgainStop}
-use Rattle.rederivation.specs.declared.again_stop.AgainStop.TheVariants.{Broken as Breaks, Memory as Lacking}
+use Rattle.record_turns.specs.Turned.{CountsWithin}
+use Rattle.record_turns.specs.declared.again_stop.AgainStop.{AgainStop}
+use Rattle.record_turns.specs.declared.again_stop.AgainStop.TheVariants.{Broken as Breaks, Memory as Lacking}
 use Rattle.edit_session.specs.declared.accepted.Accepted.{Accepted}
 use Rattle.edit_session.specs.declared.apply_stop.ApplyStop.{ApplyStop}
 use Rattle.edit_session.specs.declared.apply_stop.ApplyStop.TheVariants.{Refused as Refuses, Memory}

@@ -21,11 +21,11 @@ use Rattle.ucd_facts.specs.Uniform.{IsPlain}
 use Rattle.ucd_facts.specs.declared.query.Query.{Query}
 use Rattle.ucd_facts.specs.Answers.{is_asked}
 use Rattle.mention_index.specs.Reached.{about}
-use Rattle.asked_queries.specs.Questions.{asked}
-use Rattle.asked_queries.specs.Turns.{SameQueries}
+use Rattle.query_laws.specs.Questions.{asked}
+use Rattle.query_laws.specs.Turns.{SameQueries}
 use Rattle.dependency_map.specs.Askers.{own_queries}
 use Rattle.dependency_map.specs.Maps.{asked_at}
-use Rattle.kept_values.specs.Kept.{values}
+use Rattle.point_store.specs.Kept.{values}
 use Rattle.mention_index.specs.Mentions.{is_walked, leads}
 use Rattle.mention_index.specs.Steps.{HasStepsTo, IsClosed, Leads}
 use Rattle.mention_index.specs.declared.mentions.Mentions.{Mentions}

@@ -2,7 +2,7 @@
 
 ghost use Rattle.std.specs.Prelude.{◌≡◌};
 
-use rederivation::AgainStop;
+use record_turns::AgainStop;
 use release_rows::KeyRule;
 use ucd_model::{Bad, Memory, Point};
 

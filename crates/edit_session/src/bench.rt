@@ -7,7 +7,7 @@ ghost use Rattle.std.specs.Result.{IsErr};
 ghost use Rattle.code_facts.specs.FactTables.{tables_facts, tables_next};
 ghost use Rattle.paged_table.specs.Paged.{values_now};
 ghost use Rattle.paged_table.specs.Pages.{IsEvenBlock, IsPageOf};
-ghost use Rattle.rederivation.specs.Turned.{CountsWithin};
+ghost use Rattle.record_turns.specs.Turned.{CountsWithin};
 ghost use Rattle.release_rows.specs.Operations.{IsOp};
 ghost use Rattle.release_rows.specs.Patches.{back};
 ghost use Rattle.ucd_model.specs.Cuts.{IsCut};
@@ -30,11 +30,11 @@ use release_rows::{Op, Patch, Release};
 use std::alloc::Global;
 use std::marker::Model;
 use std::sync::ledger::Ledger;
+use ucd_facts::UniformFacts;
 use ucd_model::{
     Category, Copied, FactView, FactsRef, Flags, Kind, Memory, Point, Record, Records, Span, Spans,
     Steps,
 };
-use uniform_facts::UniformFacts;
 
 /// A valid release, with the facts of its rows, the records of all code points and, once a group came, what each of them
 /// asks. Contracts see the items of its files, which give the facts and the records.

@@ -4,7 +4,7 @@ ghost use Rattle.std.specs.Prelude.{◌≡◌, ℕ, ◌+◌, ◌-◌, ◌<◌, �
 ghost use Rattle.code_facts.specs.FactTables.{tables_facts};
 ghost use Rattle.paged_table.specs.Paged.{values_now};
 ghost use Rattle.range_table.specs.Values.{SameValues};
-ghost use Rattle.record_list.specs.Records.{record_next, record_now};
+ghost use Rattle.record_table.specs.Records.{record_next, record_now};
 ghost use Rattle.ucd_points.specs.Limits.{point_count};
 ghost use Rattle.ucd_facts.specs.Facts.{Facts};
 ghost use Rattle.ucd_facts.specs.Predicates.{is_visible_format};
@@ -17,7 +17,7 @@ use crate::open_stop::OpenStop;
 use code_facts::FactTables;
 use identifier_closure::derive_record;
 use paged_table::PagedTable;
-use record_list::RecordTable;
+use record_table::RecordTable;
 use std::alloc::Global;
 use std::sync::ledger::Ledger;
 use ucd_model::{FactView, FormStop, Memory, Point, Record, Span, Steps};

@@ -3,15 +3,15 @@
 ghost use Rattle.std.specs.Prelude.{◌≡◌, ◌<◌, OnOk};
 ghost use Rattle.code_facts.specs.FactTables.{tables_facts};
 ghost use Rattle.dependency_map.specs.Maps.{asked_at};
-ghost use Rattle.kept_values.specs.Kept.{values};
+ghost use Rattle.point_store.specs.Kept.{values};
 ghost use Rattle.paged_table.specs.Paged.{values_now, values_next};
 ghost use Rattle.ucd_model.specs.ValidityLaws.{HasRecord, IsValid};
 ghost use Rattle.edit_session.specs.Questions.{AreListed, IsListed};
 
 use crate::questions::QuestionMap;
-use asking_points::questions_of;
 use code_facts::FactTables;
 use paged_table::PagedTable;
+use point_queries::questions_of;
 use std::alloc::Global;
 use ucd_model::{Memory, Point};
 

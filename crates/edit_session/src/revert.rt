@@ -2,7 +2,7 @@
 
 ghost use Rattle.std.specs.Prelude.{◌≡◌, ℕ, IfOk, OnOk};
 ghost use Rattle.release_rows.specs.Patches.{back};
-ghost use Rattle.rederivation.specs.Turned.{CountsWithin};
+ghost use Rattle.record_turns.specs.Turned.{CountsWithin};
 ghost use Rattle.ucd_facts.specs.Facts.{Facts};
 ghost use Rattle.edit_session.specs.Benches.{HasNothingPrepared, bench_facts};
 ghost use Rattle.edit_session.specs.Derivations.{IsNext, IsNow, IsStill};

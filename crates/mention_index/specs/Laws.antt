@@ -9,7 +9,7 @@ use Rattle.ucd_facts.specs.Uniform.{IsPlain}
 use Rattle.ucd_facts.specs.declared.query.Query.{Query}
 use Rattle.ucd_facts.specs.Answers.{is_asked}
 use Rattle.mention_index.specs.Reached.{about}
-use Rattle.asked_queries.specs.Questions.{asked}
+use Rattle.query_laws.specs.Questions.{asked}
 use Rattle.mention_index.specs.Steps.{HasSteps, Leads}
 
 abbrev pub IsCut : (ℕ → Facts) → Type 0

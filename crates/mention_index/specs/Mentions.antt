@@ -4,8 +4,8 @@
 -- leads m x c        there is a step from x to c
 -- is_walked m x      one went on from x
 use Rattle.std.specs.Prelude.{ℕ, Bool}
-use Rattle.key_set.specs.Keys.{has, is_in}
-use Rattle.key_set.specs.Bits.{has_number}
+use Rattle.number_sets.specs.Keys.{has, is_in}
+use Rattle.number_sets.specs.Bits.{has_number}
 use Rattle.mention_index.specs.Steps.{key}
 use Rattle.mention_index.specs.declared.mentions.Mentions.{Mentions}
 use Rattle.mention_index.specs.declared.mentions.Mentioning.{Mentioning}

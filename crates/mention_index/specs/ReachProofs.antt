@@ -24,12 +24,12 @@ use Rattle.ucd_facts.specs.declared.form.Bad.{Bad as Rule}
 use Rattle.ucd_facts.specs.declared.query.Query.{Query}
 use Rattle.ucd_facts.specs.AnswerProofs.{queries_are_told}
 use Rattle.ucd_facts.specs.Answers.{is_asked, same_query, Each}
-use Rattle.asked_queries.specs.ExpansionProofs.{expansions_leaves}
-use Rattle.asked_queries.specs.FormProofs.{Each-order}
-use Rattle.asked_queries.specs.ListProofs.{Each-both, Each-filter, Each-if, Each-left, Each-right, every}
+use Rattle.query_laws.specs.ExpansionProofs.{expansions_leaves}
+use Rattle.query_laws.specs.FormProofs.{Each-order}
+use Rattle.query_laws.specs.ListProofs.{Each-both, Each-filter, Each-if, Each-left, Each-right, every}
 use Rattle.mention_index.specs.Reached.{AskedAreReached, Reached, about, members_of}
 use Rattle.mention_index.specs.Reached.Reached.{itself, member, composite}
-use Rattle.asked_queries.specs.Questions.{asked, asks, composing_asks, composite_asks, facts_ask, folding_asks, foldings_ask, last_round, pair_queries, round_asks_at, rounds_ask, row_queries, tree, tried_at, tries, tries_onto, whole_tree}
+use Rattle.query_laws.specs.Questions.{asked, asks, composing_asks, composite_asks, facts_ask, folding_asks, foldings_ask, last_round, pair_queries, round_asks_at, rounds_ask, row_queries, tree, tried_at, tries, tries_onto, whole_tree}
 
 -- ---- lists
 

@@ -16,7 +16,7 @@ use Rattle.ucd_model.specs.Validity.{mappings}
 use Rattle.ucd_facts.specs.declared.query.Query.{Query}
 use Rattle.ucd_facts.specs.declared.query.Query.TheVariants.{Row, Pair, Second}
 use Rattle.ucd_facts.specs.Answers.{is_asked}
-use Rattle.asked_queries.specs.Questions.{asked}
+use Rattle.query_laws.specs.Questions.{asked}
 
 abbrev pub members_of : ℕ → Facts → List ℕ
 members_of c G = flat_map (λ m. m) (mappings c G)

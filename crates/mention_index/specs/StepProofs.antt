@@ -14,7 +14,7 @@ use Rattle.ucd_facts.specs.Uniform.{IsPlain}
 use Rattle.ucd_facts.specs.declared.image.Image.{Image}
 use Rattle.ucd_facts.specs.declared.image.Image.TheVariants.{Same}
 use Rattle.ucd_facts.specs.Answers.{Each}
-use Rattle.asked_queries.specs.ListProofs.{Each-both}
+use Rattle.query_laws.specs.ListProofs.{Each-both}
 use Rattle.mention_index.specs.ReachProofs.{asked_are_reached}
 use Rattle.mention_index.specs.Reached.{Reached, about, members_of}
 use Rattle.mention_index.specs.Reached.Reached.{itself, member, composite}

@@ -1,11 +1,11 @@
 //! The code points that one comes to from one code point.
 
 ghost use Rattle.std.specs.Prelude.{◌≡◌, ℕ, ◌<◌, ◌⊎◌, true, OnOk};
-ghost use Rattle.key_set.specs.Keys.{has};
+ghost use Rattle.number_sets.specs.Keys.{has};
 ghost use Rattle.ucd_model.specs.Sameness.{is_in};
 ghost use Rattle.mention_index.specs.Steps.{key};
 
-use key_set::KeySet;
+use number_sets::KeySet;
 use ucd_model::{Memory, Point};
 
 /// How many numbers there are from the key of one code point to that of the next one.

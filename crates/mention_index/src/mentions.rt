@@ -8,7 +8,7 @@
 ghost use Rattle.std.specs.Prelude.{◌≡◌, ℕ, false};
 ghost use Rattle.mention_index.specs.Mentions.{is_walked, leads, puts};
 
-use key_set::{BitSet, KeySet};
+use number_sets::{BitSet, KeySet};
 use std::alloc::Global;
 
 /// Which code points mention which: from a code point one goes on to each that has it in one of its mappings, and from a

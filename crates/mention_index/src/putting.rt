@@ -1,7 +1,7 @@
 //! What a code point mentions.
 
 ghost use Rattle.std.specs.Prelude.{◌≡◌, ℕ, ◌+◌, ◌<◌, ◌*◌, ◌++◌, [], ◌∷◌, true, List, OnOk};
-ghost use Rattle.key_set.specs.Keys.{is_in as has_key};
+ghost use Rattle.number_sets.specs.Keys.{is_in as has_key};
 ghost use Rattle.ucd_facts.specs.Facts.{image_points};
 ghost use Rattle.ucd_facts.specs.Shown.{image_shown, shown_facts};
 ghost use Rattle.mention_index.specs.Mentions.{puts};

@@ -1,19 +1,19 @@
 //! All code points that one comes to.
 
 ghost use Rattle.std.specs.Prelude.{◌≡◌, ℕ, ◌+◌, ◌<◌, ◌≤◌, ◌==◌, ◌&&◌, ◌||◌, ◌⊎◌, true, false, not, map, IfOk, OnOk};
-ghost use Rattle.key_set.specs.Keys.{has};
+ghost use Rattle.number_sets.specs.Keys.{has};
 ghost use Rattle.ucd_model.specs.Sameness.{is_in};
 ghost use Rattle.ucd_facts.specs.declared.query.Query.{Query as Question};
 ghost use Rattle.ucd_facts.specs.Answers.{is_asked};
 ghost use Rattle.mention_index.specs.Reached.{about};
 ghost use Rattle.mention_index.specs.Mentions.{is_walked, leads};
-ghost use Rattle.key_set.specs.Bits.{has_number};
+ghost use Rattle.number_sets.specs.Bits.{has_number};
 ghost use Rattle.mention_index.specs.Steps.{IsClosed, IsReached, key};
 ghost use Rattle.mention_index.specs.Walks.{ComesFrom, by_keys, left};
 
 use crate::leading::put_led;
 use crate::mentions::Mentions;
-use key_set::{BitSet, KeySet};
+use number_sets::{BitSet, KeySet};
 use std::alloc::Global;
 use ucd_model::{Memory, Point, Points, Queries, Query};
 

@@ -2,7 +2,7 @@
 
 ghost use Rattle.std.specs.Prelude.{◌≡◌, ◌++◌, IfOk, OnOk};
 ghost use Rattle.std.specs.List.{flat_map};
-ghost use Rattle.key_set.specs.Keys.{has};
+ghost use Rattle.number_sets.specs.Keys.{has};
 ghost use Rattle.norm_conformance.specs.Misses.{line_misses, misses, missed_forms, misses_at, point_miss, unlisted_misses};
 ghost use Rattle.norm_conformance.specs.ValidFacts.{AreOfValidRows};
 
@@ -11,7 +11,7 @@ use crate::case_check::put_case;
 use crate::form_check::{Expected, check_forms, put_unless};
 use crate::listed::{is_among, listed_points};
 use crate::miss::{Miss, Misses};
-use key_set::KeySet;
+use number_sets::KeySet;
 use std::alloc::Global;
 use ucd_model::{FactView, Form, Kind, Memory, Point, point_count};
 

@@ -1,11 +1,11 @@
 //! The code points that part 1 lists.
 
 ghost use Rattle.std.specs.Prelude.{◌≡◌, ℕ, IfOk};
-ghost use Rattle.key_set.specs.Keys.{has};
+ghost use Rattle.number_sets.specs.Keys.{has};
 ghost use Rattle.norm_conformance.specs.Misses.{is_listed};
 
 use crate::case::Case;
-use key_set::KeySet;
+use number_sets::KeySet;
 use std::alloc::Global;
 use ucd_model::{Memory, Point};
 

@@ -12,8 +12,8 @@
 use Rattle.std.specs.Prelude.{◌≡◌, ◌⊎◌, ℕ, ◌<◌, ◌≤◌, Bool, true, false, List, length, max, Option, Some, None, slice_index_or}
 use Rattle.std.specs.Box.{box_value}
 use Rattle.std.specs.Global.{Box}
-use Rattle.key_set.specs.Bits.{has_number}
-use Rattle.key_set.specs.declared.bit_set.BitSet.{BitSet}
+use Rattle.number_sets.specs.Bits.{has_number}
+use Rattle.number_sets.specs.declared.bit_set.BitSet.{BitSet}
 use Rattle.part_list.specs.declared.cover.Cover.{Cover}
 use Rattle.part_list.specs.declared.cover.Known.{Known}
 use Rattle.part_list.specs.declared.spanned.Spanned.{Spanned}

@@ -16,7 +16,7 @@ use crate::seek::Seek;
 use crate::spanned::Spanned;
 use crate::tags::entry_count;
 use crate::version::Version;
-use key_set::BitSet;
+use number_sets::BitSet;
 use std::alloc::Global;
 use ucd_points::Point;
 

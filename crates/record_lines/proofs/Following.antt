@@ -3,7 +3,7 @@ use Rattle.std.proofs.Common.{◌≡◌, ◌≢◌, ℕ, ◌<◌, Bool, true, fa
 use Rattle.std.proofs.lemmas.Bool.{cases_eq}
 use Rattle.std.proofs.lemmas.Bool.Decides.{nat_tests}
 use Rattle.range_table.specs.Values.{with_span, point_count-is}
-use Rattle.record_list.specs.Records.{written}
+use Rattle.record_table.specs.Records.{written}
 use Rattle.ucd_points.specs.Limits.{point_count}
 use Rattle.ucd_model.specs.Records.{Record, kept_record}
 use Rattle.ucd_model.specs.Sameness.{is_in, same_record}

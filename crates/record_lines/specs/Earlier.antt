@@ -7,7 +7,7 @@
 use Rattle.std.specs.Prelude.{◌≡◌, ℕ, not, List, filter, if◌then◌else◌}
 use Rattle.std.specs.List.{range_with_len}
 use Rattle.range_table.specs.Values.{SameValues}
-use Rattle.record_list.specs.Records.{record_now}
+use Rattle.record_table.specs.Records.{record_now}
 use Rattle.ucd_points.specs.Limits.{point_count}
 use Rattle.ucd_model.specs.Records.{Record}
 use Rattle.ucd_model.specs.Sameness.{is_in, same_record}

@@ -2,13 +2,13 @@
 
 ghost use Rattle.std.specs.Prelude.{◌≡◌, map, IfOk, OnOk, OnErr};
 ghost use Rattle.range_table.specs.Values.{SameValues};
-ghost use Rattle.record_list.specs.Records.{record_next};
+ghost use Rattle.record_table.specs.Records.{record_next};
 ghost use Rattle.ucd_points.specs.Limits.{point_count};
 ghost use Rattle.ucd_model.specs.Cuts.{IsCut};
 ghost use Rattle.ucd_model.specs.Records.{kept_record};
 ghost use Rattle.record_lines.specs.Earlier.{earlier_record, updated};
 
-use record_list::{RecordTable, copied_record};
+use record_table::{RecordTable, copied_record};
 use std::alloc::Global;
 use ucd_model::{Memory, Point, Record, Records, Span, equal_pieces};
 

@@ -7,7 +7,7 @@
 -- own_pieces                pieces that were just made are kept
 use Rattle.std.proofs.Common.{◌≡◌, ℕ, ◌<◌, Bool, true, false, List, Option, Some, None, refl, ◌∙◌}
 use Rattle.std.specs.Prelude.{⊤}
-use Rattle.key_set.specs.Keys.{has}
+use Rattle.number_sets.specs.Keys.{has}
 use Rattle.ucd_model.specs.Records.{Record}
 use Rattle.ucd_model.specs.Sameness.{is_in}
 use Rattle.ucd_points.specs.Limits.{point_count}

@@ -2,7 +2,7 @@
 
 ghost use Rattle.std.specs.Prelude.{◌≡◌, ◌<◌, ℕ, IsSome, Some, None, true, false, OnOk, IfOk};
 ghost use Rattle.edit_session.specs.Benches.{bench_record};
-ghost use Rattle.key_set.specs.Keys.{has};
+ghost use Rattle.number_sets.specs.Keys.{has};
 ghost use Rattle.set_questions.specs.KeptPieces.{AreKept, AreKeptOf, HasPieces};
 ghost use Rattle.ucd_model.specs.Records.{Record};
 ghost use Rattle.ucd_model.specs.Sameness.{is_in};
@@ -10,7 +10,7 @@ ghost use Rattle.ucd_points.specs.Limits.{point_count};
 ghost use Rattle.unicodeset_eval.specs.RecordPieces.{ArePiecesOf};
 
 use edit_session::Bench;
-use key_set::KeySet;
+use number_sets::KeySet;
 use std::alloc::Global;
 use ucd_model::{Memory, Point};
 use unicodeset_eval::RecordPieces;

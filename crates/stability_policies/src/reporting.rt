@@ -16,8 +16,8 @@ use crate::policy::Policy;
 use crate::sieving::{Stretches, broken_stretches};
 use release_rows::Release;
 use std::alloc::Global;
+use ucd_facts::UniformFacts;
 use ucd_model::{Memory, Records, SourceFile};
-use uniform_facts::UniformFacts;
 
 /// All breaks of the stability policies by a new release against an old one: by policy, then by code point; for P17 by
 /// file, then by line. What is uniform from code point to code point is looked at once.

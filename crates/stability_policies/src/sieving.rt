@@ -16,8 +16,8 @@ use crate::policy::Policy;
 use crate::policy_set::PolicySet;
 use crate::testing::other_policies;
 use std::alloc::Global;
+use ucd_facts::UniformFacts;
 use ucd_model::{Kind, Memory, Point, Records, Span};
-use uniform_facts::UniformFacts;
 
 /// The stretches of code points that break a policy of code points.
 #[derive(Drop)]

@@ -1,6 +1,6 @@
 //! Sets of small numbers that are put in and asked for from one to another.
 
-use key_set::BitSet;
+use number_sets::BitSet;
 use ucd_facts::Memory;
 
 #[test]

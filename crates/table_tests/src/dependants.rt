@@ -2,7 +2,7 @@
 
 use crate::plain::{Plain, drawn};
 use dependency_map::{Askers, DependencyMap, Listing};
-use kept_values::Kept;
+use point_store::Kept;
 use range_table::RunTable;
 use std::alloc::Global;
 use std::process::Abort;

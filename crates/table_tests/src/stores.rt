@@ -1,8 +1,8 @@
 //! Worked stores, and a store against plain lists.
 
 use crate::plain::{Plain, drawn, expect};
-use kept_values::{Kept, Store};
 use paged_table::PagedTable;
+use point_store::{Kept, Store};
 use range_table::RunTable;
 use std::alloc::Global;
 use std::process::Abort;

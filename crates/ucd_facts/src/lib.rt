@@ -20,6 +20,7 @@ mod query;
 mod row;
 mod sets;
 mod shown;
+mod uniform;
 mod view;
 
 pub use category::{CATEGORIES, Category};
@@ -41,4 +42,5 @@ pub use ucd_points::{
     Copied, FILE_LIMIT, ListOf, Memory, Point, Points, SOURCE_FILES, SourceFile, Span, Spans, Text,
     Texts, file_limit, point_count, same_points,
 };
+pub use uniform::UniformFacts;
 pub use view::{FactView, FactsRef};

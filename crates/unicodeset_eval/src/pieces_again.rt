@@ -1,13 +1,13 @@
 //! Pieces of equal records again, after the records of some code points changed.
 
 ghost use Rattle.std.specs.Prelude.{◌≡◌, ◌+◌, ◌<◌, ◌≤◌, ℕ, IfOk, OnOk};
-ghost use Rattle.key_set.specs.Keys.{has};
+ghost use Rattle.number_sets.specs.Keys.{has};
 ghost use Rattle.ucd_model.specs.Records.{Record};
 ghost use Rattle.unicodeset_eval.specs.PiecesAgain.{AreLeft, ArePiecesBut, IsAlikeBut, IsAlikeIn, NoneBefore, end_before};
 ghost use Rattle.unicodeset_eval.specs.RecordPieces.{AreCut, AreCutTo, ArePiecesOf};
 
 use crate::record_pieces::{Piece, PropertyValues, RecordPieces, values_of};
-use key_set::KeySet;
+use number_sets::KeySet;
 use std::alloc::Global;
 use ucd_model::{Memory, Point, Records, point_count};
 

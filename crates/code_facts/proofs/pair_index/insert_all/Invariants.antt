@@ -1,5 +1,5 @@
 use Rattle.std.proofs.Common.{◌≡◌, ℕ, true, take}
-use Rattle.key_set.specs.Keys.{has, is_in}
+use Rattle.number_sets.specs.Keys.{has, is_in}
 use Rattle.code_facts.proofs.pair_index.insert_all.Given as goal
 
 -- the keys before this one are in

@@ -1,4 +1,4 @@
-use Rattle.key_set.specs.Keys.{has}
+use Rattle.number_sets.specs.Keys.{has}
 use Rattle.code_facts.proofs.IndexLemmas.{next_of}
 use Rattle.code_facts.proofs.pair_index.next_key.Goals as goal
 

@@ -1,5 +1,5 @@
 use Rattle.std.proofs.Common.{◌≡◌, ℕ, true, take}
-use Rattle.key_set.specs.Keys.{has}
+use Rattle.number_sets.specs.Keys.{has}
 use Rattle.ucd_facts.specs.declared.query.Query.{Query as Question}
 use Rattle.ucd_facts.specs.Answers.{is_asked}
 use Rattle.dependency_map.specs.Index.{may_ask}

@@ -1,6 +1,6 @@
 use Rattle.std.proofs.Common.{◌∙◌, ℕ, ◌+◌, ◌<◌, Bool, List, [], ◌∷◌, ◌++◌, ap, sym, append_assoc}
 use Rattle.std.proofs.lemmas.List.{append-nil}
-use Rattle.key_set.specs.Keys.{has}
+use Rattle.number_sets.specs.Keys.{has}
 use Rattle.dependency_map.specs.Askers.{points_from}
 use Rattle.dependency_map.proofs.PointLemmas.{points_none, points_next}
 use Rattle.dependency_map.proofs.collecting.points_of.Goals as goal

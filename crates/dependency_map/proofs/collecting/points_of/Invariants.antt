@@ -1,5 +1,5 @@
 use Rattle.std.proofs.Common.{◌≡◌, ◌-◌, ◌++◌}
-use Rattle.key_set.specs.Keys.{has}
+use Rattle.number_sets.specs.Keys.{has}
 use Rattle.dependency_map.specs.Askers.{points_from}
 use Rattle.dependency_map.proofs.collecting.points_of.Given as goal
 

@@ -1,6 +1,6 @@
 use Rattle.std.proofs.Common.{◌-◌}
-use Rattle.key_set.specs.Keys.{is_in}
-use Rattle.kept_values.specs.Kept.{values}
+use Rattle.number_sets.specs.Keys.{is_in}
+use Rattle.point_store.specs.Kept.{values}
 use Rattle.dependency_map.specs.Index.{ListsFrom}
 use Rattle.dependency_map.proofs.relisting.push_all.Given as goal
 

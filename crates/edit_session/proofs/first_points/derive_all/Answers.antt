@@ -2,7 +2,7 @@ use Rattle.std.proofs.Common.{◌≡◌, ℕ, arith}
 use Rattle.code_facts.specs.FactTables.{tables_facts}
 use Rattle.paged_table.specs.Paged.{values_now}
 use Rattle.ucd_facts.specs.Facts.{Facts}
-use Rattle.record_list.specs.Records.{record_next, record_now}
+use Rattle.record_table.specs.Records.{record_next, record_now}
 use Rattle.edit_session.proofs.FirstSteps.{all_count, all_records, all_valid}
 use Rattle.edit_session.proofs.first_points.derive_all.Goals as goal
 

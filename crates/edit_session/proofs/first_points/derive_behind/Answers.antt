@@ -1,7 +1,7 @@
 use Rattle.std.proofs.Common.{◌≡◌, ℕ, ◌<◌, subst, arith}
 use Rattle.code_facts.specs.FactTables.{tables_facts}
 use Rattle.paged_table.specs.Paged.{values_now}
-use Rattle.record_list.specs.Records.{record_next}
+use Rattle.record_table.specs.Records.{record_next}
 use Rattle.ucd_facts.specs.Facts.{Facts}
 use Rattle.edit_session.specs.FirstRecords.{StandsBehind}
 use Rattle.edit_session.proofs.FirstSteps.{run_valid}

@@ -1,7 +1,7 @@
 use Rattle.std.proofs.Common.{◌+◌, ◌-◌, ◌≤◌}
 use Rattle.code_facts.specs.FactTables.{tables_facts}
 use Rattle.paged_table.specs.Paged.{values_now}
-use Rattle.record_list.specs.Records.{record_next}
+use Rattle.record_table.specs.Records.{record_next}
 use Rattle.edit_session.specs.FirstRecords.{DerivedBelow, IsRun}
 use Rattle.edit_session.proofs.first_points.derive_behind.Given as goal
 

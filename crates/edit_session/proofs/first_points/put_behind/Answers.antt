@@ -1,5 +1,5 @@
 use Rattle.std.proofs.Common.{◌≡◌, ℕ, ◌+◌, ◌<◌, refl, ap, subst}
-use Rattle.record_list.specs.Records.{record_next}
+use Rattle.record_table.specs.Records.{record_next}
 use Rattle.ucd_points.specs.Bounds.{Bounds}
 use Rattle.edit_session.proofs.FirstSteps.{run_joined, run_put}
 use Rattle.edit_session.proofs.first_points.put_behind.Goals as goal

@@ -1,5 +1,5 @@
 use Rattle.std.proofs.Common.{subst}
-use Rattle.rederivation.specs.Turned.{CountsWithin}
+use Rattle.record_turns.specs.Turned.{CountsWithin}
 use Rattle.release_rows.specs.Releases.{ReleaseItems}
 use Rattle.edit_session.specs.Groups.{files_facts}
 use Rattle.edit_session.proofs.revert.prepare_revert.Goals as goal

@@ -1,5 +1,5 @@
 use Rattle.std.proofs.Common.{ℕ, Bool, List, [], ◌++◌}
-use Rattle.key_set.specs.Keys.{is_in as has_key}
+use Rattle.number_sets.specs.Keys.{is_in as has_key}
 use Rattle.ucd_facts.specs.Facts.{image_points}
 use Rattle.ucd_facts.specs.Shown.{image_shown}
 use Rattle.mention_index.proofs.StepLemmas.{lead_both, lead_grows, lead_none}

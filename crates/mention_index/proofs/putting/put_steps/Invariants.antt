@@ -1,5 +1,5 @@
 use Rattle.std.proofs.Common.{◌≡◌, ℕ, true, take}
-use Rattle.key_set.specs.Keys.{is_in as has_key}
+use Rattle.number_sets.specs.Keys.{is_in as has_key}
 use Rattle.mention_index.specs.Steps.{LeadFrom}
 use Rattle.mention_index.proofs.putting.put_steps.Given as goal
 

@@ -1,5 +1,5 @@
 use Rattle.std.proofs.Common.{◌≡◌, ◌<◌, ◌^◌, false, length, sym, ◌∙◌, arith}
-use Rattle.key_set.specs.Bits.{has_number}
+use Rattle.number_sets.specs.Bits.{has_number}
 use Rattle.mention_index.proofs.WalkLemmas.{left_less}
 use Rattle.mention_index.proofs.reaching.go_on.Goals as goal
 

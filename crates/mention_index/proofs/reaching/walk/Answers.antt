@@ -1,6 +1,6 @@
 use Rattle.std.proofs.Common.{ℕ, Bool, List, sym, subst}
-use Rattle.key_set.specs.Keys.{has}
-use Rattle.key_set.specs.Bits.{has_number}
+use Rattle.number_sets.specs.Keys.{has}
+use Rattle.number_sets.specs.Bits.{has_number}
 use Rattle.mention_index.specs.Walks.{Going, by_keys}
 use Rattle.mention_index.proofs.WalkSteps.{begins, goes}
 use Rattle.mention_index.proofs.reaching.walk.Goals as goal

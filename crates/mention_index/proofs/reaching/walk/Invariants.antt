@@ -1,5 +1,5 @@
-use Rattle.key_set.specs.Keys.{has}
-use Rattle.key_set.specs.Bits.{has_number}
+use Rattle.number_sets.specs.Keys.{has}
+use Rattle.number_sets.specs.Bits.{has_number}
 use Rattle.mention_index.specs.Walks.{Going, by_keys, left}
 use Rattle.mention_index.proofs.reaching.walk.Given as goal
 

@@ -1,6 +1,6 @@
 use Rattle.std.proofs.Common.{◌≡◌, ◌++◌, ap, ◌∙◌}
 use Rattle.std.specs.List.{flat_map}
-use Rattle.key_set.specs.Keys.{has}
+use Rattle.number_sets.specs.Keys.{has}
 use Rattle.norm_conformance.specs.Misses.{is_listed, line_misses, unlisted_misses}
 use Rattle.norm_conformance.proofs.PointLemmas.{misses_with, misses_without}
 use Rattle.norm_conformance.proofs.checking.misses.Goals as goal

@@ -1,5 +1,5 @@
 use Rattle.std.proofs.Common.{◌≡◌, [], inl, inr}
-use Rattle.key_set.specs.Keys.{has}
+use Rattle.number_sets.specs.Keys.{has}
 use Rattle.norm_conformance.specs.Misses.{misses_at}
 use Rattle.norm_conformance.proofs.PointLemmas.{none_put, passed_over, plain_missed}
 use Rattle.norm_conformance.proofs.checking.put_point.Goals as goal

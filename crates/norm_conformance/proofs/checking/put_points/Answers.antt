@@ -1,6 +1,6 @@
 use Rattle.std.proofs.Common.{◌≡◌, arith}
 use Rattle.ucd_points.specs.Limits.{point_count}
-use Rattle.key_set.specs.Keys.{has}
+use Rattle.number_sets.specs.Keys.{has}
 use Rattle.norm_conformance.specs.Misses.{misses_at}
 use Rattle.norm_conformance.proofs.PointLemmas.{points_all, points_more}
 use Rattle.norm_conformance.proofs.checking.put_points.Goals as goal

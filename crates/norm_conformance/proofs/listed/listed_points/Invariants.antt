@@ -1,5 +1,5 @@
 use Rattle.std.proofs.Common.{◌≡◌, ℕ, take}
-use Rattle.key_set.specs.Keys.{is_in}
+use Rattle.number_sets.specs.Keys.{is_in}
 use Rattle.norm_conformance.specs.Misses.{is_listed}
 use Rattle.norm_conformance.proofs.listed.listed_points.Given as goal
 

@@ -1,5 +1,5 @@
 use Rattle.std.proofs.Common.{◌≡◌, ℕ, ◌<◌, drop}
-use Rattle.record_list.specs.Records.{record_next}
+use Rattle.record_table.specs.Records.{record_next}
 use Rattle.ucd_points.specs.Limits.{point_count}
 use Rattle.ucd_model.specs.Cuts.{IsCut}
 use Rattle.record_lines.proofs.earlier.put_pieces.Given as goal

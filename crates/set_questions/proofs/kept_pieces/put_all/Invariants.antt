@@ -1,5 +1,5 @@
 use Rattle.std.proofs.Common.{◌≡◌, ℕ, true, ◌||◌, length}
-use Rattle.key_set.specs.Keys.{has}
+use Rattle.number_sets.specs.Keys.{has}
 use Rattle.ucd_model.specs.Sameness.{is_in}
 use Rattle.set_questions.proofs.kept_pieces.put_all.Given as goal
 

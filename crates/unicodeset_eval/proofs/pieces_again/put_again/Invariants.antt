@@ -1,5 +1,5 @@
 use Rattle.std.proofs.Common.{◌-◌, ◌≤◌}
-use Rattle.key_set.specs.Keys.{has}
+use Rattle.number_sets.specs.Keys.{has}
 use Rattle.unicodeset_eval.specs.PiecesAgain.{NoneBefore}
 use Rattle.unicodeset_eval.specs.RecordPieces.{AreCutTo}
 use Rattle.unicodeset_eval.proofs.pieces_again.put_again.Given as goal

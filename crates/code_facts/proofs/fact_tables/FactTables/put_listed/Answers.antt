@@ -1,5 +1,5 @@
 use Rattle.std.proofs.Common.{◌≡◌, ℕ, ◌%◌, subst, arith, inl, inr}
-use Rattle.key_set.specs.Keys.{has}
+use Rattle.number_sets.specs.Keys.{has}
 use Rattle.std.proofs.lemmas.Bool.{cases_lt, both_ways}
 use Rattle.code_facts.specs.Changes.{ReachesOwn}
 use Rattle.code_facts.specs.FactTables.{facts_at, words_at, rests_at}

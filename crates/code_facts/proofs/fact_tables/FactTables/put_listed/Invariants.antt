@@ -1,5 +1,5 @@
 use Rattle.std.proofs.Common.{◌≡◌, ℕ, ◌+◌, ◌-◌, ◌%◌, ◌≤◌, ◌<◌, true}
-use Rattle.key_set.specs.Keys.{has}
+use Rattle.number_sets.specs.Keys.{has}
 use Rattle.code_facts.specs.Changes.{Grows, ReachesOwn}
 use Rattle.code_facts.specs.FactTables.{facts_at}
 use Rattle.code_facts.specs.Index.{first_key}

@@ -1,5 +1,5 @@
 use Rattle.std.proofs.Common.{◌≡◌, ℕ, ◌<◌, ◌≤◌, Bool, true, false, arith}
-use Rattle.key_set.specs.Keys.{has}
+use Rattle.number_sets.specs.Keys.{has}
 use Rattle.dependency_map.specs.Askers.{asks}
 use Rattle.dependency_map.specs.Index.{kept_at, may_ask, NoneFrom}
 use Rattle.dependency_map.specs.Maps.{asked_at}

@@ -1,5 +1,5 @@
 use Rattle.std.proofs.Common.{◌≡◌, ◌-◌, ◌<◌, ◌≤◌, ◌||◌, ℕ}
-use Rattle.key_set.specs.Keys.{is_in}
+use Rattle.number_sets.specs.Keys.{is_in}
 use Rattle.dependency_map.specs.Askers.{asks}
 use Rattle.dependency_map.specs.Maps.{asked_at}
 use Rattle.dependency_map.proofs.dependencies.DependencyMap.push_askers.Given as goal

@@ -1,6 +1,6 @@
 use Rattle.std.proofs.Common.{◌+◌, ◌<◌, sym, subst, ◌∙◌, arith}
 use Rattle.range_table.specs.Values.{point_count-is}
-use Rattle.record_list.specs.Records.{record_now}
+use Rattle.record_table.specs.Records.{record_now}
 use Rattle.ucd_points.specs.Limits.{point_count}
 use Rattle.ucd_model.specs.Records.{record_at}
 use Rattle.edit_session.specs.Benches.{bench_facts}

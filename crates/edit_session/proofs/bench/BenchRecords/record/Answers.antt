@@ -1,5 +1,5 @@
 use Rattle.std.proofs.Common.{sym, subst, ◌∙◌}
-use Rattle.record_list.specs.Records.{record_now}
+use Rattle.record_table.specs.Records.{record_now}
 use Rattle.ucd_model.specs.Records.{record_at}
 use Rattle.edit_session.specs.Benches.{bench_facts}
 use Rattle.edit_session.specs.FirstRecords.{SameRecords}

@@ -1,8 +1,8 @@
 use Rattle.code_facts.specs.FactTables.{tables_facts, tables_next}
 use Rattle.dependency_map.specs.Maps.{asked_at}
-use Rattle.kept_values.specs.Kept.{values}
+use Rattle.point_store.specs.Kept.{values}
 use Rattle.paged_table.specs.Paged.{values_now, values_next}
-use Rattle.record_list.specs.Records.{record_next, record_now}
+use Rattle.record_table.specs.Records.{record_next, record_now}
 use Rattle.edit_session.proofs.DerivationLemmas.{moved}
 use Rattle.edit_session.proofs.derivation.Derivation.commit.Goals as goal
 

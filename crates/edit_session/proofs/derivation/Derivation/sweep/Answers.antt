@@ -1,9 +1,9 @@
 use Rattle.std.proofs.Common.{sym, ◌∙◌}
 use Rattle.code_facts.specs.FactTables.{tables_facts}
 use Rattle.dependency_map.specs.Maps.{asked_at}
-use Rattle.kept_values.specs.Kept.{values}
+use Rattle.point_store.specs.Kept.{values}
 use Rattle.paged_table.specs.Paged.{values_now}
-use Rattle.record_list.specs.Records.{record_now}
+use Rattle.record_table.specs.Records.{record_now}
 use Rattle.edit_session.proofs.DerivationLemmas.{moved}
 use Rattle.edit_session.proofs.derivation.Derivation.sweep.Goals as goal
 

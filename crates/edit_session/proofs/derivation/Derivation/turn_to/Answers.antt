@@ -2,10 +2,10 @@ use Rattle.std.proofs.Common.{◌≡◌, ◌==◌, ℕ, Bool, true, List, length
 use Rattle.std.specs.Prelude.{IfOk, OnOk}
 use Rattle.code_facts.specs.FactTables.{tables_facts, tables_next}
 use Rattle.dependency_map.specs.Maps.{asked_at}
-use Rattle.kept_values.specs.Kept.{values}
+use Rattle.point_store.specs.Kept.{values}
 use Rattle.paged_table.specs.Paged.{values_now}
-use Rattle.record_list.specs.Records.{record_now}
-use Rattle.rederivation.specs.Turned.{CountsWithin}
+use Rattle.record_table.specs.Records.{record_now}
+use Rattle.record_turns.specs.Turned.{CountsWithin}
 use Rattle.ucd_facts.specs.Facts.{Facts}
 use Rattle.ucd_model.specs.Records.{Record}
 use Rattle.ucd_facts.specs.declared.query.Query.{Query}

@@ -1,5 +1,5 @@
 use Rattle.std.proofs.Common.{◌≡◌, ℕ, Bool, [], ◌∷◌, ap, ◌∙◌, subst}
-use Rattle.key_set.specs.Keys.{is_in as has_key}
+use Rattle.number_sets.specs.Keys.{is_in as has_key}
 use Rattle.ucd_facts.specs.Facts.{Facts}
 use Rattle.ucd_facts.specs.Shown.{shown_facts}
 use Rattle.mention_index.specs.Reached.{members_of}

@@ -1,7 +1,7 @@
 use Rattle.std.proofs.Common.{if◌then◌else◌, ap, ◌∙◌}
 use Rattle.ucd_model.specs.Records.{Record}
 use Rattle.ucd_model.specs.Sameness.{is_in}
-use Rattle.record_list.specs.Records.{record_now}
+use Rattle.record_table.specs.Records.{record_now}
 use Rattle.record_lines.proofs.Following.{written_is}
 use Rattle.record_lines.proofs.earlier.Earlier.follow.Goals as goal
 

@@ -1,4 +1,4 @@
-use Rattle.key_set.specs.Keys.{has}
+use Rattle.number_sets.specs.Keys.{has}
 use Rattle.unicodeset_eval.specs.PiecesAgain.{left_of}
 use Rattle.unicodeset_eval.proofs.record_pieces.RecordPieces.again.Goals as goal
 

@@ -1,9 +1,0 @@
-use Rattle.std.proofs.Common.{◌-◌, arith}
-use Rattle.std.proofs.lemmas.Bool.{ltb-true}
-use Rattle.key_set.proofs.KeyLemmas.{behind_all}
-use Rattle.key_set.proofs.keys.is_behind.Goals as goal
-
-pub returns-else-begin-eq0 : goal.returns-else-begin-eq0
-returns-else-begin-eq0 c = λ low i d lt.
-    let within = c.requires.within in
-    behind_all c.args.sorted.now c.args.start (c.args.begin - 1) c.requires.ascends (omega arith) (ltb-true _ _ low) i d (omega arith)

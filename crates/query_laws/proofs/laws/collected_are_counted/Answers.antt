@@ -1,0 +1,5 @@
+use Rattle.query_laws.specs.TurnProofs.{collected_are_counted as law}
+use Rattle.query_laws.proofs.laws.collected_are_counted.Goals as goal
+
+pub returns : goal.returns
+returns c = law

@@ -59,7 +59,8 @@ impl Chain {
     pub fn add(&mut self, alloc: Global, bench: Bench) -> Result<Breaks, Memory>
         requires room { self.old.count < 255 }
         ensures breaks { IfOk result (λ breaks. breaks ≡ breaks_since self.old.last bench) }
-        ensures chain { OnOk result ((releases : List ReleaseItems) → StandsFor self.old releases → StandsFor self.new (releases ++ bench ∷ [])) }
+        ensures chain { OnOk result ((releases : List ReleaseItems) → StandsFor self.old releases
+            → StandsFor self.new (releases ++ bench ∷ [])) }
         ensures count { OnOk result (self.new.count ≡ self.old.count + 1) }
         ensures err { OnErr result (SameChain self.new self.old) }
     {
@@ -102,7 +103,8 @@ impl Chain {
     ///
     /// - `Memory`: memory ran out.
     pub fn age_text(&self, alloc: Global) -> Result<Text, Memory>
-        ensures { IfOk result (λ text. (releases : List ReleaseItems) → StandsFor self.now releases → text ≡ age_text releases) }
+        ensures { IfOk result (λ text. (releases : List ReleaseItems) → StandsFor self.now releases
+            → text ≡ age_text releases) }
     {
         let mut text = Text::new(alloc);
         put_ages(alloc, &self.ages, &mut text)?;
@@ -111,7 +113,8 @@ impl Chain {
 
     /// The number of code points that have an age, which `age_text` gives as its total.
     pub fn aged_points(&self) -> u32
-        ensures { (releases : List ReleaseItems) → StandsFor self.now releases → result ≡ labelled point_count (λ c. age_label (age releases c)) }
+        ensures { (releases : List ReleaseItems) → StandsFor self.now releases
+            → result ≡ labelled point_count (λ c. age_label (age releases c)) }
     {
         count_aged(&self.ages)
     }

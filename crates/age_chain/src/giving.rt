@@ -28,7 +28,8 @@ pub fn prepare_next(
     requires still { SameValues (values_next ages.old) (values_now ages.old) }
     ensures breaks { IfOk result (λ breaks. breaks ≡ breaks_since last.now bench.now) }
     ensures now { SameValues (values_now ages.new) (values_now ages.old) }
-    ensures next { OnOk result (SameValues (values_next ages.new) (aged bench.now age (values_now ages.old))) }
+    ensures next { OnOk result (SameValues (values_next ages.new)
+        (aged bench.now age (values_now ages.old))) }
     ensures err { OnErr result (SameValues (values_next ages.new) (values_now ages.old)) }
 {
     let breaks = breaks_since(alloc, last, bench)?;
@@ -70,7 +71,8 @@ fn breaks_between(alloc: Global, before: &Bench, bench: &Bench) -> Result<Breaks
 fn give_ages(bench: &Bench, age: u8, ages: &mut RunTable<u8>) -> Result<(), Memory>
     requires still { SameValues (values_next ages.old) (values_now ages.old) }
     ensures now { SameValues (values_now ages.new) (values_now ages.old) }
-    ensures next { OnOk result (SameValues (values_next ages.new) (aged bench.now age (values_now ages.old))) }
+    ensures next { OnOk result (SameValues (values_next ages.new)
+        (aged bench.now age (values_now ages.old))) }
 {
     let mut number = 0;
     'stretches: while number < Point::COUNT {
@@ -85,10 +87,12 @@ fn give_ages(bench: &Bench, age: u8, ages: &mut RunTable<u8>) -> Result<(), Memo
 ///
 /// - `Memory`: memory ran out. What is next stays.
 fn give_from(bench: &Bench, c: Point, age: u8, ages: &mut RunTable<u8>) -> Result<Point, Memory>
-    requires before { SameValues (values_next ages.old) (aged_before bench.now age c (values_now ages.old)) }
+    requires before { SameValues (values_next ages.old)
+        (aged_before bench.now age c (values_now ages.old)) }
     ensures now { SameValues (values_now ages.new) (values_now ages.old) }
     ensures from { IfOk result (λ last. c ≤ last) }
-    ensures next { IfOk result (λ last. SameValues (values_next ages.new) (aged_before bench.now age (last + 1) (values_now ages.old))) }
+    ensures next { IfOk result (λ last. SameValues (values_next ages.new)
+        (aged_before bench.now age (last + 1) (values_now ages.old))) }
 {
     let run = ages.last_of_run(c);
     if ages.get(c) != 0 {

@@ -18,7 +18,9 @@ use ucd_model::{Memory, Text};
 ///
 /// - `Memory`: memory ran out. A part of the section may then stand at the end of the text.
 pub fn put_ages(alloc: Global, ages: &RunTable<u8>, text: &mut Text) -> Result<(), Memory>
-    ensures { OnOk result (text.new ≡ text.old ++ section_text (codes "Age") point_count (λ c. age_label (ages_of (values_now ages.now) c))) }
+    ensures { OnOk result (text.new ≡ text.old
+        ++ section_text (codes "Age") point_count
+        (λ c. age_label (ages_of (values_now ages.now) c))) }
 {
     let mut section = OpenSection::begin(alloc, b"Age", text)?;
     let mut label = LabelText::none(alloc);

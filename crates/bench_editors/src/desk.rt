@@ -79,11 +79,14 @@ impl Desk {
     pub fn step<L: Ledger>(&mut self, event: &Event, steps: &mut Steps<L>) -> Result<Reply, Memory>
         requires event { IsEvent event.now }
         requires room { desk_revision self.old < 4294967295 }
-        ensures reply { IfOk result (λ reply. (s : DeskState) → StandsFor self.old s → reply ≡ (answer s event.now).reply) }
-        ensures state { OnOk result ((s : DeskState) → StandsFor self.old s → StandsFor self.new (answer s event.now).state) }
+        ensures reply { IfOk result (λ reply. (s : DeskState) → StandsFor self.old s
+            → reply ≡ (answer s event.now).reply) }
+        ensures state { OnOk result ((s : DeskState) → StandsFor self.old s
+            → StandsFor self.new (answer s event.now).state) }
         ensures err { OnErr result (IsAsBefore self.old self.new) }
         ensures revision { desk_revision self.new ≤ desk_revision self.old + 1 }
-        ensures counted { (s : DeskState) → StandsFor self.old s → EventCounts s event.now steps.old steps.new }
+        ensures counted { (s : DeskState) → StandsFor self.old s
+            → EventCounts s event.now steps.old steps.new }
     {
         match event {
             Event::Enter { editor } => self.enter(*editor),
@@ -106,10 +109,14 @@ impl Desk {
     ) -> Result<Replies, Memory>
         requires events { All IsEvent events.now }
         requires room { desk_revision self.old + length events.now ≤ 4294967295 }
-        ensures replies { IfOk result (λ told. (s : DeskState) → StandsFor self.old s → told ≡ replies s events.now) }
-        ensures state { OnOk result ((s : DeskState) → StandsFor self.old s → StandsFor self.new (after_events s events.now)) }
-        ensures counted { OnOk result ((s : DeskState) → StandsFor self.old s → EventsCount s events.now steps.old steps.new) }
-        ensures err { OnErr result ((s : DeskState) → StandsFor self.old s → StopsWithin s events.now self.new steps.old steps.new) }
+        ensures replies { IfOk result (λ told. (s : DeskState) → StandsFor self.old s
+            → told ≡ replies s events.now) }
+        ensures state { OnOk result ((s : DeskState) → StandsFor self.old s
+            → StandsFor self.new (after_events s events.now)) }
+        ensures counted { OnOk result ((s : DeskState) → StandsFor self.old s
+            → EventsCount s events.now steps.old steps.new) }
+        ensures err { OnErr result ((s : DeskState) → StandsFor self.old s
+            → StopsWithin s events.now self.new steps.old steps.new) }
     {
         let mut replies = Vec::with_capacity(self.alloc, events.len())?;
         'events: for event in events {
@@ -123,8 +130,10 @@ impl Desk {
     ///
     /// - `Memory`: memory ran out. The desk is as it was.
     pub fn enter(&mut self, editor: u32) -> Result<Reply, Memory>
-        ensures reply { IfOk result (λ reply. (s : DeskState) → StandsFor self.old s → reply ≡ (answer s (Enter editor)).reply) }
-        ensures state { OnOk result ((s : DeskState) → StandsFor self.old s → StandsFor self.new (answer s (Enter editor)).state) }
+        ensures reply { IfOk result (λ reply. (s : DeskState) → StandsFor self.old s
+            → reply ≡ (answer s (Enter editor)).reply) }
+        ensures state { OnOk result ((s : DeskState) → StandsFor self.old s
+            → StandsFor self.new (answer s (Enter editor)).state) }
         ensures err { OnErr result (IsAsBefore self.old self.new) }
         ensures revision { desk_revision self.new ≡ desk_revision self.old }
     {
@@ -139,8 +148,10 @@ impl Desk {
 
     /// An editor leaves: [`Desk::step`] of [`Event::Leave`].
     pub fn leave(&mut self, editor: u32) -> Reply
-        ensures reply { (s : DeskState) → StandsFor self.old s → result ≡ (answer s (Leave editor)).reply }
-        ensures state { (s : DeskState) → StandsFor self.old s → StandsFor self.new (answer s (Leave editor)).state }
+        ensures reply { (s : DeskState) → StandsFor self.old s
+            → result ≡ (answer s (Leave editor)).reply }
+        ensures state { (s : DeskState) → StandsFor self.old s
+            → StandsFor self.new (answer s (Leave editor)).state }
         ensures revision { desk_revision self.new ≡ desk_revision self.old }
     {
         if self.editors.remove(&editor) {
@@ -163,11 +174,14 @@ impl Desk {
         requires operations { All IsOp group.now }
         requires few { length group.now ≤ group_limit }
         requires room { desk_revision self.old < 4294967295 }
-        ensures reply { IfOk result (λ reply. (s : DeskState) → StandsFor self.old s → reply ≡ (answer s (Propose editor base group.now)).reply) }
-        ensures state { OnOk result ((s : DeskState) → StandsFor self.old s → StandsFor self.new (answer s (Propose editor base group.now)).state) }
+        ensures reply { IfOk result (λ reply. (s : DeskState) → StandsFor self.old s
+            → reply ≡ (answer s (Propose editor base group.now)).reply) }
+        ensures state { OnOk result ((s : DeskState) → StandsFor self.old s
+            → StandsFor self.new (answer s (Propose editor base group.now)).state) }
         ensures err { OnErr result (IsAsBefore self.old self.new) }
         ensures revision { desk_revision self.new ≤ desk_revision self.old + 1 }
-        ensures counted { (s : DeskState) → StandsFor self.old s → EventCounts s (Propose editor base group.now) steps.old steps.new }
+        ensures counted { (s : DeskState) → StandsFor self.old s
+            → EventCounts s (Propose editor base group.now) steps.old steps.new }
     {
         if !self.editors.contains(&editor) {
             return Ok(Reply::Absent);
@@ -200,8 +214,10 @@ impl Desk {
         requires operations { All IsOp group.now }
         requires few { length group.now ≤ group_limit }
         requires room { desk_revision self.old < 4294967295 }
-        ensures answer { GroupAnswered result (group_answer (desk_bench self.old).current group.now) group.now self.old self.new }
-        ensures counted { CountsAs (after_ops (desk_bench self.old).current 0 group.now) (files_facts (desk_bench self.old).current) steps.old steps.new }
+        ensures answer { GroupAnswered result
+            (group_answer (desk_bench self.old).current group.now) group.now self.old self.new }
+        ensures counted { CountsAs (after_ops (desk_bench self.old).current 0 group.now)
+            (files_facts (desk_bench self.old).current) steps.old steps.new }
     {
         // nothing can fail behind an accepted group: its rows have their entries before it
         self.rows.make_entries(self.alloc, group)?;

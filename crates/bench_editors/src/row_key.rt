@@ -24,7 +24,8 @@ pub struct RowKey {
 impl RowKey {
     /// Whether it is that of a row of the file and the key.
     pub fn is_in(&self, file: SourceFile, key: &Key) -> bool
-        ensures { result ≡ same_parts (row_parts (record { file = file; key = key.now })) (key_parts self.now) }
+        ensures { result ≡ same_parts (row_parts (record { file = file; key = key.now }))
+            (key_parts self.now) }
     {
         file.place() == self.file as usize
             && start_of(key.code) == self.start
@@ -74,7 +75,8 @@ fn copied_names(alloc: Global, names: &[Text]) -> Result<Vec<Vec<u8>>, Memory>
 ///
 /// - `Memory`: memory ran out.
 fn key_in(alloc: Global, file: SourceFile, key: &Key) -> Result<RowKey, Memory>
-    ensures { IfOk result (λ found. key_parts found ≡ row_parts (record { file = file; key = key.now })) }
+    ensures { IfOk result (λ found. key_parts found
+        ≡ row_parts (record { file = file; key = key.now })) }
 {
     let names = copied_names(alloc, key.names.as_slice())?;
     Ok(RowKey {
@@ -102,7 +104,8 @@ pub fn key_of_op(alloc: Global, op: &Op) -> Result<RowKey, Memory>
 ///
 /// - `Memory`: memory ran out.
 pub fn keys_of_ops(alloc: Global, group: &[Op]) -> Result<Vec<RowKey>, Memory>
-    ensures { IfOk result (λ keys. map key_parts keys.items ≡ map (λ op. row_parts (row_of op)) group.now) }
+    ensures { IfOk result (λ keys. map key_parts keys.items
+        ≡ map (λ op. row_parts (row_of op)) group.now) }
 {
     let mut keys = Vec::new(alloc);
     'operations: for op in group {

@@ -49,7 +49,8 @@ impl RowRevisions {
 
     /// The place of the first row that a revision after `base` touched.
     pub fn first_after(&self, keys: &[RowKey], base: u32) -> Option<usize>
-        ensures { result ≡ position (λ key. nat_lt base (last_in self.now (key_parts key))) keys.now }
+        ensures { result ≡ position
+            (λ key. nat_lt base (last_in self.now (key_parts key))) keys.now }
     {
         keys.iter().position(|key| base < self.last(key))
     }
@@ -69,7 +70,8 @@ impl RowRevisions {
     /// After either each row has the revision that it had.
     fn make_entry(&mut self, key: RowKey) -> Result<(), Memory>
         ensures same { (parts : KeyParts) → last_in self.new parts ≡ last_in self.old parts }
-        ensures kept { (parts : KeyParts) → IsSome (found_in self.old parts) → IsSome (found_in self.new parts) }
+        ensures kept { (parts : KeyParts) → IsSome (found_in self.old parts)
+            → IsSome (found_in self.new parts) }
         ensures there { OnOk result (IsSome (found_in self.new (key_parts key))) }
     {
         if !self.last.contains_key(&key) {
@@ -85,7 +87,8 @@ impl RowRevisions {
     /// After either each row has the revision that it had.
     pub fn make_entries(&mut self, alloc: Global, group: &[Op]) -> Result<(), Memory>
         ensures same { (parts : KeyParts) → last_in self.new parts ≡ last_in self.old parts }
-        ensures there { OnOk result (All (λ op. IsSome (found_in self.new (row_parts (row_of op)))) group.now) }
+        ensures there { OnOk result
+            (All (λ op. IsSome (found_in self.new (row_parts (row_of op)))) group.now) }
     {
         'operations: for op in group {
             self.make_entry(key_of_op(alloc, op)?)?;
@@ -96,7 +99,10 @@ impl RowRevisions {
     /// Puts the revision of a row that has an entry. It takes no memory.
     fn put(&mut self, key: &RowKey, revision: u32)
         requires { IsSome (found_in self.old (key_parts key.now)) }
-        ensures { (parts : KeyParts) → found_in self.new parts ≡ (if same_parts parts (key_parts key.now) then Some revision else found_in self.old parts) }
+        ensures { (parts : KeyParts)
+            → found_in self.new parts
+            ≡ (if same_parts parts (key_parts key.now) then Some revision
+            else found_in self.old parts) }
     {
         if let Some(last) = self.last.get_mut(key) {
             *last = revision;
@@ -106,7 +112,10 @@ impl RowRevisions {
     /// Puts the revision of rows that have entries. It takes no memory.
     pub fn put_all(&mut self, keys: &[RowKey], revision: u32)
         requires { All (λ key. IsSome (found_in self.old (key_parts key))) keys.now }
-        ensures { (parts : KeyParts) → last_in self.new parts ≡ (if list_any (λ key. same_parts parts (key_parts key)) keys.now then revision else last_in self.old parts) }
+        ensures { (parts : KeyParts)
+            → last_in self.new parts
+            ≡ (if list_any (λ key. same_parts parts (key_parts key)) keys.now then revision
+            else last_in self.old parts) }
     {
         'keys: for key in keys {
             self.put(key, revision);

@@ -80,7 +80,8 @@ fn load_again(
     requires still { release.old.prepared ≡ release.old.current }
     requires empty { items_now release.old file ≡ [] }
     ensures still { OnOk result (release.new.prepared ≡ release.new.current) }
-    ensures others { (other : FileValue) → other ≢ file → items_now release.new other ≡ items_now release.old other }
+    ensures others { (other : FileValue) → other ≢ file
+        → items_now release.new other ≡ items_now release.old other }
 {
     let text = other.text(alloc, file)?;
     release.load_file(file, text.as_slice())?;

@@ -81,8 +81,10 @@ impl History {
     ) -> Result<Accepted, ApplyStop>
         requires operations { All IsOp group.now }
         requires few { length group.now ≤ group_limit }
-        ensures answer { AppliesIn result (group_answer self.old.files group.now) self.old self.new }
-        ensures counted { CountsAs (after_ops self.old.files 0 group.now) (files_facts self.old.files) steps.old steps.new }
+        ensures answer { AppliesIn result
+            (group_answer self.old.files group.now) self.old self.new }
+        ensures counted { CountsAs (after_ops self.old.files 0 group.now)
+            (files_facts self.old.files) steps.old steps.new }
     {
         make_room(&mut self.ways)?;
         let (accepted, way) = self.bench.apply_kept(alloc, group, steps)?;

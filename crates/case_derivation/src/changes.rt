@@ -69,10 +69,14 @@ fn has_cased<W: FactView>(view: &W, s: &[Point]) -> bool
 
 /// What is changed once the members in `s` are mapped too.
 fn changes_behind<W: FactView>(view: &W, left: Left<'_>, s: &[Point]) -> Changes
-    ensures lowered { result.lowered ≡ not (matches left.entry.lowered (lower (W.facts_of view.now) s.now)) }
-    ensures uppered { result.uppered ≡ not (matches left.entry.uppered (upper (W.facts_of view.now) s.now)) }
-    ensures titled { result.titled ≡ not (matches left.entry.titled (titled (W.facts_of view.now) left.entry.begun s.now)) }
-    ensures folded { result.folded ≡ not (matches left.entry.folded (fold (W.facts_of view.now) s.now)) }
+    ensures lowered { result.lowered
+        ≡ not (matches left.entry.lowered (lower (W.facts_of view.now) s.now)) }
+    ensures uppered { result.uppered
+        ≡ not (matches left.entry.uppered (upper (W.facts_of view.now) s.now)) }
+    ensures titled { result.titled
+        ≡ not (matches left.entry.titled (titled (W.facts_of view.now) left.entry.begun s.now)) }
+    ensures folded { result.folded
+        ≡ not (matches left.entry.folded (fold (W.facts_of view.now) s.now)) }
     ensures mapped { result.mapped ≡ (result.lowered || (result.uppered || result.titled)) }
 {
     let mut left = left;

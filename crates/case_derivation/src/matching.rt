@@ -51,8 +51,10 @@ pub(crate) fn left_behind<'a>(left: Left<'a>, c: Point, facts: &FactsRef<'_>) ->
         ≡ matches left.entry.lowered (image_points c (shown_facts facts.now).lower ++ mapped) }
     ensures uppered { (mapped : List ℕ) → matches result.uppered mapped
         ≡ matches left.entry.uppered (image_points c (shown_facts facts.now).upper ++ mapped) }
-    ensures titled { (mapped : List ℕ) → matches result.titled mapped
-        ≡ matches left.entry.titled (image_points c (title_image left.entry.begun (shown_facts facts.now)) ++ mapped) }
+    ensures titled { (mapped : List ℕ)
+        → matches result.titled mapped
+        ≡ matches left.entry.titled
+        (image_points c (title_image left.entry.begun (shown_facts facts.now)) ++ mapped) }
     ensures folded { (mapped : List ℕ) → matches result.folded mapped
         ≡ matches left.entry.folded (image_points c (shown_facts facts.now).fold ++ mapped) }
     ensures begun { result.begun ≡ (left.entry.begun || cased (shown_facts facts.now)) }
@@ -72,7 +74,8 @@ fn rest_behind<'a>(
     c: Point,
     image: Option<&[Point]>,
 ) -> Option<&'a [Point]>
-    ensures { (mapped : List ℕ) → matches result mapped ≡ matches rest.entry (image_points c (image_shown image.entry) ++ mapped) }
+    ensures { (mapped : List ℕ) → matches result mapped
+        ≡ matches rest.entry (image_points c (image_shown image.entry) ++ mapped) }
 {
     match (rest?, image) {
         (rest, Some(points)) => rest.strip_prefix(points),

@@ -48,7 +48,8 @@ impl Case {
 
     /// The image that a row of SpecialCasing.txt gives, if it has no conditions.
     fn casing<'a>(self, row: &CasingText<'a>) -> Option<(Point, Mapping<'a>)>
-        ensures { (c : ℕ) → given_to c result ≡ image_of_row self c (Row.Casing (casing_in row.now)) }
+        ensures { (c : ℕ) → given_to c result
+            ≡ image_of_row self c (Row.Casing (casing_in row.now)) }
     {
         if !row.conditions.is_empty() {
             return None;

@@ -39,7 +39,8 @@ impl CaseImages {
     ///
     /// - `Memory`: memory ran out.
     pub fn at(&self, alloc: Global, c: Point) -> Result<Option<Box<Cases>>, Memory>
-        ensures { IfOk result (λ cases. cases_of (option_map box_value cases) ≡ cases_at self.now.images c) }
+        ensures { IfOk result (λ cases. cases_of (option_map box_value cases)
+            ≡ cases_at self.now.images c) }
     {
         match self.images.get(&c) {
             Some(cases) => Ok(Some(Box::new(alloc, cases.copied(alloc)?)?)),

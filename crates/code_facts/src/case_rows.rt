@@ -57,7 +57,8 @@ fn put_foldings(
     images: &mut BTreeMap<Point, Box<Cases>>,
     row: &RowRef<'_>,
 ) -> Result<(), Memory>
-    ensures { OnOk result ((c : ℕ) → cases_at images.new c ≡ with_foldings c (row_in row.now) (cases_at images.old c)) }
+    ensures { OnOk result ((c : ℕ)
+        → cases_at images.new c ≡ with_foldings c (row_in row.now) (cases_at images.old c)) }
 {
     put_first(alloc, images, row, Case::Fold(FoldStatus::C))?;
     put_first(alloc, images, row, Case::Fold(FoldStatus::F))?;
@@ -70,7 +71,8 @@ fn put_casings(
     images: &mut BTreeMap<Point, Box<Cases>>,
     row: &RowRef<'_>,
 ) -> Result<(), Memory>
-    ensures { OnOk result ((c : ℕ) → cases_at images.new c ≡ with_casings c (row_in row.now) (cases_at images.old c)) }
+    ensures { OnOk result ((c : ℕ)
+        → cases_at images.new c ≡ with_casings c (row_in row.now) (cases_at images.old c)) }
 {
     put_first(alloc, images, row, Case::Lower)?;
     put_first(alloc, images, row, Case::Title)?;
@@ -85,7 +87,9 @@ fn put_first(
     row: &RowRef<'_>,
     case: Case,
 ) -> Result<(), Memory>
-    ensures { OnOk result ((c : ℕ) → cases_at images.new c ≡ with_image case (cases_at images.old c) (image_of_row case c (row_in row.now))) }
+    ensures { OnOk result ((c : ℕ)
+        → cases_at images.new c
+        ≡ with_image case (cases_at images.old c) (image_of_row case c (row_in row.now))) }
 {
     match case.image(row) {
         Some((code, mapping)) => put_copy(alloc, images, code, case, mapping),
@@ -101,7 +105,10 @@ fn put_copy(
     case: Case,
     mapping: Mapping<'_>,
 ) -> Result<(), Memory>
-    ensures { OnOk result ((c : ℕ) → cases_at images.new c ≡ with_image case (cases_at images.old c) (if code == c then Some mapping.entry else None)) }
+    ensures { OnOk result ((c : ℕ)
+        → cases_at images.new c
+        ≡ with_image case (cases_at images.old c)
+        (if code == c then Some mapping.entry else None)) }
 {
     let image = GivenPoints::of_mapping(alloc, mapping)?;
     put_image(alloc, images, code, case, image)
@@ -115,7 +122,9 @@ fn put_image(
     case: Case,
     image: GivenPoints,
 ) -> Result<(), Memory>
-    ensures { OnOk result ((c : ℕ) → cases_at images.new c ≡ with_image case (cases_at images.old c) (if code == c then image else None)) }
+    ensures { OnOk result ((c : ℕ)
+        → cases_at images.new c
+        ≡ with_image case (cases_at images.old c) (if code == c then image else None)) }
 {
     let mut cases = taken(alloc, images, code)?;
     cases.put(case, image);
@@ -145,7 +154,9 @@ fn set(
     code: Point,
     cases: Box<Cases>,
 ) -> Result<(), Memory>
-    ensures { OnOk result ((c : ℕ) → cases_at images.new c ≡ (if code == c then box_value cases else cases_at images.old c)) }
+    ensures { OnOk result ((c : ℕ)
+        → cases_at images.new c
+        ≡ (if code == c then box_value cases else cases_at images.old c)) }
 {
     images.insert(code, cases)?;
     Ok(())

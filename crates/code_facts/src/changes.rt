@@ -26,7 +26,9 @@ impl<T: Stretches<u64>> FactTables<T> {
     ///
     /// - `Memory`: memory ran out.
     pub fn queries_changed(&self, alloc: Global) -> Result<Queries, Memory>
-        ensures tells { IfOk result (λ queries. TellsChanges (tables_facts T.now self.now) (tables_next T.now self.now) queries) }
+        ensures tells { IfOk result
+            (λ queries. TellsChanges (tables_facts T.now self.now)
+            (tables_next T.now self.now) queries) }
         ensures once { IfOk result (λ queries. IsStrictlySortedBy (⟦<Query as Ord>⟧.cmp) queries) }
     {
         let reached = self.reached(alloc, self.touched.as_slice())?;
@@ -38,11 +40,17 @@ impl<T: Stretches<u64>> FactTables<T> {
 impl<T: Table<u64>> FactTables<T> {
     /// The questions that were found, and those on the pairs that were reached.
     fn all_changed(&self, alloc: Global, reached: Reached) -> Result<Vec<Query>, Memory>
-        ensures gathers { IfOk result (λ queries. Gathers (tables_facts T.now self.now) (tables_next T.now self.now) reached.queries.items queries.items) }
-        ensures pairs { IfOk result (λ queries. (s y : ℕ) → is_reached reached.pairs.items s y ≡ true
-            → IsTold (tables_facts T.now self.now) (tables_next T.now self.now) queries.items (Query.Pair s y)) }
-        ensures seconds { IfOk result (λ queries. (s y : ℕ) → is_reached reached.pairs.items s y ≡ true
-            → IsTold (tables_facts T.now self.now) (tables_next T.now self.now) queries.items (Query.Second y)) }
+        ensures gathers { IfOk result
+            (λ queries. Gathers (tables_facts T.now self.now)
+            (tables_next T.now self.now) reached.queries.items queries.items) }
+        ensures pairs { IfOk result (λ queries. (s y : ℕ)
+            → is_reached reached.pairs.items s y ≡ true
+            → IsTold (tables_facts T.now self.now) (tables_next T.now self.now) queries.items
+            (Query.Pair s y)) }
+        ensures seconds { IfOk result (λ queries. (s y : ℕ)
+            → is_reached reached.pairs.items s y ≡ true
+            → IsTold (tables_facts T.now self.now) (tables_next T.now self.now) queries.items
+            (Query.Second y)) }
     {
         let Reached { mut queries, pairs } = reached;
         self.put_composites(alloc, &mut queries, &pairs)?;
@@ -58,11 +66,15 @@ impl<T: Table<u64>> FactTables<T> {
         queries: &mut Vec<Query>,
         pairs: &[(Point, Point)],
     ) -> Result<(), Memory>
-        ensures gathers { OnOk result (Gathers (tables_facts T.now self.now) (tables_next T.now self.now) queries.old.items queries.new.items) }
+        ensures gathers { OnOk result
+            (Gathers (tables_facts T.now self.now)
+            (tables_next T.now self.now) queries.old.items queries.new.items) }
         ensures pairs { OnOk result ((s y : ℕ) → is_reached pairs.now s y ≡ true
-            → IsTold (tables_facts T.now self.now) (tables_next T.now self.now) queries.new.items (Query.Pair s y)) }
+            → IsTold (tables_facts T.now self.now)
+            (tables_next T.now self.now) queries.new.items (Query.Pair s y)) }
         ensures seconds { OnOk result ((s y : ℕ) → is_reached pairs.now s y ≡ true
-            → IsTold (tables_facts T.now self.now) (tables_next T.now self.now) queries.new.items (Query.Second y)) }
+            → IsTold (tables_facts T.now self.now)
+            (tables_next T.now self.now) queries.new.items (Query.Second y)) }
     {
         self.put_pairs(queries, pairs)?;
         let seconds = seconds_of(alloc, pairs)?;
@@ -71,9 +83,12 @@ impl<T: Table<u64>> FactTables<T> {
 
     /// Adds the questions on pairs that are answered differently.
     fn put_pairs(&self, queries: &mut Vec<Query>, pairs: &[(Point, Point)]) -> Result<(), Memory>
-        ensures gathers { OnOk result (Gathers (tables_facts T.now self.now) (tables_next T.now self.now) queries.old.items queries.new.items) }
+        ensures gathers { OnOk result
+            (Gathers (tables_facts T.now self.now)
+            (tables_next T.now self.now) queries.old.items queries.new.items) }
         ensures pairs { OnOk result ((s y : ℕ) → is_reached pairs.now s y ≡ true
-            → IsTold (tables_facts T.now self.now) (tables_next T.now self.now) queries.new.items (Query.Pair s y)) }
+            → IsTold (tables_facts T.now self.now)
+            (tables_next T.now self.now) queries.new.items (Query.Pair s y)) }
     {
         'pairs: for pair in pairs {
             let (s, y) = *pair;
@@ -84,9 +99,12 @@ impl<T: Table<u64>> FactTables<T> {
 
     /// Adds the questions on second members that are answered differently.
     fn put_seconds(&self, queries: &mut Vec<Query>, seconds: &[Point]) -> Result<(), Memory>
-        ensures gathers { OnOk result (Gathers (tables_facts T.now self.now) (tables_next T.now self.now) queries.old.items queries.new.items) }
+        ensures gathers { OnOk result
+            (Gathers (tables_facts T.now self.now)
+            (tables_next T.now self.now) queries.old.items queries.new.items) }
         ensures told { OnOk result ((y : ℕ) → is_among seconds.now y ≡ true
-            → IsTold (tables_facts T.now self.now) (tables_next T.now self.now) queries.new.items (Query.Second y)) }
+            → IsTold (tables_facts T.now self.now)
+            (tables_next T.now self.now) queries.new.items (Query.Second y)) }
     {
         'seconds: for second in seconds {
             self.put_second(queries, *second)?;
@@ -96,8 +114,12 @@ impl<T: Table<u64>> FactTables<T> {
 
     /// Adds the question on a pair, if it is answered differently.
     fn put_pair(&self, queries: &mut Vec<Query>, s: Point, y: Point) -> Result<(), Memory>
-        ensures gathers { OnOk result (Gathers (tables_facts T.now self.now) (tables_next T.now self.now) queries.old.items queries.new.items) }
-        ensures told { OnOk result (IsTold (tables_facts T.now self.now) (tables_next T.now self.now) queries.new.items (Query.Pair s y)) }
+        ensures gathers { OnOk result
+            (Gathers (tables_facts T.now self.now)
+            (tables_next T.now self.now) queries.old.items queries.new.items) }
+        ensures told { OnOk result
+            (IsTold (tables_facts T.now self.now) (tables_next T.now self.now) queries.new.items
+            (Query.Pair s y)) }
     {
         let now = self.composite(Version::Now, s, y);
         let next = self.composite(Version::Next, s, y);
@@ -107,8 +129,12 @@ impl<T: Table<u64>> FactTables<T> {
 
     /// Adds the question on a second member, if it is answered differently.
     fn put_second(&self, queries: &mut Vec<Query>, y: Point) -> Result<(), Memory>
-        ensures gathers { OnOk result (Gathers (tables_facts T.now self.now) (tables_next T.now self.now) queries.old.items queries.new.items) }
-        ensures told { OnOk result (IsTold (tables_facts T.now self.now) (tables_next T.now self.now) queries.new.items (Query.Second y)) }
+        ensures gathers { OnOk result
+            (Gathers (tables_facts T.now self.now)
+            (tables_next T.now self.now) queries.old.items queries.new.items) }
+        ensures told { OnOk result
+            (IsTold (tables_facts T.now self.now) (tables_next T.now self.now) queries.new.items
+            (Query.Second y)) }
     {
         let now = self.is_second(Version::Now, y);
         let next = self.is_second(Version::Next, y);
@@ -121,8 +147,10 @@ impl<T: Table<u64>> FactTables<T> {
 ///
 /// - `Memory`: memory ran out.
 fn seconds_of(alloc: Global, pairs: &[(Point, Point)]) -> Result<Vec<Point>, Memory>
-    ensures among { IfOk result (λ seconds. (s y : ℕ) → is_reached pairs.now s y ≡ true → is_among seconds.items y ≡ true) }
-    ensures once { IfOk result (λ seconds. IsStrictlySortedBy (⟦<Point as Ord>⟧.cmp) seconds.items) }
+    ensures among { IfOk result (λ seconds. (s y : ℕ) → is_reached pairs.now s y ≡ true
+        → is_among seconds.items y ≡ true) }
+    ensures once { IfOk result (λ seconds. IsStrictlySortedBy
+        (⟦<Point as Ord>⟧.cmp) seconds.items) }
 {
     let mut seconds = Vec::new(alloc);
     'pairs: for pair in pairs {

@@ -36,10 +36,14 @@ pub fn put_spans<T: Table<u64>, S: Store<Rest>>(
 ) -> Result<(), Memory>
     ensures words_now { SameValues (T.now words.new) (T.now words.old) }
     ensures rests_now { SameValues (S.now rests.new) (S.now rests.old) }
-    ensures grows { (s y q : ℕ) → is_listed index.old s y q ≡ true → is_listed index.new s y q ≡ true }
-    ensures words { OnOk result (SameValues (T.next words.new) (with_spans (T.next words.old) spans.now (word_in from.now))) }
-    ensures rests { OnOk result (SameValues (S.next rests.new) (with_spans (S.next rests.old) spans.now (rest_in from.now))) }
-    ensures listed { OnOk result ((q : ℕ) → list_any (within q) spans.now ≡ true → IsListed (is_listed index.new) from.now q) }
+    ensures grows { (s y q : ℕ) → is_listed index.old s y q ≡ true
+        → is_listed index.new s y q ≡ true }
+    ensures words { OnOk result (SameValues (T.next words.new)
+        (with_spans (T.next words.old) spans.now (word_in from.now))) }
+    ensures rests { OnOk result (SameValues (S.next rests.new)
+        (with_spans (S.next rests.old) spans.now (rest_in from.now))) }
+    ensures listed { OnOk result ((q : ℕ) → list_any (within q) spans.now ≡ true
+        → IsListed (is_listed index.new) from.now q) }
 {
     let mut keys = PairKeys::new(alloc);
     copy_spans(alloc, words, rests, &mut keys, from, spans)?;
@@ -60,10 +64,14 @@ pub fn copy_spans<T: Table<u64>, S: Store<Rest>>(
 ) -> Result<(), Memory>
     ensures words_now { SameValues (T.now words.new) (T.now words.old) }
     ensures rests_now { SameValues (S.now rests.new) (S.now rests.old) }
-    ensures grows { (s y q : ℕ) → is_gathered keys.old s y q ≡ true → is_gathered keys.new s y q ≡ true }
-    ensures words { OnOk result (SameValues (T.next words.new) (with_spans (T.next words.old) spans.now (word_in from.now))) }
-    ensures rests { OnOk result (SameValues (S.next rests.new) (with_spans (S.next rests.old) spans.now (rest_in from.now))) }
-    ensures listed { OnOk result ((q : ℕ) → list_any (within q) spans.now ≡ true → IsListed (is_gathered keys.new) from.now q) }
+    ensures grows { (s y q : ℕ) → is_gathered keys.old s y q ≡ true
+        → is_gathered keys.new s y q ≡ true }
+    ensures words { OnOk result (SameValues (T.next words.new)
+        (with_spans (T.next words.old) spans.now (word_in from.now))) }
+    ensures rests { OnOk result (SameValues (S.next rests.new)
+        (with_spans (S.next rests.old) spans.now (rest_in from.now))) }
+    ensures listed { OnOk result ((q : ℕ) → list_any (within q) spans.now ≡ true
+        → IsListed (is_gathered keys.new) from.now q) }
 {
     'spans: for span in spans {
         gather_pairs(keys, from, *span)?;
@@ -82,7 +90,8 @@ pub fn put_words<T: Table<u64>>(
     span: Span,
 ) -> Result<(), Memory>
     ensures now { SameValues (T.now into.new) (T.now into.old) }
-    ensures ok { OnOk result (SameValues (T.next into.new) (with_values (T.next into.old) span.lo span.hi (values_now from.now))) }
+    ensures ok { OnOk result (SameValues (T.next into.new)
+        (with_values (T.next into.old) span.lo span.hi (values_now from.now))) }
 {
     let end = span.last();
     let mut at = span.first();
@@ -112,7 +121,8 @@ pub fn put_rests<S: Store<Rest>>(
     span: Span,
 ) -> Result<(), Memory>
     ensures now { SameValues (S.now into.new) (S.now into.old) }
-    ensures ok { OnOk result (SameValues (S.next into.new) (with_values (S.next into.old) span.lo span.hi (rest_in from.now))) }
+    ensures ok { OnOk result (SameValues (S.next into.new)
+        (with_values (S.next into.old) span.lo span.hi (rest_in from.now))) }
 {
     let none = into.hold(Rest::none())?;
     put_rests_with(alloc, into, from, span, none)
@@ -128,7 +138,8 @@ fn put_rests_with<S: Store<Rest>>(
 ) -> Result<(), Memory>
     requires { S.held into.old none ≡ Some no_rest }
     ensures now { SameValues (S.now into.new) (S.now into.old) }
-    ensures ok { OnOk result (SameValues (S.next into.new) (with_values (S.next into.old) span.lo span.hi (rest_in from.now))) }
+    ensures ok { OnOk result (SameValues (S.next into.new)
+        (with_values (S.next into.old) span.lo span.hi (rest_in from.now))) }
 {
     let end = span.last();
     let mut at = span.first();
@@ -168,7 +179,8 @@ fn put_rest<S: Store<Rest>>(
     requires held { S.held into.old none ≡ Some no_rest }
     ensures now { SameValues (S.now into.new) (S.now into.old) }
     ensures held { S.held into.new none ≡ Some no_rest }
-    ensures ok { OnOk result (SameValues (S.next into.new) (with_values (S.next into.old) part.lo part.hi (λ _. rest_in from.now part.lo))) }
+    ensures ok { OnOk result (SameValues (S.next into.new)
+        (with_values (S.next into.old) part.lo part.hi (λ _. rest_in from.now part.lo))) }
 {
     match from.rest(alloc, part.lo, bare, mapping)? {
         Some(rest) => into.prepare(part, rest),
@@ -180,8 +192,10 @@ fn put_rest<S: Store<Rest>>(
 ///
 /// - `Memory`: memory ran out.
 pub fn gather_pairs(keys: &mut PairKeys, from: &RowTables, span: Span) -> Result<(), Memory>
-    ensures grows { (s y q : ℕ) → is_gathered keys.old s y q ≡ true → is_gathered keys.new s y q ≡ true }
-    ensures listed { OnOk result ((q : ℕ) → span.lo ≤ q → q ≤ span.hi → IsListed (is_gathered keys.new) from.now q) }
+    ensures grows { (s y q : ℕ) → is_gathered keys.old s y q ≡ true
+        → is_gathered keys.new s y q ≡ true }
+    ensures listed { OnOk result ((q : ℕ) → span.lo ≤ q → q ≤ span.hi
+        → IsListed (is_gathered keys.new) from.now q) }
 {
     let end = span.last();
     let mut at = span.first();
@@ -208,8 +222,10 @@ fn gather_part(
     part: Span,
     word: u64,
 ) -> Result<(), Memory>
-    ensures grows { (s y q : ℕ) → is_gathered keys.old s y q ≡ true → is_gathered keys.new s y q ≡ true }
-    ensures listed { OnOk result ((q : ℕ) → part.lo ≤ q → q ≤ part.hi → is_candidate_word word ≡ true
+    ensures grows { (s y q : ℕ) → is_gathered keys.old s y q ≡ true
+        → is_gathered keys.new s y q ≡ true }
+    ensures listed { OnOk result ((q : ℕ) → part.lo ≤ q → q ≤ part.hi
+        → is_candidate_word word ≡ true
         → HasKeys (is_gathered keys.new) (lists_now mappings.now q) q) }
 {
     if is_candidate_word(word) {
@@ -221,8 +237,10 @@ fn gather_part(
 
 /// Gathers the keys of the code points of a span that have a mapping of two members.
 fn gather_twos(keys: &mut PairKeys, mappings: &PointLists, span: Span) -> Result<(), Memory>
-    ensures grows { (s y q : ℕ) → is_gathered keys.old s y q ≡ true → is_gathered keys.new s y q ≡ true }
-    ensures listed { OnOk result ((q : ℕ) → span.lo ≤ q → q ≤ span.hi → HasKeys (is_gathered keys.new) (lists_now mappings.now q) q) }
+    ensures grows { (s y q : ℕ) → is_gathered keys.old s y q ≡ true
+        → is_gathered keys.new s y q ≡ true }
+    ensures listed { OnOk result ((q : ℕ) → span.lo ≤ q → q ≤ span.hi
+        → HasKeys (is_gathered keys.new) (lists_now mappings.now q) q) }
 {
     let end = span.last();
     let mut at = span.first();
@@ -244,8 +262,10 @@ fn gather_twos(keys: &mut PairKeys, mappings: &PointLists, span: Span) -> Result
 
 /// If this mapping has two members, gathers the keys of the points of a span, which have it.
 fn gather_two(keys: &mut PairKeys, mapping: &[Point], part: Span) -> Result<(), Memory>
-    ensures grows { (s y q : ℕ) → is_gathered keys.old s y q ≡ true → is_gathered keys.new s y q ≡ true }
-    ensures listed { OnOk result ((q : ℕ) → part.lo ≤ q → q ≤ part.hi → HasKeys (is_gathered keys.new) mapping.now q) }
+    ensures grows { (s y q : ℕ) → is_gathered keys.old s y q ≡ true
+        → is_gathered keys.new s y q ≡ true }
+    ensures listed { OnOk result ((q : ℕ) → part.lo ≤ q → q ≤ part.hi
+        → HasKeys (is_gathered keys.new) mapping.now q) }
 {
     match mapping {
         [s, y] => keys.put_span(*s, *y, part),

@@ -42,7 +42,8 @@ impl DataTables {
         requires { Apart rows.now.unicode_data.items }
         ensures gives { IfOk result (λ tables. (c : ℕ) → c < 1114112
             → data_now tables c ≡ row_data c (data_row (sources_of rows.now UnicodeData) c)) }
-        ensures class { OnOk result ((c : ℕ) → class_in (data_row (sources_of rows.now UnicodeData) c) < 256) }
+        ensures class { OnOk result ((c : ℕ)
+            → class_in (data_row (sources_of rows.now UnicodeData) c) < 256) }
     {
         DataTables::of_rows(alloc, &rows.unicode_data)
     }
@@ -74,7 +75,8 @@ pub struct DataRuns {
 impl DataRuns {
     /// What no rows give.
     fn new(alloc: Global) -> Result<DataRuns, Memory>
-        ensures { IfOk result (λ given. (c : ℕ) → c < 1114112 → data_next given c ≡ row_data c None) }
+        ensures { IfOk result (λ given. (c : ℕ) → c < 1114112
+            → data_next given c ≡ row_data c None) }
     {
         let lists = Box::new(alloc, DataLists::new(alloc)?)?;
         Ok(DataRuns {
@@ -112,7 +114,9 @@ impl DataRuns {
     fn add(&mut self, alloc: Global, row: &PointValues<'_>) -> Result<(), Memory>
         requires fresh { IsFresh (DataLine (given_row row.now)) (data_next self.old) }
         ensures gives { OnOk result ((c : ℕ) → c < 1114112
-            → data_next self.new c ≡ (if within c row.now.span then row_data c (Some (given_row row.now)) else data_next self.old c)) }
+            → data_next self.new c
+            ≡ (if within c row.now.span then row_data c (Some (given_row row.now))
+            else data_next self.old c)) }
         ensures class { row.now.values.class < 256 }
     {
         add_word(&mut self.words, row)?;
@@ -126,7 +130,8 @@ impl DataRuns {
     ///
     /// - `Memory`: memory ran out.
     fn into_tables(self) -> Result<DataTables, Memory>
-        ensures { IfOk result (λ tables. (c : ℕ) → c < 1114112 → data_now tables c ≡ data_next self c) }
+        ensures { IfOk result (λ tables. (c : ℕ) → c < 1114112
+            → data_now tables c ≡ data_next self c) }
     {
         let DataRuns { words, mut lists } = self;
         lists.mappings.commit();
@@ -142,8 +147,10 @@ impl DataRuns {
 
 /// Gives the points of a row its part of the word.
 fn add_word(words: &mut WordRuns, row: &PointValues<'_>) -> Result<(), Memory>
-    ensures word { OnOk result ((c : ℕ) → c < 1114112 → words_next words.new c
-        ≡ (if within c row.now.span then (row_data c (Some (given_row row.now))).word else words_next words.old c)) }
+    ensures word { OnOk result ((c : ℕ) → c < 1114112
+        → words_next words.new c
+        ≡ (if within c row.now.span then (row_data c (Some (given_row row.now))).word
+        else words_next words.old c)) }
     ensures class { row.now.values.class < 256 }
 {
     let kind = row.values.decomposition.kind;
@@ -163,8 +170,10 @@ fn add_mapping(
     row: &PointValues<'_>,
 ) -> Result<(), Memory>
     requires { AreEmpty (lists_next mappings.old) row.now.span }
-    ensures { OnOk result ((c : ℕ) → c < 1114112 → lists_next mappings.new c
-        ≡ (if within c row.now.span then mapping_in c (Some (given_row row.now)) else lists_next mappings.old c)) }
+    ensures { OnOk result ((c : ℕ) → c < 1114112
+        → lists_next mappings.new c
+        ≡ (if within c row.now.span then mapping_in c (Some (given_row row.now))
+        else lists_next mappings.old c)) }
 {
     let mapping = row.values.decomposition.mapping.again();
     put_mapping(alloc, mappings, row.span, mapping)?;
@@ -184,7 +193,8 @@ fn put_mapping(
     mapping: Mapping<'_>,
 ) -> Result<(), Memory>
     requires { AreEmpty (lists_next mappings.old) span }
-    ensures { OnOk result (SameValues (lists_next mappings.new) (with_span (lists_next mappings.old) span.lo span.hi mapping.entry)) }
+    ensures { OnOk result (SameValues (lists_next mappings.new)
+        (with_span (lists_next mappings.old) span.lo span.hi mapping.entry)) }
 {
     if mapping.len() == 0 {
         return Ok(());
@@ -209,7 +219,8 @@ fn add_syllables(mappings: &mut PointLists, part: Span) -> Result<(), Memory>
 /// Gives the points of a span a simple mapping. They have none yet.
 fn add_simple(lists: &mut PointLists, span: Span, image: Option<Point>) -> Result<(), Memory>
     requires { AreEmpty (lists_next lists.old) span }
-    ensures { OnOk result (SameValues (lists_next lists.new) (with_span (lists_next lists.old) span.lo span.hi (option_to_list image))) }
+    ensures { OnOk result (SameValues (lists_next lists.new)
+        (with_span (lists_next lists.old) span.lo span.hi (option_to_list image))) }
 {
     match image {
         Some(image) => lists.prepare(span, &[image]),

@@ -67,7 +67,9 @@ pub fn folding<'a>(
     first: Option<&'a [Point]>,
     second: Option<&'a [Point]>,
 ) -> Option<&'a [Point]>
-    ensures { image_shown result ≡ image c (unwrap_or (option_copied first.entry) (unwrap_or (option_copied second.entry) (c ∷ []))) }
+    ensures { image_shown result ≡ image c
+        (unwrap_or (option_copied first.entry)
+        (unwrap_or (option_copied second.entry) (c ∷ []))) }
 {
     match (first, second) {
         (Some(points), _) | (None, Some(points)) => shown_image(c, points),
@@ -77,7 +79,8 @@ pub fn folding<'a>(
 
 /// The one point under the first folding, else under the second, else the code point itself.
 pub fn simple_folding(c: Point, first: Option<&[Point]>, second: Option<&[Point]>) -> Point
-    ensures { result ≡ only_or c (unwrap_or (option_copied first.entry) (unwrap_or (option_copied second.entry) [])) }
+    ensures { result ≡ only_or c (unwrap_or (option_copied first.entry)
+        (unwrap_or (option_copied second.entry) [])) }
 {
     match (first, second) {
         (Some(points), _) | (None, Some(points)) => first_or(c, points),

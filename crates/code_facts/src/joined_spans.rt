@@ -12,7 +12,8 @@ use ucd_facts::{Memory, Span, Spans};
 ///
 /// - `Memory`: memory ran out.
 pub fn joined(alloc: Global, spans: &[Span]) -> Result<Spans, Memory>
-    ensures { IfOk result (λ all. (c : ℕ) → list_any (within c) all ≡ list_any (within c) spans.now) }
+    ensures { IfOk result (λ all. (c : ℕ)
+        → list_any (within c) all ≡ list_any (within c) spans.now) }
 {
     let mut sorted = Vec::from_slice(alloc, spans)?;
     sorted.sort_by_key(|span| span.first())?;
@@ -46,7 +47,8 @@ fn join_or_put(all: &mut Spans, before: Option<Span>, span: Span) -> Result<Span
 /// Puts the span that is not put yet behind the others.
 #[tactic(auto, using(crate::proofs::JoinedLemmas::or_nothing, crate::proofs::JoinedLemmas::within_put))]
 fn put_last(all: &mut Spans, before: Option<Span>) -> Result<(), Memory>
-    ensures { OnOk result ((c : ℕ) → list_any (within c) all.new ≡ (list_any (within c) all.old || is_in before c)) }
+    ensures { OnOk result ((c : ℕ)
+        → list_any (within c) all.new ≡ (list_any (within c) all.old || is_in before c)) }
 {
     match before {
         Some(span) => all.push(span),

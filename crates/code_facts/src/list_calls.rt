@@ -64,7 +64,8 @@ impl PointLists {
     /// - `Memory`: memory ran out, or the lists would have 2^32 points or more. Nothing is then known of them.
     pub fn prepare(&mut self, span: Span, points: &[Point]) -> Result<(), Memory>
         ensures current { OnOk result (SameValues (lists_now self.new) (lists_now self.old)) }
-        ensures ok { OnOk result (SameValues (lists_next self.new) (with_span (lists_next self.old) span.lo span.hi points.now)) }
+        ensures ok { OnOk result (SameValues (lists_next self.new)
+            (with_span (lists_next self.old) span.lo span.hi points.now)) }
     {
         let place = put(&mut self.pool, points)?;
         self.places.prepare(span, place)
@@ -84,7 +85,8 @@ impl PointLists {
 /// - `Memory`: memory ran out, or the pool would have 2^32 points or more.
 fn put(pool: &mut Vec<Point>, points: &[Point]) -> Result<Place, Memory>
     ensures longer { vec_len pool.old ≤ vec_len pool.new }
-    ensures others { (place : Place) → LiesIn (vec_len pool.old) place → slice_at pool.new.items place ≡ slice_at pool.old.items place }
+    ensures others { (place : Place) → LiesIn (vec_len pool.old) place
+        → slice_at pool.new.items place ≡ slice_at pool.old.items place }
     ensures place { IfOk result (λ place. LiesIn (vec_len pool.new) place) }
     ensures points { IfOk result (λ place. slice_at pool.new.items place ≡ points.now) }
 {

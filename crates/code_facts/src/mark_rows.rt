@@ -56,7 +56,8 @@ impl MarkRows {
 
 /// The code points that are excluded from composition.
 fn excluded_of(alloc: Global, rows: &[RowText<'_>]) -> Result<Vec<Span>, Memory>
-    ensures { IfOk result (λ spans. (c : ℕ) → list_any (within c) spans.items ≡ excluded_at rows.now c) }
+    ensures { IfOk result (λ spans. (c : ℕ)
+        → list_any (within c) spans.items ≡ excluded_at rows.now c) }
 {
     let mut spans = Vec::new(alloc);
     'rows: for row in rows {
@@ -77,7 +78,9 @@ fn excluded_span(row: &RowText<'_>) -> Option<Span>
 
 /// Puts the span, if there is one, at the end.
 pub fn push_some(spans: &mut Vec<Span>, span: Option<Span>) -> Result<(), Memory>
-    ensures { OnOk result ((c : ℕ) → list_any (within c) spans.new.items ≡ (list_any (within c) spans.old.items || covers c span)) }
+    ensures { OnOk result ((c : ℕ)
+        → list_any (within c) spans.new.items
+        ≡ (list_any (within c) spans.old.items || covers c span)) }
 {
     if let Some(span) = span {
         spans.push(span)?;
@@ -87,7 +90,8 @@ pub fn push_some(spans: &mut Vec<Span>, span: Option<Span>) -> Result<(), Memory
 
 /// The code points that have flags.
 fn flagged_of(alloc: Global, rows: &[RowText<'_>]) -> Result<Vec<Flagged>, Memory>
-    ensures { IfOk result (λ flagged. (flag : FlagValue) (c : ℕ) → list_any (is_flagged flag c) flagged.items ≡ flag_at rows.now flag c) }
+    ensures { IfOk result (λ flagged. (flag : FlagValue) (c : ℕ)
+        → list_any (is_flagged flag c) flagged.items ≡ flag_at rows.now flag c) }
 {
     let mut flagged = Vec::new(alloc);
     'rows: for row in rows {
@@ -98,7 +102,10 @@ fn flagged_of(alloc: Global, rows: &[RowText<'_>]) -> Result<Vec<Flagged>, Memor
 
 /// Puts the code points of a row with the flag that it names at the end.
 fn push_row(flagged: &mut Vec<Flagged>, row: &RowText<'_>) -> Result<(), Memory>
-    ensures { OnOk result ((flag : FlagValue) (c : ℕ) → list_any (is_flagged flag c) flagged.new.items ≡ (list_any (is_flagged flag c) flagged.old.items || gives_value (flag_name flag) c row.now)) }
+    ensures { OnOk result ((flag : FlagValue) (c : ℕ)
+        → list_any (is_flagged flag c) flagged.new.items
+        ≡ (list_any (is_flagged flag c) flagged.old.items
+        || gives_value (flag_name flag) c row.now)) }
 {
     if let Some(ValueText { span, value }) = row.value() {
         push_flags(flagged, span, value)?;
@@ -108,7 +115,10 @@ fn push_row(flagged: &mut Vec<Flagged>, row: &RowText<'_>) -> Result<(), Memory>
 
 /// Puts code points with each flag of this name at the end.
 fn push_flags(flagged: &mut Vec<Flagged>, span: Span, value: &[u8]) -> Result<(), Memory>
-    ensures { OnOk result ((flag : FlagValue) (c : ℕ) → list_any (is_flagged flag c) flagged.new.items ≡ (list_any (is_flagged flag c) flagged.old.items || (bytes_eq value.now (flag_name flag) && within c span))) }
+    ensures { OnOk result ((flag : FlagValue) (c : ℕ)
+        → list_any (is_flagged flag c) flagged.new.items
+        ≡ (list_any (is_flagged flag c) flagged.old.items
+        || (bytes_eq value.now (flag_name flag) && within c span))) }
 {
     'flags: for flag in FLAGS {
         push_flag(flagged, flag, span, value)?;
@@ -118,7 +128,10 @@ fn push_flags(flagged: &mut Vec<Flagged>, span: Span, value: &[u8]) -> Result<()
 
 /// Puts code points with a flag at the end, if it has this name.
 fn push_flag(flagged: &mut Vec<Flagged>, flag: Flag, span: Span, value: &[u8]) -> Result<(), Memory>
-    ensures { OnOk result ((other : FlagValue) (c : ℕ) → list_any (is_flagged other c) flagged.new.items ≡ (list_any (is_flagged other c) flagged.old.items || names_flag value.now c span other flag)) }
+    ensures { OnOk result ((other : FlagValue) (c : ℕ)
+        → list_any (is_flagged other c) flagged.new.items
+        ≡ (list_any (is_flagged other c) flagged.old.items
+        || names_flag value.now c span other flag)) }
 {
     if value == flag.name() {
         flagged.push(Flagged { flag, span })?;

@@ -23,7 +23,8 @@ use ucd_facts::{Flag, Memory, Span};
 /// - `Memory`: memory ran out.
 pub fn marks(alloc: Global, rows: &RowLists<'_>) -> Result<RunTable<u64>, Memory>
     requires { AreValuesApart rows.now.word_break.items }
-    ensures { IfOk result (λ table. SameValues (values_now table) (marks_at (sources_of rows.now))) }
+    ensures { IfOk result (λ table. SameValues (values_now table)
+        (marks_at (sources_of rows.now))) }
 {
     let spans = MarkRows::of(alloc, rows)?;
     let mut table = RunTable::filled(alloc, 0)?;
@@ -41,7 +42,9 @@ fn with_mark(
     mark: Mark,
 ) -> Result<RunTable<u64>, Memory>
     requires { (c : ℕ) → c < 1114112 → values_now table c < 2 ^ 63 }
-    ensures { (sources : Sources) → KeepsMarkRows rows.now sources → IfOk result (λ sum. SameValues (values_now sum) (λ c. values_now table c + mark_bit sources mark c)) }
+    ensures { (sources : Sources) → KeepsMarkRows rows.now sources
+        → IfOk result (λ sum. SameValues (values_now sum)
+        (λ c. values_now table c + mark_bit sources mark c)) }
 {
     let spans = spans_of(alloc, rows, mark)?;
     if spans.is_empty() {
@@ -53,7 +56,8 @@ fn with_mark(
 
 /// The spans on which rows put a mark.
 fn spans_of(alloc: Global, rows: &MarkRows, mark: Mark) -> Result<Vec<Span>, Memory>
-    ensures { (sources : Sources) → KeepsMarkRows rows.now sources → IfOk result (λ spans. IsMarked mark spans.items sources) }
+    ensures { (sources : Sources) → KeepsMarkRows rows.now sources
+        → IfOk result (λ spans. IsMarked mark spans.items sources) }
 {
     match mark {
         Mark::Excluded => Ok(Vec::from_slice(alloc, &rows.excluded)?),
@@ -64,7 +68,8 @@ fn spans_of(alloc: Global, rows: &MarkRows, mark: Mark) -> Result<Vec<Span>, Mem
 
 /// The spans of a flag.
 fn flag_spans(alloc: Global, flagged: &[Flagged], flag: Flag) -> Result<Vec<Span>, Memory>
-    ensures { IfOk result (λ spans. (c : ℕ) → list_any (within c) spans.items ≡ list_any (is_flagged flag c) flagged.now) }
+    ensures { IfOk result (λ spans. (c : ℕ)
+        → list_any (within c) spans.items ≡ list_any (is_flagged flag c) flagged.now) }
 {
     let mut spans = Vec::new(alloc);
     'flagged: for row in flagged {

@@ -27,7 +27,8 @@ use ucd_facts::{Memory, Span};
 /// - `Memory`: memory ran out.
 pub fn mid_words_of(alloc: Global, rows: &[RowText<'_>]) -> Result<Vec<Span>, Memory>
     requires { AreValuesApart rows.now }
-    ensures { IfOk result (λ spans. (c : ℕ) → c < 1114112 → list_any (within c) spans.items ≡ mid_word_at rows.now c) }
+    ensures { IfOk result (λ spans. (c : ℕ) → c < 1114112
+        → list_any (within c) spans.items ≡ mid_word_at rows.now c) }
 {
     match plain_mid_words(alloc, rows)? {
         Some(spans) => Ok(spans),
@@ -38,7 +39,8 @@ pub fn mid_words_of(alloc: Global, rows: &[RowText<'_>]) -> Result<Vec<Span>, Me
 /// The same from the rows that are no missing rows; `None` if a missing row has such a value.
 fn plain_mid_words(alloc: Global, rows: &[RowText<'_>]) -> Result<Option<Vec<Span>>, Memory>
     requires { AreValuesApart rows.now }
-    ensures { IfOk result (λ given. IfSome given (λ spans. (c : ℕ) → list_any (within c) spans.items ≡ mid_word_at rows.now c)) }
+    ensures { IfOk result (λ given. IfSome given (λ spans. (c : ℕ)
+        → list_any (within c) spans.items ≡ mid_word_at rows.now c)) }
 {
     let mut spans = Vec::new(alloc);
     'rows: for text in rows {
@@ -73,7 +75,8 @@ fn mid_word_span(row: &RowRef<'_>) -> Option<Span>
 
 /// The same from all rows, whatever their values are.
 fn layered_mid_words(alloc: Global, rows: &[RowText<'_>]) -> Result<Vec<Span>, Memory>
-    ensures { IfOk result (λ spans. (c : ℕ) → c < 1114112 → list_any (within c) spans.items ≡ mid_word_at rows.now c) }
+    ensures { IfOk result (λ spans. (c : ℕ) → c < 1114112
+        → list_any (within c) spans.items ≡ mid_word_at rows.now c) }
 {
     let layers = all_layers(alloc, rows)?;
     let layers = pieces(alloc, 0, &layers)?;
@@ -83,7 +86,8 @@ fn layered_mid_words(alloc: Global, rows: &[RowText<'_>]) -> Result<Vec<Span>, M
 /// Layers: the last one that covers a code point has the word 1 if it stands in the middle of a word, else 0. They are
 /// the missing rows in their order, and over them the other rows, the first of them last.
 fn all_layers(alloc: Global, rows: &[RowText<'_>]) -> Result<Vec<Layer>, Memory>
-    ensures { IfOk result (λ layers. (c : ℕ) → word_at layers.items 0 c ≡ one_if (mid_word_at rows.now c)) }
+    ensures { IfOk result (λ layers. (c : ℕ)
+        → word_at layers.items 0 c ≡ one_if (mid_word_at rows.now c)) }
 {
     let mut layers = missing_layers(alloc, rows)?;
     let mut at = rows.len();
@@ -97,7 +101,9 @@ fn all_layers(alloc: Global, rows: &[RowText<'_>]) -> Result<Vec<Layer>, Memory>
 
 /// The layers of the missing rows alone, in their order.
 fn missing_layers(alloc: Global, rows: &[RowText<'_>]) -> Result<Vec<Layer>, Memory>
-    ensures { IfOk result (λ layers. (c : ℕ) → word_at layers.items 0 c ≡ one_if (is_mid_word (missing_value rows.now default_word_break c))) }
+    ensures { IfOk result (λ layers. (c : ℕ)
+        → word_at layers.items 0 c
+        ≡ one_if (is_mid_word (missing_value rows.now default_word_break c))) }
 {
     let mut layers = Vec::new(alloc);
     'rows: for text in rows {
@@ -137,7 +143,8 @@ fn layer(span: Span, value: &[u8]) -> Layer
 
 /// Puts a layer, if there is one, over the others.
 fn push_layer(layers: &mut Vec<Layer>, layer: Option<Layer>) -> Result<(), Memory>
-    ensures { OnOk result ((c : ℕ) → word_at layers.new.items 0 c ≡ layer_over c layer (word_at layers.old.items 0 c)) }
+    ensures { OnOk result ((c : ℕ)
+        → word_at layers.new.items 0 c ≡ layer_over c layer (word_at layers.old.items 0 c)) }
 {
     if let Some(layer) = layer {
         layers.push(layer)?;
@@ -147,7 +154,8 @@ fn push_layer(layers: &mut Vec<Layer>, layer: Option<Layer>) -> Result<(), Memor
 
 /// The spans of the layers with the word 1.
 fn spans_of_ones(alloc: Global, layers: &[Layer]) -> Result<Vec<Span>, Memory>
-    ensures { IfOk result (λ spans. (c : ℕ) → list_any (within c) spans.items ≡ list_any (puts 1 c) layers.now) }
+    ensures { IfOk result (λ spans. (c : ℕ)
+        → list_any (within c) spans.items ≡ list_any (puts 1 c) layers.now) }
 {
     let mut spans = Vec::new(alloc);
     'layers: for layer in layers {

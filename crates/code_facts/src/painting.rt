@@ -16,7 +16,8 @@ use ucd_facts::{Memory, Point, Span};
 ///
 /// - `Memory`: memory ran out.
 pub fn painted(alloc: Global, mut spans: Vec<Span>, value: u64) -> Result<RunTable<u64>, Memory>
-    ensures { IfOk result (λ table. SameValues (values_now table) (λ c. if list_any (within c) spans.items then value else 0)) }
+    ensures { IfOk result (λ table. SameValues (values_now table)
+        (λ c. if list_any (within c) spans.items then value else 0)) }
 {
     // in ascending order each span costs the same
     spans.sort_by_key(|span| span.first())?;
@@ -38,7 +39,8 @@ pub fn summed<T: Table<u64>>(
     b: &RunTable<u64>,
 ) -> Result<T, Memory>
     requires { (c : ℕ) → c < 1114112 → values_now a.now c + values_now b.now c < 2 ^ 64 }
-    ensures { IfOk result (λ table. SameValues (T.now table) (λ c. values_now a.now c + values_now b.now c)) }
+    ensures { IfOk result (λ table. SameValues (T.now table)
+        (λ c. values_now a.now c + values_now b.now c)) }
 {
     let mut table = T::filled(alloc, 0)?;
     let mut at = 0;

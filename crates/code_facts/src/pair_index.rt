@@ -36,7 +36,8 @@ impl PairIndex {
     ///
     /// - `Memory`: memory ran out.
     pub fn copied(&self, alloc: Global) -> Result<PairIndex, Memory>
-        ensures { IfOk result (λ copy. (a b r : ℕ) → is_listed copy a b r ≡ is_listed self.now a b r) }
+        ensures { IfOk result (λ copy. (a b r : ℕ)
+            → is_listed copy a b r ≡ is_listed self.now a b r) }
     {
         Ok(PairIndex {
             pairs: self.pairs.copied(alloc)?,
@@ -48,8 +49,10 @@ impl PairIndex {
     ///
     /// - `Memory`: memory ran out. Some of them may be listed.
     pub fn add(&mut self, keys: &PairKeys) -> Result<(), Memory>
-        ensures grows { (a b r : ℕ) → is_listed self.old a b r ≡ true → is_listed self.new a b r ≡ true }
-        ensures listed { OnOk result ((a b r : ℕ) → is_gathered keys.now a b r ≡ true → is_listed self.new a b r ≡ true) }
+        ensures grows { (a b r : ℕ) → is_listed self.old a b r ≡ true
+            → is_listed self.new a b r ≡ true }
+        ensures listed { OnOk result ((a b r : ℕ) → is_gathered keys.now a b r ≡ true
+            → is_listed self.new a b r ≡ true) }
     {
         insert_all(&mut self.pairs, &keys.pairs)?;
         insert_all(&mut self.seconds, &keys.seconds)
@@ -57,7 +60,8 @@ impl PairIndex {
 
     /// The least code point at or above `from` that is listed under a pair; `None` if there is none.
     pub fn next_of_pair(&self, s: Point, y: Point, from: u32) -> Option<Point>
-        ensures { MatchOption result (NoneFrom (λ k. has self.now.pairs (pair_key s y + k)) from 1114112)
+        ensures { MatchOption result
+            (NoneFrom (λ k. has self.now.pairs (pair_key s y + k)) from 1114112)
             (λ q. (from ≤ q) × NoneFrom (λ k. has self.now.pairs (pair_key s y + k)) from q) }
     {
         next_listed(&self.pairs, pair_key(s, y), from)
@@ -65,7 +69,8 @@ impl PairIndex {
 
     /// The same for a second member.
     pub fn next_of_second(&self, y: Point, from: u32) -> Option<Point>
-        ensures { MatchOption result (NoneFrom (λ k. has self.now.seconds (second_key y + k)) from 1114112)
+        ensures { MatchOption result
+            (NoneFrom (λ k. has self.now.seconds (second_key y + k)) from 1114112)
             (λ q. (from ≤ q) × NoneFrom (λ k. has self.now.seconds (second_key y + k)) from q) }
     {
         next_listed(&self.seconds, second_key(y), from)
@@ -73,8 +78,10 @@ impl PairIndex {
 
     /// The least key at or above `from` of a pair that has `s` as its first member; `None` if there is none.
     pub fn next_of_first(&self, s: Point, from: u64) -> Option<u64>
-        ensures { MatchOption result (NoneFrom (λ k. has self.now.pairs k) from (first_key s + 4398046511104))
-            (λ key. (from ≤ key) × (key < first_key s + 4398046511104) × NoneFrom (λ k. has self.now.pairs k) from key) }
+        ensures { MatchOption result
+            (NoneFrom (λ k. has self.now.pairs k) from (first_key s + 4398046511104))
+            (λ key. (from ≤ key) × (key < first_key s + 4398046511104)
+            × NoneFrom (λ k. has self.now.pairs k) from key) }
     {
         let key = next_key(&self.pairs, from)?;
         if key < first_key(s) + 4_398_046_511_104 {
@@ -146,8 +153,10 @@ fn next_key(keys: &KeySet, start: u64) -> Option<u64>
 
 /// The least second member at or above a code point; `None` if there is none.
 pub fn next_second(keys: &KeySet, c: Point) -> Option<u64>
-    ensures { MatchOption result ((y k : ℕ) → c ≤ y → k < 1114112 → has keys.now (second_key y + k) ≡ false)
-        (λ next. (c ≤ next) × ((y k : ℕ) → c ≤ y → y < next → k < 1114112 → has keys.now (second_key y + k) ≡ false)) }
+    ensures { MatchOption result ((y k : ℕ) → c ≤ y → k < 1114112
+        → has keys.now (second_key y + k) ≡ false)
+        (λ next. (c ≤ next) × ((y k : ℕ) → c ≤ y → y < next → k < 1114112
+        → has keys.now (second_key y + k) ≡ false)) }
 {
     let key = next_key(keys, second_key(c))?;
     Some(key / 2_097_152)

@@ -39,7 +39,8 @@ impl PairKeys {
     ///
     /// - `Memory`: memory ran out.
     pub fn put(&mut self, s: Point, y: Point, q: Point) -> Result<(), Memory>
-        ensures grows { (a b r : ℕ) → is_gathered self.old a b r ≡ true → is_gathered self.new a b r ≡ true }
+        ensures grows { (a b r : ℕ) → is_gathered self.old a b r ≡ true
+            → is_gathered self.new a b r ≡ true }
         ensures gathered { OnOk result (is_gathered self.new s y q ≡ true) }
     {
         let own = u64::from(q.number());
@@ -51,8 +52,10 @@ impl PairKeys {
     ///
     /// - `Memory`: memory ran out.
     pub fn put_span(&mut self, s: Point, y: Point, span: Span) -> Result<(), Memory>
-        ensures grows { (a b r : ℕ) → is_gathered self.old a b r ≡ true → is_gathered self.new a b r ≡ true }
-        ensures gathered { OnOk result ((q : ℕ) → span.lo ≤ q → q ≤ span.hi → is_gathered self.new s y q ≡ true) }
+        ensures grows { (a b r : ℕ) → is_gathered self.old a b r ≡ true
+            → is_gathered self.new a b r ≡ true }
+        ensures gathered { OnOk result ((q : ℕ) → span.lo ≤ q → q ≤ span.hi
+            → is_gathered self.new s y q ≡ true) }
     {
         'points: for number in span.first()..span.last() + 1 {
             self.put(s, y, point(number))?;

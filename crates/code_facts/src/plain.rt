@@ -28,7 +28,8 @@ impl<T: Stretches<u64>> FactTables<T> {
     /// sections 5.6 and 5.7. It reaches as far as nothing is kept of mappings.
     pub fn last_plain(&self, c: Point) -> Option<Point>
         ensures plain { IsSome result ↔ IsPlain c (tables_facts T.now self.now c) }
-        ensures stretch { IfSome result (HoldsTo (λ d. IsPlain d (tables_facts T.now self.now d)) c) }
+        ensures stretch { IfSome result
+            (HoldsTo (λ d. IsPlain d (tables_facts T.now self.now d)) c) }
     {
         let _first = c.number();
         let rest = self.rests.get(c);
@@ -46,7 +47,8 @@ impl<T: Stretches<u64>> FactTables<T> {
     /// The code point, if it has no mapping.
     fn plain(&self, c: Point) -> Option<Point>
         ensures plain { IsSome result ↔ IsPlain c (tables_facts T.now self.now c) }
-        ensures stretch { IfSome result (HoldsTo (λ d. IsPlain d (tables_facts T.now self.now d)) c) }
+        ensures stretch { IfSome result
+            (HoldsTo (λ d. IsPlain d (tables_facts T.now self.now d)) c) }
     {
         if is_plain(c, &self.facts(c)) {
             Some(c)

@@ -42,8 +42,11 @@ impl<T: Table<u64>> FactTables<T> {
     ///
     /// - `Memory`: memory ran out.
     pub fn of(alloc: Global, release: &Release) -> Result<FactTables<T>, Memory>
-        ensures now { IfOk result (λ tables. ⟦<FactTables<T> as FactView>⟧.facts_of tables ≡ facts (rows_now release.now)) }
-        ensures next { IfOk result (λ tables. tables_next T.now tables ≡ facts (rows_now release.now)) }
+        ensures now { IfOk result
+            (λ tables. ⟦<FactTables<T> as FactView>⟧.facts_of tables
+            ≡ facts (rows_now release.now)) }
+        ensures next { IfOk result
+            (λ tables. tables_next T.now tables ≡ facts (rows_now release.now)) }
     {
         let made = tables_of(alloc, release)?;
         let tables = FactTables::filled(alloc, &made)?;
@@ -53,8 +56,10 @@ impl<T: Table<u64>> FactTables<T> {
     /// The facts of all code points in tables of rows; next they are the same.
     fn filled(alloc: Global, made: &RowTables) -> Result<FactTables<T>, Memory>
         requires words { Packs (word_in made.now) (made_facts made.now) }
-        ensures now { IfOk result (λ tables. (c : ℕ) → c < 1114112 → tables_facts T.now tables c ≡ made_facts made.now c) }
-        ensures next { IfOk result (λ tables. (c : ℕ) → c < 1114112 → tables_next T.now tables c ≡ made_facts made.now c) }
+        ensures now { IfOk result (λ tables. (c : ℕ) → c < 1114112
+            → tables_facts T.now tables c ≡ made_facts made.now c) }
+        ensures next { IfOk result (λ tables. (c : ℕ) → c < 1114112
+            → tables_next T.now tables c ≡ made_facts made.now c) }
     {
         let mut words = T::filled(alloc, NO_ROW)?;
         let mut rests = Kept::filled(alloc, Rest::none())?;
@@ -96,7 +101,8 @@ impl<T: Table<u64>> FactTables<T> {
         requires words { Packs (word_in made.now) (made_facts made.now) }
         ensures now { tables_facts T.now self.new ≡ tables_facts T.now self.old }
         ensures ok { OnOk result ((c : ℕ) → c < 1114112
-            → tables_next T.now self.new c ≡ with_spans (tables_next T.now self.old) spans.now (made_facts made.now) c) }
+            → tables_next T.now self.new c
+            ≡ with_spans (tables_next T.now self.old) spans.now (made_facts made.now) c) }
         ensures err { OnErr result (tables_next T.now self.new ≡ tables_next T.now self.old) }
     {
         let touched = Spans::of(alloc, spans)?;
@@ -142,8 +148,10 @@ impl<T: Table<u64>> FactTables<T> {
     /// place of its category, 256 times its class, 65,536 times the place of its kind, and 2 to the power of 24 and the
     /// place of each of its flags.
     pub fn packed(&self) -> &T
-        ensures now { (c : ℕ) → c < 1114112 → T.now result.now c ≡ packed (tables_facts T.now self.now c) }
-        ensures next { (c : ℕ) → c < 1114112 → T.next result.now c ≡ packed (tables_next T.now self.now c) }
+        ensures now { (c : ℕ) → c < 1114112
+            → T.now result.now c ≡ packed (tables_facts T.now self.now c) }
+        ensures next { (c : ℕ) → c < 1114112
+            → T.next result.now c ≡ packed (tables_next T.now self.now c) }
     {
         &self.words
     }
@@ -159,7 +167,8 @@ impl<T: Table<u64>> FactTables<T> {
 ///
 /// - `Memory`: memory ran out.
 fn tables_of(alloc: Global, release: &Release) -> Result<RowTables, Memory>
-    ensures { IfOk result (λ made. (c : ℕ) → c < 1114112 → ShowsRows made (rows_now release.now) c) }
+    ensures { IfOk result (λ made. (c : ℕ) → c < 1114112
+        → ShowsRows made (rows_now release.now) c) }
 {
     let rows = RowLists::of(alloc, release)?;
     let made = RowTables::of(alloc, &rows)?;
@@ -170,7 +179,8 @@ fn tables_of(alloc: Global, release: &Release) -> Result<RowTables, Memory>
 ///
 /// - `Memory`: memory ran out.
 fn touching_tables(alloc: Global, release: &Release, spans: &[Span]) -> Result<RowTables, Memory>
-    ensures { IfOk result (λ made. (c : ℕ) → c < 1114112 → ShowsRows made (rows_within (meets spans.now) (rows_next release.now)) c) }
+    ensures { IfOk result (λ made. (c : ℕ) → c < 1114112
+        → ShowsRows made (rows_within (meets spans.now) (rows_next release.now)) c) }
 {
     let rows = RowLists::touching(alloc, release, spans)?;
     let made = RowTables::of(alloc, &rows)?;
@@ -191,7 +201,8 @@ fn fill<T: Table<u64>, S: Store<Rest>>(
     ensures words_next { OnOk result (SameValues (T.next words.new) (word_in from.now)) }
     ensures rests_now { OnOk result (SameValues (S.now rests.new) (rest_in from.now)) }
     ensures rests_next { OnOk result (SameValues (S.next rests.new) (rest_in from.now)) }
-    ensures listed { IfOk result (λ index. (q : ℕ) → q < 1114112 → IsListed (is_listed index) from.now q) }
+    ensures listed { IfOk result (λ index. (q : ℕ) → q < 1114112
+        → IsListed (is_listed index) from.now q) }
 {
     make_room(words, rests, from);
     let mut keys = PairKeys::new(alloc);

@@ -23,9 +23,12 @@ use ucd_facts::{Memory, Point, Query, Span, same_facts};
 impl<T: Stretches<u64>> FactTables<T> {
     /// What the points of spans give.
     pub(crate) fn reached(&self, alloc: Global, spans: &[Span]) -> Result<Reached, Memory>
-        ensures queries { IfOk result (λ reached. IsOnlyChanged (tables_facts T.now self.now) (tables_next T.now self.now) reached.queries.items) }
+        ensures queries { IfOk result
+            (λ reached. IsOnlyChanged (tables_facts T.now self.now)
+            (tables_next T.now self.now) reached.queries.items) }
         ensures done { IfOk result (λ reached. (c : ℕ) → list_any (within c) spans.now ≡ true
-            → IsDone self.now.index (tables_facts T.now self.now) (tables_next T.now self.now) reached c) }
+            → IsDone self.now.index (tables_facts T.now self.now)
+            (tables_next T.now self.now) reached c) }
     {
         let mut reached = Reached {
             queries: Vec::new(alloc),
@@ -39,10 +42,13 @@ impl<T: Stretches<u64>> FactTables<T> {
 
     /// Adds what the points of a span give, stretch by stretch.
     fn reach_span(&self, reached: &mut Reached, span: Span) -> Result<(), Memory>
-        ensures queries { OnOk result (Gathers (tables_facts T.now self.now) (tables_next T.now self.now) reached.old.queries.items reached.new.queries.items) }
+        ensures queries { OnOk result
+            (Gathers (tables_facts T.now self.now)
+            (tables_next T.now self.now) reached.old.queries.items reached.new.queries.items) }
         ensures pairs { OnOk result (Grows reached.old.pairs.items reached.new.pairs.items) }
         ensures done { OnOk result ((c : ℕ) → span.lo ≤ c → c ≤ span.hi
-            → IsDone self.now.index (tables_facts T.now self.now) (tables_next T.now self.now) reached.new c) }
+            → IsDone self.now.index (tables_facts T.now self.now)
+            (tables_next T.now self.now) reached.new c) }
     {
         let end = span.last();
         let mut at = span.first();
@@ -55,9 +61,13 @@ impl<T: Stretches<u64>> FactTables<T> {
 
     /// Adds what a code point gives, unless its facts stay. The answer is the last code point up to which all are done.
     fn reach_from(&self, reached: &mut Reached, c: Point) -> Result<Point, Memory>
-        ensures queries { OnOk result (Gathers (tables_facts T.now self.now) (tables_next T.now self.now) reached.old.queries.items reached.new.queries.items) }
+        ensures queries { OnOk result
+            (Gathers (tables_facts T.now self.now)
+            (tables_next T.now self.now) reached.old.queries.items reached.new.queries.items) }
         ensures pairs { OnOk result (Grows reached.old.pairs.items reached.new.pairs.items) }
-        ensures done { IfOk result (HoldsTo (λ d. IsDone self.now.index (tables_facts T.now self.now) (tables_next T.now self.now) reached.new d) c) }
+        ensures done { IfOk result
+            (HoldsTo (λ d. IsDone self.now.index (tables_facts T.now self.now)
+            (tables_next T.now self.now) reached.new d) c) }
     {
         if let Some(last) = self.last_same(c) {
             return Ok(last);
@@ -69,7 +79,8 @@ impl<T: Stretches<u64>> FactTables<T> {
     /// A code point up to which the facts of all from `c` on are the same now and next; `None` if what is kept of `c` is
     /// not. It is found by a few look-ups, and need not be the last such code point.
     fn last_same(&self, c: Point) -> Option<Point>
-        ensures { IfSome result (HoldsTo (λ d. tables_facts T.now self.now d ≡ tables_next T.now self.now d) c) }
+        ensures { IfSome result (HoldsTo
+            (λ d. tables_facts T.now self.now d ≡ tables_next T.now self.now d) c) }
     {
         let words = self.last_same_word(c)?;
         let rests = self.last_same_rest(c)?;
@@ -80,7 +91,8 @@ impl<T: Stretches<u64>> FactTables<T> {
 
     /// The same for the words.
     fn last_same_word(&self, c: Point) -> Option<Point>
-        ensures { IfSome result (HoldsTo (λ d. words_at Version.Now self.now d ≡ words_at Version.Next self.now d) c) }
+        ensures { IfSome result (HoldsTo
+            (λ d. words_at Version.Now self.now d ≡ words_at Version.Next self.now d) c) }
     {
         let word = self.word(Version::Now, c);
         let word_next = self.word(Version::Next, c);
@@ -94,7 +106,8 @@ impl<T: Stretches<u64>> FactTables<T> {
 
     /// The same for what is kept beside the words.
     fn last_same_rest(&self, c: Point) -> Option<Point>
-        ensures { IfSome result (HoldsTo (λ d. rests_at Version.Now self.now d ≡ rests_at Version.Next self.now d) c) }
+        ensures { IfSome result (HoldsTo
+            (λ d. rests_at Version.Now self.now d ≡ rests_at Version.Next self.now d) c) }
     {
         let rest = self.rest(Version::Now, c);
         let rest_next = self.rest(Version::Next, c);
@@ -111,9 +124,13 @@ impl<T: Table<u64>> FactTables<T> {
     /// Adds what a code point gives: the question on its facts, the pairs that it composes, and, if its class was or
     /// becomes 0, those that it begins.
     fn reach(&self, reached: &mut Reached, c: Point) -> Result<(), Memory>
-        ensures queries { OnOk result (Gathers (tables_facts T.now self.now) (tables_next T.now self.now) reached.old.queries.items reached.new.queries.items) }
+        ensures queries { OnOk result
+            (Gathers (tables_facts T.now self.now)
+            (tables_next T.now self.now) reached.old.queries.items reached.new.queries.items) }
         ensures pairs { OnOk result (Grows reached.old.pairs.items reached.new.pairs.items) }
-        ensures seen { OnOk result (IsSeen self.now.index (tables_facts T.now self.now) (tables_next T.now self.now) reached.new c) }
+        ensures seen { OnOk result
+            (IsSeen self.now.index (tables_facts T.now self.now)
+            (tables_next T.now self.now) reached.new c) }
     {
         self.put_row(&mut reached.queries, c)?;
         self.put_own(&mut reached.pairs, c)?;
@@ -122,8 +139,12 @@ impl<T: Table<u64>> FactTables<T> {
 
     /// Adds the question on the facts of a code point, if they differ.
     fn put_row(&self, queries: &mut Vec<Query>, c: Point) -> Result<(), Memory>
-        ensures gathers { OnOk result (Gathers (tables_facts T.now self.now) (tables_next T.now self.now) queries.old.items queries.new.items) }
-        ensures told { OnOk result (IsTold (tables_facts T.now self.now) (tables_next T.now self.now) queries.new.items (Query.Row c)) }
+        ensures gathers { OnOk result
+            (Gathers (tables_facts T.now self.now)
+            (tables_next T.now self.now) queries.old.items queries.new.items) }
+        ensures told { OnOk result
+            (IsTold (tables_facts T.now self.now) (tables_next T.now self.now) queries.new.items
+            (Query.Row c)) }
     {
         let same = self.has_same_facts(c);
         put_unless(queries, Query::Row(c), same)
@@ -141,7 +162,9 @@ impl<T: Table<u64>> FactTables<T> {
     /// Adds the pairs that a code point composes, now and next.
     fn put_own(&self, pairs: &mut Vec<(Point, Point)>, q: Point) -> Result<(), Memory>
         ensures grows { OnOk result (Grows pairs.old.items pairs.new.items) }
-        ensures own { OnOk result (ReachesOwn (tables_facts T.now self.now) (tables_next T.now self.now) pairs.new.items q) }
+        ensures own { OnOk result
+            (ReachesOwn (tables_facts T.now self.now)
+            (tables_next T.now self.now) pairs.new.items q) }
     {
         self.put_members(pairs, Version::Now, q)?;
         self.put_members(pairs, Version::Next, q)
@@ -155,7 +178,8 @@ impl<T: Table<u64>> FactTables<T> {
         q: Point,
     ) -> Result<(), Memory>
         ensures grows { OnOk result (Grows pairs.old.items pairs.new.items) }
-        ensures own { OnOk result ((s y : ℕ) → composes (facts_at version self.now) s y q ≡ true → is_reached pairs.new.items s y ≡ true) }
+        ensures own { OnOk result ((s y : ℕ) → composes (facts_at version self.now) s y q ≡ true
+            → is_reached pairs.new.items s y ≡ true) }
     {
         if let Some(pair) = self.members(version, q) {
             pairs.push(pair)?;
@@ -166,9 +190,11 @@ impl<T: Table<u64>> FactTables<T> {
     /// Adds the pairs that a code point begins, if it has class 0 either now or next, but not both times.
     fn put_first(&self, pairs: &mut Vec<(Point, Point)>, s: Point) -> Result<(), Memory>
         ensures grows { OnOk result (Grows pairs.old.items pairs.new.items) }
-        ensures first { OnOk result (first_differs (tables_facts T.now self.now) (tables_next T.now self.now) s ≡ true
+        ensures first { OnOk result
+            (first_differs (tables_facts T.now self.now) (tables_next T.now self.now) s ≡ true
             → (y q : ℕ) → is_listed self.now.index s y q ≡ true
-            → ReachesOwn (tables_facts T.now self.now) (tables_next T.now self.now) pairs.new.items q) }
+            → ReachesOwn (tables_facts T.now self.now)
+            (tables_next T.now self.now) pairs.new.items q) }
     {
         let now = self.class_in(Version::Now, s) == 0;
         let next = self.class_in(Version::Next, s) == 0;
@@ -182,7 +208,8 @@ impl<T: Table<u64>> FactTables<T> {
     fn put_listed(&self, pairs: &mut Vec<(Point, Point)>, s: Point) -> Result<(), Memory>
         ensures grows { OnOk result (Grows pairs.old.items pairs.new.items) }
         ensures listed { OnOk result ((y q : ℕ) → is_listed self.now.index s y q ≡ true
-            → ReachesOwn (tables_facts T.now self.now) (tables_next T.now self.now) pairs.new.items q) }
+            → ReachesOwn (tables_facts T.now self.now)
+            (tables_next T.now self.now) pairs.new.items q) }
     {
         let mut from = first_key(s);
         'listed: while let Some(key) = self.index.next_of_first(s, from) {
@@ -195,7 +222,9 @@ impl<T: Table<u64>> FactTables<T> {
     /// Adds the pairs that the code point of a key composes, now and next.
     fn put_key(&self, pairs: &mut Vec<(Point, Point)>, key: u64) -> Result<(), Memory>
         ensures grows { OnOk result (Grows pairs.old.items pairs.new.items) }
-        ensures own { OnOk result (ReachesOwn (tables_facts T.now self.now) (tables_next T.now self.now) pairs.new.items (key % 2097152)) }
+        ensures own { OnOk result
+            (ReachesOwn (tables_facts T.now self.now)
+            (tables_next T.now self.now) pairs.new.items (key % 2097152)) }
     {
         match listed_point(key) {
             Some(q) => self.put_own(pairs, q),
@@ -206,7 +235,8 @@ impl<T: Table<u64>> FactTables<T> {
 
 /// Adds a question, unless it is answered alike.
 pub fn put_unless(queries: &mut Vec<Query>, query: Query, same: bool) -> Result<(), Memory>
-    ensures { OnOk result (queries.new.items ≡ (if same then queries.old.items else queries.old.items ++ query ∷ [])) }
+    ensures { OnOk result (queries.new.items
+        ≡ (if same then queries.old.items else queries.old.items ++ query ∷ [])) }
 {
     if !same {
         queries.push(query)?;

@@ -59,7 +59,8 @@ impl<'a> RowLists<'a> {
         release: &'a Release,
         spans: &[Span],
     ) -> Result<RowLists<'a>, Memory>
-        ensures rows { IfOk result (λ lists. AreRowsOf lists (rows_within (meets spans.now) (rows_next release.now))) }
+        ensures rows { IfOk result
+            (λ lists. AreRowsOf lists (rows_within (meets spans.now) (rows_next release.now))) }
         ensures apart { IfOk result (λ lists. Apart lists.unicode_data.items) }
         ensures word_breaks_apart { IfOk result (λ lists. AreValuesApart lists.word_break.items) }
     {
@@ -108,7 +109,8 @@ fn data_rows_in<'a>(
     release: &'a Release,
     spans: &[Span],
 ) -> Result<Vec<RowText<'a>>, Memory>
-    ensures rows { IfOk result (λ rows. rows.items ≡ filter (meets spans.now) (rows_next release.now UnicodeData)) }
+    ensures rows { IfOk result (λ rows. rows.items
+        ≡ filter (meets spans.now) (rows_next release.now UnicodeData)) }
     ensures apart { IfOk result (λ rows. Apart rows.items) }
 {
     let _rows = release.next_rows(SourceFile::UnicodeData);
@@ -135,7 +137,8 @@ fn word_breaks_in<'a>(
     release: &'a Release,
     spans: &[Span],
 ) -> Result<Vec<RowText<'a>>, Memory>
-    ensures rows { IfOk result (λ rows. rows.items ≡ filter (meets spans.now) (rows_next release.now WordBreakProperty)) }
+    ensures rows { IfOk result (λ rows. rows.items
+        ≡ filter (meets spans.now) (rows_next release.now WordBreakProperty)) }
     ensures apart { IfOk result (λ rows. AreValuesApart rows.items) }
 {
     let _rows = release.next_rows(SourceFile::WordBreakProperty);

@@ -46,7 +46,8 @@ impl RowTables {
     pub fn of(alloc: Global, rows: &RowLists<'_>) -> Result<RowTables, Memory>
         requires apart { Apart rows.now.unicode_data.items }
         requires word_breaks_apart { AreValuesApart rows.now.word_break.items }
-        ensures { IfOk result (λ made. (c : ℕ) → c < 1114112 → ShowsRows made (sources_of rows.now) c) }
+        ensures { IfOk result (λ made. (c : ℕ) → c < 1114112
+            → ShowsRows made (sources_of rows.now) c) }
     {
         let data_tables = DataTables::of(alloc, rows)?;
         let marked = marks(alloc, rows)?;
@@ -62,10 +63,14 @@ impl RowTables {
         lists: Box<DataLists>,
         marked: &RunTable<u64>,
     ) -> Result<RowTables, Memory>
-        requires gives { (c : ℕ) → c < 1114112 → data_now (record { words = data_words.now; lists = lists }) c ≡ row_data c (data_row (sources_of rows.now UnicodeData) c) }
+        requires gives { (c : ℕ) → c < 1114112
+            → data_now (record { words = data_words.now; lists = lists }) c
+            ≡ row_data c (data_row (sources_of rows.now UnicodeData) c) }
         requires class { (c : ℕ) → class_in (data_row (sources_of rows.now UnicodeData) c) < 256 }
-        requires marks { (c : ℕ) → c < 1114112 → values_now marked.now c ≡ marks_at (sources_of rows.now) c }
-        ensures { IfOk result (λ made. (c : ℕ) → c < 1114112 → ShowsRows made (sources_of rows.now) c) }
+        requires marks { (c : ℕ) → c < 1114112
+            → values_now marked.now c ≡ marks_at (sources_of rows.now) c }
+        ensures { IfOk result (λ made. (c : ℕ) → c < 1114112
+            → ShowsRows made (sources_of rows.now) c) }
     {
         let cases = Box::new(alloc, CaseImages::of(alloc, rows)?)?;
         let words = summed(alloc, data_words, marked)?;
@@ -89,7 +94,8 @@ impl RowTables {
     ) -> Result<Option<Rest>, Memory>
         requires bare { AreBare self.now c bare }
         requires mapping { mapping.now ≡ (rest_in self.now c).mapping }
-        ensures { IfOk result (λ rest. MatchOption rest (rest_in self.now c ≡ no_rest) (λ kept. kept ≡ rest_in self.now c)) }
+        ensures { IfOk result (λ rest. MatchOption rest (rest_in self.now c ≡ no_rest)
+            (λ kept. kept ≡ rest_in self.now c)) }
     {
         if c.number() < bare {
             return bare_rest(alloc, mapping);
@@ -109,7 +115,8 @@ impl RowTables {
     pub fn last_rest(&self, c: Point, bare: u32, mapping: Point) -> Point
         requires bare { AreBare self.now c bare }
         requires bound { bare ≤ 1114112 }
-        requires mapping { HoldsTo (λ d. (rest_in self.now d).mapping ≡ (rest_in self.now c).mapping) c mapping }
+        requires mapping { HoldsTo
+            (λ d. (rest_in self.now d).mapping ≡ (rest_in self.now c).mapping) c mapping }
         ensures { HoldsTo (λ d. rest_in self.now d ≡ rest_in self.now c) c result }
     {
         if c.number() < bare {
@@ -131,10 +138,15 @@ impl RowTables {
 
     /// A code point up to which the mappings that rows of UnicodeData.txt give are the same from `c` on.
     pub fn last_listed(&self, c: Point) -> Point
-        ensures mapping { HoldsTo (λ d. lists_now self.now.lists.value.mappings d ≡ lists_now self.now.lists.value.mappings c) c result }
-        ensures upper { HoldsTo (λ d. lists_now self.now.lists.value.uppers d ≡ lists_now self.now.lists.value.uppers c) c result }
-        ensures lower { HoldsTo (λ d. lists_now self.now.lists.value.lowers d ≡ lists_now self.now.lists.value.lowers c) c result }
-        ensures title { HoldsTo (λ d. lists_now self.now.lists.value.titles d ≡ lists_now self.now.lists.value.titles c) c result }
+        ensures mapping { HoldsTo
+            (λ d. lists_now self.now.lists.value.mappings d
+            ≡ lists_now self.now.lists.value.mappings c) c result }
+        ensures upper { HoldsTo (λ d. lists_now self.now.lists.value.uppers d
+            ≡ lists_now self.now.lists.value.uppers c) c result }
+        ensures lower { HoldsTo (λ d. lists_now self.now.lists.value.lowers d
+            ≡ lists_now self.now.lists.value.lowers c) c result }
+        ensures title { HoldsTo (λ d. lists_now self.now.lists.value.titles d
+            ≡ lists_now self.now.lists.value.titles c) c result }
     {
         let mapping = self.lists.mappings.last_of_run(c);
         lesser(mapping, self.last_simple(c))
@@ -142,9 +154,12 @@ impl RowTables {
 
     /// A code point up to which simple mappings are the same from `c` on.
     fn last_simple(&self, c: Point) -> Point
-        ensures upper { HoldsTo (λ d. lists_now self.now.lists.value.uppers d ≡ lists_now self.now.lists.value.uppers c) c result }
-        ensures lower { HoldsTo (λ d. lists_now self.now.lists.value.lowers d ≡ lists_now self.now.lists.value.lowers c) c result }
-        ensures title { HoldsTo (λ d. lists_now self.now.lists.value.titles d ≡ lists_now self.now.lists.value.titles c) c result }
+        ensures upper { HoldsTo (λ d. lists_now self.now.lists.value.uppers d
+            ≡ lists_now self.now.lists.value.uppers c) c result }
+        ensures lower { HoldsTo (λ d. lists_now self.now.lists.value.lowers d
+            ≡ lists_now self.now.lists.value.lowers c) c result }
+        ensures title { HoldsTo (λ d. lists_now self.now.lists.value.titles d
+            ≡ lists_now self.now.lists.value.titles c) c result }
     {
         let upper = self.lists.uppers.last_of_run(c);
         let lower = self.lists.lowers.last_of_run(c);
@@ -179,7 +194,8 @@ impl RowTables {
 ///
 /// - `Memory`: memory ran out.
 fn bare_rest(alloc: Global, mapping: &[Point]) -> Result<Option<Rest>, Memory>
-    ensures { IfOk result (λ rest. MatchOption rest (bare_with mapping.now ≡ no_rest) (λ kept. kept ≡ bare_with mapping.now)) }
+    ensures { IfOk result (λ rest. MatchOption rest (bare_with mapping.now ≡ no_rest)
+        (λ kept. kept ≡ bare_with mapping.now)) }
 {
     if mapping.is_empty() {
         return Ok(None);

@@ -13,8 +13,10 @@ impl<T: Table<u64> + Copied> FactTables<T> {
     ///
     /// - `Memory`: memory ran out.
     pub fn copied(&self, alloc: Global) -> Result<FactTables<T>, Memory>
-        ensures now { IfOk result (λ tables. tables_facts T.now tables ≡ tables_facts T.now self.now) }
-        ensures next { IfOk result (λ tables. tables_next T.now tables ≡ tables_next T.now self.now) }
+        ensures now { IfOk result
+            (λ tables. tables_facts T.now tables ≡ tables_facts T.now self.now) }
+        ensures next { IfOk result
+            (λ tables. tables_next T.now tables ≡ tables_next T.now self.now) }
     {
         let touched = Spans::of(alloc, self.touched.as_slice())?;
         let words = self.words.copied(alloc)?;

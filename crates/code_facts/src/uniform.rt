@@ -33,7 +33,8 @@ impl<T: Stretches<u64>> FactTables<T> {
 
     /// A code point up to which the facts of all from `c` on differ from those of `c` in mappings and images alone.
     fn last_alike(&self, c: Point) -> Point
-        ensures { HoldsTo (λ d. Alike (tables_facts T.now self.now d) (tables_facts T.now self.now c)) c result }
+        ensures { HoldsTo (λ d. Alike (tables_facts T.now self.now d)
+            (tables_facts T.now self.now c)) c result }
     {
         let last = self.words.last_of_stretch(c);
         let _first = c.number();
@@ -44,7 +45,8 @@ impl<T: Stretches<u64>> FactTables<T> {
     /// A code point up to which all from `c` on are second members alike: `c` itself if one is listed under it, or else
     /// the last before the next one.
     fn last_seconds(&self, c: Point) -> Point
-        ensures { HoldsTo (λ d. second_of (tables_facts T.now self.now) d ≡ second_of (tables_facts T.now self.now) c) c result }
+        ensures { HoldsTo (λ d. second_of (tables_facts T.now self.now) d
+            ≡ second_of (tables_facts T.now self.now) c) c result }
     {
         let first = u64::from(c.number());
         let Some(next) = next_second(&self.index.seconds, c) else {

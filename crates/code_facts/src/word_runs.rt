@@ -44,7 +44,8 @@ impl WordRuns {
     ///
     /// - `Memory`: memory ran out. Nothing is then known of the words.
     pub fn put(&mut self, span: Span, word: u64) -> Result<(), Memory>
-        ensures { OnOk result (SameValues (words_next self.new) (with_span (words_next self.old) span.lo span.hi word)) }
+        ensures { OnOk result (SameValues (words_next self.new)
+            (with_span (words_next self.old) span.lo span.hi word)) }
     {
         let given = WordSpan { span, word };
         match joined(&self.last, &given) {
@@ -72,7 +73,8 @@ impl WordRuns {
 
 /// Puts the last span, if there is one, into the table.
 fn put_last(table: &mut RunTable<u64>, last: &Option<WordSpan>) -> Result<(), Memory>
-    ensures { OnOk result (SameValues (values_next table.new) (over_last (values_next table.old) last.now)) }
+    ensures { OnOk result (SameValues (values_next table.new)
+        (over_last (values_next table.old) last.now)) }
 {
     match last {
         Some(last) => table.prepare(last.span, last.word),

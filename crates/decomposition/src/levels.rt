@@ -40,7 +40,8 @@ fn members_of<W: FactView>(
     compat: bool,
     points: &[Point],
 ) -> Result<Vec<Point>, Memory>
-    ensures { IfOk result (λ members. (p : ℕ → Bool) → list_any p members.items ≡ any_member (W.facts_of view.now) compat p points.now) }
+    ensures { IfOk result (λ members. (p : ℕ → Bool)
+        → list_any p members.items ≡ any_member (W.facts_of view.now) compat p points.now) }
 {
     let mut members = Vec::new(alloc);
     'points: for c in points {

@@ -26,8 +26,10 @@ const SECOND: u64 = 0x11_0001;
 ///
 /// - `Memory`: memory ran out. Nothing that was listed is lost; the code point may be listed under some of them.
 pub fn list(keys: &mut KeySet, c: Point, asked: &Queries) -> Result<(), Memory>
-    ensures grows { (q : Question) (k : ℕ) → may_ask (has keys.old) q k ≡ true → may_ask (has keys.new) q k ≡ true }
-    ensures listed { OnOk result ((q : Question) → is_asked asked.now q ≡ true → may_ask (has keys.new) q c ≡ true) }
+    ensures grows { (q : Question) (k : ℕ) → may_ask (has keys.old) q k ≡ true
+        → may_ask (has keys.new) q k ≡ true }
+    ensures listed { OnOk result ((q : Question) → is_asked asked.now q ≡ true
+        → may_ask (has keys.new) q c ≡ true) }
 {
     'queries: for query in asked.as_slice() {
         put_asker(keys, query, c)?;
@@ -39,7 +41,8 @@ pub fn list(keys: &mut KeySet, c: Point, asked: &Queries) -> Result<(), Memory>
 ///
 /// - `Memory`: memory ran out. Nothing that was listed is lost.
 fn put_asker(keys: &mut KeySet, query: &Query, c: Point) -> Result<(), Memory>
-    ensures grows { (q : Question) (k : ℕ) → may_ask (has keys.old) q k ≡ true → may_ask (has keys.new) q k ≡ true }
+    ensures grows { (q : Question) (k : ℕ) → may_ask (has keys.old) q k ≡ true
+        → may_ask (has keys.new) q k ≡ true }
     ensures listed { OnOk result (may_ask (has keys.new) query.now c ≡ true) }
 {
     if is_own(query, c) {
@@ -52,8 +55,10 @@ fn put_asker(keys: &mut KeySet, query: &Query, c: Point) -> Result<(), Memory>
 ///
 /// - `Memory`: memory ran out. The keys that were there stay, and some of those of the code point may stand behind them.
 pub fn push_keys(keys: &mut Vec<u64>, c: Point, asked: &Queries) -> Result<(), Memory>
-    ensures grows { (q : Question) (k : ℕ) → may_ask (is_in keys.old.items) q k ≡ true → may_ask (is_in keys.new.items) q k ≡ true }
-    ensures listed { OnOk result ((q : Question) → is_asked asked.now q ≡ true → may_ask (is_in keys.new.items) q c ≡ true) }
+    ensures grows { (q : Question) (k : ℕ) → may_ask (is_in keys.old.items) q k ≡ true
+        → may_ask (is_in keys.new.items) q k ≡ true }
+    ensures listed { OnOk result ((q : Question) → is_asked asked.now q ≡ true
+        → may_ask (is_in keys.new.items) q c ≡ true) }
 {
     'queries: for query in asked.as_slice() {
         if !is_own(query, c) {
@@ -106,7 +111,8 @@ fn query_key(query: &Query) -> u64
 
 /// The plain code point whose own question this is, if it is at or above `from`.
 fn own_point(query: &Query, from: u32) -> Option<Point>
-    ensures { MatchOption result (NoneFrom (is_own query.now) from 1114112) (λ c. (from ≤ c) × NoneFrom (is_own query.now) from c) }
+    ensures { MatchOption result (NoneFrom (is_own query.now) from 1114112)
+        (λ c. (from ≤ c) × NoneFrom (is_own query.now) from c) }
 {
     match *query {
         Query::Row(x) if x.number() >= from => Some(x),

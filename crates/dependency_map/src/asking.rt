@@ -28,7 +28,8 @@ impl<S: Store<Option<Queries>>> DependencyMap<S> {
     ///
     /// - `Memory`: memory ran out.
     pub fn collect(&self, alloc: Global, queries: &Queries) -> Result<Points, Memory>
-        ensures { IfOk result (λ points. points ≡ askers_of_any (asked_at S.now self.now) queries.now) }
+        ensures { IfOk result (λ points. points
+            ≡ askers_of_any (asked_at S.now self.now) queries.now) }
     {
         let mut numbers = Vec::new(alloc);
         'queries: for query in queries.as_slice() {
@@ -48,10 +49,14 @@ impl<S: Store<Option<Queries>>> DependencyMap<S> {
 
     /// The least code point at or above `from` that asks a question now.
     pub(crate) fn next_asker(&self, query: &Query, from: u32) -> Option<Point>
-        ensures next { MatchOption result (NoneFrom (asks (asked_at S.now self.now) query.now) from 1114112)
-            (λ c. (from ≤ c) × (asks (asked_at S.now self.now) query.now c ≡ true) × NoneFrom (asks (asked_at S.now self.now) query.now) from c) }
-        ensures left { MatchOption result (points_from (asks (asked_at S.now self.now) query.now) from ≡ [])
-            (λ c. points_from (asks (asked_at S.now self.now) query.now) from ≡ c ∷ points_from (asks (asked_at S.now self.now) query.now) (c + 1)) }
+        ensures next { MatchOption result
+            (NoneFrom (asks (asked_at S.now self.now) query.now) from 1114112)
+            (λ c. (from ≤ c) × (asks (asked_at S.now self.now) query.now c ≡ true)
+            × NoneFrom (asks (asked_at S.now self.now) query.now) from c) }
+        ensures left { MatchOption result
+            (points_from (asks (asked_at S.now self.now) query.now) from ≡ [])
+            (λ c. points_from (asks (asked_at S.now self.now) query.now) from ≡ c
+            ∷ points_from (asks (asked_at S.now self.now) query.now) (c + 1)) }
     {
         let mut start = from;
         'askers: while let Some(c) = next_listed(&self.askers, query, start) {
@@ -68,7 +73,8 @@ impl<S: Store<Option<Queries>>> DependencyMap<S> {
     /// - `Memory`: memory ran out.
     fn push_askers(&self, query: &Query, numbers: &mut Vec<u64>) -> Result<(), Memory>
         ensures { OnOk result ((k : ℕ) → k < 1114112
-            → is_in numbers.new.items k ≡ (is_in numbers.old.items k || asks (asked_at S.now self.now) query.now k)) }
+            → is_in numbers.new.items k
+            ≡ (is_in numbers.old.items k || asks (asked_at S.now self.now) query.now k)) }
     {
         let mut from = 0;
         'askers: while let Some(c) = self.next_asker(query, from) {

@@ -30,7 +30,8 @@ impl<S: Store<Option<Queries>>> Listing<S> {
     ///
     /// - `Memory`: memory ran out. What each code point has stays.
     pub fn put(&mut self, c: Point, asked: &Queries) -> Result<(), Memory>
-        ensures ok { OnOk result (SameValues (put_at S.next self.new) (with_span (put_at S.next self.old) c c asked.now)) }
+        ensures ok { OnOk result (SameValues (put_at S.next self.new)
+            (with_span (put_at S.next self.old) c c asked.now)) }
         ensures err { OnErr result (SameValues (put_at S.next self.new) (put_at S.next self.old)) }
     {
         let copy = Queries::of(self.alloc, asked.as_slice())?;

@@ -11,7 +11,8 @@ use ucd_facts::Point;
 pub fn next_point(numbers: &KeySet, base: u64, from: u32) -> Option<Point>
     requires { base < 2 ^ 63 }
     ensures { MatchOption result (NoneFrom (λ k. has numbers.now (base + k)) from 1114112)
-        (λ c. (from ≤ c) × (has numbers.now (base + c) ≡ true) × NoneFrom (λ k. has numbers.now (base + k)) from c) }
+        (λ c. (from ≤ c) × (has numbers.now (base + c) ≡ true)
+        × NoneFrom (λ k. has numbers.now (base + k)) from c) }
 {
     let start = base + u64::from(from);
     let number = numbers.next(start)?;

@@ -34,8 +34,10 @@ impl<S: Store<Option<Queries>>> DependencyMap<S> {
     /// - `Memory`: memory ran out. What is next stays too.
     pub fn prepare(&mut self, c: Point, asked: &Queries) -> Result<(), Memory>
         ensures now { SameValues (asked_at S.now self.new) (asked_at S.now self.old) }
-        ensures ok { OnOk result (SameValues (asked_at S.next self.new) (with_span (asked_at S.next self.old) c c asked.now)) }
-        ensures err { OnErr result (SameValues (asked_at S.next self.new) (asked_at S.next self.old)) }
+        ensures ok { OnOk result (SameValues (asked_at S.next self.new)
+            (with_span (asked_at S.next self.old) c c asked.now)) }
+        ensures err { OnErr result
+            (SameValues (asked_at S.next self.new) (asked_at S.next self.old)) }
     {
         if is_unlisted(&self.lists, c) && are_own(asked, c) {
             return Ok(());
@@ -97,7 +99,8 @@ pub fn put_list<S: Store<Option<Queries>>>(
     asked: Queries,
 ) -> Result<(), Memory>
     ensures now { SameValues (kept_at S.now lists.new) (kept_at S.now lists.old) }
-    ensures ok { OnOk result (SameValues (kept_at S.next lists.new) (with_span (kept_at S.next lists.old) c c (Some asked))) }
+    ensures ok { OnOk result (SameValues (kept_at S.next lists.new)
+        (with_span (kept_at S.next lists.old) c c (Some asked))) }
     ensures err { OnErr result (SameValues (kept_at S.next lists.new) (kept_at S.next lists.old)) }
 {
     let mut kept = match lists.take() {

@@ -28,8 +28,10 @@ pub fn keys_of<T: Stretches<u64>>(
     alloc: Global,
     lists: &Option<Kept<T, Option<Queries>>>,
 ) -> Result<Vec<u64>, Memory>
-    ensures now { IfOk result (λ keys. Lists (is_in keys.items) (kept_at (values T.now) lists.now)) }
-    ensures next { IfOk result (λ keys. Lists (is_in keys.items) (kept_at (values T.next) lists.now)) }
+    ensures now { IfOk result (λ keys. Lists (is_in keys.items)
+        (kept_at (values T.now) lists.now)) }
+    ensures next { IfOk result (λ keys. Lists (is_in keys.items)
+        (kept_at (values T.next) lists.now)) }
 {
     let mut keys = Vec::new(alloc);
     if let Some(lists) = lists {
@@ -66,9 +68,12 @@ fn push_run<T: Stretches<u64>>(
     c: Point,
 ) -> Result<u32, Memory>
     ensures from { IfOk result (λ end. c < end) }
-    ensures grows { (q : Question) (k : ℕ) → may_ask (is_in keys.old.items) q k ≡ true → may_ask (is_in keys.new.items) q k ≡ true }
-    ensures now { IfOk result (λ end. ListsFrom (is_in keys.new.items) (values T.now lists.now) c end) }
-    ensures next { IfOk result (λ end. ListsFrom (is_in keys.new.items) (values T.next lists.now) c end) }
+    ensures grows { (q : Question) (k : ℕ) → may_ask (is_in keys.old.items) q k ≡ true
+        → may_ask (is_in keys.new.items) q k ≡ true }
+    ensures now { IfOk result (λ end. ListsFrom (is_in keys.new.items)
+        (values T.now lists.now) c end) }
+    ensures next { IfOk result (λ end. ListsFrom (is_in keys.new.items)
+        (values T.next lists.now) c end) }
 {
     match plain_end(lists, c) {
         Some(end) => Ok(end),
@@ -83,8 +88,10 @@ fn push_run<T: Stretches<u64>>(
 /// this one.
 fn plain_end<T: Stretches<u64>>(lists: &Kept<T, Option<Queries>>, c: Point) -> Option<u32>
     ensures from { IfSome result (λ end. c < end) }
-    ensures now { IfSome result (λ end. (k : ℕ) → c ≤ k → k < end → values T.now lists.now k ≡ None) }
-    ensures next { IfSome result (λ end. (k : ℕ) → c ≤ k → k < end → values T.next lists.now k ≡ None) }
+    ensures now { IfSome result (λ end. (k : ℕ) → c ≤ k → k < end
+        → values T.now lists.now k ≡ None) }
+    ensures next { IfSome result (λ end. (k : ℕ) → c ≤ k → k < end
+        → values T.next lists.now k ≡ None) }
 {
     if lists.get(c).is_some() || lists.get_next(c).is_some() {
         return None;
@@ -100,9 +107,12 @@ fn push_asked<T: Stretches<u64>>(
     lists: &Kept<T, Option<Queries>>,
     c: Point,
 ) -> Result<(), Memory>
-    ensures grows { (q : Question) (k : ℕ) → may_ask (is_in keys.old.items) q k ≡ true → may_ask (is_in keys.new.items) q k ≡ true }
-    ensures now { OnOk result ((q : Question) → keeps (values T.now lists.now c) q ≡ true → may_ask (is_in keys.new.items) q c ≡ true) }
-    ensures next { OnOk result ((q : Question) → keeps (values T.next lists.now c) q ≡ true → may_ask (is_in keys.new.items) q c ≡ true) }
+    ensures grows { (q : Question) (k : ℕ) → may_ask (is_in keys.old.items) q k ≡ true
+        → may_ask (is_in keys.new.items) q k ≡ true }
+    ensures now { OnOk result ((q : Question) → keeps (values T.now lists.now c) q ≡ true
+        → may_ask (is_in keys.new.items) q c ≡ true) }
+    ensures next { OnOk result ((q : Question) → keeps (values T.next lists.now c) q ≡ true
+        → may_ask (is_in keys.new.items) q c ≡ true) }
 {
     push_list(keys, c, lists.get(c))?;
     if is_still(lists, c) {
@@ -113,8 +123,10 @@ fn push_asked<T: Stretches<u64>>(
 
 /// Puts the keys of a code point under the questions of its list behind others, if it has one.
 fn push_list(keys: &mut Vec<u64>, c: Point, list: &Option<Queries>) -> Result<(), Memory>
-    ensures grows { (q : Question) (k : ℕ) → may_ask (is_in keys.old.items) q k ≡ true → may_ask (is_in keys.new.items) q k ≡ true }
-    ensures listed { OnOk result ((q : Question) → keeps list.now q ≡ true → may_ask (is_in keys.new.items) q c ≡ true) }
+    ensures grows { (q : Question) (k : ℕ) → may_ask (is_in keys.old.items) q k ≡ true
+        → may_ask (is_in keys.new.items) q k ≡ true }
+    ensures listed { OnOk result ((q : Question) → keeps list.now q ≡ true
+        → may_ask (is_in keys.new.items) q c ≡ true) }
 {
     match list {
         Some(asked) => push_keys(keys, c, asked),

@@ -15,8 +15,10 @@ impl<T: Stretches<u64>> DependencyMap<Kept<T, Option<Queries>>> {
     /// If many questions were prepared since this was done last, lets go of those that no code point asks any more, now
     /// or next, as far as there is memory to look for them. What is now and next stays.
     pub fn sweep(&mut self)
-        ensures now { SameValues (asked_at (values T.now) self.new) (asked_at (values T.now) self.old) }
-        ensures next { SameValues (asked_at (values T.next) self.new) (asked_at (values T.next) self.old) }
+        ensures now { SameValues (asked_at (values T.now) self.new)
+            (asked_at (values T.now) self.old) }
+        ensures next { SameValues (asked_at (values T.next) self.new)
+            (asked_at (values T.next) self.old) }
     {
         if let Some(lists) = &mut self.lists {
             lists.sweep();
@@ -28,8 +30,10 @@ impl<T: Stretches<u64>> DependencyMap<Kept<T, Option<Queries>>> {
 
     /// Lists the code points under the questions that they ask now or next, and under no others, if there is memory.
     fn list_anew(&mut self)
-        ensures now { SameValues (asked_at (values T.now) self.new) (asked_at (values T.now) self.old) }
-        ensures next { SameValues (asked_at (values T.next) self.new) (asked_at (values T.next) self.old) }
+        ensures now { SameValues (asked_at (values T.now) self.new)
+            (asked_at (values T.now) self.old) }
+        ensures next { SameValues (asked_at (values T.next) self.new)
+            (asked_at (values T.next) self.old) }
     {
         if let Ok(keys) = keys_of(self.alloc, &self.lists) {
             self.prepared = 0;

@@ -133,7 +133,8 @@ impl Listing {
         ensures from { at < result }
         ensures within { result ≤ length records.now }
         ensures same { (k : ℕ) (kept : Bor Kept) → at ≤ k → k < result
-            → shown_label self (slice_index_or records.now k kept) ≡ shown_label self (slice_index_or records.now at kept) }
+            → shown_label self (slice_index_or records.now k kept)
+            ≡ shown_label self (slice_index_or records.now at kept) }
     {
         let first = records[at];
         let mut end = at + 1;
@@ -145,7 +146,8 @@ impl Listing {
 
     /// Whether two records have one value in this section, and so one label.
     fn is_same(self, a: &Record, b: &Record) -> bool
-        ensures { IsTrue result → (listing_section self).label (kept_record a.now) ≡ (listing_section self).label (kept_record b.now) }
+        ensures { IsTrue result → (listing_section self).label (kept_record a.now)
+            ≡ (listing_section self).label (kept_record b.now) }
     {
         match self {
             Listing::Core(core) => a.core.has(core) == b.core.has(core),

@@ -27,7 +27,8 @@ pub fn put_section<B: Records>(
 ) -> Result<(), Memory>
     requires cut { IsCut (B.record_of bench.now) 0 point_count pieces.now }
     requires records { AreShown (B.record_of bench.now) pieces.now records.now }
-    ensures { OnOk result (text.new ≡ text.old ++ section_of point_count (B.record_of bench.now) (listing_section listing)) }
+    ensures { OnOk result (text.new ≡ text.old
+        ++ section_of point_count (B.record_of bench.now) (listing_section listing)) }
 {
     let mut section = OpenSection::begin(alloc, listing.name(), text)?;
     let mut label = LabelText::none(alloc);

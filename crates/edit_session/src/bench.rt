@@ -102,8 +102,10 @@ impl Bench {
     ) -> Result<Accepted, ApplyStop>
         requires operations { All IsOp group.now }
         requires few { length group.now ≤ group_limit }
-        ensures answer { AppliesAs result (group_answer self.old.current group.now) self.old self.new }
-        ensures counted { CountsAs (after_ops self.old.current 0 group.now) (bench_facts self.old) steps.old steps.new }
+        ensures answer { AppliesAs result
+            (group_answer self.old.current group.now) self.old self.new }
+        ensures counted { CountsAs (after_ops self.old.current 0 group.now)
+            (bench_facts self.old) steps.old steps.new }
         ensures steps { steps.new ≤ steps.old + point_count }
         ensures uncounted { IsErr (after_ops self.old.current 0 group.now) → steps.new ≡ steps.old }
     {
@@ -125,9 +127,11 @@ impl Bench {
     ) -> Result<(Accepted, Patch), ApplyStop>
         requires operations { All IsOp group.now }
         requires few { length group.now ≤ group_limit }
-        ensures answer { AppliesAs (first_of result) (group_answer self.old.current group.now) self.old self.new }
+        ensures answer { AppliesAs (first_of result)
+            (group_answer self.old.current group.now) self.old self.new }
         ensures kept { IfOk result (λ made. Keeps made.1 self.new.current self.old.current) }
-        ensures counted { CountsAs (after_ops self.old.current 0 group.now) (bench_facts self.old) steps.old steps.new }
+        ensures counted { CountsAs (after_ops self.old.current 0 group.now)
+            (bench_facts self.old) steps.old steps.new }
     {
         apply_kept(alloc, &mut self.release, &mut self.derivation, group, steps)
     }
@@ -144,7 +148,8 @@ impl Bench {
     ) -> Result<Accepted, Memory>
         requires { IsValidWayBack way.now self.old.current }
         ensures answer { RevertsAs result (back way.now self.old.current) self.old self.new }
-        ensures counted { CountsWithin (bench_facts self.old) (files_facts (back way.now self.old.current)) steps.old steps.new }
+        ensures counted { CountsWithin (bench_facts self.old)
+            (files_facts (back way.now self.old.current)) steps.old steps.new }
     {
         revert(alloc, &mut self.release, &mut self.derivation, way, steps)
     }
@@ -154,8 +159,10 @@ impl Bench {
     /// code points.
     pub fn last_alike(&self, c: Point) -> Point
         ensures from { c ≤ result }
-        ensures same { (d : ℕ) → c ≤ d → d ≤ result → bench_record self.now d ≡ bench_record self.now c }
-        ensures ends { result + 1 < point_count → bench_record self.now (result + 1) ≢ bench_record self.now c }
+        ensures same { (d : ℕ) → c ≤ d → d ≤ result
+            → bench_record self.now d ≡ bench_record self.now c }
+        ensures ends { result + 1 < point_count
+            → bench_record self.now (result + 1) ≢ bench_record self.now c }
     {
         self.derivation.records.last_alike(c)
     }

@@ -68,7 +68,8 @@ impl Derivation {
     ///
     /// - `Memory`: memory ran out.
     pub fn copied(&self, alloc: Global) -> Result<Box<Derivation>, Memory>
-        ensures now { IfOk result (λ copy. (F : ℕ → Facts) → IsNow F self.now → IsNow F copy.value) }
+        ensures now { IfOk result (λ copy. (F : ℕ → Facts) → IsNow F self.now
+            → IsNow F copy.value) }
         ensures still { IfOk result (λ copy. IsStill self.now → IsStill copy.value) }
     {
         let copy = self.unboxed_copy(alloc)?;
@@ -109,11 +110,15 @@ impl Derivation {
         requires still { IsStill self.old }
         requires touched { (c : ℕ) → list_any (within c) touched.now ≡ false
             → files_facts release.now.prepared c ≡ files_facts release.now.current c }
-        ensures answer { AnswersAs result (checked_files (Ok release.now.prepared)) release.now.prepared }
+        ensures answer { AnswersAs result
+            (checked_files (Ok release.now.prepared)) release.now.prepared }
         ensures now { (F : ℕ → Facts) → IsNow F self.old → IsNow F self.new }
         ensures next { OnOk result (IsNext (files_facts release.now.prepared) self.new) }
-        ensures changed { IfOk result (λ points. points ≡ changed (files_facts release.now.current) (files_facts release.now.prepared)) }
-        ensures steps { CountsWithin (files_facts release.now.current) (files_facts release.now.prepared) steps.old steps.new }
+        ensures changed { IfOk result
+            (λ points. points
+            ≡ changed (files_facts release.now.current) (files_facts release.now.prepared)) }
+        ensures steps { CountsWithin (files_facts release.now.current)
+            (files_facts release.now.prepared) steps.old steps.new }
     {
         if touched.as_slice().is_empty() {
             return Ok(Points::new(alloc));
@@ -133,13 +138,19 @@ impl Derivation {
         requires now { IsNow (tables_facts values_now self.old.tables) self.old }
         requires records { SameValues (record_next self.old.records) (record_now self.old.records) }
         requires asked { AreStill self.old.questions }
-        requires tells { TellsChanges (tables_facts values_now self.old.tables) (tables_next values_now self.old.tables) queries.now }
-        ensures answer { (files : List (List FileItem)) → tables_next values_now self.old.tables ≡ files_facts files
+        requires tells { TellsChanges (tables_facts values_now self.old.tables)
+            (tables_next values_now self.old.tables) queries.now }
+        ensures answer { (files : List (List FileItem))
+            → tables_next values_now self.old.tables ≡ files_facts files
             → AnswersAs result (checked_files (Ok files)) files }
         ensures now { (F : ℕ → Facts) → IsNow F self.old → IsNow F self.new }
         ensures next { OnOk result (IsNext (tables_next values_now self.old.tables) self.new) }
-        ensures changed { IfOk result (λ points. points ≡ changed (tables_facts values_now self.old.tables) (tables_next values_now self.old.tables)) }
-        ensures steps { CountsWithin (tables_facts values_now self.old.tables) (tables_next values_now self.old.tables) steps.old steps.new }
+        ensures changed { IfOk result
+            (λ points. points
+            ≡ changed (tables_facts values_now self.old.tables)
+            (tables_next values_now self.old.tables)) }
+        ensures steps { CountsWithin (tables_facts values_now self.old.tables)
+            (tables_next values_now self.old.tables) steps.old steps.new }
     {
         self.questions.reach(alloc, &self.tables, queries)?;
         let view = self.tables.next();

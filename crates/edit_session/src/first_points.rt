@@ -40,7 +40,9 @@ pub fn derive_all<L: Ledger>(
     steps: &mut Steps<L>,
 ) -> Result<RecordTable, OpenStop>
     ensures valid { OnOk result (IsValid (tables_facts values_now tables.now)) }
-    ensures records { IfOk result (λ table. SameRecords (record_now table) (record_at (tables_facts values_now tables.now))) }
+    ensures records { IfOk result
+        (λ table. SameRecords (record_now table)
+        (record_at (tables_facts values_now tables.now))) }
     ensures still { IfOk result (λ table. SameValues (record_next table) (record_now table)) }
     ensures invalid { IfErr result (λ stop. NamesBroken stop (tables_facts values_now tables.now)) }
     ensures steps { steps.new ≤ steps.old + point_count }
@@ -57,7 +59,8 @@ fn derive_first<L: Ledger>(
     tables: &FactTables<PagedTable>,
     steps: &mut Steps<L>,
 ) -> Result<RecordTable, OpenStop>
-    ensures records { IfOk result (λ table. DerivedBelow (record_next table) 1 (tables_facts values_now tables.now)) }
+    ensures records { IfOk result
+        (λ table. DerivedBelow (record_next table) 1 (tables_facts values_now tables.now)) }
     ensures invalid { IfErr result (λ stop. NamesBroken stop (tables_facts values_now tables.now)) }
     ensures step { steps.new ≡ steps.old + 1 }
 {
@@ -81,7 +84,8 @@ fn derive_behind<L: Ledger>(
     steps: &mut Steps<L>,
 ) -> Result<(), OpenStop>
     requires { DerivedBelow (record_next table.old) 1 (tables_facts values_now tables.now) }
-    ensures records { OnOk result (DerivedBelow (record_next table.new) 1114112 (tables_facts values_now tables.now)) }
+    ensures records { OnOk result
+        (DerivedBelow (record_next table.new) 1114112 (tables_facts values_now tables.now)) }
     ensures invalid { IfErr result (λ stop. NamesBroken stop (tables_facts values_now tables.now)) }
     ensures steps { steps.new + 1 ≤ steps.old + 1114112 }
 {
@@ -127,7 +131,8 @@ fn derive_run<L: Ledger>(
 /// - `Memory`: memory ran out. What is next stays.
 fn put_behind(table: &mut RecordTable, run: Run, next: Run) -> Result<Run, Memory>
     requires { next.span.lo ≡ run.span.hi + 1 }
-    ensures { IfOk result (λ left. (F : ℕ → Facts) → IsRun F run → IsRun F next → DerivedBelow (record_next table.old) run.span.lo F
+    ensures { IfOk result (λ left. (F : ℕ → Facts) → IsRun F run → IsRun F next
+        → DerivedBelow (record_next table.old) run.span.lo F
         → StandsBehind F (record_next table.new) left next.span.hi) }
 {
     if has_one_record(&run, &next) {
@@ -176,7 +181,8 @@ fn end_of_alike(tables: &FactTables<PagedTable>, c: Point) -> u32
     ensures from { c < result }
     ensures inside { result ≤ 1114112 }
     ensures alike { (d : ℕ) → c ≤ d → d < result
-        → derived (tables_facts values_now tables.now) d ≡ derived (tables_facts values_now tables.now) c }
+        → derived (tables_facts values_now tables.now) d
+        ≡ derived (tables_facts values_now tables.now) c }
 {
     match tables.last_uniform(c) {
         Some(last) => (last.number() + 1).min(end_of_shown(c)),

@@ -35,8 +35,10 @@ pub fn apply_group<L: Ledger>(
     requires few { length group.now ≤ group_limit }
     requires before { IsBench release.old derivation.old }
     ensures after { IsBench release.new derivation.new }
-    ensures answer { AppliesAs result (group_answer release.old.current group.now) release.old release.new }
-    ensures counted { CountsAs (after_ops release.old.current 0 group.now) (bench_facts release.old) steps.old steps.new }
+    ensures answer { AppliesAs result
+        (group_answer release.old.current group.now) release.old release.new }
+    ensures counted { CountsAs (after_ops release.old.current 0 group.now)
+        (bench_facts release.old) steps.old steps.new }
 {
     derivation.sweep();
     match prepare_group(alloc, release, derivation, group, steps) {
@@ -68,11 +70,15 @@ pub fn prepare_group<L: Ledger>(
     requires now { IsNow (files_facts release.old.current) derivation.old }
     requires next { IsStill derivation.old }
     ensures now { release.new.current ≡ release.old.current }
-    ensures answer { AnswersAs result (group_answer release.old.current group.now) release.new.prepared }
+    ensures answer { AnswersAs result
+        (group_answer release.old.current group.now) release.new.prepared }
     ensures kept { (F : ℕ → Facts) → IsNow F derivation.old → IsNow F derivation.new }
     ensures next { OnOk result (IsNext (files_facts release.new.prepared) derivation.new) }
-    ensures changed { IfOk result (λ points. points ≡ changed (files_facts release.old.current) (files_facts release.new.prepared)) }
-    ensures steps { CountsAs (after_ops release.old.current 0 group.now) (files_facts release.old.current) steps.old steps.new }
+    ensures changed { IfOk result
+        (λ points. points ≡ changed (files_facts release.old.current)
+        (files_facts release.new.prepared)) }
+    ensures steps { CountsAs (after_ops release.old.current 0 group.now)
+        (files_facts release.old.current) steps.old steps.new }
 {
     let mut touched = Spans::new(alloc);
     prepare_rows(release, group, &mut touched)?;
@@ -86,8 +92,10 @@ fn prepare_rows(release: &mut Release, group: &[Op], touched: &mut Spans) -> Res
     requires operations { All IsOp group.now }
     requires few { length group.now ≤ group_limit }
     ensures now { release.new.current ≡ release.old.current }
-    ensures answer { AnswersAs result (after_ops release.old.prepared 0 group.now) release.new.prepared }
-    ensures touched { OnOk result (HasTouched release.old.prepared release.new.prepared touched.old touched.new) }
+    ensures answer { AnswersAs result
+        (after_ops release.old.prepared 0 group.now) release.new.prepared }
+    ensures touched { OnOk result
+        (HasTouched release.old.prepared release.new.prepared touched.old touched.new) }
 {
     let mut done = 0;
     'operations: while done < group.len() {
@@ -110,8 +118,10 @@ fn prepare_op(
 ) -> Result<(), ApplyStop>
     requires { IsOp op.now }
     ensures now { release.new.current ≡ release.old.current }
-    ensures answer { AnswersAs result (after_op release.old.prepared number op.now) release.new.prepared }
-    ensures touched { OnOk result (HasTouched release.old.prepared release.new.prepared touched.old touched.new) }
+    ensures answer { AnswersAs result
+        (after_op release.old.prepared number op.now) release.new.prepared }
+    ensures touched { OnOk result
+        (HasTouched release.old.prepared release.new.prepared touched.old touched.new) }
 {
     rows_stay();
     facts_stay();
@@ -128,7 +138,8 @@ fn prepare_op(
 
 /// Puts spans of an operation behind the others, if rows of its file give facts.
 fn put_touched(touched: &mut Spans, op: &Op, spans: &Spans) -> Result<(), Memory>
-    ensures { OnOk result (touched.new ≡ (if gives_facts (op_file op.now) then touched.old ++ spans.now else touched.old)) }
+    ensures { OnOk result (touched.new
+        ≡ (if gives_facts (op_file op.now) then touched.old ++ spans.now else touched.old)) }
 {
     if gives_facts(op.file()) {
         touched.append(spans.as_slice())

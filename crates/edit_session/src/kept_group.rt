@@ -36,9 +36,11 @@ pub fn apply_kept<L: Ledger>(
     requires few { length group.now ≤ group_limit }
     requires before { IsBench release.old derivation.old }
     ensures after { IsBench release.new derivation.new }
-    ensures answer { AppliesAs (first_of result) (group_answer release.old.current group.now) release.old release.new }
+    ensures answer { AppliesAs (first_of result)
+        (group_answer release.old.current group.now) release.old release.new }
     ensures kept { IfOk result (λ made. Keeps made.1 release.new.current release.old.current) }
-    ensures counted { CountsAs (after_ops release.old.current 0 group.now) (bench_facts release.old) steps.old steps.new }
+    ensures counted { CountsAs (after_ops release.old.current 0 group.now)
+        (bench_facts release.old) steps.old steps.new }
 {
     release.is_kept();
     derivation.sweep();
@@ -71,12 +73,16 @@ fn prepare_kept<L: Ledger>(
     requires now { IsNow (files_facts release.old.current) derivation.old }
     requires next { IsStill derivation.old }
     ensures now { release.new.current ≡ release.old.current }
-    ensures answer { AnswersAs result (group_answer release.old.current group.now) release.new.prepared }
+    ensures answer { AnswersAs result
+        (group_answer release.old.current group.now) release.new.prepared }
     ensures kept { (F : ℕ → Facts) → IsNow F derivation.old → IsNow F derivation.new }
     ensures next { OnOk result (IsNext (files_facts release.new.prepared) derivation.new) }
-    ensures changed { IfOk result (λ made. made.0 ≡ changed (files_facts release.old.current) (files_facts release.new.prepared)) }
+    ensures changed { IfOk result
+        (λ made. made.0 ≡ changed (files_facts release.old.current)
+        (files_facts release.new.prepared)) }
     ensures way { IfOk result (λ made. LeadsBack made.1 release.new.prepared release.new.current) }
-    ensures steps { CountsAs (after_ops release.old.current 0 group.now) (files_facts release.old.current) steps.old steps.new }
+    ensures steps { CountsAs (after_ops release.old.current 0 group.now)
+        (files_facts release.old.current) steps.old steps.new }
 {
     let changed = prepare_group(alloc, release, derivation, group, steps)?;
     let way = release.patch()?;

@@ -25,7 +25,8 @@ pub fn list_points(
     map: &mut QuestionMap,
 ) -> Result<(), Memory>
     requires { IsValid (tables_facts values_now tables.now) }
-    ensures { OnOk result (AreListed (tables_facts values_now tables.now) points.now (asked_at (values values_next) map.old) (asked_at (values values_next) map.new)) }
+    ensures { OnOk result (AreListed (tables_facts values_now tables.now) points.now
+        (asked_at (values values_next) map.old) (asked_at (values values_next) map.new)) }
 {
     'points: for c in points {
         list_point(alloc, tables, *c, map)?;
@@ -43,7 +44,8 @@ fn list_point(
     map: &mut QuestionMap,
 ) -> Result<(), Memory>
     requires { IsValid (tables_facts values_now tables.now) }
-    ensures { OnOk result (IsListed (tables_facts values_now tables.now) c (asked_at (values values_next) map.old) (asked_at (values values_next) map.new)) }
+    ensures { OnOk result (IsListed (tables_facts values_now tables.now) c
+        (asked_at (values values_next) map.old) (asked_at (values values_next) map.new)) }
 {
     let _number = c.number();
     if tables.is_plain(c) {
@@ -63,7 +65,8 @@ fn put_asked(
 ) -> Result<(), Memory>
     requires inside { c < 1114112 }
     requires record { HasRecord (tables_facts values_now tables.now) c }
-    ensures { OnOk result (IsListed (tables_facts values_now tables.now) c (asked_at (values values_next) map.old) (asked_at (values values_next) map.new)) }
+    ensures { OnOk result (IsListed (tables_facts values_now tables.now) c
+        (asked_at (values values_next) map.old) (asked_at (values values_next) map.new)) }
 {
     let questions = questions_of(alloc, tables, c)?;
     map.prepare(c, &questions)?;

@@ -17,7 +17,8 @@ use ucd_model::{Memory, Point, point_count};
 ///
 /// - `Memory`: memory ran out.
 pub fn mention_all(alloc: Global, tables: &FactTables<PagedTable>) -> Result<Mentions, Memory>
-    ensures steps { IfOk result (λ mentions. HasSteps (leads mentions) (tables_facts values_now tables.now)) }
+    ensures steps { IfOk result (λ mentions. HasSteps (leads mentions)
+        (tables_facts values_now tables.now)) }
     ensures walked { IfOk result (λ mentions. (x : ℕ) → is_walked mentions x ≡ false) }
 {
     let count = point_count();
@@ -42,7 +43,8 @@ fn mention_run(
     requires { HasStepsBelow (puts listing.old) c (tables_facts values_now tables.now) }
     ensures from { IfOk result (λ end. c < end) }
     ensures inside { IfOk result (λ end. end ≤ 1114112) }
-    ensures steps { IfOk result (λ end. HasStepsBelow (puts listing.new) end (tables_facts values_now tables.now)) }
+    ensures steps { IfOk result (λ end. HasStepsBelow (puts listing.new) end
+        (tables_facts values_now tables.now)) }
 {
     match tables.last_plain(c) {
         Some(last) => Ok(last.number() + 1),

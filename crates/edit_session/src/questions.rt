@@ -90,7 +90,8 @@ impl Questions {
         requires valid { IsValid (tables_facts values_now tables.now) }
         requires kept { KeepsNow (tables_facts values_now tables.now) self }
         requires still { AreStill self }
-        ensures kept { IfOk result (λ questions. KeepsNow (tables_facts values_now tables.now) questions) }
+        ensures kept { IfOk result
+            (λ questions. KeepsNow (tables_facts values_now tables.now) questions) }
         ensures still { IfOk result (λ questions. AreStill questions) }
         ensures walked { IfOk result (λ questions. HasWalked questions.mentions queries.now) }
     {
@@ -140,9 +141,12 @@ fn walk(
     mut mentions: Mentions,
 ) -> Result<Questions, Memory>
     requires valid { IsValid (tables_facts values_now tables.now) }
-    requires kept { KeepsWalked (leads mentions) (is_walked mentions) (asked_at (values values_now) map) (tables_facts values_now tables.now) }
-    requires still { SameValues (asked_at (values values_next) map) (asked_at (values values_now) map) }
-    ensures kept { IfOk result (λ questions. KeepsNow (tables_facts values_now tables.now) questions) }
+    requires kept { KeepsWalked (leads mentions) (is_walked mentions)
+        (asked_at (values values_now) map) (tables_facts values_now tables.now) }
+    requires still { SameValues (asked_at (values values_next) map)
+        (asked_at (values values_now) map) }
+    ensures kept { IfOk result (λ questions. KeepsNow
+        (tables_facts values_now tables.now) questions) }
     ensures still { IfOk result (λ questions. AreStill questions) }
     ensures walked { IfOk result (λ questions. HasWalked questions.mentions queries.now) }
 {
@@ -162,11 +166,16 @@ fn go_on(
     mentions: &mut Mentions,
 ) -> Result<(), Memory>
     requires valid { IsValid (tables_facts values_now tables.now) }
-    requires kept { KeepsWalked (leads mentions.old) (is_walked mentions.old) (asked_at (values values_now) map.old) (tables_facts values_now tables.now) }
-    requires still { SameValues (asked_at (values values_next) map.old) (asked_at (values values_now) map.old) }
-    ensures kept { OnOk result (KeepsWalked (leads mentions.new) (is_walked mentions.new) (asked_at (values values_now) map.new) (tables_facts values_now tables.now)) }
-    ensures still { OnOk result (SameValues (asked_at (values values_next) map.new) (asked_at (values values_now) map.new)) }
-    ensures walked { OnOk result ((q : Question) → is_asked queries.now q ≡ true → is_walked mentions.new (about q) ≡ true) }
+    requires kept { KeepsWalked (leads mentions.old) (is_walked mentions.old)
+        (asked_at (values values_now) map.old) (tables_facts values_now tables.now) }
+    requires still { SameValues (asked_at (values values_next) map.old)
+        (asked_at (values values_now) map.old) }
+    ensures kept { OnOk result (KeepsWalked (leads mentions.new) (is_walked mentions.new)
+        (asked_at (values values_now) map.new) (tables_facts values_now tables.now)) }
+    ensures still { OnOk result (SameValues (asked_at (values values_next) map.new)
+        (asked_at (values values_now) map.new)) }
+    ensures walked { OnOk result ((q : Question) → is_asked queries.now q ≡ true
+        → is_walked mentions.new (about q) ≡ true) }
 {
     let points = mentions.reach(alloc, queries)?;
     list_points(alloc, tables, points.as_slice(), map)?;

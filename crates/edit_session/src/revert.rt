@@ -33,7 +33,8 @@ pub fn revert<L: Ledger>(
     requires way { IsValidWayBack way.now release.old.current }
     ensures after { IsBench release.new derivation.new }
     ensures answer { RevertsAs result (back way.now release.old.current) release.old release.new }
-    ensures counted { CountsWithin (bench_facts release.old) (files_facts (back way.now release.old.current)) steps.old steps.new }
+    ensures counted { CountsWithin (bench_facts release.old)
+        (files_facts (back way.now release.old.current)) steps.old steps.new }
 {
     derivation.sweep();
     match prepare_revert(alloc, release, derivation, way, steps) {
@@ -69,8 +70,11 @@ fn prepare_revert<L: Ledger>(
     ensures prepared { OnOk result (release.new.prepared ≡ back way.now release.old.current) }
     ensures kept { (F : ℕ → Facts) → IsNow F derivation.old → IsNow F derivation.new }
     ensures next { OnOk result (IsNext (files_facts release.new.prepared) derivation.new) }
-    ensures changed { IfOk result (λ points. points ≡ changed (files_facts release.old.current) (files_facts (back way.now release.old.current))) }
-    ensures steps { CountsWithin (files_facts release.old.current) (files_facts (back way.now release.old.current)) steps.old steps.new }
+    ensures changed { IfOk result
+        (λ points. points ≡ changed (files_facts release.old.current)
+        (files_facts (back way.now release.old.current))) }
+    ensures steps { CountsWithin (files_facts release.old.current)
+        (files_facts (back way.now release.old.current)) steps.old steps.new }
 {
     rows_stay_back();
     facts_stay();

@@ -30,7 +30,8 @@ pub fn check<S: Shelf, K: Sink, L: Ledger>(
     out: &mut K,
     steps: &mut Steps<L>,
 ) -> Status
-    ensures { Promises checker words.now (shelf_seen S.Shelf shelf.old shelf.new) (sink_seen K.Sink out.old out.new) result }
+    ensures { Promises checker words.now (shelf_seen S.Shelf shelf.old shelf.new)
+        (sink_seen K.Sink out.old out.new) result }
 {
     let planned = plan_words(alloc, words, shelf, steps);
     end_run(USAGE, planned, shelf, out)
@@ -48,7 +49,8 @@ fn named(words: &[Text]) -> Option<(&[u8], &[u8])>
 
 /// `DATA OUT`.
 fn pair_of<'a>(folder: &'a Text, output: &'a Text) -> Option<(&'a [u8], &'a [u8])>
-    ensures { option_map (λ named. check_of named.0.now named.1.now) result ≡ form (folder.now ∷ output.now ∷ []) }
+    ensures { option_map (λ named. check_of named.0.now named.1.now) result
+        ≡ form (folder.now ∷ output.now ∷ []) }
 {
     Some((folder.as_slice(), output.as_slice()))
 }
@@ -77,12 +79,18 @@ fn prepare<S: Shelf, L: Ledger>(
     shelf: &mut S,
     steps: &mut Steps<L>,
 ) -> Result<Plan, Stop>
-    ensures planned { IfOk result (λ plan. Sees S.tells (S.holds shelf.old) (sources_in folder.now) (λ seen.
-        IsPlanOf plan (judged (check_of folder.now output.now) (folder_verdict folder.now (source_held seen 0))))) }
+    ensures planned { IfOk result
+        (λ plan. Sees S.tells (S.holds shelf.old) (sources_in folder.now)
+        (λ seen. IsPlanOf plan
+        (judged (check_of folder.now output.now)
+        (folder_verdict folder.now (source_held seen 0))))) }
     ensures room { IfOk result (λ plan. length plan.outputs.items ≤ S.spare shelf.new) }
-    ensures refused { OnRefused result (λ line. Sees S.tells (S.holds shelf.old) (sources_in folder.now) (λ seen.
-        judged (check_of folder.now output.now) (folder_verdict folder.now (source_held seen 0)) ≡ Refuses line)) }
-    ensures unread { UnreadAs result (sources_in folder.now) (shelf_seen S.Shelf shelf.old shelf.new) }
+    ensures refused { OnRefused result
+        (λ line. Sees S.tells (S.holds shelf.old) (sources_in folder.now)
+        (λ seen. judged (check_of folder.now output.now)
+        (folder_verdict folder.now (source_held seen 0)) ≡ Refuses line)) }
+    ensures unread { UnreadAs result (sources_in folder.now)
+        (shelf_seen S.Shelf shelf.old shelf.new) }
     ensures only_read { OnlyRead (shelf_seen S.Shelf shelf.old shelf.new) }
 {
     let plan = {
@@ -99,9 +107,11 @@ fn read_folder<S: Shelf>(
     folder: &[u8],
     shelf: &mut S,
 ) -> Result<Vec<Option<Text>>, Stop>
-    ensures read { IfOk result (λ held. IsRead S.tells (S.holds shelf.old) (sources_in folder.now) held.items) }
+    ensures read { IfOk result (λ held. IsRead S.tells (S.holds shelf.old)
+        (sources_in folder.now) held.items) }
     ensures refused { OnRefused result (λ _. ⊥) }
-    ensures unread { UnreadAs result (sources_in folder.now) (shelf_seen S.Shelf shelf.old shelf.new) }
+    ensures unread { UnreadAs result (sources_in folder.now)
+        (shelf_seen S.Shelf shelf.old shelf.new) }
     ensures only_read { OnlyRead (shelf_seen S.Shelf shelf.old shelf.new) }
 {
     let paths = source_paths(alloc, folder)?;
@@ -117,7 +127,8 @@ fn judged_plan<L: Ledger>(
     held: &mut Vec<Option<Text>>,
     steps: &mut Steps<L>,
 ) -> Result<Plan, Stop>
-    ensures { PlansAs result (judged (check_of folder.now output.now) (folder_verdict folder.now (source_held held.old.items 0))) }
+    ensures { PlansAs result (judged (check_of folder.now output.now)
+        (folder_verdict folder.now (source_held held.old.items 0))) }
 {
     match open_folder(alloc, folder, held, 0, steps) {
         Ok(_bench) => Ok(valid_plan(alloc, output)?),
@@ -127,7 +138,8 @@ fn judged_plan<L: Ledger>(
 
 /// What is left to be done if nothing is refused.
 fn valid_plan(alloc: Global, output: &[u8]) -> Result<Plan, Memory>
-    ensures { (folder : List ℕ) → IfOk result (HasPlan (valid_ending (check_of folder output.now))) }
+    ensures { (folder : List ℕ) → IfOk result
+        (HasPlan (valid_ending (check_of folder output.now))) }
 {
     let mut outputs = Vec::new(alloc);
     let path = Text::of(alloc, output)?;

@@ -38,7 +38,8 @@ fn everywhere(alloc: Global) -> Result<Spans, Memory>
 
 /// The tables of a release without rows.
 pub fn empty_tables(alloc: Global) -> Result<Box<Tables>, Memory>
-    ensures { IfOk result (λ tables. tables_next values_now tables.value ≡ tables_facts values_now tables.value) }
+    ensures { IfOk result (λ tables. tables_next values_now tables.value
+        ≡ tables_facts values_now tables.value) }
 {
     let release = Release::empty(alloc);
     Ok(Box::new(alloc, FactTables::of(alloc, &release)?)?)

@@ -25,7 +25,8 @@ pub fn is_default_ignorable(c: Point, facts: &FactsRef<'_>) -> bool
 
 /// The same of a code point with this category and these properties.
 fn is_ignorable_by(c: Point, category: Category, flags: Flags) -> bool
-    ensures { (G : Facts) → G.category ≡ category → G.flag ≡ has_flag flags → result ≡ default_ignorable c G }
+    ensures { (G : Facts) → G.category ≡ category → G.flag ≡ has_flag flags
+        → result ≡ default_ignorable c G }
 {
     let ignored = matches!(category, Category::Cf)
         || flags.has(Flag::OtherDefaultIgnorableCodePoint)

@@ -130,7 +130,8 @@ fn fixed_behind<W: FactView>(
     c: Point,
     first: Found,
 ) -> Result<Option<Found>, Memory>
-    requires { (k : Folding) → IsCovered folding first.alike k → round k (W.facts_of view.now) (c ∷ []) ≡ Some first.list }
+    requires { (k : Folding) → IsCovered folding first.alike k
+        → round k (W.facts_of view.now) (c ∷ []) ≡ Some first.list }
     ensures { IfOk result (FoundBy folding (λ k. casefold k (W.facts_of view.now) c)) }
 {
     if same_points(first.list.as_slice(), &[c]) {

@@ -13,7 +13,8 @@ use ucd_model::{Core, CoreSet, FactsRef, Point};
 /// They are put in one by one, in the order of `Core`, so that each call knows its property.
 #[tactic(auto, using(crate::proofs::CoreSteps::all_below))]
 pub fn core_set(c: Point, facts: &FactsRef<'_>, told: ToldByForms) -> CoreSet
-    ensures { (core : Core) → has_core result core ≡ core_given c (shown_facts facts.now) told core }
+    ensures { (core : Core) → has_core result core
+        ≡ core_given c (shown_facts facts.now) told core }
 {
     let set = CoreSet::none();
     let set = with_core(set, Core::Math, c, facts, told);

@@ -10,7 +10,8 @@ use ucd_model::{FactView, FactsRef, Point};
 
 /// Whether a member of one of the mappings of a code point with these facts has no row.
 pub fn lacks_a_row<W: FactView>(view: &W, c: Point, facts: &FactsRef<'_>) -> bool
-    ensures { result ≡ list_any (lacks_row (W.facts_of view.now) c) (mappings c (shown_facts facts.now)) }
+    ensures { result ≡ list_any (lacks_row (W.facts_of view.now) c)
+        (mappings c (shown_facts facts.now)) }
 {
     if lacks_row(view, c, facts.mapping) {
         return true;
@@ -73,7 +74,8 @@ fn lacks_simple<W: FactView>(view: &W, c: Point, member: Point) -> bool
 
 /// Whether a member of an image of a code point has no row.
 fn lacks_image<W: FactView>(view: &W, c: Point, image: Option<&[Point]>) -> bool
-    ensures { result ≡ lacks_row (W.facts_of view.now) c (image_points c (image_shown image.entry)) }
+    ensures { result ≡ lacks_row (W.facts_of view.now) c
+        (image_points c (image_shown image.entry)) }
 {
     match image {
         Some(points) => lacks_row(view, c, points),

@@ -108,7 +108,8 @@ pub fn is_id_continue(facts: &FactsRef<'_>) -> bool
 
 /// The same of a code point with this category and these properties.
 pub fn continues_by(category: Category, flags: Flags) -> bool
-    ensures { (G : Facts) → G.category ≡ category → G.flag ≡ has_flag flags → result ≡ id_continue G }
+    ensures { (G : Facts) → G.category ≡ category → G.flag ≡ has_flag flags
+        → result ≡ id_continue G }
 {
     let continues = matches!(
         category,

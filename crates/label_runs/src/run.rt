@@ -43,9 +43,19 @@ impl Run {
         ensures end { OnOk result (self.new.end ≡ end) }
         ensures few { IfOk result (λ count. count + self.old.first ≤ self.new.first) }
         ensures begins { OnOk result (self.new.first ≤ self.old.end) }
-        ensures opens { OnOk result ((n : ℕ) (f : ℕ → Label) → IsOpen n f self.old.first self.old.end self.old.label → IsStretch n f self.old.end end label.old → IsOpen n f self.new.first self.new.end self.new.label) }
-        ensures lines { OnOk result ((n : ℕ) (f : ℕ → Label) → IsOpen n f self.old.first self.old.end self.old.label → IsStretch n f self.old.end end label.old → (front : List ℕ) → text.old ≡ front ++ lines_before n f self.old.first → text.new ≡ front ++ lines_before n f self.new.first) }
-        ensures total { IfOk result (λ count. (n : ℕ) (f : ℕ → Label) → IsOpen n f self.old.first self.old.end self.old.label → IsStretch n f self.old.end end label.old → labelled_before f self.new.first ≡ labelled_before f self.old.first + count) }
+        ensures opens { OnOk result ((n : ℕ) (f : ℕ → Label)
+            → IsOpen n f self.old.first self.old.end self.old.label
+            → IsStretch n f self.old.end end label.old
+            → IsOpen n f self.new.first self.new.end self.new.label) }
+        ensures lines { OnOk result ((n : ℕ) (f : ℕ → Label)
+            → IsOpen n f self.old.first self.old.end self.old.label
+            → IsStretch n f self.old.end end label.old → (front : List ℕ)
+            → text.old ≡ front ++ lines_before n f self.old.first
+            → text.new ≡ front ++ lines_before n f self.new.first) }
+        ensures total { IfOk result (λ count. (n : ℕ) (f : ℕ → Label)
+            → IsOpen n f self.old.first self.old.end self.old.label
+            → IsStretch n f self.old.end end label.old
+            → labelled_before f self.new.first ≡ labelled_before f self.old.first + count) }
         ensures err { OnErr result (self.new ≡ self.old) }
     {
         if self.label.is_same(label) {
@@ -72,7 +82,8 @@ impl Run {
     pub fn end(self, text: &mut Text) -> Result<u32, Memory>
         requires inside { self.end ≤ 1114112 }
         requires some { IsSome self.label → self.first < self.end }
-        ensures line { OnOk result (text.new ≡ text.old ++ run_line self.first self.end self.label) }
+        ensures line { OnOk result
+            (text.new ≡ text.old ++ run_line self.first self.end self.label) }
         ensures length { IfOk result (λ count. count ≡ run_length self.first self.end self.label) }
     {
         self.put(text)
@@ -84,8 +95,10 @@ impl Run {
     fn put(&self, text: &mut Text) -> Result<u32, Memory>
         requires inside { self.now.end ≤ 1114112 }
         requires some { IsSome self.now.label → self.now.first < self.now.end }
-        ensures line { OnOk result (text.new ≡ text.old ++ run_line self.now.first self.now.end self.now.label) }
-        ensures length { IfOk result (λ count. count ≡ run_length self.now.first self.now.end self.now.label) }
+        ensures line { OnOk result
+            (text.new ≡ text.old ++ run_line self.now.first self.now.end self.now.label) }
+        ensures length { IfOk result
+            (λ count. count ≡ run_length self.now.first self.now.end self.now.label) }
     {
         match self.label.text() {
             None => Ok(0),

@@ -37,7 +37,8 @@ impl OpenSection {
     /// - `Memory`: memory ran out. A part of the line may then stand at the end of the text.
     pub fn begin(alloc: Global, name: &[u8], text: &mut Text) -> Result<OpenSection, Memory>
         ensures end { IfOk result (λ section. section.end ≡ 0) }
-        ensures written { IfOk result (λ section. (n : ℕ) (f : ℕ → Label) → IsWritten n f (text.old ++ section_head name.now) section text.new) }
+        ensures written { IfOk result (λ section. (n : ℕ) (f : ℕ → Label)
+            → IsWritten n f (text.old ++ section_head name.now) section text.new) }
     {
         text.append(b"# ")?;
         text.append(name)?;
@@ -57,7 +58,9 @@ impl OpenSection {
         requires ahead { self.old.end < end }
         requires inside { end ≤ 1114112 }
         ensures end { OnOk result (self.new.end ≡ end) }
-        ensures written { OnOk result ((n : ℕ) (f : ℕ → Label) (front : List ℕ) → IsStretch n f self.old.end end label.old → IsWritten n f front self.old text.old → IsWritten n f front self.new text.new) }
+        ensures written { OnOk result ((n : ℕ) (f : ℕ → Label) (front : List ℕ)
+            → IsStretch n f self.old.end end label.old → IsWritten n f front self.old text.old
+            → IsWritten n f front self.new text.new) }
         ensures err { OnErr result (self.new ≡ self.old) }
     {
         self.total += self.run.go_on(label, end, text)?;
@@ -69,7 +72,9 @@ impl OpenSection {
     /// - `Memory`: memory ran out. A part of this may then stand at the end of the text.
     #[tactic(auto, unfolding(ucd_model::specs::DerivedText::section_text))]
     pub fn end(self, alloc: Global, text: &mut Text) -> Result<(), Memory>
-        ensures { OnOk result ((f : ℕ → Label) (before name : List ℕ) → IsWritten self.end f (before ++ section_head name) self text.old → text.new ≡ before ++ section_text name self.end f) }
+        ensures { OnOk result ((f : ℕ → Label) (before name : List ℕ)
+            → IsWritten self.end f (before ++ section_head name) self text.old
+            → text.new ≡ before ++ section_text name self.end f) }
     {
         let total = self.total + self.run.end(text)?;
         put_total(alloc, total as usize, text)?;

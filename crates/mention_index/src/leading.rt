@@ -18,7 +18,8 @@ pub fn put_led(steps: &KeySet, x: Point, pending: &mut Vec<Point>) -> Result<(),
     ensures grows { (k : ℕ) → is_in pending.old.items k ≡ true → is_in pending.new.items k ≡ true }
     ensures only { (d : ℕ) → is_in pending.new.items d ≡ true
         → (is_in pending.old.items d ≡ true) ⊎ ((d < 1114112) × (has steps.now (key x d) ≡ true)) }
-    ensures led { OnOk result ((d : ℕ) → d < 1114112 → has steps.now (key x d) ≡ true → is_in pending.new.items d ≡ true) }
+    ensures led { OnOk result ((d : ℕ) → d < 1114112 → has steps.now (key x d) ≡ true
+        → is_in pending.new.items d ≡ true) }
 {
     let base = u64::from(x.number()) * ROOM;
     let mut start = base;

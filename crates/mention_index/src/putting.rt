@@ -32,7 +32,8 @@ impl Mentioning {
 /// Puts the key of the step from a primary composite to the first member of its mapping.
 fn put_first(keys: &mut Vec<u64>, c: Point, mapping: &[Point]) -> Result<(), Memory>
     ensures grows { (k : ℕ) → has_key keys.old.items k ≡ true → has_key keys.new.items k ≡ true }
-    ensures put { OnOk result ((s : ℕ) (rest : List ℕ) → mapping.now ≡ s ∷ rest → (s < 1114112) × (has_key keys.new.items (key c s) ≡ true)) }
+    ensures put { OnOk result ((s : ℕ) (rest : List ℕ) → mapping.now ≡ s ∷ rest
+        → (s < 1114112) × (has_key keys.new.items (key c s) ≡ true)) }
 {
     match mapping {
         [first, ..] => {
@@ -47,7 +48,8 @@ fn put_first(keys: &mut Vec<u64>, c: Point, mapping: &[Point]) -> Result<(), Mem
 /// Puts the keys of the steps to a code point from the members of its mappings.
 fn put_members(keys: &mut Vec<u64>, facts: &FactsRef<'_>, c: Point) -> Result<(), Memory>
     ensures grows { (k : ℕ) → has_key keys.old.items k ≡ true → has_key keys.new.items k ≡ true }
-    ensures put { OnOk result (LeadFrom (has_key keys.new.items) (members_of c (shown_facts facts.now)) c) }
+    ensures put { OnOk result (LeadFrom (has_key keys.new.items)
+        (members_of c (shown_facts facts.now)) c) }
 {
     put_steps(keys, facts.mapping, c)?;
     put_simple(keys, facts, c)?;
@@ -58,7 +60,8 @@ fn put_members(keys: &mut Vec<u64>, facts: &FactsRef<'_>, c: Point) -> Result<()
 /// Puts the keys of the steps to a code point from its simple case mappings and its simple folding.
 fn put_simple(keys: &mut Vec<u64>, facts: &FactsRef<'_>, c: Point) -> Result<(), Memory>
     ensures grows { (k : ℕ) → has_key keys.old.items k ≡ true → has_key keys.new.items k ≡ true }
-    ensures put { OnOk result (LeadFrom (has_key keys.new.items) (simple_members (shown_facts facts.now)) c) }
+    ensures put { OnOk result (LeadFrom (has_key keys.new.items)
+        (simple_members (shown_facts facts.now)) c) }
 {
     let simple = [
         facts.simple_upper,
@@ -72,7 +75,8 @@ fn put_simple(keys: &mut Vec<u64>, facts: &FactsRef<'_>, c: Point) -> Result<(),
 /// Puts the keys of the steps to a code point from the members of its full case mappings and its full folding.
 fn put_images(keys: &mut Vec<u64>, facts: &FactsRef<'_>, c: Point) -> Result<(), Memory>
     ensures grows { (k : ℕ) → has_key keys.old.items k ≡ true → has_key keys.new.items k ≡ true }
-    ensures put { OnOk result (LeadFrom (has_key keys.new.items) (image_members c (shown_facts facts.now)) c) }
+    ensures put { OnOk result (LeadFrom (has_key keys.new.items)
+        (image_members c (shown_facts facts.now)) c) }
 {
     put_image(keys, facts.upper, c)?;
     put_image(keys, facts.lower, c)?;
@@ -84,7 +88,8 @@ fn put_images(keys: &mut Vec<u64>, facts: &FactsRef<'_>, c: Point) -> Result<(),
 /// Puts the keys of the steps to a code point from the members of one of its images.
 fn put_image(keys: &mut Vec<u64>, image: Option<&[Point]>, c: Point) -> Result<(), Memory>
     ensures grows { (k : ℕ) → has_key keys.old.items k ≡ true → has_key keys.new.items k ≡ true }
-    ensures put { OnOk result (LeadFrom (has_key keys.new.items) (image_points c (image_shown image.entry)) c) }
+    ensures put { OnOk result (LeadFrom (has_key keys.new.items)
+        (image_points c (image_shown image.entry)) c) }
 {
     match image {
         Some(points) => put_steps(keys, points, c),

@@ -26,9 +26,12 @@ impl Mentions {
         requires { IsClosed (leads self.old) (is_walked self.old) }
         ensures steps { leads self.new ≡ leads self.old }
         ensures closed { OnOk result (IsClosed (leads self.new) (is_walked self.new)) }
-        ensures about { OnOk result ((q : Question) → is_asked queries.now q ≡ true → is_walked self.new (about q) ≡ true) }
-        ensures walked { IfOk result (λ points. (c : ℕ) → is_walked self.new c ≡ (is_walked self.old c || is_in points c)) }
-        ensures only { IfOk result (λ points. (c : ℕ) → is_in points c ≡ true → (is_walked self.old c ≡ false) × IsReached (leads self.old) queries.now c) }
+        ensures about { OnOk result ((q : Question) → is_asked queries.now q ≡ true
+            → is_walked self.new (about q) ≡ true) }
+        ensures walked { IfOk result (λ points. (c : ℕ)
+            → is_walked self.new c ≡ (is_walked self.old c || is_in points c)) }
+        ensures only { IfOk result (λ points. (c : ℕ) → is_in points c ≡ true
+            → (is_walked self.old c ≡ false) × IsReached (leads self.old) queries.now c) }
     {
         let pending = points_about(alloc, queries)?;
         let points = walk(alloc, &self.steps, &mut self.walked, pending)?;
@@ -72,8 +75,10 @@ fn walk(
 ) -> Result<Points, Memory>
     requires { IsClosed (by_keys (has steps.now)) (has_number walked.old) }
     ensures closed { OnOk result (IsClosed (by_keys (has steps.now)) (has_number walked.new)) }
-    ensures pending { OnOk result ((c : ℕ) → is_in pending.items c ≡ true → has_number walked.new c ≡ true) }
-    ensures walked { IfOk result (λ points. (c : ℕ) → has_number walked.new c ≡ (has_number walked.old c || is_in points c)) }
+    ensures pending { OnOk result ((c : ℕ) → is_in pending.items c ≡ true
+        → has_number walked.new c ≡ true) }
+    ensures walked { IfOk result (λ points. (c : ℕ)
+        → has_number walked.new c ≡ (has_number walked.old c || is_in points c)) }
     ensures only { IfOk result (λ points. (c : ℕ) → is_in points c ≡ true
         → (has_number walked.old c ≡ false) × ComesFrom (by_keys (has steps.now)) pending.items c) }
 {
@@ -98,10 +103,15 @@ fn go_on(
     ensures grows { (k : ℕ) → is_in pending.old.items k ≡ true → is_in pending.new.items k ≡ true }
     ensures only { (d : ℕ) → is_in pending.new.items d ≡ true
         → (is_in pending.old.items d ≡ true) ⊎ ((d < 1114112) × (has steps.now (key x d) ≡ true)) }
-    ensures walked { OnOk result ((k : ℕ) → has_number walked.new k ≡ (has_number walked.old k || k == x)) }
-    ensures led { OnOk result (has_number walked.old x ≡ false → (d : ℕ) → d < 1114112 → has steps.now (key x d) ≡ true → is_in pending.new.items d ≡ true) }
-    ensures reached { OnOk result ((k : ℕ) → is_in reached.new k ≡ (is_in reached.old k || (not (has_number walked.old x) && k == x))) }
-    ensures left { OnOk result (left (has_number walked.new) pending.new.items ≤ left (has_number walked.old) pending.old.items) }
+    ensures walked { OnOk result ((k : ℕ)
+        → has_number walked.new k ≡ (has_number walked.old k || k == x)) }
+    ensures led { OnOk result (has_number walked.old x ≡ false → (d : ℕ) → d < 1114112
+        → has steps.now (key x d) ≡ true → is_in pending.new.items d ≡ true) }
+    ensures reached { OnOk result ((k : ℕ)
+        → is_in reached.new k
+        ≡ (is_in reached.old k || (not (has_number walked.old x) && k == x))) }
+    ensures left { OnOk result (left (has_number walked.new) pending.new.items ≤ left
+        (has_number walked.old) pending.old.items) }
 {
     let number = x.number();
     if walked.has(number) {

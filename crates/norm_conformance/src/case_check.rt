@@ -53,7 +53,8 @@ fn check_case<W: FactView>(alloc: Global, view: &W, case: &Case) -> Result<CaseC
 ///
 /// - `Memory`: memory ran out.
 fn put_columns(line: u32, form: Form, check: &CaseCheck, misses: &mut Misses) -> Result<(), Memory>
-    ensures { OnOk result (misses.new ≡ misses.old ++ missed_columns line form (kept_at check.now form)) }
+    ensures { OnOk result (misses.new ≡ misses.old
+        ++ missed_columns line form (kept_at check.now form)) }
 {
     put_unless(check.c1.keeps(form), column_miss(line, form, 1), misses)?;
     put_unless(check.c2.keeps(form), column_miss(line, form, 2), misses)?;

@@ -43,7 +43,8 @@ fn put_cases<W: FactView>(
     found: &mut Misses,
 ) -> Result<(), Memory>
     requires { AreOfValidRows (W.facts_of view.now) }
-    ensures { OnOk result (found.new ≡ found.old ++ flat_map (line_misses (W.facts_of view.now)) cases.now) }
+    ensures { OnOk result (found.new ≡ found.old
+        ++ flat_map (line_misses (W.facts_of view.now)) cases.now) }
 {
     'cases: for case in cases {
         put_case(alloc, view, case, found)?;
@@ -61,7 +62,8 @@ fn put_points<W: FactView>(
     found: &mut Misses,
 ) -> Result<(), Memory>
     requires { AreOfValidRows (W.facts_of view.now) }
-    ensures { OnOk result (found.new ≡ found.old ++ unlisted_misses (W.facts_of view.now) (has listed.now)) }
+    ensures { OnOk result (found.new ≡ found.old
+        ++ unlisted_misses (W.facts_of view.now) (has listed.now)) }
 {
     let count = point_count();
     'points: for number in 0..count {
@@ -82,7 +84,8 @@ fn put_point<W: FactView>(
     found: &mut Misses,
 ) -> Result<(), Memory>
     requires { AreOfValidRows (W.facts_of view.now) }
-    ensures { OnOk result (found.new ≡ found.old ++ misses_at (W.facts_of view.now) (has listed.now) c) }
+    ensures { OnOk result (found.new ≡ found.old
+        ++ misses_at (W.facts_of view.now) (has listed.now) c) }
 {
     if !view.is_assigned(c) || matches!(view.kind(c), Kind::Plain) || is_among(listed, c) {
         return Ok(());

@@ -95,7 +95,8 @@ fn five_columns<'a>(
     f4: &'a [u8],
     f5: &'a [u8],
 ) -> Result<Columns<'a>, CaseRule>
-    ensures { result ≡ columns_by (points_in f1.now) (points_in f2.now) (points_in f3.now) (points_in f4.now) (points_in f5.now) }
+    ensures { result ≡ columns_by (points_in f1.now) (points_in f2.now) (points_in f3.now)
+        (points_in f4.now) (points_in f5.now) }
 {
     let (Some(c1), Some(c2), Some(c3), Some(c4), Some(c5)) = (
         some_mapping_of(f1),

@@ -52,7 +52,9 @@ pub fn check_forms<W: FactView>(
     expected: Expected<'_>,
 ) -> Result<FormCheck, Memory>
     requires { AreOfValidRows (W.facts_of view.now) }
-    ensures { IfOk result (AreKept (W.facts_of view.now) s.now expected.entry.nfd.now expected.entry.nfc.now expected.entry.nfkd.now expected.entry.nfkc.now) }
+    ensures { IfOk result (AreKept
+        (W.facts_of view.now) s.now expected.entry.nfd.now expected.entry.nfc.now
+        expected.entry.nfkd.now expected.entry.nfkc.now) }
 {
     let forms = Forms::of(alloc, view, s)?;
     Ok(FormCheck {

@@ -18,8 +18,8 @@ pub fn order<W: FactView>(view: &W, s: &mut Points)
 /// Puts the code point at `at` among the ones before it, which are in order.
 fn place<W: FactView>(view: &W, s: &mut Points, at: usize)
     requires { at < length s.old }
-    ensures { s.new ≡ with_next (class_of (W.facts_of view.now)) (take at s.old) (slice_index s.old at)
-        ++ drop (at + 1) s.old }
+    ensures { s.new ≡ with_next (class_of (W.facts_of view.now)) (take at s.old)
+        (slice_index s.old at) ++ drop (at + 1) s.old }
 {
     let y = s.as_slice()[at];
     let class = view.class(y);

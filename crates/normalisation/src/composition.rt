@@ -27,7 +27,8 @@ struct Join {
 /// Composes a list in place, with at most one look-up of a pair for each code point. It takes no memory.
 /// The Unicode Standard, section 3.11, D117.
 pub fn compose<W: FactView>(view: &W, s: &mut Points)
-    ensures { s.new ≡ compose (class_of (W.facts_of view.now)) (pair_of (W.facts_of view.now)) s.old }
+    ensures { s.new ≡ compose (class_of (W.facts_of view.now))
+        (pair_of (W.facts_of view.now)) s.old }
 {
     let mut so_far = SoFar {
         len: 0,

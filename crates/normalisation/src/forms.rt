@@ -103,7 +103,8 @@ fn put_expansion<W: FactView>(
     c: Point,
     points: &mut Points,
 ) -> Result<(), FormStop>
-    ensures { PutsExpansion points.old points.new result (expansion (W.facts_of view.now) compat c) }
+    ensures { PutsExpansion points.old points.new result
+        (expansion (W.facts_of view.now) compat c) }
 {
     if counted(view, compat, c).is_empty() {
         points.push(c)?;

@@ -40,8 +40,10 @@ impl BitSet {
 
     /// Whether one of the numbers from one to another is in it. Its time grows with the number of their words.
     pub fn has_any(&self, first: u32, last: u32) -> bool
-        ensures none { result ≡ false → (k : ℕ) → first ≤ k → k ≤ last → has_number self.now k ≡ false }
-        ensures some { result ≡ true → (k : ℕ) × (first ≤ k) × (k ≤ last) × (has_number self.now k ≡ true) }
+        ensures none { result ≡ false → (k : ℕ) → first ≤ k → k ≤ last
+            → has_number self.now k ≡ false }
+        ensures some { result ≡ true
+            → (k : ℕ) × (first ≤ k) × (k ≤ last) × (has_number self.now k ≡ true) }
     {
         'places: for place in first as usize / 64..last as usize / 64 + 1 {
             let Some(word) = self.words.get(place) else {
@@ -58,7 +60,8 @@ impl BitSet {
     ///
     /// - `Memory`: memory ran out. The set stays as it was.
     pub fn insert(&mut self, number: u32) -> Result<(), Memory>
-        ensures ok { OnOk result ((k : ℕ) → has_number self.new k ≡ (has_number self.old k || k == number)) }
+        ensures ok { OnOk result ((k : ℕ)
+            → has_number self.new k ≡ (has_number self.old k || k == number)) }
         ensures err { OnErr result ((k : ℕ) → has_number self.new k ≡ has_number self.old k) }
     {
         let place = number as usize / 64;
@@ -71,7 +74,8 @@ impl BitSet {
     ///
     /// - `Memory`: memory ran out. The set stays as it was.
     pub fn insert_all(&mut self, first: u32, last: u32) -> Result<(), Memory>
-        ensures ok { OnOk result ((k : ℕ) → has_number self.new k ≡ (has_number self.old k || is_between first last k)) }
+        ensures ok { OnOk result ((k : ℕ)
+            → has_number self.new k ≡ (has_number self.old k || is_between first last k)) }
         ensures err { OnErr result ((k : ℕ) → has_number self.new k ≡ has_number self.old k) }
     {
         let end = last as usize / 64 + 1;
@@ -98,7 +102,8 @@ fn mask(place: usize, first: u32, last: u32) -> u64
 ///
 /// - `Memory`: memory ran out. They stay as they were.
 fn grow(words: &mut Vec<u64>, count: usize) -> Result<(), Memory>
-    ensures same { (i : ℕ) → slice_index_or words.new.items i 0 ≡ slice_index_or words.old.items i 0 }
+    ensures same { (i : ℕ) → slice_index_or words.new.items i 0
+        ≡ slice_index_or words.old.items i 0 }
     ensures ok { OnOk result (count ≤ length words.new.items) }
 {
     if words.len() < count {

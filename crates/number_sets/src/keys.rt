@@ -139,7 +139,8 @@ fn is_behind(sorted: &[u64], begin: usize, start: u64) -> bool
 fn is_before(sorted: &[u64], end: usize, start: u64) -> bool
     requires ascends { IsStrictlyIncreasing sorted.now }
     requires within { end ≤ length sorted.now }
-    ensures { IsTrue result → (i d : ℕ) → end ≤ i → i < length sorted.now → start ≤ slice_index_or sorted.now i d }
+    ensures { IsTrue result → (i d : ℕ) → end ≤ i → i < length sorted.now
+        → start ≤ slice_index_or sorted.now i d }
 {
     end == sorted.len() || start <= sorted[end]
 }

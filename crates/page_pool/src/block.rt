@@ -42,7 +42,8 @@ pub fn copy_words(words: &mut [u64], from: usize, to: usize)
     requires from { from + 256 ≤ length words.old }
     requires to { to + 256 ≤ length words.old }
     requires apart { (from + 256 ≤ to) ⊎ (to + 256 ≤ from) }
-    ensures copied { (a : ℕ) → a < 256 → slice_index words.new (to + a) ≡ slice_index words.old (from + a) }
+    ensures copied { (a : ℕ) → a < 256
+        → slice_index words.new (to + a) ≡ slice_index words.old (from + a) }
     ensures before { (k : ℕ) → k < to → slice_index words.new k ≡ slice_index words.old k }
     ensures behind { (k : ℕ) → to + 256 ≤ k → slice_index words.new k ≡ slice_index words.old k }
 {

@@ -51,7 +51,8 @@ impl PagePool {
     pub fn reserve(&mut self, n: u32) -> Result<(), Memory>
         ensures ok { OnOk result (n ≤ spare self.new) }
         ensures live { (p : ℕ) → is_live self.new p ≡ is_live self.old p }
-        ensures words { (p a : ℕ) → is_live self.old p ≡ true → a < 256 → word_of self.new p a ≡ word_of self.old p a }
+        ensures words { (p a : ℕ) → is_live self.old p ≡ true → a < 256
+            → word_of self.new p a ≡ word_of self.old p a }
         ensures err { OnErr result (self.new ≡ self.old) }
     {
         if n as usize <= self.free.len() {
@@ -84,7 +85,8 @@ impl PagePool {
         ensures fresh { is_live self.old result ≡ false }
         ensures live { (p : ℕ) → is_live self.new p ≡ (p == result || is_live self.old p) }
         ensures zeros { (a : ℕ) → a < 256 → word_of self.new result a ≡ 0 }
-        ensures others { (p a : ℕ) → p ≢ result → a < 256 → word_of self.new p a ≡ word_of self.old p a }
+        ensures others { (p a : ℕ) → p ≢ result → a < 256
+            → word_of self.new p a ≡ word_of self.old p a }
         ensures spare { spare self.new + 1 ≡ spare self.old }
     {
         let page = take_free(&mut self.live, &mut self.free);
@@ -114,8 +116,10 @@ impl PagePool {
     pub fn set(&mut self, page: u32, at: u8, word: u64)
         requires { is_live self.old page ≡ true }
         ensures word { word_of self.new page at ≡ word }
-        ensures elsewhere { (a : ℕ) → a < 256 → a ≢ at → word_of self.new page a ≡ word_of self.old page a }
-        ensures others { (p a : ℕ) → p ≢ page → a < 256 → word_of self.new p a ≡ word_of self.old p a }
+        ensures elsewhere { (a : ℕ) → a < 256 → a ≢ at
+            → word_of self.new page a ≡ word_of self.old page a }
+        ensures others { (p a : ℕ) → p ≢ page → a < 256
+            → word_of self.new p a ≡ word_of self.old p a }
         ensures live { (p : ℕ) → is_live self.new p ≡ is_live self.old p }
         ensures spare { spare self.new ≡ spare self.old }
     {
@@ -132,7 +136,8 @@ impl PagePool {
         requires to { is_live self.old to ≡ true }
         requires apart { from ≢ to }
         ensures words { (a : ℕ) → a < 256 → word_of self.new to a ≡ word_of self.old from a }
-        ensures others { (p a : ℕ) → p ≢ to → a < 256 → word_of self.new p a ≡ word_of self.old p a }
+        ensures others { (p a : ℕ) → p ≢ to → a < 256
+            → word_of self.new p a ≡ word_of self.old p a }
         ensures live { (p : ℕ) → is_live self.new p ≡ is_live self.old p }
         ensures spare { spare self.new ≡ spare self.old }
     {

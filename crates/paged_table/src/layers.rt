@@ -32,7 +32,8 @@ pub fn put_block(
     requires room { 0 < spare pool.old }
     ensures apart { IsApart pool.new now.now next.new }
     ensures now { (c : ℕ) → values pool.new now.now c ≡ values pool.old now.now c }
-    ensures next { (c : ℕ) → values pool.new next.new c ≡ with_span (values pool.old next.old) (block * 256 + lo) (block * 256 + hi) value c }
+    ensures next { (c : ℕ) → values pool.new next.new c
+        ≡ with_span (values pool.old next.old) (block * 256 + lo) (block * 256 + hi) value c }
     ensures others { (b : ℕ) → b ≢ block → block_at next.new b ≡ block_at next.old b }
     ensures room { spare pool.old ≤ spare pool.new + 1 }
 {
@@ -45,7 +46,8 @@ pub fn fill_block(pool: &mut PagePool, now: &[Block], next: &mut [Block], block:
     requires block { block < 4352 }
     ensures apart { IsApart pool.new now.now next.new }
     ensures now { (c : ℕ) → values pool.new now.now c ≡ values pool.old now.now c }
-    ensures next { (c : ℕ) → values pool.new next.new c ≡ with_span (values pool.old next.old) (block * 256) (block * 256 + 255) value c }
+    ensures next { (c : ℕ) → values pool.new next.new c
+        ≡ with_span (values pool.old next.old) (block * 256) (block * 256 + 255) value c }
     ensures others { (b : ℕ) → b ≢ block → block_at next.new b ≡ block_at next.old b }
     ensures room { spare pool.old ≤ spare pool.new }
 {

@@ -47,7 +47,8 @@ impl PagedTable {
     /// The pool of the table's pages. A page that no block has, now or next, is not live.
     pub fn pool(&self) -> &PagePool
         ensures pool { result.now ≡ self.now.pool }
-        ensures unused { (p : ℕ) → IsUnused self.now.committed self.now.prepared p → is_live result.now p ≡ false }
+        ensures unused { (p : ℕ) → IsUnused self.now.committed self.now.prepared p
+            → is_live result.now p ≡ false }
     {
         &self.pool
     }
@@ -55,7 +56,8 @@ impl PagedTable {
     /// The page of the block of a code point, and `None` exactly if the values now of that block are all equal.
     /// The page is live in the table's pool, and its words are those values, in order.
     pub fn page(&self, c: Point) -> Option<u32>
-        ensures { ShowsPage self.now.pool (⟦<PagedTable as Table<u64>>⟧.now self.now) (c / 256) result }
+        ensures { ShowsPage self.now.pool (⟦<PagedTable as Table<u64>>⟧.now self.now)
+            (c / 256) result }
     {
         match self.committed[(c.number() / WIDTH) as usize] {
             Block::One(_) => None,

@@ -47,7 +47,8 @@ pub fn give_own(pool: &mut PagePool, now: Block, next: Block)
     requires { (p : ℕ) → is_page p next ≡ true → is_live pool.old p ≡ true }
     ensures now { (p : ℕ) → is_page p now ≡ true → is_live pool.new p ≡ is_live pool.old p }
     ensures others { (p : ℕ) → is_page p next ≡ false → is_live pool.new p ≡ is_live pool.old p }
-    ensures gone { (p : ℕ) → is_page p next ≡ true → is_page p now ≡ false → is_live pool.new p ≡ false }
+    ensures gone { (p : ℕ) → is_page p next ≡ true → is_page p now ≡ false
+        → is_live pool.new p ≡ false }
     ensures words { (p a : ℕ) → word_of pool.new p a ≡ word_of pool.old p a }
     ensures room { spare pool.old ≤ spare pool.new }
 {
@@ -102,7 +103,8 @@ fn own_page(pool: &mut PagePool, now: Block, next: Block) -> u32
     ensures others { (p : ℕ) → is_page p next ≡ false → is_live pool.old p ≡ true → p ≢ result }
     ensures own { (p : ℕ) → is_page p next ≡ true → is_page p now ≡ false → p ≡ result }
     ensures others_live { (p : ℕ) → p ≢ result → is_live pool.new p ≡ is_live pool.old p }
-    ensures others_words { (p a : ℕ) → p ≢ result → a < 256 → word_of pool.new p a ≡ word_of pool.old p a }
+    ensures others_words { (p a : ℕ) → p ≢ result → a < 256
+        → word_of pool.new p a ≡ word_of pool.old p a }
     ensures room { spare pool.old ≤ spare pool.new + 1 }
 {
     match next {
@@ -126,7 +128,8 @@ fn own_page(pool: &mut PagePool, now: Block, next: Block) -> u32
 fn write(pool: &mut PagePool, page: u32, lo: u8, hi: u8, value: u64)
     requires live { is_live pool.old page ≡ true }
     requires ordered { lo ≤ hi }
-    ensures words { (a : ℕ) → a < 256 → word_of pool.new page a ≡ with_part (word_of pool.old page) lo hi value a }
+    ensures words { (a : ℕ) → a < 256
+        → word_of pool.new page a ≡ with_part (word_of pool.old page) lo hi value a }
     ensures others { (p a : ℕ) → p ≢ page → a < 256 → word_of pool.new p a ≡ word_of pool.old p a }
     ensures live { (p : ℕ) → is_live pool.new p ≡ is_live pool.old p }
     ensures room { spare pool.new ≡ spare pool.old }

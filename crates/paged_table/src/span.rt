@@ -27,7 +27,9 @@ pub fn prepare_span(
     ensures apart { IsApart pool.new now.now next.new }
     ensures covers { Covers touched.new.items now.now next.new }
     ensures now { (c : ℕ) → values pool.new now.now c ≡ values pool.old now.now c }
-    ensures ok { OnOk result ((c : ℕ) → values pool.new next.new c ≡ with_span (values pool.old next.old) span.lo span.hi value c) }
+    ensures ok { OnOk result ((c : ℕ)
+        → values pool.new next.new c
+        ≡ with_span (values pool.old next.old) span.lo span.hi value c) }
     ensures err { OnErr result ((c : ℕ) → values pool.new next.new c ≡ values pool.old next.old c) }
 {
     pool.reserve(2)?;
@@ -58,7 +60,8 @@ fn touch(
     requires ordered { first ≤ last }
     requires last { last < 4352 }
     ensures covers { Covers touched.new.items now.now next.now }
-    ensures reached { OnOk result ((b : ℕ) → first ≤ b → b ≤ last → listed touched.new.items b ≡ true) }
+    ensures reached { OnOk result ((b : ℕ) → first ≤ b → b ≤ last
+        → listed touched.new.items b ≡ true) }
 {
     for block in first..last + 1 {
         // if the two differ, the block is listed already
@@ -75,8 +78,10 @@ fn put_span(pool: &mut PagePool, now: &[Block], next: &mut [Block], span: Span, 
     requires room { 2 ≤ spare pool.old }
     ensures apart { IsApart pool.new now.now next.new }
     ensures now { (c : ℕ) → values pool.new now.now c ≡ values pool.old now.now c }
-    ensures next { (c : ℕ) → values pool.new next.new c ≡ with_span (values pool.old next.old) span.lo span.hi value c }
-    ensures others { (b : ℕ) → (b < span.lo / 256) ⊎ (span.hi / 256 < b) → block_at next.new b ≡ block_at next.old b }
+    ensures next { (c : ℕ) → values pool.new next.new c
+        ≡ with_span (values pool.old next.old) span.lo span.hi value c }
+    ensures others { (b : ℕ) → (b < span.lo / 256) ⊎ (span.hi / 256 < b)
+        → block_at next.new b ≡ block_at next.old b }
 {
     let lo = span.first();
     let hi = span.last();
@@ -108,7 +113,8 @@ fn fill_blocks(
     ensures apart { IsApart pool.new now.now next.new }
     ensures now { (c : ℕ) → values pool.new now.now c ≡ values pool.old now.now c }
     ensures next { (c : ℕ) → values pool.new next.new c
-        ≡ (if nat_le (from * 256) c && nat_lt c (to * 256) then value else values pool.old next.old c) }
+        ≡ (if nat_le (from * 256) c
+        && nat_lt c (to * 256) then value else values pool.old next.old c) }
     ensures others { (b : ℕ) → (b < from) ⊎ (to ≤ b) → block_at next.new b ≡ block_at next.old b }
     ensures room { spare pool.old ≤ spare pool.new }
 {

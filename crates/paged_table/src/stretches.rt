@@ -18,10 +18,13 @@ const REACH: usize = 16;
 /// the end of a block: that of the code point, or that of one of the 16 behind it.
 pub fn last_alike(pool: &PagePool, blocks: &[Block], c: Point) -> Point
     requires count { length blocks.now ≡ 4352 }
-    requires live { (b p : ℕ) → is_page p (block_at blocks.now b) ≡ true → is_live pool.now p ≡ true }
+    requires live { (b p : ℕ) → is_page p (block_at blocks.now b) ≡ true
+        → is_live pool.now p ≡ true }
     ensures from { c ≤ result }
-    ensures same { (k : ℕ) → c ≤ k → k ≤ result → values pool.now blocks.now k ≡ values pool.now blocks.now c }
-    ensures ends { (result + 1) % 256 ≢ 0 → values pool.now blocks.now (result + 1) ≢ values pool.now blocks.now c }
+    ensures same { (k : ℕ) → c ≤ k → k ≤ result
+        → values pool.now blocks.now k ≡ values pool.now blocks.now c }
+    ensures ends { (result + 1) % 256 ≢ 0
+        → values pool.now blocks.now (result + 1) ≢ values pool.now blocks.now c }
 {
     let block = (c.number() / WIDTH) as usize;
     let at = (c.number() % WIDTH) as u8;
@@ -39,8 +42,10 @@ pub fn last_alike(pool: &PagePool, blocks: &[Block], c: Point) -> Point
 fn last_in_block(pool: &PagePool, block: Block, at: u8) -> u8
     requires { (p : ℕ) → is_page p block ≡ true → is_live pool.now p ≡ true }
     ensures from { at ≤ result }
-    ensures same { (a : ℕ) → at ≤ a → a ≤ result → value_of pool.now block a ≡ value_of pool.now block at }
-    ensures ends { result < 255 → value_of pool.now block (result + 1) ≢ value_of pool.now block at }
+    ensures same { (a : ℕ) → at ≤ a → a ≤ result
+        → value_of pool.now block a ≡ value_of pool.now block at }
+    ensures ends { result < 255 → value_of pool.now block (result + 1)
+        ≢ value_of pool.now block at }
 {
     if let Block::Page(page) = block {
         let value = pool.get(page, at);

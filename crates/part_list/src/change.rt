@@ -88,7 +88,8 @@ fn put_behind<T: Copy>(parts: &mut Vec<Part<T>>, slot: usize, half: usize, behin
     requires part { slot < vec_len parts.old }
     requires edited { (d : _) → (slice_index_or parts.old.items slot d).edited ≡ true }
     requires now { behind.now ≡ [] }
-    requires next { take half (part_at (parts_next parts.old.items) slot) ++ behind.next ≡ part_at (parts_next parts.old.items) slot }
+    requires next { take half (part_at (parts_next parts.old.items) slot) ++ behind.next
+        ≡ part_at (parts_next parts.old.items) slot }
     ensures now { flat (parts_now parts.new.items) ≡ flat (parts_now parts.old.items) }
     ensures next { flat (parts_next parts.new.items) ≡ flat (parts_next parts.old.items) }
     ensures whole { vec_len parts.new ≡ vec_len parts.old → parts.new.items ≡ parts.old.items }

@@ -84,7 +84,8 @@ impl<T: Copy> Known<T> {
     /// Whether no entry passes that is held. Each one that passes has a code point from one to another.
     fn lacks<S: Seek<T>>(&self, first: u32, last: u32, seek: &S) -> bool
         requires { AllMeet (S.passing seek.now) first last }
-        ensures { result ≡ true → (entry : Entry T) → IsHeld self.now entry → S.passing seek.now entry ≡ false }
+        ensures { result ≡ true → (entry : Entry T) → IsHeld self.now entry
+            → S.passing seek.now entry ≡ false }
     {
         are_clear(&self.points, first, last) && first_in(&self.wide, seek).is_none()
     }
@@ -103,7 +104,8 @@ impl<T: Copy> Cover<T> {
 
     /// Whether no entry passes that is covered.
     pub fn lacks<S: Seek<T>>(&self, seek: &S) -> bool
-        ensures { result ≡ true → (entry : Entry T) → IsCovered self.now entry → S.passing seek.now entry ≡ false }
+        ensures { result ≡ true → (entry : Entry T) → IsCovered self.now entry
+            → S.passing seek.now entry ≡ false }
     {
         match (seek.points(), &self.known) {
             (Some((first, last)), Some(known)) => known.lacks(first, last, seek),

@@ -21,8 +21,10 @@ pub fn push<T: Copy>(
     parts: &mut Vec<Part<T>>,
     entry: Spanned<T>,
 ) -> Result<(), Memory>
-    ensures now { OnOk result (flat (parts_now parts.new.items) ≡ flat (parts_now parts.old.items) ++ entry ∷ []) }
-    ensures next { OnOk result (flat (parts_next parts.new.items) ≡ flat (parts_next parts.old.items) ++ entry ∷ []) }
+    ensures now { OnOk result (flat (parts_now parts.new.items) ≡ flat (parts_now parts.old.items)
+        ++ entry ∷ []) }
+    ensures next { OnOk result (flat (parts_next parts.new.items)
+        ≡ flat (parts_next parts.old.items) ++ entry ∷ []) }
     ensures err { OnErr result (parts.new.items ≡ parts.old.items) }
 {
     let count = parts.len();
@@ -47,8 +49,11 @@ fn splice<T: Copy>(
     requires within { spot.at + removed ≤ length (part_at (parts_next parts.old.items) spot.slot) }
     ensures len { vec_len parts.new ≡ vec_len parts.old }
     ensures now { parts_now parts.new.items ≡ parts_now parts.old.items }
-    ensures others { (k : ℕ) → (k ≡ spot.slot → ⊥) → part_at (parts_next parts.new.items) k ≡ part_at (parts_next parts.old.items) k }
-    ensures ok { OnOk result (flat (parts_next parts.new.items) ≡ spliced (flat (parts_next parts.old.items)) (place (parts_next parts.old.items) spot) removed (put_entries put)) }
+    ensures others { (k : ℕ) → (k ≡ spot.slot → ⊥)
+        → part_at (parts_next parts.new.items) k ≡ part_at (parts_next parts.old.items) k }
+    ensures ok { OnOk result (flat (parts_next parts.new.items)
+        ≡ spliced (flat (parts_next parts.old.items))
+        (place (parts_next parts.old.items) spot) removed (put_entries put)) }
     ensures err { OnErr result (parts.new.items ≡ parts.old.items) }
 {
     parts[spot.slot].splice(alloc, spot.at, removed, put)
@@ -67,8 +72,11 @@ pub fn edit<T: Copy>(
     requires part { spot.slot < length (parts_next parts.old.items) }
     requires within { spot.at + removed ≤ length (part_at (parts_next parts.old.items) spot.slot) }
     ensures now { flat (parts_now parts.new.items) ≡ flat (parts_now parts.old.items) }
-    ensures others { vec_len parts.new ≡ vec_len parts.old → (k : ℕ) → (k ≡ spot.slot → ⊥) → part_at (parts_next parts.new.items) k ≡ part_at (parts_next parts.old.items) k }
-    ensures ok { OnOk result (flat (parts_next parts.new.items) ≡ spliced (flat (parts_next parts.old.items)) (place (parts_next parts.old.items) spot) removed (put_entries put)) }
+    ensures others { vec_len parts.new ≡ vec_len parts.old → (k : ℕ) → (k ≡ spot.slot → ⊥)
+        → part_at (parts_next parts.new.items) k ≡ part_at (parts_next parts.old.items) k }
+    ensures ok { OnOk result (flat (parts_next parts.new.items)
+        ≡ spliced (flat (parts_next parts.old.items))
+        (place (parts_next parts.old.items) spot) removed (put_entries put)) }
     ensures err { OnErr result (parts.new.items ≡ parts.old.items) }
 {
     splice(alloc, parts, spot, removed, put)?;

@@ -14,7 +14,8 @@ fn next_candidate<T: Copy, S: Seek<T>>(entries: &[Spanned<T>], seek: &S, from: u
     requires from { from ≤ length entries.now }
     ensures within { result ≤ length entries.now }
     ensures from { from ≤ result }
-    ensures none { position_or_len (S.passing seek.now) (drop from entries.now) + from ≡ position_or_len (S.passing seek.now) (drop result entries.now) + result }
+    ensures none { position_or_len (S.passing seek.now) (drop from entries.now) + from
+        ≡ position_or_len (S.passing seek.now) (drop result entries.now) + result }
 {
     let mut at = from;
     'entries: while at < entries.len() {

@@ -37,7 +37,8 @@ impl<T: Copy> Hints<T> {
 
     /// Whether no entry passes of which this is told.
     pub fn lacks<S: Seek<T>>(&self, seek: &S) -> bool
-        ensures { result ≡ true → (entry : Entry T) → IsHinted self.now entry → S.passing seek.now entry ≡ false }
+        ensures { result ≡ true → (entry : Entry T) → IsHinted self.now entry
+            → S.passing seek.now entry ≡ false }
     {
         self.tags.lacks(seek) || self.cover.lacks(seek)
     }

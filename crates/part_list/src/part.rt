@@ -57,7 +57,8 @@ impl<T: Copy> Part<T> {
     ///
     /// - `Memory`: memory ran out.
     pub fn of(alloc: Global, entry: Spanned<T>) -> Result<Part<T>, Memory>
-        ensures { IfOk result (λ part. part ≡ record { now = entry ∷ []; next = entry ∷ []; edited = false }) }
+        ensures { IfOk result (λ part. part
+            ≡ record { now = entry ∷ []; next = entry ∷ []; edited = false }) }
     {
         let mut kept = Vec::with_capacity(alloc, LOADED)?;
         kept.push(entry)?;
@@ -144,7 +145,13 @@ impl<T: Copy> Part<T> {
     /// - `Memory`: memory ran out. The part stays as it was.
     pub fn push(&mut self, entry: Spanned<T>) -> Result<(), Memory>
         requires { self.old.edited ≡ false }
-        ensures ok { OnOk result (self.new ≡ record { now = self.old.now ++ entry ∷ []; next = self.old.next ++ entry ∷ []; edited = false }) }
+        ensures ok { OnOk result (self.new
+            ≡ record {
+              now = self.old.now ++ entry ∷ [];
+              next = self.old.next ++ entry
+                  ∷ [];
+              edited = false;
+            }) }
         ensures err { OnErr result (self.new ≡ self.old) }
     {
         let ordered = self.ordered & goes_on(self.kept.as_slice(), &entry);
@@ -166,7 +173,13 @@ impl<T: Copy> Part<T> {
     ) -> Result<(), Memory>
         requires { at + removed ≤ length self.old.next }
         ensures now { self.new.now ≡ self.old.now }
-        ensures ok { OnOk result (self.new ≡ record { now = self.old.now; next = spliced self.old.next at removed (put_entries put); edited = true }) }
+        ensures ok { OnOk result (self.new
+            ≡ record {
+              now = self.old.now;
+              next = spliced self.old.next at removed
+                  (put_entries put);
+              edited = true;
+            }) }
         ensures err { OnErr result (self.new ≡ self.old) }
     {
         let edit = spliced(alloc, self.next(), at, removed, put)?;
@@ -179,7 +192,8 @@ impl<T: Copy> Part<T> {
     /// Keeps the first `len` entries next, with the bounds of these. It takes no memory.
     pub fn truncate(&mut self, len: usize)
         requires { self.old.edited ≡ true }
-        ensures { self.new ≡ record { now = self.old.now; next = take len self.old.next; edited = true } }
+        ensures { self.new ≡ record
+            { now = self.old.now; next = take len self.old.next; edited = true } }
     {
         if let Some(mut front) = self.edit.take() {
             front.truncate(len);
@@ -247,7 +261,8 @@ impl<T: Copy> Part<T> {
 
     /// Entries next that stand together, among which are all that pass.
     pub fn candidates<S: Seek<T>>(&self, seek: &S) -> &[Spanned<T>]
-        ensures { filter (S.passing seek.now) result.now ≡ filter (S.passing seek.now) self.now.next }
+        ensures { filter (S.passing seek.now) result.now
+            ≡ filter (S.passing seek.now) self.now.next }
     {
         let (from, to) = self.window(seek);
         &self.next()[from..to]

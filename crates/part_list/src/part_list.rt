@@ -115,7 +115,8 @@ impl<T: Copy> PartList<T> {
         requires part { spot.slot < length self.old.next }
         requires within { spot.at + removed ≤ length (part_at self.old.next spot.slot) }
         ensures now { now_in self.new ≡ now_in self.old }
-        ensures ok { OnOk result (next_in self.new ≡ spliced (next_in self.old) (place self.old.next spot) removed (put_entries put)) }
+        ensures ok { OnOk result (next_in self.new
+            ≡ spliced (next_in self.old) (place self.old.next spot) removed (put_entries put)) }
         ensures err { OnErr result (self.new ≡ self.old) }
     {
         self.edited = true;
@@ -136,7 +137,8 @@ impl<T: Copy> PartList<T> {
     pub fn insert(&mut self, spot: Spot, entry: Spanned<T>) -> Result<(), Memory>
         requires { IsGap self.old.next spot }
         ensures now { now_in self.new ≡ now_in self.old }
-        ensures ok { OnOk result (next_in self.new ≡ insert (next_in self.old) (place self.old.next spot) entry) }
+        ensures ok { OnOk result (next_in self.new
+            ≡ insert (next_in self.old) (place self.old.next spot) entry) }
         ensures err { OnErr result (self.new ≡ self.old) }
     {
         self.edit(spot, 0, Put::one(entry))
@@ -148,7 +150,8 @@ impl<T: Copy> PartList<T> {
     pub fn replace(&mut self, spot: Spot, entry: Spanned<T>) -> Result<(), Memory>
         requires { IsEntry self.old.next spot }
         ensures now { now_in self.new ≡ now_in self.old }
-        ensures ok { OnOk result (next_in self.new ≡ slice_set (next_in self.old) (place self.old.next spot) entry) }
+        ensures ok { OnOk result (next_in self.new
+            ≡ slice_set (next_in self.old) (place self.old.next spot) entry) }
         ensures err { OnErr result (self.new ≡ self.old) }
     {
         self.edit(spot, 1, Put::one(entry))
@@ -166,7 +169,8 @@ impl<T: Copy> PartList<T> {
         requires { IsEntry self.old.next spot }
         ensures now { now_in self.new ≡ now_in self.old }
         ensures ok { let at = place self.old.next spot in
-            OnOk result (next_in self.new ≡ insert (slice_set (next_in self.old) at entry) (at + 1) behind) }
+            OnOk result (next_in self.new
+            ≡ insert (slice_set (next_in self.old) at entry) (at + 1) behind) }
         ensures err { OnErr result (self.new ≡ self.old) }
     {
         self.edit(spot, 1, Put::two(entry, behind))
@@ -178,7 +182,8 @@ impl<T: Copy> PartList<T> {
     pub fn remove(&mut self, spot: Spot) -> Result<(), Memory>
         requires { IsEntry self.old.next spot }
         ensures now { now_in self.new ≡ now_in self.old }
-        ensures ok { OnOk result (next_in self.new ≡ remove (next_in self.old) (place self.old.next spot)) }
+        ensures ok { OnOk result (next_in self.new
+            ≡ remove (next_in self.old) (place self.old.next spot)) }
         ensures err { OnErr result (self.new ≡ self.old) }
     {
         self.shrunk = true;

@@ -87,7 +87,8 @@ impl<T: Copy> PartList<T> {
     /// has the entries next that it has now.
     pub fn edited_part(&self, slot: usize) -> Option<&[Spanned<T>]>
         requires { slot < length self.now.now }
-        ensures { MatchOption result (part_at self.now.next slot ≡ part_at self.now.now slot) (λ entries. entries.now ≡ part_at self.now.next slot) }
+        ensures { MatchOption result (part_at self.now.next slot ≡ part_at self.now.now slot)
+            (λ entries. entries.now ≡ part_at self.now.next slot) }
     {
         let part = &self.parts[slot];
         if part.is_edited() {

@@ -24,7 +24,8 @@ pub trait Seek<T: Copy> {
 
     /// The tag that every entry has that passes; `None` if that is not known.
     fn tag(&self) -> Option<u32>
-        ensures { IfSome result (λ tag. (entry : Entry T) → passing self.now entry ≡ true → entry.tag ≡ tag) }
+        ensures { IfSome result (λ tag. (entry : Entry T) → passing self.now entry ≡ true
+            → entry.tag ≡ tag) }
     {
         None
     }

@@ -81,7 +81,8 @@ impl Tags {
 
     /// Whether no entry passes that has one of the tags.
     pub fn lacks<T: Copy, S: Seek<T>>(&self, seek: &S) -> bool
-        ensures { result ≡ true → (entry : Entry T) → IsKnown self.now entry → S.passing seek.now entry ≡ false }
+        ensures { result ≡ true → (entry : Entry T) → IsKnown self.now entry
+            → S.passing seek.now entry ≡ false }
     {
         match seek.tag() {
             Some(tag) => !self.may_have(tag),

@@ -79,8 +79,10 @@ fn with_questions<W: FactView>(
 /// - `Memory`: memory ran out.
 pub fn questions_of<W: FactView>(alloc: Global, view: &W, c: Point) -> Result<Queries, Memory>
     requires { HasRecord (W.facts_of view.now) c }
-    ensures asked { IfOk result (λ questions. SameQueries questions (asked (W.facts_of view.now) c)) }
-    ensures rising { IfOk result (λ questions. IsStrictlySortedBy (⟦<Query as Ord>⟧.cmp) questions) }
+    ensures asked { IfOk result (λ questions. SameQueries questions
+        (asked (W.facts_of view.now) c)) }
+    ensures rising { IfOk result (λ questions. IsStrictlySortedBy
+        (⟦<Query as Ord>⟧.cmp) questions) }
 {
     let facts = view.facts(c);
     let mut asked = Vec::with_capacity(alloc, ROOM)?;
@@ -103,7 +105,8 @@ fn put_more<W: FactView>(
     asked: &mut Vec<Query>,
 ) -> Result<(), Memory>
     requires { shown_facts facts.now ≡ W.facts_of view.now c }
-    ensures { OnOk result (SameQueries asked.new.items (asked.old.items ++ other_asks (W.facts_of view.now) c)) }
+    ensures { OnOk result (SameQueries asked.new.items
+        (asked.old.items ++ other_asks (W.facts_of view.now) c)) }
 {
     put_members(c, facts, asked)?;
     put_composite(view, facts, asked)?;
@@ -119,7 +122,8 @@ fn put_foldings<W: FactView>(
     c: Point,
     asked: &mut Vec<Query>,
 ) -> Result<(), Memory>
-    ensures { OnOk result (SameQueries asked.new.items (asked.old.items ++ foldings_put (W.facts_of view.now) c)) }
+    ensures { OnOk result (SameQueries asked.new.items
+        (asked.old.items ++ foldings_put (W.facts_of view.now) c)) }
 {
     let alike = put_rounds(alloc, view, Folding::Full, c, asked)?;
     if !alike {
@@ -136,7 +140,8 @@ fn put_canonical<W: FactView>(
     c: Point,
     asked: &mut Vec<Query>,
 ) -> Result<(), Memory>
-    ensures { OnOk result (asked.new.items ≡ asked.old.items ++ canonical_asks (W.facts_of view.now) c) }
+    ensures { OnOk result (asked.new.items ≡ asked.old.items
+        ++ canonical_asks (W.facts_of view.now) c) }
 {
     if has_compat(view, c) {
         put_asks(alloc, view, false, &[c], asked)?;

@@ -26,9 +26,11 @@ pub fn put_asks<W: FactView>(
     points: &[Point],
     asked: &mut Vec<Query>,
 ) -> Result<Option<Points>, Memory>
-    ensures asked { OnOk result (asked.new.items ≡ asked.old.items ++ asks (W.facts_of view.now) compat points.now) }
+    ensures asked { OnOk result (asked.new.items ≡ asked.old.items
+        ++ asks (W.facts_of view.now) compat points.now) }
     ensures form { IfOk result (λ form. form
-        ≡ list_in (composed (W.facts_of view.now) (decomposed (W.facts_of view.now) compat points.now))) }
+        ≡ list_in (composed (W.facts_of view.now)
+        (decomposed (W.facts_of view.now) compat points.now))) }
 {
     put_trees(view, compat, points, asked)?;
     let form = decomposed(alloc, view, compat, points)?;
@@ -42,7 +44,8 @@ fn put_form<W: FactView>(
     form: Option<Points>,
     asked: &mut Vec<Query>,
 ) -> Result<Option<Points>, Memory>
-    ensures asked { OnOk result (asked.new.items ≡ asked.old.items ++ composing_at (W.facts_of view.now) form) }
+    ensures asked { OnOk result (asked.new.items ≡ asked.old.items
+        ++ composing_at (W.facts_of view.now) form) }
     ensures form { IfOk result (λ found. found ≡ composed_at (W.facts_of view.now) form) }
 {
     match form {
@@ -63,7 +66,8 @@ fn put_composing<W: FactView>(
 ) -> Result<Points, Memory>
     ensures asked { OnOk result (asked.new.items ≡ asked.old.items
         ++ (tries (class_of (W.facts_of view.now)) (pair_of (W.facts_of view.now)) form
-        ++ row_queries (compose (class_of (W.facts_of view.now)) (pair_of (W.facts_of view.now)) form))) }
+        ++ row_queries (compose (class_of (W.facts_of view.now))
+        (pair_of (W.facts_of view.now)) form))) }
     ensures form { IfOk result (λ found. found
         ≡ compose (class_of (W.facts_of view.now)) (pair_of (W.facts_of view.now)) form) }
 {
@@ -80,7 +84,8 @@ fn decomposed<W: FactView>(
     compat: bool,
     points: &[Point],
 ) -> Result<Option<Points>, Memory>
-    ensures { IfOk result (λ form. form ≡ list_in (decomposed (W.facts_of view.now) compat points.now)) }
+    ensures { IfOk result (λ form. form
+        ≡ list_in (decomposed (W.facts_of view.now) compat points.now)) }
 {
     let form = if compat {
         nfkd(alloc, view, points)

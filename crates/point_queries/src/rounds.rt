@@ -91,9 +91,12 @@ fn put_round<W: FactView>(
     asked: &mut Vec<Query>,
 ) -> Result<Round, Memory>
     requires { known ≡ true → Some s.now ≡ list_in (nfkc (W.facts_of view.now) s.now) }
-    ensures asked { OnOk result (asked.new.items ≡ asked.old.items ++ known_puts folding (W.facts_of view.now) known s.now) }
-    ensures next { IfOk result (λ round. round.after ≡ after_round folding (W.facts_of view.now) s.now) }
-    ensures alike { IfOk result (λ round. round.alike ≡ alike_in (W.facts_of view.now) (list_in (nfkc (W.facts_of view.now) s.now))) }
+    ensures asked { OnOk result (asked.new.items ≡ asked.old.items
+        ++ known_puts folding (W.facts_of view.now) known s.now) }
+    ensures next { IfOk result (λ round. round.after
+        ≡ after_round folding (W.facts_of view.now) s.now) }
+    ensures alike { IfOk result (λ round. round.alike
+        ≡ alike_in (W.facts_of view.now) (list_in (nfkc (W.facts_of view.now) s.now))) }
 {
     if known {
         return put_folding(alloc, view, folding, s, s, asked);
@@ -118,8 +121,10 @@ fn put_folding<W: FactView>(
     asked: &mut Vec<Query>,
 ) -> Result<Round, Memory>
     requires { Some form.now ≡ list_in (nfkc (W.facts_of view.now) s.now) }
-    ensures asked { OnOk result (asked.new.items ≡ asked.old.items ++ folding_puts folding (W.facts_of view.now) s.now (Some form.now)) }
-    ensures next { IfOk result (λ round. round.after ≡ after_form folding (W.facts_of view.now) s.now (Some form.now)) }
+    ensures asked { OnOk result (asked.new.items ≡ asked.old.items
+        ++ folding_puts folding (W.facts_of view.now) s.now (Some form.now)) }
+    ensures next { IfOk result (λ round. round.after
+        ≡ after_form folding (W.facts_of view.now) s.now (Some form.now)) }
     ensures alike { IfOk result (λ round. round.alike ≡ are_alike (W.facts_of view.now) form.now) }
 {
     let alike = are_alike(view, form);
@@ -144,7 +149,8 @@ fn put_again<W: FactView>(
     asked: &mut Vec<Query>,
 ) -> Result<Option<Points>, Memory>
     requires { Some form.now ≡ list_in (nfkc (W.facts_of view.now) s.now) }
-    ensures asked { OnOk result (asked.new.items ≡ asked.old.items ++ again_puts (W.facts_of view.now) s.now kept.now) }
+    ensures asked { OnOk result (asked.new.items ≡ asked.old.items
+        ++ again_puts (W.facts_of view.now) s.now kept.now) }
     ensures form { IfOk result (λ found. found ≡ list_in (nfkc (W.facts_of view.now) kept.now)) }
 {
     if same_points(kept, s) {

@@ -18,8 +18,8 @@ pub fn put_trees<W: FactView>(
     points: &[Point],
     asked: &mut Vec<Query>,
 ) -> Result<(), Memory>
-    ensures { OnOk result (asked.new.items
-        ≡ asked.old.items ++ row_queries (flat_map (whole_tree (W.facts_of view.now) compat) points.now)) }
+    ensures { OnOk result (asked.new.items ≡ asked.old.items
+        ++ row_queries (flat_map (whole_tree (W.facts_of view.now) compat) points.now)) }
 {
     'points: for c in points {
         put_whole_tree(view, compat, *c, asked)?;

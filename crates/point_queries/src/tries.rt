@@ -38,8 +38,9 @@ fn put_tried<W: FactView>(
 ) -> Result<Option<Starter<Point>>, Memory>
     ensures asked { OnOk result (asked.new.items ≡ asked.old.items
         ++ tried_by (reached_point starter.now (class_of (W.facts_of view.now) y)) y) }
-    ensures starter { IfOk result (λ next. next
-        ≡ next_starter (class_of (W.facts_of view.now)) (pair_of (W.facts_of view.now)) starter.now y) }
+    ensures starter { IfOk result
+        (λ next. next ≡ next_starter (class_of (W.facts_of view.now))
+        (pair_of (W.facts_of view.now)) starter.now y) }
 {
     let class = view.class(y);
     let Some(point) = reached_point(starter, class) else {

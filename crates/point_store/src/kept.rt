@@ -116,8 +116,12 @@ impl<T: Table<u64> + Copied, V: Drop> Kept<T, V> {
     ) -> Result<Kept<T, V>, Memory>
         requires callable { F.IsAlwaysCallable copy }
         requires copies { Copies (F.post copy) }
-        ensures now { IfOk result (λ kept. ⟦<Kept<T, V> as Store<V>>⟧.now kept ≡ ⟦<Kept<T, V> as Store<V>>⟧.now self.now) }
-        ensures next { IfOk result (λ kept. ⟦<Kept<T, V> as Store<V>>⟧.next kept ≡ ⟦<Kept<T, V> as Store<V>>⟧.next self.now) }
+        ensures now { IfOk result
+            (λ kept. ⟦<Kept<T, V> as Store<V>>⟧.now kept
+            ≡ ⟦<Kept<T, V> as Store<V>>⟧.now self.now) }
+        ensures next { IfOk result
+            (λ kept. ⟦<Kept<T, V> as Store<V>>⟧.next kept
+            ≡ ⟦<Kept<T, V> as Store<V>>⟧.next self.now) }
     {
         Ok(Kept {
             places: self.places.copied(alloc)?,
@@ -132,8 +136,10 @@ impl<T: Stretches<u64>, V: Drop> Kept<T, V> {
     /// values. What is now and next stays.
     #[tactic(auto, using(crate::proofs::SlotSteps::held_same, crate::proofs::SlotSteps::values_same))]
     pub fn sweep(&mut self)
-        ensures now { SameValues (⟦<Kept<T, V> as Store<V>>⟧.now self.new) (⟦<Kept<T, V> as Store<V>>⟧.now self.old) }
-        ensures next { SameValues (⟦<Kept<T, V> as Store<V>>⟧.next self.new) (⟦<Kept<T, V> as Store<V>>⟧.next self.old) }
+        ensures now { SameValues (⟦<Kept<T, V> as Store<V>>⟧.now self.new)
+            (⟦<Kept<T, V> as Store<V>>⟧.now self.old) }
+        ensures next { SameValues (⟦<Kept<T, V> as Store<V>>⟧.next self.new)
+            (⟦<Kept<T, V> as Store<V>>⟧.next self.old) }
     {
         if self.slots.are_few() {
             return;
@@ -151,9 +157,11 @@ impl<T: Stretches<u64>, V: Drop> Kept<T, V> {
     pub fn last_of_stretch(&self, c: Point) -> Point
         ensures from { c ≤ result }
         ensures same { (k : ℕ) → c ≤ k → k ≤ result
-            → ⟦<Kept<T, V> as Store<V>>⟧.now self.now k ≡ ⟦<Kept<T, V> as Store<V>>⟧.now self.now c }
+            → ⟦<Kept<T, V> as Store<V>>⟧.now self.now k
+            ≡ ⟦<Kept<T, V> as Store<V>>⟧.now self.now c }
         ensures ends { result + 1 < 1114112 → (result + 1) % 256 ≢ 0
-            → ⟦<Kept<T, V> as Store<V>>⟧.now_at self.now (result + 1) ≢ ⟦<Kept<T, V> as Store<V>>⟧.now_at self.now c }
+            → ⟦<Kept<T, V> as Store<V>>⟧.now_at self.now (result + 1)
+            ≢ ⟦<Kept<T, V> as Store<V>>⟧.now_at self.now c }
     {
         self.places.last_of_stretch(c)
     }
@@ -162,9 +170,11 @@ impl<T: Stretches<u64>, V: Drop> Kept<T, V> {
     pub fn last_of_stretch_next(&self, c: Point) -> Point
         ensures from { c ≤ result }
         ensures same { (k : ℕ) → c ≤ k → k ≤ result
-            → ⟦<Kept<T, V> as Store<V>>⟧.next self.now k ≡ ⟦<Kept<T, V> as Store<V>>⟧.next self.now c }
+            → ⟦<Kept<T, V> as Store<V>>⟧.next self.now k
+            ≡ ⟦<Kept<T, V> as Store<V>>⟧.next self.now c }
         ensures ends { result + 1 < 1114112 → (result + 1) % 256 ≢ 0
-            → ⟦<Kept<T, V> as Store<V>>⟧.next_at self.now (result + 1) ≢ ⟦<Kept<T, V> as Store<V>>⟧.next_at self.now c }
+            → ⟦<Kept<T, V> as Store<V>>⟧.next_at self.now (result + 1)
+            ≢ ⟦<Kept<T, V> as Store<V>>⟧.next_at self.now c }
     {
         self.places.last_of_stretch_next(c)
     }

@@ -80,7 +80,8 @@ impl<V: Drop> Slots<V> {
     /// - `Memory`: memory ran out.
     #[tactic(auto, using(crate::proofs::SlotSteps::earlier_set, crate::proofs::SlotSteps::earlier_push))]
     pub fn hold(&mut self, value: V) -> Result<u64, Memory>
-        ensures earlier { (p : ℕ) → is_some (held_at self.old p) ≡ true → held_at self.new p ≡ held_at self.old p }
+        ensures earlier { (p : ℕ) → is_some (held_at self.old p) ≡ true
+            → held_at self.new p ≡ held_at self.old p }
         ensures place { IfOk result (λ place. held_at self.new place ≡ Some value) }
     {
         match free_place(&self.more, &mut self.free) {
@@ -111,7 +112,8 @@ impl<V: Drop> Slots<V> {
     /// Lets go of the values at unused places, except for the first one, and gives back the room behind the last one
     /// that is left.
     pub fn let_go(&mut self, unused: &[bool])
-        ensures { (p : ℕ) → is_unused unused.now p ≡ false → held_at self.new p ≡ held_at self.old p }
+        ensures { (p : ℕ) → is_unused unused.now p ≡ false
+            → held_at self.new p ≡ held_at self.old p }
     {
         empty_unused(&mut self.more, unused);
         cut_end(&mut self.more);
@@ -156,7 +158,8 @@ fn free_place<V: Drop>(more: &[Option<V>], free: &mut Vec<usize>) -> Option<usiz
 
 /// Lets go of the values at unused places, which are counted from 1 on.
 fn empty_unused<V: Drop>(more: &mut [Option<V>], unused: &[bool])
-    ensures { (i : ℕ) → is_unused unused.now (i + 1) ≡ false → slice_index_or more.new i None ≡ slice_index_or more.old i None }
+    ensures { (i : ℕ) → is_unused unused.now (i + 1) ≡ false
+        → slice_index_or more.new i None ≡ slice_index_or more.old i None }
 {
     let mut at = 0;
     'places: while at < more.len() {
@@ -170,7 +173,8 @@ fn empty_unused<V: Drop>(more: &mut [Option<V>], unused: &[bool])
 /// Drops the places behind the last value.
 #[tactic(auto, using(crate::proofs::SlotSteps::same_cut))]
 fn cut_end<V: Drop>(more: &mut Vec<Option<V>>)
-    ensures { (i : ℕ) → slice_index_or more.new.items i None ≡ slice_index_or more.old.items i None }
+    ensures { (i : ℕ) → slice_index_or more.new.items i None
+        ≡ slice_index_or more.old.items i None }
 {
     let end = end_of_values(more);
     more.truncate(end);

@@ -56,7 +56,8 @@ pub trait Store<V: Drop>: Sized + Drop {
     fn hold(&mut self, value: V) -> Result<u64, Memory>
         ensures now { SameValues (now self.new) (now self.old) }
         ensures next { SameValues (next self.new) (next self.old) }
-        ensures earlier { (p : ℕ) → is_some (held self.old p) ≡ true → held self.new p ≡ held self.old p }
+        ensures earlier { (p : ℕ) → is_some (held self.old p) ≡ true
+            → held self.new p ≡ held self.old p }
         ensures place { IfOk result (λ place. held self.new place ≡ Some value) };
 
     /// Gives the points of a span the value next that is held at a place. What is now stays.
@@ -67,7 +68,9 @@ pub trait Store<V: Drop>: Sized + Drop {
         ensures now { SameValues (now self.new) (now self.old) }
         ensures ok { OnOk result ((value : V) → held self.old place ≡ Some value
             → SameValues (next self.new) (with_span (next self.old) span.lo span.hi value)) }
-        ensures shared { OnOk result (SameValues (next_at self.new) (with_span (next_at self.old) span.lo span.hi place)) }
+        ensures shared { OnOk result
+            (SameValues (next_at self.new)
+            (with_span (next_at self.old) span.lo span.hi place)) }
         ensures err { OnErr result (SameValues (next self.new) (next self.old)) }
         ensures held { (p : ℕ) → held self.new p ≡ held self.old p };
 
@@ -76,7 +79,8 @@ pub trait Store<V: Drop>: Sized + Drop {
     /// - `Memory`: memory ran out. What is next stays too.
     fn prepare(&mut self, span: Span, value: V) -> Result<(), Memory>
         ensures now { SameValues (now self.new) (now self.old) }
-        ensures ok { OnOk result (SameValues (next self.new) (with_span (next self.old) span.lo span.hi value)) }
+        ensures ok { OnOk result (SameValues (next self.new)
+            (with_span (next self.old) span.lo span.hi value)) }
         ensures err { OnErr result (SameValues (next self.new) (next self.old)) }
         ensures earlier { (p : ℕ) → is_some (held self.old p) ≡ true → held self.new p ≡ held self.old p };
 

@@ -36,7 +36,8 @@ fn spare_all<F: Fn(Point) -> Point, G: Fn(Point) -> u64>(
 )
     requires last_callable { F.IsAlwaysCallable last_of }
     requires place_callable { G.IsAlwaysCallable place_of }
-    ensures used { (places : ℕ → ℕ) → TellsAlike (F.post last_of) places → Gives (G.post place_of) places → AreUsed unused.new places }
+    ensures used { (places : ℕ → ℕ) → TellsAlike (F.post last_of) places
+        → Gives (G.post place_of) places → AreUsed unused.new places }
     ensures others { (p : ℕ) → is_unused unused.old p ≡ false → is_unused unused.new p ≡ false }
 {
     'stretches: for span in stretches_by(last_of) {

@@ -10,7 +10,8 @@ use ucd_points::Point;
 pub fn count_passing<F: Fn(Point) -> Point, P: Fn(Point) -> bool>(last_of: F, passes: P) -> u32
     requires last_callable { F.IsAlwaysCallable last_of }
     requires passes_callable { P.IsAlwaysCallable passes }
-    ensures { (p : ℕ → Bool) → TellsAlike (F.post last_of) p → Gives (P.post passes) p → result ≡ passing p }
+    ensures { (p : ℕ → Bool) → TellsAlike (F.post last_of) p → Gives (P.post passes) p
+        → result ≡ passing p }
 {
     let mut count = 0;
     'stretches: for span in stretches_by(last_of) {

@@ -13,8 +13,12 @@ use ucd_points::Point;
 /// (hexadecimal), and each is told. So what holds throughout each of them holds of all these code points, and there are no more
 /// stretches than code points.
 pub fn stretches_cover<F: Fn(Point) -> Point>(left: &StretchIter<F>)
-    ensures follow { (xs : List Bounds) → Drains (GivesStretch F.post) left.now xs → Follow (F.post left.now.last_of) left.now.from xs 1114112 }
-    ensures throughout { (xs : List Bounds) (p : ℕ → Bool) → Drains (GivesStretch F.post) left.now xs → All (λ x. (k : ℕ) → x.lo ≤ k → k ≤ x.hi → p k ≡ true) xs
-        → (k : ℕ) → left.now.from ≤ k → k < 1114112 → p k ≡ true }
-    ensures few { (xs : List Bounds) → Drains (GivesStretch F.post) left.now xs → left.now.from + length xs ≤ 1114112 }
+    ensures follow { (xs : List Bounds) → Drains (GivesStretch F.post) left.now xs
+        → Follow (F.post left.now.last_of) left.now.from xs 1114112 }
+    ensures throughout { (xs : List Bounds) (p : ℕ → Bool)
+        → Drains (GivesStretch F.post) left.now xs
+        → All (λ x. (k : ℕ) → x.lo ≤ k → k ≤ x.hi → p k ≡ true) xs → (k : ℕ) → left.now.from ≤ k
+        → k < 1114112 → p k ≡ true }
+    ensures few { (xs : List Bounds) → Drains (GivesStretch F.post) left.now xs
+        → left.now.from + length xs ≤ 1114112 }
 {}

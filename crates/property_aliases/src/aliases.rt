@@ -34,7 +34,8 @@ impl Aliases {
     /// - `Memory`: memory ran out.
     pub fn of(alloc: Global, release: &Release) -> Result<Aliases, Memory>
         ensures aliases { IfOk result (λ aliases. AreAliasesOf aliases (sources_of release.now)) }
-        ensures numbers { IfOk result (λ aliases. AreNumbersOf aliases.numbers (rows_now release.now)) }
+        ensures numbers { IfOk result
+            (λ aliases. AreNumbersOf aliases.numbers (rows_now release.now)) }
     {
         let numbers = ValueNumbers::of(alloc, release)?;
         Aliases::with_numbers(alloc, release, numbers)
@@ -48,7 +49,8 @@ impl Aliases {
     ) -> Result<Aliases, Memory>
         requires { AreNumbersOf numbers (rows_now release.now) }
         ensures aliases { IfOk result (λ aliases. AreAliasesOf aliases (sources_of release.now)) }
-        ensures numbers { IfOk result (λ aliases. AreNumbersOf aliases.numbers (rows_now release.now)) }
+        ensures numbers { IfOk result
+            (λ aliases. AreNumbersOf aliases.numbers (rows_now release.now)) }
     {
         let places = Places::of(alloc, release, &numbers)?;
         Ok(Aliases { numbers, places })
@@ -61,7 +63,8 @@ impl Aliases {
     pub fn again(self, alloc: Global, release: &Release, edited: Edited) -> Result<Aliases, Memory>
         requires { AreKeptBut self edited (rows_now release.now) }
         ensures aliases { IfOk result (λ aliases. AreAliasesOf aliases (sources_of release.now)) }
-        ensures numbers { IfOk result (λ aliases. AreNumbersOf aliases.numbers (rows_now release.now)) }
+        ensures numbers { IfOk result
+            (λ aliases. AreNumbersOf aliases.numbers (rows_now release.now)) }
     {
         let mut aliases = self;
         aliases.renew(alloc, release, edited)?;

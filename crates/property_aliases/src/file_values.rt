@@ -70,7 +70,8 @@ fn is_number(names: &IndexSet<Vec<u8>>, number: usize, value: &[u8]) -> bool
 /// - `Memory`: memory ran out.
 fn number_of(alloc: Global, names: &mut IndexSet<Vec<u8>>, value: &[u8]) -> Result<usize, Memory>
     ensures names { OnOk result (names_in names.new ≡ add_name (names_in names.old) value.now) }
-    ensures number { IfOk result (λ number. slice_get (names_in names.new) number ≡ Some value.now) }
+    ensures number { IfOk result (λ number. slice_get (names_in names.new) number
+        ≡ Some value.now) }
 {
     let placed = names.insert_full(Vec::from_slice(alloc, value)?)?;
     Ok(placed.0)
@@ -87,7 +88,8 @@ fn number_behind(
     value: &[u8],
 ) -> Result<usize, Memory>
     ensures names { OnOk result (names_in names.new ≡ add_name (names_in names.old) value.now) }
-    ensures number { IfOk result (λ number. slice_get (names_in names.new) number ≡ Some value.now) }
+    ensures number { IfOk result (λ number. slice_get (names_in names.new) number
+        ≡ Some value.now) }
 {
     if is_number(names, last, value) {
         return Ok(last);
@@ -114,8 +116,10 @@ fn put_row(
     value: &[u8],
 ) -> Result<(), Memory>
     ensures names { OnOk result (names_in names.new ≡ add_name (names_in names.old) value.now) }
-    ensures rows { OnOk result ((above : List ValueRow) → AreNumbered (names_in names.old) rows.old.items above
-        → AreNumbered (names_in names.new) rows.new.items (above ++ record { span = span; value = value.now } ∷ [])) }
+    ensures rows { OnOk result ((above : List ValueRow)
+        → AreNumbered (names_in names.old) rows.old.items above
+        → AreNumbered (names_in names.new) rows.new.items
+        (above ++ record { span = span; value = value.now } ∷ [])) }
 {
     let number = number_behind(alloc, names, last_number(rows.as_slice()), value)?;
     rows.push(NumberedRow { number, span })?;
@@ -133,11 +137,15 @@ fn add_row(
     missing: &mut Vec<NumberedRow>,
     row: &RowText<'_>,
 ) -> Result<(), Memory>
-    ensures names { OnOk result (names_in names.new ≡ fold add_name (names_in names.old) (map (λ r. r.value) (valued_row_of row.now))) }
-    ensures rows { OnOk result ((above : List ValueRow) → AreNumbered (names_in names.old) rows.old.items above
+    ensures names { OnOk result (names_in names.new
+        ≡ fold add_name (names_in names.old) (map (λ r. r.value) (valued_row_of row.now))) }
+    ensures rows { OnOk result ((above : List ValueRow)
+        → AreNumbered (names_in names.old) rows.old.items above
         → AreNumbered (names_in names.new) rows.new.items (above ++ value_row_of row.now)) }
-    ensures missing { OnOk result ((above : List ValueRow) → AreNumbered (names_in names.old) missing.old.items above
-        → AreNumbered (names_in names.new) missing.new.items (above ++ missing_row_of row.now)) }
+    ensures missing { OnOk result ((above : List ValueRow)
+        → AreNumbered (names_in names.old) missing.old.items above
+        → AreNumbered (names_in names.new) missing.new.items
+        (above ++ missing_row_of row.now)) }
 {
     if let Some(text) = row.value() {
         return put_row(alloc, names, rows, text.span, text.value);
@@ -153,7 +161,9 @@ fn add_row(
 /// - `Memory`: memory ran out.
 fn with_rows(alloc: Global, names: IndexSet<Vec<u8>>, rows: Rows<'_>) -> Result<FileValues, Memory>
     ensures { IfOk result (λ values. AreValues values
-        (fold add_name (names_in names) (map (λ r. r.value) (valued_rows (unnumbered rows.entry)))) (unnumbered rows.entry)) }
+        (fold add_name (names_in names)
+        (map (λ r. r.value) (valued_rows (unnumbered rows.entry))))
+        (unnumbered rows.entry)) }
 {
     let mut left = rows;
     let mut names = names;
@@ -177,7 +187,8 @@ pub(crate) fn values_of(
     release: &Release,
     file: SourceFile,
 ) -> Result<FileValues, Memory>
-    ensures { IfOk result (λ values. AreValues values (listed_names (rows_now release.now file)) (rows_now release.now file)) }
+    ensures { IfOk result (λ values. AreValues values (listed_names (rows_now release.now file))
+        (rows_now release.now file)) }
 {
     with_rows(alloc, IndexSet::new(alloc), release.rows(file))
 }
@@ -191,7 +202,8 @@ pub(crate) fn values_behind(
     release: &Release,
     file: SourceFile,
 ) -> Result<FileValues, Memory>
-    ensures { IfOk result (λ values. AreValues values (numbered default.now (rows_now release.now file)) (rows_now release.now file)) }
+    ensures { IfOk result (λ values. AreValues values
+        (numbered default.now (rows_now release.now file)) (rows_now release.now file)) }
 {
     let mut names = IndexSet::new(alloc);
     number_of(alloc, &mut names, default)?;

@@ -68,7 +68,8 @@ fn kind_names(
     scripts: &[Vec<u8>],
     breaks: &[Vec<u8>],
 ) -> Result<Texts, Memory>
-    ensures { IfOk result (λ names. names ≡ kind_names (map (λ k. k.items) scripts.now) (map (λ k. k.items) breaks.now) kind) }
+    ensures { IfOk result (λ names. names
+        ≡ kind_names (map (λ k. k.items) scripts.now) (map (λ k. k.items) breaks.now) kind) }
 {
     match kind {
         0 => table_of(alloc, category_names(), &[]),
@@ -90,8 +91,10 @@ pub(crate) fn kinds_of(
     breaks: &[Vec<u8>],
 ) -> Result<Vec<NumberMap>, Memory>
     ensures len { IfOk result (λ kinds. length kinds.items ≡ 7) }
-    ensures places { IfOk result (λ kinds. (k : ℕ) (key : List ℕ) → k < 7 → number_at kinds.items k key
-        ≡ direct (kind_names (map (λ k. k.items) scripts.now) (map (λ k. k.items) breaks.now) k) key) }
+    ensures places { IfOk result (λ kinds. (k : ℕ) (key : List ℕ) → k < 7
+        → number_at kinds.items k key
+        ≡ direct (kind_names (map (λ k. k.items) scripts.now) (map (λ k. k.items) breaks.now) k)
+        key) }
 {
     let mut kinds = Vec::new(alloc);
     let mut kind = 0;

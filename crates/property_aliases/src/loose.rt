@@ -39,7 +39,8 @@ pub(crate) fn loose(alloc: Global, name: &[u8]) -> Result<Vec<u8>, Memory>
 
 /// The first byte of a name that counts, in lower case, and what stands behind it; `None` if none counts.
 pub(crate) fn first_of(name: &[u8]) -> Option<(u8, &[u8])>
-    ensures { MatchOption result (loose name.now ≡ []) (λ first. loose name.now ≡ first.0 ∷ loose first.1.now) }
+    ensures { MatchOption result (loose name.now ≡ [])
+        (λ first. loose name.now ≡ first.0 ∷ loose first.1.now) }
 {
     let mut rest = name;
     'bytes: while let [byte, behind @ ..] = rest {
@@ -70,7 +71,9 @@ pub(crate) fn is_same(first: &[u8], second: &[u8]) -> bool
 
 /// What is behind `is`; `None` if what counts of a name does not begin so.
 pub(crate) fn without_is(name: &[u8]) -> Option<&[u8]>
-    ensures { MatchOption result (has_is (loose name.now) ≡ false) (λ rest. (has_is (loose name.now) ≡ true) × (loose rest.now ≡ drop 2 (loose name.now))) }
+    ensures { MatchOption result (has_is (loose name.now) ≡ false)
+        (λ rest. (has_is (loose name.now) ≡ true)
+        × (loose rest.now ≡ drop 2 (loose name.now))) }
 {
     let (first, behind) = first_of(name)?;
     let (second, rest) = first_of(behind)?;

@@ -69,8 +69,10 @@ pub(crate) fn add_row(
     rows: &mut NumberMap,
     row: &[Text],
 ) -> Result<(), Memory>
-    ensures { OnOk result ((key : List ℕ) → number_in rows.new key
-        ≡ least (number_in rows.old key) (put row.now key (row_number (number_in direct.now) row.now))) }
+    ensures { OnOk result ((key : List ℕ)
+        → number_in rows.new key
+        ≡ least (number_in rows.old key)
+        (put row.now key (row_number (number_in direct.now) row.now))) }
 {
     match row_number(direct, row) {
         Some(number) => put_row(alloc, rows, number, row),
@@ -86,7 +88,8 @@ pub(crate) fn rows_of(
     direct: &NumberMap,
     rows: &[Texts],
 ) -> Result<NumberMap, Memory>
-    ensures { IfOk result (λ map. (key : List ℕ) → number_in map key ≡ rows_number (number_in direct.now) rows.now key) }
+    ensures { IfOk result (λ map. (key : List ℕ)
+        → number_in map key ≡ rows_number (number_in direct.now) rows.now key) }
 {
     let mut map = NumberMap::new(alloc);
     'rows: for row in rows {
@@ -107,7 +110,8 @@ impl Names {
     ///
     /// - `Memory`: memory ran out.
     pub(crate) fn of(alloc: Global, names: &[Text], rows: &[Texts]) -> Result<Names, Memory>
-        ensures { IfOk result (λ found. (key : List ℕ) → found_in found.direct found.rows key ≡ number_of names.now rows.now key) }
+        ensures { IfOk result (λ found. (key : List ℕ)
+            → found_in found.direct found.rows key ≡ number_of names.now rows.now key) }
     {
         let direct = direct_of(alloc, names)?;
         let rows = rows_of(alloc, &direct, rows)?;

@@ -40,7 +40,8 @@ impl NumberMap {
     /// - `Memory`: memory ran out.
     fn put_name(&mut self, number: usize, name: Vec<u8>) -> Result<(), Memory>
         ensures { OnOk result ((key : List ℕ)
-            → number_in self.new key ≡ cond (bytes_eq key (loose name.items)) (Some number) (number_in self.old key)) }
+            → number_in self.new key
+            ≡ cond (bytes_eq key (loose name.items)) (Some number) (number_in self.old key)) }
     {
         self.map.insert(LooseName::Kept(name), number)?;
         Ok(())
@@ -51,7 +52,8 @@ impl NumberMap {
     /// - `Memory`: memory ran out.
     pub(crate) fn put(&mut self, alloc: Global, number: usize, name: &[u8]) -> Result<(), Memory>
         ensures { OnOk result ((key : List ℕ)
-            → number_in self.new key ≡ least (number_in self.old key) (cond (is_name key name.now) (Some number) None)) }
+            → number_in self.new key
+            ≡ least (number_in self.old key) (cond (is_name key name.now) (Some number) None)) }
     {
         let key = loose(alloc, name)?;
         if key.is_empty() {

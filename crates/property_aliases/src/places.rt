@@ -39,11 +39,16 @@ impl Places {
         release: &Release,
         numbers: &ValueNumbers,
     ) -> Result<Places, Memory>
-        ensures properties { IfOk result (λ places. (key : List ℕ) → found_in places.properties.direct places.properties.rows key
-            ≡ number_of (built_in_names ++ names_in numbers.now.listed.names) (alias_rows (rows_now release.now PropertyAliases)) key) }
-        ensures values { IfOk result (λ places. (p : Property) (key : List ℕ) → place_in places.values p key
-            ≡ number_of (kind_names (names_in numbers.now.scripts.names) (names_in numbers.now.breaks.names) (kind_of p))
-            (flat_map (behind (index_in_names places.properties) (index_of p)) (alias_rows (rows_now release.now PropertyValueAliases))) key) }
+        ensures properties { IfOk result (λ places. (key : List ℕ)
+            → found_in places.properties.direct places.properties.rows key
+            ≡ number_of (built_in_names ++ names_in numbers.now.listed.names)
+            (alias_rows (rows_now release.now PropertyAliases)) key) }
+        ensures values { IfOk result (λ places. (p : Property) (key : List ℕ)
+            → place_in places.values p key
+            ≡ number_of (kind_names (names_in numbers.now.scripts.names)
+            (names_in numbers.now.breaks.names) (kind_of p))
+            (flat_map (behind (index_in_names places.properties) (index_of p))
+            (alias_rows (rows_now release.now PropertyValueAliases))) key) }
     {
         let properties = properties_of(alloc, release, numbers)?;
         let values = ValueNames::of(alloc, release, &properties, numbers)?;
@@ -55,8 +60,10 @@ impl Places {
 ///
 /// - `Memory`: memory ran out.
 fn properties_of(alloc: Global, release: &Release, numbers: &ValueNumbers) -> Result<Names, Memory>
-    ensures { IfOk result (λ names. (key : List ℕ) → found_in names.direct names.rows key
-        ≡ number_of (built_in_names ++ names_in numbers.now.listed.names) (alias_rows (rows_now release.now PropertyAliases)) key) }
+    ensures { IfOk result (λ names. (key : List ℕ)
+        → found_in names.direct names.rows key
+        ≡ number_of (built_in_names ++ names_in numbers.now.listed.names)
+        (alias_rows (rows_now release.now PropertyAliases)) key) }
 {
     let rows = alias_rows(alloc, release, SourceFile::PropertyAliases)?;
     let names = table_of(alloc, built_in_names(), numbers.listed.names.as_slice())?;

@@ -16,7 +16,8 @@ fn behind_same<'a>(
     first: &'a [Vec<u8>],
     second: &'a [Vec<u8>],
 ) -> Option<(&'a [Vec<u8>], &'a [Vec<u8>])>
-    ensures same { IfSome result (λ left. map (λ k. k.items) left.0.now ≡ map (λ k. k.items) left.1.now
+    ensures same { IfSome result (λ left. map (λ k. k.items) left.0.now
+        ≡ map (λ k. k.items) left.1.now
         → map (λ k. k.items) first.now ≡ map (λ k. k.items) second.now) }
     ensures shorter { IfSome result (λ left. length left.0.now < length first.now) }
 {
@@ -53,9 +54,13 @@ pub(crate) fn renew_values(
     edited: bool,
     kept: &mut FileValues,
 ) -> Result<bool, Memory>
-    ensures values { OnOk result ((edited ≡ false → AreValues kept.old (listed_names (rows_now release.now file)) (rows_now release.now file))
-        → AreValues kept.new (listed_names (rows_now release.now file)) (rows_now release.now file)) }
-    ensures same { IfOk result (λ same. IsTrue same → names_in kept.new.names ≡ names_in kept.old.names) }
+    ensures values { OnOk result ((edited ≡ false
+        → AreValues kept.old (listed_names (rows_now release.now file))
+        (rows_now release.now file))
+        → AreValues kept.new (listed_names (rows_now release.now file))
+        (rows_now release.now file)) }
+    ensures same { IfOk result (λ same. IsTrue same
+        → names_in kept.new.names ≡ names_in kept.old.names) }
 {
     if !edited {
         return Ok(true);
@@ -75,9 +80,13 @@ pub(crate) fn renew_behind(
     edited: bool,
     kept: &mut FileValues,
 ) -> Result<bool, Memory>
-    ensures values { OnOk result ((edited ≡ false → AreValues kept.old (numbered default.now (rows_now release.now file)) (rows_now release.now file))
-        → AreValues kept.new (numbered default.now (rows_now release.now file)) (rows_now release.now file)) }
-    ensures same { IfOk result (λ same. IsTrue same → names_in kept.new.names ≡ names_in kept.old.names) }
+    ensures values { OnOk result ((edited ≡ false
+        → AreValues kept.old (numbered default.now (rows_now release.now file))
+        (rows_now release.now file))
+        → AreValues kept.new (numbered default.now (rows_now release.now file))
+        (rows_now release.now file)) }
+    ensures same { IfOk result (λ same. IsTrue same
+        → names_in kept.new.names ≡ names_in kept.old.names) }
 {
     if !edited {
         return Ok(true);

@@ -179,7 +179,8 @@ fn push_keys(alloc: Global, texts: &mut Texts, keys: &[Vec<u8>]) -> Result<(), M
 ///
 /// - `Memory`: memory ran out.
 pub(crate) fn table_of(alloc: Global, built_in: &[&[u8]], keys: &[Vec<u8>]) -> Result<Texts, Memory>
-    ensures { IfOk result (λ texts. texts ≡ map (λ n. n.now) built_in.now ++ map (λ k. k.items) keys.now) }
+    ensures { IfOk result (λ texts. texts ≡ map (λ n. n.now) built_in.now
+        ++ map (λ k. k.items) keys.now) }
 {
     let mut texts = ListOf::new(alloc);
     push_names(alloc, &mut texts, built_in)?;

@@ -69,7 +69,8 @@ impl ValueNumbers {
         release: &Release,
         edited: Edited,
     ) -> Result<bool, Memory>
-        ensures numbers { OnOk result ((old : AllRows) → AreNumbersOf self.old old → AreSameBut edited old (rows_now release.now)
+        ensures numbers { OnOk result ((old : AllRows) → AreNumbersOf self.old old
+            → AreSameBut edited old (rows_now release.now)
             → AreNumbersOf self.new (rows_now release.now)) }
         ensures same { IfOk result (λ same. IsTrue same → HasSameNames self.new self.old) }
     {

@@ -40,7 +40,8 @@ fn later(row: &[Text]) -> &[Text]
 /// - `Memory`: memory ran out.
 fn reach(alloc: Global, maps: &mut Vec<NumberMap>, index: usize) -> Result<(), Memory>
     ensures reached { OnOk result (index < length maps.new.items) }
-    ensures numbers { OnOk result ((i : ℕ) (key : List ℕ) → number_at maps.new.items i key ≡ number_at maps.old.items i key) }
+    ensures numbers { OnOk result ((i : ℕ) (key : List ℕ)
+        → number_at maps.new.items i key ≡ number_at maps.old.items i key) }
 {
     'maps: while maps.len() <= index {
         maps.push(NumberMap::new(alloc))?;
@@ -59,8 +60,11 @@ fn add_at(
     row: &[Text],
 ) -> Result<(), Memory>
     requires kinds { length kinds.now ≡ 7 }
-    ensures { OnOk result ((i : ℕ) (key : List ℕ) → number_at maps.new.items i key ≡ least (number_at maps.old.items i key)
-        (rows_number (number_at kinds.now (kind_of (property_by i))) (if nat_eq index i then row.now ∷ [] else []) key)) }
+    ensures { OnOk result ((i : ℕ) (key : List ℕ)
+        → number_at maps.new.items i key
+        ≡ least (number_at maps.old.items i key)
+        (rows_number (number_at kinds.now (kind_of (property_by i)))
+        (if nat_eq index i then row.now ∷ [] else []) key)) }
 {
     reach(alloc, maps, index)?;
     let direct = &kinds[kind_of(property_by(index))];
@@ -79,8 +83,11 @@ fn add_value_row(
     row: &[Text],
 ) -> Result<(), Memory>
     requires kinds { length kinds.now ≡ 7 }
-    ensures { OnOk result ((i : ℕ) (key : List ℕ) → number_at maps.new.items i key ≡ least (number_at maps.old.items i key)
-        (rows_number (number_at kinds.now (kind_of (property_by i))) (behind (index_in_names properties.now) i row.now) key)) }
+    ensures { OnOk result ((i : ℕ) (key : List ℕ)
+        → number_at maps.new.items i key
+        ≡ least (number_at maps.old.items i key)
+        (rows_number (number_at kinds.now (kind_of (property_by i)))
+        (behind (index_in_names properties.now) i row.now) key)) }
 {
     match first_index(properties, row) {
         Some(index) => add_at(alloc, kinds, maps, index, later(row)),
@@ -98,8 +105,10 @@ pub(crate) fn rows_by_property(
     rows: &[Texts],
 ) -> Result<Vec<NumberMap>, Memory>
     requires kinds { length kinds.now ≡ 7 }
-    ensures { IfOk result (λ maps. (i : ℕ) (key : List ℕ) → number_at maps.items i key
-        ≡ rows_number (number_at kinds.now (kind_of (property_by i))) (flat_map (behind (index_in_names properties.now) i) rows.now) key) }
+    ensures { IfOk result (λ maps. (i : ℕ) (key : List ℕ)
+        → number_at maps.items i key
+        ≡ rows_number (number_at kinds.now (kind_of (property_by i)))
+        (flat_map (behind (index_in_names properties.now) i) rows.now) key) }
 {
     let mut maps = Vec::new(alloc);
     'rows: for row in rows {

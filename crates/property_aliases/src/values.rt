@@ -43,9 +43,12 @@ impl ValueNames {
         properties: &Names,
         numbers: &ValueNumbers,
     ) -> Result<ValueNames, Memory>
-        ensures { IfOk result (λ values. (p : Property) (key : List ℕ) → place_in values p key
-            ≡ number_of (kind_names (names_in numbers.now.scripts.names) (names_in numbers.now.breaks.names) (kind_of p))
-            (flat_map (behind (index_in_names properties.now) (index_of p)) (alias_rows (rows_now release.now PropertyValueAliases))) key) }
+        ensures { IfOk result (λ values. (p : Property) (key : List ℕ)
+            → place_in values p key
+            ≡ number_of (kind_names (names_in numbers.now.scripts.names)
+            (names_in numbers.now.breaks.names) (kind_of p))
+            (flat_map (behind (index_in_names properties.now) (index_of p))
+            (alias_rows (rows_now release.now PropertyValueAliases))) key) }
     {
         let kinds = kinds_of(
             alloc,

@@ -25,7 +25,8 @@ pub struct Edit<V> {
 /// What has to stand at `start` for values that are `before` up to there and `value` from there on; `None` if they
 /// are equal.
 pub fn change_to<V: Copy + Eq>(before: V, start: u32, value: V) -> Option<Change<V>>
-    ensures { result ≡ (if V.eq before value then None else Some (record { start = start; value = value })) }
+    ensures { result ≡ (if V.eq before value then None else Some
+        (record { start = start; value = value })) }
 {
     if before == value {
         None

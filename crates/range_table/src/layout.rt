@@ -74,7 +74,8 @@ impl<V: Copy + Eq> Layout<V> {
     pub fn last_of_run(&self, c: Point) -> Point
         ensures from { c ≤ result }
         ensures same { (k : ℕ) → c ≤ k → k ≤ result → values self.now k ≡ values self.now c }
-        ensures maximal { result + 1 < 1114112 → V.eq (values self.now c) (values self.now (result + 1)) ≡ false }
+        ensures maximal { result + 1 < 1114112
+            → V.eq (values self.now c) (values self.now (result + 1)) ≡ false }
     {
         Point::new(self.end_of_run(c) - 1).unwrap()
     }
@@ -85,7 +86,8 @@ impl<V: Copy + Eq> Layout<V> {
         ensures value { result.value ≡ values self.now c }
         ensures from { c ≤ result.last }
         ensures same { (k : ℕ) → c ≤ k → k ≤ result.last → values self.now k ≡ values self.now c }
-        ensures maximal { result.last + 1 < 1114112 → V.eq (values self.now c) (values self.now (result.last + 1)) ≡ false }
+        ensures maximal { result.last + 1 < 1114112
+            → V.eq (values self.now c) (values self.now (result.last + 1)) ≡ false }
     {
         let index = self.count_near(c.number() + 1, near);
         let end = self.end_at(c, index);
@@ -103,7 +105,8 @@ impl<V: Copy + Eq> Layout<V> {
     ///
     /// - `Memory`: memory ran out. The layout stays as it was.
     pub fn set(&mut self, span: Span, value: V) -> Result<(), Memory>
-        ensures ok { OnOk result (SameValues (values self.new) (with_span (values self.old) span.lo span.hi value)) }
+        ensures ok { OnOk result (SameValues (values self.new)
+            (with_span (values self.old) span.lo span.hi value)) }
         ensures err { OnErr result (SameValues (values self.new) (values self.old)) }
     {
         let edit = self.edit(span, value);
@@ -123,7 +126,8 @@ impl<V: Copy + Eq> Layout<V> {
     fn edit(&self, span: Span, value: V) -> Edit<V>
         ensures ordered { result.from ≤ result.behind }
         ensures within { result.behind ≤ length self.now.changes }
-        ensures set { SetsSpan V.eq self.now.first self.now.changes span.lo span.hi value result.first (edited result self.now.changes) }
+        ensures set { SetsSpan V.eq self.now.first self.now.changes span.lo span.hi value
+            result.first (edited result self.now.changes) }
     {
         let lo = span.first();
         let hi = span.last();

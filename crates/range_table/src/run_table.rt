@@ -35,9 +35,11 @@ impl<V: Copy + Eq> RunTable<V> {
     pub fn last_of_run(&self, c: Point) -> Point
         ensures from { c ≤ result }
         ensures same { (k : ℕ) → c ≤ k → k ≤ result
-            → ⟦<RunTable<V> as Table<V>>⟧.now self.now k ≡ ⟦<RunTable<V> as Table<V>>⟧.now self.now c }
+            → ⟦<RunTable<V> as Table<V>>⟧.now self.now k
+            ≡ ⟦<RunTable<V> as Table<V>>⟧.now self.now c }
         ensures maximal { result + 1 < 1114112
-            → V.eq (⟦<RunTable<V> as Table<V>>⟧.now self.now c) (⟦<RunTable<V> as Table<V>>⟧.now self.now (result + 1)) ≡ false }
+            → V.eq (⟦<RunTable<V> as Table<V>>⟧.now self.now c)
+            (⟦<RunTable<V> as Table<V>>⟧.now self.now (result + 1)) ≡ false }
     {
         self.committed.last_of_run(c)
     }
@@ -49,9 +51,11 @@ impl<V: Copy + Eq> RunTable<V> {
         ensures value { result.value ≡ ⟦<RunTable<V> as Table<V>>⟧.now self.now c }
         ensures from { c ≤ result.last }
         ensures same { (k : ℕ) → c ≤ k → k ≤ result.last
-            → ⟦<RunTable<V> as Table<V>>⟧.now self.now k ≡ ⟦<RunTable<V> as Table<V>>⟧.now self.now c }
+            → ⟦<RunTable<V> as Table<V>>⟧.now self.now k
+            ≡ ⟦<RunTable<V> as Table<V>>⟧.now self.now c }
         ensures maximal { result.last + 1 < 1114112
-            → V.eq (⟦<RunTable<V> as Table<V>>⟧.now self.now c) (⟦<RunTable<V> as Table<V>>⟧.now self.now (result.last + 1)) ≡ false }
+            → V.eq (⟦<RunTable<V> as Table<V>>⟧.now self.now c)
+            (⟦<RunTable<V> as Table<V>>⟧.now self.now (result.last + 1)) ≡ false }
     {
         self.committed.run(c, near)
     }

@@ -36,7 +36,8 @@ pub trait Table<V: Copy + Eq>: Sized + Drop {
     /// - `Memory`: memory ran out. What is next stays too.
     fn prepare(&mut self, span: Span, value: V) -> Result<(), Memory>
         ensures now { SameValues (now self.new) (now self.old) }
-        ensures ok { OnOk result (SameValues (next self.new) (with_span (next self.old) span.lo span.hi value)) }
+        ensures ok { OnOk result (SameValues (next self.new)
+            (with_span (next self.old) span.lo span.hi value)) }
         ensures err { OnErr result (SameValues (next self.new) (next self.old)) };
 
     /// What is next becomes now, and stays next. It takes no memory.

@@ -26,7 +26,8 @@ pub fn put_changes(
     after: &Record,
     text: &mut Text,
 ) -> Result<(), Memory>
-    ensures { OnOk result (text.new ≡ text.old ++ change_text point (kept_record before.now) (kept_record after.now)) }
+    ensures { OnOk result (text.new ≡ text.old
+        ++ change_text point (kept_record before.now) (kept_record after.now)) }
 {
     'files: for file in DerivedFile::all() {
         put_file(alloc, *file, point, before, after, text)?;
@@ -45,7 +46,8 @@ fn put_file(
     after: &Record,
     text: &mut Text,
 ) -> Result<(), Memory>
-    ensures { OnOk result (text.new ≡ text.old ++ file_changes point (kept_record before.now) (kept_record after.now) file) }
+    ensures { OnOk result (text.new ≡ text.old
+        ++ file_changes point (kept_record before.now) (kept_record after.now) file) }
 {
     'listings: for listing in file_listings(file) {
         put_line(alloc, *listing, point, before, after, text)?;
@@ -64,7 +66,8 @@ fn put_line(
     after: &Record,
     text: &mut Text,
 ) -> Result<(), Memory>
-    ensures { OnOk result (text.new ≡ text.old ++ change_line point (kept_record before.now) (kept_record after.now) listing) }
+    ensures { OnOk result (text.new ≡ text.old
+        ++ change_line point (kept_record before.now) (kept_record after.now) listing) }
 {
     let old = value_of(alloc, listing, before)?;
     let new = value_of(alloc, listing, after)?;
@@ -90,7 +93,8 @@ fn value_of(alloc: Global, listing: Listing, shown: &Record) -> Result<Text, Mem
 ///
 /// - `Memory`: memory ran out. A part of them may stand at the end of the text then.
 fn put_name(point: Point, listing: Listing, text: &mut Text) -> Result<(), Memory>
-    ensures { OnOk result (text.new ≡ text.old ++ hex_text point ++ codes " ; " ++ (listing_section listing).name ++ codes " ; ") }
+    ensures { OnOk result (text.new ≡ text.old ++ hex_text point ++ codes " ; "
+        ++ (listing_section listing).name ++ codes " ; ") }
 {
     put_hex(point, text)?;
     text.append(b" ; ")?;

@@ -23,7 +23,8 @@ impl Earlier {
     ///
     /// - `Memory`: memory ran out.
     pub fn of<B: Records>(alloc: Global, bench: &B) -> Result<Earlier, Memory>
-        ensures { IfOk result (λ earlier. SameValues (earlier_record earlier) (B.record_of bench.now)) }
+        ensures { IfOk result (λ earlier. SameValues (earlier_record earlier)
+            (B.record_of bench.now)) }
     {
         let pieces = equal_pieces(alloc, bench)?;
         let mut table = filled(alloc, bench)?;
@@ -42,8 +43,10 @@ impl Earlier {
         bench: &B,
         changed: &[Point],
     ) -> Result<(), Memory>
-        ensures ok { OnOk result (SameValues (earlier_record self.new) (updated changed.now (B.record_of bench.now) (earlier_record self.old))) }
-        ensures err { OnErr result (SameValues (earlier_record self.new) (earlier_record self.old)) }
+        ensures ok { OnOk result (SameValues (earlier_record self.new)
+            (updated changed.now (B.record_of bench.now) (earlier_record self.old))) }
+        ensures err { OnErr result
+            (SameValues (earlier_record self.new) (earlier_record self.old)) }
     {
         let records = copies(alloc, bench, changed)?;
         self.table.discard();
@@ -96,7 +99,8 @@ fn put_pieces<B: Records>(
 ///
 /// - `Memory`: memory ran out.
 fn copies<B: Records>(alloc: Global, bench: &B, points: &[Point]) -> Result<Vec<Record>, Memory>
-    ensures { IfOk result (λ records. map kept_record records.items ≡ map (B.record_of bench.now) points.now) }
+    ensures { IfOk result (λ records. map kept_record records.items
+        ≡ map (B.record_of bench.now) points.now) }
 {
     let mut records = Vec::new(alloc);
     'points: for point in points {

@@ -40,7 +40,8 @@ fn put_next(
     number: usize,
     text: &mut Text,
 ) -> Result<(), Memory>
-    ensures text { OnOk result (text.new ≡ text.old ++ numbered_line file lines.old.lines (number + 1)) }
+    ensures text { OnOk result (text.new ≡ text.old
+        ++ numbered_line file lines.old.lines (number + 1)) }
     ensures same { lines.new.lines ≡ lines.old.lines }
 {
     // a file has no more lines than bytes

@@ -64,7 +64,8 @@ impl<'a> LineFinder<'a> {
 
     /// The content of the line behind those that were passed, which it passes; `None` if there is no such line.
     fn pass(&mut self) -> Option<&'a [u8]>
-        ensures found { MatchOption result (slice_get self.old.lines self.old.passed ≡ None) (λ content. slice_get self.old.lines self.old.passed ≡ Some content.now) }
+        ensures found { MatchOption result (slice_get self.old.lines self.old.passed ≡ None)
+            (λ content. slice_get self.old.lines self.old.passed ≡ Some content.now) }
         ensures passed { OnSome result (self.new.passed ≡ self.old.passed + 1) }
         ensures same { self.new.lines ≡ self.old.lines }
     {
@@ -75,7 +76,8 @@ impl<'a> LineFinder<'a> {
 
     /// The content of the line at a place, counted from 0; `None` if there is no such line.
     pub fn line(&mut self, place: usize) -> Option<&'a [u8]>
-        ensures found { MatchOption result (slice_get self.old.lines place ≡ None) (λ content. slice_get self.old.lines place ≡ Some content.now) }
+        ensures found { MatchOption result (slice_get self.old.lines place ≡ None)
+            (λ content. slice_get self.old.lines place ≡ Some content.now) }
         ensures same { self.new.lines ≡ self.old.lines }
     {
         if place < self.passed() {

@@ -34,7 +34,8 @@ pub fn put_record(
 ///
 /// - `Memory`: memory ran out. A part of them may stand at the end of the text then.
 fn put_values(alloc: Global, shown: &Record, text: &mut Text) -> Result<(), Memory>
-    ensures { OnOk result (text.new ≡ text.old ++ flat_map (file_values (kept_record shown.now)) derived_files) }
+    ensures { OnOk result (text.new ≡ text.old
+        ++ flat_map (file_values (kept_record shown.now)) derived_files) }
 {
     'files: for file in DerivedFile::all() {
         put_file(alloc, *file, shown, text)?;

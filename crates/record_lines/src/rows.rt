@@ -47,7 +47,8 @@ fn put_file(
     file: SourceFile,
     told: &mut [PointText],
 ) -> Result<(), Memory>
-    ensures { OnOk result (told.new ≡ map (with_more (file_rows_text (items_now release.now file) file)) told.old) }
+    ensures { OnOk result (told.new
+        ≡ map (with_more (file_rows_text (items_now release.now file) file)) told.old) }
 {
     if let Some(bytes) = release.whole_text(file) {
         return put_from(alloc, file, bytes, release.rows(file), told);
@@ -66,7 +67,8 @@ fn put_from(
     rows: Rows<'_>,
     told: &mut [PointText],
 ) -> Result<(), Memory>
-    ensures { OnOk result (told.new ≡ map (with_more (rows_lines file (contents bytes.now) rows.entry)) told.old) }
+    ensures { OnOk result (told.new
+        ≡ map (with_more (rows_lines file (contents bytes.now) rows.entry)) told.old) }
 {
     let mut left = rows;
     let mut lines = LineFinder::new(bytes);
@@ -87,7 +89,8 @@ fn put_row(
     lines: &mut LineFinder<'_>,
     told: &mut [PointText],
 ) -> Result<(), Memory>
-    ensures told { OnOk result (told.new ≡ map (with_more (rows_lines file lines.old.lines ((line, row.now) ∷ []))) told.old) }
+    ensures told { OnOk result (told.new
+        ≡ map (with_more (rows_lines file lines.old.lines ((line, row.now) ∷ []))) told.old) }
     ensures same { lines.new.lines ≡ lines.old.lines }
 {
     if !covers_any(row, told) {
@@ -108,7 +111,8 @@ fn lines_of(
     row: &RowRef<'_>,
     lines: &mut LineFinder<'_>,
 ) -> Result<Text, Memory>
-    ensures text { IfOk result (λ text. text ≡ place_lines file lines.old.lines (place_of (line, row_in row.now))) }
+    ensures text { IfOk result (λ text. text
+        ≡ place_lines file lines.old.lines (place_of (line, row_in row.now))) }
     ensures same { lines.new.lines ≡ lines.old.lines }
 {
     let mut text = Text::new(alloc);
@@ -128,7 +132,8 @@ fn covers_any(row: &RowText<'_>, told: &[PointText]) -> bool
 ///
 /// - `Memory`: memory ran out. They may have been put at some of them then.
 fn put_text(row: &RowRef<'_>, lines: &[u8], told: &mut [PointText]) -> Result<(), Memory>
-    ensures { OnOk result (told.new ≡ map (with_more (if_speaks (row_in row.now) lines.now)) told.old) }
+    ensures { OnOk result (told.new
+        ≡ map (with_more (if_speaks (row_in row.now) lines.now)) told.old) }
 {
     'told: for one in told.iter_mut() {
         if speaks_of(one.point, row) {

@@ -31,8 +31,10 @@ impl RecordTable {
     ///
     /// - `Memory`: memory ran out.
     pub fn filled(alloc: Global, value: Record) -> Result<RecordTable, Memory>
-        ensures now { IfOk result (λ table. SameValues (record_now table) (λ _. kept_record value)) }
-        ensures next { IfOk result (λ table. SameValues (record_next table) (λ _. kept_record value)) }
+        ensures now { IfOk result
+            (λ table. SameValues (record_now table) (λ _. kept_record value)) }
+        ensures next { IfOk result
+            (λ table. SameValues (record_next table) (λ _. kept_record value)) }
     {
         let witnesses = Witnesses::new(alloc)?;
         Ok(RecordTable {
@@ -51,8 +53,10 @@ impl RecordTable {
         records: usize,
         blocks: u32,
     ) -> Result<RecordTable, Memory>
-        ensures now { IfOk result (λ table. SameValues (record_now table) (λ _. kept_record value)) }
-        ensures next { IfOk result (λ table. SameValues (record_next table) (λ _. kept_record value)) }
+        ensures now { IfOk result
+            (λ table. SameValues (record_now table) (λ _. kept_record value)) }
+        ensures next { IfOk result
+            (λ table. SameValues (record_next table) (λ _. kept_record value)) }
     {
         let mut table = RecordTable::filled(alloc, value)?;
         table.records.reserve(records, blocks);
@@ -64,7 +68,8 @@ impl RecordTable {
     /// - `Memory`: memory ran out.
     pub fn copied(&self, alloc: Global) -> Result<RecordTable, Memory>
         ensures now { IfOk result (λ table. SameValues (record_now table) (record_now self.now)) }
-        ensures next { IfOk result (λ table. SameValues (record_next table) (record_next self.now)) }
+        ensures next { IfOk result
+            (λ table. SameValues (record_next table) (record_next self.now)) }
     {
         let witnesses = Witnesses::new(alloc)?;
         let records = self
@@ -79,8 +84,10 @@ impl RecordTable {
     pub fn last_alike(&self, c: Point) -> Point
         ensures from { c ≤ result }
         ensures inside { result < 1114112 }
-        ensures same { (d : ℕ) → c ≤ d → d ≤ result → record_now self.now d ≡ record_now self.now c }
-        ensures ends { result + 1 < 1114112 → record_now self.now (result + 1) ≢ record_now self.now c }
+        ensures same { (d : ℕ) → c ≤ d → d ≤ result
+            → record_now self.now d ≡ record_now self.now c }
+        ensures ends { result + 1 < 1114112
+            → record_now self.now (result + 1) ≢ record_now self.now c }
     {
         let first = self.records.get(c);
         let mut last = self.records.last_of_stretch(c);
@@ -99,7 +106,8 @@ impl RecordTable {
     /// - `Memory`: memory ran out. What is next stays too.
     pub fn prepare_span(&mut self, span: Span, value: Record) -> Result<(), Memory>
         ensures now { SameValues (record_now self.new) (record_now self.old) }
-        ensures ok { OnOk result (SameValues (record_next self.new) (with_span (record_next self.old) span.lo span.hi (kept_record value))) }
+        ensures ok { OnOk result (SameValues (record_next self.new)
+            (with_span (record_next self.old) span.lo span.hi (kept_record value))) }
         ensures err { OnErr result (SameValues (record_next self.new) (record_next self.old)) }
     {
         let slot = slot_of(&value);
@@ -119,7 +127,8 @@ impl RecordTable {
         requires still { SameValues (record_next self.old) (record_now self.old) }
         requires lengths { length records.items ≡ length points.now }
         ensures now { SameValues (record_now self.new) (record_now self.old) }
-        ensures ok { OnOk result (SameValues (record_next self.new) (written points.now records.items (record_now self.old))) }
+        ensures ok { OnOk result (SameValues (record_next self.new)
+            (written points.now records.items (record_now self.old))) }
         ensures err { OnErr result (SameValues (record_next self.new) (record_next self.old)) }
     {
         match self.prepare_all(points, records) {
@@ -138,7 +147,8 @@ impl RecordTable {
         requires still { SameValues (record_next self.old) (record_now self.old) }
         requires lengths { length records.items ≡ length points.now }
         ensures now { SameValues (record_now self.new) (record_now self.old) }
-        ensures ok { OnOk result (SameValues (record_next self.new) (written points.now records.items (record_now self.old))) }
+        ensures ok { OnOk result (SameValues (record_next self.new)
+            (written points.now records.items (record_now self.old))) }
     {
         let mut at = 0;
         'records: for record in records {

@@ -33,8 +33,10 @@ pub fn derive_again<W: FactView, S: Store<Option<Queries>>, L: Ledger>(
     steps: &mut Steps<L>,
 ) -> Result<Points, AgainStop>
     requires { SameValues (record_next records.old) (record_now records.old) }
-    ensures again { IfOk result (λ changed. IsAgain (record_now records.old) (W.facts_of view.now) points.now changed (record_next records.new)) }
-    ensures asks { OnOk result (AsksAnew (W.facts_of view.now) points.now (asked_at S.next map.old) (asked_at S.next map.new)) }
+    ensures again { IfOk result (λ changed. IsAgain (record_now records.old)
+        (W.facts_of view.now) points.now changed (record_next records.new)) }
+    ensures asks { OnOk result (AsksAnew (W.facts_of view.now) points.now (asked_at S.next map.old)
+        (asked_at S.next map.new)) }
     ensures kept { SameValues (record_now records.new) (record_now records.old) }
     ensures now { SameValues (asked_at S.now map.new) (asked_at S.now map.old) }
     ensures stop { IfErr result (λ stop. StopsAt (W.facts_of view.now) points.now stop) }
@@ -58,9 +60,13 @@ fn derive_more<W: FactView, S: Store<Option<Queries>>, L: Ledger>(
     changed: &mut Points,
     steps: &mut Steps<L>,
 ) -> Result<(), AgainStop>
-    ensures has { OnOk result (derived (W.facts_of view.now) c ≡ Ok (record_at (W.facts_of view.now) c)) }
-    ensures put { OnOk result (IsPut (record_now records.old c) c (record_at (W.facts_of view.now) c) changed.old changed.new (record_next records.old) (record_next records.new)) }
-    ensures asked { OnOk result (IsAskedAnew (W.facts_of view.now) c (asked_at S.next map.old) (asked_at S.next map.new)) }
+    ensures has { OnOk result (derived (W.facts_of view.now) c
+        ≡ Ok (record_at (W.facts_of view.now) c)) }
+    ensures put { OnOk result (IsPut (record_now records.old c) c
+        (record_at (W.facts_of view.now) c) changed.old changed.new (record_next records.old)
+        (record_next records.new)) }
+    ensures asked { OnOk result (IsAskedAnew (W.facts_of view.now) c (asked_at S.next map.old)
+        (asked_at S.next map.new)) }
     ensures kept { SameValues (record_now records.new) (record_now records.old) }
     ensures now { SameValues (asked_at S.now map.new) (asked_at S.now map.old) }
     ensures stop { IfErr result (λ stop. IsFound (W.facts_of view.now) c (Err stop)) }
@@ -82,8 +88,11 @@ fn put_found<S: Store<Option<Queries>>>(
     map: &mut DependencyMap<S>,
     changed: &mut Points,
 ) -> Result<(), Memory>
-    ensures put { OnOk result (IsPut (record_now records.old c) c (kept_record found.value) changed.old changed.new (record_next records.old) (record_next records.new)) }
-    ensures asked { OnOk result (SameValues (asked_at S.next map.new) (with_span (asked_at S.next map.old) c c found.asked)) }
+    ensures put { OnOk result (IsPut (record_now records.old c) c
+        (kept_record found.value) changed.old changed.new (record_next records.old)
+        (record_next records.new)) }
+    ensures asked { OnOk result (SameValues (asked_at S.next map.new)
+        (with_span (asked_at S.next map.old) c c found.asked)) }
     ensures kept { SameValues (record_now records.new) (record_now records.old) }
     ensures now { SameValues (asked_at S.now map.new) (asked_at S.now map.old) }
 {
@@ -100,7 +109,9 @@ fn put(
     records: &mut RecordTable,
     changed: &mut Points,
 ) -> Result<(), Memory>
-    ensures put { OnOk result (IsPut (record_now records.old c) c (kept_record value) changed.old changed.new (record_next records.old) (record_next records.new)) }
+    ensures put { OnOk result (IsPut (record_now records.old c) c
+        (kept_record value) changed.old changed.new (record_next records.old)
+        (record_next records.new)) }
     ensures kept { SameValues (record_now records.new) (record_now records.old) }
 {
     let _number = c.number();

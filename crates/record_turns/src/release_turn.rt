@@ -41,16 +41,20 @@ pub fn turn<W: FactView, S: Store<Option<Queries>>, L: Ledger>(
     ensures now { SameValues (record_now records.new) (record_now records.old) }
     ensures asked { SameValues (asked_at S.now map.new) (asked_at S.now map.old) }
     ensures turned { IfOk result (λ changed. (F : ℕ → Facts)
-        → IsReady F (W.facts_of view.now) (record_now records.old) (asked_at S.now map.old) (asked_at S.next map.old) queries.now
-        → IsTurned F (W.facts_of view.now) (record_next records.new) (asked_at S.now map.old) (asked_at S.next map.new) queries.now changed) }
+        → IsReady F (W.facts_of view.now) (record_now records.old) (asked_at S.now map.old)
+        (asked_at S.next map.old) queries.now
+        → IsTurned F (W.facts_of view.now) (record_next records.new) (asked_at S.now map.old)
+        (asked_at S.next map.new) queries.now changed) }
     ensures stop { IfErr result (λ stop. (F : ℕ → Facts)
-        → IsReady F (W.facts_of view.now) (record_now records.old) (asked_at S.now map.old) (asked_at S.next map.old) queries.now
-        → StopsTurn (W.facts_of view.now) stop) }
+        → IsReady F (W.facts_of view.now) (record_now records.old) (asked_at S.now map.old)
+        (asked_at S.next map.old) queries.now → StopsTurn (W.facts_of view.now) stop) }
     ensures steps { (F : ℕ → Facts)
-        → IsReady F (W.facts_of view.now) (record_now records.old) (asked_at S.now map.old) (asked_at S.next map.old) queries.now
+        → IsReady F (W.facts_of view.now) (record_now records.old) (asked_at S.now map.old)
+        (asked_at S.next map.old) queries.now
         → CountsWithin F (W.facts_of view.now) steps.old steps.new }
     ensures err { OnErr result (SameValues (record_next records.new) (record_next records.old)) }
-    ensures dropped { OnErr result (SameValues (asked_at S.next map.new) (asked_at S.next map.old)) }
+    ensures dropped { OnErr result
+        (SameValues (asked_at S.next map.new) (asked_at S.next map.old)) }
 {
     match turn_in_part(alloc, view, queries, records, map, steps) {
         Ok(changed) => Ok(changed),
@@ -77,13 +81,16 @@ fn turn_in_part<W: FactView, S: Store<Option<Queries>>, L: Ledger>(
     ensures now { SameValues (record_now records.new) (record_now records.old) }
     ensures asked { SameValues (asked_at S.now map.new) (asked_at S.now map.old) }
     ensures turned { IfOk result (λ changed. (F : ℕ → Facts)
-        → IsReady F (W.facts_of view.now) (record_now records.old) (asked_at S.now map.old) (asked_at S.next map.old) queries.now
-        → IsTurned F (W.facts_of view.now) (record_next records.new) (asked_at S.now map.old) (asked_at S.next map.new) queries.now changed) }
+        → IsReady F (W.facts_of view.now) (record_now records.old) (asked_at S.now map.old)
+        (asked_at S.next map.old) queries.now
+        → IsTurned F (W.facts_of view.now) (record_next records.new) (asked_at S.now map.old)
+        (asked_at S.next map.new) queries.now changed) }
     ensures stop { IfErr result (λ stop. (F : ℕ → Facts)
-        → IsReady F (W.facts_of view.now) (record_now records.old) (asked_at S.now map.old) (asked_at S.next map.old) queries.now
-        → StopsTurn (W.facts_of view.now) stop) }
+        → IsReady F (W.facts_of view.now) (record_now records.old) (asked_at S.now map.old)
+        (asked_at S.next map.old) queries.now → StopsTurn (W.facts_of view.now) stop) }
     ensures steps { (F : ℕ → Facts)
-        → IsReady F (W.facts_of view.now) (record_now records.old) (asked_at S.now map.old) (asked_at S.next map.old) queries.now
+        → IsReady F (W.facts_of view.now) (record_now records.old) (asked_at S.now map.old)
+        (asked_at S.next map.old) queries.now
         → CountsWithin F (W.facts_of view.now) steps.old steps.new }
 {
     let points = map.collect(alloc, queries)?;

@@ -64,7 +64,8 @@ pub fn put_line(series: Series, i: u32, text: &mut Text) -> Result<(), Memory>
 
 /// Puts the row of a code point without a mapping.
 fn put_base(base: Point, text: &mut Text) -> Result<(), Memory>
-    ensures { OnOk result (text.new ≡ text.old ++ line_text (hex_text base ++ codes ";BASE;Lo;0;L;;;;;N;;;;;")) }
+    ensures { OnOk result (text.new ≡ text.old
+        ++ line_text (hex_text base ++ codes ";BASE;Lo;0;L;;;;;N;;;;;")) }
 {
     put_hex(base, text)?;
     text.append(b";BASE;Lo;0;L;;;;;N;;;;;")?;
@@ -80,7 +81,8 @@ fn put_mapped(
     behind: &[u8],
     text: &mut Text,
 ) -> Result<(), Memory>
-    ensures { OnOk result (text.new ≡ text.old ++ line_text (hex_text point ++ between.now ++ hex_text first ++ behind.now)) }
+    ensures { OnOk result (text.new ≡ text.old
+        ++ line_text (hex_text point ++ between.now ++ hex_text first ++ behind.now)) }
 {
     put_hex(point, text)?;
     text.append(between)?;
@@ -97,7 +99,8 @@ fn put_command(
     second: Point,
     text: &mut Text,
 ) -> Result<(), Memory>
-    ensures { OnOk result (text.new ≡ text.old ++ line_text (before.now ++ hex_text first ++ between.now ++ hex_text second)) }
+    ensures { OnOk result (text.new ≡ text.old
+        ++ line_text (before.now ++ hex_text first ++ between.now ++ hex_text second)) }
 {
     text.append(before)?;
     put_hex(first, text)?;

@@ -23,7 +23,8 @@ fn take_out_all(items: &mut FileText, at: usize, count: usize) -> Result<(), Mem
     requires { at + count ≤ length items.old.next }
     ensures file { items.new.file ≡ items.old.file }
     ensures now { items.new.now ≡ items.old.now }
-    ensures next { OnOk result (items.new.next ≡ take at items.old.next ++ drop (at + count) items.old.next) }
+    ensures next { OnOk result (items.new.next ≡ take at items.old.next
+        ++ drop (at + count) items.old.next) }
 {
     let mut left = count;
     'items: while left > 0 {
@@ -46,7 +47,8 @@ fn put_all(
     requires within { at ≤ length items.old.next }
     ensures file { items.new.file ≡ items.old.file }
     ensures now { items.new.now ≡ items.old.now }
-    ensures next { OnOk result (items.new.next ≡ take at items.old.next ++ map (stored_at items.old.file from.now) entries.now ++ drop at items.old.next) }
+    ensures next { OnOk result (items.new.next ≡ take at items.old.next
+        ++ map (stored_at items.old.file from.now) entries.now ++ drop at items.old.next) }
 {
     let mut left = entries.len();
     'items: while left > 0 {
@@ -64,7 +66,8 @@ fn undo_in(items: &mut FileText, splice: &Splice) -> Result<(), Memory>
     requires stands { Stands splice.now items.old.next }
     ensures file { items.new.file ≡ items.old.file }
     ensures now { items.new.now ≡ items.old.now }
-    ensures next { OnOk result (items.new.next ≡ spliced items.old.next splice.now.at (length splice.now.later) splice.now.earlier) }
+    ensures next { OnOk result (items.new.next
+        ≡ spliced items.old.next splice.now.at (length splice.now.later) splice.now.earlier) }
 {
     take_out_all(items, splice.at(), splice.later_len())?;
     let (text, entries) = splice.earlier();

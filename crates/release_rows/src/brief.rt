@@ -63,7 +63,9 @@ impl Brief {
 
     /// What is kept of a row of UnicodeData.txt that gives these values.
     pub fn of_values(values: &Values<'_>) -> Brief
-        ensures { result ≡ brief_by values.now.category values.now.class values.now.decomposition.kind values.now.decomposition.mapping values.now.upper values.now.lower values.now.title }
+        ensures { result ≡ brief_by values.now.category values.now.class
+            values.now.decomposition.kind values.now.decomposition.mapping values.now.upper
+            values.now.lower values.now.title }
     {
         let members = values.decomposition.mapping.len();
         let plain = is_plain(values.decomposition.kind, members);
@@ -98,7 +100,9 @@ impl Brief {
     /// What the row of a code point gives, from what is kept of it; `None` if nothing is kept.
     pub fn values<'a>(self, point: Point) -> Option<PointValues<'a>>
         ensures some { IfSome result (λ given. self ≢ no_brief) }
-        ensures gives { IfSome result (λ given. (row : DataValue) → self ≡ brief_of (Some (DataLine row)) → row.span ≡ record { lo = point; hi = point } → Gives given row) }
+        ensures gives { IfSome result (λ given. (row : DataValue)
+            → self ≡ brief_of (Some (DataLine row))
+            → row.span ≡ record { lo = point; hi = point } → Gives given row) }
     {
         match self.category {
             Category::Cn => None,

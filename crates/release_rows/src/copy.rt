@@ -21,7 +21,8 @@ pub fn copy_entry(
     into: &mut Text,
 ) -> Result<Spanned<Stretch>, Memory>
     requires { IsStored file from.now entry.now }
-    ensures item { IfOk result (λ copy. stored_at file into.new copy ≡ stored_at file from.now entry.now) }
+    ensures item { IfOk result (λ copy. stored_at file into.new copy
+        ≡ stored_at file from.now entry.now) }
     ensures stored { IfOk result (λ copy. IsStored file into.new copy) }
     ensures grows { OnOk result (Grew into.old into.new) }
     ensures err { OnErr result (into.new ≡ into.old) }

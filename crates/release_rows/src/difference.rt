@@ -16,7 +16,8 @@ use ucd_facts::{Memory, SourceFile};
 
 /// Whether two items of one text are told to be the same by where they stand, their ends and their numbers of lines.
 fn is_same(one: Stretch, other: Stretch) -> bool
-    ensures { result ≡ true → (file : FileValue) (text : List ℕ) → item_at file text one ≡ item_at file text other }
+    ensures { result ≡ true → (file : FileValue) (text : List ℕ)
+        → item_at file text one ≡ item_at file text other }
 {
     one.start == other.start
         && one.len == other.len
@@ -28,7 +29,9 @@ fn is_same(one: Stretch, other: Stretch) -> bool
 fn same_front(now: &[Spanned<Stretch>], next: &[Spanned<Stretch>]) -> usize
     ensures now { result ≤ length now.now }
     ensures next { result ≤ length next.now }
-    ensures same { (file : FileValue) (text : List ℕ) → take result (map (stored_at file text) now.now) ≡ take result (map (stored_at file text) next.now) }
+    ensures same { (file : FileValue) (text : List ℕ)
+        → take result (map (stored_at file text) now.now)
+        ≡ take result (map (stored_at file text) next.now) }
 {
     let mut count = 0;
     'items: while count < now.len() && count < next.len() {
@@ -44,7 +47,9 @@ fn same_front(now: &[Spanned<Stretch>], next: &[Spanned<Stretch>]) -> usize
 fn same_end(now: &[Spanned<Stretch>], next: &[Spanned<Stretch>]) -> usize
     ensures now { result ≤ length now.now }
     ensures next { result ≤ length next.now }
-    ensures same { (file : FileValue) (text : List ℕ) → drop (length now.now - result) (map (stored_at file text) now.now) ≡ drop (length next.now - result) (map (stored_at file text) next.now) }
+    ensures same { (file : FileValue) (text : List ℕ)
+        → drop (length now.now - result) (map (stored_at file text) now.now)
+        ≡ drop (length next.now - result) (map (stored_at file text) next.now) }
 {
     let mut count = 0;
     'items: while count < now.len() && count < next.len() {
@@ -74,7 +79,10 @@ pub fn put_difference(
     requires now { All (IsStored file text.now) now.now }
     requires next { All (IsStored file text.now) next.now }
     requires fits { at + length now.now < 2 ^ 64 }
-    ensures { OnOk result ((before behind : List FileItem) → at ≡ length before → LeadsOn patch.old patch.new file (before ++ (map (stored_at file text.now) next.now ++ behind)) (before ++ (map (stored_at file text.now) now.now ++ behind))) }
+    ensures { OnOk result ((before behind : List FileItem) → at ≡ length before
+        → LeadsOn patch.old patch.new file
+        (before ++ (map (stored_at file text.now) next.now ++ behind))
+        (before ++ (map (stored_at file text.now) now.now ++ behind))) }
 {
     let front = same_front(now, next);
     let (now, next) = (&now[front..], &next[front..]);

@@ -44,9 +44,13 @@ fn end_gap(items: &PartList<Stretch>, search: &Search<'_>) -> Gap
 /// Where a row other than a missing row has its place: before the first one of its group that has a greater key; if none
 /// has, behind the last one of its group; if there is none, behind all. If it is known that no row has its group, nothing is looked for.
 fn ordinary_gap(items: &PartList<Stretch>, groups: &Tags, search: &Search<'_>) -> Gap
-    requires marked { AreMarked search.now.file groups.now (map (stored_at search.now.file search.now.text) (next_in items.now)) }
+    requires marked { AreMarked search.now.file groups.now
+        (map (stored_at search.now.file search.now.text) (next_in items.now)) }
     requires each { All (IsStored search.now.file search.now.text) (next_in items.now) }
-    ensures { (row : RowValue) → IsSoughtRow search.now.file row search.now.text search.now → is_missing_in search.now.file row ≡ false → IsGapAt result (place_in search.now.file row (map (stored_at search.now.file search.now.text) (next_in items.now))) items.now.next }
+    ensures { (row : RowValue) → IsSoughtRow search.now.file row search.now.text search.now
+        → is_missing_in search.now.file row ≡ false
+        → IsGapAt result (place_in search.now.file row
+        (map (stored_at search.now.file search.now.text) (next_in items.now))) items.now.next }
 {
     contents_have_keys();
     if !groups.may_have(group_tag(search.group)) {
@@ -67,7 +71,10 @@ fn ordinary_gap(items: &PartList<Stretch>, groups: &Tags, search: &Search<'_>) -
 /// Where a missing row has its place: behind the last missing row; if there is none, before all.
 fn missing_gap(items: &PartList<Stretch>, search: &Search<'_>) -> Gap
     requires each { All (IsStored search.now.file search.now.text) (next_in items.now) }
-    ensures { (row : RowValue) → IsSoughtRow search.now.file row search.now.text search.now → is_missing_in search.now.file row ≡ true → IsGapAt result (place_in search.now.file row (map (stored_at search.now.file search.now.text) (next_in items.now))) items.now.next }
+    ensures { (row : RowValue) → IsSoughtRow search.now.file row search.now.text search.now
+        → is_missing_in search.now.file row ≡ true
+        → IsGapAt result (place_in search.now.file row
+        (map (stored_at search.now.file search.now.text) (next_in items.now))) items.now.next }
 {
     contents_have_keys();
     if let Some(spot) = items.last(&search.with(Test::SameGroup)) {
@@ -81,9 +88,12 @@ fn missing_gap(items: &PartList<Stretch>, search: &Search<'_>) -> Gap
 
 /// Where a row that is added has its place.
 pub fn gap_for(items: &PartList<Stretch>, groups: &Tags, search: &Search<'_>) -> Gap
-    requires marked { AreMarked search.now.file groups.now (map (stored_at search.now.file search.now.text) (next_in items.now)) }
+    requires marked { AreMarked search.now.file groups.now
+        (map (stored_at search.now.file search.now.text) (next_in items.now)) }
     requires each { All (IsStored search.now.file search.now.text) (next_in items.now) }
-    ensures { (row : RowValue) → IsSoughtRow search.now.file row search.now.text search.now → IsGapAt result (place_in search.now.file row (map (stored_at search.now.file search.now.text) (next_in items.now))) items.now.next }
+    ensures { (row : RowValue) → IsSoughtRow search.now.file row search.now.text search.now
+        → IsGapAt result (place_in search.now.file row
+        (map (stored_at search.now.file search.now.text) (next_in items.now))) items.now.next }
 {
     if search.is_missing() {
         missing_gap(items, search)
@@ -94,8 +104,10 @@ pub fn gap_for(items: &PartList<Stretch>, groups: &Tags, search: &Search<'_>) ->
 
 /// The entry, with a LF if it has no line end.
 fn with_end(entry: Spanned<Stretch>) -> Spanned<Stretch>
-    ensures item { (file : FileValue) (text : List ℕ) → stored_at file text result ≡ with_end (stored_at file text entry) }
-    ensures stored { (file : FileValue) (text : List ℕ) → IsStored file text entry → IsStored file text result }
+    ensures item { (file : FileValue) (text : List ℕ)
+        → stored_at file text result ≡ with_end (stored_at file text entry) }
+    ensures stored { (file : FileValue) (text : List ℕ) → IsStored file text entry
+        → IsStored file text result }
 {
     match entry.item.ending {
         Ending::None => Spanned {
@@ -119,8 +131,12 @@ pub fn put_in(
 ) -> Result<(), Memory>
     requires { (n : ℕ) × IsGapAt gap n items.old.next }
     ensures now { now_in items.new ≡ now_in items.old }
-    ensures ok { (file : FileValue) (text : List ℕ) (n : ℕ) → IsGapAt gap n items.old.next → OnOk result (map (stored_at file text) (next_in items.new) ≡ put_in (map (stored_at file text) (next_in items.old)) n (stored_at file text entry)) }
-    ensures each { (file : FileValue) (text : List ℕ) → All (IsStored file text) (next_in items.old) → IsStored file text entry → OnOk result (All (IsStored file text) (next_in items.new)) }
+    ensures ok { (file : FileValue) (text : List ℕ) (n : ℕ) → IsGapAt gap n items.old.next
+        → OnOk result (map (stored_at file text) (next_in items.new)
+        ≡ put_in (map (stored_at file text) (next_in items.old)) n
+        (stored_at file text entry)) }
+    ensures each { (file : FileValue) (text : List ℕ) → All (IsStored file text) (next_in items.old)
+        → IsStored file text entry → OnOk result (All (IsStored file text) (next_in items.new)) }
     ensures len { OnOk result (length (next_in items.new) ≡ length (next_in items.old) + 1) }
     ensures err { OnErr result (items.new ≡ items.old) }
 {

@@ -70,7 +70,8 @@ impl EndMap {
 
     /// The rule that a row breaks if it shares a code point with one of these extents.
     fn rule_at(&self, place: &Place) -> Conflict
-        ensures { (last : ℕ) → list_any (meets (extent_at place.now last)) self.now ≡ true → conflict_with self.now (extent_at place.now last) ≡ Some result }
+        ensures { (last : ℕ) → list_any (meets (extent_at place.now last)) self.now ≡ true
+            → conflict_with self.now (extent_at place.now last) ≡ Some result }
     {
         if self.ends.contains_key(place) {
             Conflict::K1
@@ -85,7 +86,8 @@ impl EndMap {
     pub fn insert(&mut self, place: Place, last: u32) -> Result<(), Memory>
         requires ordered { place.code ≤ last }
         requires apart { conflict_with self.old (extent_at place last) ≡ None }
-        ensures ok { OnOk result ((p : Extent → Bool) → list_any p self.new ≡ (p (extent_at place last) || list_any p self.old)) }
+        ensures ok { OnOk result ((p : Extent → Bool)
+            → list_any p self.new ≡ (p (extent_at place last) || list_any p self.old)) }
         ensures err { OnErr result (self.new ≡ self.old) }
     {
         self.ends.insert(place, last)?;

@@ -80,7 +80,8 @@ impl Extents {
     fn insert(&mut self, place: Place, last: u32) -> Result<(), Memory>
         requires ordered { place.code ≤ last }
         requires apart { conflict_with self.old (extent_at place last) ≡ None }
-        ensures ok { OnOk result ((p : Extent → Bool) → list_any p self.new ≡ (p (extent_at place last) || list_any p self.old)) }
+        ensures ok { OnOk result ((p : Extent → Bool)
+            → list_any p self.new ≡ (p (extent_at place last) || list_any p self.old)) }
         ensures err { OnErr result (self.new ≡ self.old) }
     {
         let end = self.end.max(u64::from(last) + 1);
@@ -103,7 +104,9 @@ impl Extents {
     pub fn take(&mut self, place: Place, last: u32) -> Result<Option<Conflict>, Memory>
         requires { place.code ≤ last }
         ensures rule { IfOk result (λ rule. rule ≡ conflict_with self.old (extent_at place last)) }
-        ensures keys { OnOk result (conflict_with self.old (extent_at place last) ≡ None → (p : Extent → Bool) → list_any p self.new ≡ (p (extent_at place last) || list_any p self.old)) }
+        ensures keys { OnOk result (conflict_with self.old (extent_at place last) ≡ None
+            → (p : Extent → Bool)
+            → list_any p self.new ≡ (p (extent_at place last) || list_any p self.old)) }
         ensures err { OnErr result (self.new ≡ self.old) }
     {
         match self.checked_place(place, last) {

@@ -22,7 +22,8 @@ impl FileText {
     ///
     /// - `Memory`: memory ran out, or the items of a splice have 2^32 bytes or more.
     pub fn put_way_back(&self, alloc: Global, patch: &mut Patch) -> Result<(), Memory>
-        ensures { OnOk result (LeadsOn patch.old patch.new self.now.file self.now.next self.now.now) }
+        ensures { OnOk result (LeadsOn patch.old patch.new self.now.file self.now.next
+            self.now.now) }
     {
         put_way_back(alloc, self.file, self.text.as_slice(), &self.items, patch)
     }
@@ -57,7 +58,9 @@ impl FileText {
         requires within { at ≤ length self.old.next }
         ensures file { self.new.file ≡ self.old.file }
         ensures now { self.new.now ≡ self.old.now }
-        ensures next { OnOk result (self.new.next ≡ insert self.old.next at (stored_at self.old.file from.now entry.now)) }
+        ensures next { OnOk result
+            (self.new.next ≡ insert self.old.next at
+            (stored_at self.old.file from.now entry.now)) }
     {
         let Some(added) = self.added.checked_add(1) else {
             return Err(Memory);

@@ -136,7 +136,8 @@ impl FileText {
     ///
     /// - `Memory`: memory ran out.
     pub fn next_rows_in(&self, alloc: Global, spans: &[Span]) -> Result<Vec<RowText<'_>>, Memory>
-        ensures { IfOk result (λ rows. rows.items ≡ filter (meets spans.now) (rows_in self.now.next)) }
+        ensures { IfOk result (λ rows. rows.items
+            ≡ filter (meets spans.now) (rows_in self.now.next)) }
     {
         let text = self.text.as_slice();
         let rows = touching_rows(alloc, self.file, text, &self.items, spans)?;
@@ -165,7 +166,8 @@ impl FileText {
         ensures file { self.new.file ≡ self.old.file }
         ensures now { self.new.now ≡ self.old.now }
         ensures answer { let op = Add self.old.file row.now bytes.now in
-            AnswersOp result (edited self.old.next op) (touched self.old.next op) self.old.next self.new.next }
+            AnswersOp result (edited self.old.next op)
+            (touched self.old.next op) self.old.next self.new.next }
     {
         let Some(added) = self.added.checked_add(1) else {
             return Err(OpStop::Memory);
@@ -201,7 +203,8 @@ impl FileText {
         ensures file { self.new.file ≡ self.old.file }
         ensures now { self.new.now ≡ self.old.now }
         ensures answer { let op = Change self.old.file row.now bytes.now in
-            AnswersOp result (edited self.old.next op) (touched self.old.next op) self.old.next self.new.next }
+            AnswersOp result (edited self.old.next op)
+            (touched self.old.next op) self.old.next self.new.next }
     {
         let spot = {
             let key = row_key(alloc, self.file, row)?;
@@ -232,7 +235,8 @@ impl FileText {
         ensures file { self.new.file ≡ self.old.file }
         ensures now { self.new.now ≡ self.old.now }
         ensures answer { let op = Withdraw self.old.file key.now in
-            AnswersOp result (edited self.old.next op) (touched self.old.next op) self.old.next self.new.next }
+            AnswersOp result (edited self.old.next op)
+            (touched self.old.next op) self.old.next self.new.next }
     {
         let spot = withdrawn_spot(&self.items, self.file, self.text.as_slice(), key)?;
         let old = self.items.get(spot);
@@ -254,7 +258,8 @@ impl FileText {
         requires kept { AreKept self.old.file self.old.next }
         ensures file { self.new.file ≡ self.old.file }
         ensures now { self.new.now ≡ self.old.now }
-        ensures answer { AnswersOp result (edited self.old.next op.now) (touched self.old.next op.now) self.old.next self.new.next }
+        ensures answer { AnswersOp result (edited self.old.next op.now)
+            (touched self.old.next op.now) self.old.next self.new.next }
     {
         match op {
             Op::Add { row, bytes, .. } => {

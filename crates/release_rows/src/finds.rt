@@ -70,8 +70,10 @@ pub fn added_gap(
     search: &Search<'_>,
 ) -> Result<Gap, KeyRule>
     requires each { All (IsStored search.now.file search.now.text) (next_in items.now) }
-    requires marked { AreMarked search.now.file groups.now (map (stored_at search.now.file search.now.text) (next_in items.now)) }
-    ensures { (row : RowValue) → IsSoughtRow search.now.file row search.now.text search.now → FindsGap result search.now.file search.now.text row items.now.next }
+    requires marked { AreMarked search.now.file groups.now
+        (map (stored_at search.now.file search.now.text) (next_in items.now)) }
+    ensures { (row : RowValue) → IsSoughtRow search.now.file row search.now.text search.now
+        → FindsGap result search.now.file search.now.text row items.now.next }
 {
     contents_have_keys();
     if is_first_of_group(groups, search) {
@@ -101,7 +103,8 @@ fn is_first_of_group(groups: &Tags, search: &Search<'_>) -> bool
 /// - `K4`: it overlaps another row.
 pub fn changed_spot(items: &PartList<Stretch>, search: &Search<'_>) -> Result<Spot, KeyRule>
     requires each { All (IsStored search.now.file search.now.text) (next_in items.now) }
-    ensures { (row : RowValue) → IsSoughtRow search.now.file row search.now.text search.now → FindsSpot result search.now.file search.now.text row items.now.next }
+    ensures { (row : RowValue) → IsSoughtRow search.now.file row search.now.text search.now
+        → FindsSpot result search.now.file search.now.text row items.now.next }
 {
     contents_have_keys();
     let Some(spot) = items.first(&search.with(Test::SameKey)) else {
@@ -123,7 +126,8 @@ pub fn withdrawn_spot(
     key: &Key,
 ) -> Result<Spot, KeyRule>
     requires each { All (IsStored file text.now) (next_in items.now) }
-    ensures { FindsRow result (has_key file key.now) (items_of file text.now items.now.next) items.now.next }
+    ensures { FindsRow result (has_key file key.now)
+        (items_of file text.now items.now.next) items.now.next }
 {
     contents_have_keys();
     if key.code.is_some() != has_code(file) {

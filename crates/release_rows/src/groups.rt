@@ -26,7 +26,8 @@ pub fn group_tag(group: &[u8]) -> u32
 
 /// Notes the group of a row that stands in this content, if groups are noted at all.
 pub fn note_group(groups: &mut Tags, file: SourceFile, content: &[u8])
-    ensures noted { (row : RowValue) → row_or_fault file content.now ≡ Ok row → may_have groups.new (group_tag (group_of file row)) ≡ true }
+    ensures noted { (row : RowValue) → row_or_fault file content.now ≡ Ok row
+        → may_have groups.new (group_tag (group_of file row)) ≡ true }
     ensures grows { Grows groups.old groups.new }
 {
     contents_have_keys();

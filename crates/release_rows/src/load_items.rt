@@ -41,7 +41,8 @@ fn gather_all(alloc: Global, file: SourceFile, bytes: &[u8]) -> Result<Gathered,
     requires short { length bytes.now ≤ file_limit }
     requires other { file ≢ UnicodeData }
     ensures ordered { IfOk result (λ made. All IsOrderedPlace made.rows.items) }
-    ensures loaded { IfOk result (λ made. IsDistinct places_meet made.rows.items → IsLoaded file bytes.now made.items) }
+    ensures loaded { IfOk result (λ made. IsDistinct places_meet made.rows.items
+        → IsLoaded file bytes.now made.items) }
 {
     let mut lines = items(bytes);
     let mut loading = Loading::new(alloc, file, bytes);
@@ -58,7 +59,8 @@ fn gather_all(alloc: Global, file: SourceFile, bytes: &[u8]) -> Result<Gathered,
 /// - `Memory`: memory ran out.
 fn items_apart(made: Gathered) -> Result<Option<PartList<Stretch>>, Memory>
     requires { All IsOrderedPlace made.rows.items }
-    ensures { IfOk result (λ found. IfSome found (λ items. (items ≡ made.items) × IsDistinct places_meet made.rows.items)) }
+    ensures { IfOk result (λ found. IfSome found
+        (λ items. (items ≡ made.items) × IsDistinct places_meet made.rows.items)) }
 {
     let Gathered { items, rows } = made;
     let apart = are_apart(rows)?;

@@ -65,7 +65,8 @@ fn spanned(
 ) -> Spanned<Stretch>
     ensures item { result.item ≡ stretch }
     ensures tag { result.tag ≡ tag }
-    ensures span { (file : FileValue) (row : Option RowValue) → EntersSome file entry.now row → HasSpan row result.code result.last }
+    ensures span { (file : FileValue) (row : Option RowValue) → EntersSome file entry.now row
+        → HasSpan row result.code result.last }
 {
     let (code, last) = match entry {
         Some(entry) => (entry.place.code, entry.reach),
@@ -85,7 +86,8 @@ fn with_brief(stretch: Stretch, entry: &Option<Entry>) -> Stretch
     ensures len { result.len ≡ stretch.len }
     ensures ending { result.ending ≡ stretch.ending }
     ensures lines { result.lines ≡ stretch.lines }
-    ensures brief { (file : FileValue) (row : Option RowValue) → stretch.brief ≡ no_brief → EntersSome file entry.now row → result.brief ≡ brief_of row }
+    ensures brief { (file : FileValue) (row : Option RowValue) → stretch.brief ≡ no_brief
+        → EntersSome file entry.now row → result.brief ≡ brief_of row }
 {
     match entry {
         Some(entry) => Stretch {
@@ -100,7 +102,8 @@ impl<'a> Loading<'a> {
     /// No items yet. It takes no memory.
     pub fn new(alloc: Global, file: SourceFile, text: &'a [u8]) -> Loading<'a>
         requires { length text.now < 2 ^ 32 }
-        ensures progress { progress_of result ≡ record { file = file; text = text.now; items = [] } }
+        ensures progress { progress_of result
+            ≡ record { file = file; text = text.now; items = [] } }
         ensures sound { IsSound result }
     {
         Loading {
@@ -117,7 +120,8 @@ impl<'a> Loading<'a> {
     /// Where the items stand in the text, each with the code points of its row.
     pub fn into_items(self) -> PartList<Stretch>
         requires { IsSound self }
-        ensures items { map (stored_at self.entry.file self.entry.text.now) (now_in result) ≡ items_above self.entry }
+        ensures items { map (stored_at self.entry.file self.entry.text.now) (now_in result)
+            ≡ items_above self.entry }
         ensures same { next_in result ≡ now_in result }
         ensures each { All (IsStored self.entry.file self.entry.text.now) (now_in result) }
         ensures few { length (now_in result) < 2 ^ 32 }
@@ -129,11 +133,16 @@ impl<'a> Loading<'a> {
     fn put(&mut self, stretch: Stretch, entry: &Option<Entry>) -> Result<(), Memory>
         requires sound { IsSound self.old }
         requires item { IsItem self.old.file self.old.text.now stretch }
-        requires ends { length (bytes_of (items_above self.old)) + length (file_item_bytes (item_at self.old.file self.old.text.now stretch)) < 2 ^ 32 }
+        requires ends { length (bytes_of (items_above self.old)) + length
+            (file_item_bytes (item_at self.old.file self.old.text.now stretch)) < 2 ^ 32 }
         requires fits { lines_of (items_above self.old) + stretch.lines < 2 ^ 32 }
-        requires enters { EntersSome self.old.file entry.now (item_at self.old.file self.old.text.now stretch).row }
+        requires enters { EntersSome self.old.file entry.now
+            (item_at self.old.file self.old.text.now stretch).row }
         ensures sound { OnOk result (IsSound self.new) }
-        ensures progress { OnOk result (progress_of self.new ≡ with_item (progress_of self.old) (item_at self.old.file self.old.text.now stretch)) }
+        ensures progress { OnOk result
+            (progress_of self.new
+            ≡ with_item (progress_of self.old)
+            (item_at self.old.file self.old.text.now stretch)) }
     {
         let tag = content_tag(self.file, content_in(self.text, stretch));
         let item = spanned(stretch, tag, entry, self.before);
@@ -151,11 +160,16 @@ impl<'a> Loading<'a> {
     /// - `Memory`: memory ran out.
     fn take(&mut self, alloc: Global, piece: Piece<'a>) -> Result<Option<Entry>, LoadStop>
         requires sound { IsSound self.old }
-        requires fits { lines_of (items_above self.old) + piece_lines (piece_of piece) + 1 < 2 ^ 32 }
+        requires fits { lines_of (items_above self.old) + piece_lines
+            (piece_of piece) + 1 < 2 ^ 32 }
         requires stands { Stands self.old.text.now (items_above self.old) (piece_of piece) }
         ensures sound { OnOk result (IsSound self.new) }
-        ensures progress { OnOk result (progress_of self.new ≡ with_item (progress_of self.old) (file_item self.old.file (piece_of piece.entry))) }
-        ensures piece { ReadsPiece self.old.file (self.old.lines + 1) (piece_of piece.entry) result }
+        ensures progress { OnOk result
+            (progress_of self.new
+            ≡ with_item (progress_of self.old)
+            (file_item self.old.file (piece_of piece.entry))) }
+        ensures piece { ReadsPiece self.old.file (self.old.lines + 1)
+            (piece_of piece.entry) result }
     {
         let unread = stretch_of(self.end, piece);
         let content = content_of(self.text, unread, piece);
@@ -177,11 +191,16 @@ impl<'a> Loading<'a> {
     ) -> Result<(), LoadStop>
         requires sound { IsSound self.old }
         requires rows { AreGathered self.old.file (rows_in (items_above self.old)) rows.old.items }
-        requires fits { lines_of (items_above self.old) + piece_lines (piece_of piece) + 1 < 2 ^ 32 }
+        requires fits { lines_of (items_above self.old) + piece_lines
+            (piece_of piece) + 1 < 2 ^ 32 }
         requires stands { Stands self.old.text.now (items_above self.old) (piece_of piece) }
         ensures sound { OnOk result (IsSound self.new) }
-        ensures rows { OnOk result (AreGathered self.old.file (rows_in (items_above self.new)) rows.new.items) }
-        ensures piece { OnOk result (progress_of self.new ≡ with_item (progress_of self.old) (file_item self.old.file (piece_of piece.entry))) }
+        ensures rows { OnOk result
+            (AreGathered self.old.file (rows_in (items_above self.new)) rows.new.items) }
+        ensures piece { OnOk result
+            (progress_of self.new
+            ≡ with_item (progress_of self.old)
+            (file_item self.old.file (piece_of piece.entry))) }
     {
         let entry = self.take(alloc, piece)?;
         Ok(put_placed(rows, entry)?)
@@ -200,11 +219,14 @@ impl<'a> Loading<'a> {
     ) -> Result<(), LoadStop>
         requires sound { IsSound self.old }
         requires keys { HoldsRows self.old.file (rows_in (items_above self.old)) keys.old }
-        requires fits { lines_of (items_above self.old) + piece_lines (piece_of piece) + 1 < 2 ^ 32 }
+        requires fits { lines_of (items_above self.old) + piece_lines
+            (piece_of piece) + 1 < 2 ^ 32 }
         requires stands { Stands self.old.text.now (items_above self.old) (piece_of piece) }
         ensures sound { OnOk result (IsSound self.new) }
-        ensures keys { OnOk result (HoldsRows self.old.file (rows_in (items_above self.new)) keys.new) }
-        ensures piece { TakesPiece result (progress_of self.old) (progress_of self.new) (piece_of piece.entry) }
+        ensures keys { OnOk result
+            (HoldsRows self.old.file (rows_in (items_above self.new)) keys.new) }
+        ensures piece { TakesPiece result (progress_of self.old) (progress_of self.new)
+            (piece_of piece.entry) }
     {
         let (file, line, before) = (self.file, self.lines + 1, self.before);
         let entry = self.take(alloc, piece)?;

@@ -75,7 +75,9 @@ pub fn prepare_in(files: &mut NineFiles, alloc: Global, op: &Op) -> Result<Spans
     requires kept { AllAreKept (files_next files.old) }
     ensures files { map (λ lists. lists.file) files.new ≡ source_files }
     ensures now { files_now files.new ≡ files_now files.old }
-    ensures answer { AnswersOp result (op_or_rule (files_next files.old) op.now) (touched (items_at (files_next files.old) (op_file op.now)) op.now) (files_next files.old) (files_next files.new) }
+    ensures answer { AnswersOp result (op_or_rule (files_next files.old) op.now)
+        (touched (items_at (files_next files.old) (op_file op.now)) op.now)
+        (files_next files.old) (files_next files.new) }
     ensures kept { AllAreKept (files_next files.new) }
 {
     operations_keep_rows();

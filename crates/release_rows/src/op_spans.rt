@@ -45,7 +45,8 @@ pub fn row_spans(alloc: Global, row: &Row) -> Result<Spans, Memory>
 
 /// The code points from one to another, as a list of one span; no span if there are none.
 fn one_span(alloc: Global, lo: u32, hi: u32) -> Result<Spans, Memory>
-    ensures { lo ≤ hi → hi < 1114112 → IfOk result (λ spans. spans ≡ record { lo = lo; hi = hi } ∷ []) }
+    ensures { lo ≤ hi → hi < 1114112
+        → IfOk result (λ spans. spans ≡ record { lo = lo; hi = hi } ∷ []) }
 {
     let mut spans = Spans::new(alloc);
     if let (Some(lo), Some(hi)) = (Point::new(lo), Point::new(hi))
@@ -62,7 +63,9 @@ pub fn entry_spans(
     file: SourceFile,
     entry: &Spanned<Stretch>,
 ) -> Result<Spans, Memory>
-    ensures { (text : List ℕ) → IsStored file text entry.now → is_some (stored_at file text entry.now).row ≡ true → IfOk result (λ spans. spans ≡ spans_of (stored_at file text entry.now).row) }
+    ensures { (text : List ℕ) → IsStored file text entry.now
+        → is_some (stored_at file text entry.now).row ≡ true
+        → IfOk result (λ spans. spans ≡ spans_of (stored_at file text entry.now).row) }
 {
     rows_are_read();
     rows_are_ok();
@@ -79,7 +82,10 @@ pub fn both_spans(
     entry: &Spanned<Stretch>,
     row: &Row,
 ) -> Result<Spans, Memory>
-    ensures { (text : List ℕ) → IsStored file text entry.now → is_some (stored_at file text entry.now).row ≡ true → IfOk result (λ spans. spans ≡ spans_of (stored_at file text entry.now).row ++ row_spans row.now) }
+    ensures { (text : List ℕ) → IsStored file text entry.now
+        → is_some (stored_at file text entry.now).row ≡ true
+        → IfOk result (λ spans. spans ≡ spans_of (stored_at file text entry.now).row
+        ++ row_spans row.now) }
 {
     let mut spans = entry_spans(alloc, file, entry)?;
     let more = row_spans(alloc, row)?;

@@ -35,9 +35,12 @@ fn opens_range(file: SourceFile, content: &[u8]) -> bool
 
 /// Takes the first piece off the lines; `None` if there are no lines. UAX #44, section 4.2.3.
 pub fn next_piece<'a>(file: SourceFile, lines: &mut Items<'a>) -> Option<Piece<'a>>
-    ensures piece { MatchOption result (pieces file lines.old ≡ []) (λ p. pieces file lines.old ≡ piece_of p ∷ pieces file lines.new) }
-    ensures bytes { MatchOption result (joined lines.old ≡ []) (λ p. joined lines.old ≡ piece_bytes (piece_of p) ++ joined lines.new) }
-    ensures lines { MatchOption result (lines.old ≡ []) (λ p. length lines.old ≡ piece_lines (piece_of p) + length lines.new) }
+    ensures piece { MatchOption result (pieces file lines.old ≡ [])
+        (λ p. pieces file lines.old ≡ piece_of p ∷ pieces file lines.new) }
+    ensures bytes { MatchOption result (joined lines.old ≡ [])
+        (λ p. joined lines.old ≡ piece_bytes (piece_of p) ++ joined lines.new) }
+    ensures lines { MatchOption result (lines.old ≡ [])
+        (λ p. length lines.old ≡ piece_lines (piece_of p) + length lines.new) }
 {
     let first = lines.next()?;
     if opens_range(file, first.content) {

@@ -84,7 +84,8 @@ fn data_entry<'a>(
     content: &'a [u8],
     above: &mut LastTail<'a>,
 ) -> Result<Entry, RowStop>
-    ensures { EntersAs SourceFile.UnicodeData result (row_or_fault SourceFile.UnicodeData content.now) }
+    ensures { EntersAs SourceFile.UnicodeData result
+        (row_or_fault SourceFile.UnicodeData content.now) }
 {
     let given = read_below(content, above)?;
     Ok(Entry {

@@ -28,7 +28,11 @@ fn is_faulty_last(file: SourceFile, piece: Piece<'_>, fault: RowFault) -> bool
 /// The fault of a piece whose first line has this number.
 fn stop_at(file: SourceFile, line: u32, piece: Piece<'_>, fault: RowFault) -> LoadStop
     requires { line + 1 < 2 ^ 32 }
-    ensures { StopsAs result (record { line = fault_line file line (piece_of piece.entry) fault; rule = LoadRule.Row fault }) }
+    ensures { StopsAs result (record {
+      line = fault_line file line
+          (piece_of piece.entry) fault;
+      rule = LoadRule.Row fault;
+    }) }
 {
     let rule = LoadRule::Row(fault);
     if is_faulty_last(file, piece, fault) {

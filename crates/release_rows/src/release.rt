@@ -78,7 +78,8 @@ impl Release {
         ensures answer { AnswersLoad result (load_or_fault file bytes.now) file self.old self.new }
         ensures items { OnOk result (load_or_fault file bytes.now ≡ Ok (items_now self.new file)) }
         ensures lossless { OnOk result (bytes_of (items_now self.new file) ≡ bytes.now) }
-        ensures others { (other : FileValue) → other ≢ file → items_now self.new other ≡ items_now self.old other }
+        ensures others { (other : FileValue) → other ≢ file
+            → items_now self.new other ≡ items_now self.old other }
     {
         if bytes.len() > file_limit() {
             return Err(TOO_LONG);
@@ -93,7 +94,8 @@ impl Release {
         ensures answer { AnswersLoad result (load_or_fault file text) file self.old self.new }
         ensures items { OnOk result (load_or_fault file text ≡ Ok (items_now self.new file)) }
         ensures lossless { OnOk result (bytes_of (items_now self.new file) ≡ text) }
-        ensures others { (other : FileValue) → other ≢ file → items_now self.new other ≡ items_now self.old other }
+        ensures others { (other : FileValue) → other ≢ file
+            → items_now self.new other ≡ items_now self.old other }
     {
         if text.len() > file_limit() {
             return Err(TOO_LONG);
@@ -153,7 +155,9 @@ impl Release {
         file: SourceFile,
         spans: &[Span],
     ) -> Result<Vec<RowText<'_>>, Memory>
-        ensures rows { IfOk result (λ rows. rows.items ≡ filter (meets spans.now) (rows_in (items_next self.now file))) }
+        ensures rows { IfOk result
+            (λ rows. rows.items
+            ≡ filter (meets spans.now) (rows_in (items_next self.now file))) }
     {
         items_at(&self.files, file).next_rows_in(alloc, spans)
     }
@@ -170,7 +174,9 @@ impl Release {
     pub fn prepare(&mut self, op: &Op) -> Result<Spans, OpStop>
         requires { IsOp op.now }
         ensures now { self.new.current ≡ self.old.current }
-        ensures answer { AnswersOp result (op_or_rule self.old.prepared op.now) (touched (items_next self.old (op_file op.now)) op.now) self.old.prepared self.new.prepared }
+        ensures answer { AnswersOp result (op_or_rule self.old.prepared op.now)
+            (touched (items_next self.old (op_file op.now)) op.now) self.old.prepared
+            self.new.prepared }
     {
         prepare_in(&mut self.files, self.alloc, op)
     }

@@ -47,7 +47,9 @@ pub fn take_row(
     entry: Option<Entry>,
 ) -> Result<Option<LoadRule>, Memory>
     requires ordered { IfSome entry (λ e. e.place.code ≤ e.last) }
-    ensures { (above : List RowValue) (row : Option RowValue) → HoldsRows file above keys.old → before ≡ last_start above → EntersSome file entry row → IfOk result (TakesRow file above row keys.new) }
+    ensures { (above : List RowValue) (row : Option RowValue) → HoldsRows file above keys.old
+        → before ≡ last_start above → EntersSome file entry row
+        → IfOk result (TakesRow file above row keys.new) }
 {
     let Some(Entry { place, last, .. }) = entry else {
         return Ok(None);

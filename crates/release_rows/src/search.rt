@@ -154,7 +154,9 @@ impl<'a> Search<'a> {
 
     /// Whether the tag of the entry leaves open that it has a greater key.
     fn tag_rises(&self, entry: &Spanned<Stretch>) -> bool
-        ensures { result ≡ tag_rises (tells_order self.now.file) self.now.code entry.now.code self.now.tag entry.now.tag }
+        ensures { result ≡ tag_rises
+            (tells_order self.now.file) self.now.code entry.now.code self.now.tag
+            entry.now.tag }
     {
         !tells_order(self.file) || self.code < entry.code || self.tag <= entry.tag
     }

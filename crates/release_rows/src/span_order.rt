@@ -53,7 +53,8 @@ impl SpanOrder {
     ///
     /// - `Memory`: memory ran out.
     pub fn new(alloc: Global, spans: &[Span]) -> Result<SpanOrder, Memory>
-        ensures { IfOk result (λ order. (own : Bounds) → list_any (spans_meet own) order ≡ list_any (spans_meet own) spans.now) }
+        ensures { IfOk result (λ order. (own : Bounds)
+            → list_any (spans_meet own) order ≡ list_any (spans_meet own) spans.now) }
     {
         let mut sorted = Vec::from_slice(alloc, spans)?;
         sorted.sort_by_key(|span| span.first())?;
@@ -69,7 +70,9 @@ impl SpanOrder {
     /// Puts a span behind the others, none of which begins behind it.
     fn put(&mut self, span: Span) -> Result<(), Memory>
         requires { NoneBeginsBehind span.lo self.old }
-        ensures met { OnOk result ((own : Bounds) → list_any (spans_meet own) self.new ≡ (list_any (spans_meet own) self.old || spans_meet own span)) }
+        ensures met { OnOk result ((own : Bounds)
+            → list_any (spans_meet own) self.new
+            ≡ (list_any (spans_meet own) self.old || spans_meet own span)) }
         ensures behind { OnOk result (NoneBeginsBehind span.lo self.new) }
     {
         let reach = reach_with(self.spans.as_slice(), span);

@@ -51,7 +51,8 @@ fn put_spans(
     spans: &mut Spans,
 ) -> Result<(), Memory>
     requires { All (IsStored file text.now) entries.now }
-    ensures { OnOk result (spans.new ≡ spans.old ++ item_spans (map (stored_at file text.now) entries.now)) }
+    ensures { OnOk result (spans.new ≡ spans.old
+        ++ item_spans (map (stored_at file text.now) entries.now)) }
 {
     let mut done = 0;
     'entries: while done < entries.len() {
@@ -72,7 +73,8 @@ fn put_entry_spans(
     spans: &mut Spans,
 ) -> Result<(), Memory>
     requires { IsStored file text.now entry.now }
-    ensures { OnOk result (spans.new ≡ spans.old ++ spans_of (stored_at file text.now entry.now).row) }
+    ensures { OnOk result (spans.new ≡ spans.old
+        ++ spans_of (stored_at file text.now entry.now).row) }
 {
     if is_trivia(file, content_in(text, entry.item)) {
         return Ok(());
@@ -95,7 +97,15 @@ impl Splice {
     ) -> Result<Splice, Memory>
         requires later { All (IsStored file text.now) later.now }
         requires earlier { All (IsStored file text.now) earlier.now }
-        ensures { IfOk result (λ s. s ≡ record { file = file; at = at; later = map (stored_at file text.now) later.now; earlier = map (stored_at file text.now) earlier.now }) }
+        ensures { IfOk result (λ s. s
+            ≡ record {
+              file = file;
+              at = at;
+              later = map
+                  (stored_at file text.now) later.now;
+              earlier = map
+                  (stored_at file text.now) earlier.now;
+            }) }
     {
         let mut own = Text::new(alloc);
         let later = copied(alloc, file, text, later, &mut own)?;
@@ -142,7 +152,8 @@ impl Splice {
     ///
     /// - `Memory`: memory ran out.
     pub(crate) fn put_spans(&self, alloc: Global, spans: &mut Spans) -> Result<(), Memory>
-        ensures { OnOk result (spans.new ≡ spans.old ++ (item_spans self.now.later ++ item_spans self.now.earlier)) }
+        ensures { OnOk result (spans.new ≡ spans.old
+            ++ (item_spans self.now.later ++ item_spans self.now.earlier)) }
     {
         let text = self.text.as_slice();
         put_spans(alloc, self.file, text, self.later.as_slice(), spans)?;

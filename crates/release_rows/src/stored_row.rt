@@ -56,7 +56,8 @@ pub fn store_row(
     requires { row_or_fault file bytes.now ≡ Ok row.now }
     ensures ok { OnOk result (text.new ≡ text.old ++ bytes.now) }
     ensures stored { IfOk result (λ entry. IsStored file text.new entry) }
-    ensures item { IfOk result (λ entry. stored_at file text.new entry ≡ item_of_row row.now bytes.now (ending_of ending)) }
+    ensures item { IfOk result (λ entry. stored_at file text.new entry
+        ≡ item_of_row row.now bytes.now (ending_of ending)) }
     ensures err { OnErr result (text.new ≡ text.old) }
     ensures noted { may_have groups.new (group_tag (group_of file row.now)) ≡ true }
     ensures grows { Grows groups.old groups.new }

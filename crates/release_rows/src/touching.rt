@@ -28,7 +28,8 @@ fn put_row<'a>(
     entry: &Spanned<Stretch>,
 ) -> Result<(), Memory>
     requires { IsStored file text.now entry.now }
-    ensures { OnOk result (rows.new.items ≡ rows.old.items ++ onto_rows (stored_at file text.now entry.now).row []) }
+    ensures { OnOk result (rows.new.items ≡ rows.old.items
+        ++ onto_rows (stored_at file text.now entry.now).row []) }
 {
     let content = content_in(text, entry.item);
     if is_trivia(file, content) {
@@ -48,7 +49,8 @@ fn passing_rows<'a>(
     mut items: Passing<'_, Stretch, Meeting<'_>>,
 ) -> Result<Vec<RowText<'a>>, Memory>
     requires { All (IsStored file text.now) items }
-    ensures { IfOk result (λ rows. rows.items ≡ rows_in (map (stored_at file text.now) items.entry)) }
+    ensures { IfOk result (λ rows. rows.items
+        ≡ rows_in (map (stored_at file text.now) items.entry)) }
 {
     let mut rows = Vec::new(alloc);
     'items: while let Some(entry) = items.next() {
@@ -69,7 +71,9 @@ pub fn touching_rows<'a>(
     spans: &[Span],
 ) -> Result<Vec<RowText<'a>>, Memory>
     requires { All (IsStored file text.now) (next_in items.now) }
-    ensures { IfOk result (λ rows. rows.items ≡ filter (meets spans.now) (rows_in (map (stored_at file text.now) (next_in items.now)))) }
+    ensures { IfOk result (λ rows. rows.items
+        ≡ filter (meets spans.now)
+        (rows_in (map (stored_at file text.now) (next_in items.now)))) }
 {
     rows_are_read();
     rows_are_ok();

@@ -31,7 +31,9 @@ fn put_part(
     requires part { slot < length items.now.now }
     requires both { length items.now.next ≡ length items.now.now }
     requires at { at ≡ length (flat (take slot items.now.now)) }
-    ensures { OnOk result (LeadsOn patch.old patch.new file (map (stored_at file text.now) (turned items.now slot)) (map (stored_at file text.now) (turned items.now (slot + 1)))) }
+    ensures { OnOk result (LeadsOn patch.old patch.new file
+        (map (stored_at file text.now) (turned items.now slot))
+        (map (stored_at file text.now) (turned items.now (slot + 1)))) }
 {
     let now = items.part(slot);
     match items.edited_part(slot) {
@@ -54,7 +56,9 @@ pub fn put_way_back(
     requires now { All (IsStored file text.now) (now_in items.now) }
     requires next { All (IsStored file text.now) (next_in items.now) }
     requires few { length (now_in items.now) < 2 ^ 33 }
-    ensures { OnOk result (LeadsOn patch.old patch.new file (map (stored_at file text.now) (next_in items.now)) (map (stored_at file text.now) (now_in items.now))) }
+    ensures { OnOk result (LeadsOn patch.old patch.new file
+        (map (stored_at file text.now) (next_in items.now))
+        (map (stored_at file text.now) (now_in items.now))) }
 {
     let mut slot = 0;
     let mut at = 0;

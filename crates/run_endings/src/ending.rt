@@ -19,7 +19,8 @@ use ucd_points::Memory;
 /// - `Memory`: memory ran out.
 pub fn make_room<S: Shelf>(shelf: &mut S, plan: &Plan) -> Result<(), Memory>
     ensures room { OnOk result (length plan.now.outputs.items ≤ S.spare shelf.new) }
-    ensures last_failed_stays { IsTrue S.tells_failed → S.last_failed shelf.new ≡ S.last_failed shelf.old }
+    ensures last_failed_stays { IsTrue S.tells_failed
+        → S.last_failed shelf.new ≡ S.last_failed shelf.old }
     ensures only_read { OnlyRead (shelf_seen S.Shelf shelf.old shelf.new) }
     ensures read_faults_stay { S.read_faults shelf.new ≡ S.read_faults shelf.old }
 {
@@ -35,7 +36,8 @@ pub fn end_run<S: Shelf, K: Sink>(
     out: &mut K,
 ) -> Status
     requires { HasRoom planned (S.spare shelf.old) }
-    ensures { Ends usage.now planned S.Shelf shelf.old shelf.new (sink_seen K.Sink out.old out.new) result }
+    ensures { Ends usage.now planned S.Shelf shelf.old shelf.new
+        (sink_seen K.Sink out.old out.new) result }
 {
     match planned {
         None => {
@@ -77,8 +79,10 @@ fn tell_stop<K: Sink>(stop: Stop, out: &mut K) -> Status
 /// Writes all files, and tells the summary.
 fn finish<S: Shelf, K: Sink>(plan: Plan, shelf: &mut S, out: &mut K) -> Status
     requires { length plan.outputs.items ≤ S.spare shelf.old }
-    ensures last_failed_stays { IsTrue S.tells_failed → S.last_failed shelf.new ≡ S.last_failed shelf.old }
-    ensures outcome { Finished plan (shelf_seen S.Shelf shelf.old shelf.new) (sink_seen K.Sink out.old out.new) result }
+    ensures last_failed_stays { IsTrue S.tells_failed
+        → S.last_failed shelf.new ≡ S.last_failed shelf.old }
+    ensures outcome { Finished plan (shelf_seen S.Shelf shelf.old shelf.new)
+        (sink_seen K.Sink out.old out.new) result }
 {
     let Plan {
         outputs,

@@ -27,7 +27,8 @@ impl Output {
     ///
     /// - `Memory`: memory ran out.
     pub fn of(alloc: Global, path: Text, bytes: Text) -> Result<Output, Memory>
-        ensures file { IfOk result (λ output. file_of output ≡ record { path = path; bytes = bytes }) }
+        ensures file { IfOk result
+            (λ output. file_of output ≡ record { path = path; bytes = bytes }) }
         ensures line { IfOk result (λ output. output.fault_line ≡ write_failed output.path) }
     {
         let fault_line = write_failed(alloc, path.as_slice())?;
@@ -49,7 +50,8 @@ pub fn put_text(
     text: &[u8],
     outputs: &mut Vec<Output>,
 ) -> Result<(), Memory>
-    ensures { OnOk result (Puts (record { path = path_in folder.now name.now; bytes = text.now } ∷ []) outputs.old.items outputs.new.items) }
+    ensures { OnOk result (Puts (record { path = path_in folder.now name.now; bytes = text.now }
+        ∷ []) outputs.old.items outputs.new.items) }
 {
     let path = path_in(alloc, folder, name)?;
     let bytes = Text::of(alloc, text)?;

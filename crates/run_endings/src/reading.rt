@@ -35,10 +35,12 @@ pub fn read_all<S: Shelf>(
     ensures len { IfOk result (λ held. length held.items ≡ length paths.now) }
     ensures cut { IfOk result (λ held. held.items ≡ map cut held.items) }
     ensures failed_inside { OnFailedAt result (λ at. at < length paths.now) }
-    ensures failed_only { OnFailedAt result (λ at. Rose (S.read_faults shelf.old) (S.read_faults shelf.new)) }
+    ensures failed_only { OnFailedAt result
+        (λ at. Rose (S.read_faults shelf.old) (S.read_faults shelf.new)) }
     ensures names_failed { IsTrue S.tells_failed →
         OnFailedAt result (λ at. S.last_failed shelf.new ≡ text_at paths.now at) }
-    ensures none_failed { IsTrue S.tells_failed → IfOk result (λ _. S.last_failed shelf.new ≡ S.last_failed shelf.old) }
+    ensures none_failed { IsTrue S.tells_failed
+        → IfOk result (λ _. S.last_failed shelf.new ≡ S.last_failed shelf.old) }
     ensures held_stays { IsTrue S.tells → SameContents (S.holds shelf.old) (S.holds shelf.new) }
     ensures read_faults_never_fall { S.read_faults shelf.old ≤ S.read_faults shelf.new }
     ensures write_faults_stay { S.write_faults shelf.new ≡ S.write_faults shelf.old }
@@ -60,11 +62,15 @@ pub fn read_all<S: Shelf>(
 
 /// What a shelf holds at a path: the bytes, up to one more than a file may have.
 fn read_one<S: Shelf>(alloc: Global, shelf: &mut S, path: &[u8]) -> Result<Option<Text>, ReadStop>
-    ensures contents { IsTrue S.tells → IfOk result (λ held. held ≡ cut (S.holds shelf.old path.now)) }
+    ensures contents { IsTrue S.tells
+        → IfOk result (λ held. held ≡ cut (S.holds shelf.old path.now)) }
     ensures cut { IfOk result (λ held. held ≡ cut held) }
-    ensures failed_only { OnOneFailed result (Rose (S.read_faults shelf.old) (S.read_faults shelf.new)) }
-    ensures names_failed { IsTrue S.tells_failed → OnOneFailed result (S.last_failed shelf.new ≡ path.now) }
-    ensures none_failed { IsTrue S.tells_failed → IfOk result (λ _. S.last_failed shelf.new ≡ S.last_failed shelf.old) }
+    ensures failed_only { OnOneFailed result
+        (Rose (S.read_faults shelf.old) (S.read_faults shelf.new)) }
+    ensures names_failed { IsTrue S.tells_failed
+        → OnOneFailed result (S.last_failed shelf.new ≡ path.now) }
+    ensures none_failed { IsTrue S.tells_failed
+        → IfOk result (λ _. S.last_failed shelf.new ≡ S.last_failed shelf.old) }
     ensures held_stays { IsTrue S.tells → SameContents (S.holds shelf.old) (S.holds shelf.new) }
     ensures read_faults_never_fall { S.read_faults shelf.old ≤ S.read_faults shelf.new }
     ensures write_faults_stay { S.write_faults shelf.new ≡ S.write_faults shelf.old }

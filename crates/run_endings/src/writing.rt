@@ -15,11 +15,15 @@ use ucd_points::Text;
 ///   is absent, and those after it are not touched.
 pub fn write_all<S: Shelf>(shelf: &mut S, outputs: Vec<Output>) -> Result<(), Text>
     requires { length outputs.items ≤ S.spare shelf.old }
-    ensures ok { IsTrue S.tells → OnOk result (Replaced (files_of outputs.items) (S.holds shelf.old) (S.holds shelf.new)) }
-    ensures stopped { IfErr result (λ line. StoppedAt line outputs.items S.tells (S.holds shelf.old) (S.holds shelf.new)) }
-    ensures failed_only { OnErr result (Rose (S.write_faults shelf.old) (S.write_faults shelf.new)) }
+    ensures ok { IsTrue S.tells → OnOk result
+        (Replaced (files_of outputs.items) (S.holds shelf.old) (S.holds shelf.new)) }
+    ensures stopped { IfErr result
+        (λ line. StoppedAt line outputs.items S.tells (S.holds shelf.old) (S.holds shelf.new)) }
+    ensures failed_only { OnErr result
+        (Rose (S.write_faults shelf.old) (S.write_faults shelf.new)) }
     ensures read_faults_stay { S.read_faults shelf.new ≡ S.read_faults shelf.old }
-    ensures last_failed_stays { IsTrue S.tells_failed → S.last_failed shelf.new ≡ S.last_failed shelf.old }
+    ensures last_failed_stays { IsTrue S.tells_failed
+        → S.last_failed shelf.new ≡ S.last_failed shelf.old }
     ensures write_faults_never_fall { S.write_faults shelf.old ≤ S.write_faults shelf.new }
 {
     let mut rest = outputs;

@@ -35,7 +35,8 @@ pub fn same_sources(held: &[Option<Text>], first: usize, second: usize) -> bool
 
 /// Whether the same bytes are held twice, or nothing is.
 fn is_same_text(one: Option<&[u8]>, other: Option<&[u8]>) -> bool
-    ensures { Decides result (option_map (λ bytes. bytes.now) one.entry ≡ option_map (λ bytes. bytes.now) other.entry) }
+    ensures { Decides result (option_map (λ bytes. bytes.now) one.entry
+        ≡ option_map (λ bytes. bytes.now) other.entry) }
 {
     match (one, other) {
         (Some(one), Some(other)) => one == other,
@@ -60,8 +61,10 @@ pub fn open_beside<L: Ledger>(
     steps: &mut Steps<L>,
 ) -> Result<Bench, Stop>
     requires first { first + 9 < 2 ^ 64 }
-    requires same { IsTrue same → release_verdict (source_held held.old.items first) ≡ Ok other.now.current }
-    ensures files { ToldAs (λ bench. bench.current) result (folder_verdict folder.now (source_held held.old.items first)) }
+    requires same { IsTrue same → release_verdict (source_held held.old.items first)
+        ≡ Ok other.now.current }
+    ensures files { ToldAs (λ bench. bench.current) result
+        (folder_verdict folder.now (source_held held.old.items first)) }
     ensures still { IfOk result HasNothingPrepared }
     ensures others { StayOutside first held.old.items held.new.items }
     ensures steps { steps.new ≤ steps.old + point_count }

@@ -26,7 +26,8 @@ use ucd_model::{Broken, SOURCE_FILES, SourceFile, Steps, Text};
 /// - `Memory`: memory ran out.
 fn judge(alloc: Global, held: &mut Vec<Option<Text>>, first: usize) -> Result<Release, FolderStop>
     requires { first + 9 < 2 ^ 64 }
-    ensures files { JudgedAs (λ release. release.current) result (files_verdict (source_held held.old.items first)) }
+    ensures files { JudgedAs (λ release. release.current) result
+        (files_verdict (source_held held.old.items first)) }
     ensures still { IfOk result HasNothingPrepared }
     ensures others { StayOutside first held.old.items held.new.items }
 {
@@ -48,8 +49,11 @@ fn load_held(
 ) -> Result<(), FolderStop>
     requires room { first + 9 < 2 ^ 64 }
     requires empty { items_now release.old file ≡ [] }
-    ensures loads { LoadsFile result (file_verdict file (source_held held.old.items first file)) file release.old release.new }
-    ensures others { (at : ℕ) → at ≢ first + file_place file → held_at held.new.items at ≡ held_at held.old.items at }
+    ensures loads { LoadsFile result
+        (file_verdict file (source_held held.old.items first file)) file release.old
+        release.new }
+    ensures others { (at : ℕ) → at ≢ first + file_place file
+        → held_at held.new.items at ≡ held_at held.old.items at }
 {
     let Some(text) = take_held(held, first + file.place()) else {
         return Err(FolderStop::Refused(FolderRefusal::NoFile(file)));
@@ -84,7 +88,8 @@ pub fn judge_folder<L: Ledger>(
     steps: &mut Steps<L>,
 ) -> Result<Bench, FolderStop>
     requires { first + 9 < 2 ^ 64 }
-    ensures files { JudgedAs (λ bench. bench.current) result (release_verdict (source_held held.old.items first)) }
+    ensures files { JudgedAs (λ bench. bench.current) result
+        (release_verdict (source_held held.old.items first)) }
     ensures still { IfOk result HasNothingPrepared }
     ensures others { StayOutside first held.old.items held.new.items }
     ensures steps { steps.new ≤ steps.old + point_count }
@@ -120,7 +125,8 @@ pub fn open_folder<L: Ledger>(
     steps: &mut Steps<L>,
 ) -> Result<Bench, Stop>
     requires { first + 9 < 2 ^ 64 }
-    ensures files { ToldAs (λ bench. bench.current) result (folder_verdict folder.now (source_held held.old.items first)) }
+    ensures files { ToldAs (λ bench. bench.current) result
+        (folder_verdict folder.now (source_held held.old.items first)) }
     ensures still { IfOk result HasNothingPrepared }
     ensures others { StayOutside first held.old.items held.new.items }
     ensures steps { steps.new ≤ steps.old + point_count }

@@ -26,7 +26,8 @@ pub fn put_sources(
     bench: &Bench,
     outputs: &mut Vec<Output>,
 ) -> Result<(), Memory>
-    ensures { OnOk result (Puts (map (source_file folder.now bench.now.current) source_files) outputs.old.items outputs.new.items) }
+    ensures { OnOk result (Puts (map (source_file folder.now bench.now.current) source_files)
+        outputs.old.items outputs.new.items) }
 {
     'files: for file in &SOURCE_FILES {
         let output = source_output(alloc, folder, *file, bench)?;
@@ -44,7 +45,8 @@ pub fn put_derived(
     bench: &Bench,
     outputs: &mut Vec<Output>,
 ) -> Result<(), Memory>
-    ensures { OnOk result (Puts (map (derived_file folder.now bench.now.current) derived_files) outputs.old.items outputs.new.items) }
+    ensures { OnOk result (Puts (map (derived_file folder.now bench.now.current) derived_files)
+        outputs.old.items outputs.new.items) }
 {
     let pieces = bench.pieces(alloc)?;
     'files: for file in &DERIVED_FILES {
@@ -61,7 +63,8 @@ fn source_output(
     file: SourceFile,
     bench: &Bench,
 ) -> Result<Output, Memory>
-    ensures file { IfOk result (λ output. file_of output ≡ source_file folder.now bench.now.current file) }
+    ensures file { IfOk result (λ output. file_of output
+        ≡ source_file folder.now bench.now.current file) }
     ensures line { IfOk result (λ output. output.fault_line ≡ write_failed output.path) }
 {
     let path = path_in(alloc, folder, file.path())?;
@@ -78,7 +81,8 @@ fn derived_output(
     pieces: &[Span],
 ) -> Result<Output, Memory>
     requires { IsCut (bench_record bench.now) 0 point_count pieces.now }
-    ensures file { IfOk result (λ output. file_of output ≡ derived_file folder.now bench.now.current file) }
+    ensures file { IfOk result (λ output. file_of output
+        ≡ derived_file folder.now bench.now.current file) }
     ensures line { IfOk result (λ output. output.fault_line ≡ write_failed output.path) }
 {
     let path = path_in(alloc, folder, file.path())?;

@@ -20,7 +20,8 @@ use std::alloc::Global;
 /// - `Memory`: memory ran out.
 #[tactic(auto, unfolding(crate::specs::Verdict::script_verdict))]
 pub fn read_script(alloc: Global, path: &[u8], held: Option<&[u8]>) -> Result<Commands, Stop>
-    ensures script { ToldAs (λ commands. commands) result (script_told path.now (option_map (λ bytes. bytes.now) held.entry)) }
+    ensures script { ToldAs (λ commands. commands) result
+        (script_told path.now (option_map (λ bytes. bytes.now) held.entry)) }
     ensures commands { IfOk result (All IsReady) }
 {
     groups_are_ready();

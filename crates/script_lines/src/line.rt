@@ -66,7 +66,8 @@ fn withdraw_line(text: &[u8]) -> Line<'_>
 
 /// What stands behind a word with which a text begins; `None` if it does not.
 fn behind<'a>(word: &[u8], content: &'a [u8]) -> Option<&'a [u8]>
-    ensures { MatchOption result (behind word.now content.now ≡ None) (λ text. behind word.now content.now ≡ Some text.now) }
+    ensures { MatchOption result (behind word.now content.now ≡ None)
+        (λ text. behind word.now content.now ≡ Some text.now) }
 {
     content.strip_prefix(word)
 }
@@ -115,7 +116,8 @@ pub fn line_of(content: &[u8]) -> Line<'_>
 
 /// LINE, of a line `last LINE`; `None` for other lines.
 pub fn last_text(content: &[u8]) -> Option<&[u8]>
-    ensures { MatchOption result (last_text content.now ≡ None) (λ text. last_text content.now ≡ Some text.now) }
+    ensures { MatchOption result (last_text content.now ≡ None)
+        (λ text. last_text content.now ≡ Some text.now) }
 {
     behind(b"last ", content)
 }

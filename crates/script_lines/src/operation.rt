@@ -14,7 +14,8 @@ use ucd_facts::{Memory, Row, SourceFile, Text};
 
 /// What a row is read from: LINE; and, if the next line is a `last` line, a LF and the LINE of that one behind it.
 fn row_text(alloc: Global, text: &[u8], next: Option<&[u8]>) -> Result<Text, Memory>
-    ensures { IfOk result (λ bytes. bytes ≡ row_text text.now (option_map (λ n. n.now) next.entry)) }
+    ensures { IfOk result (λ bytes. bytes
+        ≡ row_text text.now (option_map (λ n. n.now) next.entry)) }
 {
     let mut bytes = Text::new(alloc);
     bytes.append(text)?;
@@ -49,7 +50,11 @@ fn row_stop(
     fault: RowFault,
 ) -> ScriptStop
     requires { line + 1 < 2 ^ 32 }
-    ensures { StopsAs result (record { line = fault_line line file text.now (option_map (λ n. n.now) next.entry) fault; rule = E6 fault }) }
+    ensures { StopsAs result (record {
+      line = fault_line line file text.now
+          (option_map (λ n. n.now) next.entry) fault;
+      rule = E6 fault;
+    }) }
 {
     let rule = ScriptRule::E6(fault);
     if is_last_fault(file, text, next, fault) {

@@ -32,8 +32,10 @@ fn opens_range(line: Line<'_>) -> bool
 
 /// Takes the first piece off the lines; `None` if there are no lines.
 pub fn next_piece<'a>(lines: &mut Items<'a>) -> Option<Piece<'a>>
-    ensures piece { MatchOption result (script_pieces lines.old ≡ []) (λ p. script_pieces lines.old ≡ piece_of p ∷ script_pieces lines.new) }
-    ensures lines { MatchOption result (lines.old ≡ []) (λ p. length lines.old ≡ piece_lines (piece_of p) + length lines.new) }
+    ensures piece { MatchOption result (script_pieces lines.old ≡ [])
+        (λ p. script_pieces lines.old ≡ piece_of p ∷ script_pieces lines.new) }
+    ensures lines { MatchOption result (lines.old ≡ [])
+        (λ p. length lines.old ≡ piece_lines (piece_of p) + length lines.new) }
 {
     let line = lines.next()?.content;
     if !opens_range(line_of(line)) {

@@ -8,7 +8,8 @@ ghost use Rattle.script_pieces.specs.Decimals.{is_plain, number_of};
 /// The number below 2^32 that a word writes in decimal digits with no zero to spare; `None` exactly if it writes none.
 pub fn decimal_u32(word: &[u8]) -> Option<u32>
     ensures number { result ≡ number_of word.now }
-    ensures written { MatchOption result ((n : ℕ) → n < 2 ^ 32 → word.now ≢ decimal n) (λ n. word.now ≡ decimal n) }
+    ensures written { MatchOption result ((n : ℕ) → n < 2 ^ 32 → word.now ≢ decimal n)
+        (λ n. word.now ≡ decimal n) }
 {
     written_number(word)
 }
@@ -16,7 +17,8 @@ pub fn decimal_u32(word: &[u8]) -> Option<u32>
 /// The same number, by what writes it.
 fn written_number(word: &[u8]) -> Option<u32>
     ensures small { MatchOption result ⊤ (λ n. n < 2 ^ 32) }
-    ensures written { MatchOption result ((n : ℕ) → n < 2 ^ 32 → word.now ≢ decimal n) (λ n. word.now ≡ decimal n) }
+    ensures written { MatchOption result ((n : ℕ) → n < 2 ^ 32 → word.now ≢ decimal n)
+        (λ n. word.now ≡ decimal n) }
 {
     if !is_plain(word) {
         return None;

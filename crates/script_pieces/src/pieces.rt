@@ -88,7 +88,9 @@ pub fn pieces_of(bytes: &[u8]) -> Pieces<'_>
 /// The bytes of a text before its first mark, and that mark with the text behind it. The first line has this number.
 fn first_piece(text: &[u8], first_line: u32) -> (&[u8], Option<Head<'_>>)
     requires { first_line + length text.now < 2 ^ 32 }
-    ensures pieces { (mark : Option MarkValue) → pieces_from mark first_line (items_of text.now) ≡ record { mark = mark; first_line = first_line; body = result.0.now } ∷ left result.1 }
+    ensures pieces { (mark : Option MarkValue)
+        → pieces_from mark first_line (items_of text.now)
+        ≡ record { mark = mark; first_line = first_line; body = result.0.now } ∷ left result.1 }
     ensures fits { FitsIn (first_line + length text.now + 1) result.1 }
 {
     empty_text_has_no_line();
@@ -114,8 +116,10 @@ fn first_piece(text: &[u8], first_line: u32) -> (&[u8], Option<Head<'_>>)
 
 /// The first line of a text, and the text behind it; `None` for no bytes.
 fn next_line(text: &[u8]) -> Option<(Item<'_>, &[u8])>
-    ensures lines { MatchOption result (text.now ≡ []) (λ found. items_of text.now ≡ item_of found.0 ∷ items_of found.1.now) }
-    ensures bytes { MatchOption result ⊤ (λ found. text.now ≡ item_bytes (item_of found.0) ++ found.1.now) }
+    ensures lines { MatchOption result (text.now ≡ [])
+        (λ found. items_of text.now ≡ item_of found.0 ∷ items_of found.1.now) }
+    ensures bytes { MatchOption result ⊤
+        (λ found. text.now ≡ item_bytes (item_of found.0) ++ found.1.now) }
     ensures some { MatchOption result ⊤ (λ found. length found.1.now < length text.now) }
 {
     lines_are_unique();

@@ -36,8 +36,10 @@ impl Kept {
 
     /// Notes a group that was carried out, and the code points whose records it changed.
     pub fn note(&mut self, alloc: Global, group: &[Op], changed: &[Point])
-        ensures { (old new : ReleaseItems) → AppliesAs (Ok (record { changed = changed.now })) (group_answer old.current group.now) old new
-            → IsKept self.old old.current → IsKept self.new new.current }
+        ensures { (old new : ReleaseItems)
+            → AppliesAs (Ok (record { changed = changed.now }))
+            (group_answer old.current group.now) old new → IsKept self.old old.current
+            → IsKept self.new new.current }
     {
         self.names.note(group);
         self.pieces.note(alloc, changed);

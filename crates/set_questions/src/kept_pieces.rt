@@ -93,7 +93,8 @@ impl KeptPieces {
     /// pieces are let go of.
     pub fn note(&mut self, alloc: Global, changed: &[Point])
         ensures { (R S : ℕ → Record) → AreKept self.old R
-            → ((c : ℕ) → c < point_count → is_in changed.now c ≡ false → R c ≡ S c) → AreKept self.new S }
+            → ((c : ℕ) → c < point_count → is_in changed.now c ≡ false → R c ≡ S c)
+            → AreKept self.new S }
     {
         if self.pieces.is_none() {
             return;

@@ -69,7 +69,8 @@ impl<S: System> DiskShelf<S> {
 
 /// A path as a text, or `None` if it is not UTF-8, or is the name beside another path.
 fn name_of(path: &[u8]) -> Option<&str>
-    ensures { MatchOption result (¬ IsName path.now) (λ name. (name.now ≡ path.now) × IsName path.now) }
+    ensures { MatchOption result (¬ IsName path.now)
+        (λ name. (name.now ≡ path.now) × IsName path.now) }
 {
     if is_beside(path) {
         return None;
@@ -87,7 +88,8 @@ fn read_file<S: System>(
     most: usize,
     into: &mut Vec<u8>,
 ) -> Result<Found, ReadStop>
-    ensures contents { IsTrue S.tells → Reads result (shown_of (S.at system.old) path.now) most into.new.items }
+    ensures contents { IsTrue S.tells
+        → Reads result (shown_of (S.at system.old) path.now) most into.new.items }
     ensures missing { IsTrue S.tells → IsName path.now → S.at system.old path.now ≡ Nothing
         → result ≡ Ok Found.Absent }
     ensures absent_only { IsTrue S.tells → OnAbsent result (S.at system.old path.now ≡ Nothing) }
@@ -95,7 +97,8 @@ fn read_file<S: System>(
     ensures at_most { OnFound result (length into.new.items ≤ most) }
     ensures absent { OnAbsent result (into.new.items ≡ into.old.items) }
     ensures stays { IsTrue S.tells → SameEntries (S.at system.old) (S.at system.new) }
-    ensures caused { IsName path.now → OnReadFailed result (Rose (S.faults system.old) (S.faults system.new)) }
+    ensures caused { IsName path.now
+        → OnReadFailed result (Rose (S.faults system.old) (S.faults system.new)) }
     ensures faults_never_fall { S.faults system.old ≤ S.faults system.new }
 {
     let Some(path) = name_of(path) else {
@@ -120,7 +123,8 @@ fn read_opened<S: System>(
 ) -> Result<Found, ReadStop>
     ensures at_most { OnFound result (length into.new.items ≤ most) }
     ensures found { OnAbsent result ⊥ }
-    ensures bytes { OnFound result (IfSome (S.Opened.remaining file) (λ left. into.new.items ≡ take most left)) }
+    ensures bytes { OnFound result
+        (IfSome (S.Opened.remaining file) (λ left. into.new.items ≡ take most left)) }
     ensures stays { IsTrue S.tells → SameEntries (S.at system.old) (S.at system.new) }
     ensures failed_only { OnReadFailed result (Rose (S.faults system.old) (S.faults system.new)) }
     ensures faults_never_fall { S.faults system.old ≤ S.faults system.new }
@@ -135,8 +139,10 @@ fn read_opened<S: System>(
 fn make_folders_of<S: System>(system: &mut S, path: &str) -> Result<(), Failed>
     ensures made { IsTrue S.tells → OnOk result
         (IfSome (folder_of path.now) (λ folder. S.at system.new folder ≡ Folder)) }
-    ensures files_stay { IsTrue S.tells → SameContents (files_of (S.at system.old)) (files_of (S.at system.new)) }
-    ensures replaces_stay { IsTrue S.tells → (q : List ℕ) → S.replaces system.new q ≡ S.replaces system.old q }
+    ensures files_stay { IsTrue S.tells
+        → SameContents (files_of (S.at system.old)) (files_of (S.at system.new)) }
+    ensures replaces_stay { IsTrue S.tells → (q : List ℕ)
+        → S.replaces system.new q ≡ S.replaces system.old q }
     ensures failed_only { OnErr result (Rose (S.faults system.old) (S.faults system.new)) }
     ensures faults_never_fall { S.faults system.old ≤ S.faults system.new }
 {
@@ -154,14 +160,19 @@ fn make_folders_of<S: System>(system: &mut S, path: &str) -> Result<(), Failed>
 /// - `Failed`: the path is not UTF-8 or is beside another, or a call of the system failed. A file that the system
 ///   replaces by renaming is then as it was.
 fn write_file<S: System>(system: &mut S, path: &[u8], bytes: &[u8]) -> Result<(), Failed>
-    ensures ok { IsTrue S.tells → OnOk result (files_of (S.at system.new) path.now ≡ Some bytes.now) }
-    ensures left { IsTrue S.tells → OnOk result
-        (NothingNew (beside_name path.now) (files_of (S.at system.old)) (files_of (S.at system.new))) }
-    ensures kept { IsTrue S.tells → OnErr result (IsShort path.now → S.replaces system.old path.now ≡ true
+    ensures ok { IsTrue S.tells → OnOk result
+        (files_of (S.at system.new) path.now ≡ Some bytes.now) }
+    ensures left { IsTrue S.tells
+        → OnOk result (NothingNew (beside_name path.now) (files_of (S.at system.old))
+        (files_of (S.at system.new))) }
+    ensures kept { IsTrue S.tells
+        → OnErr result (IsShort path.now → S.replaces system.old path.now ≡ true
         → files_of (S.at system.new) path.now ≡ files_of (S.at system.old) path.now) }
-    ensures others { IsTrue S.tells → OnlyBoth path.now (files_of (S.at system.old)) (files_of (S.at system.new)) }
+    ensures others { IsTrue S.tells
+        → OnlyBoth path.now (files_of (S.at system.old)) (files_of (S.at system.new)) }
     ensures named { OnOk result (IsName path.now) }
-    ensures caused { IsName path.now → OnErr result (Rose (S.faults system.old) (S.faults system.new)) }
+    ensures caused { IsName path.now
+        → OnErr result (Rose (S.faults system.old) (S.faults system.new)) }
     ensures faults_never_fall { S.faults system.old ≤ S.faults system.new }
 {
     let Some(path) = name_of(path) else {
@@ -185,14 +196,17 @@ fn write_beside<S: System>(
     beside: &str,
     bytes: &[u8],
 ) -> Result<(), Failed>
-    requires folder { IsTrue S.tells → IfSome (folder_of path.now) (λ folder. S.at system.old folder ≡ Folder) }
+    requires folder { IsTrue S.tells
+        → IfSome (folder_of path.now) (λ folder. S.at system.old folder ≡ Folder) }
     requires beside { beside.now ≡ beside_name path.now }
-    ensures ok { IsTrue S.tells → OnOk result (files_of (S.at system.new) path.now ≡ Some bytes.now) }
+    ensures ok { IsTrue S.tells → OnOk result
+        (files_of (S.at system.new) path.now ≡ Some bytes.now) }
     ensures left { IsTrue S.tells → OnOk result
         (NothingNew beside.now (files_of (S.at system.old)) (files_of (S.at system.new))) }
     ensures kept { IsTrue S.tells → OnErr result (S.replaces system.old path.now ≡ true
         → files_of (S.at system.new) path.now ≡ files_of (S.at system.old) path.now) }
-    ensures others { IsTrue S.tells → OnlyBoth path.now (files_of (S.at system.old)) (files_of (S.at system.new)) }
+    ensures others { IsTrue S.tells
+        → OnlyBoth path.now (files_of (S.at system.old)) (files_of (S.at system.new)) }
     ensures failed_only { OnErr result (Rose (S.faults system.old) (S.faults system.new)) }
     ensures faults_never_fall { S.faults system.old ≤ S.faults system.new }
 {
@@ -216,11 +230,13 @@ fn replace<S: System>(
     requires beside { beside.now ≡ beside_name path.now }
     requires created { IsTrue S.tells → S.at system.old beside.now ≡ Created }
     requires empty { IsTrue S.tells → S.Created.contents new ≡ Some [] }
-    ensures ok { IsTrue S.tells → OnOk result (files_of (S.at system.new) path.now ≡ Some bytes.now) }
+    ensures ok { IsTrue S.tells → OnOk result
+        (files_of (S.at system.new) path.now ≡ Some bytes.now) }
     ensures left { IsTrue S.tells → OnOk result (files_of (S.at system.new) beside.now ≡ None) }
     ensures kept { IsTrue S.tells → OnErr result
         (files_of (S.at system.new) path.now ≡ files_of (S.at system.old) path.now) }
-    ensures others { IsTrue S.tells → OnlyBoth path.now (files_of (S.at system.old)) (files_of (S.at system.new)) }
+    ensures others { IsTrue S.tells
+        → OnlyBoth path.now (files_of (S.at system.old)) (files_of (S.at system.new)) }
     ensures failed_only { OnErr result (Rose (S.faults system.old) (S.faults system.new)) }
     ensures faults_never_fall { S.faults system.old ≤ S.faults system.new }
 {
@@ -238,9 +254,12 @@ fn replace<S: System>(
 ///
 /// - `Failed`: a call of the system failed. The path may then hold anything.
 fn write_in_place<S: System>(system: &mut S, path: &str, bytes: &[u8]) -> Result<(), Failed>
-    requires folder { IsTrue S.tells → IfSome (folder_of path.now) (λ folder. S.at system.old folder ≡ Folder) }
-    ensures ok { IsTrue S.tells → OnOk result (files_of (S.at system.new) path.now ≡ Some bytes.now) }
-    ensures others { IsTrue S.tells → OnlyPath path.now (files_of (S.at system.old)) (files_of (S.at system.new)) }
+    requires folder { IsTrue S.tells
+        → IfSome (folder_of path.now) (λ folder. S.at system.old folder ≡ Folder) }
+    ensures ok { IsTrue S.tells → OnOk result
+        (files_of (S.at system.new) path.now ≡ Some bytes.now) }
+    ensures others { IsTrue S.tells
+        → OnlyPath path.now (files_of (S.at system.old)) (files_of (S.at system.new)) }
     ensures failed_only { OnErr result (Rose (S.faults system.old) (S.faults system.new)) }
     ensures faults_never_fall { S.faults system.old ≤ S.faults system.new }
 {
@@ -294,7 +313,8 @@ impl<S: System> Shelf for DiskShelf<S> {
             SameContents (shown_of (S.at self.old.system)) (shown_of (S.at self.new.system)) }
         ensures caused { IsName path.now →
             OnReadFailed result (Rose (S.faults self.old.system) (S.faults self.new.system)) }
-        ensures counted { self.new.read_faults ≡ faults_after (has_failed result) self.old.read_faults }
+        ensures counted { self.new.read_faults
+            ≡ faults_after (has_failed result) self.old.read_faults }
         ensures write_faults_stay { self.new.write_faults ≡ self.old.write_faults }
         ensures read_faults_never_fall { self.old.read_faults ≤ self.new.read_faults }
     {
@@ -315,18 +335,23 @@ impl<S: System> Shelf for DiskShelf<S> {
     }
 
     fn write(&mut self, path: Text, bytes: Text) -> Result<(), Failed>
-        ensures ok { IsTrue S.tells → OnOk result (shown_of (S.at self.new.system) path ≡ Some bytes) }
+        ensures ok { IsTrue S.tells
+            → OnOk result (shown_of (S.at self.new.system) path ≡ Some bytes) }
         ensures others { IsTrue S.tells →
             OnlyPath path (shown_of (S.at self.old.system)) (shown_of (S.at self.new.system)) }
         ensures only_both { IsTrue S.tells →
             OnlyBoth path (files_of (S.at self.old.system)) (files_of (S.at self.new.system)) }
-        ensures left { IsTrue S.tells → OnOk result
-            (NothingNew (beside_name path) (files_of (S.at self.old.system)) (files_of (S.at self.new.system))) }
-        ensures kept { IsTrue S.tells → OnErr result (IsShort path → S.replaces self.old.system path ≡ true
+        ensures left { IsTrue S.tells
+            → OnOk result (NothingNew (beside_name path) (files_of (S.at self.old.system))
+            (files_of (S.at self.new.system))) }
+        ensures kept { IsTrue S.tells
+            → OnErr result (IsShort path → S.replaces self.old.system path ≡ true
             → files_of (S.at self.new.system) path ≡ files_of (S.at self.old.system) path) }
         ensures named { OnOk result (IsName path) }
-        ensures caused { IsName path → OnErr result (Rose (S.faults self.old.system) (S.faults self.new.system)) }
-        ensures counted { self.new.write_faults ≡ faults_after (is_err result) self.old.write_faults }
+        ensures caused { IsName path
+            → OnErr result (Rose (S.faults self.old.system) (S.faults self.new.system)) }
+        ensures counted { self.new.write_faults
+            ≡ faults_after (is_err result) self.old.write_faults }
         ensures read_faults_stay { self.new.read_faults ≡ self.old.read_faults }
         ensures write_faults_never_fall { self.old.write_faults ≤ self.new.write_faults }
     {

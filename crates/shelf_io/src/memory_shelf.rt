@@ -143,7 +143,8 @@ impl Shelf for MemoryShelf {
         ensures ok { OnOk result (held_in self.new.folder path ≡ Some bytes) }
         ensures others { OnlyPath path (held_in self.old.folder) (held_in self.new.folder) }
         ensures counted { OnOk result (self.new.writes ≡ passed self.old.writes) }
-        ensures err { OnErr result (self.new ≡ record self.old { writes = failed self.old.writes }) }
+        ensures err { OnErr result
+            (self.new ≡ record self.old { writes = failed self.old.writes }) }
         ensures spare_for_one { self.old.folder.spare ≤ self.new.folder.spare + 1 }
         ensures reads_stay { self.new.reads ≡ self.old.reads }
         ensures write_faults_never_fall { self.old.writes.faults ≤ self.new.writes.faults }

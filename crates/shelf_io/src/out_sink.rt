@@ -53,9 +53,12 @@ impl<W: Write> Sink for OutSink<W> {
     ghost faults = { λ sink. sink.faults };
 
     fn put(&mut self, bytes: &[u8]) -> Result<(), Failed>
-        ensures ok { OnOk result (Appends (W.contents self.old.writer) (W.contents self.new.writer) bytes.now) }
-        ensures err { OnErr result ((k : ℕ) × (k < length bytes.now)
-            × Appends (W.contents self.old.writer) (W.contents self.new.writer) (take k bytes.now)) }
+        ensures ok { OnOk result (Appends (W.contents self.old.writer)
+            (W.contents self.new.writer) bytes.now) }
+        ensures err { OnErr result
+            ((k : ℕ) × (k < length bytes.now)
+            × Appends (W.contents self.old.writer) (W.contents self.new.writer)
+            (take k bytes.now)) }
         ensures counted { self.new.faults ≡ faults_after (is_err result) self.old.faults }
         ensures faults_never_fall { self.old.faults ≤ self.new.faults }
     {

@@ -39,7 +39,8 @@ impl PerfectShelf {
     ///
     /// - `Memory`: memory ran out. Nothing changes.
     pub fn place(&mut self, path: &[u8], bytes: &[u8]) -> Result<(), Memory>
-        ensures ok { OnOk result (ReplacedAt path.now bytes.now (held_in self.old) (held_in self.new)) }
+        ensures ok { OnOk result (ReplacedAt path.now bytes.now (held_in self.old)
+            (held_in self.new)) }
         ensures spare_for_one { self.old.spare ≤ self.new.spare + 1 }
         ensures err { OnErr result (self.new ≡ self.old) }
     {

@@ -61,10 +61,12 @@ pub trait Shelf {
     ///
     /// After either `into` holds anything.
     fn read(&mut self, path: &[u8], most: usize, into: &mut Vec<u8>) -> Result<Found, ReadStop>
-        ensures contents { IsTrue tells → Reads result (holds self.old path.now) most into.new.items }
+        ensures contents { IsTrue tells
+            → Reads result (holds self.old path.now) most into.new.items }
         ensures at_most { OnFound result (length into.new.items ≤ most) }
         ensures absent { OnAbsent result (into.new.items ≡ into.old.items) }
-        ensures failed_only { OnReadFailed result (Rose (read_faults self.old) (read_faults self.new)) }
+        ensures failed_only { OnReadFailed result
+            (Rose (read_faults self.old) (read_faults self.new)) }
         ensures names_failed { IsTrue tells_failed →
             last_failed self.new ≡ failed_after result path.now (last_failed self.old) }
         ensures held_stays { IsTrue tells → SameContents (holds self.old) (holds self.new) }

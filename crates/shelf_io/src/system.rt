@@ -38,8 +38,9 @@ pub trait System {
     ///
     /// - `ErrorKind::NotFound`: nothing is there. Every other error says that what is there could not be opened.
     fn open(&mut self, path: &str) -> io::Result<Self::Opened>
-        ensures file { IsTrue tells → IfOk result (λ file.
-            IsSome (file_of (at self.old path.now)) × (Self.Opened.remaining file ≡ file_of (at self.old path.now))) }
+        ensures file { IsTrue tells
+            → IfOk result (λ file. IsSome (file_of (at self.old path.now))
+            × (Self.Opened.remaining file ≡ file_of (at self.old path.now))) }
         ensures missing { IsTrue tells → at self.old path.now ≡ Nothing →
             IsErrAnd result (λ e. error_kind e ≡ ErrorKind.NotFound) }
         ensures not_found { IsTrue tells → IfErr result (λ e.
@@ -51,7 +52,8 @@ pub trait System {
     /// Reads the next bytes of a file that was opened, and answers how many: none at its end, or if none are asked for.
     fn read(&mut self, file: &mut Self::Opened, buf: &mut [u8]) -> io::Result<usize>
         ensures bound { ReadsAtMost result buf.new }
-        ensures bytes { ReadConsumes (Self.Opened.remaining file.old) (Self.Opened.remaining file.new) result buf.new }
+        ensures bytes { ReadConsumes (Self.Opened.remaining file.old)
+            (Self.Opened.remaining file.new) result buf.new }
         ensures stays { IsTrue tells → SameEntries (at self.old) (at self.new) }
         ensures failed_only { OnErr result (Rose (faults self.old) (faults self.new)) }
         ensures faults_never_fall { faults self.old ≤ faults self.new };
@@ -61,8 +63,10 @@ pub trait System {
     /// - An error: the folder may be missing.
     fn make_folders(&mut self, path: &str) -> io::Result<()>
         ensures ok { IsTrue tells → OnOk result (at self.new path.now ≡ Folder) }
-        ensures files_stay { IsTrue tells → SameContents (files_of (at self.old)) (files_of (at self.new)) }
-        ensures replaces_stay { IsTrue tells → (q : List ℕ) → replaces self.new q ≡ replaces self.old q }
+        ensures files_stay { IsTrue tells
+            → SameContents (files_of (at self.old)) (files_of (at self.new)) }
+        ensures replaces_stay { IsTrue tells → (q : List ℕ)
+            → replaces self.new q ≡ replaces self.old q }
         ensures failed_only { OnErr result (Rose (faults self.old) (faults self.new)) }
         ensures faults_never_fall { faults self.old ≤ faults self.new };
 
@@ -70,10 +74,12 @@ pub trait System {
     ///
     /// - An error: what is at this path may have changed.
     fn create(&mut self, path: &str) -> io::Result<Self::Created>
-        requires folder { IsTrue tells → IfSome (folder_of path.now) (λ folder. at self.old folder ≡ Folder) }
+        requires folder { IsTrue tells
+            → IfSome (folder_of path.now) (λ folder. at self.old folder ≡ Folder) }
         ensures created { IsTrue tells → OnOk result (at self.new path.now ≡ Created) }
         ensures empty { IsTrue tells → IfOk result (λ file. Self.Created.contents file ≡ Some []) }
-        ensures others { IsTrue tells → OnlyPath path.now (files_of (at self.old)) (files_of (at self.new)) }
+        ensures others { IsTrue tells
+            → OnlyPath path.now (files_of (at self.old)) (files_of (at self.new)) }
         ensures failed_only { OnErr result (Rose (faults self.old) (faults self.new)) }
         ensures faults_never_fall { faults self.old ≤ faults self.new };
 
@@ -83,13 +89,19 @@ pub trait System {
     ///
     /// - An error: what is at the name beside may have changed.
     fn create_beside(&mut self, path: &str, beside: &str) -> io::Result<Option<Self::Created>>
-        requires folder { IsTrue tells → IfSome (folder_of path.now) (λ folder. at self.old folder ≡ Folder) }
+        requires folder { IsTrue tells
+            → IfSome (folder_of path.now) (λ folder. at self.old folder ≡ Folder) }
         requires beside { beside.now ≡ beside_name path.now }
-        ensures created { IsTrue tells → IfOk result (λ made. IsSome made → at self.new beside.now ≡ Created) }
-        ensures empty { IsTrue tells → IfOk result (λ made. IfSome made (λ file. Self.Created.contents file ≡ Some [])) }
-        ensures in_place { IsTrue tells → IfOk result (λ made. MatchOption made
-            ((replaces self.old path.now ≡ false) × SameEntries (at self.old) (at self.new)) (λ _. ⊤)) }
-        ensures others { IsTrue tells → OnlyPath beside.now (files_of (at self.old)) (files_of (at self.new)) }
+        ensures created { IsTrue tells
+            → IfOk result (λ made. IsSome made → at self.new beside.now ≡ Created) }
+        ensures empty { IsTrue tells
+            → IfOk result (λ made. IfSome made (λ file. Self.Created.contents file ≡ Some [])) }
+        ensures in_place { IsTrue tells
+            → IfOk result (λ made. MatchOption made
+            ((replaces self.old path.now ≡ false) × SameEntries (at self.old) (at self.new))
+            (λ _. ⊤)) }
+        ensures others { IsTrue tells
+            → OnlyPath beside.now (files_of (at self.old)) (files_of (at self.new)) }
         ensures failed_only { OnErr result (Rose (faults self.old) (faults self.new)) }
         ensures faults_never_fall { faults self.old ≤ faults self.new };
 
@@ -97,7 +109,8 @@ pub trait System {
     /// some bytes.
     fn write(&mut self, file: &mut Self::Created, buf: &[u8]) -> io::Result<usize>
         ensures bound { WritesAtMost result buf.now }
-        ensures bytes { WriteAppends (Self.Created.contents file.old) (Self.Created.contents file.new) result buf.now }
+        ensures bytes { WriteAppends (Self.Created.contents file.old)
+            (Self.Created.contents file.new) result buf.now }
         ensures stays { IsTrue tells → SameEntries (at self.old) (at self.new) }
         ensures failed_only { TakesNone result buf.now (Rose (faults self.old) (faults self.new)) }
         ensures faults_never_fall { faults self.old ≤ faults self.new };
@@ -110,7 +123,8 @@ pub trait System {
         requires created { IsTrue tells → at self.old path.now ≡ Created }
         ensures kept { IsTrue tells → OnOk result (IfSome (Self.Created.contents file) (λ bytes.
             at self.new path.now ≡ Kept bytes)) }
-        ensures others { IsTrue tells → OnlyPath path.now (files_of (at self.old)) (files_of (at self.new)) }
+        ensures others { IsTrue tells
+            → OnlyPath path.now (files_of (at self.old)) (files_of (at self.new)) }
         ensures failed_only { OnErr result (Rose (faults self.old) (faults self.new)) }
         ensures faults_never_fall { faults self.old ≤ faults self.new };
 
@@ -119,7 +133,8 @@ pub trait System {
         requires created { IsTrue tells → at self.old path.now ≡ Created }
         ensures held { IsTrue tells → IfSome (Self.Created.contents file) (λ bytes.
             at self.new path.now ≡ File bytes) }
-        ensures others { IsTrue tells → OnlyPath path.now (files_of (at self.old)) (files_of (at self.new)) }
+        ensures others { IsTrue tells
+            → OnlyPath path.now (files_of (at self.old)) (files_of (at self.new)) }
         ensures faults_never_fall { faults self.old ≤ faults self.new };
 
     /// Gives a file that the system keeps another name, in place of the file that had it, in one step.

@@ -68,10 +68,12 @@ pub fn read_most<S: System>(
     into: &mut Vec<u8>,
 ) -> Result<(), ReadStop>
     ensures at_most { OnOk result (length into.new.items ≤ most) }
-    ensures bytes { OnOk result (IfSome (S.Opened.remaining file.old) (λ left. into.new.items ≡ take most left)) }
+    ensures bytes { OnOk result (IfSome (S.Opened.remaining file.old)
+        (λ left. into.new.items ≡ take most left)) }
     ensures err { OnErr result (0 < most) }
     ensures stays { IsTrue S.tells → SameEntries (S.at system.old) (S.at system.new) }
-    ensures failed_only { IfErr result (λ e. e ≡ ReadStop.Failed → Rose (S.faults system.old) (S.faults system.new)) }
+    ensures failed_only { IfErr result (λ e. e ≡ ReadStop.Failed
+        → Rose (S.faults system.old) (S.faults system.new)) }
     ensures faults_never_fall { S.faults system.old ≤ S.faults system.new }
 {
     into.clear();
@@ -99,7 +101,8 @@ pub fn write_whole<S: System>(
     file: &mut S::Created,
     bytes: &[u8],
 ) -> Result<(), Failed>
-    ensures ok { OnOk result (Appends (S.Created.contents file.old) (S.Created.contents file.new) bytes.now) }
+    ensures ok { OnOk result (Appends (S.Created.contents file.old)
+        (S.Created.contents file.new) bytes.now) }
     ensures stays { IsTrue S.tells → SameEntries (S.at system.old) (S.at system.new) }
     ensures failed_only { OnErr result (Rose (S.faults system.old) (S.faults system.new)) }
     ensures faults_never_fall { S.faults system.old ≤ S.faults system.new }
@@ -121,8 +124,8 @@ pub fn write_whole<S: System>(
 ///   then written.
 pub fn write_all<F: Write>(file: &mut F, bytes: &[u8]) -> Result<(), Failed>
     ensures ok { OnOk result (Appends (F.contents file.old) (F.contents file.new) bytes.now) }
-    ensures err { OnErr result
-        ((k : ℕ) × (k < length bytes.now) × Appends (F.contents file.old) (F.contents file.new) (take k bytes.now)) }
+    ensures err { OnErr result ((k : ℕ) × (k < length bytes.now)
+        × Appends (F.contents file.old) (F.contents file.new) (take k bytes.now)) }
 {
     let mut done = 0;
     'rests: while done < bytes.len() {

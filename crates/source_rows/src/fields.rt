@@ -31,9 +31,11 @@ pub fn field_count(text: &[u8]) -> usize
 /// The first field, and the text of the fields behind it, which is empty if there are none.
 pub fn first_field(text: &[u8]) -> (&[u8], &[u8])
     ensures first { result.0.now ≡ field (fields_of text.now) 0 }
-    ensures others { (n : ℕ) → field (fields_of text.now) (n + 1) ≡ field (fields_of result.1.now) n }
+    ensures others { (n : ℕ) → field (fields_of text.now) (n + 1)
+        ≡ field (fields_of result.1.now) n }
     ensures one { length (fields_of text.now) ≡ 1 → fields_of text.now ≡ result.0.now ∷ [] }
-    ensures more { 1 < length (fields_of text.now) → fields_of text.now ≡ result.0.now ∷ fields_of result.1.now }
+    ensures more { 1 < length (fields_of text.now)
+        → fields_of text.now ≡ result.0.now ∷ fields_of result.1.now }
     ensures fewer { count_by is_semicolon result.1.now ≡ count_by is_semicolon text.now - 1 }
 {
     let (first, others) = cut(text, b';');
@@ -67,9 +69,11 @@ fn trim_short(text: &[u8]) -> &[u8]
 /// What [`first_field`] gives, for a field that is short or empty.
 pub fn first_short_field(text: &[u8]) -> (&[u8], &[u8])
     ensures first { result.0.now ≡ field (fields_of text.now) 0 }
-    ensures others { (n : ℕ) → field (fields_of text.now) (n + 1) ≡ field (fields_of result.1.now) n }
+    ensures others { (n : ℕ) → field (fields_of text.now) (n + 1)
+        ≡ field (fields_of result.1.now) n }
     ensures one { length (fields_of text.now) ≡ 1 → fields_of text.now ≡ result.0.now ∷ [] }
-    ensures more { 1 < length (fields_of text.now) → fields_of text.now ≡ result.0.now ∷ fields_of result.1.now }
+    ensures more { 1 < length (fields_of text.now)
+        → fields_of text.now ≡ result.0.now ∷ fields_of result.1.now }
     ensures fewer { count_by is_semicolon result.1.now ≡ count_by is_semicolon text.now - 1 }
 {
     let (first, others) = near_cut(text);
@@ -79,7 +83,8 @@ pub fn first_short_field(text: &[u8]) -> (&[u8], &[u8])
 /// The text of the fields behind the first ones, as many as `count`; it is empty if there are none.
 pub fn behind_fields(text: &[u8], count: usize) -> &[u8]
     requires { 0 < count }
-    ensures others { (n : ℕ) → field (fields_of text.now) (n + count) ≡ field (fields_of result.now) n }
+    ensures others { (n : ℕ) → field (fields_of text.now) (n + count)
+        ≡ field (fields_of result.now) n }
     ensures fewer { count_by is_semicolon result.now ≡ count_by is_semicolon text.now - count }
 {
     let mut left = count;

@@ -73,7 +73,9 @@ fn compare_none(names: &[Text]) -> Ordering
 
 /// How the first name compares with another, less if there is no name; and the names behind it.
 fn compare_first<'a>(names: &'a [Text], name: &[u8]) -> (Ordering, &'a [Text])
-    ensures { (more : List (List ℕ)) → names_cmp names.now (name.now ∷ more) ≡ ordering_then result.0 (names_cmp result.1.now more) }
+    ensures { (more : List (List ℕ))
+        → names_cmp names.now (name.now ∷ more)
+        ≡ ordering_then result.0 (names_cmp result.1.now more) }
 {
     match names {
         [] => (Ordering::Less, names),
@@ -110,7 +112,9 @@ fn compare_missing(names: &[Text], last: Point) -> Ordering
 /// How names compare with those in the key of a row of Scripts.txt or WordBreakProperty.txt, which has none unless the
 /// row is a missing row.
 fn compare_value(file: SourceFile, names: &[Text], content: &[u8]) -> Ordering
-    ensures { result ≡ names_cmp names.now (if is_missing file content.now then span_names (span_of (field (row_fields file content.now) 0)) else []) }
+    ensures { result ≡ names_cmp names.now
+        (if is_missing file content.now then span_names
+        (span_of (field (row_fields file content.now) 0)) else []) }
 {
     let Some(rest) = missing_rest(file, content) else {
         return compare_none(names);
@@ -198,7 +202,8 @@ pub fn compare_names(file: SourceFile, names: &[Text], content: &[u8]) -> Orderi
 
 /// The value of a row of Scripts.txt or WordBreakProperty.txt; for a missing row `#`, which is in no value.
 fn value_group(file: SourceFile, content: &[u8]) -> &[u8]
-    ensures { result.now ≡ (if is_missing file content.now then no_value else field (row_fields file content.now) 1) }
+    ensures { result.now ≡ (if is_missing file content.now then no_value else field
+        (row_fields file content.now) 1) }
 {
     match missing_rest(file, content) {
         Some(_) => b"#",

@@ -117,7 +117,8 @@ fn read_missing_key(alloc: Global, text: &[u8]) -> Result<Key, RowStop>
 /// - `Fault(G04)`: it is no code point, or no span.
 /// - `Memory`: memory ran out.
 fn read_value_key(alloc: Global, file: SourceFile, content: &[u8]) -> Result<Key, RowStop>
-    ensures { ReadsKeyAs result (value_key (is_missing file content.now) (row_fields file content.now)) }
+    ensures { ReadsKeyAs result (value_key (is_missing file content.now)
+        (row_fields file content.now)) }
 {
     match missing_rest(file, content) {
         Some(rest) => read_missing_key(alloc, without_comment(rest)),

@@ -71,7 +71,9 @@ fn put_field(field: &[u8], into: &mut Text) -> Result<(), Memory>
 
 /// Appends fields 0 to 3.
 fn put_front(row: &DataRow, point: Point, name: &[u8], into: &mut Text) -> Result<(), Memory>
-    ensures { OnOk result (into.new ≡ into.old ++ ended (hex_text point ∷ name.now ∷ category_code row.now.category ∷ decimal row.now.class ∷ [])) }
+    ensures { OnOk result (into.new ≡ into.old
+        ++ ended (hex_text point ∷ name.now ∷ category_code row.now.category
+        ∷ decimal row.now.class ∷ [])) }
 {
     put_hex(point, into)?;
     into.push(b';')?;
@@ -83,7 +85,9 @@ fn put_front(row: &DataRow, point: Point, name: &[u8], into: &mut Text) -> Resul
 
 /// Appends fields 4 to 7.
 fn put_decomposed(row: &DataRow, into: &mut Text) -> Result<(), Memory>
-    ensures { OnOk result (into.new ≡ into.old ++ ended (row.now.kept.f4 ∷ decomposition_text row.now.kind row.now.mapping ∷ row.now.kept.f6 ∷ row.now.kept.f7 ∷ [])) }
+    ensures { OnOk result (into.new ≡ into.old
+        ++ ended (row.now.kept.f4 ∷ decomposition_text row.now.kind row.now.mapping
+        ∷ row.now.kept.f6 ∷ row.now.kept.f7 ∷ [])) }
 {
     put_field(row.kept.f4.as_slice(), into)?;
     put_decomposition(row.kind, row.mapping.as_slice(), into)?;
@@ -94,7 +98,9 @@ fn put_decomposed(row: &DataRow, into: &mut Text) -> Result<(), Memory>
 
 /// Appends fields 8 to 11.
 fn put_kept(row: &DataRow, into: &mut Text) -> Result<(), Memory>
-    ensures { OnOk result (into.new ≡ into.old ++ ended (row.now.kept.f8 ∷ row.now.kept.f9 ∷ row.now.kept.f10 ∷ row.now.kept.f11 ∷ [])) }
+    ensures { OnOk result (into.new ≡ into.old
+        ++ ended (row.now.kept.f8 ∷ row.now.kept.f9 ∷ row.now.kept.f10 ∷ row.now.kept.f11
+        ∷ [])) }
 {
     put_field(row.kept.f8.as_slice(), into)?;
     put_field(row.kept.f9.as_slice(), into)?;
@@ -104,7 +110,9 @@ fn put_kept(row: &DataRow, into: &mut Text) -> Result<(), Memory>
 
 /// Appends fields 12 to 14, with nothing behind the last.
 fn put_cases(row: &DataRow, into: &mut Text) -> Result<(), Memory>
-    ensures { OnOk result (into.new ≡ into.old ++ ended (case_text row.now.upper ∷ case_text row.now.lower ∷ []) ++ case_text row.now.title) }
+    ensures { OnOk result (into.new ≡ into.old
+        ++ ended (case_text row.now.upper ∷ case_text row.now.lower ∷ [])
+        ++ case_text row.now.title) }
 {
     put_case(row.upper, into)?;
     into.push(b';')?;

@@ -45,7 +45,8 @@ fn is_usual_end(text: &[u8]) -> bool
 
 /// The case fields of the text behind field 5. `None` exactly if it does not hold fields 6 to 14.
 fn case_fields(text: &[u8]) -> Option<CaseFields<'_>>
-    ensures { MatchOption result (length (fields_of text.now) ≢ 9) (λ line. HasCaseFields line (fields_of text.now)) }
+    ensures { MatchOption result (length (fields_of text.now) ≢ 9)
+        (λ line. HasCaseFields line (fields_of text.now)) }
 {
     if is_usual_end(text) {
         return Some(CaseFields {
@@ -66,7 +67,8 @@ fn case_fields(text: &[u8]) -> Option<CaseFields<'_>>
 
 /// The fields that are read of the text behind a name. `None` exactly if it does not hold fields 2 to 14.
 pub fn used_fields(tail: &[u8]) -> Option<UsedFields<'_>>
-    ensures { MatchOption result (length (fields_of tail.now) ≢ 13) (λ line. HasUsedFields line (fields_of tail.now)) }
+    ensures { MatchOption result (length (fields_of tail.now) ≢ 13)
+        (λ line. HasUsedFields line (fields_of tail.now)) }
 {
     let (f2, rest) = first_short_field(tail);
     let (f3, rest) = first_short_field(rest);

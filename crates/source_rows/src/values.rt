@@ -67,7 +67,9 @@ fn value_text(text: &[u8]) -> Result<ValueText<'_>, RowFault>
 /// - `G04`: the first is no code point and no span.
 /// - `G11`: the second is no name.
 pub fn read_value(content: &[u8]) -> Result<Valued<'_>, RowFault>
-    ensures { ValuedAs result (and_then (value_or_fault (fields_of (before_first is_hash content.now))) (λ row. Ok (ValueLine row))) }
+    ensures { ValuedAs result (and_then
+        (value_or_fault (fields_of (before_first is_hash content.now)))
+        (λ row. Ok (ValueLine row))) }
 {
     match value_text(without_comment(content)) {
         Ok(text) => Ok(Valued::Given(text)),
@@ -81,7 +83,8 @@ pub fn read_value(content: &[u8]) -> Result<Valued<'_>, RowFault>
 /// - `G04`: the first is no code point and no span.
 /// - `G11`: the second is no name.
 pub fn read_value_or_missing(file: SourceFile, content: &[u8]) -> Result<Valued<'_>, RowFault>
-    ensures { ValuedAs result (and_then (value_or_fault (row_fields file content.now)) (λ row. Ok (value_line file content.now row))) }
+    ensures { ValuedAs result (and_then (value_or_fault (row_fields file content.now))
+        (λ row. Ok (value_line file content.now row))) }
 {
     let Some(rest) = missing_rest(file, content) else {
         return read_value(content);
@@ -94,7 +97,8 @@ pub fn read_value_or_missing(file: SourceFile, content: &[u8]) -> Result<Valued<
 
 /// The same as a row of any file.
 pub fn read_value_ref(file: SourceFile, content: &[u8]) -> Result<RowRef<'_>, RowFault>
-    ensures { RefAs result (and_then (value_or_fault (row_fields file content.now)) (λ row. Ok (value_line file content.now row))) }
+    ensures { RefAs result (and_then (value_or_fault (row_fields file content.now))
+        (λ row. Ok (value_line file content.now row))) }
 {
     match read_value_or_missing(file, content) {
         Ok(Valued::Given(text)) => Ok(RowRef::Value(text)),

@@ -47,7 +47,8 @@ fn put_if_lost(
     into: &mut Breaks,
 ) -> Result<(), Memory>
     ensures lost { OnOk result (into.new ≡ into.old
-        ++ cond (not (list_any (keeps_names file (names_in row.now)) kept.old)) ((Alias file line) ∷ []) []) }
+        ++ cond (not (list_any (keeps_names file (names_in row.now)) kept.old))
+        ((Alias file line) ∷ []) []) }
     ensures same { kept.new ≡ kept.old }
 {
     let names = names_of(alloc, row)?;
@@ -61,7 +62,8 @@ fn put_if_lost(
 ///
 /// - `Memory`: memory ran out.
 fn all_names(alloc: Global, file: SourceFile, release: &Release) -> Result<ListOf<Texts>, Memory>
-    ensures { IfOk result (λ names. names ≡ map (λ r. names_in r.1) (rows_at (items_now release.now file))) }
+    ensures { IfOk result (λ names. names
+        ≡ map (λ r. names_in r.1) (rows_at (items_now release.now file))) }
 {
     let mut names = ListOf::new(alloc);
     let mut rows = release.rows(file);
@@ -117,7 +119,8 @@ impl<'a> KeptRows<'a> {
 
     /// Whether the row at the likely place has the same names, in the same order.
     fn is_likely(&self, names: &[Text]) -> bool
-        ensures { IsTrue result → (file : SourceFile) → list_any (keeps_names file names.now) self.now ≡ true }
+        ensures { IsTrue result → (file : SourceFile)
+            → list_any (keeps_names file names.now) self.now ≡ true }
     {
         self.likely < self.rows.len() && are_same(names, self.rows[self.likely].as_slice())
     }
@@ -126,7 +129,8 @@ impl<'a> KeptRows<'a> {
     ///
     /// - `Memory`: memory ran out.
     fn keep(&mut self, alloc: Global, file: SourceFile, names: &[Text]) -> Result<bool, Memory>
-        ensures found { IfOk result (λ kept. kept ≡ list_any (keeps_names file names.now) self.old) }
+        ensures found { IfOk result
+            (λ kept. kept ≡ list_any (keeps_names file names.now) self.old) }
         ensures same { self.new ≡ self.old }
     {
         if self.is_likely(names) {

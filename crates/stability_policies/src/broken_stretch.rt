@@ -24,7 +24,8 @@ pub type BrokenStretches = ListOf<BrokenStretch>;
 /// - `Memory`: memory ran out.
 #[tactic(auto, using(crate::proofs::StretchLemmas::points_push))]
 pub fn put_stretch(stretch: BrokenStretch, into: &mut BrokenStretches) -> Result<(), Memory>
-    ensures { OnOk result ((policy : PolicyValue) → points_of policy into.new ≡ points_of policy into.old ++ points_in policy stretch) }
+    ensures { OnOk result ((policy : PolicyValue)
+        → points_of policy into.new ≡ points_of policy into.old ++ points_in policy stretch) }
 {
     if stretch.policies.is_empty() {
         return Ok(());

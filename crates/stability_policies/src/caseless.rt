@@ -42,7 +42,8 @@ pub fn changes_caseless<O: FactView, N: FactView>(
 ) -> Result<bool, Memory>
     requires old { shown_facts a.now ≡ O.facts_of old.now c }
     requires new { shown_facts b.now ≡ N.facts_of new.now c }
-    ensures { IfOk result (λ broken. broken ≡ breaks P10 (O.facts_of old.now) (N.facts_of new.now) c) }
+    ensures { IfOk result (λ broken. broken
+        ≡ breaks P10 (O.facts_of old.now) (N.facts_of new.now) c) }
 {
     if !a.assigned {
         return Ok(false);
@@ -63,7 +64,8 @@ fn has_mapping(facts: &FactsRef<'_>) -> bool
 
 /// Whether the full foldings of a code point with these facts are the same.
 pub fn has_same_folding(c: Point, a: &FactsRef<'_>, b: &FactsRef<'_>) -> bool
-    ensures { result ≡ bytes_eq (folding_of c (shown_facts a.now)) (folding_of c (shown_facts b.now)) }
+    ensures { result ≡ bytes_eq (folding_of c (shown_facts a.now))
+        (folding_of c (shown_facts b.now)) }
 {
     let alone = [c];
     match (a.fold, b.fold) {
@@ -83,7 +85,9 @@ fn is_same_caseless<O: FactView, N: FactView>(
     new: &N,
     c: Point,
 ) -> Result<bool, Memory>
-    ensures { IfOk result (λ same. same ≡ same_list (caseless (O.facts_of old.now) (c ∷ [])) (caseless (N.facts_of new.now) (c ∷ []))) }
+    ensures { IfOk result (λ same. same
+        ≡ same_list (caseless (O.facts_of old.now) (c ∷ []))
+        (caseless (N.facts_of new.now) (c ∷ []))) }
 {
     let before = caseless(alloc, old, &[c])?;
     let after = caseless(alloc, new, &[c])?;

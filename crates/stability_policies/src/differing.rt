@@ -56,7 +56,8 @@ pub fn put_differing(
 ) -> Result<(), Memory>
     requires old { AreAbove 0 (before.old.items ++ named old.now) }
     requires new { AreAbove 0 (after.old.items ++ named new.now) }
-    ensures { OnOk result (AreLeft (before.old.items ++ named old.now) (after.old.items ++ named new.now) before.new.items after.new.items) }
+    ensures { OnOk result (AreLeft (before.old.items ++ named old.now)
+        (after.old.items ++ named new.now) before.new.items after.new.items) }
 {
     let mut at_old = 0;
     let mut at_new = 0;
@@ -81,7 +82,8 @@ fn take_one(
     before: &mut Vec<NamedRow>,
     after: &mut Vec<NamedRow>,
 ) -> Result<Step, Memory>
-    ensures taken { IfOk result (λ step. Takes old.now new.now step before.old.items before.new.items after.old.items after.new.items) }
+    ensures taken { IfOk result (λ step. Takes old.now new.now step before.old.items
+        before.new.items after.old.items after.new.items) }
     ensures in_step { IfOk result (KeepsStep old.now new.now) }
 {
     if old.is_same_text(new) {

@@ -16,8 +16,10 @@ use ucd_model::{FactsRef, Point};
 /// Whether none of P01, P03, P04 and P05 is among the policies that a code point breaks, and its own full folding stays, if
 /// it was assigned. If all code points are so, each form of what was assigned stays, and so does its folding.
 pub fn keeps_forms(policies: PolicySet, c: Point, a: &FactsRef<'_>, b: &FactsRef<'_>) -> bool
-    ensures { result ≡ all_kept (has_policy policies P01) (has_policy policies P03) (has_policy policies P04) (has_policy policies P05)
-        (not (shown_facts a.now).assigned || bytes_eq (folding_of c (shown_facts a.now)) (folding_of c (shown_facts b.now))) }
+    ensures { result ≡ all_kept (has_policy policies P01) (has_policy policies P03)
+        (has_policy policies P04) (has_policy policies P05)
+        (not (shown_facts a.now).assigned
+        || bytes_eq (folding_of c (shown_facts a.now)) (folding_of c (shown_facts b.now))) }
 {
     let lost = policies.has(Policy::P01);
     let other_class = policies.has(Policy::P03);
@@ -29,7 +31,8 @@ pub fn keeps_forms(policies: PolicySet, c: Point, a: &FactsRef<'_>, b: &FactsRef
 
 /// Whether the full folding of a code point stays, if it was assigned.
 fn keeps_folding(c: Point, a: &FactsRef<'_>, b: &FactsRef<'_>) -> bool
-    ensures { result ≡ (not (shown_facts a.now).assigned || bytes_eq (folding_of c (shown_facts a.now)) (folding_of c (shown_facts b.now))) }
+    ensures { result ≡ (not (shown_facts a.now).assigned
+        || bytes_eq (folding_of c (shown_facts a.now)) (folding_of c (shown_facts b.now))) }
 {
     !a.assigned || has_same_folding(c, a, b)
 }

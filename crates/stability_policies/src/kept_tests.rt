@@ -24,7 +24,8 @@ pub fn is_kept(
     old_core: CoreSet,
     new_core: CoreSet,
 ) -> bool
-    ensures { Decides result (IsKept c (shown_facts old.now) (shown_facts new.now) (has_core old_core) (has_core new_core)) }
+    ensures { Decides result (IsKept c (shown_facts old.now) (shown_facts new.now)
+        (has_core old_core) (has_core new_core)) }
 {
     old_core.is_same(new_core)
         && has_same_row(old, new)
@@ -50,8 +51,10 @@ fn is_unmapped(c: Point, facts: &FactsRef<'_>) -> bool
 
 /// The policies that a code point that is kept breaks, P10 aside, by its facts: P20 if it has a class and is no mark.
 pub fn kept_policies(facts: &FactsRef<'_>) -> PolicySet
-    ensures mark { has_policy result P20 ≡ (not ((shown_facts facts.now).class == 0) && not (is_mark (shown_facts facts.now))) }
-    ensures rest { (other : PolicyValue) → place_of_policy other ≢ place_of_policy P20 → has_policy result other ≡ false }
+    ensures mark { has_policy result P20
+        ≡ (not ((shown_facts facts.now).class == 0) && not (is_mark (shown_facts facts.now))) }
+    ensures rest { (other : PolicyValue) → place_of_policy other ≢ place_of_policy P20
+        → has_policy result other ≡ false }
 {
     PolicySet::none().with(Policy::P20, has_class_without_mark(facts))
 }

@@ -38,7 +38,8 @@ fn are_assigned<W: FactView>(view: &W, points: &[Point]) -> bool
 
 /// P18: a canonical mapping of two members, of which the second has a canonical mapping.
 pub fn maps_second_again<W: FactView>(view: &W, facts: &FactsRef<'_>) -> bool
-    ensures { result ≡ (is_canonical (shown_facts facts.now).kind && second_maps (W.facts_of view.now) (shown_facts facts.now).mapping) }
+    ensures { result ≡ (is_canonical (shown_facts facts.now).kind
+        && second_maps (W.facts_of view.now) (shown_facts facts.now).mapping) }
 {
     matches!(facts.kind, Kind::Canonical) && second_maps(view, facts.mapping)
 }
@@ -61,8 +62,10 @@ pub fn is_out_of_order<W: FactView>(
     view: &W,
     facts: &FactsRef<'_>,
 ) -> Result<bool, Memory>
-    ensures { IfOk result (λ out. out ≡ (is_canonical (shown_facts facts.now).kind
-        && not (bytes_eq (order (class_of (W.facts_of view.now)) (shown_facts facts.now).mapping) (shown_facts facts.now).mapping))) }
+    ensures { IfOk result (λ out. out
+        ≡ (is_canonical (shown_facts facts.now).kind
+        && not (bytes_eq (order (class_of (W.facts_of view.now))
+        (shown_facts facts.now).mapping) (shown_facts facts.now).mapping))) }
 {
     if !matches!(facts.kind, Kind::Canonical) {
         return Ok(false);

@@ -37,8 +37,10 @@ fn put_names<'a>(
     row: &'a [Text],
     into: &mut Vec<(&'a [u8], usize)>,
 ) -> Result<(), Memory>
-    ensures { OnOk result ((name : List ℕ) (p : ℕ) → list_any (is_at name p) into.new.items
-        ≡ (list_any (is_at name p) into.old.items || (list_any (bytes_eq name) row.now && place == p))) }
+    ensures { OnOk result ((name : List ℕ) (p : ℕ)
+        → list_any (is_at name p) into.new.items
+        ≡ (list_any (is_at name p) into.old.items
+        || (list_any (bytes_eq name) row.now && place == p))) }
 {
     for name in row {
         into.push((name.as_slice(), place))?;

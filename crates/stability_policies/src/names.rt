@@ -47,7 +47,9 @@ fn put_among(
     requires old { AreAbove 0 (named old.now) }
     requires new { AreAbove 0 (named new.now) }
     ensures { OnOk result (into.new ≡ into.old
-        ++ map (At P02) (filter (λ c. differ (name_at (named old.now) c) (name_at (named new.now) c)) (range_with_len 0 point_count))) }
+        ++ map (At P02) (filter
+        (λ c. differ (name_at (named old.now) c) (name_at (named new.now) c))
+        (range_with_len 0 point_count))) }
 {
     let mut before = Vec::new(alloc);
     let mut after = Vec::new(alloc);
@@ -62,7 +64,8 @@ fn put_between(before: &[NamedRow], after: &[NamedRow], into: &mut Breaks) -> Re
     requires before { AreAbove 0 before.now }
     requires after { AreAbove 0 after.now }
     ensures { OnOk result (into.new ≡ into.old
-        ++ map (At P02) (filter (λ c. differ (name_at before.now c) (name_at after.now c)) (range_with_len 0 point_count))) }
+        ++ map (At P02) (filter (λ c. differ (name_at before.now c) (name_at after.now c))
+        (range_with_len 0 point_count))) }
 {
     let mut olds = before;
     let mut news = after;
@@ -89,7 +92,8 @@ fn put_if_renamed(
 ) -> Result<(), Memory>
     requires { end ≤ 1114112 }
     ensures { OnOk result (into.new ≡ into.old
-        ++ map (At P02) (cond (differ (name_here number old.now) (name_here number new.now)) (range_with_len number (end - number)) [])) }
+        ++ map (At P02) (cond (differ (name_here number old.now) (name_here number new.now))
+        (range_with_len number (end - number)) [])) }
 {
     if is_renamed(old, new, number) {
         put_all(Policy::P02, number, end, into)?;

@@ -18,7 +18,8 @@ pub fn put_points(
     stretches: &[BrokenStretch],
     into: &mut Breaks,
 ) -> Result<(), Memory>
-    ensures { OnOk result (into.new ≡ into.old ++ map (At policy) (points_of policy stretches.now)) }
+    ensures { OnOk result (into.new ≡ into.old
+        ++ map (At policy) (points_of policy stretches.now)) }
 {
     'stretches: for stretch in stretches {
         put_stretch_points(policy, *stretch, into)?;
@@ -47,7 +48,8 @@ fn put_stretch_points(
 /// - `Memory`: memory ran out.
 pub fn put_all(policy: Policy, first: u32, end: u32, into: &mut Breaks) -> Result<(), Memory>
     requires within { end ≤ 1114112 }
-    ensures { OnOk result (into.new ≡ into.old ++ map (At policy) (range_with_len first (end - first))) }
+    ensures { OnOk result (into.new ≡ into.old
+        ++ map (At policy) (range_with_len first (end - first))) }
 {
     let mut number = first;
     'points: while number < end {

@@ -26,7 +26,8 @@ impl PolicySet {
     /// The set with a policy put in or taken out. The others stay.
     pub fn with(self, policy: Policy, on: bool) -> PolicySet
         ensures put { has_policy result policy ≡ on }
-        ensures rest { (other : PolicyValue) → place_of_policy other ≢ place_of_policy policy → has_policy result other ≡ has_policy self other }
+        ensures rest { (other : PolicyValue) → place_of_policy other ≢ place_of_policy policy
+            → has_policy result other ≡ has_policy self other }
     {
         let mut holds = self.holds;
         holds[policy.place()] = on;

@@ -75,7 +75,9 @@ fn put_lost_names(
     new: &Release,
     into: &mut Breaks,
 ) -> Result<(), Memory>
-    ensures { OnOk result (into.new ≡ into.old ++ (lost_in PropertyAliases old.now new.now ++ lost_in PropertyValueAliases old.now new.now)) }
+    ensures { OnOk result (into.new ≡ into.old
+        ++ (lost_in PropertyAliases old.now new.now
+        ++ lost_in PropertyValueAliases old.now new.now)) }
 {
     put_lost(alloc, SourceFile::PropertyAliases, old, new, into)?;
     put_lost(alloc, SourceFile::PropertyValueAliases, old, new, into)

@@ -51,7 +51,8 @@ fn sort_of(kind: Kind) -> u8
 
 /// P13: the category Cc in exactly one.
 pub fn changes_control(old: &FactsRef<'_>, new: &FactsRef<'_>) -> bool
-    ensures { result ≡ in_one (is_of_category Cc (shown_facts old.now)) (is_of_category Cc (shown_facts new.now)) }
+    ensures { result ≡ in_one (is_of_category Cc (shown_facts old.now))
+        (is_of_category Cc (shown_facts new.now)) }
 {
     is_in_one(
         is_of_category(old, Category::Cc),
@@ -61,8 +62,10 @@ pub fn changes_control(old: &FactsRef<'_>, new: &FactsRef<'_>) -> bool
 
 /// P14: the category Cs in exactly one, or Co in exactly one.
 pub fn changes_private_use(old: &FactsRef<'_>, new: &FactsRef<'_>) -> bool
-    ensures { result ≡ (in_one (is_of_category Cs (shown_facts old.now)) (is_of_category Cs (shown_facts new.now))
-        || in_one (is_of_category Co (shown_facts old.now)) (is_of_category Co (shown_facts new.now))) }
+    ensures { result ≡ (in_one (is_of_category Cs (shown_facts old.now))
+        (is_of_category Cs (shown_facts new.now))
+        || in_one (is_of_category Co (shown_facts old.now))
+        (is_of_category Co (shown_facts new.now))) }
 {
     is_in_one(
         is_of_category(old, Category::Cs),
@@ -75,7 +78,8 @@ pub fn changes_private_use(old: &FactsRef<'_>, new: &FactsRef<'_>) -> bool
 
 /// P15: Noncharacter_Code_Point in exactly one.
 pub fn changes_noncharacter(old: &FactsRef<'_>, new: &FactsRef<'_>) -> bool
-    ensures { result ≡ in_one ((shown_facts old.now).flag NoncharacterCodePoint) ((shown_facts new.now).flag NoncharacterCodePoint) }
+    ensures { result ≡ in_one ((shown_facts old.now).flag NoncharacterCodePoint)
+        ((shown_facts new.now).flag NoncharacterCodePoint) }
 {
     is_in_one(
         old.flags.has(Flag::NoncharacterCodePoint),
@@ -85,8 +89,10 @@ pub fn changes_noncharacter(old: &FactsRef<'_>, new: &FactsRef<'_>) -> bool
 
 /// P16: Pattern_Syntax in exactly one, or Pattern_White_Space in exactly one.
 pub fn changes_pattern(old: &FactsRef<'_>, new: &FactsRef<'_>) -> bool
-    ensures { result ≡ (in_one ((shown_facts old.now).flag PatternSyntax) ((shown_facts new.now).flag PatternSyntax)
-        || in_one ((shown_facts old.now).flag PatternWhiteSpace) ((shown_facts new.now).flag PatternWhiteSpace)) }
+    ensures { result ≡ (in_one ((shown_facts old.now).flag PatternSyntax)
+        ((shown_facts new.now).flag PatternSyntax)
+        || in_one ((shown_facts old.now).flag PatternWhiteSpace)
+        ((shown_facts new.now).flag PatternWhiteSpace)) }
 {
     is_in_one(
         old.flags.has(Flag::PatternSyntax),
@@ -99,7 +105,8 @@ pub fn changes_pattern(old: &FactsRef<'_>, new: &FactsRef<'_>) -> bool
 
 /// P20: a class other than 0, and no mark.
 pub fn has_class_without_mark(facts: &FactsRef<'_>) -> bool
-    ensures { result ≡ (not ((shown_facts facts.now).class == 0) && not (is_mark (shown_facts facts.now))) }
+    ensures { result ≡ (not ((shown_facts facts.now).class == 0)
+        && not (is_mark (shown_facts facts.now))) }
 {
     facts.class != 0 && !is_mark(facts)
 }

@@ -73,8 +73,10 @@ fn other_stretches<O: Records + UniformFacts, N: Records + UniformFacts>(
 ) -> Result<OtherStretches, Memory>
     requires old { O.record_of old.now ≡ record_at (O.facts_of old.now) }
     requires new { N.record_of new.now ≡ record_at (N.facts_of new.now) }
-    ensures others { IfOk result (λ found. AreOthers (O.facts_of old.now) (N.facts_of new.now) point_count found.stretches) }
-    ensures forms { IfOk result (λ found. Decides found.keep_forms (KeepAllForms (O.facts_of old.now) (N.facts_of new.now) point_count)) }
+    ensures others { IfOk result (λ found. AreOthers (O.facts_of old.now)
+        (N.facts_of new.now) point_count found.stretches) }
+    ensures forms { IfOk result (λ found. Decides found.keep_forms
+        (KeepAllForms (O.facts_of old.now) (N.facts_of new.now) point_count)) }
 {
     let mut stretches = BrokenStretches::new(alloc);
     let mut keep_forms = true;
@@ -107,8 +109,10 @@ fn put_others<O: Records + UniformFacts, N: Records + UniformFacts>(
     requires new { N.record_of new.now ≡ record_at (N.facts_of new.now) }
     requires ordered { c ≤ last }
     ensures put { OnOk result ((policy : PolicyValue) → policy ≢ P10
-        → points_of policy into.new ≡ points_of policy into.old ++ broken_to policy (O.facts_of old.now) (N.facts_of new.now) c last) }
-    ensures keeps { IfOk result (λ keeps. keeps ≡ keeps_forms (O.facts_of old.now) (N.facts_of new.now) c) }
+        → points_of policy into.new ≡ points_of policy into.old
+        ++ broken_to policy (O.facts_of old.now) (N.facts_of new.now) c last) }
+    ensures keeps { IfOk result (λ keeps. keeps
+        ≡ keeps_forms (O.facts_of old.now) (N.facts_of new.now) c) }
 {
     let a = old.facts(c);
     let b = new.facts(c);
@@ -126,7 +130,8 @@ fn folding_stretches<O: UniformFacts, N: UniformFacts>(
     old: &O,
     new: &N,
 ) -> Result<BrokenStretches, Memory>
-    ensures { IfOk result (λ stretches. points_of P10 stretches ≡ breaking P10 (O.facts_of old.now) (N.facts_of new.now) point_count) }
+    ensures { IfOk result (λ stretches. points_of P10 stretches
+        ≡ breaking P10 (O.facts_of old.now) (N.facts_of new.now) point_count) }
 {
     let mut stretches = BrokenStretches::new(alloc);
     let mut number = 0;
@@ -151,7 +156,8 @@ fn put_folding<O: UniformFacts, N: UniformFacts>(
     into: &mut BrokenStretches,
 ) -> Result<(), Memory>
     requires ordered { c ≤ last }
-    ensures { OnOk result (points_of P10 into.new ≡ points_of P10 into.old ++ broken_to P10 (O.facts_of old.now) (N.facts_of new.now) c last) }
+    ensures { OnOk result (points_of P10 into.new ≡ points_of P10 into.old
+        ++ broken_to P10 (O.facts_of old.now) (N.facts_of new.now) c last) }
 {
     let broken = changes_caseless(alloc, old, new, c, &old.facts(c), &new.facts(c))?;
     let span = Span { lo: c, hi: last };

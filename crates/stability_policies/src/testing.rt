@@ -73,7 +73,8 @@ fn is_broken<O: FactView, N: FactView>(
     requires new_facts { shown_facts b.now ≡ N.facts_of new.now c }
     requires old_core { (core : CoreValue) → has_core x core ≡ core_at (O.facts_of old.now) c core }
     requires new_core { (core : CoreValue) → has_core y core ≡ core_at (N.facts_of new.now) c core }
-    ensures { IfOk result (λ broken. policy ≢ P10 → broken ≡ breaks policy (O.facts_of old.now) (N.facts_of new.now) c) }
+    ensures { IfOk result (λ broken. policy ≢ P10
+        → broken ≡ breaks policy (O.facts_of old.now) (N.facts_of new.now) c) }
 {
     let broken = match policy {
         Policy::P01 => loses_its_row(a, b),

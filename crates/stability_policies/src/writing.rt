@@ -45,7 +45,8 @@ fn put_break(alloc: Global, text: &mut Text, b: Break) -> Result<(), Memory>
 ///
 /// - `Memory`: memory ran out.
 fn put_point(text: &mut Text, policy: Policy, point: Point) -> Result<(), Memory>
-    ensures { OnOk result (text.new ≡ text.old ++ policy_code policy ++ codes " " ++ hex_text point ++ line_end) }
+    ensures { OnOk result (text.new ≡ text.old ++ policy_code policy ++ codes " " ++ hex_text point
+        ++ line_end) }
 {
     text.append(policy.code())?;
     text.append(b" ")?;
@@ -57,7 +58,8 @@ fn put_point(text: &mut Text, policy: Policy, point: Point) -> Result<(), Memory
 ///
 /// - `Memory`: memory ran out.
 fn put_alias(alloc: Global, text: &mut Text, file: SourceFile, line: u64) -> Result<(), Memory>
-    ensures { OnOk result (text.new ≡ text.old ++ policy_code P17 ++ codes " " ++ source_path file ++ codes " " ++ decimal line ++ line_end) }
+    ensures { OnOk result (text.new ≡ text.old ++ policy_code P17 ++ codes " " ++ source_path file
+        ++ codes " " ++ decimal line ++ line_end) }
 {
     text.append(Policy::P17.code())?;
     text.append(b" ")?;

@@ -15,7 +15,8 @@ pub fn has_bit(bits: u32, place: u32) -> bool
 pub fn with_bit(bits: u32, place: u32, on: bool) -> u32
     requires { place < 32 }
     ensures put { has_bit result place ≡ on }
-    ensures rest { (other : ℕ) → other < 32 → other ≢ place → has_bit result other ≡ has_bit bits other }
+    ensures rest { (other : ℕ) → other < 32 → other ≢ place
+        → has_bit result other ≡ has_bit bits other }
     ensures width { (width : ℕ) → bits < 2 ^ width → place < width → result < 2 ^ width }
 {
     if on {

@@ -47,7 +47,8 @@ impl Flags {
     /// The set with a flag put in or taken out. The others stay.
     pub fn with(self, flag: Flag, on: bool) -> Flags
         ensures put { has_flag result flag ≡ on }
-        ensures rest { (other : Flag) → flag_place other ≢ flag_place flag → has_flag result other ≡ has_flag self other }
+        ensures rest { (other : Flag) → flag_place other ≢ flag_place flag
+            → has_flag result other ≡ has_flag self other }
     {
         Flags {
             bits: with_bit(self.bits, flag_place(flag), on),
@@ -100,7 +101,8 @@ impl CoreSet {
     /// The set with a property put in or taken out. The others stay.
     pub fn with(self, core: Core, on: bool) -> CoreSet
         ensures put { has_core result core ≡ on }
-        ensures rest { (other : Core) → core_place other ≢ core_place core → has_core result other ≡ has_core self other }
+        ensures rest { (other : Core) → core_place other ≢ core_place core
+            → has_core result other ≡ has_core self other }
     {
         CoreSet {
             bits: with_bit(self.bits, core_place(core), on),

@@ -83,7 +83,8 @@ fn is_same_image(a: &Option<&[Point]>, b: &Option<&[Point]>) -> bool
 
 /// Whether two views show the same properties of PropList.txt.
 fn has_same_flags(a: &FactsRef<'_>, b: &FactsRef<'_>) -> bool
-    ensures flags { IsTrue result → (flag : Flag) → has_flag a.now.flags flag ≡ has_flag b.now.flags flag }
+    ensures flags { IsTrue result → (flag : Flag)
+        → has_flag a.now.flags flag ≡ has_flag b.now.flags flag }
     ensures same { shown_facts a.now ≡ shown_facts b.now → IsTrue result }
 {
     a.flags.is_same(b.flags)

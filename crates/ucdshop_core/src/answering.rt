@@ -35,7 +35,10 @@ pub fn answer_run<'c>(
     requires room { counted carried.old + 1 + length behind.now < 2 ^ 64 }
     requires ready { All IsReady behind.now }
     ensures kept { IsKept kept.new bench.now.current }
-    ensures answers { IfOk result (λ rest. AnswersFront bench.now.current (step_by (session_on bench.now.current carried.old) line (Question text.now)) (counted carried.old + 1) behind.now carried.new rest.now) }
+    ensures answers { IfOk result
+        (λ rest. AnswersFront bench.now.current
+        (step_by (session_on bench.now.current carried.old) line (Question text.now))
+        (counted carried.old + 1) behind.now carried.new rest.now) }
 {
     kept.fill(alloc, bench)?;
     let asking = kept.asking(bench);
@@ -53,7 +56,9 @@ fn answer_first<'c>(
 ) -> Result<&'c [Command], Memory>
     requires room { counted carried.old + 1 + length behind.now < 2 ^ 64 }
     requires ready { All IsReady behind.now }
-    ensures { IfOk result (λ rest. AnswersFront asking.now (step_by (session_on asking.now carried.old) line (Question text.now)) (counted carried.old + 1) behind.now carried.new rest.now) }
+    ensures { IfOk result (λ rest. AnswersFront asking.now
+        (step_by (session_on asking.now carried.old) line (Question text.now))
+        (counted carried.old + 1) behind.now carried.new rest.now) }
 {
     answer_one(alloc, asking, line, text, carried)?;
     answer_more(alloc, asking, behind, carried)
@@ -68,7 +73,8 @@ fn answer_more<'c>(
 ) -> Result<&'c [Command], Memory>
     requires room { counted carried.old + length commands.now < 2 ^ 64 }
     requires ready { All IsReady commands.now }
-    ensures { IfOk result (λ rest. AnswersFront asking.now (session_on asking.now carried.old) (counted carried.old) commands.now carried.new rest.now) }
+    ensures { IfOk result (λ rest. AnswersFront asking.now (session_on asking.now carried.old)
+        (counted carried.old) commands.now carried.new rest.now) }
 {
     let mut rest = commands;
     'questions: while let Some((line, text, behind)) = first_question(rest) {
@@ -98,7 +104,9 @@ fn answer_one(
     carried: &mut Carried,
 ) -> Result<(), Memory>
     requires { counted carried.old + 1 < 2 ^ 64 }
-    ensures session { OnOk result (session_on asking.now carried.new ≡ step_by (session_on asking.now carried.old) line (Question text.now)) }
+    ensures session { OnOk result
+        (session_on asking.now carried.new
+        ≡ step_by (session_on asking.now carried.old) line (Question text.now)) }
     ensures counted { OnOk result (counted carried.new ≡ counted carried.old + 1) }
 {
     match asking.answer(alloc, text) {

@@ -34,7 +34,8 @@ pub struct Carried {
 impl Carried {
     /// No command yet. It takes no memory.
     pub fn new(alloc: Global) -> Carried
-        ensures { result ≡ record { log = []; sets = []; accepted = 0; changed = 0; refused = 0; answered = 0 } }
+        ensures { result ≡ record
+            { log = []; sets = []; accepted = 0; changed = 0; refused = 0; answered = 0 } }
     {
         Carried {
             log: Text::new(alloc),

@@ -30,7 +30,8 @@ pub fn carry_out<L: Ledger>(
     steps: &mut Steps<L>,
 ) -> Result<Carried, Memory>
     requires { All IsReady commands.now }
-    ensures session { IfOk result (λ carried. session_of bench.new carried ≡ session bench.old.current commands.now) }
+    ensures session { IfOk result
+        (λ carried. session_of bench.new carried ≡ session bench.old.current commands.now) }
     ensures counts { SessionCounts (started bench.old.current) commands.now steps.old steps.new }
     ensures steps { commands.now ≡ [] → steps.new ≡ steps.old }
 {
@@ -50,7 +51,8 @@ fn carry_all<L: Ledger>(
 ) -> Result<Carried, Memory>
     requires kept { IsKept kept.old bench.old.current }
     requires ready { All IsReady commands.now }
-    ensures session { IfOk result (λ carried. session_of bench.new carried ≡ session bench.old.current commands.now) }
+    ensures session { IfOk result
+        (λ carried. session_of bench.new carried ≡ session bench.old.current commands.now) }
     ensures counts { SessionCounts (started bench.old.current) commands.now steps.old steps.new }
     ensures steps { commands.now ≡ [] → steps.new ≡ steps.old }
 {
@@ -77,10 +79,18 @@ fn carry_some<'c, L: Ledger>(
     requires ready { All IsReady commands.now }
     requires room { counted carried.old + length commands.now < 2 ^ 64 }
     ensures kept { IsKept kept.new bench.new.current }
-    ensures session { IfOk result (λ rest. fold step (session_of bench.new carried.new) rest.now ≡ fold step (session_of bench.old carried.old) commands.now) }
-    ensures counts { (n : ℕ) → IfOk result (λ rest. SessionCounts (session_of bench.new carried.new) rest.now steps.new n → SessionCounts (session_of bench.old carried.old) commands.now steps.old n) }
-    ensures stopped { IfErr result (λ _. SessionCounts (session_of bench.old carried.old) commands.now steps.old steps.new) }
-    ensures counted { IfOk result (λ rest. counted carried.new + length rest.now ≡ counted carried.old + length commands.now) }
+    ensures session { IfOk result
+        (λ rest. fold step (session_of bench.new carried.new) rest.now
+        ≡ fold step (session_of bench.old carried.old) commands.now) }
+    ensures counts { (n : ℕ) → IfOk result
+        (λ rest. SessionCounts (session_of bench.new carried.new) rest.now steps.new n
+        → SessionCounts (session_of bench.old carried.old) commands.now steps.old n) }
+    ensures stopped { IfErr result
+        (λ _. SessionCounts (session_of bench.old carried.old) commands.now steps.old
+        steps.new) }
+    ensures counted { IfOk result
+        (λ rest. counted carried.new + length rest.now
+        ≡ counted carried.old + length commands.now) }
     ensures shorter { IfOk result (λ rest. length rest.now < length commands.now) }
     ensures ready { IfOk result (λ rest. All IsReady rest.now) }
 {
@@ -134,7 +144,9 @@ fn carry_group<L: Ledger>(
     requires ready { AreReady ops.now }
     requires room { counted carried.old + 1 < 2 ^ 64 }
     ensures kept { IsKept kept.new bench.new.current }
-    ensures session { OnOk result (session_of bench.new carried.new ≡ step_by (session_of bench.old carried.old) line (Group ops.now)) }
+    ensures session { OnOk result
+        (session_of bench.new carried.new
+        ≡ step_by (session_of bench.old carried.old) line (Group ops.now)) }
     ensures counts { CommandCounts bench.old.current (Group ops.now) steps.old steps.new }
     ensures counted { OnOk result (counted carried.new ≡ counted carried.old + 1) }
 {

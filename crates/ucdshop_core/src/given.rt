@@ -39,7 +39,8 @@ pub fn made_given(alloc: Global, number: u8) -> Result<Given, Memory>
 
 /// Puts copies of the source files of a release that is made.
 fn put_made_texts(alloc: Global, made: &Made, held: &mut Vec<Option<Text>>) -> Result<(), Memory>
-    ensures { OnOk result (held.new.items ≡ held.old.items ++ map (made_held made.now) source_files) }
+    ensures { OnOk result (held.new.items ≡ held.old.items
+        ++ map (made_held made.now) source_files) }
 {
     'files: for file in &SOURCE_FILES {
         let text = made_copy(alloc, made, *file)?;

@@ -58,7 +58,8 @@ pub fn judge_inputs<L: Ledger>(
 
 /// Whether there is an earlier release, and its source files are those of the release, byte for byte.
 fn is_same_release(job: Job<'_>, held: &[Option<Text>]) -> bool
-    ensures { IsTrue result → source_held held.now (earlier_place (job_of job.entry)) ≡ source_held held.now 0 }
+    ensures { IsTrue result → source_held held.now (earlier_place (job_of job.entry))
+        ≡ source_held held.now 0 }
 {
     job.previous.is_some() && same_sources(held, 0, job.earlier_place())
 }
@@ -73,8 +74,10 @@ fn judge_behind<L: Ledger>(
     same: bool,
     steps: &mut Steps<L>,
 ) -> Result<Inputs, Stop>
-    requires same { IsTrue same → release_verdict (source_held held.old.items (earlier_place (job_of job))) ≡ Ok bench.current }
-    ensures inputs { ToldAs inputs_of result (behind_verdict (job_of job.entry) held.old.items bench.current) }
+    requires same { IsTrue same → release_verdict
+        (source_held held.old.items (earlier_place (job_of job))) ≡ Ok bench.current }
+    ensures inputs { ToldAs inputs_of result
+        (behind_verdict (job_of job.entry) held.old.items bench.current) }
     ensures commands { IfOk result (λ inputs. All IsReady inputs.commands) }
     ensures steps { steps.new + point_count ≤ steps.old + opened_limit (job_of job.entry) }
 {
@@ -95,9 +98,11 @@ fn with_earlier<L: Ledger>(
     commands: Commands,
     steps: &mut Steps<L>,
 ) -> Result<Inputs, Stop>
-    requires same { IsTrue same → release_verdict (source_held held.old.items (earlier_place (job_of job))) ≡ Ok bench.current }
+    requires same { IsTrue same → release_verdict
+        (source_held held.old.items (earlier_place (job_of job))) ≡ Ok bench.current }
     requires commands { All IsReady commands }
-    ensures inputs { ToldAs inputs_of result (earlier_inputs (job_of job.entry) held.old.items bench.current commands) }
+    ensures inputs { ToldAs inputs_of result
+        (earlier_inputs (job_of job.entry) held.old.items bench.current commands) }
     ensures commands { IfOk result (λ inputs. All IsReady inputs.commands) }
     ensures steps { steps.new + point_count ≤ steps.old + opened_limit (job_of job.entry) }
 {
@@ -120,8 +125,11 @@ fn judge_earlier<L: Ledger>(
     same: bool,
     steps: &mut Steps<L>,
 ) -> Result<Option<Bench>, Stop>
-    requires same { IsTrue same → release_verdict (source_held held.old.items (earlier_place (job_of job))) ≡ Ok bench.now.current }
-    ensures earlier { ToldAs (λ earlier. option_map (λ bench. bench.current) earlier) result (earlier_verdict (job_of job.entry).previous (source_held held.old.items (earlier_place (job_of job.entry)))) }
+    requires same { IsTrue same → release_verdict
+        (source_held held.old.items (earlier_place (job_of job))) ≡ Ok bench.now.current }
+    ensures earlier { ToldAs (λ earlier. option_map (λ bench. bench.current) earlier) result
+        (earlier_verdict (job_of job.entry).previous
+        (source_held held.old.items (earlier_place (job_of job.entry)))) }
     ensures steps { steps.new + point_count ≤ steps.old + opened_limit (job_of job.entry) }
 {
     match job.previous {
@@ -136,7 +144,8 @@ fn judge_earlier<L: Ledger>(
 
 /// Judges what is held of the script.
 fn judge_commands(alloc: Global, job: Job<'_>, held: &[Option<Text>]) -> Result<Commands, Stop>
-    ensures script { ToldAs (λ commands. commands) result (commands_verdict (job_of job.entry).script (held_at held.now 9)) }
+    ensures script { ToldAs (λ commands. commands) result
+        (commands_verdict (job_of job.entry).script (held_at held.now 9)) }
     ensures commands { IfOk result (All IsReady) }
 {
     match job.script {

@@ -34,7 +34,8 @@ pub fn casefolds(bench: &Bench) -> usize
 {
     let last_of = |c: Point|
         ensures from { c ≤ result }
-        ensures same { (k : ℕ) → c ≤ k → k ≤ result → bench_record bench.entry.now k ≡ bench_record bench.entry.now c }
+        ensures same { (k : ℕ) → c ≤ k → k ≤ result
+            → bench_record bench.entry.now k ≡ bench_record bench.entry.now c }
     { bench.last_alike(c) };
     count_passing(last_of, |c| is_listed(bench.record(c))) as usize
 }

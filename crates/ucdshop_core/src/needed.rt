@@ -29,7 +29,8 @@ pub fn needed_paths(alloc: Global, job: Job<'_>) -> Result<Texts, Memory>
 
 /// Puts the path of the script, if there is one.
 fn put_script_path(alloc: Global, script: Option<Place<'_>>, into: &mut Texts) -> Result<(), Memory>
-    ensures { OnOk result (into.new ≡ into.old ++ option_to_list (option_map path_at script.entry)) }
+    ensures { OnOk result (into.new ≡ into.old
+        ++ option_to_list (option_map path_at script.entry)) }
 {
     if let Some(script) = script {
         into.push(script.path(alloc)?)?;
@@ -39,7 +40,9 @@ fn put_script_path(alloc: Global, script: Option<Place<'_>>, into: &mut Texts) -
 
 /// Puts the paths of the source files of the earlier release, if there is one.
 fn put_earlier_paths(alloc: Global, previous: Option<&[u8]>, into: &mut Texts) -> Result<(), Memory>
-    ensures { OnOk result (into.new ≡ into.old ++ flat_map sources_in (option_to_list (option_map (λ folder. folder.now) previous.entry))) }
+    ensures { OnOk result (into.new ≡ into.old
+        ++ flat_map sources_in
+        (option_to_list (option_map (λ folder. folder.now) previous.entry))) }
 {
     if let Some(folder) = previous {
         put_source_paths(alloc, folder, into)?;

@@ -37,7 +37,9 @@ pub struct Work<'a> {
 /// - `Memory`: memory ran out.
 pub fn outputs_of(alloc: Global, job: Job<'_>, work: Work<'_>) -> Result<Vec<Output>, Memory>
     requires { work.made.now ≡ job.made }
-    ensures files { IfOk result (λ outputs. files_of outputs.items ≡ new_files (job_of job.entry) (session_of work.entry.bench.now work.entry.carried.now) work.entry.breaks.now) }
+    ensures files { IfOk result (λ outputs. files_of outputs.items
+        ≡ new_files (job_of job.entry)
+        (session_of work.entry.bench.now work.entry.carried.now) work.entry.breaks.now) }
     ensures lines { IfOk result (λ outputs. HaveLines outputs.items) }
 {
     let mut outputs = Vec::new(alloc);
@@ -56,7 +58,9 @@ fn put_part(
     outputs: &mut Vec<Output>,
 ) -> Result<(), Memory>
     requires { work.made.now ≡ job.made }
-    ensures { OnOk result (Puts (part_files (job_of job.entry) (session_of work.entry.bench.now work.entry.carried.now) work.entry.breaks.now part) outputs.old.items outputs.new.items) }
+    ensures { OnOk result (Puts (part_files (job_of job.entry)
+        (session_of work.entry.bench.now work.entry.carried.now) work.entry.breaks.now part)
+        outputs.old.items outputs.new.items) }
 {
     let folder = job.output;
     match part {
@@ -76,7 +80,8 @@ fn put_report(
     breaks: &Breaks,
     outputs: &mut Vec<Output>,
 ) -> Result<(), Memory>
-    ensures { OnOk result (Puts (policy_file folder.now breaks.now ∷ []) outputs.old.items outputs.new.items) }
+    ensures { OnOk result (Puts (policy_file folder.now breaks.now ∷ []) outputs.old.items
+        outputs.new.items) }
 {
     let path = path_in(alloc, folder, b"policy.txt")?;
     let bytes = report_text(alloc, breaks)?;
@@ -92,7 +97,8 @@ fn put_given(
     made: &Option<Made>,
     outputs: &mut Vec<Output>,
 ) -> Result<(), Memory>
-    ensures { OnOk result (Puts (made_files folder.now made.now) outputs.old.items outputs.new.items) }
+    ensures { OnOk result (Puts (made_files folder.now made.now) outputs.old.items
+        outputs.new.items) }
 {
     match made {
         Some(made) => put_made(alloc, folder, made, outputs),
@@ -107,7 +113,8 @@ fn put_made(
     made: &Made,
     outputs: &mut Vec<Output>,
 ) -> Result<(), Memory>
-    ensures { OnOk result (Puts (map (made_file folder.now made.now) source_files ++ made_script folder.now ∷ []) outputs.old.items outputs.new.items) }
+    ensures { OnOk result (Puts (map (made_file folder.now made.now) source_files
+        ++ made_script folder.now ∷ []) outputs.old.items outputs.new.items) }
 {
     put_made_files(alloc, folder, made, outputs)?;
     put_made_script(alloc, folder, made, outputs)?;
@@ -121,7 +128,8 @@ fn put_made_files(
     made: &Made,
     outputs: &mut Vec<Output>,
 ) -> Result<(), Memory>
-    ensures { OnOk result (Puts (map (made_file folder.now made.now) source_files) outputs.old.items outputs.new.items) }
+    ensures { OnOk result (Puts (map (made_file folder.now made.now) source_files) outputs.old.items
+        outputs.new.items) }
 {
     'files: for file in &SOURCE_FILES {
         let output = made_output(alloc, folder, made, *file)?;
@@ -165,7 +173,8 @@ fn put_log(
     carried: &Carried,
     outputs: &mut Vec<Output>,
 ) -> Result<(), Memory>
-    ensures { OnOk result (Puts (log_file folder.now carried.now.log ∷ []) outputs.old.items outputs.new.items) }
+    ensures { OnOk result (Puts (log_file folder.now carried.now.log ∷ []) outputs.old.items
+        outputs.new.items) }
 {
     put_text(alloc, folder, b"bench.log", carried.log.as_slice(), outputs)
 }
@@ -177,7 +186,8 @@ fn put_sets(
     carried: &Carried,
     outputs: &mut Vec<Output>,
 ) -> Result<(), Memory>
-    ensures { OnOk result (Puts (sets_file folder.now carried.now.sets ∷ []) outputs.old.items outputs.new.items) }
+    ensures { OnOk result (Puts (sets_file folder.now carried.now.sets ∷ []) outputs.old.items
+        outputs.new.items) }
 {
     put_text(alloc, folder, b"sets.txt", carried.sets.as_slice(), outputs)
 }

@@ -21,7 +21,10 @@ use ucd_model::{Memory, Text};
 /// - `Memory`: memory ran out.
 pub fn plan_of(alloc: Global, job: Job<'_>, rows: usize, work: Work<'_>) -> Result<Plan, Memory>
     requires { work.made.now ≡ job.made }
-    ensures { IfOk result (λ plan. HasPlan (ending_of (job_of job.entry) rows (session_of work.entry.bench.now work.entry.carried.now) work.entry.breaks.now) plan) }
+    ensures { IfOk result (λ plan. HasPlan
+        (ending_of (job_of job.entry) rows
+        (session_of work.entry.bench.now work.entry.carried.now) work.entry.breaks.now)
+        plan) }
 {
     let outputs = outputs_of(alloc, job, work)?;
     let summary = summary_of(alloc, job.made, rows, work)?;
@@ -41,7 +44,9 @@ fn is_done(carried: &Carried, breaks: &Breaks) -> bool
 
 /// The summary of a job: that of the release that is made of a number, or of any other.
 fn summary_of(alloc: Global, made: Option<u8>, rows: usize, work: Work<'_>) -> Result<Text, Memory>
-    ensures { IfOk result (λ line. line ≡ summary_of made rows (session_of work.entry.bench.now work.entry.carried.now) work.entry.breaks.now) }
+    ensures { IfOk result (λ line. line
+        ≡ summary_of made rows
+        (session_of work.entry.bench.now work.entry.carried.now) work.entry.breaks.now) }
 {
     let carried = work.carried;
     if let Some(number) = made {

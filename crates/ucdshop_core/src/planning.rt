@@ -44,8 +44,10 @@ fn carried_plan<L: Ledger>(
 ) -> Result<Plan, Memory>
     requires ready { All IsReady inputs.commands }
     requires made { made.now ≡ job.made }
-    ensures plan { IfOk result (λ plan. HasPlan (inputs_ending (job_of job.entry) (inputs_of inputs)) plan) }
-    ensures counts { SessionCounts (started inputs.bench.current) inputs.commands steps.old steps.new }
+    ensures plan { IfOk result (λ plan. HasPlan
+        (inputs_ending (job_of job.entry) (inputs_of inputs)) plan) }
+    ensures counts { SessionCounts
+        (started inputs.bench.current) inputs.commands steps.old steps.new }
     ensures steps { inputs.commands ≡ [] → steps.new ≡ steps.old }
 {
     let Inputs {
@@ -68,7 +70,14 @@ fn plan_since<L: Ledger>(
 ) -> Result<Plan, Memory>
     requires ready { All IsReady commands }
     requires made { made.now ≡ job.made }
-    ensures plan { IfOk result (λ plan. HasPlan (inputs_ending (job_of job.entry) (record { files = bench.current; commands = commands; earlier = option_map (λ before. before.current) earlier.now })) plan) }
+    ensures plan { IfOk result (λ plan. HasPlan
+        (inputs_ending (job_of job.entry)
+        (record {
+          files = bench.current;
+          commands = commands;
+          earlier = option_map
+              (λ before. before.current) earlier.now;
+        })) plan) }
     ensures counts { SessionCounts (started bench.current) commands steps.old steps.new }
     ensures steps { commands ≡ [] → steps.new ≡ steps.old }
 {
@@ -96,7 +105,14 @@ fn plan_after<L: Ledger>(
 ) -> Result<Plan, Memory>
     requires ready { All IsReady commands.now }
     requires made { made.now ≡ job.made }
-    ensures plan { IfOk result (λ plan. HasPlan (inputs_ending (job_of job.entry) (record { files = bench.old.current; commands = commands.now; earlier = option_map (λ before. before.current) earlier.now })) plan) }
+    ensures plan { IfOk result (λ plan. HasPlan
+        (inputs_ending (job_of job.entry)
+        (record {
+          files = bench.old.current;
+          commands = commands.now;
+          earlier = option_map
+              (λ before. before.current) earlier.now;
+        })) plan) }
     ensures counts { SessionCounts (started bench.old.current) commands.now steps.old steps.new }
     ensures steps { commands.now ≡ [] → steps.new ≡ steps.old }
 {
@@ -134,8 +150,10 @@ fn given_plan<L: Ledger>(
     steps: &mut Steps<L>,
 ) -> Result<Plan, Stop>
     requires { AreFor given (job_of job) }
-    ensures plan { PlansAs result (judged (job_of job.entry) (given_verdict (job_of job.entry) given)) }
-    ensures counts { VerdictCounts (job_of job.entry) (given_verdict (job_of job.entry) given) steps.old steps.new }
+    ensures plan { PlansAs result
+        (judged (job_of job.entry) (given_verdict (job_of job.entry) given)) }
+    ensures counts { VerdictCounts (job_of job.entry)
+        (given_verdict (job_of job.entry) given) steps.old steps.new }
     ensures stops { StopCounts result (Some (job_of job.entry)) steps.old steps.new }
     ensures steps { MayStep (job_of job.entry) steps.old steps.new }
 {
@@ -153,10 +171,13 @@ fn given_plan<L: Ledger>(
 fn given_texts<S: Shelf>(alloc: Global, job: Job<'_>, shelf: &mut S) -> Result<Given, Stop>
     requires { IsListed (job_of job) }
     ensures given { IfOk result (λ given. AreFor given (job_of job.entry)) }
-    ensures verdict { IfOk result (λ given. Sees S.tells (S.holds shelf.old) (needed (job_of job.entry)) (λ seen.
-        given_verdict (job_of job.entry) given ≡ job_verdict (job_of job.entry) seen)) }
+    ensures verdict { IfOk result
+        (λ given. Sees S.tells (S.holds shelf.old) (needed (job_of job.entry))
+        (λ seen. given_verdict (job_of job.entry) given
+        ≡ job_verdict (job_of job.entry) seen)) }
     ensures refused { OnRefused result (λ _. ⊥) }
-    ensures unread { UnreadAs result (needed (job_of job.entry)) (shelf_seen S.Shelf shelf.old shelf.new) }
+    ensures unread { UnreadAs result (needed (job_of job.entry))
+        (shelf_seen S.Shelf shelf.old shelf.new) }
     ensures only_read { OnlyRead (shelf_seen S.Shelf shelf.old shelf.new) }
 {
     match job.made {
@@ -167,10 +188,12 @@ fn given_texts<S: Shelf>(alloc: Global, job: Job<'_>, shelf: &mut S) -> Result<G
 
 /// What is read at the paths that a job needs.
 fn read_texts<S: Shelf>(alloc: Global, job: Job<'_>, shelf: &mut S) -> Result<Given, Stop>
-    ensures read { IfOk result (λ given. IsRead S.tells (S.holds shelf.old) (needed (job_of job.entry)) given.held.items) }
+    ensures read { IfOk result (λ given. IsRead S.tells (S.holds shelf.old)
+        (needed (job_of job.entry)) given.held.items) }
     ensures made { IfOk result (λ given. given.made ≡ None) }
     ensures refused { OnRefused result (λ _. ⊥) }
-    ensures unread { UnreadAs result (needed (job_of job.entry)) (shelf_seen S.Shelf shelf.old shelf.new) }
+    ensures unread { UnreadAs result (needed (job_of job.entry))
+        (shelf_seen S.Shelf shelf.old shelf.new) }
     ensures only_read { OnlyRead (shelf_seen S.Shelf shelf.old shelf.new) }
 {
     let paths = needed_paths(alloc, job)?;
@@ -192,14 +215,18 @@ pub fn prepare<S: Shelf, L: Ledger>(
     steps: &mut Steps<L>,
 ) -> Result<Plan, Stop>
     requires { IsListed (job_of job) }
-    ensures planned { IfOk result (λ plan. Sees S.tells (S.holds shelf.old) (needed (job_of job.entry)) (λ seen.
-        IsPlanOf plan (expected_of (job_of job.entry) seen))) }
+    ensures planned { IfOk result
+        (λ plan. Sees S.tells (S.holds shelf.old) (needed (job_of job.entry))
+        (λ seen. IsPlanOf plan (expected_of (job_of job.entry) seen))) }
     ensures room { IfOk result (λ plan. length plan.outputs.items ≤ S.spare shelf.new) }
-    ensures refused { OnRefused result (λ line. Sees S.tells (S.holds shelf.old) (needed (job_of job.entry)) (λ seen.
-        expected_of (job_of job.entry) seen ≡ Refuses line)) }
-    ensures unread { UnreadAs result (needed (job_of job.entry)) (shelf_seen S.Shelf shelf.old shelf.new) }
+    ensures refused { OnRefused result
+        (λ line. Sees S.tells (S.holds shelf.old) (needed (job_of job.entry))
+        (λ seen. expected_of (job_of job.entry) seen ≡ Refuses line)) }
+    ensures unread { UnreadAs result (needed (job_of job.entry))
+        (shelf_seen S.Shelf shelf.old shelf.new) }
     ensures only_read { OnlyRead (shelf_seen S.Shelf shelf.old shelf.new) }
-    ensures counts { Sees S.tells (S.holds shelf.old) (needed (job_of job.entry)) (λ seen. FormCounts (Some (job_of job.entry)) seen steps.old steps.new) }
+    ensures counts { Sees S.tells (S.holds shelf.old) (needed (job_of job.entry))
+        (λ seen. FormCounts (Some (job_of job.entry)) seen steps.old steps.new) }
     ensures stops { StopCounts result (Some (job_of job.entry)) steps.old steps.new }
     ensures steps { MayStep (job_of job.entry) steps.old steps.new }
 {

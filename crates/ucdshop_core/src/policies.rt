@@ -16,7 +16,8 @@ use ucd_model::Memory;
 ///
 /// - `Memory`: memory ran out.
 pub fn breaks_since(alloc: Global, earlier: &Option<Bench>, bench: &Bench) -> Result<Breaks, Memory>
-    ensures { IfOk result (λ breaks. breaks ≡ breaks_since (option_map (λ before. before.current) earlier.now) bench.now.current) }
+    ensures { IfOk result (λ breaks. breaks
+        ≡ breaks_since (option_map (λ before. before.current) earlier.now) bench.now.current) }
 {
     match earlier {
         Some(before) => breaks_between(alloc, before, bench),
@@ -28,7 +29,8 @@ pub fn breaks_since(alloc: Global, earlier: &Option<Bench>, bench: &Bench) -> Re
 ///
 /// - `Memory`: memory ran out.
 fn breaks_between(alloc: Global, before: &Bench, bench: &Bench) -> Result<Breaks, Memory>
-    ensures { IfOk result (λ breaks. breaks ≡ report (release_items before.now.current) (release_items bench.now.current)) }
+    ensures { IfOk result (λ breaks. breaks
+        ≡ report (release_items before.now.current) (release_items bench.now.current)) }
 {
     let old = before.release();
     let new = bench.release();

@@ -29,7 +29,13 @@ pub struct RunCounts {
 ///
 /// - `Memory`: memory ran out.
 pub fn summary(alloc: Global, counts: RunCounts) -> Result<Text, Memory>
-    ensures { IfOk result (λ text. text ≡ summary (record { accepted = counts.accepted; refused = counts.refused; answered = counts.answered; broken = counts.broken })) }
+    ensures { IfOk result (λ text. text
+        ≡ summary (record {
+          accepted = counts.accepted;
+          refused = counts.refused;
+          answered = counts.answered;
+          broken = counts.broken;
+        })) }
 {
     let mut text = Text::new(alloc);
     text.append(b"ucdshop: ")?;
@@ -59,7 +65,14 @@ pub struct MadeCounts {
 ///
 /// - `Memory`: memory ran out.
 pub fn made_summary(alloc: Global, counts: MadeCounts) -> Result<Text, Memory>
-    ensures { IfOk result (λ text. text ≡ made_summary (record { number = counts.number; rows = counts.rows; accepted = counts.accepted; changed = counts.changed; casefolds = counts.casefolds })) }
+    ensures { IfOk result (λ text. text
+        ≡ made_summary (record {
+          number = counts.number;
+          rows = counts.rows;
+          accepted = counts.accepted;
+          changed = counts.changed;
+          casefolds = counts.casefolds;
+        })) }
 {
     let mut text = Text::new(alloc);
     put_made(alloc, &mut text, counts.number, counts.rows)?;

@@ -27,7 +27,8 @@ use ucd_model::{Steps, Texts};
 ///
 /// The promise is that of every program that ends by [`end_run`], for this program: `ucdshop` in `specs/Run.antt`.
 pub fn run<S: Shelf, K: Sink>(alloc: Global, words: &Texts, shelf: &mut S, out: &mut K) -> Status
-    ensures { Promises ucdshop words.now (shelf_seen S.Shelf shelf.old shelf.new) (sink_seen K.Sink out.old out.new) result }
+    ensures { Promises ucdshop words.now (shelf_seen S.Shelf shelf.old shelf.new)
+        (sink_seen K.Sink out.old out.new) result }
 {
     run_anew::<S, K, Brand>(alloc, words, shelf, out, Blank::new(1))
 }
@@ -43,7 +44,8 @@ fn run_anew<S: Shelf, K: Sink, L: Ledger>(
     requires name { blank.name ≡ L.name }
     requires parts { blank.parts ≡ L.parts }
     requires some { blank.parts ≡ 1 }
-    ensures { Promises ucdshop words.now (shelf_seen S.Shelf shelf.old shelf.new) (sink_seen K.Sink out.old out.new) result }
+    ensures { Promises ucdshop words.now (shelf_seen S.Shelf shelf.old shelf.new)
+        (sink_seen K.Sink out.old out.new) result }
 {
     let mut steps = Steps::<L>::new(blank);
     run_counted(alloc, words, shelf, out, &mut steps)
@@ -59,8 +61,10 @@ pub fn run_counted<S: Shelf, K: Sink, L: Ledger>(
     out: &mut K,
     steps: &mut Steps<L>,
 ) -> Status
-    ensures run { Promises ucdshop words.now (shelf_seen S.Shelf shelf.old shelf.new) (sink_seen K.Sink out.old out.new) result }
-    ensures counted { Sees S.tells (S.holds shelf.old) (paths_read ucdshop (form words.now)) (λ seen. FormCounts (form words.now) seen steps.old steps.new) }
+    ensures run { Promises ucdshop words.now (shelf_seen S.Shelf shelf.old shelf.new)
+        (sink_seen K.Sink out.old out.new) result }
+    ensures counted { Sees S.tells (S.holds shelf.old) (paths_read ucdshop (form words.now))
+        (λ seen. FormCounts (form words.now) seen steps.old steps.new) }
     ensures stopped { StatusCounts result (form words.now) steps.old steps.new }
     ensures steps { FormMayStep (form words.now) steps.old steps.new }
 {
@@ -77,7 +81,8 @@ fn plan_words<S: Shelf, L: Ledger>(
 ) -> Option<Result<Plan, Stop>>
     ensures plans { Plans ucdshop words.now result (shelf_seen S.Shelf shelf.old shelf.new) }
     ensures room { HasRoom result (S.spare shelf.new) }
-    ensures counts { Sees S.tells (S.holds shelf.old) (paths_read ucdshop (form words.now)) (λ seen. FormCounts (form words.now) seen steps.old steps.new) }
+    ensures counts { Sees S.tells (S.holds shelf.old) (paths_read ucdshop (form words.now))
+        (λ seen. FormCounts (form words.now) seen steps.old steps.new) }
     ensures stops { PlannedCounts result (form words.now) steps.old steps.new }
     ensures steps { FormMayStep (form words.now) steps.old steps.new }
 {

@@ -76,7 +76,8 @@ fn compare_of<'a>(
     output: &'a Text,
     previous: &'a Text,
 ) -> Option<Job<'a>>
-    ensures form { AsksFor result (form (word.now ∷ input.now ∷ script.now ∷ output.now ∷ previous.now ∷ [])) }
+    ensures form { AsksFor result
+        (form (word.now ∷ input.now ∷ script.now ∷ output.now ∷ previous.now ∷ [])) }
     ensures listed { MatchOption result ⊤ (λ job. IsListed (job_of job)) }
 {
     if word.as_slice() == b"apply".as_slice() {

@@ -81,7 +81,8 @@ fn put_section(
     text: &mut Text,
 ) -> Result<bool, Memory>
     ensures text { OnOk result (text.new ≡ text.old ++ section asking.now question.now) }
-    ensures refused { IfOk result (λ refused. refused ≡ is_refused (question_answer asking.now question.now)) }
+    ensures refused { IfOk result
+        (λ refused. refused ≡ is_refused (question_answer asking.now question.now)) }
 {
     put_head(question, text)?;
     match asking.answer(alloc, question) {

@@ -115,8 +115,10 @@ fn tell_all<L: Ledger>(
 ) -> Result<bool, Memory>
     requires ready { All IsReady commands.now }
     requires earlier { SameValues (earlier_record earlier.old) (bench_record bench.old) }
-    ensures text { OnOk result (text.new ≡ text.old ++ flat_map told (stages bench.old.current commands.now)) }
-    ensures refused { IfOk result (λ refused. refused ≡ list_any stage_refused (stages bench.old.current commands.now)) }
+    ensures text { OnOk result (text.new ≡ text.old
+        ++ flat_map told (stages bench.old.current commands.now)) }
+    ensures refused { IfOk result
+        (λ refused. refused ≡ list_any stage_refused (stages bench.old.current commands.now)) }
 {
     let mut refused = false;
     'commands: for command in commands {
@@ -137,10 +139,14 @@ fn tell_command<L: Ledger>(
 ) -> Result<bool, Memory>
     requires ready { IsReady command.now }
     requires earlier { SameValues (earlier_record earlier.old) (bench_record bench.old) }
-    ensures text { OnOk result (text.new ≡ text.old ++ told (stage_on bench.old.current command.now)) }
-    ensures refused { IfOk result (λ refused. refused ≡ stage_refused (stage_on bench.old.current command.now)) }
-    ensures files { OnOk result (bench.new.current ≡ files_after (stage_on bench.old.current command.now)) }
-    ensures earlier { OnOk result (SameValues (earlier_record earlier.new) (bench_record bench.new)) }
+    ensures text { OnOk result (text.new ≡ text.old
+        ++ told (stage_on bench.old.current command.now)) }
+    ensures refused { IfOk result
+        (λ refused. refused ≡ stage_refused (stage_on bench.old.current command.now)) }
+    ensures files { OnOk result (bench.new.current
+        ≡ files_after (stage_on bench.old.current command.now)) }
+    ensures earlier { OnOk result
+        (SameValues (earlier_record earlier.new) (bench_record bench.new)) }
 {
     match &command.what {
         What::Group(ops) => tell_group(
@@ -168,10 +174,14 @@ fn tell_group<L: Ledger>(
 ) -> Result<bool, Memory>
     requires ready { AreReady ops.now }
     requires earlier { SameValues (earlier_record earlier.old) (bench_record bench.old) }
-    ensures text { OnOk result (text.new ≡ text.old ++ what_told bench.old.current line (Group ops.now)) }
-    ensures refused { IfOk result (λ refused. refused ≡ what_refused bench.old.current (Group ops.now)) }
-    ensures files { OnOk result (bench.new.current ≡ what_leaves bench.old.current line (Group ops.now)) }
-    ensures earlier { OnOk result (SameValues (earlier_record earlier.new) (bench_record bench.new)) }
+    ensures text { OnOk result (text.new ≡ text.old
+        ++ what_told bench.old.current line (Group ops.now)) }
+    ensures refused { IfOk result
+        (λ refused. refused ≡ what_refused bench.old.current (Group ops.now)) }
+    ensures files { OnOk result (bench.new.current
+        ≡ what_leaves bench.old.current line (Group ops.now)) }
+    ensures earlier { OnOk result
+        (SameValues (earlier_record earlier.new) (bench_record bench.new)) }
 {
     match bench.apply(alloc, ops, steps) {
         Ok(accepted) => {
@@ -200,8 +210,12 @@ fn tell_accepted(
     text: &mut Text,
 ) -> Result<(), Memory>
     requires { AreInOrder changed.now }
-    ensures text { OnOk result (text.new ≡ text.old ++ points_section line (earlier_record earlier.old) (bench_record bench.now) changed.now) }
-    ensures earlier { OnOk result (SameValues (earlier_record earlier.new) (updated changed.now (bench_record bench.now) (earlier_record earlier.old))) }
+    ensures text { OnOk result (text.new ≡ text.old
+        ++ points_section line (earlier_record earlier.old)
+        (bench_record bench.now) changed.now) }
+    ensures earlier { OnOk result
+        (SameValues (earlier_record earlier.new)
+        (updated changed.now (bench_record bench.now) (earlier_record earlier.old))) }
 {
     put_head(alloc, line, text)?;
     put_spans(alloc, changed, text)?;
@@ -240,7 +254,9 @@ fn put_points(
     points: &[Point],
     text: &mut Text,
 ) -> Result<(), Memory>
-    ensures { OnOk result (text.new ≡ text.old ++ flat_map (what_differs (earlier_record earlier.now) (bench_record bench.now)) points.now) }
+    ensures { OnOk result (text.new ≡ text.old
+        ++ flat_map (what_differs (earlier_record earlier.now) (bench_record bench.now))
+        points.now) }
 {
     'points: for point in points {
         put_point(alloc, bench, earlier, *point, text)?;
@@ -256,7 +272,8 @@ fn put_point(
     point: Point,
     text: &mut Text,
 ) -> Result<(), Memory>
-    ensures { OnOk result (text.new ≡ text.old ++ what_differs (earlier_record earlier.now) (bench_record bench.now) point) }
+    ensures { OnOk result (text.new ≡ text.old
+        ++ what_differs (earlier_record earlier.now) (bench_record bench.now) point) }
 {
     let before = earlier.record(point);
     let after = bench.record(point);

@@ -49,7 +49,8 @@ fn plan_since<L: Ledger>(
     steps: &mut Steps<L>,
 ) -> Result<Plan, Memory>
     requires { All IsReady commands }
-    ensures { IfOk result (HasPlan (session_ending (option_map (λ before. before.current) earlier.now)
+    ensures { IfOk result (HasPlan
+        (session_ending (option_map (λ before. before.current) earlier.now)
         (session bench.current commands))) }
 {
     let mut bench = bench;
@@ -65,7 +66,8 @@ fn plan_after<L: Ledger>(
     steps: &mut Steps<L>,
 ) -> Result<Plan, Memory>
     requires { All IsReady commands.now }
-    ensures { IfOk result (HasPlan (session_ending (option_map (λ before. before.current) earlier.now)
+    ensures { IfOk result (HasPlan
+        (session_ending (option_map (λ before. before.current) earlier.now)
         (session bench.old.current commands.now))) }
 {
     let carried = carry_out(alloc, bench, commands, steps)?;
@@ -79,7 +81,8 @@ fn plan_of(
     carried: &Carried,
     earlier: &Option<Bench>,
 ) -> Result<Plan, Memory>
-    ensures { IfOk result (HasPlan (session_ending (option_map (λ before. before.current) earlier.now)
+    ensures { IfOk result (HasPlan
+        (session_ending (option_map (λ before. before.current) earlier.now)
         (session_of bench.now carried.now))) }
 {
     let breaks = breaks_since(alloc, earlier, bench)?;
@@ -101,7 +104,8 @@ fn is_done(carried: &Carried, breaks: &Breaks) -> bool
 /// The text that tells what carrying out commands came to, and what is broken: the summary of the run, a line for each refused
 /// command, and one for each broken policy.
 fn text_of(alloc: Global, carried: &Carried, breaks: &Breaks) -> Result<Text, Memory>
-    ensures { IfOk result (λ text. (files : List (List FileItem)) → text ≡ check_text (session_on files carried.now) breaks.now) }
+    ensures { IfOk result (λ text. (files : List (List FileItem))
+        → text ≡ check_text (session_on files carried.now) breaks.now) }
 {
     let counts = RunCounts {
         accepted: carried.accepted,

@@ -126,7 +126,8 @@ fn changes_of(arguments: &[Text]) -> Option<Command<'_>>
 
 /// The run that `check` stands for, which writes nothing.
 fn check_job<'a>(folder: &'a [u8], script: Option<Place<'a>>, previous: Option<&'a [u8]>) -> Job<'a>
-    ensures { job_of result ≡ check_job folder.now (option_map path_at script.entry) (option_map (λ folder. folder.now) previous.entry) }
+    ensures { job_of result ≡ check_job folder.now (option_map path_at script.entry)
+        (option_map (λ folder. folder.now) previous.entry) }
 {
     Job {
         made: None,

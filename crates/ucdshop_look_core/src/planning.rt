@@ -43,12 +43,15 @@ pub fn prepare<S: Shelf, L: Ledger>(
     shelf: &mut S,
     steps: &mut Steps<L>,
 ) -> Result<Plan, Stop>
-    ensures planned { IfOk result (λ plan. Sees S.tells (S.holds shelf.old) (needed (job_of command.entry)) (λ seen.
-        IsPlanOf plan (expected_of (job_of command.entry) seen))) }
+    ensures planned { IfOk result
+        (λ plan. Sees S.tells (S.holds shelf.old) (needed (job_of command.entry))
+        (λ seen. IsPlanOf plan (expected_of (job_of command.entry) seen))) }
     ensures room { IfOk result (λ plan. length plan.outputs.items ≤ S.spare shelf.new) }
-    ensures refused { OnRefused result (λ line. Sees S.tells (S.holds shelf.old) (needed (job_of command.entry)) (λ seen.
-        expected_of (job_of command.entry) seen ≡ Refuses line)) }
-    ensures unread { UnreadAs result (needed (job_of command.entry)) (shelf_seen S.Shelf shelf.old shelf.new) }
+    ensures refused { OnRefused result
+        (λ line. Sees S.tells (S.holds shelf.old) (needed (job_of command.entry))
+        (λ seen. expected_of (job_of command.entry) seen ≡ Refuses line)) }
+    ensures unread { UnreadAs result (needed (job_of command.entry))
+        (shelf_seen S.Shelf shelf.old shelf.new) }
     ensures only_read { OnlyRead (shelf_seen S.Shelf shelf.old shelf.new) }
 {
     let mut held = read_needed(alloc, command, shelf)?;
@@ -61,9 +64,11 @@ fn read_needed<S: Shelf>(
     command: Command<'_>,
     shelf: &mut S,
 ) -> Result<Vec<Option<Text>>, Stop>
-    ensures read { IfOk result (λ held. IsRead S.tells (S.holds shelf.old) (needed (job_of command.entry)) held.items) }
+    ensures read { IfOk result (λ held. IsRead S.tells (S.holds shelf.old)
+        (needed (job_of command.entry)) held.items) }
     ensures refused { OnRefused result (λ _. ⊥) }
-    ensures unread { UnreadAs result (needed (job_of command.entry)) (shelf_seen S.Shelf shelf.old shelf.new) }
+    ensures unread { UnreadAs result (needed (job_of command.entry))
+        (shelf_seen S.Shelf shelf.old shelf.new) }
     ensures only_read { OnlyRead (shelf_seen S.Shelf shelf.old shelf.new) }
 {
     let paths = command_paths(alloc, command)?;
@@ -111,7 +116,8 @@ fn plan_ask<L: Ledger>(
     held: &mut Vec<Option<Text>>,
     steps: &mut Steps<L>,
 ) -> Result<Plan, Stop>
-    ensures { PlansAs result (finished (ask_ending questions.now) (folder_verdict folder.now (source_held held.old.items 0))) }
+    ensures { PlansAs result (finished (ask_ending questions.now)
+        (folder_verdict folder.now (source_held held.old.items 0))) }
 {
     match open_folder(alloc, folder, held, 0, steps) {
         Ok(bench) => Ok(answers_plan(alloc, &bench, questions)?),
@@ -127,7 +133,8 @@ fn plan_show<L: Ledger>(
     held: &mut Vec<Option<Text>>,
     steps: &mut Steps<L>,
 ) -> Result<Plan, Stop>
-    ensures { PlansAs result (finished (show_ending (points_in points.now)) (folder_verdict folder.now (source_held held.old.items 0))) }
+    ensures { PlansAs result (finished (show_ending (points_in points.now))
+        (folder_verdict folder.now (source_held held.old.items 0))) }
 {
     match open_folder(alloc, folder, held, 0, steps) {
         Ok(bench) => Ok(shown_plan(alloc, &bench, points)?),
@@ -142,7 +149,8 @@ fn plan_check<L: Ledger>(
     held: &mut Vec<Option<Text>>,
     steps: &mut Steps<L>,
 ) -> Result<Plan, Stop>
-    ensures { PlansAs result (finished check_ending (inputs_verdict (run_of job.entry) held.old.items)) }
+    ensures { PlansAs result (finished check_ending
+        (inputs_verdict (run_of job.entry) held.old.items)) }
 {
     match judge_inputs(alloc, job, held, steps) {
         Ok(inputs) => Ok(check_plan(alloc, inputs, steps)?),
@@ -157,7 +165,8 @@ fn plan_changes<L: Ledger>(
     held: &mut Vec<Option<Text>>,
     steps: &mut Steps<L>,
 ) -> Result<Plan, Stop>
-    ensures { PlansAs result (finished changes_ending (inputs_verdict (run_of job.entry) held.old.items)) }
+    ensures { PlansAs result (finished changes_ending
+        (inputs_verdict (run_of job.entry) held.old.items)) }
 {
     match judge_inputs(alloc, job, held, steps) {
         Ok(inputs) => Ok(changes_plan(alloc, inputs, steps)?),

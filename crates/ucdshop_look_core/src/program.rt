@@ -30,7 +30,8 @@ pub fn run_look<S: Shelf, K: Sink>(
     shelf: &mut S,
     out: &mut K,
 ) -> Status
-    ensures run { Promises ucdshop_look words.now (shelf_seen S.Shelf shelf.old shelf.new) (sink_seen K.Sink out.old out.new) result }
+    ensures run { Promises ucdshop_look words.now (shelf_seen S.Shelf shelf.old shelf.new)
+        (sink_seen K.Sink out.old out.new) result }
     ensures unchanged { IsTrue S.tells → SameContents (S.holds shelf.old) (S.holds shelf.new) }
 {
     run_anew::<S, K, Brand>(alloc, words, shelf, out, Blank::new(1))
@@ -47,7 +48,8 @@ fn run_anew<S: Shelf, K: Sink, L: Ledger>(
     requires name { blank.name ≡ L.name }
     requires parts { blank.parts ≡ L.parts }
     requires some { blank.parts ≡ 1 }
-    ensures run { Promises ucdshop_look words.now (shelf_seen S.Shelf shelf.old shelf.new) (sink_seen K.Sink out.old out.new) result }
+    ensures run { Promises ucdshop_look words.now (shelf_seen S.Shelf shelf.old shelf.new)
+        (sink_seen K.Sink out.old out.new) result }
     ensures unchanged { IsTrue S.tells → SameContents (S.holds shelf.old) (S.holds shelf.new) }
 {
     let mut steps = Steps::<L>::new(blank);

@@ -34,7 +34,8 @@ pub fn shown_plan(alloc: Global, bench: &Bench, words: &[Text]) -> Result<Plan, 
 ///
 /// - `Memory`: memory ran out.
 fn records_told(alloc: Global, bench: &Bench, words: &[Text]) -> Result<Vec<PointText>, Memory>
-    ensures { IfOk result (λ told. told.items ≡ map (record_told bench.now.current) (points_in words.now)) }
+    ensures { IfOk result (λ told. told.items
+        ≡ map (record_told bench.now.current) (points_in words.now)) }
 {
     let mut told = Vec::new(alloc);
     'words: for word in words {
@@ -52,7 +53,8 @@ fn put_word(
     word: &[u8],
     told: &mut Vec<PointText>,
 ) -> Result<(), Memory>
-    ensures { OnOk result (told.new.items ≡ told.old.items ++ map (record_told bench.now.current) (option_to_list (named_point word.now))) }
+    ensures { OnOk result (told.new.items ≡ told.old.items
+        ++ map (record_told bench.now.current) (option_to_list (named_point word.now))) }
 {
     if let Some(point) = named_point(word) {
         told.push(record_told(alloc, bench, point)?)?;

@@ -30,7 +30,8 @@ pub fn point_spans(alloc: Global, points: &[Point]) -> Result<Spans, Memory>
 ///
 /// - `Memory`: memory ran out.
 fn next_span(spans: &mut Spans, last: Span, point: Point) -> Result<Span, Memory>
-    ensures { IfOk result (λ next. (n : ℕ) (p : ℕ → Bool) (rest : List ℕ) → IsLast n p spans.old last (point ∷ rest) → IsLast n p spans.new next rest) }
+    ensures { IfOk result (λ next. (n : ℕ) (p : ℕ → Bool) (rest : List ℕ)
+        → IsLast n p spans.old last (point ∷ rest) → IsLast n p spans.new next rest) }
 {
     if last.last() + 1 == point.number() {
         return Ok(Span::between(last.lo, point));

@@ -48,7 +48,8 @@ impl Chained {
     /// - `Memory`: memory ran out, or there are 2^64 breaks or more. Nothing is then known of the chain.
     pub fn add(&mut self, alloc: Global, bench: Bench) -> Result<(), Memory>
         requires room { self.old.chain.count < 255 }
-        ensures follows { OnOk result ((releases : List ReleaseItems) → Follows self.old releases → Follows self.new (releases ++ bench ∷ [])) }
+        ensures follows { OnOk result ((releases : List ReleaseItems) → Follows self.old releases
+            → Follows self.new (releases ++ bench ∷ [])) }
     {
         let breaks = self.chain.add(alloc, bench)?;
         let number = self.chain.count();
@@ -90,9 +91,13 @@ pub fn chain_folders<S: Shelf, L: Ledger>(
     requires few { length folders.now ≤ 16 }
     requires none { Follows chained.old [] }
     ensures chained { OnOk result (AreChained S.tells (S.holds shelf.old) folders.now chained.new) }
-    ensures refused { OnRefused result (λ line. AreRefused S.tells (S.holds shelf.old) folders.now line) }
-    ensures unread { UnreadAs result (folders_paths folders.now) (shelf_seen S.Shelf shelf.old shelf.new) }
-    ensures in_order { OnUnread result (λ line. NamesPath (IsReached S.tells (S.holds shelf.old) folders.now) (shelf_seen S.Shelf shelf.old shelf.new) line) }
+    ensures refused { OnRefused result
+        (λ line. AreRefused S.tells (S.holds shelf.old) folders.now line) }
+    ensures unread { UnreadAs result (folders_paths folders.now)
+        (shelf_seen S.Shelf shelf.old shelf.new) }
+    ensures in_order { OnUnread result
+        (λ line. NamesPath (IsReached S.tells (S.holds shelf.old) folders.now)
+        (shelf_seen S.Shelf shelf.old shelf.new) line) }
     ensures only_read { OnlyRead (shelf_seen S.Shelf shelf.old shelf.new) }
 {
     'folders: for folder in folders {

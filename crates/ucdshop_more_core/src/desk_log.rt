@@ -104,7 +104,9 @@ fn put_accepted(
     count: usize,
     text: &mut Text,
 ) -> Result<(), Memory>
-    ensures { OnOk result (text.new ≡ text.old ++ log_line line (codes "accepted " ++ decimal revision ++ codes " " ++ decimal count)) }
+    ensures { OnOk result (text.new ≡ text.old
+        ++ log_line line (codes "accepted " ++ decimal revision ++ codes " "
+        ++ decimal count)) }
 {
     put_head(alloc, line, b"accepted ", text)?;
     put_decimal(alloc, revision as usize, text)?;
@@ -122,7 +124,9 @@ fn put_stale(
     op: u32,
     text: &mut Text,
 ) -> Result<(), Memory>
-    ensures { OnOk result (text.new ≡ text.old ++ log_line line (codes "stale " ++ decimal revision ++ codes " operation " ++ decimal op)) }
+    ensures { OnOk result (text.new ≡ text.old
+        ++ log_line line (codes "stale " ++ decimal revision ++ codes " operation "
+        ++ decimal op)) }
 {
     put_head(alloc, line, b"stale ", text)?;
     put_decimal(alloc, revision as usize, text)?;

@@ -65,7 +65,8 @@ fn proposal_of(text: &[u8]) -> Option<DeskMark>
 
 /// What stands behind a word with which a line begins; `None` if it does not.
 fn behind<'a>(word: &[u8], content: &'a [u8]) -> Option<&'a [u8]>
-    ensures { MatchOption result (behind word.now content.now ≡ None) (λ text. behind word.now content.now ≡ Some text.now) }
+    ensures { MatchOption result (behind word.now content.now ≡ None)
+        (λ text. behind word.now content.now ≡ Some text.now) }
 {
     content.strip_prefix(word)
 }

@@ -49,7 +49,8 @@ fn plan_at<L: Ledger>(
 ) -> Result<Plan, Memory>
     requires ready { AreReady requests.now }
     requires room { desk_revision desk.old + length requests.now ≤ 4294967295 }
-    ensures { IfOk result (λ plan. (s : DeskState) → StandsFor desk.old s → HasPlan (desk_ending_from output.now s (request_turns requests.now)) plan) }
+    ensures { IfOk result (λ plan. (s : DeskState) → StandsFor desk.old s
+        → HasPlan (desk_ending_from output.now s (request_turns requests.now)) plan) }
 {
     let log = hold_session(alloc, desk, requests, steps)?;
     plan_after(alloc, output, desk.bench(), &log)
@@ -57,7 +58,9 @@ fn plan_at<L: Ledger>(
 
 /// The same of the bench as the requests leave it, and the log.
 fn plan_after(alloc: Global, output: &[u8], bench: &Bench, log: &DeskLog) -> Result<Plan, Memory>
-    ensures { IfOk result (HasPlan (desk_ending_by output.now bench.now.current log.now.text log.now.accepted log.now.refused)) }
+    ensures { IfOk result (HasPlan
+        (desk_ending_by output.now bench.now.current log.now.text log.now.accepted
+        log.now.refused)) }
 {
     let mut outputs = Vec::new(alloc);
     put_sources(alloc, output, bench, &mut outputs)?;
@@ -77,7 +80,8 @@ fn put_log(
     log: &DeskLog,
     outputs: &mut Vec<Output>,
 ) -> Result<(), Memory>
-    ensures { OnOk result (Puts (desk_log_file folder.now log.now.text ∷ []) outputs.old.items outputs.new.items) }
+    ensures { OnOk result (Puts (desk_log_file folder.now log.now.text ∷ []) outputs.old.items
+        outputs.new.items) }
 {
     put_text(alloc, folder, b"desk.log", log.text.as_slice(), outputs)
 }

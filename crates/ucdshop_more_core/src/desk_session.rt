@@ -28,7 +28,8 @@ pub fn hold_session<L: Ledger>(
 ) -> Result<DeskLog, Memory>
     requires ready { AreReady requests.now }
     requires room { desk_revision desk.old + length requests.now ≤ 4294967295 }
-    ensures { IfOk result (λ log. (s : DeskState) → StandsFor desk.old s → LogsAll s (request_turns requests.now) log desk.new) }
+    ensures { IfOk result (λ log. (s : DeskState) → StandsFor desk.old s
+        → LogsAll s (request_turns requests.now) log desk.new) }
 {
     let mut log = DeskLog::new(alloc);
     'requests: for request in requests {
@@ -48,8 +49,10 @@ fn reply_to<L: Ledger>(
 ) -> Result<Reply, Memory>
     requires ready { All IsReady request.now.commands }
     requires room { desk_revision desk.old < 4294967295 }
-    ensures reply { IfOk result (λ reply. (s : DeskState) → StandsFor desk.old s → reply ≡ (answer s (request_turn request.now).event).reply) }
-    ensures state { OnOk result ((s : DeskState) → StandsFor desk.old s → StandsFor desk.new (answer s (request_turn request.now).event).state) }
+    ensures reply { IfOk result (λ reply. (s : DeskState) → StandsFor desk.old s
+        → reply ≡ (answer s (request_turn request.now).event).reply) }
+    ensures state { OnOk result ((s : DeskState) → StandsFor desk.old s
+        → StandsFor desk.new (answer s (request_turn request.now).event).state) }
     ensures revision { desk_revision desk.new ≤ desk_revision desk.old + 1 }
 {
     match request.mark {

@@ -43,12 +43,15 @@ pub fn read_draft<S: Shelf, L: Ledger>(
     shelf: &mut S,
     steps: &mut Steps<L>,
 ) -> Result<Drafted, Stop>
-    ensures given { IfOk result (λ drafted. Sees S.tells (S.holds shelf.old) (sources_in input.now ++ script.now ∷ []) (λ seen.
-        draft_verdict input.now script.now seen ≡ Ok (draft_of drafted))) }
+    ensures given { IfOk result (λ drafted. Sees S.tells (S.holds shelf.old)
+        (sources_in input.now ++ script.now ∷ [])
+        (λ seen. draft_verdict input.now script.now seen ≡ Ok (draft_of drafted))) }
     ensures ready { IfOk result (λ drafted. AreReady drafted.sections) }
-    ensures refused { OnRefused result (λ line. Sees S.tells (S.holds shelf.old) (sources_in input.now ++ script.now ∷ []) (λ seen.
-        draft_verdict input.now script.now seen ≡ Err line)) }
-    ensures unread { UnreadAs result (sources_in input.now ++ script.now ∷ []) (shelf_seen S.Shelf shelf.old shelf.new) }
+    ensures refused { OnRefused result
+        (λ line. Sees S.tells (S.holds shelf.old) (sources_in input.now ++ script.now ∷ [])
+        (λ seen. draft_verdict input.now script.now seen ≡ Err line)) }
+    ensures unread { UnreadAs result (sources_in input.now ++ script.now ∷ [])
+        (shelf_seen S.Shelf shelf.old shelf.new) }
     ensures only_read { OnlyRead (shelf_seen S.Shelf shelf.old shelf.new) }
 {
     let paths = paths_with(alloc, input, script)?;
@@ -84,7 +87,8 @@ fn judge_behind(
     held: &[Option<Text>],
     bench: Bench,
 ) -> Result<Drafted, Stop>
-    ensures draft { ToldAs draft_of result (with_moves bench.current (moves_told script.now (held_at held.now 9))) }
+    ensures draft { ToldAs draft_of result
+        (with_moves bench.current (moves_told script.now (held_at held.now 9))) }
     ensures ready { IfOk result (λ drafted. AreReady drafted.sections) }
 {
     match judge_sections(alloc, script, held_at(held, SOURCE_FILES.len())) {
@@ -98,7 +102,8 @@ fn judge_behind(
 /// - `Refused(line)`: the file is absent, too long, or breaks a rule.
 /// - `Memory`: memory ran out.
 fn judge_sections(alloc: Global, path: &[u8], held: Option<&[u8]>) -> Result<Sections, Stop>
-    ensures moves { ToldAs all_moves result (moves_told path.now (option_map (λ bytes. bytes.now) held.entry)) }
+    ensures moves { ToldAs all_moves result
+        (moves_told path.now (option_map (λ bytes. bytes.now) held.entry)) }
     ensures ready { IfOk result AreReady }
 {
     let bytes = match second_file(held) {

@@ -41,7 +41,8 @@ fn put_miss(alloc: Global, miss: Miss, text: &mut Text) -> Result<(), Memory>
 ///
 /// - `Memory`: memory ran out.
 fn put_line(alloc: Global, line: u32, form: Form, column: u8, text: &mut Text) -> Result<(), Memory>
-    ensures { OnOk result (text.new ≡ text.old ++ decimal line ++ codes " " ++ form_code form ++ codes " " ++ decimal column ++ line_end) }
+    ensures { OnOk result (text.new ≡ text.old ++ decimal line ++ codes " " ++ form_code form
+        ++ codes " " ++ decimal column ++ line_end) }
 {
     put_decimal(alloc, line as usize, text)?;
     text.append(b" ")?;
@@ -55,7 +56,8 @@ fn put_line(alloc: Global, line: u32, form: Form, column: u8, text: &mut Text) -
 ///
 /// - `Memory`: memory ran out.
 fn put_point(point: Point, form: Form, text: &mut Text) -> Result<(), Memory>
-    ensures { OnOk result (text.new ≡ text.old ++ codes "point " ++ hex_text point ++ codes " " ++ form_code form ++ line_end) }
+    ensures { OnOk result (text.new ≡ text.old ++ codes "point " ++ hex_text point ++ codes " "
+        ++ form_code form ++ line_end) }
 {
     text.append(b"point ")?;
     put_hex(point, text)?;

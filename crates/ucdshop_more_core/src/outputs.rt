@@ -17,7 +17,8 @@ use ucd_model::{Memory, Text};
 ///
 /// - `Memory`: memory ran out.
 pub fn ages_plan(alloc: Global, output: &[u8], chained: &Chained) -> Result<Plan, Memory>
-    ensures { IfOk result (λ plan. (releases : List ReleaseItems) → Follows chained.now releases → HasPlan (ages_ending output.now releases) plan) }
+    ensures { IfOk result (λ plan. (releases : List ReleaseItems) → Follows chained.now releases
+        → HasPlan (ages_ending output.now releases) plan) }
 {
     let mut outputs = Vec::new(alloc);
     put_ages(alloc, output, chained, &mut outputs)?;
@@ -37,7 +38,8 @@ fn put_ages(
     chained: &Chained,
     outputs: &mut Vec<Output>,
 ) -> Result<(), Memory>
-    ensures { OnOk result ((releases : List ReleaseItems) → Follows chained.now releases → Puts (ages_file folder.now releases ∷ []) outputs.old.items outputs.new.items) }
+    ensures { OnOk result ((releases : List ReleaseItems) → Follows chained.now releases
+        → Puts (ages_file folder.now releases ∷ []) outputs.old.items outputs.new.items) }
 {
     let text = chained.chain.age_text(alloc)?;
     put_text(alloc, folder, b"DerivedAge.txt", text.as_slice(), outputs)
@@ -50,7 +52,8 @@ fn put_steps(
     chained: &Chained,
     outputs: &mut Vec<Output>,
 ) -> Result<(), Memory>
-    ensures { OnOk result ((releases : List ReleaseItems) → Follows chained.now releases → Puts (steps_file folder.now releases ∷ []) outputs.old.items outputs.new.items) }
+    ensures { OnOk result ((releases : List ReleaseItems) → Follows chained.now releases
+        → Puts (steps_file folder.now releases ∷ []) outputs.old.items outputs.new.items) }
 {
     put_text(
         alloc,
@@ -63,7 +66,8 @@ fn put_steps(
 
 /// The summary of `ages`.
 fn summary_of(alloc: Global, chained: &Chained) -> Result<Text, Memory>
-    ensures { IfOk result (λ line. (releases : List ReleaseItems) → Follows chained.now releases → line ≡ ages_summary (age_counts releases)) }
+    ensures { IfOk result (λ line. (releases : List ReleaseItems) → Follows chained.now releases
+        → line ≡ ages_summary (age_counts releases)) }
 {
     let counts = AgeCounts {
         releases: chained.chain.count() as usize,

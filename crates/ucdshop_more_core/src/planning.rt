@@ -36,13 +36,18 @@ pub fn prepare<S: Shelf, L: Ledger>(
     steps: &mut Steps<L>,
 ) -> Result<Plan, Stop>
     requires { IsListed (job_of command) }
-    ensures planned { IfOk result (λ plan. Sees S.tells (S.holds shelf.old) (needed (job_of command.entry)) (λ seen.
-        IsPlanOf plan (expected_of (job_of command.entry) seen))) }
+    ensures planned { IfOk result
+        (λ plan. Sees S.tells (S.holds shelf.old) (needed (job_of command.entry))
+        (λ seen. IsPlanOf plan (expected_of (job_of command.entry) seen))) }
     ensures room { IfOk result (λ plan. length plan.outputs.items ≤ S.spare shelf.new) }
-    ensures refused { OnRefused result (λ line. Sees S.tells (S.holds shelf.old) (needed (job_of command.entry)) (λ seen.
-        expected_of (job_of command.entry) seen ≡ Refuses line)) }
-    ensures unread { UnreadAs result (needed (job_of command.entry)) (shelf_seen S.Shelf shelf.old shelf.new) }
-    ensures in_order { OnUnread result (NamesPath (ComesTo (job_of command.entry) S.tells (S.holds shelf.old)) (shelf_seen S.Shelf shelf.old shelf.new)) }
+    ensures refused { OnRefused result
+        (λ line. Sees S.tells (S.holds shelf.old) (needed (job_of command.entry))
+        (λ seen. expected_of (job_of command.entry) seen ≡ Refuses line)) }
+    ensures unread { UnreadAs result (needed (job_of command.entry))
+        (shelf_seen S.Shelf shelf.old shelf.new) }
+    ensures in_order { OnUnread result
+        (NamesPath (ComesTo (job_of command.entry) S.tells (S.holds shelf.old))
+        (shelf_seen S.Shelf shelf.old shelf.new)) }
     ensures only_read { OnlyRead (shelf_seen S.Shelf shelf.old shelf.new) }
 {
     let plan = plan_of(alloc, command, shelf, steps)?;
@@ -58,12 +63,17 @@ fn plan_of<S: Shelf, L: Ledger>(
     steps: &mut Steps<L>,
 ) -> Result<Plan, Stop>
     requires { IsListed (job_of command) }
-    ensures planned { IfOk result (λ plan. Sees S.tells (S.holds shelf.old) (needed (job_of command.entry)) (λ seen.
-        IsPlanOf plan (expected_of (job_of command.entry) seen))) }
-    ensures refused { OnRefused result (λ line. Sees S.tells (S.holds shelf.old) (needed (job_of command.entry)) (λ seen.
-        expected_of (job_of command.entry) seen ≡ Refuses line)) }
-    ensures unread { UnreadAs result (needed (job_of command.entry)) (shelf_seen S.Shelf shelf.old shelf.new) }
-    ensures in_order { OnUnread result (NamesPath (ComesTo (job_of command.entry) S.tells (S.holds shelf.old)) (shelf_seen S.Shelf shelf.old shelf.new)) }
+    ensures planned { IfOk result
+        (λ plan. Sees S.tells (S.holds shelf.old) (needed (job_of command.entry))
+        (λ seen. IsPlanOf plan (expected_of (job_of command.entry) seen))) }
+    ensures refused { OnRefused result
+        (λ line. Sees S.tells (S.holds shelf.old) (needed (job_of command.entry))
+        (λ seen. expected_of (job_of command.entry) seen ≡ Refuses line)) }
+    ensures unread { UnreadAs result (needed (job_of command.entry))
+        (shelf_seen S.Shelf shelf.old shelf.new) }
+    ensures in_order { OnUnread result
+        (NamesPath (ComesTo (job_of command.entry) S.tells (S.holds shelf.old))
+        (shelf_seen S.Shelf shelf.old shelf.new)) }
     ensures only_read { OnlyRead (shelf_seen S.Shelf shelf.old shelf.new) }
 {
     match command {
@@ -96,12 +106,19 @@ fn plan_desk<S: Shelf, L: Ledger>(
     shelf: &mut S,
     steps: &mut Steps<L>,
 ) -> Result<Plan, Stop>
-    ensures planned { IfOk result (λ plan. Sees S.tells (S.holds shelf.old) (needed (Desk input.now events.now output.now)) (λ seen.
-        IsPlanOf plan (expected_of (Desk input.now events.now output.now) seen))) }
-    ensures refused { OnRefused result (λ line. Sees S.tells (S.holds shelf.old) (needed (Desk input.now events.now output.now)) (λ seen.
-        expected_of (Desk input.now events.now output.now) seen ≡ Refuses line)) }
-    ensures unread { UnreadAs result (needed (Desk input.now events.now output.now)) (shelf_seen S.Shelf shelf.old shelf.new) }
-    ensures in_order { OnUnread result (NamesPath (ComesTo (Desk input.now events.now output.now) S.tells (S.holds shelf.old)) (shelf_seen S.Shelf shelf.old shelf.new)) }
+    ensures planned { IfOk result
+        (λ plan. Sees S.tells (S.holds shelf.old)
+        (needed (Desk input.now events.now output.now))
+        (λ seen. IsPlanOf plan (expected_of (Desk input.now events.now output.now) seen))) }
+    ensures refused { OnRefused result
+        (λ line. Sees S.tells (S.holds shelf.old)
+        (needed (Desk input.now events.now output.now))
+        (λ seen. expected_of (Desk input.now events.now output.now) seen ≡ Refuses line)) }
+    ensures unread { UnreadAs result (needed (Desk input.now events.now output.now))
+        (shelf_seen S.Shelf shelf.old shelf.new) }
+    ensures in_order { OnUnread result
+        (NamesPath (ComesTo (Desk input.now events.now output.now) S.tells (S.holds shelf.old))
+        (shelf_seen S.Shelf shelf.old shelf.new)) }
     ensures only_read { OnlyRead (shelf_seen S.Shelf shelf.old shelf.new) }
 {
     match read_sitting(alloc, input, events, shelf, steps) {
@@ -122,12 +139,21 @@ fn plan_undo<S: Shelf, L: Ledger>(
 ) -> Result<Plan, Stop>
     requires some { 1 ≤ depth }
     requires few { depth ≤ 1024 }
-    ensures planned { IfOk result (λ plan. Sees S.tells (S.holds shelf.old) (needed (Undo input.now script.now output.now depth)) (λ seen.
-        IsPlanOf plan (expected_of (Undo input.now script.now output.now depth) seen))) }
-    ensures refused { OnRefused result (λ line. Sees S.tells (S.holds shelf.old) (needed (Undo input.now script.now output.now depth)) (λ seen.
-        expected_of (Undo input.now script.now output.now depth) seen ≡ Refuses line)) }
-    ensures unread { UnreadAs result (needed (Undo input.now script.now output.now depth)) (shelf_seen S.Shelf shelf.old shelf.new) }
-    ensures in_order { OnUnread result (NamesPath (ComesTo (Undo input.now script.now output.now depth) S.tells (S.holds shelf.old)) (shelf_seen S.Shelf shelf.old shelf.new)) }
+    ensures planned { IfOk result
+        (λ plan. Sees S.tells (S.holds shelf.old)
+        (needed (Undo input.now script.now output.now depth))
+        (λ seen. IsPlanOf plan
+        (expected_of (Undo input.now script.now output.now depth) seen))) }
+    ensures refused { OnRefused result
+        (λ line. Sees S.tells (S.holds shelf.old)
+        (needed (Undo input.now script.now output.now depth))
+        (λ seen. expected_of (Undo input.now script.now output.now depth) seen
+        ≡ Refuses line)) }
+    ensures unread { UnreadAs result (needed (Undo input.now script.now output.now depth))
+        (shelf_seen S.Shelf shelf.old shelf.new) }
+    ensures in_order { OnUnread result
+        (NamesPath (ComesTo (Undo input.now script.now output.now depth) S.tells
+        (S.holds shelf.old)) (shelf_seen S.Shelf shelf.old shelf.new)) }
     ensures only_read { OnlyRead (shelf_seen S.Shelf shelf.old shelf.new) }
 {
     match read_draft(alloc, input, script, shelf, steps) {
@@ -145,12 +171,19 @@ fn plan_conform<S: Shelf, L: Ledger>(
     shelf: &mut S,
     steps: &mut Steps<L>,
 ) -> Result<Plan, Stop>
-    ensures planned { IfOk result (λ plan. Sees S.tells (S.holds shelf.old) (needed (Conform input.now tests.now output.now)) (λ seen.
-        IsPlanOf plan (expected_of (Conform input.now tests.now output.now) seen))) }
-    ensures refused { OnRefused result (λ line. Sees S.tells (S.holds shelf.old) (needed (Conform input.now tests.now output.now)) (λ seen.
-        expected_of (Conform input.now tests.now output.now) seen ≡ Refuses line)) }
-    ensures unread { UnreadAs result (needed (Conform input.now tests.now output.now)) (shelf_seen S.Shelf shelf.old shelf.new) }
-    ensures in_order { OnUnread result (NamesPath (ComesTo (Conform input.now tests.now output.now) S.tells (S.holds shelf.old)) (shelf_seen S.Shelf shelf.old shelf.new)) }
+    ensures planned { IfOk result
+        (λ plan. Sees S.tells (S.holds shelf.old)
+        (needed (Conform input.now tests.now output.now))
+        (λ seen. IsPlanOf plan (expected_of (Conform input.now tests.now output.now) seen))) }
+    ensures refused { OnRefused result
+        (λ line. Sees S.tells (S.holds shelf.old)
+        (needed (Conform input.now tests.now output.now))
+        (λ seen. expected_of (Conform input.now tests.now output.now) seen ≡ Refuses line)) }
+    ensures unread { UnreadAs result (needed (Conform input.now tests.now output.now))
+        (shelf_seen S.Shelf shelf.old shelf.new) }
+    ensures in_order { OnUnread result
+        (NamesPath (ComesTo (Conform input.now tests.now output.now) S.tells
+        (S.holds shelf.old)) (shelf_seen S.Shelf shelf.old shelf.new)) }
     ensures only_read { OnlyRead (shelf_seen S.Shelf shelf.old shelf.new) }
 {
     match read_trial(alloc, input, tests, shelf, steps) {
@@ -168,12 +201,17 @@ fn plan_ages<S: Shelf, L: Ledger>(
     steps: &mut Steps<L>,
 ) -> Result<Plan, Stop>
     requires few { length folders.now ≤ 16 }
-    ensures planned { IfOk result (λ plan. Sees S.tells (S.holds shelf.old) (needed (Ages output.now folders.now)) (λ seen.
-        IsPlanOf plan (expected_of (Ages output.now folders.now) seen))) }
-    ensures refused { OnRefused result (λ line. Sees S.tells (S.holds shelf.old) (needed (Ages output.now folders.now)) (λ seen.
-        expected_of (Ages output.now folders.now) seen ≡ Refuses line)) }
-    ensures unread { UnreadAs result (needed (Ages output.now folders.now)) (shelf_seen S.Shelf shelf.old shelf.new) }
-    ensures in_order { OnUnread result (NamesPath (ComesTo (Ages output.now folders.now) S.tells (S.holds shelf.old)) (shelf_seen S.Shelf shelf.old shelf.new)) }
+    ensures planned { IfOk result
+        (λ plan. Sees S.tells (S.holds shelf.old) (needed (Ages output.now folders.now))
+        (λ seen. IsPlanOf plan (expected_of (Ages output.now folders.now) seen))) }
+    ensures refused { OnRefused result
+        (λ line. Sees S.tells (S.holds shelf.old) (needed (Ages output.now folders.now))
+        (λ seen. expected_of (Ages output.now folders.now) seen ≡ Refuses line)) }
+    ensures unread { UnreadAs result (needed (Ages output.now folders.now))
+        (shelf_seen S.Shelf shelf.old shelf.new) }
+    ensures in_order { OnUnread result
+        (NamesPath (ComesTo (Ages output.now folders.now) S.tells (S.holds shelf.old))
+        (shelf_seen S.Shelf shelf.old shelf.new)) }
     ensures only_read { OnlyRead (shelf_seen S.Shelf shelf.old shelf.new) }
 {
     let mut chained = Chained::new(alloc)?;
@@ -191,12 +229,17 @@ fn plan_chained<S: Shelf, L: Ledger>(
 ) -> Result<Plan, Stop>
     requires few { length folders.now ≤ 16 }
     requires none { Follows chained.old [] }
-    ensures planned { IfOk result (λ plan. Sees S.tells (S.holds shelf.old) (needed (Ages output.now folders.now)) (λ seen.
-        IsPlanOf plan (expected_of (Ages output.now folders.now) seen))) }
-    ensures refused { OnRefused result (λ line. Sees S.tells (S.holds shelf.old) (needed (Ages output.now folders.now)) (λ seen.
-        expected_of (Ages output.now folders.now) seen ≡ Refuses line)) }
-    ensures unread { UnreadAs result (needed (Ages output.now folders.now)) (shelf_seen S.Shelf shelf.old shelf.new) }
-    ensures in_order { OnUnread result (NamesPath (ComesTo (Ages output.now folders.now) S.tells (S.holds shelf.old)) (shelf_seen S.Shelf shelf.old shelf.new)) }
+    ensures planned { IfOk result
+        (λ plan. Sees S.tells (S.holds shelf.old) (needed (Ages output.now folders.now))
+        (λ seen. IsPlanOf plan (expected_of (Ages output.now folders.now) seen))) }
+    ensures refused { OnRefused result
+        (λ line. Sees S.tells (S.holds shelf.old) (needed (Ages output.now folders.now))
+        (λ seen. expected_of (Ages output.now folders.now) seen ≡ Refuses line)) }
+    ensures unread { UnreadAs result (needed (Ages output.now folders.now))
+        (shelf_seen S.Shelf shelf.old shelf.new) }
+    ensures in_order { OnUnread result
+        (NamesPath (ComesTo (Ages output.now folders.now) S.tells (S.holds shelf.old))
+        (shelf_seen S.Shelf shelf.old shelf.new)) }
     ensures only_read { OnlyRead (shelf_seen S.Shelf shelf.old shelf.new) }
 {
     chain_folders(alloc, folders, shelf, steps, chained)?;

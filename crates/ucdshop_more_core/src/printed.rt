@@ -71,7 +71,9 @@ pub struct AgeCounts {
 ///
 /// - `Memory`: memory ran out.
 pub fn ages_summary(alloc: Global, counts: AgeCounts) -> Result<Text, Memory>
-    ensures { IfOk result (λ text. text ≡ ages_summary (record { releases = counts.releases; points = counts.points; breaks = counts.breaks })) }
+    ensures { IfOk result (λ text. text
+        ≡ ages_summary (record
+        { releases = counts.releases; points = counts.points; breaks = counts.breaks })) }
 {
     let mut text = Text::new(alloc);
     text.append(b"ages: ")?;

@@ -32,8 +32,11 @@ pub fn run_more<S: Shelf, K: Sink>(
     shelf: &mut S,
     out: &mut K,
 ) -> Status
-    ensures run { Promises ucdshop_more words.now (shelf_seen S.Shelf shelf.old shelf.new) (sink_seen K.Sink out.old out.new) result }
-    ensures in_order { result ≡ Status.ReadFault → ReadsInOrder words.now (shelf_seen S.Shelf shelf.old shelf.new) (sink_seen K.Sink out.old out.new) }
+    ensures run { Promises ucdshop_more words.now (shelf_seen S.Shelf shelf.old shelf.new)
+        (sink_seen K.Sink out.old out.new) result }
+    ensures in_order { result ≡ Status.ReadFault
+        → ReadsInOrder words.now (shelf_seen S.Shelf shelf.old shelf.new)
+        (sink_seen K.Sink out.old out.new) }
 {
     run_anew::<S, K, Brand>(alloc, words, shelf, out, Blank::new(1))
 }
@@ -49,8 +52,11 @@ fn run_anew<S: Shelf, K: Sink, L: Ledger>(
     requires name { blank.name ≡ L.name }
     requires parts { blank.parts ≡ L.parts }
     requires some { blank.parts ≡ 1 }
-    ensures run { Promises ucdshop_more words.now (shelf_seen S.Shelf shelf.old shelf.new) (sink_seen K.Sink out.old out.new) result }
-    ensures in_order { result ≡ Status.ReadFault → ReadsInOrder words.now (shelf_seen S.Shelf shelf.old shelf.new) (sink_seen K.Sink out.old out.new) }
+    ensures run { Promises ucdshop_more words.now (shelf_seen S.Shelf shelf.old shelf.new)
+        (sink_seen K.Sink out.old out.new) result }
+    ensures in_order { result ≡ Status.ReadFault
+        → ReadsInOrder words.now (shelf_seen S.Shelf shelf.old shelf.new)
+        (sink_seen K.Sink out.old out.new) }
 {
     let mut steps = Steps::<L>::new(blank);
     let planned = plan_words(alloc, words, shelf, &mut steps);

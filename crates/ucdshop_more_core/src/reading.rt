@@ -28,8 +28,10 @@ pub fn read_folder<S: Shelf, L: Ledger>(
 ) -> Result<Bench, Stop>
     ensures opened { IfOk result (λ bench. OpensAs folder.now bench S.tells (S.holds shelf.old)) }
     ensures still { IfOk result HasNothingPrepared }
-    ensures refused { OnRefused result (λ line. IsRefused folder.now line S.tells (S.holds shelf.old)) }
-    ensures unread { UnreadAs result (sources_in folder.now) (shelf_seen S.Shelf shelf.old shelf.new) }
+    ensures refused { OnRefused result
+        (λ line. IsRefused folder.now line S.tells (S.holds shelf.old)) }
+    ensures unread { UnreadAs result (sources_in folder.now)
+        (shelf_seen S.Shelf shelf.old shelf.new) }
     ensures only_read { OnlyRead (shelf_seen S.Shelf shelf.old shelf.new) }
 {
     let paths = source_paths(alloc, folder)?;

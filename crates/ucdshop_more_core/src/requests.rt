@@ -61,7 +61,8 @@ pub fn read_requests(alloc: Global, bytes: &[u8]) -> Result<Requests, PieceStop>
 /// - `Memory`: memory ran out.
 fn put_request(alloc: Global, piece: Piece<'_>, requests: &mut Requests) -> Result<(), PieceStop>
     requires { piece.first_line + length piece.body.now < 2 ^ 32 }
-    ensures turn { PutAs result (request_turns requests.old) (request_turns requests.new) (piece_turn (piece_of piece.entry)) }
+    ensures turn { PutAs result (request_turns requests.old) (request_turns requests.new)
+        (piece_turn (piece_of piece.entry)) }
     ensures ready { AreReady requests.old → AreReady requests.new }
     ensures few { length requests.new ≤ length requests.old + 1 }
 {
@@ -79,7 +80,8 @@ fn put_request(alloc: Global, piece: Piece<'_>, requests: &mut Requests) -> Resu
 fn piece_request(alloc: Global, piece: Piece<'_>) -> Result<Option<Request>, PieceStop>
     requires { piece.first_line + length piece.body.now < 2 ^ 32 }
     ensures turn { TurnAs result (piece_turn (piece_of piece.entry)) }
-    ensures ready { IfOk result (λ found. MatchOption found ⊤ (λ request. All IsReady request.commands)) }
+    ensures ready { IfOk result (λ found. MatchOption found ⊤
+        (λ request. All IsReady request.commands)) }
 {
     match piece.mark {
         Some(mark) => {
@@ -93,7 +95,9 @@ fn piece_request(alloc: Global, piece: Piece<'_>) -> Result<Option<Request>, Pie
 /// The request of a piece behind this mark.
 fn marked_request(alloc: Global, mark: Mark<'_>, piece: Piece<'_>) -> Result<Request, PieceStop>
     requires { piece.first_line + length piece.body.now < 2 ^ 32 }
-    ensures turn { MarkedAs result (behind_mark (seen_mark mark.entry) (mark_of mark.entry.content.now) (piece_script (piece_of piece.entry))) }
+    ensures turn { MarkedAs result
+        (behind_mark (seen_mark mark.entry) (mark_of mark.entry.content.now)
+        (piece_script (piece_of piece.entry))) }
     ensures ready { IfOk result (λ request. All IsReady request.commands) }
 {
     groups_are_ready();
@@ -119,7 +123,8 @@ fn marked_request(alloc: Global, mark: Mark<'_>, piece: Piece<'_>) -> Result<Req
 /// Sees that no command stands before the first mark.
 fn nothing_before(alloc: Global, piece: Piece<'_>) -> Result<Option<Request>, PieceStop>
     requires { piece.first_line + length piece.body.now < 2 ^ 32 }
-    ensures turn { TurnAs result (and_then (piece_script (piece_of piece.entry)) (before_marks (piece_of piece.entry))) }
+    ensures turn { TurnAs result (and_then (piece_script (piece_of piece.entry))
+        (before_marks (piece_of piece.entry))) }
     ensures none { IfOk result (λ found. found ≡ None) }
 {
     let commands = piece_commands(alloc, piece)?;

@@ -55,7 +55,8 @@ pub fn read_sections(alloc: Global, bytes: &[u8]) -> Result<Sections, PieceStop>
 /// - `Memory`: memory ran out.
 fn put_section(alloc: Global, piece: Piece<'_>, sections: &mut Sections) -> Result<(), PieceStop>
     requires { piece.first_line + length piece.body.now < 2 ^ 32 }
-    ensures moves { PutAs result (all_moves sections.old) (all_moves sections.new) (piece_moves (piece_of piece.entry)) }
+    ensures moves { PutAs result (all_moves sections.old) (all_moves sections.new)
+        (piece_moves (piece_of piece.entry)) }
     ensures ready { AreReady sections.old → AreReady sections.new }
 {
     let section = piece_section(alloc, piece)?;
@@ -88,7 +89,8 @@ fn piece_section(alloc: Global, piece: Piece<'_>) -> Result<Section, PieceStop>
 fn section_by(alloc: Global, piece: Piece<'_>, undo: Option<u32>) -> Result<Section, PieceStop>
     requires room { piece.first_line + length piece.body.now < 2 ^ 32 }
     requires mark { undo ≡ mark_line (piece_of piece) }
-    ensures moves { SectionAs result (moves_by (piece_of piece.entry) (piece_script (piece_of piece.entry))) }
+    ensures moves { SectionAs result
+        (moves_by (piece_of piece.entry) (piece_script (piece_of piece.entry))) }
     ensures ready { IfOk result (λ section. All IsReady section.commands) }
 {
     groups_are_ready();

@@ -43,13 +43,16 @@ pub fn read_sitting<S: Shelf, L: Ledger>(
     shelf: &mut S,
     steps: &mut Steps<L>,
 ) -> Result<Sitting, Stop>
-    ensures given { IfOk result (λ sitting. Sees S.tells (S.holds shelf.old) (sources_in input.now ++ events.now ∷ []) (λ seen.
-        session_verdict input.now events.now seen ≡ Ok (session_of sitting))) }
+    ensures given { IfOk result (λ sitting. Sees S.tells (S.holds shelf.old)
+        (sources_in input.now ++ events.now ∷ [])
+        (λ seen. session_verdict input.now events.now seen ≡ Ok (session_of sitting))) }
     ensures ready { IfOk result (λ sitting. AreReady sitting.requests) }
     ensures few { IfOk result (λ sitting. AreFew sitting.requests) }
-    ensures refused { OnRefused result (λ line. Sees S.tells (S.holds shelf.old) (sources_in input.now ++ events.now ∷ []) (λ seen.
-        session_verdict input.now events.now seen ≡ Err line)) }
-    ensures unread { UnreadAs result (sources_in input.now ++ events.now ∷ []) (shelf_seen S.Shelf shelf.old shelf.new) }
+    ensures refused { OnRefused result
+        (λ line. Sees S.tells (S.holds shelf.old) (sources_in input.now ++ events.now ∷ [])
+        (λ seen. session_verdict input.now events.now seen ≡ Err line)) }
+    ensures unread { UnreadAs result (sources_in input.now ++ events.now ∷ [])
+        (shelf_seen S.Shelf shelf.old shelf.new) }
     ensures only_read { OnlyRead (shelf_seen S.Shelf shelf.old shelf.new) }
 {
     let paths = paths_with(alloc, input, events)?;
@@ -68,7 +71,8 @@ fn judge_sitting<L: Ledger>(
     held: &mut Vec<Option<Text>>,
     steps: &mut Steps<L>,
 ) -> Result<Sitting, Stop>
-    ensures session { ToldAs session_of result (session_verdict input.now events.now held.old.items) }
+    ensures session { ToldAs session_of result
+        (session_verdict input.now events.now held.old.items) }
     ensures ready { IfOk result (λ sitting. AreReady sitting.requests) }
     ensures few { IfOk result (λ sitting. AreFew sitting.requests) }
 {
@@ -86,7 +90,8 @@ fn judge_behind(
     held: &[Option<Text>],
     bench: Bench,
 ) -> Result<Sitting, Stop>
-    ensures session { ToldAs session_of result (with_turns bench.current (turns_told events.now (held_at held.now 9))) }
+    ensures session { ToldAs session_of result
+        (with_turns bench.current (turns_told events.now (held_at held.now 9))) }
     ensures ready { IfOk result (λ sitting. AreReady sitting.requests) }
     ensures few { IfOk result (λ sitting. AreFew sitting.requests) }
 {
@@ -101,7 +106,8 @@ fn judge_behind(
 /// - `Refused(line)`: the file is absent, too long, or breaks a rule.
 /// - `Memory`: memory ran out.
 fn judge_requests(alloc: Global, path: &[u8], held: Option<&[u8]>) -> Result<Requests, Stop>
-    ensures turns { ToldAs request_turns result (turns_told path.now (option_map (λ bytes. bytes.now) held.entry)) }
+    ensures turns { ToldAs request_turns result
+        (turns_told path.now (option_map (λ bytes. bytes.now) held.entry)) }
     ensures ready { IfOk result AreReady }
     ensures few { IfOk result AreFew }
 {

@@ -42,11 +42,14 @@ pub fn read_trial<S: Shelf, L: Ledger>(
     shelf: &mut S,
     steps: &mut Steps<L>,
 ) -> Result<Trial, Stop>
-    ensures given { IfOk result (λ trial. Sees S.tells (S.holds shelf.old) (sources_in input.now ++ tests.now ∷ []) (λ seen.
-        trial_verdict input.now tests.now seen ≡ Ok trial)) }
-    ensures refused { OnRefused result (λ line. Sees S.tells (S.holds shelf.old) (sources_in input.now ++ tests.now ∷ []) (λ seen.
-        trial_verdict input.now tests.now seen ≡ Err line)) }
-    ensures unread { UnreadAs result (sources_in input.now ++ tests.now ∷ []) (shelf_seen S.Shelf shelf.old shelf.new) }
+    ensures given { IfOk result (λ trial. Sees S.tells (S.holds shelf.old)
+        (sources_in input.now ++ tests.now ∷ [])
+        (λ seen. trial_verdict input.now tests.now seen ≡ Ok trial)) }
+    ensures refused { OnRefused result
+        (λ line. Sees S.tells (S.holds shelf.old) (sources_in input.now ++ tests.now ∷ [])
+        (λ seen. trial_verdict input.now tests.now seen ≡ Err line)) }
+    ensures unread { UnreadAs result (sources_in input.now ++ tests.now ∷ [])
+        (shelf_seen S.Shelf shelf.old shelf.new) }
     ensures only_read { OnlyRead (shelf_seen S.Shelf shelf.old shelf.new) }
 {
     let paths = paths_with(alloc, input, tests)?;
@@ -81,7 +84,8 @@ fn judge_behind(
     held: &[Option<Text>],
     bench: Bench,
 ) -> Result<Trial, Stop>
-    ensures { ToldAs (λ trial. trial) result (with_cases bench (cases_told tests.now (held_at held.now 9))) }
+    ensures { ToldAs (λ trial. trial) result
+        (with_cases bench (cases_told tests.now (held_at held.now 9))) }
 {
     match judge_cases(alloc, tests, held_at(held, SOURCE_FILES.len())) {
         Ok(cases) => Ok(Trial { bench, cases }),
@@ -94,7 +98,8 @@ fn judge_behind(
 /// - `Refused(line)`: the file is absent, too long, or breaks a rule.
 /// - `Memory`: memory ran out.
 fn judge_cases(alloc: Global, path: &[u8], held: Option<&[u8]>) -> Result<Cases, Stop>
-    ensures { ToldAs (λ cases. cases) result (cases_told path.now (option_map (λ bytes. bytes.now) held.entry)) }
+    ensures { ToldAs (λ cases. cases) result
+        (cases_told path.now (option_map (λ bytes. bytes.now) held.entry)) }
 {
     let bytes = match second_file(held) {
         Ok(bytes) => bytes,

@@ -49,7 +49,11 @@ fn plan_with<L: Ledger>(
     steps: &mut Steps<L>,
 ) -> Result<Plan, Memory>
     requires ready { AreReady sections.now }
-    ensures { IfOk result (HasPlan (course_ending output.now (fold after_move (course_of history.old (record { text = []; accepted = 0; undone = 0; refused = 0 })) (all_moves sections.now)))) }
+    ensures { IfOk result (HasPlan
+        (course_ending output.now
+        (fold after_move (course_of history.old
+        (record { text = []; accepted = 0; undone = 0; refused = 0 }))
+        (all_moves sections.now)))) }
 {
     let log = make_moves(alloc, history, sections, steps)?;
     plan_after(alloc, output, history, &log)
@@ -82,7 +86,8 @@ fn put_release(
     history: &History,
     outputs: &mut Vec<Output>,
 ) -> Result<(), Memory>
-    ensures { OnOk result (Puts (release_files folder.now history.now.files) outputs.old.items outputs.new.items) }
+    ensures { OnOk result (Puts (release_files folder.now history.now.files) outputs.old.items
+        outputs.new.items) }
 {
     let bench = history.bench();
     put_sources(alloc, folder, bench, outputs)?;
@@ -96,7 +101,8 @@ fn put_log(
     log: &UndoLog,
     outputs: &mut Vec<Output>,
 ) -> Result<(), Memory>
-    ensures { OnOk result (Puts (undo_log_file folder.now log.now.text ∷ []) outputs.old.items outputs.new.items) }
+    ensures { OnOk result (Puts (undo_log_file folder.now log.now.text ∷ []) outputs.old.items
+        outputs.new.items) }
 {
     put_text(alloc, folder, b"undo.log", log.text.as_slice(), outputs)
 }

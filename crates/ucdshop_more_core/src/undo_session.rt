@@ -27,7 +27,10 @@ pub fn make_moves<L: Ledger>(
     steps: &mut Steps<L>,
 ) -> Result<UndoLog, Memory>
     requires ready { AreReady sections.now }
-    ensures { IfOk result (λ log. course_of history.new log ≡ fold after_move (course_of history.old (record { text = []; accepted = 0; undone = 0; refused = 0 })) (all_moves sections.now)) }
+    ensures { IfOk result (λ log. course_of history.new log
+        ≡ fold after_move (course_of history.old
+        (record { text = []; accepted = 0; undone = 0; refused = 0 }))
+        (all_moves sections.now)) }
 {
     let mut log = UndoLog::new(alloc);
     'sections: for section in sections {
@@ -47,7 +50,8 @@ fn make_section<L: Ledger>(
     steps: &mut Steps<L>,
 ) -> Result<(), Memory>
     requires ready { All IsReady section.now.commands }
-    ensures { OnOk result (course_of history.new log.new ≡ fold after_move (course_of history.old log.old) (section_moves section.now)) }
+    ensures { OnOk result (course_of history.new log.new
+        ≡ fold after_move (course_of history.old log.old) (section_moves section.now)) }
 {
     if let Some(line) = section.undo {
         take_back(alloc, history, line, log, steps)?;
@@ -65,7 +69,8 @@ fn take_back<L: Ledger>(
     log: &mut UndoLog,
     steps: &mut Steps<L>,
 ) -> Result<(), Memory>
-    ensures { OnOk result (course_of history.new log.new ≡ after_move (course_of history.old log.old) (TakeBack line)) }
+    ensures { OnOk result (course_of history.new log.new
+        ≡ after_move (course_of history.old log.old) (TakeBack line)) }
 {
     match history.undo(alloc, steps)? {
         Undone::Back(accepted) => log.take_back(alloc, line, accepted.changed.len()),
@@ -84,7 +89,8 @@ fn carry_groups<L: Ledger>(
     steps: &mut Steps<L>,
 ) -> Result<(), Memory>
     requires ready { All IsReady commands.now }
-    ensures { OnOk result (course_of history.new log.new ≡ fold after_move (course_of history.old log.old) (map group_move commands.now)) }
+    ensures { OnOk result (course_of history.new log.new
+        ≡ fold after_move (course_of history.old log.old) (map group_move commands.now)) }
 {
     'commands: for command in commands {
         carry_group(alloc, history, command, log, steps)?;
@@ -103,7 +109,8 @@ fn carry_group<L: Ledger>(
     steps: &mut Steps<L>,
 ) -> Result<(), Memory>
     requires ready { IsReady command.now }
-    ensures { OnOk result (course_of history.new log.new ≡ after_move (course_of history.old log.old) (group_move command.now)) }
+    ensures { OnOk result (course_of history.new log.new
+        ≡ after_move (course_of history.old log.old) (group_move command.now)) }
 {
     match history.apply(alloc, ops_in(command), steps) {
         Ok(accepted) => log.accept(alloc, command.line, accepted.changed.len()),

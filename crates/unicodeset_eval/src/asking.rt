@@ -59,7 +59,8 @@ pub(crate) fn numbered_set(
     number: u64,
     wanted: bool,
 ) -> Result<PointSet, Memory>
-    ensures { IfOk result (λ set. (c : ℕ) → has set c ≡ (nat_lt c point_count && same_truth wanted (has_at sets.now number c))) }
+    ensures { IfOk result (λ set. (c : ℕ)
+        → has set c ≡ (nat_lt c point_count && same_truth wanted (has_at sets.now number c))) }
 {
     let all = all_points(alloc)?;
     let index = number as usize;
@@ -83,9 +84,12 @@ impl<'b, B: Records> SetIndex<'b, B> {
     ) -> SetIndex<'b, B>
         requires pieces { ArePiecesOf pieces.now (B.record_of bench.now) }
         requires rows { AreRowSets rows.now (rows_now release.now) }
-        requires categories { (c : ℕ) → c < point_count → (B.record_of bench.now c).category ≡ (facts (rows_now release.now) c).category }
-        ensures { (test : TestValue) (c : ℕ) → index_holds B.record_of result test c
-            ≡ (nat_lt c point_count && test_holds (B.record_of bench.now) (rows_now release.now) test c) }
+        requires categories { (c : ℕ) → c < point_count
+            → (B.record_of bench.now c).category ≡ (facts (rows_now release.now) c).category }
+        ensures { (test : TestValue) (c : ℕ)
+            → index_holds B.record_of result test c
+            ≡ (nat_lt c point_count
+            && test_holds (B.record_of bench.now) (rows_now release.now) test c) }
     {
         assigned_have_categories(release);
         SetIndex {

@@ -45,7 +45,8 @@ impl Change {
     ///
     /// - `Memory`: memory ran out.
     fn then(alloc: Global, first: &Change, second: &Change) -> Result<Change, Memory>
-        ensures { IfOk result (λ change. (c : ℕ) (b : Bool) → changed c b change ≡ changed c (changed c b first.now) second.now) }
+        ensures { IfOk result (λ change. (c : ℕ) (b : Bool)
+            → changed c b change ≡ changed c (changed c b first.now) second.now) }
     {
         let keep = PointSet::joined(alloc, Join::Meet, &first.keep, &second.keep)?;
         let add = applied(alloc, &first.add, second)?;
@@ -67,8 +68,10 @@ fn applied(alloc: Global, set: &PointSet, change: &Change) -> Result<PointSet, M
 ///
 /// - `Memory`: memory ran out.
 fn join_last(alloc: Global, changes: &mut Vec<Change>) -> Result<(), Memory>
-    ensures same { OnOk result ((c : ℕ) (b : Bool) → all_changed c b changes.new.items ≡ all_changed c b changes.old.items) }
-    ensures fewer { OnOk result (2 ≤ length changes.old.items → length changes.new.items + 1 ≡ length changes.old.items) }
+    ensures same { OnOk result ((c : ℕ) (b : Bool)
+        → all_changed c b changes.new.items ≡ all_changed c b changes.old.items) }
+    ensures fewer { OnOk result (2 ≤ length changes.old.items
+        → length changes.new.items + 1 ≡ length changes.old.items) }
 {
     if let Some(second) = changes.pop() {
         match changes.pop() {
@@ -92,8 +95,11 @@ pub(crate) fn push_change(
     change: Change,
     before: usize,
 ) -> Result<(), Memory>
-    ensures behind { OnOk result ((c : ℕ) (b : Bool) → all_changed c b changes.new.items ≡ changed c (all_changed c b changes.old.items) change) }
-    ensures carried { OnOk result (length changes.old.items ≡ count_ones before → length changes.new.items ≡ count_ones (before + 1)) }
+    ensures behind { OnOk result ((c : ℕ) (b : Bool)
+        → all_changed c b changes.new.items
+        ≡ changed c (all_changed c b changes.old.items) change) }
+    ensures carried { OnOk result (length changes.old.items ≡ count_ones before
+        → length changes.new.items ≡ count_ones (before + 1)) }
 {
     changes.push(change)?;
     let mut digits = before;

@@ -52,7 +52,8 @@ fn named<T: TestSets>(
     name: &[u8],
     at: usize,
 ) -> Result<PointSet, EvalStop>
-    ensures { Gives has result (tested (T.holds index.now) (fault S8 at) (lone_in aliases.now name.now)) }
+    ensures { Gives has result (tested (T.holds index.now) (fault S8 at)
+        (lone_in aliases.now name.now)) }
 {
     let test = aliases.lone(name);
     tested(alloc, index, test, NameRule::S8, at)
@@ -70,7 +71,8 @@ fn valued<T: TestSets>(
     value: &[u8],
     at: usize,
 ) -> Result<PointSet, EvalStop>
-    ensures { Gives has result (value_members (names_in aliases.now) (T.holds index.now) value.now at (property_in aliases.now property.now)) }
+    ensures { Gives has result (value_members (names_in aliases.now)
+        (T.holds index.now) value.now at (property_in aliases.now property.now)) }
 {
     let Some(property) = aliases.property(property) else {
         return Err(EvalStop::Fault {
@@ -94,7 +96,8 @@ fn changes_of<T: TestSets>(
     parts: &Parts,
 ) -> Result<Vec<Change>, EvalStop>
     ensures { Gives (λ changes. gathered changes.items) result
-        (members_after (names_in aliases.now) (T.holds index.now) nothing (steps_of (parts_view parts.now))) }
+        (members_after (names_in aliases.now) (T.holds index.now) nothing
+        (steps_of (parts_view parts.now))) }
 {
     let mut changes = Vec::new(alloc);
     let mut number = 0;
@@ -121,8 +124,8 @@ fn bracket<T: TestSets>(
     aliases: &Aliases,
     parts: &Parts,
 ) -> Result<PointSet, EvalStop>
-    ensures { Gives has result
-        (members_after (names_in aliases.now) (T.holds index.now) nothing (steps_of (parts_view parts.now))) }
+    ensures { Gives has result (members_after (names_in aliases.now) (T.holds index.now) nothing
+        (steps_of (parts_view parts.now))) }
 {
     match changes_of(alloc, index, aliases, parts) {
         Ok(changes) => Ok(gathered(alloc, changes.as_slice())?),
@@ -141,7 +144,8 @@ fn complement<T: TestSets>(
     aliases: &Aliases,
     expr: &Expr,
 ) -> Result<PointSet, EvalStop>
-    ensures { Gives has result (members (names_in aliases.now) (T.holds index.now) (complement (tree_view expr.now))) }
+    ensures { Gives has result (members (names_in aliases.now) (T.holds index.now)
+        (complement (tree_view expr.now))) }
 {
     match members_of(alloc, index, aliases, expr) {
         Ok(set) => Ok(set.complement()),
@@ -160,7 +164,8 @@ fn members_of<T: TestSets>(
     aliases: &Aliases,
     expr: &Expr,
 ) -> Result<PointSet, EvalStop>
-    ensures { Gives has result (members (names_in aliases.now) (T.holds index.now) (tree_view expr.now)) }
+    ensures { Gives has result (members (names_in aliases.now) (T.holds index.now)
+        (tree_view expr.now)) }
 {
     match expr {
         Expr::Chars(span) => Ok(PointSet::of_span(alloc, *span)?),
@@ -197,7 +202,8 @@ pub fn eval_over<T: TestSets>(
     expr: &Expr,
 ) -> Result<Spans, EvalStop>
     ensures { (s : Sources) → AreAliasesOf aliases.now s
-        → Gives (λ spans. spans) result (answer s (T.holds index.now) point_count (tree_view expr.now)) }
+        → Gives (λ spans. spans) result
+        (answer s (T.holds index.now) point_count (tree_view expr.now)) }
 {
     match members_of(alloc, index, aliases, expr) {
         Ok(set) => Ok(set.spans(alloc)?),

@@ -58,8 +58,10 @@ fn layers_of(alloc: Global, values: &FileValues) -> Result<Vec<Layer>, Memory>
 /// - `Memory`: memory ran out.
 fn push_pieces(buckets: &mut Vec<Spans>, pieces: &[Layer]) -> Result<(), Memory>
     ensures len { OnOk result (length buckets.new.items ≡ length buckets.old.items) }
-    ensures spans { OnOk result ((i c : ℕ) → i < length buckets.old.items → list_any (within c) (bucket buckets.new.items i)
-        ≡ (list_any (within c) (bucket buckets.old.items i) || list_any (puts i c) pieces.now)) }
+    ensures spans { OnOk result ((i c : ℕ) → i < length buckets.old.items
+        → list_any (within c) (bucket buckets.new.items i)
+        ≡ (list_any (within c) (bucket buckets.old.items i)
+        || list_any (puts i c) pieces.now)) }
 {
     'pieces: for piece in pieces {
         push_at(buckets, piece.word as usize, piece.span)?;
@@ -71,9 +73,10 @@ fn push_pieces(buckets: &mut Vec<Spans>, pieces: &[Layer]) -> Result<(), Memory>
 ///
 /// - `Memory`: memory ran out.
 pub(crate) fn layered_spans(alloc: Global, values: &FileValues) -> Result<Vec<Spans>, Memory>
-    ensures { IfOk result (λ buckets. (default : List ℕ) (rows : List Row) → AreValues values.now (numbered default rows) rows
-        → AreValuesApart rows → (i c : ℕ) → c < 1114112
-        → list_any (within c) (bucket buckets.items i) ≡ is_numbered (numbered default rows) i (value_at rows default c)) }
+    ensures { IfOk result (λ buckets. (default : List ℕ) (rows : List Row)
+        → AreValues values.now (numbered default rows) rows → AreValuesApart rows → (i c : ℕ)
+        → c < 1114112 → list_any (within c) (bucket buckets.items i)
+        ≡ is_numbered (numbered default rows) i (value_at rows default c)) }
 {
     let layers = layers_of(alloc, values)?;
     let pieces = pieces(alloc, 0, layers.as_slice())?;

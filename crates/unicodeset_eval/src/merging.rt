@@ -75,7 +75,8 @@ pub(crate) fn merge(
     second_starts: bool,
     second: &[u32],
 ) -> Result<Vec<u32>, Memory>
-    ensures { IfOk result (λ edges. edges.items ≡ merge (holds join) first_starts first.now second_starts second.now) }
+    ensures { IfOk result (λ edges. edges.items
+        ≡ merge (holds join) first_starts first.now second_starts second.now) }
 {
     let mut edges = Vec::new(alloc);
     let (mut a, mut left) = (first_starts, first);

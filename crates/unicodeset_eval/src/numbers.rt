@@ -32,8 +32,10 @@ pub(crate) fn buckets(alloc: Global, count: usize) -> Result<Vec<Spans>, Memory>
 /// - `Memory`: memory ran out.
 pub(crate) fn push_at(buckets: &mut Vec<Spans>, number: usize, span: Span) -> Result<(), Memory>
     ensures len { OnOk result (length buckets.new.items ≡ length buckets.old.items) }
-    ensures spans { OnOk result ((i c : ℕ) → i < length buckets.old.items → list_any (within c) (bucket buckets.new.items i)
-        ≡ (list_any (within c) (bucket buckets.old.items i) || (nat_eq number i && within c span))) }
+    ensures spans { OnOk result ((i c : ℕ) → i < length buckets.old.items
+        → list_any (within c) (bucket buckets.new.items i)
+        ≡ (list_any (within c) (bucket buckets.old.items i)
+        || (nat_eq number i && within c span))) }
 {
     if number < buckets.len() {
         buckets[number].push(span)?;
@@ -46,7 +48,8 @@ pub(crate) fn push_at(buckets: &mut Vec<Spans>, number: usize, span: Span) -> Re
 /// - `Memory`: memory ran out.
 fn push_rows(buckets: &mut Vec<Spans>, rows: &[NumberedRow]) -> Result<(), Memory>
     ensures len { OnOk result (length buckets.new.items ≡ length buckets.old.items) }
-    ensures spans { OnOk result ((i c : ℕ) → i < length buckets.old.items → list_any (within c) (bucket buckets.new.items i)
+    ensures spans { OnOk result ((i c : ℕ) → i < length buckets.old.items
+        → list_any (within c) (bucket buckets.new.items i)
         ≡ (list_any (within c) (bucket buckets.old.items i) || list_any (is_of i c) rows.now)) }
 {
     'rows: for row in rows {
@@ -59,10 +62,13 @@ fn push_rows(buckets: &mut Vec<Spans>, rows: &[NumberedRow]) -> Result<(), Memor
 ///
 /// - `Memory`: memory ran out.
 pub(crate) fn spans_by_number(alloc: Global, values: &FileValues) -> Result<Vec<Spans>, Memory>
-    ensures distinct { OnOk result (IsDistinct (λ x y. bytes_eq x.items y.items) values.now.names.keys) }
+    ensures distinct { OnOk result
+        (IsDistinct (λ x y. bytes_eq x.items y.items) values.now.names.keys) }
     ensures len { IfOk result (λ buckets. length buckets.items ≡ length values.now.names.keys) }
-    ensures spans { IfOk result (λ buckets. (rows : List ValueRow) → AreNumbered (names_in values.now.names) values.now.rows.items rows
-        → (i c : ℕ) → list_any (within c) (bucket buckets.items i) ≡ given (names_in values.now.names) rows i c) }
+    ensures spans { IfOk result (λ buckets. (rows : List ValueRow)
+        → AreNumbered (names_in values.now.names) values.now.rows.items rows → (i c : ℕ)
+        → list_any (within c) (bucket buckets.items i)
+        ≡ given (names_in values.now.names) rows i c) }
 {
     let mut buckets = buckets(alloc, values.count())?;
     push_rows(&mut buckets, values.rows())?;

@@ -88,7 +88,8 @@ fn put_again<B: Records>(
 ) -> Result<u32, Memory>
     requires ordered { piece.now.first ≤ end }
     requires within { end ≤ 1114112 }
-    requires alike { IsAlikeBut (B.record_of bench.now) (has changed.now) piece.now.first end piece.now.values }
+    requires alike { IsAlikeBut (B.record_of bench.now)
+        (has changed.now) piece.now.first end piece.now.values }
     requires next { NoneBefore (has changed.now) piece.now.first next }
     requires before { AreCutTo (B.record_of bench.now) piece.now.first made.old.items }
     ensures put { OnOk result (AreCutTo (B.record_of bench.now) end made.new.items) }
@@ -114,7 +115,8 @@ fn put_alike(
     made: &mut Vec<Piece>,
 ) -> Result<(), Memory>
     requires { from ≤ end }
-    ensures { OnOk result ((R : ℕ → Record) → IsAlikeIn R from end values → AreCutTo R from made.old.items → AreCutTo R end made.new.items) }
+    ensures { OnOk result ((R : ℕ → Record) → IsAlikeIn R from end values
+        → AreCutTo R from made.old.items → AreCutTo R end made.new.items) }
 {
     if from < end {
         made.push(Piece {

@@ -91,7 +91,8 @@ impl PointSet {
         first: &PointSet,
         second: &PointSet,
     ) -> Result<PointSet, Memory>
-        ensures { IfOk result (λ set. (c : ℕ) → has set c ≡ joined join (has first.now) (has second.now) c) }
+        ensures { IfOk result (λ set. (c : ℕ)
+            → has set c ≡ joined join (has first.now) (has second.now) c) }
     {
         Ok(PointSet {
             starts: holds(join, first.starts, second.starts),

@@ -75,7 +75,8 @@ pub(crate) fn values_of(shown: &Record) -> PropertyValues
 ///
 /// - `Memory`: memory ran out.
 fn pieces_of<B: Records>(alloc: Global, bench: &B, spans: &[Span]) -> Result<Vec<Piece>, Memory>
-    ensures { IfOk result (λ pieces. map piece_value pieces.items ≡ map (piece_at (B.record_of bench.now)) spans.now) }
+    ensures { IfOk result (λ pieces. map piece_value pieces.items
+        ≡ map (piece_at (B.record_of bench.now)) spans.now) }
 {
     let mut pieces = Vec::new(alloc);
     'spans: for span in spans {

@@ -38,9 +38,12 @@ pub fn eval<B: Records>(
     expr: &Expr,
 ) -> Result<Spans, EvalStop>
     requires aliases { AreAliasesOf aliases.now (sources_of release.now) }
-    requires categories { (c : ℕ) → c < point_count → (B.record_of bench.now c).category ≡ (facts (rows_now release.now) c).category }
+    requires categories { (c : ℕ) → c < point_count
+        → (B.record_of bench.now c).category ≡ (facts (rows_now release.now) c).category }
     ensures { Gives (λ spans. spans) result
-        (answer (sources_of release.now) (release_tests (B.record_of bench.now) (rows_now release.now)) point_count (tree_view expr.now)) }
+        (answer (sources_of release.now)
+        (release_tests (B.record_of bench.now) (rows_now release.now)) point_count
+        (tree_view expr.now)) }
 {
     let numbers = ValueNumbers::of(alloc, release)?;
     eval_numbered(alloc, bench, release, &numbers, aliases, expr)
@@ -58,9 +61,12 @@ fn eval_numbered<B: Records>(
 ) -> Result<Spans, EvalStop>
     requires numbers { AreNumbersOf numbers.now (rows_now release.now) }
     requires aliases { AreAliasesOf aliases.now (sources_of release.now) }
-    requires categories { (c : ℕ) → c < point_count → (B.record_of bench.now c).category ≡ (facts (rows_now release.now) c).category }
+    requires categories { (c : ℕ) → c < point_count
+        → (B.record_of bench.now c).category ≡ (facts (rows_now release.now) c).category }
     ensures { Gives (λ spans. spans) result
-        (answer (sources_of release.now) (release_tests (B.record_of bench.now) (rows_now release.now)) point_count (tree_view expr.now)) }
+        (answer (sources_of release.now)
+        (release_tests (B.record_of bench.now) (rows_now release.now)) point_count
+        (tree_view expr.now)) }
 {
     let rows = RowSets::of(alloc, release, numbers)?;
     eval_by(alloc, bench, release, &rows, aliases, expr)
@@ -77,9 +83,12 @@ fn eval_by<B: Records>(
 ) -> Result<Spans, EvalStop>
     requires rows { AreRowSets rows.now (rows_now release.now) }
     requires aliases { AreAliasesOf aliases.now (sources_of release.now) }
-    requires categories { (c : ℕ) → c < point_count → (B.record_of bench.now c).category ≡ (facts (rows_now release.now) c).category }
+    requires categories { (c : ℕ) → c < point_count
+        → (B.record_of bench.now c).category ≡ (facts (rows_now release.now) c).category }
     ensures { Gives (λ spans. spans) result
-        (answer (sources_of release.now) (release_tests (B.record_of bench.now) (rows_now release.now)) point_count (tree_view expr.now)) }
+        (answer (sources_of release.now)
+        (release_tests (B.record_of bench.now) (rows_now release.now)) point_count
+        (tree_view expr.now)) }
 {
     let spans = equal_pieces(alloc, bench)?;
     let pieces = RecordPieces::of(alloc, bench, spans.as_slice())?;

@@ -28,10 +28,13 @@ fn behind_again(
     kept: Vec<PointSet>,
 ) -> Result<Vec<PointSet>, Memory>
     requires some { 0 < length values.now.names.keys }
-    ensures { IfOk result (λ sets. (default : List ℕ) (rows : List Row) → AreValues values.now (numbered default rows) rows
-        → AreValuesApart rows
-        → (edited ≡ false → (i c : ℕ) → c < 1114112 → has_at kept.items i c ≡ is_numbered (numbered default rows) i (value_at rows default c))
-        → (i c : ℕ) → c < 1114112 → has_at sets.items i c ≡ is_numbered (numbered default rows) i (value_at rows default c)) }
+    ensures { IfOk result (λ sets. (default : List ℕ) (rows : List Row)
+        → AreValues values.now (numbered default rows) rows → AreValuesApart rows
+        → (edited ≡ false → (i c : ℕ) → c < 1114112
+        → has_at kept.items i c
+        ≡ is_numbered (numbered default rows) i (value_at rows default c)) → (i c : ℕ)
+        → c < 1114112 → has_at sets.items i c
+        ≡ is_numbered (numbered default rows) i (value_at rows default c)) }
 {
     if !edited {
         return Ok(kept);

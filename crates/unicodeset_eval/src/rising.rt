@@ -46,7 +46,8 @@ pub(crate) fn rising_union(
     first: Span,
     others: &[Span],
 ) -> Result<Option<PointSet>, Memory>
-    ensures { IfOk result (λ set. IfSome set (λ s. (c : ℕ) → has s c ≡ list_any (within c) (first ∷ others.now))) }
+    ensures { IfOk result (λ set. IfSome set (λ s. (c : ℕ)
+        → has s c ≡ list_any (within c) (first ∷ others.now))) }
 {
     let mut edges = front_edges(alloc, first.first())?;
     let mut end = first.last() + 1;

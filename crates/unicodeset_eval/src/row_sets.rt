@@ -43,7 +43,8 @@ pub struct RowSets {
 /// - `Memory`: memory ran out.
 fn unions(alloc: Global, buckets: &[Spans]) -> Result<Vec<PointSet>, Memory>
     ensures len { IfOk result (λ sets. length sets.items ≡ length buckets.now) }
-    ensures has { IfOk result (λ sets. (i c : ℕ) → has_at sets.items i c ≡ list_any (within c) (bucket buckets.now i)) }
+    ensures has { IfOk result (λ sets. (i c : ℕ)
+        → has_at sets.items i c ≡ list_any (within c) (bucket buckets.now i)) }
 {
     let mut sets = Vec::new(alloc);
     'buckets: for spans in buckets {
@@ -56,10 +57,12 @@ fn unions(alloc: Global, buckets: &[Spans]) -> Result<Vec<PointSet>, Memory>
 ///
 /// - `Memory`: memory ran out.
 fn sets_by_number(alloc: Global, values: &FileValues) -> Result<Vec<PointSet>, Memory>
-    ensures distinct { OnOk result (IsDistinct (λ x y. bytes_eq x.items y.items) values.now.names.keys) }
+    ensures distinct { OnOk result
+        (IsDistinct (λ x y. bytes_eq x.items y.items) values.now.names.keys) }
     ensures len { IfOk result (λ sets. length sets.items ≡ length values.now.names.keys) }
-    ensures has { IfOk result (λ sets. (rows : List ValueRow) → AreNumbered (names_in values.now.names) values.now.rows.items rows
-        → (i c : ℕ) → has_at sets.items i c ≡ given (names_in values.now.names) rows i c) }
+    ensures has { IfOk result (λ sets. (rows : List ValueRow)
+        → AreNumbered (names_in values.now.names) values.now.rows.items rows → (i c : ℕ)
+        → has_at sets.items i c ≡ given (names_in values.now.names) rows i c) }
 {
     let buckets = spans_by_number(alloc, values)?;
     let sets = unions(alloc, buckets.as_slice())?;
@@ -70,8 +73,9 @@ fn sets_by_number(alloc: Global, values: &FileValues) -> Result<Vec<PointSet>, M
 ///
 /// - `Memory`: memory ran out.
 fn uncovered(alloc: Global, rows: &[NumberedRow]) -> Result<PointSet, Memory>
-    ensures { IfOk result (λ set. (names : List (List ℕ)) (given : List ValueRow) → AreNumbered names rows.now given
-        → (c : ℕ) → has set c ≡ not (list_any (covers c) given)) }
+    ensures { IfOk result (λ set. (names : List (List ℕ)) (given : List ValueRow)
+        → AreNumbered names rows.now given → (c : ℕ)
+        → has set c ≡ not (list_any (covers c) given)) }
 {
     let spans = row_spans(alloc, rows)?;
     let covered = union_of(alloc, spans.as_slice())?;
@@ -89,7 +93,9 @@ fn add_at(
     more: &PointSet,
 ) -> Result<(), Memory>
     requires { number < length sets.old.items }
-    ensures { OnOk result ((i c : ℕ) → has_at sets.new.items i c ≡ (has_at sets.old.items i c || (nat_eq number i && has more.now c))) }
+    ensures { OnOk result ((i c : ℕ)
+        → has_at sets.new.items i c
+        ≡ (has_at sets.old.items i c || (nat_eq number i && has more.now c))) }
 {
     let joined = PointSet::joined(alloc, Join::Union, &sets[number], more)?;
     sets[number] = joined;
@@ -103,9 +109,10 @@ fn add_at(
 fn plain_sets(alloc: Global, values: &FileValues) -> Result<Vec<PointSet>, Memory>
     requires some { 0 < length values.now.names.keys }
     requires missing { list_any is_other values.now.missing.items ≡ false }
-    ensures { IfOk result (λ sets. (default : List ℕ) (rows : List Row) → AreValues values.now (numbered default rows) rows
-        → AreValuesApart rows
-        → (i c : ℕ) → has_at sets.items i c ≡ is_numbered (numbered default rows) i (value_at rows default c)) }
+    ensures { IfOk result (λ sets. (default : List ℕ) (rows : List Row)
+        → AreValues values.now (numbered default rows) rows → AreValuesApart rows → (i c : ℕ)
+        → has_at sets.items i c
+        ≡ is_numbered (numbered default rows) i (value_at rows default c)) }
 {
     let mut sets = sets_by_number(alloc, values)?;
     let rest = uncovered(alloc, values.rows())?;
@@ -117,9 +124,10 @@ fn plain_sets(alloc: Global, values: &FileValues) -> Result<Vec<PointSet>, Memor
 ///
 /// - `Memory`: memory ran out.
 fn layered_sets(alloc: Global, values: &FileValues) -> Result<Vec<PointSet>, Memory>
-    ensures { IfOk result (λ sets. (default : List ℕ) (rows : List Row) → AreValues values.now (numbered default rows) rows
-        → AreValuesApart rows → (i c : ℕ) → c < 1114112
-        → has_at sets.items i c ≡ is_numbered (numbered default rows) i (value_at rows default c)) }
+    ensures { IfOk result (λ sets. (default : List ℕ) (rows : List Row)
+        → AreValues values.now (numbered default rows) rows → AreValuesApart rows → (i c : ℕ)
+        → c < 1114112 → has_at sets.items i c
+        ≡ is_numbered (numbered default rows) i (value_at rows default c)) }
 {
     let buckets = layered_spans(alloc, values)?;
     let sets = unions(alloc, buckets.as_slice())?;
@@ -131,9 +139,10 @@ fn layered_sets(alloc: Global, values: &FileValues) -> Result<Vec<PointSet>, Mem
 /// - `Memory`: memory ran out.
 pub(crate) fn sets_behind(alloc: Global, values: &FileValues) -> Result<Vec<PointSet>, Memory>
     requires some { 0 < length values.now.names.keys }
-    ensures { IfOk result (λ sets. (default : List ℕ) (rows : List Row) → AreValues values.now (numbered default rows) rows
-        → AreValuesApart rows → (i c : ℕ) → c < 1114112
-        → has_at sets.items i c ≡ is_numbered (numbered default rows) i (value_at rows default c)) }
+    ensures { IfOk result (λ sets. (default : List ℕ) (rows : List Row)
+        → AreValues values.now (numbered default rows) rows → AreValuesApart rows → (i c : ℕ)
+        → c < 1114112 → has_at sets.items i c
+        ≡ is_numbered (numbered default rows) i (value_at rows default c)) }
 {
     if gives_others(values.missing()) {
         let sets = layered_sets(alloc, values)?;

@@ -101,7 +101,8 @@ fn at_first(test: Test, pieces: &[Piece]) -> bool
 ///
 /// - `Memory`: memory ran out.
 fn turns(alloc: Global, pieces: &[Piece], test: Test, starts: bool) -> Result<Vec<u32>, Memory>
-    ensures { IfOk result (λ edges. edges.items ≡ piece_turns point_count (tells test) starts (map piece_value pieces.now)) }
+    ensures { IfOk result (λ edges. edges.items
+        ≡ piece_turns point_count (tells test) starts (map piece_value pieces.now)) }
 {
     let mut edges = Vec::new(alloc);
     let mut inside = starts;
@@ -119,7 +120,9 @@ impl<'b, B: Records> SetIndex<'b, B> {
     ///
     /// - `Memory`: memory ran out.
     pub(crate) fn set_over(&self, alloc: Global, test: Test) -> Result<PointSet, Memory>
-        ensures { IfOk result (λ set. (c : ℕ) → has set c ≡ (nat_lt c point_count && tells test (B.record_of self.now.bench.now c))) }
+        ensures { IfOk result (λ set. (c : ℕ)
+            → has set c ≡ (nat_lt c point_count
+            && tells test (B.record_of self.now.bench.now c))) }
     {
         let pieces = self.pieces;
         let starts = at_first(test, pieces);

@@ -74,7 +74,8 @@ impl Parts {
     ///
     /// - `Memory`: memory ran out. The steps stay as they were, and the new one is dropped.
     pub fn push(&mut self, part: Part) -> Result<(), Memory>
-        ensures ok { OnOk result (parts_view self.new ≡ parts_view self.old ++ part_view part ∷ []) }
+        ensures ok { OnOk result (parts_view self.new ≡ parts_view self.old ++ part_view part
+            ∷ []) }
         ensures err { OnErr result (parts_view self.new ≡ parts_view self.old) }
     {
         self.items.push(part)?;

@@ -64,8 +64,8 @@ pub(crate) fn put(join: Join, part: Expr, nest: Nest) -> Result<Nest, Memory>
 
 /// One more character of the innermost bracket set, in union.
 pub(crate) fn put_letter(letter: Point, nest: Nest) -> Result<Nest, Memory>
-    ensures frame { IfOk result
-        (λ more. frame_view more.frame ≡ put Union (range_of letter letter) (frame_view nest.frame)) }
+    ensures frame { IfOk result (λ more. frame_view more.frame
+        ≡ put Union (range_of letter letter) (frame_view nest.frame)) }
     ensures around { IfOk result
         (λ more. frames_view more.around.items ≡ frames_view nest.around.items) }
 {

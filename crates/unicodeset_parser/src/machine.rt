@@ -45,7 +45,8 @@ fn operand(
     token: Token,
 ) -> Result<State, SetStop>
     ensures { Gives state_view result
-        (operand join end (frame_view nest.frame) (frames_view nest.around.items) (placed at (sign_view token))) }
+        (operand join end (frame_view nest.frame) (frames_view nest.around.items)
+        (placed at (sign_view token))) }
 {
     match token {
         Token::Open(negated) => opened(alloc, at, negated, join, nest),
@@ -58,7 +59,8 @@ fn operand(
 /// A token where an element is due.
 fn element(alloc: Global, end: usize, nest: Nest, at: usize, token: Token) -> Result<State, SetStop>
     ensures { Gives state_view result
-        (element end (frame_view nest.frame) (frames_view nest.around.items) (placed at (sign_view token))) }
+        (element end (frame_view nest.frame) (frames_view nest.around.items)
+        (placed at (sign_view token))) }
 {
     match token {
         Token::Open(negated) => opened(alloc, at, negated, Join::Union, nest),
@@ -86,7 +88,8 @@ fn first_element(
     token: Token,
 ) -> Result<State, SetStop>
     ensures { Gives state_view result
-        (first_element end (frame_view nest.frame) (frames_view nest.around.items) (placed at (sign_view token))) }
+        (first_element end (frame_view nest.frame) (frames_view nest.around.items)
+        (placed at (sign_view token))) }
 {
     match token {
         Token::Dash => Ok(State::Within(Mode::Pending(hyphen()), nest)),
@@ -103,7 +106,8 @@ fn operator(
     token: Token,
 ) -> Result<State, SetStop>
     ensures { Gives state_view result
-        (operator end (frame_view nest.frame) (frames_view nest.around.items) (placed at (sign_view token))) }
+        (operator end (frame_view nest.frame) (frames_view nest.around.items)
+        (placed at (sign_view token))) }
 {
     match token {
         Token::Dash => Ok(State::Within(Mode::Due(Join::Minus), nest)),

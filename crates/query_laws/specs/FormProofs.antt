@@ -8,7 +8,7 @@
 -- same_forms          the law of the same name
 -- form_rows           the members of the ordered expansions, and of these composed, have the same facts
 use Rattle.std.proofs.Common.{◌≡◌, ℕ, Bool, true, ◌&&◌, not, ◌==◌, List, [], ◌∷◌, ◌++◌, Option, Some, None, Result, Ok, Err, refl, sym, ap, ◌∙◌, subst}
-use Rattle.std.specs.List.{AllByRecursion as All, flat_map}
+use Rattle.std.specs.List.{AllByRecursion, flat_map}
 use Rattle.std.proofs.lemmas.Bool.{and_parts, eqb-true}
 use Rattle.ucd_model.specs.CanonicalOrder.{class_of, order}
 use Rattle.ucd_facts.specs.CompositeLaws.{IsPair}
@@ -16,7 +16,7 @@ use Rattle.ucd_facts.specs.CompositeProofs.{pair_is_least}
 use Rattle.ucd_facts.specs.Composites.{is_canonical, first_has_class_zero, primary, pair_of}
 use Rattle.ucd_model.specs.Composition.{Split, reached, with_composite, with_point, composed_with, compose_onto, compose}
 use Rattle.ucd_facts.specs.Facts.{Facts}
-use Rattle.ucd_model.specs.MemberProofs.{Cut, Each-append as All-append, Each-to as All-to, Each-order as All-order, order_same, composite_each, reached_parts, reached_same}
+use Rattle.ucd_model.specs.MemberProofs.{Cut, Each-append, Each-to, Each-order as order_members, order_same, composite_each, reached_parts, reached_same}
 use Rattle.ucd_model.specs.Forms.{expansions, in_order, composed, decomposed}
 use Rattle.ucd_facts.specs.declared.form.Bad.{Bad as Rule}
 use Rattle.ucd_facts.specs.Answers.{SameAnswer, Each}
@@ -28,7 +28,7 @@ use Rattle.query_laws.specs.Questions.{whole_tree, row_queries, tried_at, tries_
 -- ---- order
 
 pub Each-order : (P : ℕ → Type 0) (f : ℕ → ℕ) (xs : List ℕ) → Each P xs → Each P (order f xs)
-Each-order P f xs e = from_all P (order f xs) (All-order P f xs (to_all P xs e))
+Each-order P f xs e = from_all P (order f xs) (order_members P f xs (to_all P xs e))
 
 -- ---- composites
 
@@ -54,15 +54,15 @@ module _ (F G : ℕ → Facts) where
   composite_same : (s y q : ℕ) → pair_of F s y ≡ pair_of G s y → pair_of F s y ≡ Some q → Same q
   composite_same s y q same e = composites_are_starters F s y q e ∙ sym (composites_are_starters G s y q (sym same ∙ e))
 
-  made_same : (xs : List ℕ) (y : ℕ) (cut : Option Split) → Each (SameAnswer F G) (tried_at cut y) → All Same xs → Same y → Cut Same cut → All Same (with_point (pair_of F) xs y cut)
+  made_same : (xs : List ℕ) (y : ℕ) (cut : Option Split) → Each (SameAnswer F G) (tried_at cut y) → AllByRecursion Same xs → Same y → Cut Same cut → AllByRecursion Same (with_point (pair_of F) xs y cut)
   made_same xs y (Some cut) a e last c = composite_each Same (class_of F) xs y cut (pair_of F cut.starter y) (λ q made. composite_same cut.starter y q a.0 made) last e c
-  made_same xs y None a e last c = All-append Same xs (y ∷ []) e (last, tt)
+  made_same xs y None a e last c = Each-append Same xs (y ∷ []) e (last, tt)
 
   record SameComposing (done rest : List ℕ) : Type 0 where
     list : compose_onto (class_of G) (pair_of G) done rest ≡ compose_onto (class_of F) (pair_of F) done rest
     tried : tries_onto (class_of G) (pair_of G) done rest ≡ tries_onto (class_of F) (pair_of F) done rest
 
-  composing_same : (done rest : List ℕ) → All Same done → All Same rest → Each (SameAnswer F G) (tries_onto (class_of F) (pair_of F) done rest) → SameComposing done rest
+  composing_same : (done rest : List ℕ) → AllByRecursion Same done → AllByRecursion Same rest → Each (SameAnswer F G) (tries_onto (class_of F) (pair_of F) done rest) → SameComposing done rest
   composing_same done [] d r a = record { list = refl; tried = refl }
   composing_same done (y ∷ rest) d r a =
       let cut : Option Split = reached (class_of F) done y in
@@ -80,8 +80,8 @@ module _ (F G : ℕ → Facts) where
 
   -- ---- the forms
 
-  rows_classes : (xs : List ℕ) → SameRows F G xs → All Same xs
-  rows_classes xs e = All-to (λ x. F x ≡ G x) Same (λ x same. ap (λ (facts : Facts). facts.class) same) xs (to_all (λ x. F x ≡ G x) xs e)
+  rows_classes : (xs : List ℕ) → SameRows F G xs → AllByRecursion Same xs
+  rows_classes xs e = Each-to (λ x. F x ≡ G x) Same (λ x same. ap (λ (facts : Facts). facts.class) same) xs (to_all (λ x. F x ≡ G x) xs e)
 
   ordered_same : (r : Result (List ℕ) Rule) → ((xs : List ℕ) → r ≡ Ok xs → SameRows F G xs) → in_order G r ≡ in_order F r
   ordered_same (Ok xs) rows = ap (λ ys. Ok ys) (sym (order_same (class_of F) (class_of G) xs (rows_classes xs (rows xs refl))))

@@ -5,7 +5,7 @@ use Rattle.std.proofs.Common.{◌≡◌, ◌≢◌, ◌≤◌, ◌<◌, ℕ, ◌
 use Rattle.std.proofs.lemmas.List.{take_all}
 use Rattle.std.specs.Prelude.{if◌then◌else◌}
 use Rattle.ucd_points.specs.Lines.{LineEnding, LineItem, cr_lf, ending_bytes, item_bytes, items_of, joined, lf, unended}
-use Rattle.ucd_lines.specs.Laws.{AreLines, EmptyTextHasNoLine, EndingsAreToldApart, IsLine, LinesAreUnique, NoLineFeedInside, OnlyTheLastIsUnended}
+use Rattle.ucd_lines.specs.Laws.{AreLines, EndingsAreToldApart, IsLine, LinesAreUnique, NoLineFeedInside, OnlyTheLastIsUnended}
 use Rattle.script_pieces.specs.Pieces.{Cut, Mark, cut, is_mark, marked_piece, pieces_from}
 
 -- ---- the text behind a line
@@ -79,9 +79,6 @@ if_so true a b e = refl
 if_so false a b e = absurd cc
 
 module _ (n : ℕ) (item : LineItem) (lines : List LineItem) where
-  behind_cut : Cut
-  behind_cut = cut (n + 1) lines
-
   pub other_line : is_mark item ≡ false → cut n (item ∷ lines) ≡ record { front = item ∷ (cut (n + 1) lines).front; marked = (cut (n + 1) lines).marked }
   other_line = if_not (is_mark item) _ _
 
@@ -97,11 +94,6 @@ pub record IsReached (text : List ℕ) (first : ℕ) (rest : List ℕ) (line : �
   pub front : joined (cut first (items_of text)).front ≡ before text rest ++ joined (cut line (items_of rest)).front
   pub marked : (cut first (items_of text)).marked ≡ (cut line (items_of rest)).marked
   pub lines : line + length rest ≤ first + length text
-
-pub reached_first : (text : List ℕ) (first : ℕ) → IsReached text first text first
-reached_first text first =
-    let none : before text text ≡ [] = before_is [] text text refl in
-    record { whole = rw none refl; front = rw none refl; marked = refl; lines = omega arith }
 
 module _ (text : List ℕ) (first : ℕ) (rest : List ℕ) (line : ℕ) (at : IsReached text first rest line) where
   module _ (item : LineItem) (behind : List ℕ) (is : items_of rest ≡ item ∷ items_of behind) (bytes : rest ≡ item_bytes item ++ behind) (less : length behind < length rest) where
@@ -128,11 +120,3 @@ module _ (text : List ℕ) (first : ℕ) (rest : List ℕ) (line : ℕ) (at : Is
         ap (λ (body : List ℕ). record { mark = mark; first_line = first; body = body } ∷ map marked_piece (cut first (items_of text)).marked)
         (at.front ∙ ap (λ (it : Cut). before text rest ++ joined it.front) same ∙ append-nil (before text rest))
         ∙ ap (λ ms. record { mark = mark; first_line = first; body = before text rest } ∷ map marked_piece ms) (at.marked ∙ ap (λ (it : Cut). it.marked) same)
-
-  pub last_piece : EmptyTextHasNoLine → rest ≡ [] → (mark : Option Mark) → pieces_from mark first (items_of text) ≡ record { mark = mark; first_line = first; body = text } ∷ []
-  last_piece empty none mark =
-      let left : items_of rest ≡ [] = ap items_of none ∙ empty in
-      let all : before text rest ≡ text = sym (append-nil (before text rest)) ∙ ap (λ (it : List ℕ). before text rest ++ it) (sym none) ∙ sym at.whole in
-      ap (λ (body : List ℕ). record { mark = mark; first_line = first; body = body } ∷ map marked_piece (cut first (items_of text)).marked)
-      (at.front ∙ ap (λ (it : List LineItem). before text rest ++ joined (cut line it).front) left ∙ append-nil (before text rest) ∙ all)
-      ∙ ap (λ ms. record { mark = mark; first_line = first; body = text } ∷ map marked_piece ms) (at.marked ∙ ap (λ (it : List LineItem). (cut line it).marked) left)

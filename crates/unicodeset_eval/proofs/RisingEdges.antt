@@ -2,10 +2,9 @@
 --
 -- IsOpen b xs          behind these edges numbers are in, where b says it of those before them
 -- IsRising b xs e p    these edges rise, with one more that closes the last span, and are those of p
--- first_rises          so it is of the first span
 -- next_rises           and with one more span, as a loop takes it
 -- so_far               what the first span has, and so many of the others
-use Rattle.std.proofs.Common.{◌≡◌, ℕ, ◌+◌, ◌<◌, ◌≤◌, Bool, true, false, not, ◌||◌, leb, List, [], ◌∷◌, ◌++◌, length, take, get_or, refl, sym, ap, ◌∙◌, arith, inl, inr}
+use Rattle.std.proofs.Common.{◌≡◌, ℕ, ◌+◌, ◌<◌, ◌≤◌, Bool, true, false, not, ◌||◌, List, [], ◌∷◌, ◌++◌, length, take, get_or, refl, sym, ap, ◌∙◌, arith, inl, inr}
 use Rattle.std.specs.List.{list_any}
 use Rattle.std.proofs.lemmas.Bool.{cases_lt, lt-ltb, le-ltb}
 use Rattle.std.proofs.lemmas.Bool.Decides.{nat_tests}
@@ -13,7 +12,7 @@ use Rattle.std.proofs.lemmas.List.Folds.{list_any_more}
 use Rattle.ucd_points.specs.Bounds.{Bounds}
 use Rattle.ucd_facts.specs.Facts.{within}
 use Rattle.unicodeset_eval.specs.Edges.{inside, Rises}
-use Rattle.unicodeset_eval.specs.RisingSpans.{front_edges, gap}
+use Rattle.unicodeset_eval.specs.RisingSpans.{gap}
 
 abbrev pub IsOpen : Bool → List ℕ → Type 0
 IsOpen b [] = b ≡ true
@@ -23,18 +22,6 @@ pub record IsRising (starts : Bool) (edges : List ℕ) (low end : ℕ) (p : ℕ 
   pub opens : IsOpen starts edges
   pub rises : Rises low (edges ++ end ∷ [])
   pub has : (c : ℕ) → inside starts (edges ++ end ∷ []) c ≡ p c
-
--- ---- the first span
-
-pub first_rises : (span : Bounds) → span.lo ≤ span.hi → IsRising (leb span.lo 0) (front_edges span.lo) 1 (span.hi + 1) (λ c. within c span || false)
-first_rises span le = elim (cases_lt 0 span.lo) [
-  | inl lt ↦
-      let late : leb span.lo 0 ≡ false = grind (arith, nat_tests) in
-      rw (lt-ltb 0 span.lo lt, late) (record { opens = refl; rises = (omega arith, (omega arith, tt)); has = λ c. grind (arith, nat_tests) })
-  | inr ge ↦
-      let early : leb span.lo 0 ≡ true = grind (arith, nat_tests) in
-      rw (le-ltb 0 span.lo ge, early) (record { opens = refl; rises = (omega arith, tt); has = λ c. grind (arith, nat_tests) })
-]
 
 -- ---- one more
 

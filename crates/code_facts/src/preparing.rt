@@ -156,8 +156,8 @@ impl<T: Table<u64>> FactTables<T> {
         &self.words
     }
 
-    /// About how many mappings are kept beside the words, for a hint of how much room is needed for what is derived of them.
-    /// Each Hangul syllable is counted.
+    /// About how many mappings are kept beside the words, each Hangul syllable among them, for a guess of how much room is needed
+    /// for what is derived of them. Nothing is promised of it.
     pub fn mapping_count(&self) -> usize {
         self.rests.count()
     }

@@ -38,7 +38,7 @@ impl BitSet {
         }
     }
 
-    /// Whether one of the numbers from one to another is in it. Its time grows with the number of their words.
+    /// Whether one of the numbers from `first` to `last` is in it, both of them looked at; `false` if they descend. Its time grows with the number of their words.
     pub fn has_any(&self, first: u32, last: u32) -> bool
         ensures none { result ≡ false → (k : ℕ) → first ≤ k → k ≤ last
             → has_number self.now k ≡ false }
@@ -70,7 +70,7 @@ impl BitSet {
         Ok(())
     }
 
-    /// Puts all numbers from one to another in. Its time grows with the number of their words.
+    /// Puts all numbers from `first` to `last` in, both of them; none if they descend. Its time grows with the number of their words.
     ///
     /// - `Memory`: memory ran out. The set stays as it was.
     pub fn insert_all(&mut self, first: u32, last: u32) -> Result<(), Memory>
@@ -87,7 +87,7 @@ impl BitSet {
     }
 }
 
-/// The bits of the word at a place that stand for the numbers from one to another.
+/// The bits of the word at a place that stand for the numbers from `first` to `last`, both of them.
 fn mask(place: usize, first: u32, last: u32) -> u64
     requires from { first / 64 ≤ place }
     requires to { place ≤ last / 64 }

@@ -20,9 +20,9 @@ use number_sets::BitSet;
 use std::alloc::Global;
 use ucd_points::Point;
 
-/// An entry with so many code points or more is wide: those of others are put in and looked at, 64 at once.
+/// An entry with more code points than this is wide: those of others are put in and looked at, 64 at once.
 const WIDE: u32 = 4096;
-/// How many wide entries there are at most. Of those that have no code point in common there are no more than 272.
+/// How many wide entries there are at most. Of those that have no code point in common there are no more than 271.
 const MOST_WIDE: usize = 512;
 /// How many edits there are before code points are gathered, and before those of a short list are gathered anew.
 const FEW: usize = 64;
@@ -53,7 +53,7 @@ fn some_unordered<T: Copy>(parts: &[Part<T>]) -> bool {
     parts.iter().any(|part| !part.is_ordered())
 }
 
-/// Whether there are code points from one to another, fewer than a wide entry has, and none of them is in.
+/// Whether there are code points from `first` to `last`, fewer than a wide entry has, and none of them is in.
 fn are_clear(points: &BitSet, first: u32, last: u32) -> bool
     ensures some { result ≡ true → first ≤ last }
     ensures none { result ≡ true → NoneSet points.now first last }

@@ -24,10 +24,9 @@ use ucd_points::{Copied, Memory};
 ///
 /// An edit takes time in proportion to the entries of one part; if a part is cut in two, to the number of parts. The first edit, and later
 /// one after as many as half of the entries, also gathers the tags of all. If entries are in no order, an edit after 64 others gathers their
-/// code points too, up to 4,095 of each, and later one does so as often. A search for a tag that no entry has ends at once. One for fewer than
+/// code points too, up to 4,096 of each, and later one does so as often. A search for a tag that no entry has ends at once. One for at most
 /// 4,096 code points, of which no entry spoke since code points were gathered, ends after a look at these, 64 at once, and at 512 wide entries
-/// at most.
-/// Another one looks at the bounds of each block of 16 parts, at those of the parts of blocks that may have what it looks for, and at the
+/// at most. Another one looks at the bounds of each block of 16 parts, at those of the parts of blocks that may have what it looks for, and at the
 /// entries of such parts; if these are in order, at those that bounds of halves do not rule out. `commit` and `discard` take no memory. If
 /// something was edited they take time in proportion to the number of parts and to the entries of those that were edited; otherwise they
 /// do nothing.

@@ -99,7 +99,7 @@ impl<T: Table<u64>, V: Drop> Store<V> for Kept<T, V> {
 }
 
 impl<T: Table<u64>, V: Drop> Kept<T, V> {
-    /// How many values are held beside the first one, for a hint of how much room as many others need.
+    /// About how many values are held, for a guess of how much room as many others need. Nothing is promised of it.
     pub fn count(&self) -> usize {
         self.slots.count()
     }

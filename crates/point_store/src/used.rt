@@ -28,7 +28,7 @@ pub fn spare_next<T: Stretches<u64>>(places: &T, unused: &mut [bool])
     );
 }
 
-/// Takes the places of all code points off the unused ones. It asks for one place of a stretch that has one.
+/// Takes the places of all code points off the unused ones. It asks for the place of the first code point of each stretch.
 fn spare_all<F: Fn(Point) -> Point, G: Fn(Point) -> u64>(
     last_of: F,
     place_of: G,

@@ -6,7 +6,7 @@ ghost use Rattle.point_stretches.specs.Stretches.{Gives, TellsAlike, passing};
 use crate::stretch_iter::stretches_by;
 use ucd_points::Point;
 
-/// How many code points pass, where those of a stretch pass all or none: it asks of the first of each stretch.
+/// How many code points pass, if those of a stretch pass all or none: it asks the first of each stretch alone.
 pub fn count_passing<F: Fn(Point) -> Point, P: Fn(Point) -> bool>(last_of: F, passes: P) -> u32
     requires last_callable { F.IsAlwaysCallable last_of }
     requires passes_callable { P.IsAlwaysCallable passes }

@@ -1,4 +1,4 @@
-//! Goes over all code points, stretch by stretch.
+//! All code points by stretches: gone over, and counted.
 #![tactic(auto)]
 
 mod counting;

@@ -4,8 +4,8 @@ ghost use Rattle.std.specs.Prelude.{◌≡◌, ◌≤◌, max};
 
 use ucd_points::{Point, Span};
 
-/// The stretches of code points that are left, in order: what [`stretches_by`] gives. They follow one another without a gap,
-/// from 0 to 10FFFF (hexadecimal), so there are at most as many as code points.
+/// The stretches of code points that are left, in order: what [`stretches_by`] gives, at first all of them. They follow one another
+/// without a gap, up to 10FFFF (hexadecimal), so there are at most as many as code points.
 #[derive(Drop)]
 pub struct StretchIter<F> {
     // the last code point of the stretch that begins at a code point

@@ -88,8 +88,8 @@ pub fn added_gap(
     Ok(gap_for(items, groups, search))
 }
 
-/// Whether it is known that no row has the group of what is looked for, in the file whose keys begin with the name of their group:
-/// then no row has its key either.
+/// Whether the file is PropertyValueAliases.txt and has no row of the group that is looked for, as far as groups are noted. Keys
+/// begin with the name of their group there, so no row has its key either.
 fn is_first_of_group(groups: &Tags, search: &Search<'_>) -> bool
     ensures file { result ≡ true → search.now.file ≡ PropertyValueAliases }
     ensures group { result ≡ true → may_have groups.now (group_tag search.now.group) ≡ false }

@@ -140,13 +140,20 @@ impl RowTables {
     pub fn last_listed(&self, c: Point) -> Point
         ensures mapping { HoldsTo
             (λ d. lists_now self.now.lists.value.mappings d
-            ≡ lists_now self.now.lists.value.mappings c) c result }
-        ensures upper { HoldsTo (λ d. lists_now self.now.lists.value.uppers d
-            ≡ lists_now self.now.lists.value.uppers c) c result }
-        ensures lower { HoldsTo (λ d. lists_now self.now.lists.value.lowers d
-            ≡ lists_now self.now.lists.value.lowers c) c result }
-        ensures title { HoldsTo (λ d. lists_now self.now.lists.value.titles d
-            ≡ lists_now self.now.lists.value.titles c) c result }
+            ≡ lists_now self.now.lists.value.mappings c)
+            c result }
+        ensures upper { HoldsTo
+            (λ d. lists_now self.now.lists.value.uppers d
+            ≡ lists_now self.now.lists.value.uppers c)
+            c result }
+        ensures lower { HoldsTo
+            (λ d. lists_now self.now.lists.value.lowers d
+            ≡ lists_now self.now.lists.value.lowers c)
+            c result }
+        ensures title { HoldsTo
+            (λ d. lists_now self.now.lists.value.titles d
+            ≡ lists_now self.now.lists.value.titles c)
+            c result }
     {
         let mapping = self.lists.mappings.last_of_run(c);
         lesser(mapping, self.last_simple(c))
@@ -154,12 +161,18 @@ impl RowTables {
 
     /// A code point up to which simple mappings are the same from `c` on.
     fn last_simple(&self, c: Point) -> Point
-        ensures upper { HoldsTo (λ d. lists_now self.now.lists.value.uppers d
-            ≡ lists_now self.now.lists.value.uppers c) c result }
-        ensures lower { HoldsTo (λ d. lists_now self.now.lists.value.lowers d
-            ≡ lists_now self.now.lists.value.lowers c) c result }
-        ensures title { HoldsTo (λ d. lists_now self.now.lists.value.titles d
-            ≡ lists_now self.now.lists.value.titles c) c result }
+        ensures upper { HoldsTo
+            (λ d. lists_now self.now.lists.value.uppers d
+            ≡ lists_now self.now.lists.value.uppers c)
+            c result }
+        ensures lower { HoldsTo
+            (λ d. lists_now self.now.lists.value.lowers d
+            ≡ lists_now self.now.lists.value.lowers c)
+            c result }
+        ensures title { HoldsTo
+            (λ d. lists_now self.now.lists.value.titles d
+            ≡ lists_now self.now.lists.value.titles c)
+            c result }
     {
         let upper = self.lists.uppers.last_of_run(c);
         let lower = self.lists.lowers.last_of_run(c);

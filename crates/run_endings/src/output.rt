@@ -50,8 +50,9 @@ pub fn put_text(
     text: &[u8],
     outputs: &mut Vec<Output>,
 ) -> Result<(), Memory>
-    ensures { OnOk result (Puts (record { path = path_in folder.now name.now; bytes = text.now }
-        ∷ []) outputs.old.items outputs.new.items) }
+    ensures { OnOk result (Puts
+        (record { path = path_in folder.now name.now; bytes = text.now } ∷ [])
+        outputs.old.items outputs.new.items) }
 {
     let path = path_in(alloc, folder, name)?;
     let bytes = Text::of(alloc, text)?;

@@ -113,8 +113,9 @@ fn put_made(
     made: &Made,
     outputs: &mut Vec<Output>,
 ) -> Result<(), Memory>
-    ensures { OnOk result (Puts (map (made_file folder.now made.now) source_files
-        ++ made_script folder.now ∷ []) outputs.old.items outputs.new.items) }
+    ensures { OnOk result (Puts
+        (map (made_file folder.now made.now) source_files ++ made_script folder.now ∷ [])
+        outputs.old.items outputs.new.items) }
 {
     put_made_files(alloc, folder, made, outputs)?;
     put_made_script(alloc, folder, made, outputs)?;

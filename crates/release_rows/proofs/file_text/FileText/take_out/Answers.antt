@@ -3,7 +3,7 @@ use Rattle.part_list.specs.Parts.{next_in, place}
 use Rattle.release_rows.specs.StoredItems.{stored_at}
 use Rattle.release_rows.proofs.Edited.{kept_without, map_remove}
 use Rattle.release_rows.proofs.Marking.{marks_without}
-use Rattle.release_rows.proofs.file_back.FileText.take_out.Goals as goal
+use Rattle.release_rows.proofs.file_text.FileText.take_out.Goals as goal
 
 pub invariant_of-self-2 : goal.invariant_of-self-2
 invariant_of-self-2 c =

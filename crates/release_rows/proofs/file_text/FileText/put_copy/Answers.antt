@@ -9,7 +9,7 @@ use Rattle.release_rows.proofs.Arena.{items_kept}
 use Rattle.release_rows.proofs.Backward.{kept_inserted, map_insert}
 use Rattle.release_rows.proofs.Edited.{kept_grown}
 use Rattle.release_rows.proofs.Marking.{marked_insert, marked_more, marked_stored, marks_edited, marks_grown}
-use Rattle.release_rows.proofs.file_back.FileText.put_copy.Goals as goal
+use Rattle.release_rows.proofs.file_text.FileText.put_copy.Goals as goal
 
 pub returns-in_err-put_at-clause-now : goal.returns-in_err-put_at-clause-now
 returns-in_err-put_at-clause-now c =

@@ -84,13 +84,24 @@ fn asks_over(
     Ok(asks(alloc, &list, c, wanted)?)
 }
 
-/// A letter asks its own; a compatibility character asks for the composite of its parts too, whether there is one or not.
 #[test]
-fn derivations_ask_just_these(rt: HostRuntime) -> Result<(), Fail> {
-    let (letter, ligature) = (point(0x0061)?, point(0xFB00)?);
+fn a_letter_asks_its_own(rt: HostRuntime) -> Result<(), Fail> {
+    let letter = point(0x0061)?;
     let own = [Query::Row(letter), Query::Second(letter)];
     assert!(rt; asks_over(rt.alloc(), &BEFORE, letter, &own)?);
-    assert!(rt; asks_over(rt.alloc(), &BEFORE, ligature, &without_composite()?)?);
-    assert!(rt; asks_over(rt.alloc(), &AFTER, ligature, &with_composite()?)?);
+    Ok(())
+}
+
+#[test]
+fn an_absent_composite_is_asked_for(rt: HostRuntime) -> Result<(), Fail> {
+    let wanted = without_composite()?;
+    assert!(rt; asks_over(rt.alloc(), &BEFORE, point(0xFB00)?, &wanted)?);
+    Ok(())
+}
+
+#[test]
+fn a_composite_is_asked_too(rt: HostRuntime) -> Result<(), Fail> {
+    let wanted = with_composite()?;
+    assert!(rt; asks_over(rt.alloc(), &AFTER, point(0xFB00)?, &wanted)?);
     Ok(())
 }

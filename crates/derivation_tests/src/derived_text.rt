@@ -6,7 +6,7 @@ use crate::sample_text::{Forms, Mapped, Marks, Normal, has_text, put_mapped, put
 use derived_writer::text_over;
 use std::alloc::Global;
 use std::test::Fail;
-use ucd_model::{Category, DerivedFile, Kind, equal_pieces};
+use ucd_model::{Category, DerivedFile, Kind, Tag, equal_pieces};
 
 /// The normalisation properties of `A` and `B`, of DIAERESIS and SOFT HYPHEN, of five combining marks, of two that are
 /// excluded from composition, and of the spaces from EN QUAD to HAIR SPACE; a sample of no other point.
@@ -70,21 +70,39 @@ fn all_normalization_properties(rt: HostRuntime) -> Result<(), Fail> {
     Ok(())
 }
 
-/// Files with their texts, over `A` to `Z` and marks.
-const OVER_PIECES: [(DerivedFile, &[u8]); 2] = [
+/// Files with their texts, over a few spans and marks. Records of one category that follow one another are one span.
+const OVER_PIECES: [(DerivedFile, &[u8]); 3] = [
     (
         DerivedFile::CombiningClass,
-        b"# Canonical_Combining_Class\n0300..0314 ; 230\n# total 21\n\n",
+        b"# Canonical_Combining_Class\n0300..0314 ; 230\n0315 ; 232\n0316..0319 ; 220\n0334..0338 ; 1\n10A0D ; 220\n# total 32\n\n",
+    ),
+    (
+        DerivedFile::DecompositionType,
+        b"# Decomposition_Type\n00A0 ; noBreak\n00C0..00C5 ; canonical\nAC00..D7A3 ; canonical\nFF10..FF19 ; wide\nFF66..FF6F ; narrow\n# total 11199\n\n",
     ),
     (
         DerivedFile::GeneralCategory,
-        b"# General_Category\n0041..005A ; Lu\n0300..0314 ; Mn\n# total 47\n\n",
+        b"# General_Category\n0041..005A ; Lu\n00A0 ; Zs\n00C0..00C5 ; Lu\n0300..0319 ; Mn\n0334..0338 ; Mn\n\
+          AC00..D7A3 ; Lo\nFF10..FF19 ; Nd\nFF66..FF6F ; Lo\n10A0D ; Mn\n# total 11257\n\n",
     ),
 ];
 
-const CAPITALS: [Mapped; 1] = [(0x0041, 0x005A, Category::Lu, Kind::Plain)];
+const MAPPED: [Mapped; 6] = [
+    (0x0041, 0x005A, Category::Lu, Kind::Plain),
+    (0x00A0, 0x00A0, Category::Zs, Kind::Compat(Tag::NoBreak)),
+    (0x00C0, 0x00C5, Category::Lu, Kind::Canonical),
+    (0xAC00, 0xD7A3, Category::Lo, Kind::Canonical),
+    (0xFF10, 0xFF19, Category::Nd, Kind::Compat(Tag::Wide)),
+    (0xFF66, 0xFF6F, Category::Lo, Kind::Compat(Tag::Narrow)),
+];
 
-const ABOVE: [Marks; 1] = [(0x0300, 0x0314, 230)];
+const MARKS: [Marks; 5] = [
+    (0x0300, 0x0314, 230),
+    (0x0315, 0x0315, 232),
+    (0x0316, 0x0319, 220),
+    (0x0334, 0x0338, 1),
+    (0x10A0D, 0x10A0D, 220),
+];
 
 #[test]
 fn files_over_the_same_pieces(rt: HostRuntime) -> Result<(), Fail> {
@@ -94,8 +112,8 @@ fn files_over_the_same_pieces(rt: HostRuntime) -> Result<(), Fail> {
 }
 
 fn are_over_pieces(alloc: Global, bench: &mut Sample) -> Result<bool, Fail> {
-    put_mapped(bench, &CAPITALS)?;
-    put_marks(bench, &ABOVE)?;
+    put_mapped(bench, &MAPPED)?;
+    put_marks(bench, &MARKS)?;
     are_texts(alloc, bench)
 }
 

@@ -15,7 +15,7 @@ use std::process::Abort;
 use std::test::Fail;
 use ucd_model::{Category, CoreSet, Image, Kind, Point, Quick, Record, Records, SourceFile};
 use unicodeset_eval::eval;
-use unicodeset_parser::parse;
+use unicodeset_parser::{Expr, parse};
 
 /// One record for all code points.
 #[derive(Drop)]
@@ -140,7 +140,6 @@ fn are_answers(
 }
 
 /// Whether a text has this answer.
-#[tactic(auto, using(crate::proofs::NoRows::unassigned))]
 fn is_answer(
     alloc: Global,
     release: &Release,
@@ -152,6 +151,21 @@ fn is_answer(
     requires aliases { AreAliasesOf aliases.now (sources_of release.now) }
 {
     let expr = parse(alloc, text)?;
-    let spans = eval(alloc, &unassigned(), release, aliases, &expr)?;
+    has_spans(alloc, release, aliases, &expr, expected)
+}
+
+/// Whether a set has these spans. It borrows the set: a function that owned the set and the spans would be large to prove.
+#[tactic(auto, using(crate::proofs::NoRows::unassigned))]
+fn has_spans(
+    alloc: Global,
+    release: &Release,
+    aliases: &Aliases,
+    expr: &Expr,
+    expected: &[(u32, u32)],
+) -> Result<bool, Fail>
+    requires unassigned { items_now release.now UnicodeData ≡ [] }
+    requires aliases { AreAliasesOf aliases.now (sources_of release.now) }
+{
+    let spans = eval(alloc, &unassigned(), release, aliases, expr)?;
     are(alloc, &spans, expected)
 }

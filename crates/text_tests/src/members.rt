@@ -128,10 +128,11 @@ impl TestSets for OneSpan {
 }
 
 /// Texts with the spans of their members, if each test holds of A to Z. The first is the example of UTS #35.
-const ANSWERS: [(&[u8], &[(u32, u32)]); 6] = [
+const ANSWERS: [(&[u8], &[(u32, u32)]); 7] = [
     (b"[[ace][bdf] - [abc][def]]", &[(0x64, 0x66)]),
     (b"[[a-z]-[aeiou]&[b-d]]", &[(0x62, 0x64)]),
     (b"[\\p{Lu}&[A-C]x]", &[(0x41, 0x43), (0x78, 0x78)]),
+    (b"[zxz[b]-[xb]ba]", &[(0x61, 0x62), (0x7a, 0x7a)]),
     (b"\\P{gc=Lu}", &[(0, 0x40), (0x5b, 0x10_ffff)]),
     (
         b"[^[:Lu:][a-z]]",

@@ -6,7 +6,7 @@ use second_reading::is_text;
 use std::alloc::Global;
 use std::process::Abort;
 use ucd_lines::put_hex;
-use ucd_model::{Memory, Text};
+use ucd_model::{Memory, Span, Spans, Text};
 use unicodeset_parser::*;
 
 /// The fault of a text, if it has one.
@@ -22,11 +22,8 @@ fn fault_of(alloc: Global, text: &[u8]) -> Result<Option<(SetRule, usize)>, Memo
 /// steps of a bracket set in parentheses, each behind `|`, `&` or `-`.
 fn put_tree(expr: &Expr, into: &mut Text) -> Result<(), Memory> {
     match expr {
-        Expr::Chars(span) => {
-            put_hex(span.lo, into)?;
-            into.append(b"..")?;
-            put_hex(span.hi, into)
-        }
+        Expr::Chars(span) => put_span(*span, into),
+        Expr::Several(spans) => put_letters(spans, into),
         Expr::Named { name, at } => {
             into.append(name.as_slice())?;
             put_place(*at, into)
@@ -48,12 +45,34 @@ fn put_tree(expr: &Expr, into: &mut Text) -> Result<(), Memory> {
         Expr::Bracket(parts) => {
             into.append(b"(")?;
             'parts: for part in &parts.items {
-                into.append(join_text(part.join))?;
+                if !is_letters(part) {
+                    into.append(join_text(part.join))?;
+                }
                 put_tree(&part.part, into)?;
             }
             into.append(b")")
         }
     }
+}
+
+fn put_span(span: Span, into: &mut Text) -> Result<(), Memory> {
+    put_hex(span.lo, into)?;
+    into.append(b"..")?;
+    put_hex(span.hi, into)
+}
+
+/// Spans that are a step each, in union.
+fn put_letters(spans: &Spans, into: &mut Text) -> Result<(), Memory> {
+    'spans: for span in spans.as_slice() {
+        into.append(b"|")?;
+        put_span(*span, into)?;
+    }
+    Ok(())
+}
+
+/// Whether a part is a step for each of its spans.
+fn is_letters(part: &Part) -> bool {
+    matches!((part.join, &part.part), (Join::Union, Expr::Several(_)))
 }
 
 /// A place of one digit.
@@ -220,7 +239,7 @@ fn texts_with_a_fault(rt: HostRuntime) {
 }
 
 /// Texts, and the tree of each.
-const TREES: [(&[u8], &[u8]); 24] = [
+const TREES: [(&[u8], &[u8]); 25] = [
     (b"[]", b"()"),
     (b"[^]", b"!()"),
     (b" [ ] ", b"()"),
@@ -233,6 +252,10 @@ const TREES: [(&[u8], &[u8]); 24] = [
     (b"[[a]-]", b"(|(|0061..0061)|002D..002D)"),
     (b"[[a]- ]", b"(|(|0061..0061)|002D..002D)"),
     (b"[a[b]c]", b"(|0061..0061|(|0062..0062)|0063..0063)"),
+    (
+        b"[^ab-cd\\p{Lu}e f]",
+        b"!(|0061..0061|0062..0063|0064..0064|Lu@7|0065..0065|0066..0066)",
+    ),
     (
         b"[[ace][bdf] - [abc][def]]",
         b"(|(|0061..0061|0063..0063|0065..0065)|(|0062..0062|0064..0064|0066..0066)-(|0061..0061|0062..0062|0063..0063)|(|0064..0064|0065..0065|0066..0066))",

@@ -4,9 +4,9 @@
 -- frames_view fs    those around the innermost one, which the code keeps from the outside in
 -- mode_view m       what may follow
 -- state_view s      how far a text is read
-use Rattle.std.specs.Prelude.{List, map, reverse}
+use Rattle.std.specs.Prelude.{List, ◌++◌, map, reverse}
 use Rattle.unicodeset_parser.specs.Machine as machine
-use Rattle.unicodeset_parser.specs.Views.{tree_view, parts_view}
+use Rattle.unicodeset_parser.specs.Views.{tree_view, parts_view, united}
 use Rattle.unicodeset_parser.specs.declared.state.Frame.{Frame}
 use Rattle.unicodeset_parser.specs.declared.state.Mode.{Mode}
 use Rattle.unicodeset_parser.specs.declared.state.Mode.TheVariants.{First, BehindSet, Elsewhere, Pending, Lacking, Due}
@@ -14,7 +14,7 @@ use Rattle.unicodeset_parser.specs.declared.state.State.{State}
 use Rattle.unicodeset_parser.specs.declared.state.State.TheVariants.{Before, Within, After}
 
 abbrev pub frame_view : Frame → machine.Frame
-frame_view f = record { negated = f.negated; join = f.join; steps = parts_view f.parts }
+frame_view f = record { negated = f.negated; join = f.join; steps = parts_view f.parts ++ map united f.letters }
 
 -- the innermost last in the code, and first in the definitions
 abbrev pub frames_view : List Frame → List machine.Frame

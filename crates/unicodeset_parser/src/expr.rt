@@ -1,10 +1,11 @@
 //! The tree of a UnicodeSet.
 
-ghost use Rattle.std.specs.Prelude.{◌≡◌, [], ◌∷◌, ◌++◌, map, OnOk, OnErr};
+ghost use Rattle.std.specs.Prelude.{◌≡◌, [], ◌++◌, OnOk, OnErr};
+ghost use Rattle.std.specs.List.{flat_map};
 ghost use Rattle.unicodeset_parser.specs.Views.{part_view, parts_view};
 
 use std::alloc::Global;
-use ucd_points::{Memory, Span, Text};
+use ucd_points::{Memory, Span, Spans, Text};
 
 /// How a set is joined to what stands before it in its bracket set.
 #[derive(Clone, Copy, Debug, PartialEq, Eq)]
@@ -25,6 +26,9 @@ pub enum Join {
 pub enum Expr {
     /// The characters of a span.
     Chars(Span),
+    /// The characters of spans, in union. As a step in union they are a step for each span; elsewhere they are a bracket set of such
+    /// steps.
+    Several(Spans),
     /// A property that is named alone, such as `\p{Lu}`.
     Named {
         name: Text,
@@ -42,7 +46,7 @@ pub enum Expr {
     Bracket(Parts),
 }
 
-/// A step of a bracket set.
+/// A step of a bracket set, or characters that are a step for each span.
 #[cycle(tree)]
 #[derive(Debug, Drop)]
 pub struct Part {
@@ -56,7 +60,7 @@ pub struct Part {
 #[cycle(tree)]
 #[derive(Debug, Drop)]
 pub struct Parts {
-    /// The steps.
+    /// The steps, part by part.
     pub items: Vec<Part>,
 }
 
@@ -70,21 +74,20 @@ impl Parts {
         }
     }
 
-    /// Puts a step at the end.
+    /// Puts a part at the end: a step, or characters that are a step for each span.
     ///
-    /// - `Memory`: memory ran out. The steps stay as they were, and the new one is dropped.
+    /// - `Memory`: memory ran out. The steps stay as they were, and the part is dropped.
     pub fn push(&mut self, part: Part) -> Result<(), Memory>
-        ensures ok { OnOk result (parts_view self.new ≡ parts_view self.old ++ part_view part
-            ∷ []) }
+        ensures ok { OnOk result (parts_view self.new ≡ parts_view self.old ++ part_view part) }
         ensures err { OnErr result (parts_view self.new ≡ parts_view self.old) }
     {
         self.items.push(part)?;
         Ok(())
     }
 
-    /// The steps in order.
+    /// The parts in order.
     pub fn as_slice(&self) -> &[Part]
-        ensures { map part_view result.now ≡ parts_view self.now }
+        ensures { flat_map part_view result.now ≡ parts_view self.now }
     {
         self.items.as_slice()
     }

@@ -1,12 +1,12 @@
 //! Bracket sets that are open.
 
-ghost use Rattle.std.specs.Prelude.{◌≡◌, Ok, Err, IfOk};
-ghost use Rattle.unicodeset_parser.specs.Trees.{bracket_of};
+ghost use Rattle.std.specs.Prelude.{◌≡◌, [], ◌∷◌, ◌++◌, map, Ok, Err, IfOk};
+ghost use Rattle.unicodeset_parser.specs.Trees.{bracket_of, chars};
 ghost use Rattle.unicodeset_parser.specs.declared.expr.Join.TheVariants.{Union};
-ghost use Rattle.unicodeset_parser.specs.Machine.{put, range_of, fresh, opened, closed, within};
+ghost use Rattle.unicodeset_parser.specs.Machine.{put, fresh, opened, closed, within};
 ghost use Rattle.unicodeset_parser.specs.Parsed.{Gives};
 ghost use Rattle.unicodeset_parser.specs.StateViews.{frame_view, frames_view, mode_view, state_view};
-ghost use Rattle.unicodeset_parser.specs.Views.{tree_view, parts_view};
+ghost use Rattle.unicodeset_parser.specs.Views.{tree_view, part_view, parts_view, united};
 
 use crate::expr::{Expr, Join, Part, Parts};
 use crate::faults::fault;
@@ -14,7 +14,7 @@ use crate::property::negated_by;
 use crate::state::{Frame, Mode, Nest, State};
 use crate::stop::{SetRule, SetStop};
 use std::alloc::Global;
-use ucd_points::{Memory, Point, Span};
+use ucd_points::{Memory, Span, Spans};
 
 /// How many bracket sets may stand around an open one. UTS #35 has no limit; this one is the project's.
 const AROUND: usize = 63;
@@ -27,29 +27,86 @@ pub(crate) fn fresh(alloc: Global, negated: bool, join: Join) -> Frame
         negated,
         join,
         parts: Parts::new(alloc),
+        letters: Spans::new(alloc),
+    }
+}
+
+/// The steps, and behind them one for each of these spans. One part has them all.
+///
+/// - `Memory`: memory ran out.
+fn with_letters(parts: Parts, letters: Spans) -> Result<Parts, Memory>
+    ensures { IfOk result
+        (λ all. parts_view all ≡ parts_view parts ++ map united letters) }
+{
+    let mut all = parts;
+    if letters.len() == 1 {
+        all.push(Part {
+            join: Join::Union,
+            part: Expr::Chars(letters.as_slice()[0]),
+        })?;
+    } else if letters.len() > 1 {
+        all.push(Part {
+            join: Join::Union,
+            part: Expr::Several(letters),
+        })?;
+    }
+    Ok(all)
+}
+
+/// A set as one step. Characters, which would be a step for each span, get a bracket set of their own.
+///
+/// - `Memory`: memory ran out.
+fn one_step(alloc: Global, join: Join, part: Expr) -> Result<Part, Memory>
+    ensures { IfOk result (λ step. part_view step
+        ≡ record { join = join; tree = tree_view part } ∷ []) }
+{
+    match part {
+        Expr::Several(letters) => {
+            let mut parts = Parts::new(alloc);
+            parts.push(Part {
+                join: Join::Union,
+                part: Expr::Several(letters),
+            })?;
+            Ok(Part {
+                join,
+                part: Expr::Bracket(parts),
+            })
+        }
+        Expr::Chars(_)
+        | Expr::Named { .. }
+        | Expr::Valued { .. }
+        | Expr::Not(_)
+        | Expr::Bracket(_) => Ok(Part { join, part }),
     }
 }
 
 /// The bracket set with one more step.
-fn with_step(join: Join, part: Expr, frame: Frame) -> Result<Frame, Memory>
+///
+/// - `Memory`: memory ran out.
+fn with_step(alloc: Global, join: Join, part: Expr, frame: Frame) -> Result<Frame, Memory>
     ensures { IfOk result
         (λ more. frame_view more ≡ put join (tree_view part) (frame_view frame)) }
 {
     let Frame {
         negated,
         join: outward,
-        mut parts,
+        parts,
+        letters,
     } = frame;
-    parts.push(Part { join, part })?;
+    let mut parts = with_letters(parts, letters)?;
+    parts.push(one_step(alloc, join, part)?)?;
     Ok(Frame {
         negated,
         join: outward,
         parts,
+        letters: Spans::new(alloc),
     })
 }
 
 /// One more step of the innermost bracket set.
-pub(crate) fn put(join: Join, part: Expr, nest: Nest) -> Result<Nest, Memory>
+///
+/// - `Memory`: memory ran out.
+pub(crate) fn put(alloc: Global, join: Join, part: Expr, nest: Nest) -> Result<Nest, Memory>
     ensures frame { IfOk result
         (λ more. frame_view more.frame ≡ put join (tree_view part) (frame_view nest.frame)) }
     ensures around { IfOk result
@@ -57,19 +114,39 @@ pub(crate) fn put(join: Join, part: Expr, nest: Nest) -> Result<Nest, Memory>
 {
     let Nest { frame, around } = nest;
     Ok(Nest {
-        frame: with_step(join, part, frame)?,
+        frame: with_step(alloc, join, part, frame)?,
         around,
     })
 }
 
-/// One more character of the innermost bracket set, in union.
-pub(crate) fn put_letter(letter: Point, nest: Nest) -> Result<Nest, Memory>
+/// The characters of one more span in the innermost bracket set, in union.
+///
+/// - `Memory`: memory ran out.
+pub(crate) fn put_span(span: Span, nest: Nest) -> Result<Nest, Memory>
     ensures frame { IfOk result (λ more. frame_view more.frame
-        ≡ put Union (range_of letter letter) (frame_view nest.frame)) }
+        ≡ put Union (chars span) (frame_view nest.frame)) }
     ensures around { IfOk result
         (λ more. frames_view more.around.items ≡ frames_view nest.around.items) }
 {
-    put(Join::Union, Expr::Chars(Span::one(letter)), nest)
+    let Nest {
+        frame: Frame {
+            negated,
+            join,
+            parts,
+            mut letters,
+        },
+        around,
+    } = nest;
+    letters.push(span)?;
+    Ok(Nest {
+        frame: Frame {
+            negated,
+            join,
+            parts,
+            letters,
+        },
+        around,
+    })
 }
 
 /// Opens a bracket set in the innermost one.
@@ -115,13 +192,14 @@ pub(crate) fn closed(alloc: Global, nest: Nest) -> Result<State, SetStop>
         negated,
         join,
         parts,
+        letters,
     } = frame;
-    let expr = bracket_of(alloc, negated, parts)?;
+    let expr = bracket_of(alloc, negated, with_letters(parts, letters)?)?;
     match around.pop() {
         Some(outer) => Ok(State::Within(
             Mode::BehindSet,
             Nest {
-                frame: with_step(join, expr, outer)?,
+                frame: with_step(alloc, join, expr, outer)?,
                 around,
             },
         )),

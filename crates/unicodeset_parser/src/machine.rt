@@ -10,7 +10,7 @@ ghost use Rattle.unicodeset_parser.specs.Views.{tree_view};
 
 use crate::expr::{Expr, Join};
 use crate::faults::{element_fault, fault, late_fault, range_fault, set_fault};
-use crate::frames::{closed, fresh, opened, put, put_letter};
+use crate::frames::{closed, fresh, opened, put, put_span};
 use crate::state::{Mode, Nest, State};
 use crate::stop::{SetRule, SetStop};
 use crate::token::Token;
@@ -50,7 +50,7 @@ fn operand(
 {
     match token {
         Token::Open(negated) => opened(alloc, at, negated, join, nest),
-        Token::Property(expr) => Ok(State::Within(Mode::BehindSet, put(join, expr, nest)?)),
+        Token::Property(expr) => Ok(State::Within(Mode::BehindSet, put(alloc, join, expr, nest)?)),
         Token::Wrong(wrong) => Err(set_fault(end, at, wrong)),
         _ => Err(fault(SetRule::S3, at)),
     }
@@ -64,7 +64,10 @@ fn element(alloc: Global, end: usize, nest: Nest, at: usize, token: Token) -> Re
 {
     match token {
         Token::Open(negated) => opened(alloc, at, negated, Join::Union, nest),
-        Token::Property(expr) => Ok(State::Within(Mode::BehindSet, put(Join::Union, expr, nest)?)),
+        Token::Property(expr) => Ok(State::Within(
+            Mode::BehindSet,
+            put(alloc, Join::Union, expr, nest)?,
+        )),
         Token::Close => closed(alloc, nest),
         Token::Letter(letter) => Ok(State::Within(Mode::Pending(letter), nest)),
         Token::Wrong(wrong) => Err(element_fault(end, at, wrong)),
@@ -131,7 +134,7 @@ fn behind_letter(
 {
     match token {
         Token::Dash => Ok(State::Within(Mode::Lacking(letter), nest)),
-        _ => element(alloc, end, put_letter(letter, nest)?, at, token),
+        _ => element(alloc, end, put_span(Span::one(letter), nest)?, at, token),
     }
 }
 
@@ -152,7 +155,7 @@ fn range_end(
             let Some(span) = Span::new(first, last) else {
                 return Err(fault(SetRule::S4, at));
             };
-            Ok(State::Within(Mode::Elsewhere, put(Join::Union, Expr::Chars(span), nest)?))
+            Ok(State::Within(Mode::Elsewhere, put_span(span, nest)?))
         }
         Token::Wrong(wrong) => Err(range_fault(end, at, wrong)),
         _ => Err(fault(SetRule::S3, at)),

@@ -1,7 +1,7 @@
 //! How far a text is read.
 
 use crate::expr::{Expr, Join, Parts};
-use ucd_points::Point;
+use ucd_points::{Point, Spans};
 
 /// A bracket set that is open.
 #[derive(Debug, Drop)]
@@ -10,8 +10,10 @@ pub(crate) struct Frame {
     pub(crate) negated: bool,
     /// How it is joined to the bracket set around it.
     pub(crate) join: Join,
-    /// Its steps so far.
+    /// Its steps so far, but for the last ones that are characters in union.
     pub(crate) parts: Parts,
+    /// The characters of those.
+    pub(crate) letters: Spans,
 }
 
 /// The bracket sets that are open.

@@ -3,7 +3,7 @@
 -- p says which code points changed, and R is the record of each code point now.
 -- end_before pieces        where the piece in front of these ends: one past its last code point
 -- NoneBefore p start next  from start up to before next none changed
--- IsAlikeIn R lo end v     all code points from lo to before end have one record, with these values
+-- IsAlikeIn R lo end v     all code points from lo to before end have records with these values
 -- IsAlikeBut R p lo end v  the same but for those that changed
 -- AreLeft R p lo pieces    pieces from lo to the last code point, throughout each of which R is the same but for what changed
 -- ArePiecesBut pieces p R  pieces of records that are those of R but for what changed
@@ -16,7 +16,7 @@ use Rattle.ucd_points.specs.Limits.{point_count}
 use Rattle.ucd_model.specs.CutLemmas.{cut_push, cut_within, point_count-is}
 use Rattle.ucd_model.specs.Cuts.{IsCut}
 use Rattle.ucd_model.specs.Records.{Record}
-use Rattle.unicodeset_eval.specs.RecordPieces.{AreCut, AreCutTo, PieceValue, piece_at, piece_value, unfolded, values_record}
+use Rattle.unicodeset_eval.specs.RecordPieces.{AreCut, AreCutTo, PieceValue, piece_at, piece_value, unfolded, unfolded_of, values_record}
 use Rattle.unicodeset_eval.specs.declared.record_pieces.Piece.{Piece}
 use Rattle.unicodeset_eval.specs.declared.record_pieces.PropertyValues.{PropertyValues}
 use Rattle.unicodeset_eval.specs.declared.record_pieces.RecordPieces.{RecordPieces}
@@ -31,14 +31,10 @@ pub record NoneBefore (p : ℕ → Bool) (start next : ℕ) : Type 0 where
   pub none : (k : ℕ) → start ≤ k → k < next → p k ≡ false
 
 pub record IsAlikeIn (R : ℕ → Record) (lo end : ℕ) (v : PropertyValues) : Type 0 where
-  pub value : Record
-  pub values : values_record v ≡ unfolded value
-  pub each : (c : ℕ) → lo ≤ c → c < end → R c ≡ value
+  pub each : (c : ℕ) → lo ≤ c → c < end → unfolded (R c) ≡ values_record v
 
 pub record IsAlikeBut (R : ℕ → Record) (p : ℕ → Bool) (lo end : ℕ) (v : PropertyValues) : Type 0 where
-  pub value : Record
-  pub values : values_record v ≡ unfolded value
-  pub each : (c : ℕ) → lo ≤ c → c < end → p c ≡ false → R c ≡ value
+  pub each : (c : ℕ) → lo ≤ c → c < end → p c ≡ false → unfolded (R c) ≡ values_record v
 
 abbrev pub AreLeft : (ℕ → Record) → (ℕ → Bool) → ℕ → List Piece → Type 0
 AreLeft R p lo [] = lo ≡ point_count
@@ -51,14 +47,14 @@ pub record ArePiecesBut (pieces : RecordPieces) (p : ℕ → Bool) (R : ℕ → 
 
 -- ---- what is left
 
-ends_at : (R : ℕ → Record) (lo : ℕ) (rest : List Piece) (spans : List Bounds) → IsCut R lo point_count spans → map piece_value rest ≡ map (piece_at R) spans → end_before rest ≡ lo
+ends_at : (R : ℕ → Record) (lo : ℕ) (rest : List Piece) (spans : List Bounds) → IsCut (unfolded_of R) lo point_count spans → map piece_value rest ≡ map (piece_at R) spans → end_before rest ≡ lo
 ends_at R lo [] [] cut are = sym cut
 ends_at R lo [] (s ∷ spans) cut are = absurd cc
 ends_at R lo (q ∷ rest) [] cut are = absurd cc
 ends_at R lo (q ∷ rest) (s ∷ spans) cut are = let head : piece_value q ≡ piece_at R s = cc in ap (λ (v : PieceValue). v.first) head ∙ cut.0
 
 module _ (S R : ℕ → Record) (p : ℕ → Bool) (same : (c : ℕ) → c < point_count → p c ≡ false → S c ≡ R c) where
-  left_from : (lo : ℕ) (pieces : List Piece) (spans : List Bounds) → IsCut S lo point_count spans → map piece_value pieces ≡ map (piece_at S) spans → AreLeft R p lo pieces
+  left_from : (lo : ℕ) (pieces : List Piece) (spans : List Bounds) → IsCut (unfolded_of S) lo point_count spans → map piece_value pieces ≡ map (piece_at S) spans → AreLeft R p lo pieces
   left_from lo [] [] cut are = cut
   left_from lo [] (s ∷ spans) cut are = absurd cc
   left_from lo (q ∷ rest) [] cut are = absurd cc
@@ -68,15 +64,15 @@ module _ (S R : ℕ → Record) (p : ℕ → Bool) (same : (c : ℕ) → c < poi
       let end : end_before rest ≡ s.hi + 1 = ends_at S (s.hi + 1) rest spans cut.3 tail in
       let begins = cut.0 in
       let ordered = cut.1 in
-      let within = cut_within S (s.hi + 1) point_count spans cut.3 in (
+      let within = cut_within (unfolded_of S) (s.hi + 1) point_count spans cut.3 in (
         ap (λ (v : PieceValue). v.first) head ∙ begins,
         omega (arith, begins, ordered, end),
         omega (arith, within, end, point_count-is),
         record {
-          value = S s.lo;
-          values = ap (λ (v : PieceValue). v.values) head;
           each = λ c from below unchanged.
-              sym (same c (omega (arith, within, end, below)) unchanged) ∙ cut.2 c (omega (arith, begins, from)) (omega (arith, end, below));
+              ap unfolded (sym (same c (omega (arith, within, end, below)) unchanged))
+              ∙ cut.2 c (omega (arith, begins, from)) (omega (arith, end, below))
+              ∙ sym (ap (λ (v : PieceValue). v.values) head);
         },
         subst (λ (n : ℕ). AreLeft R p n rest) (sym end) (left_from (s.hi + 1) rest spans cut.3 tail),
       )
@@ -90,13 +86,13 @@ pub put_cut : (R : ℕ → Record) (lo end : ℕ) (v : PropertyValues) (old new 
 put_cut R lo end v old new some alike grown cut =
     let s : Bounds = record { lo = lo; hi = end - 1 } in
     let q : Piece = record { first = lo; values = v } in
-    let here : R lo ≡ alike.value = alike.each lo (omega arith) some in
-    let is : piece_value q ≡ piece_at R s = λ j. let w : PieceValue = record { first = lo; values = (alike.values ∙ ap unfolded (sym here)) j } in w in
+    let here : unfolded (R lo) ≡ values_record v = alike.each lo (omega arith) some in
+    let is : piece_value q ≡ piece_at R s = λ j. let w : PieceValue = record { first = lo; values = (sym here) j } in w in
     let ends : (end - 1) + 1 ≡ end = omega (arith, some) in
     record {
       spans = cut.spans ++ s ∷ [];
-      cut = subst (λ (n : ℕ). IsCut R 0 n (cut.spans ++ s ∷ [])) ends
-          (cut_push R 0 lo cut.spans s cut.cut refl (omega (arith, some)) (λ c from to. alike.each c from (omega (arith, some, to)) ∙ sym here));
+      cut = subst (λ (n : ℕ). IsCut (unfolded_of R) 0 n (cut.spans ++ s ∷ [])) ends
+          (cut_push (unfolded_of R) 0 lo cut.spans s cut.cut refl (omega (arith, some)) (λ c from to. alike.each c from (omega (arith, some, to)) ∙ sym here));
       are = ap (map piece_value) grown ∙ map-append piece_value old (q ∷ [])
           ∙ ap (λ (vs : List PieceValue). vs ++ piece_value q ∷ []) cut.are
           ∙ ap (λ (w : PieceValue). map (piece_at R) cut.spans ++ w ∷ []) is

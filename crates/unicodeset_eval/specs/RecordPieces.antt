@@ -3,10 +3,11 @@
 -- values_record v          the record with these values, and with each code point itself for its NFKC_Casefold and
 --                          NFKC_Simple_Casefold
 -- unfolded R               the record R, but so: no test asks for one of these
+-- unfolded_of R            the records of R, each so
 -- PieceValue               where a piece begins, and the record of its code points
 -- piece_value p            a piece that the code holds
--- piece_at R s             the piece of the span s, throughout which R is the same
--- AreCutTo R n pieces      the pieces are those of a cut of the code points before n into spans of equal records
+-- piece_at R s             the piece of the span s, throughout which the records of R are the same but for what is unfolded
+-- AreCutTo R n pieces      the pieces are those of a cut of the code points before n into such spans
 -- AreCut R pieces          the same of all code points
 -- ArePiecesOf pieces R     these are such pieces
 -- at_first f ps            what f says of the first piece
@@ -51,6 +52,9 @@ values_record v = record {
 abbrev pub unfolded : Record → Record
 unfolded R = record R { casefold = Same; simple_casefold = Same }
 
+abbrev pub unfolded_of : (ℕ → Record) → ℕ → Record
+unfolded_of R c = unfolded (R c)
+
 pub record PieceValue : Type 0 where
   pub first : ℕ
   pub values : Record
@@ -63,7 +67,7 @@ piece_at R s = record { first = s.lo; values = unfolded (R s.lo) }
 
 pub record AreCutTo (R : ℕ → Record) (n : ℕ) (pieces : List Piece) : Type 0 where
   pub spans : List Bounds
-  pub cut : IsCut R 0 n spans
+  pub cut : IsCut (unfolded_of R) 0 n spans
   pub are : map piece_value pieces ≡ map (piece_at R) spans
 
 abbrev pub AreCut : (ℕ → Record) → List Piece → Type 0
@@ -111,6 +115,6 @@ module _ (R : ℕ → Record) (f : Record → Bool) (same : (r : Record) → f (
       ap (λ next. emit b next s.lo (piece_turns n f next (map (piece_at R) rest))) (same (R s.lo))
       ∙ ap (λ edges. emit b (f (R s.lo)) s.lo edges) (piece_turns_are n (f (R s.lo)) rest)
 
-  pub at_first_is : (n : ℕ) (spans : List Bounds) → IsCut R 0 n spans → 0 < n → at_first f (map (piece_at R) spans) ≡ f (R 0)
+  pub at_first_is : (n : ℕ) (spans : List Bounds) → IsCut (unfolded_of R) 0 n spans → 0 < n → at_first f (map (piece_at R) spans) ≡ f (R 0)
   at_first_is n [] cut some = absurd (omega (arith, cut))
   at_first_is n (s ∷ rest) cut some = same (R s.lo) ∙ ap (λ c. f (R c)) cut.0

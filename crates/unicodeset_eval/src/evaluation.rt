@@ -17,6 +17,7 @@ use crate::changes::{Change, gathered, push_change};
 use crate::point_set::PointSet;
 use crate::stop::{EvalStop, NameRule};
 use crate::test_sets::TestSets;
+use crate::unions::union_of;
 use property_aliases::{Aliases, Test};
 use std::alloc::Global;
 use ucd_model::Spans;
@@ -169,6 +170,7 @@ fn members_of<T: TestSets>(
 {
     match expr {
         Expr::Chars(span) => Ok(PointSet::of_span(alloc, *span)?),
+        Expr::Several(spans) => Ok(union_of(alloc, spans.as_slice())?),
         Expr::Named { name, at } => named(alloc, index, aliases, name.as_slice(), *at),
         Expr::Valued {
             property,

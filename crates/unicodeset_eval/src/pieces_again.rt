@@ -108,7 +108,9 @@ fn put_again<B: Records>(
 }
 
 /// Puts the code points from `from` to before `end`, all of which have these values, as one piece, if there are some.
-fn put_alike(
+///
+/// - `Memory`: memory ran out. The pieces stay as they were.
+pub(crate) fn put_alike(
     from: u32,
     end: u32,
     values: PropertyValues,

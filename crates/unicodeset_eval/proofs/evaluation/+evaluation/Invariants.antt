@@ -1,4 +1,5 @@
-use Rattle.std.proofs.Common.{◌≡◌, map, drop}
+use Rattle.std.proofs.Common.{◌≡◌, drop}
+use Rattle.std.specs.List.{flat_map}
 use Rattle.unicodeset_eval.specs.Answers.{names_in}
 use Rattle.unicodeset_eval.specs.Changes.{gathered}
 use Rattle.unicodeset_eval.specs.Members.{nothing}
@@ -11,6 +12,6 @@ use Rattle.unicodeset_eval.proofs.evaluation.+evaluation.Given as goal
 abbrev pub invariant-changes_of-steps : goal.invariant-changes_of-steps
 invariant-changes_of-steps g l = record {
   number : l.number ≡ l.step-index;
-  kept : members_after (names_in l.aliases) (g.T.TestSets.holds l.index) (gathered l.changes.items) (steps_of (map part_view (drop l.step-index l.step-items)))
+  kept : members_after (names_in l.aliases) (g.T.TestSets.holds l.index) (gathered l.changes.items) (steps_of (flat_map part_view (drop l.step-index l.step-items)))
       ≡ members_after (names_in l.aliases) (g.T.TestSets.holds l.index) nothing (steps_of (parts_view l.parts));
 }

@@ -9,7 +9,7 @@ use Rattle.property_aliases.specs.declared.property.Test.{Test}
 use Rattle.unicodeset_eval.specs.Edges.{inside, Rises}
 use Rattle.unicodeset_eval.specs.Found.{tells}
 use Rattle.unicodeset_eval.specs.PieceSets.{piece_edges, piece_edges_are, piece_edges_rise_all, rises_prop}
-use Rattle.unicodeset_eval.specs.RecordPieces.{AreCut, at_first, at_first_is, piece_turns, piece_turns_are, piece_value, tells_unfolded}
+use Rattle.unicodeset_eval.specs.RecordPieces.{AreCut, at_first, at_first_is, piece_turns, piece_turns_are, piece_value, tells_unfolded, unfolded_of}
 use Rattle.unicodeset_eval.specs.declared.record_pieces.Piece.{Piece}
 use Rattle.unicodeset_eval.proofs.index.SetIndex.set_over.Goals as goal
 
@@ -17,17 +17,19 @@ some : 0 < point_count
 some = omega (arith, point_count-is)
 
 module _ (R : ℕ → Record) (t : Test) (pieces : List Piece) (cut : AreCut R pieces) where
-  starts_are : at_first (tells t) (map piece_value pieces) ≡ tells t (R 0)
-  starts_are = ap (at_first (tells t)) cut.are ∙ at_first_is R (tells t) (tells_unfolded t) point_count cut.spans cut.cut some
+  starts_are : at_first (tells t) (map piece_value pieces) ≡ tells t (unfolded_of R 0)
+  starts_are = ap (at_first (tells t)) cut.are ∙ at_first_is (unfolded_of R) (tells t) (tells_unfolded t) point_count cut.spans cut.cut some
 
-  turns_are : (b : Bool) → piece_turns point_count (tells t) b (map piece_value pieces) ≡ piece_edges point_count (λ c. tells t (R c)) b cut.spans
-  turns_are b = ap (piece_turns point_count (tells t) b) cut.are ∙ piece_turns_are R (tells t) (tells_unfolded t) point_count b cut.spans
+  turns_are : (b : Bool) → piece_turns point_count (tells t) b (map piece_value pieces) ≡ piece_edges point_count (λ c. tells t (unfolded_of R c)) b cut.spans
+  turns_are b = ap (piece_turns point_count (tells t) b) cut.are ∙ piece_turns_are (unfolded_of R) (tells t) (tells_unfolded t) point_count b cut.spans
 
   rise : Rises 1 (piece_turns point_count (tells t) (at_first (tells t) (map piece_value pieces)) (map piece_value pieces))
-  rise = rw (starts_are, turns_are (tells t (R 0))) (piece_edges_rise_all R (tells t) point_count cut.spans cut.cut some)
+  rise = rw (starts_are, turns_are (tells t (unfolded_of R 0))) (piece_edges_rise_all (unfolded_of R) (tells t) point_count cut.spans cut.cut some)
 
   are : (c : ℕ) → inside (at_first (tells t) (map piece_value pieces)) (piece_turns point_count (tells t) (at_first (tells t) (map piece_value pieces)) (map piece_value pieces)) c ≡ (nat_lt c point_count && tells t (R c))
-  are c = rw (starts_are, turns_are (tells t (R 0))) (piece_edges_are R (tells t) point_count (tells t (R 0)) 0 cut.spans cut.cut c (omega arith))
+  are c =
+      rw (starts_are, turns_are (tells t (unfolded_of R 0))) (piece_edges_are (unfolded_of R) (tells t) point_count (tells t (unfolded_of R 0)) 0 cut.spans cut.cut c (omega arith))
+      ∙ ap (λ b. nat_lt c point_count && b) (tells_unfolded t (R c))
 
 pub of_edges-requires : goal.of_edges-requires
 of_edges-requires g c =

@@ -17,7 +17,7 @@ use Rattle.release_rows.specs.Gaps.{IsGapAt}
 use Rattle.source_rows.specs.KeyNames.{ContentsHaveKeys, group_of}
 use Rattle.part_list.specs.Tags.{may_have}
 use Rattle.part_list.specs.declared.tags.Tags.{Tags}
-use Rattle.release_rows.specs.Groups.{AreMarked, group_tag}
+use Rattle.release_rows.specs.Groups.{AreMarked, group_mark}
 use Rattle.release_rows.specs.Keys.{is_missing_in}
 use Rattle.release_rows.specs.Operations.{follows, place_in, row_passes, same_group}
 use Rattle.release_rows.specs.Searches.{Sought, IsSoughtRow, comes_behind, is_alike}
@@ -102,10 +102,10 @@ module _ (s : Sought) (row : Row) (parts : List (List (Spanned Stretch))) (law :
       rw (plain, no, apart) (length-map (flat parts) (stored_at s.file s.text))
 
   -- a group that has no row
-  pub place_new : (groups : Tags) → is_missing_in s.file row ≡ false → may_have groups (group_tag s.group) ≡ false → AreMarked s.file groups (map (stored_at s.file s.text) (flat parts)) → place_in s.file row (map (stored_at s.file s.text) (flat parts)) ≡ length (flat parts)
+  pub place_new : (groups : Tags) → is_missing_in s.file row ≡ false → may_have groups (group_mark s.group) ≡ false → AreMarked s.file groups (map (stored_at s.file s.text) (flat parts)) → place_in s.file row (map (stored_at s.file s.text) (flat parts)) ≡ length (flat parts)
   place_new groups plain lacks marked =
       let items = map (stored_at s.file s.text) (flat parts) in
-      let none : may_have groups (group_tag (group_of s.file row)) ≡ false = rw (← is.group) lacks in
+      let none : may_have groups (group_mark (group_of s.file row)) ≡ false = rw (← is.group) lacks in
       let no = follows_nowhere s.file groups row items none marked in
       let apart = alike_nowhere s.file groups row items none marked in
       rw (plain, no, apart) (length-map (flat parts) (stored_at s.file s.text))

@@ -36,7 +36,7 @@ pub mod ConditionTags
 pub mod Gathered
 mod StoredRows
 mod FoundRows
-mod FirstOfGroup
+mod FirstOfKey
 mod Edited
 mod OneRow
 mod EntrySpans

@@ -8,12 +8,13 @@ use Rattle.ucd_points.specs.declared.files.SourceFile.{SourceFile}
 use Rattle.ucd_facts.specs.declared.row.Row.{Row}
 use Rattle.source_rows.specs.Faults.{row_or_fault}
 use Rattle.source_rows.specs.KeyNames.{group_of}
+use Rattle.source_rows.specs.Keys.{key_names}
 use Rattle.part_list.specs.Parts.{PartLists, now_in, next_in}
 use Rattle.part_list.specs.Tags.{Grows, may_have}
 use Rattle.part_list.specs.declared.spanned.Spanned.{Spanned}
 use Rattle.part_list.specs.declared.tags.Tags.{Tags}
 use Rattle.release_rows.specs.FileItems.{FileItem}
-use Rattle.release_rows.specs.Groups.{AreMarked, HasMark, IsMarked, KeepMarks, group_tag}
+use Rattle.release_rows.specs.Groups.{AreMarked, HasMark, IsMarked, KeepMarks, RowMarked, group_mark, key_mark}
 use Rattle.release_rows.specs.Operations.{ended, follows, put_in, row_passes, same_group, with_end}
 use Rattle.release_rows.specs.StoredItems.{IsKeptFile, IsStored, content_at, stored_at}
 use Rattle.release_rows.specs.declared.stretch.Stretch.{Stretch}
@@ -26,10 +27,16 @@ use Rattle.release_rows.proofs.Walks.{first_of}
 
 has_more : (file : SourceFile) (old new : Tags) (row : Option Row) → Grows old new → HasMark file old row → HasMark file new row
 has_more file old new None grows h = h
-has_more file old new (Some row) grows h = grows (group_tag (group_of file row)) h
+has_more file old new (Some row) grows h = record { group = grows (group_mark (group_of file row)) h.group; key = grows (key_mark file (key_names file row)) h.key }
 
 pub marked_more : (file : SourceFile) (old new : Tags) (items : List FileItem) → Grows old new → AreMarked file old items → AreMarked file new items
 marked_more file old new items grows all = All-weaker (IsMarked file old) (IsMarked file new) (λ item h. has_more file old new item.row grows h) items all
+
+pub marks_more : (file : SourceFile) (text : List ℕ) (old new : Tags) (items : PartLists (Spanned Stretch)) → Grows old new → KeepMarks file text old items → KeepMarks file text new items
+marks_more file text old new items grows marks = record {
+  now = marked_more file old new _ grows marks.now;
+  next = marked_more file old new _ grows marks.next;
+}
 
 -- ---- an item that is put in, or comes in the place of another one
 
@@ -62,7 +69,7 @@ marked_put file groups items n item all one =
 
 -- what is noted of each row that its content is read as
 abbrev pub IsNoted : SourceFile → Tags → List ℕ → Type 0
-IsNoted file groups content = (row : Row) → row_or_fault file content ≡ Ok row → may_have groups (group_tag (group_of file row)) ≡ true
+IsNoted file groups content = (row : Row) → row_or_fault file content ≡ Ok row → RowMarked file groups row
 
 noted_by : (file : SourceFile) (groups : Tags) (content : List ℕ) (row : Option Row) → StoredAs file content row → IsNoted file groups content → HasMark file groups row
 noted_by file groups content None st noted = tt
@@ -75,7 +82,7 @@ marked_stored file groups text e stored noted = noted_by file groups (content_at
 pub marked_next : (file : SourceFile) (text : List ℕ) (old new : Tags) (entries : List (Spanned Stretch)) (e : Spanned Stretch) (rest : List (Spanned Stretch)) (whole : List FileItem) → entries ≡ e ∷ rest → All (IsStored file text) entries → IsNoted file new (content_at text e.item) → Grows old new → ((later : Tags) → Grows old later → AreMarked file later (map (stored_at file text) entries) → AreMarked file later whole) → (later : Tags) → Grows new later → AreMarked file later (map (stored_at file text) rest) → AreMarked file later whole
 marked_next file text old new entries e rest whole split stored noted grows so_far later more left =
     let st = stored_at file text in
-    let one = marked_stored file later text e (first_of (IsStored file text) entries e rest split stored) (λ row is. more _ (noted row is)) in
+    let one = marked_stored file later text e (first_of (IsStored file text) entries e rest split stored) (λ row is. record { group = more _ (noted row is).group; key = more _ (noted row is).key }) in
     so_far later (λ t h. more t (grows t h)) (subst (λ (es : List (Spanned Stretch)). AreMarked file later (map st es)) (sym split) (All-cons (IsMarked file later) (st e) (map st rest) one left))
 
 -- ---- the marks of a file that is edited
@@ -101,12 +108,12 @@ marks_without file text groups at old new marks now next = record {
 
 -- ---- a group that has no mark has no row
 
-none_with : (file : SourceFile) (groups : Tags) (row other : Row) (b : Bool) → same_group file row other ≡ b → may_have groups (group_tag (group_of file row)) ≡ false → may_have groups (group_tag (group_of file other)) ≡ true → same_group file row other ≡ false
+none_with : (file : SourceFile) (groups : Tags) (row other : Row) (b : Bool) → same_group file row other ≡ b → may_have groups (group_mark (group_of file row)) ≡ false → RowMarked file groups other → same_group file row other ≡ false
 none_with file groups row other false is lacks has = is
 none_with file groups row other true is lacks has =
-    absurd (let e : false ≡ true = sym lacks ∙ ap (λ group. may_have groups (group_tag group)) ((bytes_eq-Decides (group_of file row) (group_of file other)).0 is) ∙ has in cc)
+    absurd (let e : false ≡ true = sym lacks ∙ ap (λ group. may_have groups (group_mark group)) ((bytes_eq-Decides (group_of file row) (group_of file other)).0 is) ∙ has.group in cc)
 
-none_passes : (file : SourceFile) (groups : Tags) (row : Row) (item : FileItem) (o : Option Row) → item.row ≡ o → may_have groups (group_tag (group_of file row)) ≡ false → HasMark file groups o → row_passes (same_group file row) item ≡ false
+none_passes : (file : SourceFile) (groups : Tags) (row : Row) (item : FileItem) (o : Option Row) → item.row ≡ o → may_have groups (group_mark (group_of file row)) ≡ false → HasMark file groups o → row_passes (same_group file row) item ≡ false
 none_passes file groups row item None is lacks has = rw is refl
 none_passes file groups row item (Some other) is lacks has = rw is (none_with file groups row other _ refl lacks has)
 
@@ -116,13 +123,13 @@ none_follows file row item (Some other) is none =
     let apart : same_group file row other ≡ false = (rw is at none) in
     rw (is, apart) refl
 
-pub none_alike : (file : SourceFile) (groups : Tags) (row : Row) (items : List FileItem) → may_have groups (group_tag (group_of file row)) ≡ false → AreMarked file groups items → All (λ item. row_passes (same_group file row) item ≡ false) items
+pub none_alike : (file : SourceFile) (groups : Tags) (row : Row) (items : List FileItem) → may_have groups (group_mark (group_of file row)) ≡ false → AreMarked file groups items → All (λ item. row_passes (same_group file row) item ≡ false) items
 none_alike file groups row items lacks all = All-weaker (IsMarked file groups) (λ item. row_passes (same_group file row) item ≡ false) (λ item h. none_passes file groups row item item.row refl lacks h) items all
 
-pub alike_nowhere : (file : SourceFile) (groups : Tags) (row : Row) (items : List FileItem) → may_have groups (group_tag (group_of file row)) ≡ false → AreMarked file groups items → list_any (row_passes (same_group file row)) items ≡ false
+pub alike_nowhere : (file : SourceFile) (groups : Tags) (row : Row) (items : List FileItem) → may_have groups (group_mark (group_of file row)) ≡ false → AreMarked file groups items → list_any (row_passes (same_group file row)) items ≡ false
 alike_nowhere file groups row items lacks all = list_any_none (row_passes (same_group file row)) items (none_alike file groups row items lacks all)
 
-pub follows_nowhere : (file : SourceFile) (groups : Tags) (row : Row) (items : List FileItem) → may_have groups (group_tag (group_of file row)) ≡ false → AreMarked file groups items → list_any (row_passes (follows file row)) items ≡ false
+pub follows_nowhere : (file : SourceFile) (groups : Tags) (row : Row) (items : List FileItem) → may_have groups (group_mark (group_of file row)) ≡ false → AreMarked file groups items → list_any (row_passes (follows file row)) items ≡ false
 follows_nowhere file groups row items lacks all =
     list_any_none (row_passes (follows file row)) items
     (All-weaker (λ item. row_passes (same_group file row) item ≡ false) (λ item. row_passes (follows file row) item ≡ false) (λ item h. none_follows file row item item.row refl h) items (none_alike file groups row items lacks all))

@@ -12,7 +12,7 @@ ghost use Rattle.release_rows.specs.Operations.{place_in, put_in, with_end};
 ghost use Rattle.release_rows.specs.Searches.{IsSoughtRow};
 ghost use Rattle.release_rows.specs.StoredItems.{stored_at, IsStored};
 
-use crate::groups::group_tag;
+use crate::mark::group_mark;
 use crate::search::{Search, Test};
 use crate::stretch::Stretch;
 use part_list::{PartList, Spanned, Spot, Tags};
@@ -53,7 +53,7 @@ fn ordinary_gap(items: &PartList<Stretch>, groups: &Tags, search: &Search<'_>) -
         (map (stored_at search.now.file search.now.text) (next_in items.now))) items.now.next }
 {
     contents_have_keys();
-    if !groups.may_have(group_tag(search.group)) {
+    if !groups.may_have(group_mark(search.group)) {
         return end_gap(items, search);
     }
     if let Some(spot) = items.first(&search.with(Test::Follows)) {

@@ -16,7 +16,7 @@ use crate::edits::put_in;
 use crate::finds::{added_gap, changed_spot, search_row, withdrawn_spot};
 use crate::groups::groups_of;
 use crate::join::joined;
-use crate::op_spans::{both_spans, entry_spans, row_spans};
+use crate::op_spans::{both_spans, entry_spans, has_code, row_spans};
 use crate::operation::{Op, OpStop};
 use crate::row_iter::Rows;
 use crate::row_text::RowText;
@@ -41,7 +41,7 @@ pub struct FileText {
     pub(crate) whole: bool,
     /// How many items were added since the file was loaded.
     pub(crate) added: u32,
-    /// The groups of the rows, now and next, if the tags of rows do not tell them: noted from the first addition on.
+    /// Marks of the groups and the keys of the rows, now and next, if these are names alone: noted from the first addition on.
     pub(crate) groups: Tags,
 }
 
@@ -147,11 +147,11 @@ impl FileText {
 
 /// Edits. What is now stays.
 impl FileText {
-    /// Gathers the groups of the rows, if tags of rows do not tell them and they were not gathered yet.
+    /// Gathers the groups and the keys of the rows, if these are names alone and were not gathered yet.
     fn gather_groups(&mut self, alloc: Global)
         ensures { self.new ≡ self.old }
     {
-        if self.file == SourceFile::PropertyValueAliases && self.groups.are_unknown() {
+        if !has_code(self.file) && self.groups.are_unknown() {
             self.groups = groups_of(alloc, self.file, self.text.as_slice(), &self.items);
         }
     }

@@ -2,24 +2,23 @@
 
 ghost use Rattle.std.specs.Prelude.{◌≡◌, Ok, false, map, true};
 ghost use Rattle.std.specs.List.{All};
-ghost use Rattle.ucd_points.specs.declared.files.SourceFile.TheVariants.{PropertyValueAliases};
 ghost use Rattle.ucd_facts.specs.declared.row.Row.{Row as RowValue};
 ghost use Rattle.source_rows.specs.Faults.{row_or_fault};
 ghost use Rattle.source_rows.specs.Keys.{key_of};
 ghost use Rattle.part_list.specs.Parts.{next_in};
 ghost use Rattle.release_rows.specs.Finding.{FindsGap, FindsRow, FindsSpot, items_of};
 ghost use Rattle.part_list.specs.Tags.{may_have};
-ghost use Rattle.release_rows.specs.Groups.{AreMarked, group_tag};
-ghost use Rattle.release_rows.specs.Keys.{is_missing_row};
+ghost use Rattle.release_rows.specs.Groups.{AreMarked, key_mark};
+ghost use Rattle.release_rows.specs.Keys.{has_spans, is_missing_row};
 ghost use Rattle.release_rows.specs.Operations.{has_key};
 ghost use Rattle.release_rows.specs.Searches.{IsSoughtRow};
 ghost use Rattle.release_rows.specs.StoredItems.{IsStored, stored_at};
 
 use crate::edits::{Gap, gap_for};
-use crate::groups::group_tag;
 use crate::key_rule::KeyRule;
+use crate::mark::key_mark;
 use crate::op_spans::{code_of, has_code};
-use crate::row_key::row_end;
+use crate::row_key::{has_spans, row_end};
 use crate::search::{Search, Test};
 use crate::stretch::Stretch;
 use crate::tag::{content_tag, key_tag};
@@ -76,7 +75,7 @@ pub fn added_gap(
         → FindsGap result search.now.file search.now.text row items.now.next }
 {
     contents_have_keys();
-    if is_first_of_group(groups, search) {
+    if is_first_of_key(groups, search) {
         return Ok(gap_for(items, groups, search));
     }
     if items.first(&search.with(Test::SameKey)).is_some() {
@@ -88,13 +87,13 @@ pub fn added_gap(
     Ok(gap_for(items, groups, search))
 }
 
-/// Whether the file is PropertyValueAliases.txt and has no row of the group that is looked for, as far as groups are noted. Keys
-/// begin with the name of their group there, so no row has its key either.
-fn is_first_of_group(groups: &Tags, search: &Search<'_>) -> bool
-    ensures file { result ≡ true → search.now.file ≡ PropertyValueAliases }
-    ensures group { result ≡ true → may_have groups.now (group_tag search.now.group) ≡ false }
+/// Whether keys of the file are names alone, and no row has the key that is looked for, as far as keys are noted.
+fn is_first_of_key(groups: &Tags, search: &Search<'_>) -> bool
+    ensures file { result ≡ true → has_spans search.now.file ≡ false }
+    ensures key { result ≡ true
+        → may_have groups.now (key_mark search.now.file search.now.names) ≡ false }
 {
-    search.file == SourceFile::PropertyValueAliases && !groups.may_have(group_tag(search.group))
+    !has_spans(search.file) && !groups.may_have(key_mark(search.file, search.names))
 }
 
 /// Where the row stands that a change replaces.

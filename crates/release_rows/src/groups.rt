@@ -1,42 +1,35 @@
-//! The groups of the rows of a file, by which one that has no row yet is told at once.
+//! The groups and the keys of the rows of a file, by which one that has no row yet is told at once.
 
-ghost use Rattle.std.specs.Prelude.{◌≡◌, true, map, Ok};
+ghost use Rattle.std.specs.Prelude.{◌≡◌, map, Ok};
 ghost use Rattle.std.specs.List.{All};
 ghost use Rattle.part_list.specs.Parts.{next_in, now_in};
-ghost use Rattle.part_list.specs.Tags.{Grows, may_have};
+ghost use Rattle.part_list.specs.Tags.{Grows};
 ghost use Rattle.source_rows.specs.Faults.{row_or_fault};
-ghost use Rattle.source_rows.specs.KeyNames.{group_of};
 ghost use Rattle.ucd_facts.specs.declared.row.Row.{Row as RowValue};
-ghost use Rattle.release_rows.specs.Groups.{AreMarked, group_tag};
+ghost use Rattle.release_rows.specs.Groups.{AreMarked, RowMarked};
 ghost use Rattle.release_rows.specs.StoredItems.{IsStored, stored_at};
 
+use crate::mark::{content_mark, group_mark};
 use crate::stretch::{Stretch, content_in};
-use crate::tag::{end_of, number};
 use part_list::{Entries, PartList, Tags};
 use source_rows::{content_group, contents_have_keys};
 use std::alloc::Global;
 use ucd_facts::SourceFile;
 
-/// The tag of a group of this name.
-pub fn group_tag(group: &[u8]) -> u32
-    ensures { result ≡ group_tag group.now }
-{
-    number(end_of(group))
-}
-
-/// Notes the group of a row that stands in this content, if groups are noted at all.
+/// Notes the group and the key of a row that stands in this content, if they are noted at all.
 pub fn note_group(groups: &mut Tags, file: SourceFile, content: &[u8])
     ensures noted { (row : RowValue) → row_or_fault file content.now ≡ Ok row
-        → may_have groups.new (group_tag (group_of file row)) ≡ true }
+        → RowMarked file groups.new row }
     ensures grows { Grows groups.old groups.new }
 {
     contents_have_keys();
     if !groups.are_unknown() {
-        groups.put(group_tag(content_group(file, content)));
+        groups.put(group_mark(content_group(file, content)));
+        groups.put(content_mark(file, content));
     }
 }
 
-/// Notes the groups of the rows of entries.
+/// Notes the groups and the keys of the rows of entries.
 fn note_all(groups: &mut Tags, file: SourceFile, text: &[u8], mut entries: Entries<'_, Stretch>)
     requires { All (IsStored file text.now) entries }
     ensures noted { AreMarked file groups.new (map (stored_at file text.now) entries.entry) }
@@ -47,7 +40,7 @@ fn note_all(groups: &mut Tags, file: SourceFile, text: &[u8], mut entries: Entri
     }
 }
 
-/// The groups of the rows of a file, now and next, as far as there is memory for them.
+/// The groups and the keys of the rows of a file, now and next, as far as there is memory for them.
 pub fn groups_of(alloc: Global, file: SourceFile, text: &[u8], items: &PartList<Stretch>) -> Tags
     requires now { All (IsStored file text.now) (now_in items.now) }
     requires next { All (IsStored file text.now) (next_in items.now) }

@@ -20,6 +20,7 @@ mod laws;
 mod load_items;
 mod load_stop;
 mod loading;
+mod mark;
 mod meeting;
 mod nine_files;
 mod op_spans;

@@ -1,12 +1,11 @@
 //! Puts the bytes of a row into the text of its file.
 
-ghost use Rattle.std.specs.Prelude.{◌≡◌, ◌++◌, true, Ok, length, IfOk, OnOk, OnErr, if◌then◌else◌};
+ghost use Rattle.std.specs.Prelude.{◌≡◌, ◌++◌, Ok, length, IfOk, OnOk, OnErr, if◌then◌else◌};
 ghost use Rattle.ucd_points.specs.Lines.{holds_line_feed};
 ghost use Rattle.ucd_lines.specs.Items.{ending_of};
 ghost use Rattle.source_rows.specs.Faults.{row_or_fault};
-ghost use Rattle.source_rows.specs.KeyNames.{group_of};
-ghost use Rattle.part_list.specs.Tags.{Grows, may_have};
-ghost use Rattle.release_rows.specs.Groups.{group_tag};
+ghost use Rattle.part_list.specs.Tags.{Grows};
+ghost use Rattle.release_rows.specs.Groups.{RowMarked};
 ghost use Rattle.release_rows.specs.Operations.{item_of_row};
 ghost use Rattle.release_rows.specs.StoredItems.{stored_at, IsStored};
 
@@ -42,9 +41,9 @@ pub fn stretch_behind(text: &[u8], bytes: &[u8]) -> Result<(u32, u32), Memory>
     Ok((start, len))
 }
 
-/// Puts the bytes that a row is read from at the end of the text, and notes the row's group: its entry, which stands there.
+/// Puts the bytes that a row is read from at the end of the text, and notes the row's group and its key: its entry, which stands there.
 ///
-/// - `Memory`: memory ran out, or the text would have 2^32 bytes or more. The text stays as it was; the group stays noted.
+/// - `Memory`: memory ran out, or the text would have 2^32 bytes or more. The text stays as it was; what is noted stays.
 pub fn store_row(
     text: &mut Text,
     groups: &mut Tags,
@@ -59,7 +58,7 @@ pub fn store_row(
     ensures item { IfOk result (λ entry. stored_at file text.new entry
         ≡ item_of_row row.now bytes.now (ending_of ending)) }
     ensures err { OnErr result (text.new ≡ text.old) }
-    ensures noted { may_have groups.new (group_tag (group_of file row.now)) ≡ true }
+    ensures noted { RowMarked file groups.new row.now }
     ensures grows { Grows groups.old groups.new }
 {
     rows_are_read();

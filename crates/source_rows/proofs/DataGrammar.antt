@@ -14,7 +14,7 @@ use Rattle.ucd_facts.specs.declared.category.Category.{Category}
 use Rattle.ucd_facts.specs.declared.decomposition.Kind.{Kind}
 use Rattle.ucd_facts.specs.declared.decomposition.Kind.TheVariants.{Plain, Canonical, Compat}
 use Rattle.ucd_facts.specs.declared.decomposition.Tag.{Tag}
-use Rattle.ucd_facts.specs.declared.decomposition.Tag.TheVariants.{Font, NoBreak, Initial, Medial, Final, Isolated, Circle, Super, Sub, Vertical, Wide, Narrow, Small, Square, Fraction, Compat as CompatTag}
+use Rattle.ucd_facts.specs.declared.decomposition.Tag.TheVariants.{Font}
 use Rattle.ucd_facts.specs.declared.row.DataRow.{DataRow}
 use Rattle.source_rows.specs.Steps.{or_fault, and_then}
 use Rattle.source_rows.specs.DataFaults.{at_least_one, is_gt, canonical_or_fault, compat_or_fault, decomposition_or_fault, values_or_fault}
@@ -26,7 +26,7 @@ use Rattle.source_rows.proofs.Digits.{none_stays}
 use Rattle.source_rows.proofs.Words.{no_words}
 use Rattle.source_rows.proofs.Mappings.{mapping_spelled, mapping_given, at_least, one_or_more}
 use Rattle.source_rows.proofs.Tags.{open_before, rest_after, open_is_tag, tag_is, tag_whole}
-use Rattle.source_rows.proofs.Found.{passed, found, after}
+use Rattle.source_rows.proofs.Found.{passed, found, after, none_either}
 
 -- ---- field 5, as it is read
 
@@ -91,13 +91,9 @@ decomposition_read (b ∷ bs) d h = some_read (eqb b 60) (b ∷ bs) d h
 
 -- ---- field 5, as it is spelled
 
-guarded_none : (b : Bool) → cond {A = Option ℕ} b None None ≡ None
-guarded_none true = refl
-guarded_none false = refl
-
 no_point : (bs : List ℕ) → point_of (60 ∷ bs) ≡ None
 unfolding point_of
-no_point bs = rw (none_stays bs) (guarded_none (leb 4 (length (60 ∷ bs)) && leb (length (60 ∷ bs)) 6))
+no_point bs = rw (none_stays bs) (none_either (leb 4 (length (60 ∷ bs)) && leb (length (60 ∷ bs)) 6))
 
 not_first : (w : List ℕ) (ws : List (List ℕ)) (cs : List ℕ) → map point_of ((60 ∷ w) ∷ ws) ≡ map (λ c. Some c) cs → ⊥
 not_first w ws [] h = cc
@@ -130,21 +126,7 @@ compat_given tag rest cs s some = rw (open_before tag rest, rest_after tag rest,
 tag_first : (tag : Tag) (rest : List ℕ) → decomposition_or_fault (tag_text tag ++ rest) ≡ compat_or_fault (tag_text tag ++ rest)
 unfolding decomposition_or_fault
 tag_first Font rest = refl
-tag_first NoBreak rest = refl
-tag_first Initial rest = refl
-tag_first Medial rest = refl
-tag_first Final rest = refl
-tag_first Isolated rest = refl
-tag_first Circle rest = refl
-tag_first Super rest = refl
-tag_first Sub rest = refl
-tag_first Vertical rest = refl
-tag_first Wide rest = refl
-tag_first Narrow rest = refl
-tag_first Small rest = refl
-tag_first Square rest = refl
-tag_first Fraction rest = refl
-tag_first CompatTag rest = refl
+tag_first _ rest = refl
 
 pub decomposition_given : (bs : List ℕ) (kind : Kind) (cs : List ℕ) → SpellsDecomposition bs kind cs → decomposition_or_fault bs ≡ Ok (record { kind = kind; mapping = cs })
 unfolding decomposition_or_fault

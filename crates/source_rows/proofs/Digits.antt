@@ -1,7 +1,8 @@
 -- Hexadecimal digits.
-use Rattle.std.proofs.Common.{◌≡◌, ℕ, Bool, true, false, cond, List, [], ◌∷◌, length, Option, Some, None, fold, refl, arith}
+use Rattle.std.proofs.Common.{◌≡◌, ℕ, Bool, true, false, List, [], ◌∷◌, length, Option, Some, None, fold, refl, arith}
 use Rattle.std.specs.List.{position_or_len}
 use Rattle.std.proofs.lemmas.Bool.{eqb-true}
+use Rattle.source_rows.proofs.Found.{guarded}
 use Rattle.ucd_points.specs.Fields.{digit_of, with_digit, hex_number, if_point, point_of, is_dot}
 
 pub none_stays : (bs : List ℕ) → fold (λ n b. with_digit n (digit_of b)) None bs ≡ None
@@ -28,13 +29,9 @@ if_point_some : (o : Option ℕ) (c : ℕ) → if_point o ≡ Some c → (n : �
 if_point_some (Some n) c h = (n, refl)
 if_point_some None c h = absurd cc
 
-guarded : {A : Type 0} (b : Bool) (o : Option A) (c : A) → cond b o None ≡ Some c → o ≡ Some c
-guarded true o c h = h
-guarded false o c h = absurd cc
-
 -- a code point has no dot
 pub point_no_dot : (bs : List ℕ) (c : ℕ) → point_of bs ≡ Some c → position_or_len is_dot bs ≡ length bs
 unfolding point_of
 point_no_dot bs c h =
-    let digits = if_point_some (hex_number bs) c (guarded _ _ c h) in
+    let digits = if_point_some (hex_number bs) c (guarded _ _ c h).1 in
     no_dot_from bs (Some 0) digits.0 digits.1

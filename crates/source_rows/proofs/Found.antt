@@ -12,6 +12,14 @@ pub failed : {B : Type 0} (b : Bool) (r : Result B RowFault) (f : RowFault) (x :
 failed true r f x h = absurd cc
 failed false r f x h = (refl, h)
 
+pub guarded : {A : Type 0} (b : Bool) (o : Option A) (x : A) → cond b o None ≡ Some x → (b ≡ true) × (o ≡ Some x)
+guarded true o x h = (refl, h)
+guarded false o x h = absurd cc
+
+pub none_either : {A : Type 0} (b : Bool) → cond {A = Option A} b None None ≡ None
+none_either true = refl
+none_either false = refl
+
 pub found : {A B : Type 0} (fault : RowFault) (o : Option A) (f : A → Result B RowFault) (x : B) → or_fault fault o f ≡ Ok x → (a : A) × (o ≡ Some a) × (f a ≡ Ok x)
 found fault (Some a) f x h = (a, refl, h)
 found fault None f x h = absurd cc

@@ -92,25 +92,17 @@ line_read PropertyValueAliases bytes row h = its bytes row (alias_read 3 (fields
 
 line_given : (file : SourceFile) (bytes : List ℕ) (row : Row) → ReadsLine file bytes row → line_or_fault file bytes ≡ Ok row
 line_given UnicodeData bytes (DataLine row) r = single_given (fields UnicodeData bytes) row r
-line_given UnicodeData bytes _ r = absurd r
 line_given PropList bytes (ValueLine row) r = property_given bytes row r
-line_given PropList bytes _ r = absurd r
 line_given Scripts bytes (ValueLine row) r = rw (value_given (fields Scripts bytes) row r.1, r.0) refl
 line_given Scripts bytes (MissingLine row) r = rw (value_given (fields Scripts bytes) row r.1, r.0) refl
-line_given Scripts bytes _ r = absurd r
 line_given WordBreakProperty bytes (ValueLine row) r = rw (value_given (fields WordBreakProperty bytes) row r.1, r.0) refl
 line_given WordBreakProperty bytes (MissingLine row) r = rw (value_given (fields WordBreakProperty bytes) row r.1, r.0) refl
-line_given WordBreakProperty bytes _ r = absurd r
 line_given CompositionExclusions bytes (ExclusionLine row) r = exclusion_given (fields CompositionExclusions bytes) row r
-line_given CompositionExclusions bytes _ r = absurd r
 line_given CaseFolding bytes (FoldLine row) r = fold_given (fields CaseFolding bytes) row r
-line_given CaseFolding bytes _ r = absurd r
 line_given SpecialCasing bytes (CasingLine row) r = casing_given (fields SpecialCasing bytes) row r
-line_given SpecialCasing bytes _ r = absurd r
 line_given PropertyAliases bytes (AliasLine row) r = alias_given 2 (fields PropertyAliases bytes) row r
-line_given PropertyAliases bytes _ r = absurd r
 line_given PropertyValueAliases bytes (AliasLine row) r = alias_given 3 (fields PropertyValueAliases bytes) row r
-line_given PropertyValueAliases bytes _ r = absurd r
+line_given _ bytes _ r = absurd r
 
 -- ---- two lines
 

@@ -2,6 +2,7 @@
 use Rattle.std.proofs.Common.{◌≡◌, ℕ, Bool, true, false, cond, eqb, leb, List, [], ◌∷◌, length, Option, Some, None, Result, Ok, Err, refl, sym, subst}
 use Rattle.std.specs.List.{list_all}
 use Rattle.std.proofs.lemmas.Bool.{eqb-true, eq-eqb, leb-true, le-leb}
+use Rattle.std.proofs.lemmas.Option.{cond_some}
 use Rattle.ucd_points.specs.Lines.{holds_line_feed}
 use Rattle.ucd_points.specs.Bounds.{Bounds}
 use Rattle.ucd_points.specs.Fields.{fields, field, point_of, span_of, is_name}
@@ -21,7 +22,6 @@ use Rattle.source_rows.specs.declared.fault.RowFault.TheVariants.{G03, G04, G08,
 use Rattle.source_rows.specs.declared.key.Key.{Key}
 use Rattle.source_rows.proofs.Found.{passed, failed, found}
 use Rattle.source_rows.proofs.Spans.{spelled, given}
-use Rattle.source_rows.proofs.WordTexts.{guarded}
 
 -- a key by its parts
 abbrev keyed : Option ℕ → List (List ℕ) → Result Key RowFault
@@ -135,7 +135,7 @@ alias_read count fs key h =
     let a = passed (eqb (length fs) count) (cond (is_name (field fs 0)) (or_fault G11 (names_of fs) alias_named) (Err G11)) G03 key h in
     let b = passed (is_name (field fs 0)) (or_fault G11 (names_of fs) alias_named) G11 key a.1 in
     let c = found G11 (names_of fs) alias_named key b.1 in
-    let d = guarded (list_all is_name_or_empty fs) fs c.0 c.1 in
+    let d = cond_some (list_all is_name_or_empty fs) fs c.0 c.1 in
     let same : record { code = None; names = c.0 } ≡ key = cc in
     subst (λ (k : Key). ReadsAliasKey count fs k) same (record { as_many = eqb-true _ _ a.0; first = b.0; others = d.0; code = refl; names = sym d.1 })
 

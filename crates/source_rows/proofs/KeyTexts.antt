@@ -22,7 +22,7 @@ use Rattle.ucd_points.specs.declared.files.SourceFile.{SourceFile}
 use Rattle.ucd_points.specs.declared.files.SourceFile.TheVariants.{UnicodeData, PropList, Scripts, WordBreakProperty, CompositionExclusions, CaseFolding, SpecialCasing, PropertyAliases, PropertyValueAliases}
 use Rattle.ucd_facts.specs.declared.row.AliasRow.{AliasRow}
 use Rattle.ucd_facts.specs.declared.row.FoldStatus.{FoldStatus}
-use Rattle.ucd_facts.specs.declared.row.FoldStatus.TheVariants.{C, F, S, T}
+use Rattle.ucd_facts.specs.declared.row.FoldStatus.TheVariants.{C}
 use Rattle.ucd_facts.specs.declared.row.Row.{Row}
 use Rattle.ucd_facts.specs.declared.row.Row.TheVariants.{Unit as DataLine, Value as ValueLine, Exclusion as ExclusionLine, Fold as FoldLine, Casing as CasingLine, Alias as AliasLine, Missing as MissingLine}
 use Rattle.source_rows.specs.Fields.{fields_of, row_fields}
@@ -114,9 +114,7 @@ status_line c s = two_line c (status_code s ∷ []) (piece (status_code s ∷ []
   where
     status_is_trimmed : (s : FoldStatus) → IsTrimmed (status_code s ∷ [])
     status_is_trimmed C = refl
-    status_is_trimmed F = refl
-    status_is_trimmed S = refl
-    status_is_trimmed T = refl
+    status_is_trimmed _ = refl
 
 property_key_reads : (c : ℕ) (name : List ℕ) (fs : List (List ℕ)) → c < 1114112 → is_name name ≡ true → fs ≡ hex_text c ∷ name ∷ [] → ReadsPropertyKey fs (record { code = Some c; names = name ∷ [] })
 property_key_reads c name fs small named e = subst (λ (gs : List (List ℕ)). ReadsPropertyKey gs (record { code = Some c; names = name ∷ [] })) (sym e) (record { count = refl; point = c; spelled = hex_text_spells_its_point c small; code = refl; named = named; names = refl })
@@ -162,31 +160,23 @@ alias_key_reads count row some ok =
 text_reads : (file : SourceFile) (row : Row) → RowOk file row → ReadsKey file (key_text file (key_of file row)) (key_of file row)
 unfolding fields missing_rest
 text_reads UnicodeData (DataLine row) ok = let c = row.span.lo in ((code_line c).no_feed, code_key_reads c (fields_of (hex_text c)) (omega (arith, ok.span.0, ok.span.1)) (data_fields c))
-text_reads UnicodeData _ ok = absurd ok
 text_reads PropList (ValueLine row) ok =
     let c = row.span.lo in
     let line = three_line c row.value (value_piece row.value ok.value) ok.value.trimmed in
     (line.no_feed, property_key_reads c row.value (cut_fields (hex_text c ++ 32 ∷ 59 ∷ 32 ∷ row.value)) (omega (arith, ok.span.0, ok.span.1)) ok.value.name line.cut)
-text_reads PropList _ ok = absurd ok
 text_reads Scripts (ValueLine row) ok = plain_coded Scripts row.span.lo (omega (arith, ok.span.0, ok.span.1))
 text_reads Scripts (MissingLine row) ok = missing_key_reads Scripts row.span refl ok.span
-text_reads Scripts _ ok = absurd ok
 text_reads WordBreakProperty (ValueLine row) ok = plain_coded WordBreakProperty row.span.lo (omega (arith, ok.span.0, ok.span.1))
 text_reads WordBreakProperty (MissingLine row) ok = missing_key_reads WordBreakProperty row.span refl ok.span
-text_reads WordBreakProperty _ ok = absurd ok
 text_reads CompositionExclusions (ExclusionLine row) ok = coded row.span.lo (omega (arith, ok.0, ok.1))
-text_reads CompositionExclusions _ ok = absurd ok
 text_reads CaseFolding (FoldLine row) ok = let line = status_line row.code row.status in (line.no_feed, fold_key_reads row.code row.status (cut_fields (hex_text row.code ++ 59 ∷ 32 ∷ status_code row.status ∷ [])) ok.code line.cut)
-text_reads CaseFolding _ ok = absurd ok
 text_reads SpecialCasing (CasingLine row) ok =
     let is = conditions_are row.conditions row.conditions ok.conditions in
     let key = casing_key_reads row.code row.conditions ok.code ok.conditions (record { no_semicolon = ok.no_semicolon; no_hash = ok.no_hash; no_feed = conditions_no_feed row.conditions is.0 }) (ap trim (sym is.1) ∙ words_trimmed row.conditions ∙ is.1) in
     (key.no_feed, key.reads)
-text_reads SpecialCasing _ ok = absurd ok
 text_reads PropertyAliases (AliasLine row) ok = let key = alias_key_reads 2 row (omega arith) ok in (key.no_feed, key.reads)
-text_reads PropertyAliases _ ok = absurd ok
 text_reads PropertyValueAliases (AliasLine row) ok = let key = alias_key_reads 3 row (omega arith) ok in (key.no_feed, key.reads)
-text_reads PropertyValueAliases _ ok = absurd ok
+text_reads _ _ ok = absurd ok
 
 pub key_texts_read_back : KeyTextsReadBack
 key_texts_read_back file row ok = (keys_are_read file (key_text file (key_of file row)) (key_of file row)).1 (text_reads file row ok)

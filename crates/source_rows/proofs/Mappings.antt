@@ -1,7 +1,8 @@
 -- Mappings are given exactly where they are spelled.
-use Rattle.std.proofs.Common.{◌≡◌, ℕ, ◌<◌, Bool, true, false, cond, leb, List, [], ◌∷◌, length, map, Option, Some, None, refl, sym, ap, ◌∙◌, arith}
+use Rattle.std.proofs.Common.{◌≡◌, ℕ, ◌<◌, true, leb, List, [], ◌∷◌, length, map, Option, Some, None, refl, sym, ap, ◌∙◌, arith}
 use Rattle.std.proofs.lemmas.Bool.{leb-true, le-leb}
 use Rattle.std.proofs.lemmas.List.{length-map}
+use Rattle.source_rows.proofs.Found.{guarded}
 use Rattle.ucd_points.specs.Fields.{point_of}
 use Rattle.ucd_facts.specs.Mappings.{words, SpellsMapping, onto_points, all_points, mapping_of}
 use Rattle.source_rows.specs.DataFaults.{at_least_one}
@@ -29,10 +30,6 @@ are_points (w ∷ ws) (c ∷ cs) h =
     let others : map point_of ws ≡ map (λ c. Some c) cs = cc in
     rw (first, are_points ws cs others) refl
 
-guarded : (b : Bool) (o : Option (List ℕ)) (cs : List ℕ) → cond b o None ≡ Some cs → (b ≡ true) × (o ≡ Some cs)
-guarded true o cs h = (refl, h)
-guarded false o cs h = absurd cc
-
 same_length : (ws : List (List ℕ)) (cs : List ℕ) → map point_of ws ≡ map (λ c. Some c) cs → length ws ≡ length cs
 same_length ws cs h = sym (length-map ws point_of) ∙ ap length h ∙ length-map cs (λ c. Some c)
 
@@ -51,8 +48,7 @@ mapping_given bs cs s =
 
 pub at_least : (o : Option (List ℕ)) (cs : List ℕ) → at_least_one o ≡ Some cs → (o ≡ Some cs) × (0 < length cs)
 at_least (Some (c ∷ ds)) cs h = let e : c ∷ ds ≡ cs = cc in (h, rw (← e) (omega arith))
-at_least (Some []) cs h = absurd cc
-at_least None cs h = absurd cc
+at_least _ cs h = absurd cc
 
 pub one_or_more : (cs : List ℕ) → 0 < length cs → at_least_one (Some cs) ≡ Some cs
 one_or_more [] h = absurd (omega arith)

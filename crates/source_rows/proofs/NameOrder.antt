@@ -5,12 +5,12 @@ use Rattle.std.specs.List.{join_with_byte, flat_map}
 use Rattle.std.specs.Ordering.{ordering_then, nat_cmp, is_ne}
 use Rattle.std.specs.declared.cmp.Ordering.{Ordering}
 use Rattle.std.specs.declared.cmp.Ordering.TheVariants.{Less, Equal, Greater}
+use Rattle.std.proofs.lemmas.List.{append-nil}
 use Rattle.source_rows.specs.KeyNames.{names_cmp}
 
 then_assoc : (a b c : Ordering) → ordering_then a (ordering_then b c) ≡ ordering_then (ordering_then a b) c
 then_assoc Less b c = refl
-then_assoc Equal b c = refl
-then_assoc Greater b c = refl
+then_assoc _ b c = refl
 
 -- a text against a part and what stands behind that
 pub part_first : (e part more : List ℕ) → slice_cmp nat_cmp e (part ++ more) ≡ ordering_then (slice_cmp nat_cmp (take (length part) e) part) (slice_cmp nat_cmp (drop (length part) e) more)
@@ -29,11 +29,7 @@ led_by gap (w ∷ ws) = gap ++ (w ++ led ws)
 
 pub led_joined : (ws : List (List ℕ)) → led_by [] ws ≡ join_with_byte 32 ws
 led_joined [] = refl
-led_joined (w ∷ []) = ap (λ (xs : List ℕ). w ++ xs) refl ∙ nothing_behind w
-  where
-    nothing_behind : (w : List ℕ) → w ++ [] ≡ w
-    nothing_behind [] = refl
-    nothing_behind (b ∷ bs) = ap (λ (xs : List ℕ). b ∷ xs) (nothing_behind bs)
+led_joined (w ∷ []) = append-nil w
 led_joined (w ∷ v ∷ vs) = ap (λ (xs : List ℕ). w ++ 32 ∷ xs) (led_joined (v ∷ vs))
 
 pub led_spaced : (ws : List (List ℕ)) → led_by (32 ∷ []) ws ≡ led ws
@@ -43,14 +39,12 @@ led_spaced (w ∷ ws) = refl
 -- ---- one word, as the loop takes it
 
 pub stops : (o rest : Ordering) → is_ne o ≡ true → o ≡ ordering_then o rest
-stops Less rest h = refl
 stops Equal rest h = absurd cc
-stops Greater rest h = refl
+stops _ rest h = refl
 
 pub goes : (o rest : Ordering) → is_ne o ≡ false → ordering_then o rest ≡ rest
-goes Less rest h = absurd cc
 goes Equal rest h = refl
-goes Greater rest h = absurd cc
+goes _ rest h = absurd cc
 
 abbrev pub begins : List ℕ → List ℕ → Ordering
 begins text part = slice_cmp nat_cmp (take (length part) text) part

@@ -3,13 +3,14 @@ use Rattle.std.proofs.Common.{◌≡◌, ℕ, true, cond, eqb, leb, ◌&&◌, Li
 use Rattle.std.specs.Prelude.{◌⊎◌}
 use Rattle.std.specs.List.{list_all}
 use Rattle.std.proofs.lemmas.Bool.{eqb-true, eq-eqb, leb-true, le-leb, ltb-true, lt-ltb, and_parts, and_from, or_cases, or_left, or_right}
+use Rattle.std.proofs.lemmas.Option.{cond_some}
 use Rattle.ucd_points.specs.Bounds.{Bounds}
 use Rattle.ucd_facts.specs.Names.{status_of}
 use Rattle.ucd_points.specs.Fields.{field, point_of, span_of, is_name}
 use Rattle.ucd_facts.specs.Mappings.{mapping_of, conditions_of}
 use Rattle.ucd_facts.specs.OtherLines.{ReadsValue, ReadsExclusion, ReadsFold, FoldsTo, ReadsCasing, ReadsAlias, is_name_or_empty}
 use Rattle.ucd_facts.specs.declared.row.FoldStatus.{FoldStatus}
-use Rattle.ucd_facts.specs.declared.row.FoldStatus.TheVariants.{C, F, S, T}
+use Rattle.ucd_facts.specs.declared.row.FoldStatus.TheVariants.{F, T}
 use Rattle.ucd_facts.specs.declared.row.ValueRow.{ValueRow}
 use Rattle.ucd_facts.specs.declared.row.ExclusionRow.{ExclusionRow}
 use Rattle.ucd_facts.specs.declared.row.FoldRow.{FoldRow}
@@ -24,7 +25,6 @@ use Rattle.source_rows.specs.declared.fault.RowFault.TheVariants.{G03, G04, G07,
 use Rattle.source_rows.proofs.Spans.{spelled, given}
 use Rattle.source_rows.proofs.Mappings.{mapping_spelled, mapping_given}
 use Rattle.source_rows.proofs.Found.{passed, found}
-use Rattle.source_rows.proofs.WordTexts.{guarded}
 
 -- ---- a span and a value
 
@@ -88,20 +88,18 @@ count_folds fs (inl three) = or_left (eqb (length fs) 3) (eqb (length fs) 4 && i
 count_folds fs (inr four) = or_right (eqb (length fs) 3) (eqb (length fs) 4 && is_empty (field fs 3)) (and_from _ _ (eq-eqb (length fs) 4 four.0) (ap is_empty four.1))
 
 folds : (status : FoldStatus) (n : ℕ) → folds_to status n ≡ true → FoldsTo status n
-folds C n h = eqb-true n 1 h
-folds S n h = eqb-true n 1 h
 folds F n h = ltb-true 0 n h
 folds T n h = ltb-true 0 n h
+folds _ n h = eqb-true n 1 h
 
 folded : (status : FoldStatus) (n : ℕ) → FoldsTo status n → folds_to status n ≡ true
-folded C n h = eq-eqb n 1 h
-folded S n h = eq-eqb n 1 h
 folded F n h = lt-ltb 0 n h
 folded T n h = lt-ltb 0 n h
+folded _ n h = eq-eqb n 1 h
 
 of_status_is : (status : FoldStatus) (o : Option (List ℕ)) (cs : List ℕ) → of_status status o ≡ Some cs → (o ≡ Some cs) × FoldsTo status (length cs)
 of_status_is status (Some ds) cs h =
-    let k = guarded (folds_to status (length ds)) ds cs h in
+    let k = cond_some (folds_to status (length ds)) ds cs h in
     (ap (λ (xs : List ℕ). Some xs) k.1, subst (λ (xs : List ℕ). FoldsTo status (length xs)) k.1 (folds status (length ds) k.0))
 of_status_is status None cs h = absurd cc
 
@@ -186,7 +184,7 @@ alias_read least fs row h =
     let a = passed (leb least (length fs)) (cond (is_name (field fs 0)) (or_fault G11 (names_of fs) alias_line) (Err G11)) G03 row h in
     let b = passed (is_name (field fs 0)) (or_fault G11 (names_of fs) alias_line) G11 row a.1 in
     let c = found G11 (names_of fs) alias_line row b.1 in
-    let d = guarded (list_all is_name_or_empty fs) fs c.0 c.1 in
+    let d = cond_some (list_all is_name_or_empty fs) fs c.0 c.1 in
     let same : AliasLine (record { names = c.0 }) ≡ row = cc in
     subst (λ (r : Row). IsAliasOf least fs r) same (record { count = leb-true least (length fs) a.0; first = b.0; others = d.0; names = sym d.1 })
 

@@ -14,7 +14,7 @@ use Rattle.ucd_points.specs.HexText.{hex_text, span_text}
 use Rattle.ucd_facts.specs.RowTexts.{mapping_text, value_text, missing_text, exclusion_text, fold_text, conditions_text, casing_text, names_text, alias_text}
 use Rattle.ucd_facts.specs.RowValues.{IsTrimmed, IsValueName, ValueOk, ExclusionOk, FoldOk, CasingOk, IsAliasName, AliasOk}
 use Rattle.ucd_facts.specs.declared.row.FoldStatus.{FoldStatus}
-use Rattle.ucd_facts.specs.declared.row.FoldStatus.TheVariants.{C, F, S, T}
+use Rattle.ucd_facts.specs.declared.row.FoldStatus.TheVariants.{C}
 use Rattle.ucd_facts.specs.declared.row.ValueRow.{ValueRow}
 use Rattle.ucd_facts.specs.declared.row.ExclusionRow.{ExclusionRow}
 use Rattle.ucd_facts.specs.declared.row.FoldRow.{FoldRow}
@@ -158,9 +158,7 @@ exclusion_reads row ok =
 
 status_trimmed : (s : FoldStatus) → trim (32 ∷ status_code s ∷ []) ≡ status_code s ∷ []
 status_trimmed C = refl
-status_trimmed F = refl
-status_trimmed S = refl
-status_trimmed T = refl
+status_trimmed _ = refl
 
 abbrev fold_pieces : FoldRow → List (List ℕ)
 fold_pieces row = (32 ∷ status_code row.status ∷ []) ∷ (32 ∷ mapping_text row.mapping) ∷ [] ∷ []

@@ -4,6 +4,8 @@ use Rattle.std.specs.Prelude.{not}
 use Rattle.std.specs.List.{All, list_any, list_all, join_with_byte}
 use Rattle.std.proofs.lemmas.Bool.{ltb-true, leb-true, and_parts, and_from, or_parts, not-false}
 use Rattle.std.proofs.lemmas.List.Elements.{All-nil, All-cons}
+use Rattle.std.proofs.lemmas.Option.{cond_some}
+use Rattle.source_rows.proofs.Found.{guarded}
 use Rattle.ucd_points.specs.Bounds.{Bounds}
 use Rattle.ucd_facts.specs.Names.{letter_of, mark_of, number_of, punctuation_of, symbol_of, separator_of, other_of, category_of}
 use Rattle.ucd_points.specs.Fields.{point_of, if_point, some_point, hex_number, SpellsSpan, is_digit, is_class, decimal_number, class_of, case_of}
@@ -28,13 +30,9 @@ point_bound : (o : Option ℕ) (c : ℕ) → if_point o ≡ Some c → c < 11141
 point_bound (Some n) c h = bounded (ltb n 1114112) n c refl h
 point_bound None c h = absurd cc
 
-guarded : (b : Bool) (o : Option ℕ) (c : ℕ) → cond b o None ≡ Some c → o ≡ Some c
-guarded true o c h = h
-guarded false o c h = absurd cc
-
 pub is_point : (bs : List ℕ) (c : ℕ) → point_of bs ≡ Some c → IsPoint c
 unfolding point_of
-is_point bs c h = point_bound (hex_number bs) c (guarded _ _ c h)
+is_point bs c h = point_bound (hex_number bs) c (guarded _ _ c h).1
 
 pub is_span : (bs : List ℕ) (s : Bounds) → SpellsSpan bs s → IsSpan s
 is_span bs s (inl one) = let lo = is_point bs s.lo one.lo in (omega (arith, one.hi), omega (arith, one.hi))
@@ -66,14 +64,10 @@ case_ok [] (Some c) h = absurd cc
 case_ok [] None h = tt
 case_ok (b ∷ bs) o h = some_point_ok (point_of (b ∷ bs)) o (b ∷ bs) refl h
 
-classed : (b : Bool) (m n : ℕ) → cond b (Some m) None ≡ Some n → (b ≡ true) × (m ≡ n)
-classed true m n h = (refl, cc)
-classed false m n h = absurd cc
-
 pub class_ok : (bs : List ℕ) (n : ℕ) → class_of bs ≡ Some n → n ≤ 254
 unfolding class_of
 class_ok bs n h =
-    let k = classed (is_class bs) (decimal_number bs) n h in
+    let k = cond_some (is_class bs) (decimal_number bs) n h in
     let m = and_parts ((leb 1 (length bs) && leb (length bs) 3) && list_all is_digit bs) (leb (decimal_number bs) 254) k.0 in
     omega (arith, leb-true (decimal_number bs) 254 m.1, k.1)
 
@@ -115,13 +109,11 @@ no_other : (b : ℕ) → IsOther (other_of b)
 no_other b = other_or _ Cc _ (λ e. cc) (other_or _ Cf _ (λ e. cc) (other_or _ Cs _ (λ e. cc) (other_or _ Co _ (λ e. cc) no_category)))
 
 pub not_unassigned : (bs : List ℕ) (k : Category) → category_of bs ≡ Some k → k ≢ Cn
-not_unassigned [] k h = absurd cc
-not_unassigned (a ∷ []) k h = absurd cc
 not_unassigned (a ∷ b ∷ []) k h = λ e. two a b (h ∙ ap (λ (x : Category). Some x) e)
   where
     two : (a b : ℕ) → IsOther (category_of (a ∷ b ∷ []))
     two a b = either _ _ _ (no_letter b) (either _ _ _ (no_mark b) (either _ _ _ (no_number b) (either _ _ _ (no_punctuation b) (either _ _ _ (no_symbol b) (either _ _ _ (no_separator b) (either _ _ _ (no_other b) no_category))))))
-not_unassigned (a ∷ b ∷ c ∷ bs) k h = absurd cc
+not_unassigned _ k h = absurd cc
 
 -- ---- conditions
 

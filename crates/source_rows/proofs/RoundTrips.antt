@@ -33,25 +33,17 @@ marked_reads file row takes ok =
 pub text_reads : (file : SourceFile) (row : Row) → RowOk file row → Reads file (row_text file row) row
 unfolding fields missing_rest
 text_reads UnicodeData (DataLine row) ok = data_reads row ok
-text_reads UnicodeData _ ok = absurd ok
 text_reads PropList (ValueLine row) ok = let line = value_reads row ok in inl (line.no_feed, line.reads)
-text_reads PropList _ ok = absurd ok
 text_reads Scripts (ValueLine row) ok = inl ((value_reads row ok).no_feed, plain_reads Scripts row ok)
 text_reads Scripts (MissingLine row) ok = inl ((missing_reads row ok).no_feed, marked_reads Scripts row refl ok)
-text_reads Scripts _ ok = absurd ok
 text_reads WordBreakProperty (ValueLine row) ok = inl ((value_reads row ok).no_feed, plain_reads WordBreakProperty row ok)
 text_reads WordBreakProperty (MissingLine row) ok = inl ((missing_reads row ok).no_feed, marked_reads WordBreakProperty row refl ok)
-text_reads WordBreakProperty _ ok = absurd ok
 text_reads CompositionExclusions (ExclusionLine row) ok = let line = exclusion_reads row ok in inl (line.no_feed, line.reads)
-text_reads CompositionExclusions _ ok = absurd ok
 text_reads CaseFolding (FoldLine row) ok = let line = fold_reads row ok in inl (line.no_feed, line.reads)
-text_reads CaseFolding _ ok = absurd ok
 text_reads SpecialCasing (CasingLine row) ok = let line = casing_reads row ok in inl (line.no_feed, line.reads)
-text_reads SpecialCasing _ ok = absurd ok
 text_reads PropertyAliases (AliasLine row) ok = let line = alias_reads 2 row (omega arith) ok in inl (line.no_feed, line.reads)
-text_reads PropertyAliases _ ok = absurd ok
 text_reads PropertyValueAliases (AliasLine row) ok = let line = alias_reads 3 row (omega arith) ok in inl (line.no_feed, line.reads)
-text_reads PropertyValueAliases _ ok = absurd ok
+text_reads _ _ ok = absurd ok
 
 pub texts_read_back : TextsReadBack
 texts_read_back file row ok = (rows_are_read file (row_text file row) row).1 (text_reads file row ok)

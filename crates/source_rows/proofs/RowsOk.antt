@@ -135,25 +135,17 @@ values_ok file bytes row h r = value_ok (unwrap_or (missing_rest file bytes) byt
 line_ok : (file : SourceFile) (bytes : List ℕ) (row : Row) → holds_line_feed bytes ≡ false → ReadsLine file bytes row → RowOk file row
 unfolding fields missing_rest
 line_ok UnicodeData bytes (DataLine row) h r = single_ok bytes row h r
-line_ok UnicodeData bytes _ h r = absurd r
 line_ok PropList bytes (ValueLine row) h r = value_ok bytes row h r
-line_ok PropList bytes _ h r = absurd r
 line_ok Scripts bytes (ValueLine row) h r = values_ok Scripts bytes row h r.1
 line_ok Scripts bytes (MissingLine row) h r = values_ok Scripts bytes row h r.1
-line_ok Scripts bytes _ h r = absurd r
 line_ok WordBreakProperty bytes (ValueLine row) h r = values_ok WordBreakProperty bytes row h r.1
 line_ok WordBreakProperty bytes (MissingLine row) h r = values_ok WordBreakProperty bytes row h r.1
-line_ok WordBreakProperty bytes _ h r = absurd r
 line_ok CompositionExclusions bytes (ExclusionLine row) h r = exclusion_ok bytes row r
-line_ok CompositionExclusions bytes _ h r = absurd r
 line_ok CaseFolding bytes (FoldLine row) h r = fold_ok bytes row r
-line_ok CaseFolding bytes _ h r = absurd r
 line_ok SpecialCasing bytes (CasingLine row) h r = casing_ok bytes row h r
-line_ok SpecialCasing bytes _ h r = absurd r
 line_ok PropertyAliases bytes (AliasLine row) h r = alias_ok 2 bytes row h r
-line_ok PropertyAliases bytes _ h r = absurd r
 line_ok PropertyValueAliases bytes (AliasLine row) h r = alias_ok 3 bytes row h r
-line_ok PropertyValueAliases bytes _ h r = absurd r
+line_ok _ bytes _ h r = absurd r
 
 lines_ok : (file : SourceFile) (bytes : List ℕ) (row : Row) → IsRange file bytes row → RowOk file row
 lines_ok UnicodeData bytes (DataLine row) r = range_ok bytes row r

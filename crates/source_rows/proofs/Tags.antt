@@ -14,58 +14,16 @@ tag_open tag = before_first is_gt (tag_text tag)
 
 pub open_before : (tag : Tag) (rest : List ℕ) → before_first is_gt (tag_text tag ++ rest) ≡ tag_open tag
 open_before Font rest = refl
-open_before NoBreak rest = refl
-open_before Initial rest = refl
-open_before Medial rest = refl
-open_before Final rest = refl
-open_before Isolated rest = refl
-open_before Circle rest = refl
-open_before Super rest = refl
-open_before Sub rest = refl
-open_before Vertical rest = refl
-open_before Wide rest = refl
-open_before Narrow rest = refl
-open_before Small rest = refl
-open_before Square rest = refl
-open_before Fraction rest = refl
-open_before Compat rest = refl
+open_before _ rest = refl
 
 pub rest_after : (tag : Tag) (rest : List ℕ) → after_first is_gt (tag_text tag ++ rest) ≡ rest
 rest_after Font rest = refl
-rest_after NoBreak rest = refl
-rest_after Initial rest = refl
-rest_after Medial rest = refl
-rest_after Final rest = refl
-rest_after Isolated rest = refl
-rest_after Circle rest = refl
-rest_after Super rest = refl
-rest_after Sub rest = refl
-rest_after Vertical rest = refl
-rest_after Wide rest = refl
-rest_after Narrow rest = refl
-rest_after Small rest = refl
-rest_after Square rest = refl
-rest_after Fraction rest = refl
-rest_after Compat rest = refl
+rest_after _ rest = refl
 
 pub open_is_tag : (tag : Tag) → tag_of (tag_open tag) ≡ Some tag
 unfolding positional_tag_of shaped_tag_of sized_tag_of other_tag_of
 open_is_tag Font = refl
-open_is_tag NoBreak = refl
-open_is_tag Initial = refl
-open_is_tag Medial = refl
-open_is_tag Final = refl
-open_is_tag Isolated = refl
-open_is_tag Circle = refl
-open_is_tag Super = refl
-open_is_tag Sub = refl
-open_is_tag Vertical = refl
-open_is_tag Wide = refl
-open_is_tag Narrow = refl
-open_is_tag Small = refl
-open_is_tag Square = refl
-open_is_tag Fraction = refl
-open_is_tag Compat = refl
+open_is_tag _ = refl
 
 -- ---- the other way
 
@@ -114,18 +72,4 @@ tag_is bs tag h =
 
 pub tag_whole : (tag : Tag) (rest : List ℕ) → tag_open tag ++ 62 ∷ rest ≡ tag_text tag ++ rest
 tag_whole Font rest = refl
-tag_whole NoBreak rest = refl
-tag_whole Initial rest = refl
-tag_whole Medial rest = refl
-tag_whole Final rest = refl
-tag_whole Isolated rest = refl
-tag_whole Circle rest = refl
-tag_whole Super rest = refl
-tag_whole Sub rest = refl
-tag_whole Vertical rest = refl
-tag_whole Wide rest = refl
-tag_whole Narrow rest = refl
-tag_whole Small rest = refl
-tag_whole Square rest = refl
-tag_whole Fraction rest = refl
-tag_whole Compat rest = refl
+tag_whole _ rest = refl

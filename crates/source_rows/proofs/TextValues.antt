@@ -110,36 +110,8 @@ mapping_firm (c ∷ cs) h = joined_firm c cs
 -- ---- categories, statuses, classes, case mappings
 
 pub category_reads : (k : Category) → k ≢ Cn → category_of (category_code k) ≡ Some k
-category_reads Lu h = refl
-category_reads Ll h = refl
-category_reads Lt h = refl
-category_reads Lm h = refl
-category_reads Lo h = refl
-category_reads Mn h = refl
-category_reads Mc h = refl
-category_reads Me h = refl
-category_reads Nd h = refl
-category_reads Nl h = refl
-category_reads No h = refl
-category_reads Pc h = refl
-category_reads Pd h = refl
-category_reads Ps h = refl
-category_reads Pe h = refl
-category_reads Pi h = refl
-category_reads Pf h = refl
-category_reads Po h = refl
-category_reads Sm h = refl
-category_reads Sc h = refl
-category_reads Sk h = refl
-category_reads So h = refl
-category_reads Zs h = refl
-category_reads Zl h = refl
-category_reads Zp h = refl
-category_reads Cc h = refl
-category_reads Cf h = refl
-category_reads Cs h = refl
-category_reads Co h = refl
 category_reads Cn h = absurd (h refl)
+category_reads _ h = refl
 
 pub category_lacks : (p : ℕ → Bool) → ((b : ℕ) → 65 ≤ b → b ≤ 122 → p b ≡ false) → (k : Category) → Lacks p (category_code k)
 category_lacks p h Lu = lacks_cons p 76 (117 ∷ []) (h 76 (omega arith) (omega arith)) (lacks_cons p 117 [] (h 117 (omega arith) (omega arith)) refl)
@@ -175,9 +147,7 @@ category_lacks p h Cn = lacks_cons p 67 (110 ∷ []) (h 67 (omega arith) (omega 
 
 pub status_reads : (s : FoldStatus) → status_of (status_code s ∷ []) ≡ Some s
 status_reads C = refl
-status_reads F = refl
-status_reads S = refl
-status_reads T = refl
+status_reads _ = refl
 
 pub status_lacks : (p : ℕ → Bool) → ((b : ℕ) → 65 ≤ b → b ≤ 122 → p b ≡ false) → (s : FoldStatus) → Lacks p (status_code s ∷ [])
 status_lacks p h C = lacks_cons p 67 [] (h 67 (omega arith) (omega arith)) refl
@@ -229,35 +199,7 @@ class_firm n small = rw (class_is n (omega arith)) (solid (class_digits n) (digi
 
 two_letters : (k : Category) → 0 < length (category_code k)
 two_letters Lu = omega arith
-two_letters Ll = omega arith
-two_letters Lt = omega arith
-two_letters Lm = omega arith
-two_letters Lo = omega arith
-two_letters Mn = omega arith
-two_letters Mc = omega arith
-two_letters Me = omega arith
-two_letters Nd = omega arith
-two_letters Nl = omega arith
-two_letters No = omega arith
-two_letters Pc = omega arith
-two_letters Pd = omega arith
-two_letters Ps = omega arith
-two_letters Pe = omega arith
-two_letters Pi = omega arith
-two_letters Pf = omega arith
-two_letters Po = omega arith
-two_letters Sm = omega arith
-two_letters Sc = omega arith
-two_letters Sk = omega arith
-two_letters So = omega arith
-two_letters Zs = omega arith
-two_letters Zl = omega arith
-two_letters Zp = omega arith
-two_letters Cc = omega arith
-two_letters Cf = omega arith
-two_letters Cs = omega arith
-two_letters Co = omega arith
-two_letters Cn = omega arith
+two_letters _ = omega arith
 
 pub category_firm : (k : Category) → Firm (category_code k)
 category_firm k = solid (category_code k) (two_letters k) (category_lacks is_blank (λ b low high. blank_byte b (omega arith)) k)

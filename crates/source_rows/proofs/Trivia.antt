@@ -2,14 +2,14 @@
 use Rattle.std.proofs.Common.{◌≡◌, ℕ, zero, suc, ◌+◌, ◌-◌, Bool, true, false, cond, eqb, leb, ◌&&◌, ◌||◌, List, [], ◌∷◌, length, take, drop, Some, None, Ok, Err, refl, sym, ◌∙◌, arith}
 use Rattle.std.specs.Prelude.{not}
 use Rattle.std.specs.List.{list_all, list_any, before_first, after_first, position_or_len, prefix_len, suffix_len}
-use Rattle.std.proofs.lemmas.Bool.{false_from_ne_true, and_from, and_parts, not-true}
+use Rattle.std.proofs.lemmas.Bool.{false_from_ne_true, and_from, and_parts, not-true, or_parts}
 use Rattle.std.proofs.lemmas.Bool.Decides.{nat_tests}
 use Rattle.std.proofs.lemmas.List.Splits.{slice_split_none}
 use Rattle.ucd_points.specs.Lines.{is_blank, is_lf, is_comment, holds_line_feed, without_return}
 use Rattle.ucd_points.specs.MissingLines.{missing_rest, is_missing, is_trivia}
-use Rattle.ucd_points.specs.Fields.{fields, field, trim, trim_start, is_hash, is_semicolon, point_of, span_of, hex_number, digit_of, if_point}
+use Rattle.ucd_points.specs.Fields.{fields, field, trim, trim_start, is_hash, is_semicolon, point_of, span_of, hex_number, digit_of}
 use Rattle.ucd_points.specs.declared.files.SourceFile.{SourceFile}
-use Rattle.ucd_points.specs.declared.files.SourceFile.TheVariants.{UnicodeData, PropList, Scripts, WordBreakProperty, CompositionExclusions, CaseFolding, SpecialCasing, PropertyAliases, PropertyValueAliases}
+use Rattle.ucd_points.specs.declared.files.SourceFile.TheVariants.{UnicodeData, PropList, Scripts, WordBreakProperty, CompositionExclusions}
 use Rattle.ucd_facts.specs.declared.row.ValueRow.{ValueRow}
 use Rattle.ucd_facts.specs.declared.row.Row.{Row}
 use Rattle.source_rows.specs.Fields.{fields_of, row_fields}
@@ -21,7 +21,7 @@ use Rattle.source_rows.specs.Faults.{value_line, row_or_fault, line_or_fault, li
 use Rattle.source_rows.specs.Trivia.{RowsAreNoTrivia}
 use Rattle.source_rows.specs.declared.fault.RowFault.TheVariants.{G03, G04}
 use Rattle.source_rows.proofs.FieldCuts.{first_is}
-use Rattle.source_rows.proofs.Found.{passed, failed, found, after}
+use Rattle.source_rows.proofs.Found.{passed, failed, found, after, none_either}
 use Rattle.source_rows.proofs.Lacks.{Lacks, lacks_all, lacks_each}
 use Rattle.source_rows.proofs.MissingLines.{rest_is_none, fields_of_others}
 use Rattle.source_rows.proofs.Seams.{lacks_before}
@@ -69,14 +69,10 @@ no_digit b false trivia e h = grind (arith, nat_tests)
 no_number : (b : ℕ) (bs : List ℕ) → is_comment (b ∷ bs) ≡ true → hex_number (b ∷ bs) ≡ None
 no_number b bs h = rw (no_digit b (is_blank b) (is_comment bs) refl (sym (step b bs) ∙ h)) (none_stays bs)
 
-either_none : (b : Bool) → cond b (if_point None) None ≡ None
-either_none true = refl
-either_none false = refl
-
 no_point : (bs : List ℕ) → is_comment bs ≡ true → point_of bs ≡ None
 unfolding point_of
 no_point [] h = refl
-no_point (b ∷ bs) h = rw (no_number b bs h) (either_none (leb 4 (length (b ∷ bs)) && leb (length (b ∷ bs)) 6))
+no_point (b ∷ bs) h = rw (no_number b bs h) (none_either (leb 4 (length (b ∷ bs)) && leb (length (b ∷ bs)) 6))
 
 -- the first field of a line of UnicodeData.txt that is a comment
 pub no_code : (bs : List ℕ) → is_comment bs ≡ true → point_of (field (fields UnicodeData bs) 0) ≡ None
@@ -86,11 +82,7 @@ no_code bs h = rw (first_is bs) (no_point (trim (before_first is_semicolon bs)) 
 -- ---- what stands before a comment is blank
 
 blank_by : (b : ℕ) (bs : List ℕ) (t : Bool) → is_blank b ≡ t → (is_comment bs ≡ true → Lacks is_hash bs → list_all is_blank bs ≡ true) → cond t (is_comment bs) (eqb b 35) ≡ true → (eqb b 35 || list_any is_hash bs) ≡ false → list_all is_blank (b ∷ bs) ≡ true
-blank_by b bs true e f h k = and_from (is_blank b) (list_all is_blank bs) e (f h (lacks_rest (eqb b 35) (list_any is_hash bs) k))
-  where
-    lacks_rest : (x y : Bool) → (x || y) ≡ false → y ≡ false
-    lacks_rest true y e = absurd cc
-    lacks_rest false y e = e
+blank_by b bs true e f h k = and_from (is_blank b) (list_all is_blank bs) e (f h (or_parts (eqb b 35) (list_any is_hash bs) k).1)
 blank_by b bs false e f h k = absurd (let j : (true || list_any is_hash bs) ≡ false = (rw h at k) in cc)
 
 all_blank : (bs : List ℕ) → is_comment bs ≡ true → Lacks is_hash bs → list_all is_blank bs ≡ true
@@ -125,26 +117,6 @@ no_value : (fs : List (List ℕ)) (row : ValueRow) → fs ≡ [] ∷ [] → valu
 unfolding value_or_fault
 no_value fs row e h = let k : Err G03 ≡ Ok row = (rw e at h) in cc
 
-no_exclusion : (fs : List (List ℕ)) (row : Row) → fs ≡ [] ∷ [] → exclusion_or_fault fs ≡ Ok row → ⊥
-unfolding exclusion_or_fault
-no_exclusion fs row e h = let k : Err G04 ≡ Ok row = (rw (e, no_span) at h) in cc
-
-no_fold : (fs : List (List ℕ)) (row : Row) → fs ≡ [] ∷ [] → fold_or_fault fs ≡ Ok row → ⊥
-unfolding fold_or_fault
-no_fold fs row e h = let k : Err G03 ≡ Ok row = (rw e at h) in cc
-
-no_casing : (fs : List (List ℕ)) (row : Row) → fs ≡ [] ∷ [] → casing_or_fault fs ≡ Ok row → ⊥
-unfolding casing_or_fault
-no_casing fs row e h = let k : Err G03 ≡ Ok row = (rw e at h) in cc
-
-no_alias : (fs : List (List ℕ)) (row : Row) → fs ≡ [] ∷ [] → alias_or_fault 2 fs ≡ Ok row → ⊥
-unfolding alias_or_fault
-no_alias fs row e h = let k : Err G03 ≡ Ok row = (rw e at h) in cc
-
-no_value_alias : (fs : List (List ℕ)) (row : Row) → fs ≡ [] ∷ [] → alias_or_fault 3 fs ≡ Ok row → ⊥
-unfolding alias_or_fault
-no_value_alias fs row e h = let k : Err G03 ≡ Ok row = (rw e at h) in cc
-
 no_single : (fs : List (List ℕ)) (row : Row) → point_of (field fs 0) ≡ None → single_or_fault fs ≡ Ok row → ⊥
 unfolding single_or_fault
 no_single fs row none h =
@@ -159,16 +131,13 @@ no_values file bs row t none h =
     no_value (row_fields file bs) a.0 (fields_of_others file bs none ∙ no_fields bs t) a.1
 
 no_line : (file : SourceFile) (bs : List ℕ) (row : Row) → is_comment bs ≡ true → missing_rest file bs ≡ None → line_or_fault file bs ≡ Ok row → ⊥
-unfolding fields missing_rest
+unfolding fields missing_rest exclusion_or_fault fold_or_fault casing_or_fault alias_or_fault
 no_line UnicodeData bs row t none h = no_single (fields UnicodeData bs) row (no_code bs t) h
 no_line PropList bs row t none h = no_values PropList bs row t none h
 no_line Scripts bs row t none h = no_values Scripts bs row t none h
 no_line WordBreakProperty bs row t none h = no_values WordBreakProperty bs row t none h
-no_line CompositionExclusions bs row t none h = no_exclusion (fields_of (before_first is_hash bs)) row (no_fields bs t) h
-no_line CaseFolding bs row t none h = no_fold (fields_of (before_first is_hash bs)) row (no_fields bs t) h
-no_line SpecialCasing bs row t none h = no_casing (fields_of (before_first is_hash bs)) row (no_fields bs t) h
-no_line PropertyAliases bs row t none h = no_alias (fields_of (before_first is_hash bs)) row (no_fields bs t) h
-no_line PropertyValueAliases bs row t none h = no_value_alias (fields_of (before_first is_hash bs)) row (no_fields bs t) h
+no_line CompositionExclusions bs row t none h = let k : Err G04 ≡ Ok row = (rw (no_fields bs t, no_span) at h) in cc
+no_line _ bs row t none h = let k : Err G03 ≡ Ok row = (rw (no_fields bs t) at h) in cc
 
 -- ---- no row of two lines
 

@@ -1,9 +1,10 @@
 -- Words, and what is written of them.
-use Rattle.std.proofs.Common.{◌≡◌, ℕ, Bool, true, false, cond, List, [], ◌∷◌, Some, None, refl, arith}
+use Rattle.std.proofs.Common.{◌≡◌, ℕ, Bool, true, false, List, [], ◌∷◌, Some, refl, arith}
 use Rattle.std.specs.Prelude.{filter}
 use Rattle.std.specs.List.{All, list_all, join_with_byte, slice_split, onto_first}
 use Rattle.std.proofs.lemmas.Bool.{ne_eqb, and_parts}
 use Rattle.std.proofs.lemmas.List.Elements.{All-nil, All-cons, All-head, All-tail}
+use Rattle.std.proofs.lemmas.Option.{cond_some}
 use Rattle.ucd_points.specs.Lines.{is_blank, is_lf}
 use Rattle.ucd_points.specs.Fields.{trim}
 use Rattle.ucd_facts.specs.Mappings.{is_some_bytes, words, spaced_words, is_condition_byte, conditions_of}
@@ -67,13 +68,9 @@ spaced_trimmed bs = joined_trimmed (words bs) (words_lack bs) (words_some bs)
 
 -- ---- conditions
 
-pub guarded : {A : Type 0} (b : Bool) (x y : A) → cond b (Some x) None ≡ Some y → (b ≡ true) × (x ≡ y)
-guarded true x y h = (refl, cc)
-guarded false x y h = absurd cc
-
 pub conditions_are : (bs cs : List ℕ) → conditions_of bs ≡ Some cs → (list_all is_condition_byte bs ≡ true) × (spaced_words bs ≡ cs)
 unfolding conditions_of
-conditions_are bs cs h = guarded (list_all is_condition_byte bs) (spaced_words bs) cs h
+conditions_are bs cs h = cond_some (list_all is_condition_byte bs) (spaced_words bs) cs h
 
 condition_no_feed : (b : ℕ) → is_condition_byte b ≡ true → is_lf b ≡ false
 condition_no_feed b h = ne_eqb b 10 (λ e. not_feed b e h)

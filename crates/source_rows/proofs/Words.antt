@@ -1,11 +1,12 @@
 -- The first word and the words behind it.
-use Rattle.std.proofs.Common.{◌≡◌, ℕ, ◌+◌, ◌<◌, ◌≤◌, Bool, true, false, cond, leb, ◌==◌, List, [], ◌∷◌, length, Option, Some, None, refl, sym, ◌∙◌, arith, inl, inr}
+use Rattle.std.proofs.Common.{◌≡◌, ℕ, ◌+◌, ◌<◌, ◌≤◌, Bool, true, false, leb, ◌==◌, List, [], ◌∷◌, length, Option, Some, None, refl, sym, ◌∙◌, arith, inl, inr}
 use Rattle.std.specs.Prelude.{filter}
 use Rattle.std.specs.List.{slice_split, position_or_len, before_first, after_first}
 use Rattle.std.specs.Option.{unwrap_or}
 use Rattle.std.proofs.lemmas.Bool.{cases_lt, false≢true, eqb-true, le-leb, lt-leb}
 use Rattle.std.proofs.lemmas.List.{take_all, drop_all}
 use Rattle.std.proofs.lemmas.List.Splits.{slice_split_first}
+use Rattle.source_rows.proofs.Found.{none_either}
 use Rattle.ucd_points.specs.Lines.{is_blank}
 use Rattle.ucd_points.specs.Fields.{point_of}
 use Rattle.ucd_facts.specs.Mappings.{is_some_bytes, words, onto_points, all_points, mapping_of}
@@ -75,13 +76,9 @@ pub some_spelled : (o : Option (List ℕ)) → is_spelled o ≡ true → o ≡ S
 some_spelled (Some cs) h = refl
 some_spelled None h = absurd cc
 
-guarded_none : (b : Bool) → cond {A = Option (List ℕ)} b None None ≡ None
-guarded_none true = refl
-guarded_none false = refl
-
 pub none_mapping : (text : List ℕ) → is_spelled (all_points (words text)) ≡ false → mapping_of text ≡ None
 unfolding mapping_of
-none_mapping text h = rw (none_spelled (all_points (words text)) h) (guarded_none (leb (length (words text)) 64))
+none_mapping text h = rw (none_spelled (all_points (words text)) h) (none_either (leb (length (words text)) 64))
 
 pub over_mapping : (text : List ℕ) → 64 < length (words text) → mapping_of text ≡ None
 unfolding mapping_of

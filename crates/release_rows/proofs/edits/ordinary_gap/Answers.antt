@@ -1,7 +1,7 @@
 use Rattle.std.proofs.Common.{◌≡◌, false, Some, None, sym, ap, subst, ◌∙◌}
 use Rattle.part_list.specs.Finds.{FirstAt, LastAt}
 use Rattle.part_list.specs.Tags.{may_have}
-use Rattle.release_rows.specs.Groups.{group_tag}
+use Rattle.release_rows.specs.Groups.{group_mark}
 use Rattle.release_rows.specs.Searches.{Sought, entry_passes}
 use Rattle.release_rows.proofs.GapPlaces.{gap_behind, gap_front, gap_group, place_last, place_new}
 use Rattle.release_rows.proofs.edits.ordinary_gap.Goals as goal
@@ -24,7 +24,7 @@ returns-in-Some-last c row is plain =
 
 pub returns-then-not-may_have : goal.returns-then-not-may_have
 returns-then-not-may_have c row is plain =
-    let lacks : may_have c.args.groups.now (group_tag c.args.search.now.group) ≡ false = rw (← c.search.view_is) (ap (may_have c.args.groups.now) (sym c.group_tag.ensures) ∙ sym c.may_have.ensures ∙ c.if-not-may_have.true) in
+    let lacks : may_have c.args.groups.now (group_mark c.args.search.now.group) ≡ false = rw (← c.search.view_is) (ap (may_have c.args.groups.now) (sym c.group_mark.ensures) ∙ sym c.may_have.ensures ∙ c.if-not-may_have.true) in
     rw (place_new c.args.search.now row c.args.items.now.next c.contents_have_keys.ensures is c.requires.each c.args.groups.now plain lacks c.requires.marked) c.end_gap.ensures
 
 pub returns : goal.returns

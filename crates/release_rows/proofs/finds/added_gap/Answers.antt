@@ -1,17 +1,19 @@
-use Rattle.std.proofs.Common.{sym, ◌∙◌}
-use Rattle.release_rows.proofs.FirstOfGroup.{no_key, no_overlap}
+use Rattle.std.proofs.Common.{◌≡◌, false, sym, ◌∙◌}
+use Rattle.source_rows.specs.Keys.{key_names}
+use Rattle.part_list.specs.Tags.{may_have}
+use Rattle.release_rows.specs.Finding.{items_of}
+use Rattle.release_rows.specs.Groups.{key_mark}
+use Rattle.release_rows.proofs.FirstOfKey.{no_key, no_overlap}
 use Rattle.release_rows.proofs.FoundRows.{key_any, overlap_any}
 use Rattle.release_rows.proofs.finds.added_gap.Goals as goal
 
-pub returns-then-is_first_of_group : goal.returns-then-is_first_of_group
-returns-then-is_first_of_group c row is =
-    let file = c.is_first_of_group.ensures.file c.if-is_first_of_group.true in
-    let lacks = c.is_first_of_group.ensures.group c.if-is_first_of_group.true in
-    let law = c.contents_have_keys.ensures in (
-      no_key c.args.search.now row c.args.items.now.next law is c.requires.each file c.args.groups.now lacks c.requires.marked,
-      no_overlap c.args.search.now row c.args.items.now.next law is c.requires.each file,
-      c.gap_for.ensures row is,
-    )
+pub returns-then-is_first_of_key : goal.returns-then-is_first_of_key
+returns-then-is_first_of_key c row is =
+    let sought = c.args.search.now in
+    let items = items_of sought.file sought.text c.args.items.now.next in
+    let spans = c.is_first_of_key.ensures.file c.if-is_first_of_key.true in
+    let lacks : may_have c.args.groups.now (key_mark sought.file (key_names sought.file row)) ≡ false = rw (← is.names) (c.is_first_of_key.ensures.key c.if-is_first_of_key.true) in
+    (no_key sought.file c.args.groups.now row items lacks c.requires.marked, no_overlap sought.file row items spans, c.gap_for.ensures row is)
 
 pub returns-then-is_some : goal.returns-then-is_some
 returns-then-is_some c row is =

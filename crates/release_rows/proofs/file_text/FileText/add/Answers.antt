@@ -8,7 +8,7 @@ use Rattle.release_rows.specs.StoredItems.{IsStored, stored_at}
 use Rattle.release_rows.specs.declared.operation.Op.TheVariants.{Add}
 use Rattle.release_rows.proofs.Arena.{all_still_stored, items_kept}
 use Rattle.release_rows.proofs.Edited.{finds_gap, items_of_addition, kept_edited, kept_grown, rule_of_addition}
-use Rattle.release_rows.proofs.Marking.{marked_more, marked_put, marks_edited, marks_grown}
+use Rattle.release_rows.proofs.Marking.{marked_more, marked_put, marks_edited, marks_grown, marks_more}
 use Rattle.release_rows.proofs.file_text.FileText.add.Goals as goal
 
 pub returns-in_err-gap-clause-answer : goal.returns-in_err-gap-clause-answer
@@ -17,6 +17,11 @@ returns-in_err-gap-clause-answer c =
     let found = finds_gap (Err c.in_err-gap.field-0.0) inside.file c.args.row.now inside.text c.search_row-search.result inside.items.next (rw (← c.as_slice.ensures) c.search_row-search.ensures) c.in_err-gap.ensures in
     let rule : edited c.args.self.now.next (Add c.args.self.now.file c.args.row.now c.args.bytes.now) ≡ Err c.in_err-gap.field-0.0 = rw (← c.self.view_is) (rule_of_addition c.in_err-gap.field-0.0 inside.file c.args.row.now inside.text c.args.bytes.now inside.items.next found) in
     search (rules, rule)
+
+pub invariant_of-self : goal.invariant_of-self
+invariant_of-self c =
+    let inside = c.self.inside in
+    (rw c.in_err-entry.ensures.err c.self.invariant.0, λ e. absurd cc, rw c.in_err-entry.ensures.err (marks_more inside.file inside.text inside.groups c.store_row.new.groups inside.items c.store_row.ensures.grows c.self.invariant.2))
 
 pub invariant_of-self-in_err-put_in : goal.invariant_of-self-in_err-put_in
 invariant_of-self-in_err-put_in c =

@@ -15,7 +15,7 @@ use Rattle.release_rows.proofs.Arena.{items_kept}
 use Rattle.release_rows.proofs.Edited.{kept_grown, kept_replaced}
 use Rattle.release_rows.proofs.EntrySpans.{has_row}
 use Rattle.release_rows.proofs.FirstRows.{finds_spot, first_passes, first_spans, items_of_change, rule_of_change}
-use Rattle.release_rows.proofs.Marking.{marked_more, marked_set, marks_edited, marks_grown}
+use Rattle.release_rows.proofs.Marking.{marked_more, marked_set, marks_edited, marks_grown, marks_more}
 use Rattle.release_rows.proofs.OneRow.{same_key_once}
 use Rattle.release_rows.proofs.file_text.FileText.change.Goals as goal
 
@@ -25,6 +25,11 @@ returns-in_err-spot-clause-answer c =
     let found = finds_spot (Err c.in_err-spot.field-0.0) inside.file c.args.row.now inside.text c.search_row-search.result inside.items.next (rw (← c.as_slice.ensures) c.search_row-search.ensures) c.in_err-spot.ensures in
     let rule : edited c.args.self.now.next (Change c.args.self.now.file c.args.row.now c.args.bytes.now) ≡ Err c.in_err-spot.field-0.0 = rw (← c.self.view_is) (rule_of_change c.in_err-spot.field-0.0 inside.file c.args.row.now inside.text c.args.bytes.now inside.items.next found) in
     search (rules, rule)
+
+pub invariant_of-self : goal.invariant_of-self
+invariant_of-self c =
+    let inside = c.self.inside in
+    (rw c.in_err-entry.ensures.err c.self.invariant.0, λ e. absurd cc, rw c.in_err-entry.ensures.err (marks_more inside.file inside.text inside.groups c.store_row.new.groups inside.items c.store_row.ensures.grows c.self.invariant.2))
 
 pub invariant_of-self-in_err-replace : goal.invariant_of-self-in_err-replace
 invariant_of-self-in_err-replace c =

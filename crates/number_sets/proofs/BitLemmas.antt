@@ -11,11 +11,8 @@ use Rattle.std.proofs.lemmas.Bool.Decides.{nat_tests}
 use Rattle.std.proofs.lemmas.Nat.{and_le_r, one_shl}
 use Rattle.std.proofs.lemmas.Nat.Bits.{bit_at-lt, bit_at-pow_other, bit_at-pow_same, bit_at-trailing_zeros, bit_at-zero, bit_at_and, bit_at_mask_above, bit_at_mask_below, bit_at_mask_inside, bit_at_or, ones_shl, ones_shr}
 use Rattle.std.specs.Int.{bit_at, trailing_zeros}
+use Rattle.std.proofs.Math.Bool.{or-false}
 use Rattle.number_sets.specs.Bits.{bit_in, is_between}
-
-or_none : (b : Bool) → b ≡ (b || false)
-or_none true = refl
-or_none false = refl
 
 -- ---- the bits of a word
 
@@ -119,5 +116,5 @@ bit_put old words x word within read same k =
       | inl row ↦ here words (x / 64) word _ (λ i. i == x) read (one_bit x) within k row ∙ ap (λ b. b || k == x) kept
       | inr apart ↦
           there words (x / 64) word _ (λ i. i == x) read (one_bit x) within k apart
-          ∙ kept ∙ or_none (bit_in old k) ∙ ap (λ b. bit_in old k || b) (sym (ne_eqb k x (λ e. apart (ap (λ i. i / 64) e))))
+          ∙ kept ∙ sym (or-false (bit_in old k)) ∙ ap (λ b. bit_in old k || b) (sym (ne_eqb k x (λ e. apart (ap (λ i. i / 64) e))))
     ]

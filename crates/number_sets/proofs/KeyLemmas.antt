@@ -5,7 +5,7 @@
 use Rattle.std.proofs.Common.{◌≡◌, ℕ, ◌+◌, ◌<◌, ◌≤◌, Bool, true, false, List, length, get_or, refl, sym, subst, arith, inl, inr, eqb, ltb}
 use Rattle.std.specs.List.{Contains, dedup, slice_get}
 use Rattle.std.specs.List.Sorted.{IsNonDecreasing, IsPartitionPoint, IsStrictlyIncreasing}
-use Rattle.std.proofs.lemmas.Bool.{cases_lt, eqb-true, ltb-true, ltb-false}
+use Rattle.std.proofs.lemmas.Bool.{cases_lt, eqb-true, ltb-true, ltb-false, false_from_ne_true}
 use Rattle.std.proofs.lemmas.Bool.Decides.{nat_tests}
 use Rattle.std.proofs.lemmas.List.Folds.{list_any_at}
 use Rattle.std.proofs.lemmas.List.Kept.{Contains-dedup_nat, Contains-from_dedup}
@@ -13,16 +13,8 @@ use Rattle.std.proofs.lemmas.List.{get_or_default}
 use Rattle.std.proofs.lemmas.Map.Keys.{non_decreasing_from_sorted, sorted_from_strictly_increasing}
 use Rattle.std.proofs.lemmas.Map.Views.{Contains-from_any}
 use Rattle.std.proofs.lemmas.Option.{get_or_from_slice_get, slice_get_cases}
+use Rattle.std.specs.Cmp.{both_ways}
 use Rattle.number_sets.specs.Keys.{IsBetween, IsNext, is_in}
-
-absent : (b : Bool) → (b ≡ true → ⊥) → b ≡ false
-absent true h = absurd (h refl)
-absent false h = refl
-
-same : (a b : Bool) → (a ≡ true → b ≡ true) → (b ≡ true → a ≡ true) → a ≡ b
-same true b f g = sym (f refl)
-same false true f g = g refl
-same false false f g = refl
 
 -- ---- a list
 
@@ -33,14 +25,14 @@ from_place : (xs : List ℕ) (k : ℕ) → Contains xs k → is_in xs k ≡ true
 from_place xs k (i, inside, is) = list_any_at (λ y. eqb k y) xs i k inside (let at : get_or xs i k ≡ k = is in grind (arith, nat_tests))
 
 pub kept_by_dedup : (xs : List ℕ) (k : ℕ) → is_in (dedup eqb xs) k ≡ is_in xs k
-kept_by_dedup xs k = same (is_in (dedup eqb xs) k) (is_in xs k)
+kept_by_dedup xs k = both_ways (is_in (dedup eqb xs) k) (is_in xs k)
     (λ h. from_place xs k (Contains-from_dedup eqb xs k (has_place (dedup eqb xs) k h)))
     (λ h. from_place (dedup eqb xs) k (Contains-dedup_nat xs k (has_place xs k h)))
 
 -- a number that stands in the list stands before the place and is below start, or from there on
 none_up_to : (xs : List ℕ) (start place k : ℕ) → IsPartitionPoint (λ y. ltb y start ≡ true) (λ y. ltb y start ≡ false) xs place → start ≤ k
     → ((i : ℕ) → place ≤ i → i < length xs → get_or xs i k ≡ k → ⊥) → is_in xs k ≡ false
-none_up_to xs start place k point low later = absent (is_in xs k) (λ h.
+none_up_to xs start place k point low later = false_from_ne_true (is_in xs k) (λ h.
     let at = has_place xs k h in
     elim (cases_lt at.0 place) [
       | inl before ↦ let below = ltb-true _ _ (point.0 at.0 k (omega arith) before) in let is : get_or xs at.0 k ≡ k = at.2 in absurd (omega (arith, below, is, low))

@@ -13,7 +13,7 @@ const FEW: usize = 64;
 #[derive(Drop)]
 pub struct Buckets {
     // where in the list each bucket begins, and behind these where the last one ends; none if nothing is known
-    begins: Vec<usize>,
+    begins: Vec<u32>,
     // how many lower bits the numbers of a bucket differ in
     bits: u32,
 }
@@ -50,14 +50,20 @@ impl Buckets {
         })
     }
 
-    /// Puts where each bucket begins.
+    /// Puts where each bucket begins, into room for just as many.
     fn fill(&mut self, sorted: &[u64]) {
+        if self.begins.reserve_exact(BUCKETS as usize + 1).is_err() {
+            return;
+        }
         let mut at = 0;
         'buckets: for bucket in 0..BUCKETS + 1 {
             'keys: while at < sorted.len() && self.bucket(sorted[at]) < bucket {
                 at += 1;
             }
-            if self.begins.push(at).is_err() {
+            let Ok(begin) = u32::try_from(at) else {
+                return;
+            };
+            if self.begins.push(begin).is_err() {
                 return;
             }
         }
@@ -72,7 +78,7 @@ impl Buckets {
     pub fn place(&self, number: u64, keys: usize) -> (usize, usize) {
         let at = (self.bucket(number) % BUCKETS) as usize;
         match (self.begins.get(at), self.begins.get(at + 1)) {
-            (Some(begin), Some(end)) => (*begin, *end),
+            (Some(begin), Some(end)) => (*begin as usize, *end as usize),
             _ => (0, keys),
         }
     }

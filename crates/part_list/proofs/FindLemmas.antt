@@ -7,7 +7,8 @@ use Rattle.std.proofs.lemmas.List.Folds.{prefix_len-append}
 use Rattle.part_list.specs.Parts.{flat, part_at, before}
 use Rattle.part_list.specs.Finds.{FirstAt, LastAt, FirstIn, LastIn}
 use Rattle.part_list.specs.PartValues.{PartValue, parts_next}
-use Rattle.part_list.proofs.FlatLemmas.{flat-around, flat-take_more, part_next}
+use Rattle.part_list.specs.SpotLaws.{around}
+use Rattle.part_list.proofs.FlatLemmas.{flat-take_more, part_next}
 
 prefix_len-all : {A : Type 0} (p : A → Bool) (xs ys : List A) → prefix_len p xs ≡ length xs → prefix_len p (xs ++ ys) ≡ length xs + prefix_len p ys
 prefix_len-all p xs ys h =
@@ -28,7 +29,7 @@ none_of-more p xs k h front here =
 -- the first that passes stands in this part
 pub first_of : {A : Type 0} (p : A → Bool) (xs : List (List A)) (k at : ℕ) → k < length xs → position_or_len p (flat (take k xs)) ≡ length (flat (take k xs)) → at < length (part_at xs k) → position_or_len p (part_at xs k) ≡ at → position_or_len p (flat xs) ≡ before xs k + at
 first_of p xs k at h front within here =
-    rw (flat-around xs k h)
+    rw (around xs k h)
     (prefix_len-all (λ x. not (p x)) (flat (take k xs)) (part_at xs k ++ flat (drop (k + 1) xs)) front
     ∙ ap (λ n. length (flat (take k xs)) + n) (prefix_len-some (λ x. not (p x)) (part_at xs k) (flat (drop (k + 1) xs)) (omega arith) ∙ here))
 
@@ -56,7 +57,7 @@ last_of p xs k at h back within here =
     let all_len = length-append (flat (take k xs)) (part_at xs k ++ flat (drop (k + 1) xs)) in
     let inner = suffix_len-all (λ x. not (p x)) (part_at xs k) (flat (drop (k + 1) xs)) back in
     let outer = suffix_len-some (λ x. not (p x)) (flat (take k xs)) (part_at xs k ++ flat (drop (k + 1) xs)) (omega arith) in
-    rw (flat-around xs k h) (omega arith)
+    rw (around xs k h) (omega arith)
 
 pub FirstAt-found : {A : Type 0} (p : A → Bool) (ps : List (PartValue A)) (k at : ℕ) (part : PartValue A) → k < length ps → part ≡ get_or ps k part → position_or_len p (flat (take k (parts_next ps))) ≡ length (flat (take k (parts_next ps))) → FirstIn (Some at) p part.next → FirstAt (Some (record { slot = k; at = at })) p (parts_next ps)
 FirstAt-found p ps k at part h e front found =

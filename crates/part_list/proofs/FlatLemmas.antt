@@ -6,6 +6,7 @@ use Rattle.std.proofs.lemmas.List.{append-nil, append_assoc, length-append, leng
 use Rattle.std.proofs.lemmas.Bool.Decides.{nat_tests}
 use Rattle.std.proofs.lemmas.List.Edits.{map_over_more, get_or-insert_below}
 use Rattle.std.proofs.lemmas.List.Concat.{flat_map-append, get_or-flat_map}
+use Rattle.part_list.specs.SpotLaws.{around}
 use Rattle.part_list.specs.Parts.{flat, part_at, before, spliced}
 use Rattle.part_list.specs.PartValues.{PartValue, parts_now, parts_next, committed, discarded, has_entries}
 
@@ -67,12 +68,6 @@ part_next ps k part h e = part_by (λ p. p.next) ps k part h e
 -- the parts up to one, and that one
 pub flat-take_more : {A : Type 0} (xs : List (List A)) (k : ℕ) → k < length xs → flat (take (k + 1) xs) ≡ flat (take k xs) ++ part_at xs k
 flat-take_more xs k h = rw (take_more xs k [] h) (flat-push (take k xs) (part_at xs k))
-
-pub flat-around : {A : Type 0} (xs : List (List A)) (k : ℕ) → k < length xs → flat xs ≡ flat (take k xs) ++ (part_at xs k ++ flat (drop (k + 1) xs))
-flat-around xs k h =
-    ap flat (sym (take-append-drop k xs))
-    ∙ flat_map-append (λ part. part) (take k xs) (drop k xs)
-    ∙ ap (λ rest. flat (take k xs) ++ flat rest) (drop_more xs k [] h)
 
 pub parts_now-committed : {A : Type 0} (ps : List (PartValue A)) → parts_now (map committed ps) ≡ parts_next ps
 parts_now-committed [] = refl
@@ -159,7 +154,7 @@ place-lt : {A : Type 0} (xs : List (List A)) (k at : ℕ) → k < length xs → 
 place-lt xs k at h within =
     let first = length-append (flat (take k xs)) (part_at xs k ++ flat (drop (k + 1) xs)) in
     let second = length-append (part_at xs k) (flat (drop (k + 1) xs)) in
-    rw (flat-around xs k h) (omega arith)
+    rw (around xs k h) (omega arith)
 
 spliced-one : {A : Type 0} (xs : List A) (at : ℕ) (x : A) → at < length xs → spliced xs at 1 (x ∷ []) ≡ set xs at x
 spliced-one xs at x h =

@@ -5,7 +5,6 @@ pub mod FindLemmas
 pub mod PassingLemmas
 pub mod GuideLemmas
 pub mod GatherLemmas
-pub mod TagLemmas
 pub mod CoverLemmas
 pub mod HintLemmas
 pub mod OrderLemmas

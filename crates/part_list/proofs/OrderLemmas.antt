@@ -13,7 +13,7 @@ use Rattle.part_list.specs.declared.reach.Reach.{Reach}
 use Rattle.part_list.specs.declared.spanned.Spanned.{Spanned}
 use Rattle.part_list.specs.Orders.{AreWithin, IsOrdered, IsOrderedIn, IsUpTo, IsWindow, NoneIn}
 use Rattle.part_list.specs.Parts.{spliced}
-use Rattle.part_list.specs.Reaches.{IsWithin, IsWider, Skips}
+use Rattle.part_list.specs.Reaches.{IsWithin, IsWider}
 use Rattle.part_list.proofs.PassingLemmas.{none_pass}
 use Rattle.part_list.proofs.ReachLemmas.{all_wider}
 
@@ -55,17 +55,6 @@ ordered_one xs i j d le lt =
 
 pub ordered_less : {A : Type 0} (xs : List (Spanned A)) (n : ℕ) → IsOrderedTo xs n → length xs ≤ n → IsOrdered xs
 ordered_less xs n h le i j d before lt = h i j d before (omega arith)
-
--- none of the entries within a reach that is skipped passes
-pub none_skipped : {A : Type 0} (p : Spanned A → Bool) (reach : Reach) (xs : List (Spanned A)) (from to : ℕ) → Skips p reach → AreWithin reach xs from to → NoneIn p xs from to
-none_skipped p reach xs from to skips within k d le lt = skips (get_or xs k d) (within k d le lt)
-
-pub none_joined : {A : Type 0} (p : A → Bool) (xs : List A) (a b c : ℕ) → NoneIn p xs a b → NoneIn p xs b c → NoneIn p xs a c
-none_joined p xs a b c first second k d le lt =
-    elim (cases_lt k b) [
-      | inl less ↦ first k d le less
-      | inr h ↦ second k d h lt
-    ]
 
 -- ---- what stands in the window
 

@@ -1,4 +1,4 @@
-//! What an edit puts into a list, and entries with it put in.
+//! What an edit puts into a list, and a copy of entries with that in it.
 
 ghost use Rattle.std.specs.Prelude.{◌≡◌, ◌+◌, ◌≤◌, [], ◌∷◌, ◌++◌, length, IfOk, OnOk};
 ghost use Rattle.std.specs.Option.{option_to_list};

@@ -2,10 +2,11 @@
 --
 -- held_at s p          the value at place p; None where it was let go, and past the last place
 -- value_at s p         the same; where there is none, the value at place 0, which is never let go
+-- held_behind s        how many places behind place 0 hold a value
 -- AreHeld s places     a value is held at the place of each code point
 -- is_unused unused p   place p is one of the unused ones
 -- AreUsed unused places   the place of no code point is one of them
-use Rattle.std.specs.Prelude.{◌≡◌, ℕ, ◌<◌, Bool, true, false, List, ◌∷◌, Option, None, Some, is_some, slice_index_or}
+use Rattle.std.specs.Prelude.{◌≡◌, ℕ, ◌<◌, Bool, true, false, List, ◌∷◌, Option, None, Some, is_some, slice_index_or, count_by}
 use Rattle.std.specs.Option.{unwrap_or}
 use Rattle.point_store.specs.declared.slots.Slots.{Slots}
 
@@ -14,6 +15,9 @@ held_at s p = slice_index_or (Some s.first ∷ s.more.items) p None
 
 abbrev pub value_at : {V : Type 0} → Slots V → ℕ → V
 value_at s p = unwrap_or (held_at s p) s.first
+
+abbrev pub held_behind : {V : Type 0} → Slots V → ℕ
+held_behind s = count_by is_some s.more.items
 
 abbrev pub AreHeld : {V : Type 0} → Slots V → (ℕ → ℕ) → Type 0
 AreHeld s places = (c : ℕ) → c < 1114112 → is_some (held_at s (places c)) ≡ true

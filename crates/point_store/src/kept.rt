@@ -3,7 +3,7 @@
 ghost use Rattle.std.specs.Prelude.{◌≡◌, ◌≢◌, ℕ, ◌+◌, ◌%◌, ◌<◌, ◌≤◌, IfOk};
 ghost use Rattle.range_table.specs.Values.{SameValues};
 ghost use Rattle.point_store.specs.Copies.{Copies};
-ghost use Rattle.point_store.specs.Slots.{AreHeld};
+ghost use Rattle.point_store.specs.Slots.{AreHeld, held_behind};
 
 use crate::slots::Slots;
 use crate::store::Store;
@@ -99,9 +99,11 @@ impl<T: Table<u64>, V: Drop> Store<V> for Kept<T, V> {
 }
 
 impl<T: Table<u64>, V: Drop> Kept<T, V> {
-    /// About how many values are held, for a guess of how much room as many others need. Nothing is promised of it.
-    pub fn count(&self) -> usize {
-        self.slots.count()
+    /// How many values are held beside the one that was given at first. It takes time in proportion to the places.
+    pub fn count(&self) -> usize
+        ensures { result ≡ held_behind self.now.slots }
+    {
+        self.slots.held_behind()
     }
 }
 
@@ -122,6 +124,15 @@ impl<T: Table<u64> + Copied, V: Drop> Kept<T, V> {
         ensures next { IfOk result
             (λ kept. ⟦<Kept<T, V> as Store<V>>⟧.next kept
             ≡ ⟦<Kept<T, V> as Store<V>>⟧.next self.now) }
+        ensures now_at { IfOk result
+            (λ kept. ⟦<Kept<T, V> as Store<V>>⟧.now_at kept
+            ≡ ⟦<Kept<T, V> as Store<V>>⟧.now_at self.now) }
+        ensures next_at { IfOk result
+            (λ kept. ⟦<Kept<T, V> as Store<V>>⟧.next_at kept
+            ≡ ⟦<Kept<T, V> as Store<V>>⟧.next_at self.now) }
+        ensures held { IfOk result
+            (λ kept. ⟦<Kept<T, V> as Store<V>>⟧.held kept
+            ≡ ⟦<Kept<T, V> as Store<V>>⟧.held self.now) }
     {
         Ok(Kept {
             places: self.places.copied(alloc)?,

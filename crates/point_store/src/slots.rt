@@ -2,7 +2,7 @@
 
 ghost use Rattle.std.specs.Prelude.{◌≡◌, ℕ, ◌+◌, ◌≤◌, true, false, None, Some, is_some, length, slice_get, slice_index_or, IfOk, IfSome};
 ghost use Rattle.point_store.specs.Copies.{Copies};
-ghost use Rattle.point_store.specs.Slots.{held_at, is_unused, value_at};
+ghost use Rattle.point_store.specs.Slots.{held_at, held_behind, is_unused, value_at};
 
 use std::alloc::Global;
 use ucd_points::Memory;
@@ -140,7 +140,14 @@ impl<V: Drop> Slots<V> {
     }
 
     /// How many values are held behind the first.
-    pub fn count(&self) -> usize {
+    pub fn held_behind(&self) -> usize
+        ensures { result ≡ held_behind self.now }
+    {
+        self.more.iter().filter(|value| value.is_some()).count()
+    }
+
+    /// About how many values are held behind the first, told at once: those at places that are not listed as free.
+    fn count(&self) -> usize {
         self.more.len().saturating_sub(self.free.len())
     }
 }

@@ -4,7 +4,7 @@
 -- holds_of_all      what holds throughout each of them holds of all code points
 -- few_stretches     there are at most as many as code points
 -- alike             what is the same from a code point up to the one that is told is the same throughout a stretch
--- counted_turn      where those of a stretch pass all or none, they are counted by its first
+-- counted_turn      if those of a stretch pass all or none, they are counted by its first
 use Rattle.std.proofs.Common.{◌≡◌, ℕ, zero, suc, ◌+◌, ◌-◌, ◌<◌, ◌≤◌, Bool, true, false, cond, List, [], ◌∷◌, length, count_by, refl, sym, ap, subst, ◌∙◌, arith, inl, inr}
 use Rattle.std.specs.Iterator.{Drains, Yields}
 use Rattle.std.specs.List.{All, range_with_len}

@@ -1,11 +1,11 @@
 //! Goes over all code points, stretch by stretch.
 
-ghost use Rattle.std.specs.Prelude.{◌≡◌, ◌≤◌, max};
+ghost use Rattle.std.specs.Prelude.{◌≡◌, ◌≤◌};
 
 use ucd_points::{Point, Span};
 
-/// The stretches of code points that are left, in order: what [`stretches_by`] gives, at first all of them. They follow one another
-/// without a gap, up to 10FFFF (hexadecimal), so there are at most as many as code points.
+/// The stretches of code points that are left, in order: what [`stretches_by`] gives, at first all of them from 0 on. They follow
+/// one another without a gap, up to 10FFFF (hexadecimal), so there are at most as many as code points.
 #[derive(Drop)]
 pub struct StretchIter<F> {
     // the last code point of the stretch that begins at a code point
@@ -38,15 +38,8 @@ impl<F: Fn(Point) -> Point> Iterator for StretchIter<F> {
 
     fn next(&mut self) -> Option<Span> {
         let lo = Point::new(self.from)?;
-        let hi = farther(lo, (self.last_of)(lo));
+        let hi = (self.last_of)(lo).max(lo);
         self.from = hi.number() + 1;
         Some(Span::between(lo, hi))
     }
-}
-
-/// The greater of two code points.
-fn farther(a: Point, b: Point) -> Point
-    ensures { result ≡ max a b }
-{
-    if a.number() < b.number() { b } else { a }
 }

@@ -159,10 +159,3 @@ put_more n ns key v = go (is_name key n) (list_any (λ m. is_name key m) ns)
     go true true = least_same v
     go true false = least_none v
     go false d = refl
-
-pub put_none : (row : List (List ℕ)) (key : List ℕ) → put row key None ≡ None
-put_none row key = go (list_any (λ m. is_name key m) row)
-  where
-    go : (c : Bool) → (let none : Option ℕ = None in cond c none none) ≡ None
-    go true = refl
-    go false = refl

@@ -172,6 +172,7 @@ fn with_rows(alloc: Global, names: IndexSet<Vec<u8>>, rows: Rows<'_>) -> Result<
     'rows: while let Some((_line, row)) = left.next() {
         add_row(alloc, &mut names, &mut numbered, &mut missing, &row)?;
     }
+    numbered.shrink_to_fit();
     Ok(FileValues {
         names,
         rows: numbered,

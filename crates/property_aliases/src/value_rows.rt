@@ -6,14 +6,18 @@ ghost use Rattle.property_aliases.specs.Kinds.{kind_of, number_at};
 ghost use Rattle.property_aliases.specs.NumberMaps.{index_in_names};
 ghost use Rattle.property_aliases.specs.Properties.{property_by};
 ghost use Rattle.property_aliases.specs.ResolvingLaws.{least, rows_number};
+ghost use Rattle.property_aliases.specs.Sources.{alias_of, alias_rows, unnumbered};
 ghost use Rattle.property_aliases.specs.Values.{behind, first_index};
+ghost use Rattle.release_rows.specs.Releases.{rows_now};
+ghost use Rattle.ucd_points.specs.declared.files.SourceFile.TheVariants.{PropertyValueAliases};
 
 use crate::indexing::{index_in, property_by};
 use crate::kinds::kind_of;
 use crate::naming::{Names, add_row};
 use crate::number_map::NumberMap;
+use release_rows::{Release, RowText, Rows};
 use std::alloc::Global;
-use ucd_facts::{Memory, Text, Texts};
+use ucd_facts::{Memory, Row, SourceFile, Text};
 
 /// The property that the first name of a row names.
 fn first_index(properties: &Names, row: &[Text]) -> Option<usize>
@@ -95,24 +99,91 @@ fn add_value_row(
     }
 }
 
-/// For each property, the least place to which the rows that speak of it tie each of their later names.
+/// The same of a row of any file: only rows of alias files give names a place.
 ///
 /// - `Memory`: memory ran out.
-pub(crate) fn rows_by_property(
+fn add_row_read(
     alloc: Global,
     properties: &Names,
     kinds: &[NumberMap],
-    rows: &[Texts],
+    maps: &mut Vec<NumberMap>,
+    row: &Row,
+) -> Result<(), Memory>
+    requires kinds { length kinds.now ≡ 7 }
+    ensures { OnOk result ((i : ℕ) (key : List ℕ)
+        → number_at maps.new.items i key
+        ≡ least (number_at maps.old.items i key)
+        (rows_number (number_at kinds.now (kind_of (property_by i)))
+        (flat_map (behind (index_in_names properties.now) i) (alias_of row.now)) key)) }
+{
+    match row {
+        Row::Alias(row) => add_value_row(alloc, properties, kinds, maps, row.names.as_slice()),
+        _ => Ok(()),
+    }
+}
+
+/// The same of a row that is read from its bytes, and let go of.
+///
+/// - `Memory`: memory ran out.
+fn add_row_of(
+    alloc: Global,
+    properties: &Names,
+    kinds: &[NumberMap],
+    maps: &mut Vec<NumberMap>,
+    row: &RowText<'_>,
+) -> Result<(), Memory>
+    requires kinds { length kinds.now ≡ 7 }
+    ensures { OnOk result ((i : ℕ) (key : List ℕ)
+        → number_at maps.new.items i key
+        ≡ least (number_at maps.old.items i key)
+        (rows_number (number_at kinds.now (kind_of (property_by i)))
+        (flat_map (behind (index_in_names properties.now) i) (alias_of row.now)) key)) }
+{
+    let read = row.read(alloc)?;
+    add_row_read(alloc, properties, kinds, maps, &read)
+}
+
+/// For each property, the least place to which the rows that speak of it tie each of their later names. A row is let go of
+/// before the next one is read.
+///
+/// - `Memory`: memory ran out.
+fn numbers_of(
+    alloc: Global,
+    properties: &Names,
+    kinds: &[NumberMap],
+    rows: Rows<'_>,
 ) -> Result<Vec<NumberMap>, Memory>
     requires kinds { length kinds.now ≡ 7 }
     ensures { IfOk result (λ maps. (i : ℕ) (key : List ℕ)
         → number_at maps.items i key
         ≡ rows_number (number_at kinds.now (kind_of (property_by i)))
-        (flat_map (behind (index_in_names properties.now) i) rows.now) key) }
+        (flat_map (behind (index_in_names properties.now) i)
+        (alias_rows (unnumbered rows.entry))) key) }
 {
+    let mut left = rows;
     let mut maps = Vec::new(alloc);
-    'rows: for row in rows {
-        add_value_row(alloc, properties, kinds, &mut maps, row.as_slice())?;
+    'rows: while let Some((_line, row)) = left.next() {
+        add_row_of(alloc, properties, kinds, &mut maps, &row)?;
     }
     Ok(maps)
+}
+
+/// The same by the rows of PropertyValueAliases.txt of a release now.
+///
+/// - `Memory`: memory ran out.
+pub(crate) fn rows_by_property(
+    alloc: Global,
+    release: &Release,
+    properties: &Names,
+    kinds: &[NumberMap],
+) -> Result<Vec<NumberMap>, Memory>
+    requires kinds { length kinds.now ≡ 7 }
+    ensures { IfOk result (λ maps. (i : ℕ) (key : List ℕ)
+        → number_at maps.items i key
+        ≡ rows_number (number_at kinds.now (kind_of (property_by i)))
+        (flat_map (behind (index_in_names properties.now) i)
+        (alias_rows (rows_now release.now PropertyValueAliases))) key) }
+{
+    let rows = release.rows(SourceFile::PropertyValueAliases);
+    numbers_of(alloc, properties, kinds, rows)
 }

@@ -18,12 +18,11 @@ use crate::kinds::{kind_of, kinds_of};
 use crate::naming::{Names, less};
 use crate::number_map::NumberMap;
 use crate::property::Property;
-use crate::rows::alias_rows;
 use crate::value_numbers::ValueNumbers;
 use crate::value_rows::rows_by_property;
 use release_rows::Release;
 use std::alloc::Global;
-use ucd_facts::{Form, Memory, SourceFile};
+use ucd_facts::{Form, Memory};
 
 /// The places of the names of values: of the built-in and the numbered ones by kind of property, and of those that rows
 /// tie to them by property.
@@ -55,8 +54,7 @@ impl ValueNames {
             numbers.scripts.names.as_slice(),
             numbers.breaks.names.as_slice(),
         )?;
-        let all = alias_rows(alloc, release, SourceFile::PropertyValueAliases)?;
-        let rows = rows_by_property(alloc, properties, kinds.as_slice(), all.as_slice())?;
+        let rows = rows_by_property(alloc, release, properties, kinds.as_slice())?;
         Ok(ValueNames { kinds, rows })
     }
 

@@ -5,7 +5,7 @@ use Rattle.std.proofs.lemmas.Bool.{or_parts}
 use Rattle.ucd_points.specs.Bounds.{within}
 use Rattle.ucd_points.specs.declared.files.SourceFile.{SourceFile}
 use Rattle.ucd_facts.specs.declared.row.Row.{Row}
-use Rattle.ucd_facts.specs.declared.row.Row.TheVariants.{Unit as DataLine, Value as ValueLine, Exclusion as ExclusionLine, Fold as FoldLine, Casing as CasingLine, Alias as AliasLine, Missing as MissingLine}
+use Rattle.ucd_facts.specs.declared.row.Row.TheVariants.{Alias as AliasLine}
 use Rattle.release_rows.specs.OperationLaws.{speaks_of}
 use Rattle.source_rows.specs.Keys.{row_span}
 use Rattle.record_lines.specs.FileLines.{place_lines}
@@ -69,13 +69,8 @@ not_spoken_of row text one is = told_at one.point (one.text ++ if_speaks row tex
 -- ---- a row that covers none
 
 unspoken : (row : Row) (c : ℕ) → within c (row_span row) ≡ false → speaks_of c row ≡ false
-unspoken (DataLine row) c out = rw out refl
-unspoken (ValueLine row) c out = rw out refl
-unspoken (ExclusionLine row) c out = rw out refl
-unspoken (FoldLine row) c out = rw out refl
-unspoken (CasingLine row) c out = rw out refl
 unspoken (AliasLine row) c out = refl
-unspoken (MissingLine row) c out = rw out refl
+unspoken _ c out = rw out refl
 
 quiet : (row : Row) (text : List ℕ) (c : ℕ) → within c (row_span row) ≡ false → if_speaks row text c ≡ []
 quiet row text c out = rw (unspoken row c out) refl

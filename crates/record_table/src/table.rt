@@ -4,7 +4,7 @@ ghost use Rattle.std.specs.Prelude.{◌≡◌, ◌≢◌, ℕ, ◌+◌, ◌<◌,
 ghost use Rattle.point_store.specs.Kept.{held};
 ghost use Rattle.range_table.specs.Values.{SameValues, with_span};
 ghost use Rattle.ucd_model.specs.Records.{kept_record};
-ghost use Rattle.record_table.specs.Records.{record_next, record_now, written};
+ghost use Rattle.record_table.specs.Records.{place_next, place_now, record_next, record_now, written};
 
 use crate::copy::copied_record;
 use crate::witnesses::{Witnesses, slot_of};
@@ -63,6 +63,14 @@ impl RecordTable {
         Ok(table)
     }
 
+    /// Gives back room that no record takes up, as far as a smaller block of memory can be had. What is now and next stays.
+    pub fn shrink_to_fit(&mut self)
+        ensures now { SameValues (record_now self.new) (record_now self.old) }
+        ensures next { SameValues (record_next self.new) (record_next self.old) }
+    {
+        self.records.shrink_to_fit();
+    }
+
     /// The same records, now and next. A record that is held once is held once in the copy.
     ///
     /// - `Memory`: memory ran out.
@@ -70,6 +78,8 @@ impl RecordTable {
         ensures now { IfOk result (λ table. SameValues (record_now table) (record_now self.now)) }
         ensures next { IfOk result
             (λ table. SameValues (record_next table) (record_next self.now)) }
+        ensures places_now { IfOk result (λ table. place_now table ≡ place_now self.now) }
+        ensures places_next { IfOk result (λ table. place_next table ≡ place_next self.now) }
     {
         let witnesses = Witnesses::new(alloc)?;
         let records = self

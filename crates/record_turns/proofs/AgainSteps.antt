@@ -2,11 +2,12 @@
 use Rattle.std.proofs.Common.{◌≡◌, ◌≢◌, ℕ, suc, ◌+◌, ◌<◌, ◌≤◌, Bool, true, false, not, cond, ◌||◌, List, [], ◌∷◌, ◌++◌, length, take, drop, get_or, filter, Option, Some, None, Ok, Err, inl, inr, ◌==◌, refl, sym, ap, subst, ◌∙◌, arith}
 use Rattle.std.specs.Bool.{Decides}
 use Rattle.std.proofs.Math.Seq.{drop-cons, take-suc}
-use Rattle.std.proofs.lemmas.Bool.{cases_eq, or_cases, true≢false}
+use Rattle.std.proofs.lemmas.Bool.{cases_eq, or_cases, true≢false, or_parts}
 use Rattle.std.proofs.lemmas.Bool.Decides.{nat_tests, same_from_decides}
 use Rattle.std.proofs.lemmas.List.{append-nil, take-append-drop}
 use Rattle.std.proofs.lemmas.List.Elements.{filter-append}
 use Rattle.std.proofs.lemmas.List.Folds.{list_any-append}
+use Rattle.std.proofs.Math.Bool.{or-true}
 use Rattle.ucd_facts.specs.Facts.{Facts}
 use Rattle.ucd_model.specs.Records.{Record, derived, kept_record, record_at, record_or_rule}
 use Rattle.ucd_model.specs.Sameness.{is_in, same_record}
@@ -74,18 +75,10 @@ in_front points c d other h =
 at_end : (points : List ℕ) (c d : ℕ) → d ≡ c → is_in (points ++ c ∷ []) d ≡ true
 at_end points c d same =
     let here : is_in (c ∷ []) d ≡ true = grind (arith, nat_tests) in
-    any_end points c d ∙ ap (λ b. is_in points d || b) here ∙ or_true (is_in points d)
-  where
-    or_true : (b : Bool) → (b || true) ≡ true
-    or_true true = refl
-    or_true false = refl
+    any_end points c d ∙ ap (λ b. is_in points d || b) here ∙ or-true (is_in points d)
 
 not_front : (points : List ℕ) (c d : ℕ) → is_in (points ++ c ∷ []) d ≡ false → is_in points d ≡ false
-not_front points c d h = left_false (is_in points d) (is_in (c ∷ []) d) (sym (any_end points c d) ∙ h)
-  where
-    left_false : (a b : Bool) → (a || b) ≡ false → a ≡ false
-    left_false true b e = absurd (true≢false e)
-    left_false false b e = refl
+not_front points c d h = (or_parts (is_in points d) (is_in (c ∷ []) d) (sym (any_end points c d) ∙ h)).0
 
 pub has_more : (G : ℕ → Facts) (points : List ℕ) (c : ℕ) → ((d : ℕ) → is_in points d ≡ true → HasRecord G d) → HasRecord G c → (d : ℕ) → is_in (points ++ c ∷ []) d ≡ true → HasRecord G d
 has_more G points c before here d h =

@@ -7,7 +7,7 @@ use Rattle.std.proofs.lemmas.Bool.Decides.{nat_tests}
 use Rattle.std.proofs.lemmas.List.{get_or-append-add, length-append}
 use Rattle.std.proofs.lemmas.List.Folds.{Any-from_list_any, list_any-append}
 use Rattle.std.proofs.lemmas.List.Kept.{AllPairs-from_increasing}
-use Rattle.std.proofs.Math.Bool.{and-false}
+use Rattle.std.proofs.Math.Bool.{and-false, or-true}
 use Rattle.std.specs.Cmp.{both_ways}
 use Rattle.range_table.specs.Values.{point_count-is}
 use Rattle.ucd_facts.specs.Facts.{Facts}
@@ -109,12 +109,8 @@ module _ (F G : ℕ → Facts) (R : ℕ → Record) (A N : ℕ → List Query) (
       halves : (c : ℕ) → is_in (front ++ point ∷ behind) c ≡ (is_in front c || is_in (point ∷ behind) c)
       halves c = list_any-append (λ x. x == c) front (point ∷ behind)
 
-      or_last : (b : Bool) → (b || true) ≡ true
-      or_last true = refl
-      or_last false = refl
-
       here : is_in (front ++ point ∷ behind) point ≡ true
-      here = halves point ∙ ap (λ b. is_in front point || b) (in_here point behind point refl) ∙ or_last (is_in front point)
+      here = halves point ∙ ap (λ b. is_in front point || b) (in_here point behind point refl) ∙ or-true (is_in front point)
 
       in_part : (c : ℕ) → c < point → is_in (front ++ point ∷ behind) c ≡ true → is_in front c ≡ true
       in_part c lt h =

@@ -62,23 +62,19 @@ Least_only p a b (Some q) (Some q') l m =
 -- ---- tests on mappings
 
 pair_mapping : (s y : ℕ) (m : List ℕ) → is_pair s y m ≡ true → m ≡ s ∷ y ∷ []
-pair_mapping s y [] e = absurd (true≢false (sym e))
-pair_mapping s y (a ∷ []) e = absurd (true≢false (sym e))
-pair_mapping s y (a ∷ b ∷ c ∷ m) e = absurd (true≢false (sym e))
 pair_mapping s y (a ∷ b ∷ []) e =
     let t = and_parts (a == s) (b == y) e in
     let first : a ≡ s = eqb-true a s t.0 in
     let second : b ≡ y = eqb-true b y t.1 in
     cc
+pair_mapping s y _ e = absurd (true≢false (sym e))
 
 mapping_pair : (s y : ℕ) (m : List ℕ) → m ≡ s ∷ y ∷ [] → is_pair s y m ≡ true
 mapping_pair s y m e = rw e (and_from (s == s) (y == y) (eq-eqb s s refl) (eq-eqb y y refl))
 
 second_mapping : (y : ℕ) (m : List ℕ) → is_second y m ≡ true → (s : ℕ) × (m ≡ s ∷ y ∷ [])
-second_mapping y [] e = absurd (true≢false (sym e))
-second_mapping y (a ∷ []) e = absurd (true≢false (sym e))
-second_mapping y (a ∷ b ∷ c ∷ m) e = absurd (true≢false (sym e))
 second_mapping y (a ∷ b ∷ []) e = let second : b ≡ y = eqb-true b y e in (a, ap (λ n. a ∷ n ∷ []) second)
+second_mapping y _ e = absurd (true≢false (sym e))
 
 module _ (F : ℕ → Facts) (s y : ℕ) where
   composes_from : (q : ℕ) → q < point_count → composes F s y q ≡ true → Composes F s y q

@@ -26,27 +26,27 @@ use Rattle.ucd_facts.specs.Predicates.{category_place, core_properties}
 use Rattle.ucd_facts.specs.Sets.{flag_place, core_place}
 use Rattle.ucd_points.specs.SourceFiles.{source_files, file_place, file_place_small, file_at-place}
 use Rattle.ucd_facts.specs.declared.category.Category.{Category}
-use Rattle.ucd_facts.specs.declared.category.Category.TheVariants.{Lu, Ll, Lt, Lm, Lo, Mn, Mc, Me, Nd, Nl, No, Pc, Pd, Ps, Pe, Pi, Pf, Po, Sm, Sc, Sk, So, Zs, Zl, Zp, Cc, Cf, Cs, Co, Cn}
+use Rattle.ucd_facts.specs.declared.category.Category.TheVariants.{Lu}
 use Rattle.ucd_facts.specs.declared.decomposition.Kind.{Kind}
 use Rattle.ucd_facts.specs.declared.decomposition.Kind.TheVariants as kind
 use Rattle.ucd_facts.specs.declared.decomposition.Tag.{Tag}
-use Rattle.ucd_facts.specs.declared.decomposition.Tag.TheVariants.{Font, NoBreak, Initial, Medial, Final, Isolated, Circle, Super, Sub, Vertical, Wide, Narrow, Small, Square, Fraction, Compat}
+use Rattle.ucd_facts.specs.declared.decomposition.Tag.TheVariants.{Font, Compat}
 use Rattle.ucd_points.specs.declared.files.SourceFile.{SourceFile}
 use Rattle.ucd_points.specs.declared.files.SourceFile.TheVariants.{UnicodeData}
 use Rattle.ucd_facts.specs.declared.files.DerivedFile.{DerivedFile}
-use Rattle.ucd_facts.specs.declared.files.DerivedFile.TheVariants.{CoreProperties, NormalizationProps, GeneralCategory, CombiningClass, DecompositionType}
+use Rattle.ucd_facts.specs.declared.files.DerivedFile.TheVariants.{CoreProperties}
 use Rattle.ucd_facts.specs.declared.folding.Folding.{Folding}
 use Rattle.ucd_facts.specs.declared.folding.Folding.TheVariants.{Full, Simple}
 use Rattle.ucd_facts.specs.declared.form.Bad.{Bad as Rule}
-use Rattle.ucd_facts.specs.declared.form.Bad.TheVariants.{V1, V2, V3, V4, V5}
+use Rattle.ucd_facts.specs.declared.form.Bad.TheVariants.{V1}
 use Rattle.ucd_facts.specs.declared.form.Form.{Form}
-use Rattle.ucd_facts.specs.declared.form.Form.TheVariants.{Nfd, Nfc, Nfkd, Nfkc}
+use Rattle.ucd_facts.specs.declared.form.Form.TheVariants.{Nfd}
 use Rattle.ucd_facts.specs.declared.form.Quick.{Quick}
 use Rattle.ucd_facts.specs.declared.form.Quick.TheVariants as quick
 use Rattle.ucd_facts.specs.declared.property.Flag.{Flag}
-use Rattle.ucd_facts.specs.declared.property.Flag.TheVariants.{WhiteSpace, OtherMath, OtherLowercase, OtherUppercase, OtherAlphabetic, OtherIdStart, OtherIdContinue, PatternSyntax, PatternWhiteSpace, OtherDefaultIgnorableCodePoint, VariationSelector, PrependedConcatenationMark, OtherGraphemeExtend, NoncharacterCodePoint}
+use Rattle.ucd_facts.specs.declared.property.Flag.TheVariants.{WhiteSpace}
 use Rattle.ucd_facts.specs.declared.property.Core.{Core}
-use Rattle.ucd_facts.specs.declared.property.Core.TheVariants.{Math, Alphabetic, Lowercase, Uppercase, Cased, CaseIgnorable, ChangesWhenLowercased, ChangesWhenUppercased, ChangesWhenTitlecased, ChangesWhenCasefolded, ChangesWhenCasemapped, IdStart, IdContinue, XidStart, XidContinue, DefaultIgnorableCodePoint, GraphemeExtend, GraphemeBase, GraphemeLink}
+use Rattle.ucd_facts.specs.declared.property.Core.TheVariants.{Math}
 use Rattle.ucd_facts.specs.declared.row.FoldStatus.{FoldStatus}
 use Rattle.ucd_facts.specs.declared.row.FoldStatus.TheVariants as status
 
@@ -54,59 +54,15 @@ use Rattle.ucd_facts.specs.declared.row.FoldStatus.TheVariants as status
 
 category_at : (x : Category) → slice_get categories (category_place x) ≡ Some x
 category_at Lu = refl
-category_at Ll = refl
-category_at Lt = refl
-category_at Lm = refl
-category_at Lo = refl
-category_at Mn = refl
-category_at Mc = refl
-category_at Me = refl
-category_at Nd = refl
-category_at Nl = refl
-category_at No = refl
-category_at Pc = refl
-category_at Pd = refl
-category_at Ps = refl
-category_at Pe = refl
-category_at Pi = refl
-category_at Pf = refl
-category_at Po = refl
-category_at Sm = refl
-category_at Sc = refl
-category_at Sk = refl
-category_at So = refl
-category_at Zs = refl
-category_at Zl = refl
-category_at Zp = refl
-category_at Cc = refl
-category_at Cf = refl
-category_at Cs = refl
-category_at Co = refl
-category_at Cn = refl
+category_at _ = refl
 
 status_at : (x : FoldStatus) → slice_get statuses (status_place x) ≡ Some x
 status_at status.C = refl
-status_at status.F = refl
-status_at status.S = refl
-status_at status.T = refl
+status_at _ = refl
 
 tag_at : (x : Tag) → slice_get tags (place_of_tag x) ≡ Some x
 tag_at Font = refl
-tag_at NoBreak = refl
-tag_at Initial = refl
-tag_at Medial = refl
-tag_at Final = refl
-tag_at Isolated = refl
-tag_at Circle = refl
-tag_at Super = refl
-tag_at Sub = refl
-tag_at Vertical = refl
-tag_at Wide = refl
-tag_at Narrow = refl
-tag_at Small = refl
-tag_at Square = refl
-tag_at Fraction = refl
-tag_at Compat = refl
+tag_at _ = refl
 
 behind_two : (a b : Kind) (rest : List Kind) (n : ℕ) → slice_get (a ∷ b ∷ rest) (2 + n) ≡ slice_get rest n
 behind_two a b rest n = let next : 2 + n ≡ suc (suc n) = omega arith in ap (slice_get (a ∷ b ∷ rest)) next
@@ -117,56 +73,23 @@ kinds_behind n le =
     ap (slice_get kinds) from ∙ behind_two kind.Plain kind.Canonical (map kind.Compat tags) (n - 2) ∙ slice_get-map kind.Compat tags (n - 2)
 
 kind_at : (x : Kind) → slice_get kinds (place_of_kind x) ≡ Some x
-kind_at kind.Plain = refl
-kind_at kind.Canonical = refl
 kind_at (kind.Compat tag) = behind_two kind.Plain kind.Canonical (map kind.Compat tags) (place_of_tag tag) ∙ slice_get-map kind.Compat tags (place_of_tag tag) ∙ ap (option_map kind.Compat) (tag_at tag)
+kind_at _ = refl
 
 flag_at : (x : Flag) → slice_get flags (flag_place x) ≡ Some x
 flag_at WhiteSpace = refl
-flag_at OtherMath = refl
-flag_at OtherLowercase = refl
-flag_at OtherUppercase = refl
-flag_at OtherAlphabetic = refl
-flag_at OtherIdStart = refl
-flag_at OtherIdContinue = refl
-flag_at PatternSyntax = refl
-flag_at PatternWhiteSpace = refl
-flag_at OtherDefaultIgnorableCodePoint = refl
-flag_at VariationSelector = refl
-flag_at PrependedConcatenationMark = refl
-flag_at OtherGraphemeExtend = refl
-flag_at NoncharacterCodePoint = refl
+flag_at _ = refl
 
 core_at : (x : Core) → slice_get core_properties (core_place x) ≡ Some x
 core_at Math = refl
-core_at Alphabetic = refl
-core_at Lowercase = refl
-core_at Uppercase = refl
-core_at Cased = refl
-core_at CaseIgnorable = refl
-core_at ChangesWhenLowercased = refl
-core_at ChangesWhenUppercased = refl
-core_at ChangesWhenTitlecased = refl
-core_at ChangesWhenCasefolded = refl
-core_at ChangesWhenCasemapped = refl
-core_at IdStart = refl
-core_at IdContinue = refl
-core_at XidStart = refl
-core_at XidContinue = refl
-core_at DefaultIgnorableCodePoint = refl
-core_at GraphemeExtend = refl
-core_at GraphemeBase = refl
-core_at GraphemeLink = refl
+core_at _ = refl
 
 source_at : (x : SourceFile) → slice_get source_files (file_place x) ≡ Some x
 source_at x = slice_get-get_or source_files (file_place x) UnicodeData (file_place_small x) ∙ ap (λ (file : SourceFile). Some file) (file_at-place x)
 
 derived_at : (x : DerivedFile) → slice_get derived_files (place_of_derived x) ≡ Some x
 derived_at CoreProperties = refl
-derived_at NormalizationProps = refl
-derived_at GeneralCategory = refl
-derived_at CombiningClass = refl
-derived_at DecompositionType = refl
+derived_at _ = refl
 
 folding_at : (x : Folding) → slice_get foldings (place_of_folding x) ≡ Some x
 folding_at Full = refl
@@ -174,21 +97,15 @@ folding_at Simple = refl
 
 form_at : (x : Form) → slice_get forms (place_of_form x) ≡ Some x
 form_at Nfd = refl
-form_at Nfc = refl
-form_at Nfkd = refl
-form_at Nfkc = refl
+form_at _ = refl
 
 quick_at : (x : Quick) → slice_get quick_values (place_of_quick x) ≡ Some x
 quick_at quick.Yes = refl
-quick_at quick.No = refl
-quick_at quick.Maybe = refl
+quick_at _ = refl
 
 rule_at : (x : Rule) → slice_get rules (place_of_rule x) ≡ Some x
 rule_at V1 = refl
-rule_at V2 = refl
-rule_at V3 = refl
-rule_at V4 = refl
-rule_at V5 = refl
+rule_at _ = refl
 
 pub enumerates_categories : IsEnumeration categories category_place
 enumerates_categories = record { each = category_at; order = refl }

@@ -71,12 +71,10 @@ ladders_spell : (a b : ℕ) (k : Category) → category_of (a ∷ b ∷ []) ≡ 
 ladders_spell a b k is = grouped-true spells_category category_ladders a b k refl is
 
 category_spelled : (bs : List ℕ) (k : Category) → category_of bs ≡ Some k → (k ≢ Cn) × (bs ≡ category_code k)
-category_spelled [] k is = cc
-category_spelled (a ∷ []) k is = cc
-category_spelled (a ∷ b ∷ c ∷ bs) k is = cc
 category_spelled (a ∷ b ∷ []) k is =
     let parts = and_parts (bytes_eq (a ∷ b ∷ []) (category_code k)) (not (category_place k == 29)) (ladders_spell a b k is) in
     (λ last. true≢false (sym (ap (λ j. category_place j == 29) last) ∙ not-true (category_place k == 29) parts.1), (bytes_eq-Decides (a ∷ b ∷ []) (category_code k)).0 parts.0)
+category_spelled _ k is = cc
 
 abbrev is_place_of : Option Category → Category → Bool
 is_place_of None k = false
@@ -105,15 +103,12 @@ abbrev status_ladder : List (ℕ × FoldStatus)
 status_ladder = (67, status.C) ∷ (70, status.F) ∷ (83, status.S) ∷ (84, status.T) ∷ []
 
 status_spelled : (bs : List ℕ) (s : FoldStatus) → status_of bs ≡ Some s → bs ≡ status_code s ∷ []
-status_spelled [] s is = cc
-status_spelled (a ∷ b ∷ bs) s is = cc
 status_spelled (b ∷ []) s is = ap (λ n. n ∷ []) (eqb-true b (status_code s) (named-true (λ n x. n == status_code x) status_ladder b s refl is))
+status_spelled _ s is = cc
 
 code_is_status : (s : FoldStatus) → status_of (status_code s ∷ []) ≡ Some s
 code_is_status status.C = refl
-code_is_status status.F = refl
-code_is_status status.S = refl
-code_is_status status.T = refl
+code_is_status _ = refl
 
 pub statuses_are_spelled : StatusesAreSpelled
 statuses_are_spelled bs s = (status_spelled bs s, λ is. ap status_of is ∙ code_is_status s)

@@ -23,7 +23,7 @@ use Rattle.ucd_facts.specs.declared.category.Category.{Category}
 use Rattle.ucd_facts.specs.declared.category.Category.TheVariants.{Lu, Ll, Lt, Lm, Lo, Mn, Mc, Me, Nd, Nl, No, Pc, Po, Sm, Sk, Zs, Zl, Cc, Cf, Cs, Co, Cn}
 use Rattle.ucd_facts.specs.declared.decomposition.Kind.TheVariants.{Plain, Canonical, Compat}
 use Rattle.ucd_facts.specs.declared.decomposition.Tag.{Tag}
-use Rattle.ucd_facts.specs.declared.decomposition.Tag.TheVariants.{Font, NoBreak, Initial, Medial, Final, Isolated, Circle, Super, Sub, Vertical, Wide, Narrow, Small, Square, Fraction, Compat as CompatTag}
+use Rattle.ucd_facts.specs.declared.decomposition.Tag.TheVariants.{Font, NoBreak}
 use Rattle.ucd_facts.specs.declared.files.DerivedFile.TheVariants.{CoreProperties, NormalizationProps, GeneralCategory, CombiningClass, DecompositionType}
 use Rattle.ucd_facts.specs.declared.form.Quick.TheVariants.{Yes, No, Maybe}
 use Rattle.ucd_facts.specs.declared.image.Image.TheVariants.{Same, To}
@@ -114,21 +114,7 @@ label_examples = (refl, refl, refl, refl, refl, refl, refl, refl)
 -- a tag's text is its name between brackets
 tag_examples : (t : Tag) → tag_text t ≡ codes "<" ++ tag_name t ++ codes ">"
 tag_examples Font = refl
-tag_examples NoBreak = refl
-tag_examples Initial = refl
-tag_examples Medial = refl
-tag_examples Final = refl
-tag_examples Isolated = refl
-tag_examples Circle = refl
-tag_examples Super = refl
-tag_examples Sub = refl
-tag_examples Vertical = refl
-tag_examples Wide = refl
-tag_examples Narrow = refl
-tag_examples Small = refl
-tag_examples Square = refl
-tag_examples Fraction = refl
-tag_examples CompatTag = refl
+tag_examples _ = refl
 
 -- ---- files
 

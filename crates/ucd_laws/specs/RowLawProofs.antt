@@ -11,11 +11,11 @@ use Rattle.ucd_facts.specs.FactsLemmas.{facts_inside, facts_outside}
 use Rattle.ucd_facts.specs.RowValues.{RowOk, DataOk, DecompositionOk}
 use Rattle.ucd_laws.specs.RowLaws.{KindsAreMapped}
 use Rattle.ucd_facts.specs.declared.decomposition.Kind.{Kind}
-use Rattle.ucd_facts.specs.declared.decomposition.Kind.TheVariants.{Plain, Canonical, Compat}
+use Rattle.ucd_facts.specs.declared.decomposition.Kind.TheVariants.{Plain, Canonical}
 use Rattle.ucd_points.specs.declared.files.SourceFile.TheVariants.{UnicodeData}
 use Rattle.ucd_facts.specs.declared.row.DataRow.{DataRow}
 use Rattle.ucd_facts.specs.declared.row.Row.{Row}
-use Rattle.ucd_facts.specs.declared.row.Row.TheVariants.{Unit as DataLine, Value as ValueLine, Exclusion as ExclusionLine, Fold as FoldLine, Casing as CasingLine, Alias as AliasLine, Missing as MissingLine}
+use Rattle.ucd_facts.specs.declared.row.Row.TheVariants.{Unit as DataLine}
 
 -- ---- kinds and mappings
 
@@ -24,12 +24,7 @@ some_row a b e = cc
 
 row_ok : (x : Row) (row : DataRow) → RowOk UnicodeData x → data_in (Some x) ≡ Some row → DataOk row
 row_ok (DataLine y) row ok e = subst DataOk (some_row y row e) ok
-row_ok (ValueLine y) row ok e = cc
-row_ok (ExclusionLine y) row ok e = cc
-row_ok (FoldLine y) row ok e = cc
-row_ok (CasingLine y) row ok e = cc
-row_ok (AliasLine y) row ok e = cc
-row_ok (MissingLine y) row ok e = cc
+row_ok _ row ok e = cc
 
 row_step : (x : Row) (rest : Option Row) (row : DataRow) (t : Bool) → RowOk UnicodeData x → (data_in rest ≡ Some row → DataOk row) → data_in (cond t (Some x) rest) ≡ Some row → DataOk row
 row_step x rest row true ok later e = row_ok x row ok e
@@ -48,8 +43,7 @@ hangul_some c = by ((c - 0xAC00) % 28 == 0) where
 
 kind_some : (kind : Kind) (mapping : List ℕ) → DecompositionOk kind mapping → is_plain kind ≡ false → mapping ≢ []
 kind_some Plain mapping ok e = absurd (true≢false e)
-kind_some Canonical mapping ok e = λ none. absurd (omega (arith, ok.1, ap length none))
-kind_some (Compat tag) mapping ok e = λ none. absurd (omega (arith, ok.1, ap length none))
+kind_some _ mapping ok e = λ none. absurd (omega (arith, ok.1, ap length none))
 
 row_mapped : (c : ℕ) (row : DataRow) (t : Bool) → DataOk row → is_plain (if t then Canonical else row.kind) ≡ false → (if t then hangul_mapping c else row.mapping) ≢ []
 row_mapped c row true ok e = hangul_some c

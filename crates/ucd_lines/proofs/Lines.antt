@@ -12,11 +12,9 @@ use Rattle.ucd_lines.proofs.Endings.{ended_bytes, ended_told, ended_ends, with_r
 -- ---- contents
 
 contents_same : (pieces : List (List ℕ)) → contents_of_pieces pieces ≡ map (λ item. item.content) (items_of_pieces pieces)
-contents_same [] = refl
-contents_same ([] ∷ []) = refl
-contents_same ((b ∷ bs) ∷ []) = refl
 contents_same ([] ∷ next ∷ pieces) = rw (contents_same (next ∷ pieces)) refl
 contents_same ((b ∷ bs) ∷ next ∷ pieces) = rw (contents_same (next ∷ pieces)) refl
+contents_same _ = refl
 
 pub contents_are_items : (bytes : List ℕ) → contents bytes ≡ map (λ item. item.content) (items_of bytes)
 unfolding contents items_of
@@ -28,11 +26,10 @@ onto_ended : (piece after : List ℕ) → item_bytes (ended_item piece) ++ after
 onto_ended piece after = rw (ended_bytes piece) (append_assoc piece (10 ∷ []) after)
 
 joined_pieces : (pieces : List (List ℕ)) → joined (items_of_pieces pieces) ≡ join_with_byte 10 pieces
-joined_pieces [] = refl
-joined_pieces ([] ∷ []) = refl
 joined_pieces ((b ∷ bs) ∷ []) = append-nil ((b ∷ bs) ++ []) ∙ append-nil (b ∷ bs)
 joined_pieces ([] ∷ next ∷ pieces) = onto_ended [] (joined (items_of_pieces (next ∷ pieces))) ∙ ap (λ after. 10 ∷ after) (joined_pieces (next ∷ pieces))
 joined_pieces ((b ∷ bs) ∷ next ∷ pieces) = onto_ended (b ∷ bs) (joined (items_of_pieces (next ∷ pieces))) ∙ ap (λ after. (b ∷ bs) ++ 10 ∷ after) (joined_pieces (next ∷ pieces))
+joined_pieces _ = refl
 
 pub items_join : (bytes : List ℕ) → joined (items_of bytes) ≡ bytes
 unfolding items_of
@@ -41,11 +38,9 @@ items_join bytes = joined_pieces (slice_split is_lf bytes) ∙ join_with_byte-sl
 -- ---- how many there are
 
 few_of_pieces : (pieces : List (List ℕ)) → length (items_of_pieces pieces) ≤ length (join_with_byte 10 pieces)
-few_of_pieces [] = omega arith
-few_of_pieces ([] ∷ []) = omega arith
-few_of_pieces ((b ∷ bs) ∷ []) = omega arith
 few_of_pieces ([] ∷ next ∷ pieces) = omega (arith, few_of_pieces (next ∷ pieces))
 few_of_pieces ((b ∷ bs) ∷ next ∷ pieces) = omega (arith, few_of_pieces (next ∷ pieces), length-append (b ∷ bs) (10 ∷ join_with_byte 10 (next ∷ pieces)))
+few_of_pieces _ = omega arith
 
 pub few_items : (bytes : List ℕ) → length (items_of bytes) ≤ length bytes
 unfolding items_of
@@ -90,11 +85,10 @@ last_line : (b : ℕ) (bs : List ℕ) → Lacks (b ∷ bs) → IsLine (record { 
 last_line b bs h = record { no_line_feed = h; last = λ _. (refl, λ e. absurd cc); no_return = λ e. absurd cc }
 
 pieces_are_lines : (pieces : List (List ℕ)) → AllLack pieces → AreLines (items_of_pieces pieces)
-pieces_are_lines [] h = tt
-pieces_are_lines ([] ∷ []) h = tt
 pieces_are_lines ((b ∷ bs) ∷ []) h = (last_line b bs h.0, tt)
 pieces_are_lines ([] ∷ next ∷ pieces) h = (ended_line [] (items_of_pieces (next ∷ pieces)) h.0, pieces_are_lines (next ∷ pieces) h.1)
 pieces_are_lines ((b ∷ bs) ∷ next ∷ pieces) h = (ended_line (b ∷ bs) (items_of_pieces (next ∷ pieces)) h.0, pieces_are_lines (next ∷ pieces) h.1)
+pieces_are_lines _ h = tt
 
 are_lines : (bytes : List ℕ) → AreLines (items_of bytes)
 unfolding items_of

@@ -4,12 +4,12 @@
 -- Each-append, Each-front, Each-back   of two lists joined, and of the first and the second of them
 -- Each-if                  of either of two lists
 -- Each-to                  what follows for each member holds of each
--- list_all-same            the same where the tests are the same at each member
+-- list_all-same            the same if the tests are the same at each member
 -- Each-order               of the ordered list
 -- order_same, reached_same lists whose members have the same classes are put in the same order, and a point reaches the same starter
--- Parts P cut, Cut P       P holds of the parts of a list around its last starter, where there is one
+-- Parts P cut, Cut P       P holds of the parts of a list around its last starter, if there is one
 -- reached_parts            of the parts around the starter that a point reaches
--- composite_each, point_each   of the list with one more point, where it holds of each composite
+-- composite_each, point_each   of the list with one more point, if it holds of each composite
 use Rattle.std.proofs.Common.{◌≡◌, ℕ, Bool, true, false, cond, ◌==◌, nat_lt, List, [], ◌∷◌, ◌++◌, Option, Some, None, refl, ap, ◌∙◌}
 use Rattle.std.specs.List.{AllByRecursion as Each, list_all}
 use Rattle.ucd_model.specs.CanonicalOrder.{greater, placed, with_next, order_onto, order}

@@ -235,12 +235,10 @@ module _ (F : ℕ → Facts) where
       ]
 
   hidden_pair : (c : ℕ) (m : List ℕ) → c < point_count → (F c).mapping ≡ m → primary F c ≡ true → is_other c (composite_of F m) ≡ true → HasLesser F c
-  hidden_pair c [] lt e is other = absurd (true≢false (sym other))
-  hidden_pair c (s ∷ []) lt e is other = absurd (true≢false (sym other))
-  hidden_pair c (s ∷ y ∷ z ∷ m) lt e is other = absurd (true≢false (sym other))
   hidden_pair c (s ∷ y ∷ []) lt e is other =
       let found = is_other-other c (pair_of F s y) other in
       lesser_than s y c found.0 (record { point = lt; primary = is; mapping = e }) found.1 found.2
+  hidden_pair c _ lt e is other = absurd (true≢false (sym other))
 
   hidden_from : (c : ℕ) → c < point_count → is_hidden F c ≡ true → HasLesser F c
   hidden_from c lt e =

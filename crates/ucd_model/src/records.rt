@@ -28,12 +28,12 @@ pub struct Record {
     pub nfkd: Quick,
     /// NFKC_Quick_Check.
     pub nfkc: Quick,
+    /// Changes_When_NFKC_Casefolded.
+    pub changes_casefold: bool,
     /// NFKC_Casefold; `Same` if it is the point itself alone.
     pub casefold: Image,
     /// NFKC_Simple_Casefold; `Same` if it is the point itself alone.
     pub simple_casefold: Image,
-    /// Changes_When_NFKC_Casefolded.
-    pub changes_casefold: bool,
 }
 
 impl Record {

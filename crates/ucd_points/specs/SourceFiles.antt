@@ -41,14 +41,7 @@ file_at at = get_or source_files at UnicodeData
 
 pub file_place_small : (file : SourceFile) → file_place file < 9
 file_place_small UnicodeData = lit< tt
-file_place_small PropList = lit< tt
-file_place_small Scripts = lit< tt
-file_place_small WordBreakProperty = lit< tt
-file_place_small CompositionExclusions = lit< tt
-file_place_small CaseFolding = lit< tt
-file_place_small SpecialCasing = lit< tt
-file_place_small PropertyAliases = lit< tt
-file_place_small PropertyValueAliases = lit< tt
+file_place_small _ = lit< tt
 
 pub file_at-place : (file : SourceFile) → file_at (file_place file) ≡ file
 file_at-place UnicodeData = refl

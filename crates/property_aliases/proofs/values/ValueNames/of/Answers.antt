@@ -41,5 +41,4 @@ returns c =
     ∙ ap (λ (names : List (List ℕ)). direct (kind_names names (map (λ k. k.items) c.as_slice-2.result.now) k) key) (ap (map (λ k. k.items)) c.as_slice.ensures.keys)
     ∙ ap (λ (names : List (List ℕ)). direct (kind_names scripts names k) key) (ap (map (λ k. k.items)) c.as_slice-2.ensures.keys))
     (λ i key. c.in_ok-rows.ensures i key
-    ∙ ap (λ (maps : List NumberMap). rows_number (number_at maps (kind_of (property_by i))) (flat_map (behind index i) c.as_slice-4.result.now) key) c.as_slice-3.ensures.value
-    ∙ ap (λ (all : List (List (List ℕ))). rows_number (number_at v.kinds.items (kind_of (property_by i))) (flat_map (behind index i) all) key) (c.as_slice-4.ensures ∙ c.in_ok-all.ensures))
+    ∙ ap (λ (maps : List NumberMap). rows_number (number_at maps (kind_of (property_by i))) (flat_map (behind index i) rows) key) c.as_slice-3.ensures.value)

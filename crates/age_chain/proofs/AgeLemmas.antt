@@ -78,6 +78,5 @@ age_is_of_the_first = record { first = first_assigned; none = ageless; stays = a
 -- ---- the last release
 
 pub last_added : (releases : List ReleaseItems) (release : ReleaseItems) → last_of (releases ++ release ∷ []) ≡ Some release
-last_added [] release = refl
-last_added (first ∷ []) release = refl
 last_added (first ∷ second ∷ later) release = last_added (second ∷ later) release
+last_added _ release = refl

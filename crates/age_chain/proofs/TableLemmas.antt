@@ -54,13 +54,6 @@ given_over release n end f g next same given c lt =
 
 -- ---- what one code point is given
 
-with_age : (n v : ℕ) (assigned none : Bool) → none ≡ false → (if assigned && none then n else v) ≡ v
-with_age n v true none e = ap (λ (b : Bool). if b then n else v) e
-with_age n v false none e = refl
-
-pub keeps_age : (release : ReleaseItems) (n : ℕ) (values : ℕ → ℕ) (c : ℕ) → (values c ≡ 0 → ⊥) → aged release n values c ≡ values c
-keeps_age release n values c some = with_age n (values c) (is_assigned release c) (values c == 0) (ne_eqb (values c) 0 some)
-
 pub not_assigned : (release : ReleaseItems) (n : ℕ) (values : ℕ → ℕ) (c : ℕ) → is_assigned release c ≡ false → aged release n values c ≡ values c
 not_assigned release n values c e = ap (λ (b : Bool). if b && (values c == 0) then n else values c) e
 

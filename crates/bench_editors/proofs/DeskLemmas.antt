@@ -8,6 +8,7 @@ use Rattle.std.proofs.lemmas.Bool.Decides.{nat_tests}
 use Rattle.std.proofs.lemmas.List.{get_or-map, length-map}
 use Rattle.std.proofs.lemmas.List.Elements.{All-map}
 use Rattle.std.proofs.lemmas.List.Folds.{fold-map}
+use Rattle.std.proofs.lemmas.Bool.{le-ltb}
 use Rattle.ucd_points.specs.SourceFiles.{file_place}
 use Rattle.ucd_points.specs.declared.memory.Memory.{Memory}
 use Rattle.source_rows.specs.Keys.{same_code, same_texts}
@@ -26,11 +27,9 @@ use Rattle.bench_editors.specs.declared.reply.Reply.{Reply}
 use Rattle.bench_editors.specs.declared.reply.Reply.TheVariants.{Accepted, Stale}
 use Rattle.bench_editors.specs.declared.row_key.RowKey.{RowKey}
 use Rattle.bench_editors.proofs.GroupLemmas.{greatest_is, one_more}
+use Rattle.bench_editors.proofs.KeyLemmas.{number_tells}
 
 -- ---- editors
-
-number_tells : (x y : ℕ) → is_eq (nat_cmp x y) ≡ (x == y)
-number_tells x y = grind (arith, nat_tests)
 
 abbrev is_in : ℕ → List ℕ → Bool
 is_in q editors = list_any (λ e. e == q) editors
@@ -132,14 +131,11 @@ greatest_by keys ops d s same st =
 
 -- ---- replies before the operations
 
-pub not_less : (x y : ℕ) → y ≤ x → nat_lt x y ≡ false
-not_less x y h = grind (arith, nat_tests)
-
 -- an editor who is present proposes against a revision that there is
 module _ (d : Desk) (editor base : ℕ) (keys : List RowKey) (ops : List Op) (same : AreKeysOf keys ops) (here : desk_has d editor ≡ true) (seen : base ≤ desk_revision d) where
   comes_to : (s : DeskState) → StandsFor d s → early_reply s editor base ops ≡ stale_reply s.groups base ops
   comes_to s st =
-      let there : nat_lt (revision_of s) base ≡ false = rw (← st.revision) (not_less (desk_revision d) base seen) in
+      let there : nat_lt (revision_of s) base ≡ false = rw (← st.revision) (le-ltb (desk_revision d) base seen) in
       rw (sym (st.editors editor) ∙ here, there) refl
 
   pub tells_stale : (first greatest : ℕ) → Some first ≡ position (λ key. nat_lt base (last_in d.rows (key_parts key))) keys

@@ -9,14 +9,15 @@ use Rattle.std.specs.Cmp.Lexicographic.{slice_cmp}
 use Rattle.std.specs.Ordering.{eq_by_cmp, is_eq, nat_cmp, ordering_then}
 use Rattle.std.specs.Str.{bytes_eq}
 use Rattle.std.specs.declared.cmp.Ordering.{Ordering}
-use Rattle.std.specs.declared.cmp.Ordering.TheVariants.{Less, Equal, Greater}
+use Rattle.std.specs.declared.cmp.Ordering.TheVariants.{Less}
 use Rattle.std.proofs.Math.Path.{fun_ext}
-use Rattle.std.proofs.lemmas.Bool.{and_parts, and_from}
+use Rattle.std.proofs.lemmas.Bool.{and_parts, and_from, eq-eqb}
 use Rattle.std.proofs.lemmas.Bool.Decides.{nat_tests}
 use Rattle.std.proofs.lemmas.List.{drop_more}
 use Rattle.std.proofs.lemmas.List.Folds.{list_any_more}
 use Rattle.std.proofs.lemmas.Map.Text.{is_eq-slice_cmp}
 use Rattle.std.proofs.lemmas.Slice.Eq.{bytes_eq-Decides}
+use Rattle.std.proofs.Math.Bool.{and_assoc}
 use Rattle.source_rows.specs.Keys.{same_texts}
 use Rattle.bench_editors.specs.RowKeys.{KeyParts, found_in, key_parts, last_in, row_key_cmp, same_parts}
 use Rattle.bench_editors.specs.declared.row_key.RowKey.{RowKey}
@@ -24,16 +25,13 @@ use Rattle.bench_editors.specs.declared.row_revisions.RowRevisions.{RowRevisions
 
 -- ---- parts that are the same
 
-same_bytes : (a b : List ℕ) → bytes_eq a b ≡ true → a ≡ b
-same_bytes a b h = (bytes_eq-Decides a b).0 h
-
 names_same : (a b : List (List ℕ)) → same_texts a b ≡ true → a ≡ b
 names_same [] [] h = refl
 names_same [] (y ∷ b) h = absurd cc
 names_same (x ∷ a) [] h = absurd cc
 names_same (x ∷ a) (y ∷ b) h =
     let both = and_parts (bytes_eq x y) (same_texts a b) h in
-    rw (same_bytes x y both.0, names_same a b both.1) refl
+    rw ((bytes_eq-Decides x y).0 both.0, names_same a b both.1) refl
 
 names_themselves : (a : List (List ℕ)) → same_texts a a ≡ true
 names_themselves [] = refl
@@ -51,18 +49,14 @@ parts_same a b h =
     let names : a.names ≡ b.names = names_same a.names b.names all.1 in
     ap (λ (n : ℕ). these n a.start a.names) file ∙ ap (λ (n : ℕ). these b.file n a.names) start ∙ ap (these b.file b.start) names
 
-itself : (n : ℕ) → (n == n) ≡ true
-itself n = grind (arith, nat_tests)
-
 pub parts_themselves : (a : KeyParts) → same_parts a a ≡ true
-parts_themselves a = and_from _ _ (and_from _ _ (itself a.file) (itself a.start)) (names_themselves a.names)
+parts_themselves a = and_from _ _ (and_from _ _ (eq-eqb a.file a.file refl) (eq-eqb a.start a.start refl)) (names_themselves a.names)
 
 -- ---- keys in order
 
 equal_then : (a b : Ordering) → is_eq (ordering_then a b) ≡ (is_eq a && is_eq b)
 equal_then Less b = refl
-equal_then Equal b = refl
-equal_then Greater b = refl
+equal_then _ b = refl
 
 names_tell : (a b : List (List ℕ)) → is_eq (slice_cmp (slice_cmp nat_cmp) a b) ≡ same_texts a b
 names_tell [] [] = refl
@@ -70,12 +64,8 @@ names_tell [] (y ∷ b) = refl
 names_tell (x ∷ a) [] = refl
 names_tell (x ∷ a) (y ∷ b) = equal_then (slice_cmp nat_cmp x y) (slice_cmp (slice_cmp nat_cmp) a b) ∙ rw (is_eq-slice_cmp x y, names_tell a b) refl
 
-number_tells : (x y : ℕ) → is_eq (nat_cmp x y) ≡ (x == y)
+pub number_tells : (x y : ℕ) → is_eq (nat_cmp x y) ≡ (x == y)
 number_tells x y = grind (arith, nat_tests)
-
-and_assoc : (a b c : Bool) → (a && (b && c)) ≡ ((a && b) && c)
-and_assoc true b c = refl
-and_assoc false b c = refl
 
 -- keys compare alike exactly where their parts are the same
 pub keys_tell : (a b : RowKey) → is_eq (row_key_cmp a b) ≡ same_parts (key_parts a) (key_parts b)
@@ -83,7 +73,7 @@ keys_tell a b =
     let names : is_eq (slice_cmp (λ m n. slice_cmp nat_cmp m.items n.items) a.names.items b.names.items) ≡ same_texts (key_parts a).names (key_parts b).names =
     ap is_eq (sym (lex_map (λ name. name.items) (slice_cmp nat_cmp) a.names.items b.names.items)) ∙ names_tell (key_parts a).names (key_parts b).names in
     equal_then (nat_cmp a.file b.file) _ ∙ ap (λ (x : Bool). is_eq (nat_cmp a.file b.file) && x) (equal_then (nat_cmp a.start b.start) _)
-    ∙ rw (number_tells a.file b.file, number_tells a.start b.start, names) (and_assoc (a.file == b.file) (a.start == b.start) (same_texts (key_parts a).names (key_parts b).names))
+    ∙ rw (number_tells a.file b.file, number_tells a.start b.start, names) (sym (and_assoc (a.file == b.file) (a.start == b.start) (same_texts (key_parts a).names (key_parts b).names)))
 
 -- ---- what a map keeps
 

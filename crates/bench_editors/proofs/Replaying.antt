@@ -3,6 +3,7 @@ use Rattle.std.proofs.Common.{◌≡◌, ℕ, ◌==◌, Bool, true, false, nat_l
 use Rattle.std.specs.List.{position, position_or_len}
 use Rattle.std.proofs.lemmas.Bool.Decides.{nat_tests}
 use Rattle.std.proofs.lemmas.List.{append-nil}
+use Rattle.std.proofs.lemmas.Bool.{eq-eqb}
 use Rattle.release_rows.specs.FileItems.{FileItem}
 use Rattle.release_rows.specs.declared.operation.Op.{Op}
 use Rattle.edit_session.specs.Groups.{group_answer}
@@ -85,16 +86,13 @@ groups_replay s (event ∷ events) =
 not_below : (n : ℕ) → nat_lt n n ≡ false
 not_below n = grind (arith, nat_tests)
 
-itself : (n : ℕ) → (n == n) ≡ true
-itself n = grind (arith, nat_tests)
-
 none_stale : (ops : List Op) → position (is_stale [] 0) ops ≡ None
 none_stale ops =
     let all : position_or_len (is_stale [] 0) ops ≡ length ops = none_before ops in
     rw (all, not_below (length ops)) refl
 
 never_early : (files : List (List FileItem)) (editor : ℕ) (ops : List Op) → early_reply (alone files editor) editor 0 ops ≡ None
-never_early files editor ops = rw (itself editor, none_stale ops) refl
+never_early files editor ops = rw (eq-eqb editor editor refl, none_stale ops) refl
 
 same_alone : (s : DeskState) (editor : ℕ) (ops : List Op) (result : Result (List (List FileItem)) Why)
     → without_revision (carried s ops result).reply ≡ without_revision (carried (alone s.files editor) ops result).reply

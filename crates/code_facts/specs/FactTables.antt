@@ -5,12 +5,14 @@
 -- facts_at version t   the facts of all numbers, now or next
 -- tables_facts now t   the facts of all numbers that the tables keep now
 -- tables_next now t    those that they keep next
+-- mappings_kept t      how many rests are held beside the one of the code points that have none
 --
 -- The tables of words and of places have the ghosts d; now, that of a table of words, names them in clauses.
 use Rattle.std.specs.Prelude.{ℕ}
 use Rattle.ucd_facts.specs.Facts.{Facts}
 use Rattle.range_table.specs.declared.table.Table.{Ghosts}
 use Rattle.point_store.specs.Kept.{values}
+use Rattle.point_store.specs.Slots.{held_behind}
 use Rattle.code_facts.specs.KeptFacts.{all_kept}
 use Rattle.code_facts.specs.Rest.{RestOf}
 use Rattle.code_facts.specs.declared.fact_tables.FactTables.{FactTables}
@@ -33,3 +35,6 @@ tables_facts now t = facts_at Now t
 
 abbrev pub tables_next : {T : Type 0} {d : Ghosts T ℕ} → (T → ℕ → ℕ) → FactTables T d → ℕ → Facts
 tables_next now t = facts_at Next t
+
+abbrev pub mappings_kept : {T : Type 0} {d : Ghosts T ℕ} → FactTables T d → ℕ
+mappings_kept t = held_behind t.rests.slots

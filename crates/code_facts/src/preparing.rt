@@ -6,7 +6,7 @@ ghost use Rattle.ucd_facts.specs.Facts.{facts, within};
 ghost use Rattle.range_table.specs.Values.{SameValues};
 ghost use Rattle.release_rows.specs.Touching.{meets};
 ghost use Rattle.code_facts.specs.Copying.{with_spans, IsListed};
-ghost use Rattle.code_facts.specs.FactTables.{tables_facts, tables_next};
+ghost use Rattle.code_facts.specs.FactTables.{mappings_kept, tables_facts, tables_next};
 ghost use Rattle.code_facts.specs.Index.{is_listed};
 ghost use Rattle.code_facts.specs.KeptFacts.{Packs};
 ghost use Rattle.code_facts.specs.Locality.{rows_within};
@@ -156,9 +156,11 @@ impl<T: Table<u64>> FactTables<T> {
         &self.words
     }
 
-    /// About how many mappings are kept beside the words, each Hangul syllable among them, for a guess of how much room is needed
-    /// for what is derived of them. Nothing is promised of it.
-    pub fn mapping_count(&self) -> usize {
+    /// How many mappings are kept beside the words, that of each Hangul syllable among them, and those that no code point
+    /// has any more until they are let go. It takes time in proportion to the places for them.
+    pub fn mapping_count(&self) -> usize
+        ensures { result ≡ mappings_kept self.now }
+    {
         self.rests.count()
     }
 }

@@ -6,16 +6,15 @@
 use Rattle.std.proofs.Common.{◌≡◌, ◌∙◌, ℕ, ◌+◌, ◌<◌, ◌≤◌, Bool, true, false, ◌||◌, List, Option, Some, None, refl, sym, ap, arith, inl, inr}
 use Rattle.std.proofs.lemmas.Bool.{cases_lt, true≢false, or_parts}
 use Rattle.ucd_facts.specs.declared.query.Query.{Query}
-use Rattle.ucd_facts.specs.declared.query.Query.TheVariants.{Row, Pair, Second}
+use Rattle.ucd_facts.specs.declared.query.Query.TheVariants.{Pair}
 use Rattle.ucd_facts.specs.Answers.{is_asked}
 use Rattle.dependency_map.specs.Askers.{own_queries, asked_by, asks}
 use Rattle.dependency_map.specs.Index.{is_own, is_listed, may_ask, keeps, Lists, NoneFrom}
 
 -- a plain code point asks its own questions alone
 own_is_asked : (q : Query) (c : ℕ) → is_own q c ≡ false → is_asked (own_queries c) q ≡ false
-own_is_asked (Row x) c h = grind arith
 own_is_asked (Pair s y) c h = refl
-own_is_asked (Second y) c h = grind arith
+own_is_asked _ c h = grind arith
 
 kept_may_ask : (queries : List Query) (q : Query) (may b : Bool) → is_asked queries q ≡ b → (keeps (Some queries) q ≡ true → may ≡ true) → may ≡ false → is_asked queries q ≡ false
 kept_may_ask queries q may true is lists not = absurd (true≢false (sym (lists is) ∙ not))

@@ -12,7 +12,7 @@ ghost use Rattle.release_rows.specs.Operations.{IsOp};
 ghost use Rattle.release_rows.specs.Patches.{back};
 ghost use Rattle.ucd_model.specs.Cuts.{IsCut};
 ghost use Rattle.ucd_points.specs.Limits.{point_count};
-ghost use Rattle.edit_session.specs.Benches.{bench_facts, bench_record, bench_word, HasNothingPrepared, IsUnbroken, NamesBroken};
+ghost use Rattle.edit_session.specs.Benches.{bench_facts, bench_record, bench_word, EndsAlike, HasNothingPrepared, IsUnbroken, NamesBroken};
 ghost use Rattle.edit_session.specs.Groups.{AppliesAs, CountsAs, after_ops, files_facts, group_answer, group_limit};
 ghost use Rattle.edit_session.specs.Reverts.{IsValidWayBack, Keeps, RevertsAs, first_of};
 
@@ -167,12 +167,14 @@ impl Bench {
         self.derivation.records.last_alike(c)
     }
 
-    /// Spans that follow one another over all code points, in each of which the records are equal. Records are compared only
-    /// where a stretch ends that is held as one.
+    /// Spans that follow one another over all code points, in each of which the records are equal, and each as long as can
+    /// be. Records are compared only where a stretch ends that is held as one.
     ///
     /// - `Memory`: memory ran out.
     pub fn pieces(&self, alloc: Global) -> Result<Spans, Memory>
-        ensures { IfOk result (λ pieces. IsCut (bench_record self.now) 0 point_count pieces) }
+        ensures cut { IfOk result
+            (λ pieces. IsCut (bench_record self.now) 0 point_count pieces) }
+        ensures ends { IfOk result (λ pieces. All (EndsAlike (bench_record self.now)) pieces) }
     {
         let mut pieces = Spans::new(alloc);
         let mut number = 0;

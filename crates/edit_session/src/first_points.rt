@@ -50,6 +50,7 @@ pub fn derive_all<L: Ledger>(
     let mut table = derive_first(alloc, tables, steps)?;
     derive_behind(alloc, tables, &mut table, steps)?;
     table.commit();
+    table.shrink_to_fit();
     Ok(table)
 }
 

@@ -21,6 +21,7 @@ use Rattle.std.specs.Str.{bytes_eq}
 use Rattle.std.proofs.lemmas.Bool.{cases_lt, eqb-true, and_parts}
 use Rattle.std.proofs.lemmas.Bool.Decides.{nat_tests}
 use Rattle.std.proofs.lemmas.Slice.Eq.{bytes_eq-Decides}
+use Rattle.std.proofs.lemmas.Option.{same_Some}
 use Rattle.ucd_facts.specs.CompositeProofs.{find_first, find_none_below}
 use Rattle.ucd_model.specs.Casing.{fold, folded}
 use Rattle.ucd_facts.specs.Facts.{Facts, image_points}
@@ -40,9 +41,6 @@ use Rattle.fold_rounds.specs.Steps.{folded_form, has_composite, is_own, is_settl
 use Rattle.fold_rounds.specs.RoundLaws.{IsFixed, FixedIsFound, FoundIsFixed}
 
 -- ---- lists
-
-some_same : (xs ys : List ℕ) → ◌≡◌ {A = Option (List ℕ)} (Some xs) (Some ys) → xs ≡ ys
-some_same xs ys e = cc
 
 -- ---- one round of a list with a known form
 
@@ -76,7 +74,7 @@ settled_fold folding F (x ∷ s) e =
 
 -- what is short once is short again
 short_if : (t : Bool) (s list : List ℕ) → nat_le (length s) 255 ≡ t → cond t (Some s) None ≡ Some list → short list ≡ Some list
-short_if true s list few e = let same : s ≡ list = some_same s list e in subst (λ zs. short zs ≡ Some zs) same (ap (λ b. cond b (Some s) None) few)
+short_if true s list few e = let same : s ≡ list = same_Some s list e in subst (λ zs. short zs ≡ Some zs) same (ap (λ b. cond b (Some s) None) few)
 short_if false s list few e = cc
 
 form_is_short : (r : Result (List ℕ) Rule) (list : List ℕ) → short_form r ≡ Some list → short list ≡ Some list
@@ -217,7 +215,7 @@ module _ (folding : Folding) (F : ℕ → Facts) (c : ℕ) where
         | inr q ↦
             let parts = fixed_parts (rounds folding F q.0 (c ∷ [])) q.2 in
             let is : rounds folding F q.0 (c ∷ []) ≡ Some s = sym (found_first q) ∙ e in
-            let same : parts.0 ≡ s = some_same parts.0 s (sym parts.1 ∙ is) in
+            let same : parts.0 ≡ s = same_Some parts.0 s (sym parts.1 ∙ is) in
             (q.0, record { few = q.1; reached = is; stays = rw (sym same) parts.2 })
       ]
 

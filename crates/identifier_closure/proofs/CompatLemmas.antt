@@ -2,10 +2,11 @@
 use Rattle.std.proofs.Common.{◌≡◌, ℕ, zero, suc, Bool, true, false, ◌||◌, List, [], ◌∷◌, ◌++◌, Option, Some, Ok, if◌then◌else◌, refl, sym, ap, ◌∙◌, subst}
 use Rattle.std.specs.List.{AllByRecursion as Each, list_any}
 use Rattle.std.proofs.lemmas.Option.{same_Some, none-some}
+use Rattle.std.proofs.lemmas.Bool.{or_parts}
 use Rattle.ucd_facts.specs.Expansion.{counts, counted, joined, alone_or_joined, expand, full, judged, expansion}
 use Rattle.ucd_facts.specs.Facts.{Facts}
 use Rattle.ucd_facts.specs.declared.decomposition.Kind.{Kind}
-use Rattle.ucd_facts.specs.declared.decomposition.Kind.TheVariants.{Plain, Canonical, Compat}
+use Rattle.ucd_facts.specs.declared.decomposition.Kind.TheVariants.{Compat}
 use Rattle.decomposition.specs.ExpansionProofs.{both_some}
 use Rattle.normalisation.specs.ExpandedLemmas.{Each-front, Each-back, judged_some}
 use Rattle.identifier_closure.specs.PointForms.{ExpandTo}
@@ -15,14 +16,12 @@ use Rattle.identifier_closure.proofs.FormLemmas.{both_expanded}
 -- ---- mappings of one kind or the other
 
 counts_alike : (kind : Kind) (m : List ℕ) → is_compat kind ≡ false → (if counts true kind then m else []) ≡ (if counts false kind then m else [])
-counts_alike Plain m e = refl
-counts_alike Canonical m e = refl
 counts_alike (Compat tag) m e = cc
+counts_alike _ m e = refl
 
 counts_not : (kind : Kind) (m : List ℕ) → is_compat kind ≡ true → (if counts false kind then m else []) ≡ []
-counts_not Plain m e = cc
-counts_not Canonical m e = cc
 counts_not (Compat tag) m e = refl
+counts_not _ m e = cc
 
 -- ---- both expansions of a point, level by level
 
@@ -59,13 +58,9 @@ module _ (F : ℕ → Facts) where
   expand_same zero c points e each = absurd (none-some points e)
   expand_same (suc n) c points e each = level_same n c points (λ x xs h p. expand_same n x xs h p) e each (is_compat (F c).kind) refl
 
-  neither : (t u : Bool) → (t || u) ≡ false → (t ≡ false) × (u ≡ false)
-  neither true u e = cc
-  neither false u e = (refl, e)
-
   each_of : (s : List ℕ) → list_any (λ x. is_compat (F x).kind) s ≡ false → Each NotCompat s
   each_of [] e = tt
-  each_of (x ∷ s) e = let parts = neither (is_compat (F x).kind) (list_any (λ y. is_compat (F y).kind) s) e in (parts.0, each_of s parts.1)
+  each_of (x ∷ s) e = let parts = or_parts (is_compat (F x).kind) (list_any (λ y. is_compat (F y).kind) s) e in (parts.0, each_of s parts.1)
 
 -- ---- the expansions
 

@@ -14,45 +14,11 @@ cores = Math ∷ Alphabetic ∷ Lowercase ∷ Uppercase ∷ Cased ∷ CaseIgnora
 -- each stands at its place
 core_at_place : (core : Core) → get_or cores (core_place core) Math ≡ core
 core_at_place Math = refl
-core_at_place Alphabetic = refl
-core_at_place Lowercase = refl
-core_at_place Uppercase = refl
-core_at_place Cased = refl
-core_at_place CaseIgnorable = refl
-core_at_place ChangesWhenLowercased = refl
-core_at_place ChangesWhenUppercased = refl
-core_at_place ChangesWhenTitlecased = refl
-core_at_place ChangesWhenCasefolded = refl
-core_at_place ChangesWhenCasemapped = refl
-core_at_place IdStart = refl
-core_at_place IdContinue = refl
-core_at_place XidStart = refl
-core_at_place XidContinue = refl
-core_at_place DefaultIgnorableCodePoint = refl
-core_at_place GraphemeExtend = refl
-core_at_place GraphemeBase = refl
-core_at_place GraphemeLink = refl
+core_at_place _ = refl
 
 place_below : (core : Core) → core_place core < 19
 place_below Math = omega arith
-place_below Alphabetic = omega arith
-place_below Lowercase = omega arith
-place_below Uppercase = omega arith
-place_below Cased = omega arith
-place_below CaseIgnorable = omega arith
-place_below ChangesWhenLowercased = omega arith
-place_below ChangesWhenUppercased = omega arith
-place_below ChangesWhenTitlecased = omega arith
-place_below ChangesWhenCasefolded = omega arith
-place_below ChangesWhenCasemapped = omega arith
-place_below IdStart = omega arith
-place_below IdContinue = omega arith
-place_below XidStart = omega arith
-place_below XidContinue = omega arith
-place_below DefaultIgnorableCodePoint = omega arith
-place_below GraphemeExtend = omega arith
-place_below GraphemeBase = omega arith
-place_below GraphemeLink = omega arith
+place_below _ = omega arith
 
 -- no two stand at one place
 same_place : (a b : Core) → core_place a ≡ core_place b → a ≡ b

@@ -11,7 +11,7 @@ use Rattle.ucd_facts.specs.Facts.{Facts}
 use Rattle.ucd_model.specs.Forms.{composed, expansions, in_order, nfc}
 use Rattle.ucd_model.specs.Validity.{composite_of, is_other}
 use Rattle.ucd_facts.specs.declared.decomposition.Kind.{Kind}
-use Rattle.ucd_facts.specs.declared.decomposition.Kind.TheVariants.{Plain, Canonical, Compat}
+use Rattle.ucd_facts.specs.declared.decomposition.Kind.TheVariants.{Canonical}
 use Rattle.ucd_facts.specs.declared.form.Bad.{Bad as Rule}
 use Rattle.normalisation.specs.ExpandedLemmas.{Unmapped, Each-append, Each-back, Each-front, Each-order, expansions_full, ok_same}
 use Rattle.normalisation.specs.PairLemmas.{pair_joins}
@@ -64,8 +64,7 @@ itself c = grind (arith, nat_tests)
 
 unmapped_other : (F : ℕ → Facts) (c : ℕ) (kind : Kind) (m : List ℕ) (t : Bool) → cond (counts false kind) m [] ≡ [] → ((is_canonical kind && t) && is_other c (composite_of F m)) ≡ false
 unmapped_other F c Canonical m t e = and_right t (is_other c (composite_of F m)) (ap (λ (xs : List ℕ). is_other c (composite_of F xs)) e)
-unmapped_other F c Plain m t e = refl
-unmapped_other F c (Compat tag) m t e = refl
+unmapped_other F c _ m t e = refl
 
 own_shown : (F : ℕ → Facts) (c : ℕ) → Own F c → hidden_of F c (F c) ≡ false
 own_shown F c (inl unmapped) = unmapped_other F c (F c).kind (F c).mapping _ unmapped

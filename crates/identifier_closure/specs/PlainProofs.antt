@@ -33,7 +33,7 @@ use Rattle.ucd_facts.specs.declared.form.Quick.TheVariants.{Yes, No, Maybe}
 use Rattle.ucd_facts.specs.declared.image.Image.{Image}
 use Rattle.ucd_facts.specs.declared.image.Image.TheVariants.{Same, To}
 use Rattle.ucd_facts.specs.declared.property.Core.{Core}
-use Rattle.ucd_facts.specs.declared.property.Core.TheVariants.{Math, Alphabetic, Lowercase, Uppercase, Cased, CaseIgnorable, ChangesWhenLowercased, ChangesWhenUppercased, ChangesWhenTitlecased, ChangesWhenCasefolded, ChangesWhenCasemapped, IdStart, IdContinue, XidStart, XidContinue, DefaultIgnorableCodePoint, GraphemeExtend, GraphemeBase, GraphemeLink}
+use Rattle.ucd_facts.specs.declared.property.Core.TheVariants.{ChangesWhenLowercased, ChangesWhenUppercased, ChangesWhenTitlecased, ChangesWhenCasefolded, ChangesWhenCasemapped, XidStart, XidContinue}
 use Rattle.fold_rounds.specs.RoundProofs.{alone_image}
 use Rattle.identifier_closure.specs.PointForms.{expansion_rule, HaveForms}
 use Rattle.identifier_closure.specs.RuleProofs.{by_none}
@@ -186,25 +186,14 @@ module _ (F : ℕ → Facts) (c : ℕ) (p : IsPlain c (F c)) where
   casemaps_not = ap (where_form (casemaps F)) nfd_is ∙ rw (same_list (F c).lower p.lower, same_list (F c).upper p.upper, title_if (cased (F c)) (F c).title p.title) refl
 
   core_is : (core : Core) → core_at F c core ≡ plain_core c (F c) core
-  core_is Math = refl
-  core_is Alphabetic = refl
-  core_is Lowercase = refl
-  core_is Uppercase = refl
-  core_is Cased = refl
-  core_is CaseIgnorable = refl
   core_is ChangesWhenLowercased = lowers_not
   core_is ChangesWhenUppercased = uppers_not
   core_is ChangesWhenTitlecased = titles_not
   core_is ChangesWhenCasefolded = folds_not
   core_is ChangesWhenCasemapped = casemaps_not
-  core_is IdStart = refl
-  core_is IdContinue = refl
   core_is XidStart = ap (λ r. id_start (F c) && where_form (starts F) r) nfkc_is ∙ and_self (id_start (F c))
   core_is XidContinue = ap (λ r. id_continue (F c) && where_form (continues F) r) nfkc_is ∙ and_self (id_continue (F c))
-  core_is DefaultIgnorableCodePoint = refl
-  core_is GraphemeExtend = refl
-  core_is GraphemeBase = refl
-  core_is GraphemeLink = refl
+  core_is _ = refl
 
   exclusion_is : full_exclusion F c ≡ (F c).excluded
   exclusion_is = ap (λ m. (F c).excluded || (is_canonical (F c).kind && excludes_mapping F c m)) p.mapping ∙ or_none (F c).excluded (is_canonical (F c).kind)

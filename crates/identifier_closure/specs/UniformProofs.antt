@@ -10,30 +10,20 @@ use Rattle.ucd_facts.specs.Uniform.{Alike}
 use Rattle.ucd_facts.specs.declared.form.Quick.TheVariants.{Yes, No, Maybe}
 use Rattle.ucd_facts.specs.declared.image.Image.TheVariants.{Same, To}
 use Rattle.ucd_facts.specs.declared.property.Core.{Core}
-use Rattle.ucd_facts.specs.declared.property.Core.TheVariants.{Math, Alphabetic, Lowercase, Uppercase, Cased, CaseIgnorable, ChangesWhenLowercased, ChangesWhenUppercased, ChangesWhenTitlecased, ChangesWhenCasefolded, ChangesWhenCasemapped, IdStart, IdContinue, XidStart, XidContinue, DefaultIgnorableCodePoint, GraphemeExtend, GraphemeBase, GraphemeLink}
+use Rattle.ucd_facts.specs.declared.property.Core.TheVariants.{CaseIgnorable, ChangesWhenLowercased, ChangesWhenUppercased, ChangesWhenTitlecased, ChangesWhenCasefolded, ChangesWhenCasemapped, DefaultIgnorableCodePoint, GraphemeLink}
 use Rattle.identifier_closure.specs.PlainProofs.{plain_core, plain_record, plain_derived}
 use Rattle.identifier_closure.specs.UniformLaws.{UniformDerived}
 
 core_alike : (core : Core) (c d : ℕ) (G H : Facts) → Alike G H → is_visible_format d ≡ is_visible_format c → plain_core d G core ≡ plain_core c H core
-core_alike Math c d G H a v = rw (a.category, a.flag) refl
-core_alike Alphabetic c d G H a v = rw (a.category, a.flag) refl
-core_alike Lowercase c d G H a v = rw (a.category, a.flag) refl
-core_alike Uppercase c d G H a v = rw (a.category, a.flag) refl
-core_alike Cased c d G H a v = rw (a.category, a.flag) refl
 core_alike CaseIgnorable c d G H a v = rw (a.category, a.mid_word) refl
 core_alike ChangesWhenLowercased c d G H a v = refl
 core_alike ChangesWhenUppercased c d G H a v = refl
 core_alike ChangesWhenTitlecased c d G H a v = refl
 core_alike ChangesWhenCasefolded c d G H a v = refl
 core_alike ChangesWhenCasemapped c d G H a v = refl
-core_alike IdStart c d G H a v = rw (a.category, a.flag) refl
-core_alike IdContinue c d G H a v = rw (a.category, a.flag) refl
-core_alike XidStart c d G H a v = rw (a.category, a.flag) refl
-core_alike XidContinue c d G H a v = rw (a.category, a.flag) refl
 core_alike DefaultIgnorableCodePoint c d G H a v = rw (a.category, a.flag, v) refl
-core_alike GraphemeExtend c d G H a v = rw (a.category, a.flag) refl
-core_alike GraphemeBase c d G H a v = rw (a.category, a.flag) refl
 core_alike GraphemeLink c d G H a v = rw a.class refl
+core_alike _ c d G H a v = rw (a.category, a.flag) refl
 
 record_alike : (c d : ℕ) (G H : Facts) (s t : Bool) → Alike G H → s ≡ t → is_visible_format d ≡ is_visible_format c → plain_record d G s ≡ plain_record c H t
 record_alike c d G H s t a second v =

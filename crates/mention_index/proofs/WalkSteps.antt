@@ -6,15 +6,12 @@
 use Rattle.std.proofs.Common.{◌≡◌, ℕ, ◌<◌, Bool, true, false, not, ◌&&◌, ◌||◌, ◌==◌, ◌⊎◌, List, [], ◌∷◌, ◌++◌, refl, sym, ap, ◌∙◌, subst, inl, inr}
 use Rattle.std.proofs.lemmas.Bool.{true≢false, and_parts, cases_Bool, eq-eqb, eqb-true, or_cases, or_left, or_parts, or_right, not-true}
 use Rattle.std.proofs.lemmas.List.Folds.{list_any-append}
+use Rattle.std.proofs.Math.Bool.{or-false}
 use Rattle.ucd_model.specs.Sameness.{is_in}
 use Rattle.mention_index.specs.StepProofs.{leads_more}
 use Rattle.mention_index.specs.Steps.{IsClosed}
 use Rattle.mention_index.specs.Steps.Leads.{here}
 use Rattle.mention_index.specs.Walks.{ComesFrom, Going}
-
-or_none : (b : Bool) → b ≡ (b || false)
-or_none true = refl
-or_none false = refl
 
 joined : (a r t w : Bool) → (t ≡ true → (a || r) ≡ w) → ((a || r) || t) ≡ (a || (r || (not w && t)))
 joined true r t w f = refl
@@ -31,7 +28,7 @@ module _ (step : ℕ → ℕ → Bool) (W : ℕ → Bool) (P : List ℕ) where
     begun = λ c e. inr e;
     comes = λ c e. (c, e, here);
     only = λ c e. absurd (true≢false (sym e));
-    told = λ c. or_none (W c);
+    told = λ c. sym (or-false (W c));
   }
 
   module _ (walked new : ℕ → Bool) (before rest after reached more : List ℕ) (x : ℕ) (popped : before ≡ rest ++ x ∷ []) (g : Going step W P walked before reached)
@@ -109,6 +106,3 @@ module _ (step : ℕ → ℕ → Bool) (W : ℕ → Bool) (P : List ℕ) where
 
     pub ends : IsClosed step walked
     ends x d lt e s = sure d (g.closed x d lt e s)
-
-    pub ends_begun : (c : ℕ) → is_in P c ≡ true → walked c ≡ true
-    ends_begun c e = sure c (g.begun c e)

@@ -1,10 +1,11 @@
 -- What a line says is what the grammar tells.
-use Rattle.std.proofs.Common.{◌≡◌, ℕ, zero, suc, ◌+◌, ◌-◌, ◌<◌, ◌≤◌, Bool, true, false, cond, List, [], ◌∷◌, ◌++◌, length, take, drop, Option, Some, None, Result, Ok, Err, refl, sym, ap, ◌∙◌, arith}
+use Rattle.std.proofs.Common.{◌≡◌, ℕ, ◌+◌, ◌-◌, ◌<◌, ◌≤◌, Bool, true, false, cond, List, [], ◌∷◌, ◌++◌, length, take, drop, Option, Some, None, Result, Ok, Err, refl, sym, ap, ◌∙◌, arith}
 use Rattle.std.specs.Prelude.{codes, nat_le}
 use Rattle.std.specs.Str.{bytes_eq}
 use Rattle.std.proofs.lemmas.Bool.{and_parts}
 use Rattle.std.proofs.lemmas.Bool.Decides.{nat_tests}
 use Rattle.std.proofs.lemmas.Slice.Eq.{bytes_eq-Decides}
+use Rattle.std.proofs.lemmas.List.{take-append-drop}
 use Rattle.ucd_points.specs.Fields.{fields, is_digit}
 use Rattle.ucd_points.specs.declared.files.SourceFile.TheVariants.{PropList}
 use Rattle.ucd_facts.specs.Mappings.{mapping_of}
@@ -49,8 +50,6 @@ tested_only false false r (Err rule) columns e = absurd cc
 -- ---- parts
 
 digit_is : (bs : List ℕ) (k : ℕ) → digit_alone bs ≡ Some k → (bs ≡ (48 + k) ∷ []) × (k ≤ 9)
-digit_is [] k e = absurd cc
-digit_is (b ∷ c ∷ bs) k e = absurd cc
 digit_is (b ∷ []) k e = by_test (is_digit b) refl e where
   by_test : (t : Bool) → is_digit b ≡ t → cond t (Some (b - 48)) None ≡ Some k → (b ∷ [] ≡ (48 + k) ∷ []) × (k ≤ 9)
   by_test true is told =
@@ -63,6 +62,7 @@ digit_is (b ∷ []) k e = by_test (is_digit b) refl e where
       let whole : b ≡ 48 + k = omega arith in
       (ap (λ (n : ℕ). n ∷ []) whole, omega arith)
   by_test false is told = absurd cc
+digit_is _ k e = absurd cc
 
 digit_given : (b k : ℕ) → nat_le 48 b ≡ true → nat_le b 57 ≡ true → b - 48 ≡ k → digit_alone (b ∷ []) ≡ Some k
 digit_given b k least most left = rw (least, most) (ap (λ (n : ℕ). Some n) left)
@@ -74,19 +74,13 @@ is_digit_alone k le =
     let left : (48 + k) - 48 ≡ k = omega arith in
     digit_given (48 + k) k least most left
 
-cut_there : (n : ℕ) (xs : List ℕ) → take n xs ++ drop n xs ≡ xs
-cut_there zero [] = refl
-cut_there zero (x ∷ xs) = refl
-cut_there (suc n) [] = refl
-cut_there (suc n) (x ∷ xs) = ap (λ zs. x ∷ zs) (cut_there n xs)
-
 part_is : (text : List ℕ) (k : ℕ) → part_of text ≡ Some k → (text ≡ codes "@Part" ++ (48 + k) ∷ []) × (k ≤ 9)
 part_is text k e = by_test (bytes_eq (take 5 text) (codes "@Part")) refl e where
   by_test : (t : Bool) → bytes_eq (take 5 text) (codes "@Part") ≡ t → cond t (digit_alone (drop 5 text)) None ≡ Some k → (text ≡ codes "@Part" ++ (48 + k) ∷ []) × (k ≤ 9)
   by_test true is told =
       let digit = digit_is (drop 5 text) k told in
       let front : take 5 text ≡ codes "@Part" = (bytes_eq-Decides (take 5 text) (codes "@Part")).0 is in
-      (sym (cut_there 5 text) ∙ ap (λ (xs : List ℕ). xs ++ drop 5 text) front ∙ ap (λ (xs : List ℕ). codes "@Part" ++ xs) digit.0, digit.1)
+      (sym (take-append-drop 5 text) ∙ ap (λ (xs : List ℕ). xs ++ drop 5 text) front ∙ ap (λ (xs : List ℕ). codes "@Part" ++ xs) digit.0, digit.1)
   by_test false is told = absurd cc
 
 is_part : (text : List ℕ) (k : ℕ) → text ≡ codes "@Part" ++ (48 + k) ∷ [] → k ≤ 9 → (is_mark text ≡ true) × (part_of text ≡ Some k)
@@ -96,8 +90,7 @@ is_part text k is le = (ap is_mark is, ap part_of is ∙ is_digit_alone k le)
 
 spelled : (o : Option (List ℕ)) (cs : List ℕ) → at_least_one o ≡ Some cs → (o ≡ Some cs) × (0 < length cs)
 spelled (Some (c ∷ ds)) cs e = let same : c ∷ ds ≡ cs = cc in (e, rw (← same) (omega arith))
-spelled (Some []) cs e = absurd cc
-spelled None cs e = absurd cc
+spelled _ cs e = absurd cc
 
 spells : (field cs : List ℕ) → points_in field ≡ Some cs → Spells field cs
 spells field cs e = let parts = spelled (mapping_of field) cs e in record { words = parts.0; some = parts.1 }
@@ -121,11 +114,6 @@ five_are None b c d e columns told = absurd cc
 
 module _ (content : List ℕ) (columns : Columns) (read : is_passed content ≡ false) (unmarked : is_mark (text_of content) ≡ false) where
   columns_are : (fs : List (List ℕ)) → fields PropList content ≡ fs → columns_in fs ≡ Ok columns → HasColumns content columns
-  columns_are [] is told = absurd cc
-  columns_are (a ∷ []) is told = absurd cc
-  columns_are (a ∷ b ∷ []) is told = absurd cc
-  columns_are (a ∷ b ∷ c ∷ []) is told = absurd cc
-  columns_are (a ∷ b ∷ c ∷ d ∷ []) is told = absurd cc
   columns_are (a ∷ b ∷ c ∷ d ∷ e ∷ more) is told = by_end (is_end more) refl told where
     by_end : (t : Bool) → is_end more ≡ t → cond t (columns_by (points_in a) (points_in b) (points_in c) (points_in d) (points_in e)) (Err N1) ≡ Ok columns → HasColumns content columns
     by_end true end five =
@@ -146,6 +134,7 @@ module _ (content : List ℕ) (columns : Columns) (read : is_passed content ≡ 
           c5 = spells e columns.c5 parts.4;
         }
     by_end false end five = absurd cc
+  columns_are _ is told = absurd cc
 
 has_columns : (content : List ℕ) (columns : Columns) → HasColumns content columns → columns_in (fields PropList content) ≡ Ok columns
 has_columns content columns h =

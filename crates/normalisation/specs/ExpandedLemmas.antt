@@ -16,7 +16,7 @@ use Rattle.std.proofs.lemmas.Option.{same_Some}
 use Rattle.ucd_facts.specs.declared.form.Bad.{Bad as Rule}
 use Rattle.ucd_facts.specs.declared.form.Bad.TheVariants.{V3}
 use Rattle.ucd_facts.specs.declared.decomposition.Kind.{Kind}
-use Rattle.ucd_facts.specs.declared.decomposition.Kind.TheVariants.{Plain, Canonical, Compat}
+use Rattle.ucd_facts.specs.declared.decomposition.Kind.TheVariants.{Canonical}
 use Rattle.ucd_facts.specs.Facts.{Facts}
 use Rattle.ucd_facts.specs.Composites.{is_canonical}
 use Rattle.ucd_facts.specs.Expansion.{counts, counted, both, alone_or_joined, expand, full, judged, expansion}
@@ -68,9 +68,8 @@ expansions_full F compat (c ∷ s) e is =
 -- ---- a composite
 
 counts_canonical : (compat : Bool) (kind : Kind) → is_canonical kind ≡ true → counts compat kind ≡ true
-counts_canonical compat Plain e = cc
 counts_canonical compat Canonical e = refl
-counts_canonical compat (Compat tag) e = cc
+counts_canonical compat _ e = cc
 
 counted_pair : (F : ℕ → Facts) (compat : Bool) (s y q : ℕ) → Joins F s y q → counted F compat q ≡ s ∷ y ∷ []
 counted_pair F compat s y q joins = rw (counts_canonical compat (F q).kind joins.canonical) joins.mapping

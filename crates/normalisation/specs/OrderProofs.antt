@@ -7,6 +7,7 @@ use Rattle.std.proofs.lemmas.Bool.{cases_lt, lt-ltb, le-ltb, and_parts}
 use Rattle.std.proofs.lemmas.Bool.Decides.{nat_tests}
 use Rattle.std.proofs.lemmas.List.{append_assoc, append-nil}
 use Rattle.std.proofs.lemmas.List.Elements.{All-head, All-tail, filter-append}
+use Rattle.std.proofs.Math.Bool.{and-false}
 use Rattle.ucd_model.specs.CanonicalOrder.{greater, placed, with_next, order_onto, order}
 use Rattle.normalisation.specs.OrderLaws.{Exchanges, ended, exchanged, InOrder, OrderIsReached, OrderIsOnly, OrderTwice, StartersStay, MarksMove, EqualsKeepOrder}
 use Rattle.normalisation.specs.OrderLemmas.{Ordered, Ordered-back, with_next_starter, with_next_mark, order_onto-append, order-ordered, order_is_ordered, with_next_either}
@@ -104,10 +105,7 @@ placed_first class y (x ∷ xs) all = rw all refl
 
 stops_at : (p : ℕ → Bool) (before after : List ℕ) (x : ℕ) → p x ≡ false → list_all p (before ++ x ∷ after) ≡ false
 stops_at p [] after x e = rw e refl
-stops_at p (b ∷ before) after x e = rw (stops_at p before after x e) (and_false (p b)) where
-  and_false : (t : Bool) → t && false ≡ false
-  and_false true = refl
-  and_false false = refl
+stops_at p (b ∷ before) after x e = rw (stops_at p before after x e) (and-false (p b))
 
 placed_behind : (class : ℕ → ℕ) (y x : ℕ) (before after : List ℕ) → list_all (greater class y) after ≡ true → class x ≤ class y → placed class y (before ++ x ∷ after) ≡ before ++ x ∷ y ∷ after
 placed_behind class y x [] after all le = rw (stops_at (greater class y) [] after x (le-ltb (class y) (class x) le), placed_first class y after all) refl

@@ -6,10 +6,10 @@
 -- last_starter_cuts     last_starter cuts a list so
 -- last_starter_at       a starter behind which no other starter is is the last one, and the list is cut there
 -- last_starter_push     one more point of another class than 0 stands after the last starter that the list had
-use Rattle.std.proofs.Common.{◌≡◌, ℕ, Bool, true, false, cond, ◌==◌, List, [], ◌∷◌, ◌++◌, Option, Some, None, refl, ap, ◌∙◌, arith}
+use Rattle.std.proofs.Common.{◌≡◌, ℕ, Bool, true, false, cond, ◌==◌, List, [], ◌∷◌, ◌++◌, Option, Some, None, refl, ap, ◌∙◌}
 use Rattle.std.specs.Prelude.{⊤}
 use Rattle.std.specs.Option.{option_map}
-use Rattle.std.proofs.lemmas.Bool.Decides.{nat_tests}
+use Rattle.std.proofs.lemmas.Bool.{eqb-true, eq-eqb, ne_eqb}
 use Rattle.ucd_model.specs.Composition.{Split, starter_behind, last_starter}
 
 abbrev pub CutsAt : (ℕ → ℕ) → List ℕ → Option Split → Type 0
@@ -19,19 +19,10 @@ CutsAt class xs None = ⊤
 abbrev pub push_after : ℕ → Split → Split
 push_after y cut = record { before = cut.before; starter = cut.starter; after = cut.after ++ y ∷ [] }
 
-zero_if : (n : ℕ) → (n == 0) ≡ true → n ≡ 0
-zero_if n e = grind (arith, nat_tests)
-
-if_zero : (n : ℕ) → n ≡ 0 → (n == 0) ≡ true
-if_zero n e = grind (arith, nat_tests)
-
-if_other : (n : ℕ) → ¬ (n ≡ 0) → (n == 0) ≡ false
-if_other n e = grind (arith, nat_tests)
-
 -- ---- where it is
 
 here_cuts : (class : ℕ → ℕ) (x : ℕ) (xs : List ℕ) → last_starter class xs ≡ None → (t : Bool) → (class x == 0) ≡ t → CutsAt class (x ∷ xs) (cond t (Some (record { before = []; starter = x; after = xs })) None)
-here_cuts class x xs none true t = (refl, zero_if (class x) t, none)
+here_cuts class x xs none true t = (refl, eqb-true (class x) 0 t, none)
 here_cuts class x xs none false t = tt
 
 behind_cuts : (class : ℕ → ℕ) (x : ℕ) (xs : List ℕ) (r : Option Split) → last_starter class xs ≡ r → CutsAt class xs r → CutsAt class (x ∷ xs) (starter_behind class x xs r)
@@ -45,7 +36,7 @@ last_starter_cuts class (x ∷ xs) = behind_cuts class x xs (last_starter class 
 -- ---- a starter, and behind it no other
 
 pub last_starter_at : (class : ℕ → ℕ) (P b : List ℕ) (q : ℕ) → class q ≡ 0 → last_starter class b ≡ None → last_starter class (P ++ q ∷ b) ≡ Some (record { before = P; starter = q; after = b })
-last_starter_at class [] b q starts none = rw (none, if_zero (class q) starts) refl
+last_starter_at class [] b q starts none = rw (none, eq-eqb (class q) 0 starts) refl
 last_starter_at class (x ∷ P) b q starts none = ap (starter_behind class x (P ++ q ∷ b)) (last_starter_at class P b q starts none)
 
 -- ---- one more point that is no starter
@@ -58,5 +49,5 @@ push_behind class x y xs None = push_here (class x == 0) where
   push_here false = refl
 
 pub last_starter_push : (class : ℕ → ℕ) (xs : List ℕ) (y : ℕ) → ¬ (class y ≡ 0) → last_starter class (xs ++ y ∷ []) ≡ option_map (push_after y) (last_starter class xs)
-last_starter_push class [] y other = rw (if_other (class y) other) refl
+last_starter_push class [] y other = rw (ne_eqb (class y) 0 other) refl
 last_starter_push class (x ∷ xs) y other = ap (starter_behind class x (xs ++ y ∷ [])) (last_starter_push class xs y other) ∙ push_behind class x y xs (last_starter class xs)

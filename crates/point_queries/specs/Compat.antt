@@ -11,7 +11,7 @@ use Rattle.std.proofs.Math.Bool.{or-true}
 use Rattle.ucd_facts.specs.Expansion.{counts, counted, joined, alone_or_joined, expand, full}
 use Rattle.ucd_facts.specs.Facts.{Facts}
 use Rattle.ucd_facts.specs.declared.decomposition.Kind.{Kind}
-use Rattle.ucd_facts.specs.declared.decomposition.Kind.TheVariants.{Plain, Canonical, Compat}
+use Rattle.ucd_facts.specs.declared.decomposition.Kind.TheVariants.{Compat}
 use Rattle.ucd_facts.specs.declared.query.Query.{Query}
 use Rattle.query_laws.specs.Questions.{tree, whole_tree, asks}
 use Rattle.ucd_facts.specs.Expansion.{is_compat}
@@ -39,9 +39,8 @@ pub compat_nowhere : (F : ℕ → Facts) (n c : ℕ) (ms : List ℕ) → n ≢ 0
 compat_nowhere F n c ms some here is e = sym (compat_below F n c some ∙ ap (λ b. b || list_any (has_compat F (n - 1)) (counted F true c)) here ∙ ap (list_any (has_compat F (n - 1))) (sym is) ∙ e)
 
 counts_alike : (kind : Kind) (m : List ℕ) → is_compat kind ≡ false → (if counts true kind then m else []) ≡ (if counts false kind then m else [])
-counts_alike Plain m e = refl
-counts_alike Canonical m e = refl
 counts_alike (Compat tag) m e = cc
+counts_alike _ m e = refl
 
 module _ (F : ℕ → Facts) where
   -- f is the same as g at each point below which no mapping is a compatibility mapping

@@ -21,7 +21,7 @@ use Rattle.std.specs.Str.{bytes_eq}
 use Rattle.std.proofs.lemmas.Bool.{true≢false}
 use Rattle.std.proofs.lemmas.List.Folds.{list_any-append}
 use Rattle.std.proofs.lemmas.Slice.Eq.{bytes_eq-Decides}
-use Rattle.std.proofs.Math.Bool.{or-true}
+use Rattle.std.proofs.Math.Bool.{or-true, or_assoc}
 use Rattle.ucd_model.specs.Casing.{folded}
 use Rattle.ucd_facts.specs.Facts.{Facts}
 use Rattle.ucd_model.specs.FoldRounds.{drop_ignorable, short, round}
@@ -151,10 +151,6 @@ left_out true a f h = refl
 left_out false true f h = absurd (true≢false (sym (h refl)))
 left_out false false f h = refl
 
-or_assoc : (a b c : Bool) → (a || (b || c)) ≡ ((a || b) || c)
-or_assoc true b c = refl
-or_assoc false b c = refl
-
 module _ (folding : Folding) (F : ℕ → Facts) where
   abbrev Stands : List Query → Bool → List ℕ → Type 0
   Stands P known s = known ≡ true → (q : Query) → is_asked (asks F true s) q ≡ true → is_asked P q ≡ true
@@ -166,7 +162,7 @@ module _ (folding : Folding) (F : ℕ → Facts) where
   round_put P false s stands q = refl
 
   in_three : (P Q R : List Query) (q : Query) → is_asked (P ++ (Q ++ R)) q ≡ ((is_asked P q || is_asked Q q) || is_asked R q)
-  in_three P Q R q = list_any-append (same_query q) P (Q ++ R) ∙ ap (λ b. is_asked P q || b) (list_any-append (same_query q) Q R) ∙ or_assoc (is_asked P q) (is_asked Q q) (is_asked R q)
+  in_three P Q R q = list_any-append (same_query q) P (Q ++ R) ∙ ap (λ b. is_asked P q || b) (list_any-append (same_query q) Q R) ∙ sym (or_assoc (is_asked P q) (is_asked Q q) (is_asked R q))
 
   stands_next : (P : List Query) (s : List ℕ) (a : After) → after_round folding F s ≡ Some a → Stands (P ++ round_puts folding F s) a.known a.list
   stands_next P s a is k q e =

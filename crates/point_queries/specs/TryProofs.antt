@@ -8,6 +8,8 @@ use Rattle.std.specs.List.{list_all}
 use Rattle.std.specs.Option.{option_map}
 use Rattle.std.proofs.Math.ListN.{drop_of_length-le}
 use Rattle.std.proofs.lemmas.Bool.Decides.{nat_tests}
+use Rattle.std.proofs.Math.Bool.{and_assoc}
+use Rattle.std.proofs.lemmas.Bool.{eqb-true, eqb-false}
 use Rattle.ucd_model.specs.CanonicalOrder.{class_of}
 use Rattle.ucd_facts.specs.Composites.{pair_of}
 use Rattle.ucd_model.specs.Composition.{Split, last_starter, is_open, where_open, reached, with_composite, with_point, composed_with}
@@ -37,16 +39,7 @@ one_more None k n = grind (arith, nat_tests)
 
 all_push : (p : ℕ → Bool) (xs : List ℕ) (y : ℕ) → list_all p (xs ++ y ∷ []) ≡ (list_all p xs && (p y && true))
 all_push p [] y = refl
-all_push p (x ∷ xs) y = ap (λ b. p x && b) (all_push p xs y) ∙ and_assoc (p x) (list_all p xs) (p y && true) where
-  and_assoc : (a b c : Bool) → (a && (b && c)) ≡ ((a && b) && c)
-  and_assoc true b c = refl
-  and_assoc false b c = refl
-
-zero_of : (n : ℕ) → (n == 0) ≡ true → n ≡ 0
-zero_of n e = grind (arith, nat_tests)
-
-other_of : (n : ℕ) → (n == 0) ≡ false → ¬ (n ≡ 0)
-other_of n e = grind (arith, nat_tests)
+all_push p (x ∷ xs) y = ap (λ b. p x && b) (all_push p xs y) ∙ sym (and_assoc (p x) (list_all p xs) (p y && true))
 
 module _ (class : ℕ → ℕ) (pair : ℕ → ℕ → Option ℕ) (starts : (s y q : ℕ) → pair s y ≡ Some q → class q ≡ 0) where
   -- ---- one more point that stays
@@ -59,8 +52,8 @@ module _ (class : ℕ → ℕ) (pair : ℕ → ℕ → Option ℕ) (starts : (s 
 
   staying_if : (done : List ℕ) (y : ℕ) (starter : Option (Starter ℕ)) → Tells class (last_starter class done) starter → (b : Bool) → (class y == 0) ≡ b
       → Tells class (last_starter class (done ++ y ∷ [])) (cond b (Some (record { which = y; highest = None })) (raised starter (class y)))
-  staying_if done y starter t true e = subst (λ cut. Tells class cut (Some (record { which = y; highest = None }))) (sym (last_starter_at class done [] y (zero_of (class y) e) refl)) (refl, λ z. refl)
-  staying_if done y starter t false e = subst (λ cut. Tells class cut (raised starter (class y))) (sym (last_starter_push class done y (other_of (class y) e))) (raised_tells y (last_starter class done) starter t)
+  staying_if done y starter t true e = subst (λ cut. Tells class cut (Some (record { which = y; highest = None }))) (sym (last_starter_at class done [] y (eqb-true (class y) 0 e) refl)) (refl, λ z. refl)
+  staying_if done y starter t false e = subst (λ cut. Tells class cut (raised starter (class y))) (sym (last_starter_push class done y (eqb-false (class y) 0 e))) (raised_tells y (last_starter class done) starter t)
 
   stays : (done : List ℕ) (y : ℕ) (starter : Option (Starter ℕ)) → Tells class (last_starter class done) starter → Tells class (last_starter class (done ++ y ∷ [])) (starter_behind y starter (class y))
   stays done y starter t = staying_if done y starter t (class y == 0) refl

@@ -2,11 +2,10 @@
 --
 -- F and G are the facts of each code point.
 -- SameRows F G xs    F and G give each of the points xs the same facts
--- rows_same          they do where they answer the rows of xs alike
+-- rows_same          they do if they answer the rows of xs alike
 -- same_expansions    the law of the same name
 -- leaves_in_tree     what holds of each point of the tree of c holds of each point of its expansion
--- expansions_same, expansions_leaves, decomposed_same   the same of the expansions of a list
--- tree_is_least      the law of the same name
+-- list_same, expansions_leaves   the same of the expansions of a list
 use Rattle.std.proofs.Common.{◌≡◌, ℕ, zero, suc, Bool, true, false, cond, nat_lt, List, [], ◌∷◌, ◌++◌, length, Option, Some, None, Ok, Err, if◌then◌else◌, refl, sym, ap, ◌∙◌, subst}
 use Rattle.std.specs.List.{flat_map}
 use Rattle.ucd_facts.specs.Expansion.{counts, counted, joined, alone_or_joined, expand, full, judged, expansion}

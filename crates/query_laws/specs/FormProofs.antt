@@ -1,12 +1,12 @@
 -- Locality of the forms: the rows of the members and the pairs that are tried decide them.
 --
--- f and g are canonical combining classes, p and q primary composites, and F and G the facts of each code point.
+-- f has canonical combining classes, and F and G the facts of each code point.
 -- Each-order          what holds of the members holds of those of the ordered list
 -- composites_are_starters   a primary composite has class 0
 -- composing_same      lists whose members have the same classes, and whose tried pairs have the same composites, are composed
 --                     alike, and the same pairs are tried
 -- same_forms          the law of the same name
--- form_rows           the members of the ordered expansions, and of these composed, have the same facts
+-- decomposed_rows, composed_rows   the members of the ordered expansions, and of these composed, have the same facts
 use Rattle.std.proofs.Common.{◌≡◌, ℕ, Bool, true, ◌&&◌, not, ◌==◌, List, [], ◌∷◌, ◌++◌, Option, Some, None, Result, Ok, Err, refl, sym, ap, ◌∙◌, subst}
 use Rattle.std.specs.List.{AllByRecursion, flat_map}
 use Rattle.std.proofs.lemmas.Bool.{and_parts, eqb-true}

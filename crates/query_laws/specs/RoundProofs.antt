@@ -8,6 +8,7 @@ use Rattle.std.proofs.Common.{◌≡◌, ℕ, zero, suc, ◌+◌, ◌<◌, ◌�
 use Rattle.std.specs.List.{flat_map, range_with_len}
 use Rattle.std.specs.Option.{option_and_then}
 use Rattle.std.proofs.lemmas.Bool.{cases_lt}
+use Rattle.std.proofs.lemmas.Option.{cond_some}
 use Rattle.ucd_model.specs.Casing.{fold_of, fold, folded}
 use Rattle.ucd_facts.specs.CompositeProofs.{Least, find_least, find_first}
 use Rattle.ucd_facts.specs.Facts.{Facts, image_points}
@@ -30,12 +31,8 @@ then_same : (f g : List ℕ → Option (List ℕ)) (r : Option (List ℕ)) → (
 then_same f g (Some xs) e = e xs refl
 then_same f g None e = refl
 
-short_if : (b : Bool) (xs ys : List ℕ) → cond b (Some xs) None ≡ Some ys → xs ≡ ys
-short_if true xs ys e = cc
-short_if false xs ys e = cc
-
 short_list : (xs ys : List ℕ) → short xs ≡ Some ys → xs ≡ ys
-short_list xs ys e = short_if (nat_le (length xs) 255) xs ys e
+short_list xs ys e = (cond_some (nat_le (length xs) 255) xs ys e).1
 
 then_short : (f : List ℕ → List ℕ) (xs ys : List ℕ) (b : Bool) → option_and_then (λ zs. short (f zs)) (cond b (Some xs) None) ≡ Some ys → f xs ≡ ys
 then_short f xs ys true e = short_list (f xs) ys e

@@ -45,22 +45,16 @@ module _ (F G : ℕ → Facts) where
       rw (here, lacks_same c ms (Each-right (λ x. F x ≡ G x) m (flat_map (λ m. m) ms) e)) refl
 
   pub zero_class_same : (m : List ℕ) → Rows m → first_has_class_zero G m ≡ first_has_class_zero F m
-  zero_class_same [] e = refl
-  zero_class_same (s ∷ []) e = refl
   zero_class_same (s ∷ y ∷ []) e = ap (λ (facts : Facts). facts.class == 0) (sym e.0)
-  zero_class_same (s ∷ y ∷ z ∷ m) e = refl
+  zero_class_same _ e = refl
 
   pub excludes_same : (c : ℕ) (m : List ℕ) → F c ≡ G c → Rows m → excludes_mapping G c m ≡ excludes_mapping F c m
-  excludes_same c [] own e = refl
-  excludes_same c (s ∷ []) own e = refl
   excludes_same c (s ∷ y ∷ []) own e = ap (λ (facts : Facts). not ((facts.class == 0) && ((G s).class == 0))) (sym own) ∙ ap (λ (facts : Facts). not (((F c).class == 0) && (facts.class == 0))) (sym e.0)
-  excludes_same c (s ∷ y ∷ z ∷ m) own e = refl
+  excludes_same c _ own e = refl
 
   pub composite_same : (m : List ℕ) → Each (SameAnswer F G) (pair_queries m) → composite_of G m ≡ composite_of F m
-  composite_same [] e = refl
-  composite_same (s ∷ []) e = refl
   composite_same (s ∷ y ∷ []) e = sym e.0
-  composite_same (s ∷ y ∷ z ∷ m) e = refl
+  composite_same _ e = refl
 
   pub hidden_same : (b : Bool) (c : ℕ) (m : List ℕ) → Each (SameAnswer F G) (cond b (pair_queries m) []) → (b && is_other c (composite_of G m)) ≡ (b && is_other c (composite_of F m))
   hidden_same true c m e = ap (is_other c) (composite_same m e)

@@ -18,7 +18,7 @@ use Rattle.ucd_facts.specs.Expansion.{counts, counted, expansion}
 use Rattle.ucd_model.specs.Forms.{appended, expansions, in_order, decomposed, composed}
 use Rattle.ucd_model.specs.QuickChecks.{form_of, quick_composed, quick_given, quick_where, quick}
 use Rattle.ucd_facts.specs.declared.decomposition.Kind.{Kind}
-use Rattle.ucd_facts.specs.declared.decomposition.Kind.TheVariants.{Plain, Canonical, Compat}
+use Rattle.ucd_facts.specs.declared.decomposition.Kind.TheVariants.{Plain}
 use Rattle.ucd_facts.specs.declared.form.Bad.{Bad as Rule}
 use Rattle.ucd_facts.specs.declared.form.Form.TheVariants.{Nfd, Nfc, Nfkd, Nfkc}
 use Rattle.ucd_facts.specs.declared.form.Quick.{Quick}
@@ -50,13 +50,11 @@ composed_alone F compat c e = ap (composed F) (decomposed_alone F compat c e)
 
 no_if_canonical : (kind : Kind) → cond (is_canonical kind) No Yes ≡ quick_decomposed kind false
 no_if_canonical Plain = refl
-no_if_canonical Canonical = refl
-no_if_canonical (Compat tag) = refl
+no_if_canonical _ = refl
 
 yes_if_plain : (kind : Kind) → cond (is_plain kind) Yes No ≡ quick_decomposed kind true
 yes_if_plain Plain = refl
-yes_if_plain Canonical = refl
-yes_if_plain (Compat tag) = refl
+yes_if_plain _ = refl
 
 pub kinds_tell : KindsTell
 kinds_tell F c s = (no_if_canonical (F c).kind, yes_if_plain (F c).kind)
@@ -91,8 +89,7 @@ alone_unmapped F compat c is =
 
 counts_mapped : (compat : Bool) (kind : Kind) → counts compat kind ≡ true → is_plain kind ≡ false
 counts_mapped compat Plain e = cc
-counts_mapped compat Canonical e = refl
-counts_mapped compat (Compat tag) e = refl
+counts_mapped compat _ e = refl
 
 alone_counts : (F : ℕ → Facts) (compat : Bool) (c : ℕ) → IsMapped F c → decomposed F compat (c ∷ []) ≡ Ok (c ∷ []) → (t : Bool) → counts compat (F c).kind ≡ t → t ≡ false
 alone_counts F compat c mapped is true e = absurd (mapped (counts_mapped compat (F c).kind e) (sym (ap (λ b. cond b (F c).mapping []) e) ∙ alone_unmapped F compat c is))

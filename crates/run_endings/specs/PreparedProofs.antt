@@ -7,7 +7,7 @@ use Rattle.run_endings.specs.Outcome.{ShelfSeen}
 use Rattle.run_endings.specs.Planning.{IsPlanOf, OnRefused, OnlyRead, UnreadAs}
 use Rattle.run_endings.specs.declared.plan.Plan.{Plan}
 use Rattle.run_endings.specs.declared.stop.Stop.{Stop}
-use Rattle.run_endings.specs.declared.stop.Stop.TheVariants.{Refused, ReadFailed, Memory}
+use Rattle.run_endings.specs.declared.stop.Stop.TheVariants.{Refused}
 
 pub prepares : {Job : Type 0} (p : Program Job) (job : Job) (answer : Result Plan Stop) (shelf : ShelfSeen)
     → IfOk answer (λ plan. Sees shelf.tells shelf.old (p.needed job) (λ seen. IsPlanOf plan (p.expected job seen)))
@@ -15,5 +15,4 @@ pub prepares : {Job : Type 0} (p : Program Job) (job : Job) (answer : Result Pla
     → UnreadAs answer (p.needed job) shelf → OnlyRead shelf → Prepares p job answer shelf
 prepares p job (Ok plan) shelf planned refused unread only = record { planned = planned; unread = unread; only_read = only }
 prepares p job (Err (Refused line)) shelf planned refused unread only = record { planned = refused; unread = unread; only_read = only }
-prepares p job (Err (ReadFailed line)) shelf planned refused unread only = record { planned = tt; unread = unread; only_read = only }
-prepares p job (Err Memory) shelf planned refused unread only = record { planned = tt; unread = unread; only_read = only }
+prepares p job _ shelf planned refused unread only = record { planned = tt; unread = unread; only_read = only }

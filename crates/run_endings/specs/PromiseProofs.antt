@@ -1,6 +1,7 @@
 -- What each status says, from what a run leaves.
-use Rattle.std.proofs.Common.{◌≡◌, ◌≢◌, ◌⊎◌, ◌↔◌, ℕ, IsTrue, List, [], Option, Some, None, Result, refl, ap, subst, ◌∙◌, inl, inr}
+use Rattle.std.proofs.Common.{◌≡◌, ◌≢◌, ◌⊎◌, ◌↔◌, ℕ, IsTrue, List, [], Option, Some, None, Result, refl, ap, sym, subst, ◌∙◌, inl, inr}
 use Rattle.std.specs.List.{slice_get}
+use Rattle.std.proofs.lemmas.Option.{same_Some}
 use Rattle.shelf_io.specs.Counts.{Rose}
 use Rattle.shelf_io.specs.Contents.{SameContents}
 use Rattle.shelf_io.specs.declared.shelf.Shelf.{Ghosts as ShelfGhosts}
@@ -27,14 +28,8 @@ refuses_finishes e line ending p q = cc
 pub same_ending : (e : Expected) (a b : Ending) → e ≡ Finishes a → e ≡ Finishes b → a ≡ b
 same_ending e a b p q = cc
 
-same_job : {Job : Type 0} (o : Option Job) (a b : Job) → o ≡ Some a → o ≡ Some b → a ≡ b
-same_job o a b p q = cc
-
 some_none : {A : Type 0} (o : Option A) (x : A) → o ≡ Some x → o ≡ None → ⊥
 some_none o x p q = cc
-
-nothing_there : (place : ℕ) (path : List ℕ) → slice_get [] place ≡ Some path → ⊥
-nothing_there place path e = some_none (slice_get [] place) path e refl
 
 module _ {Job : Type 0} (p : Program Job) (words : List (List ℕ)) (shelf : ShelfSeen) (sink : SinkSeen) where
   -- words without a form expect nothing
@@ -95,56 +90,36 @@ module _ {Job : Type 0} (p : Program Job) (words : List (List ℕ)) (shelf : She
   fine_only Clean o may = (o.ends.0, o.ends.1, (o.ends.2.0, o.ends.2.1))
   fine_only Done o may = (o.ends.0, o.ends.1, (o.ends.2.0, o.ends.2.1))
   fine_only WriteFault o may = (o.ends.0, o.ends.1, (o.ends.2.0, o.ends.2.1))
-  fine_only BadWords o may = absurd may
-  fine_only LoadRefused o may = absurd may
-  fine_only ReadFault o may = absurd may
-  fine_only Memory o may = absurd may
+  fine_only _ o may = absurd may
 
   bad_words : (status : Status) → Outcome p words shelf sink status → (status ≡ BadWords) ↔ (p.form words ≡ None)
-  bad_words Clean o = (λ e. absurd cc, λ n. absurd (some_none (p.form words) o.job o.formed n))
-  bad_words Done o = (λ e. absurd cc, λ n. absurd (some_none (p.form words) o.job o.formed n))
   bad_words BadWords o = (λ e. o.unformed, λ n. refl)
-  bad_words LoadRefused o = (λ e. absurd cc, λ n. absurd (some_none (p.form words) o.job o.formed n))
-  bad_words ReadFault o = (λ e. absurd cc, λ n. absurd (some_none (p.form words) o.job o.formed n))
-  bad_words WriteFault o = (λ e. absurd cc, λ n. absurd (some_none (p.form words) o.job o.formed n))
-  bad_words Memory o = (λ e. absurd cc, λ n. absurd (some_none (p.form words) o.job o.formed n))
+  bad_words _ o = (λ e. absurd cc, λ n. absurd (some_none (p.form words) o.job o.formed n))
 
   refused : (status : Status) → Outcome p words shelf sink status → IsTrue shelf.tells → (line : List ℕ) → expected p words (seen_in p words shelf.old) ≡ Refuses line
       → ¬ Rose shelf.reads_old shelf.reads_new → (status ≡ LoadRefused) ⊎ (status ≡ Memory)
-  refused Clean o tells line e r = let held = ends_held _ o.ends tells in absurd (refuses_finishes _ line held.0 e held.1)
-  refused Done o tells line e r = let held = ends_held _ o.ends tells in absurd (refuses_finishes _ line held.0 e held.1)
   refused BadWords o tells line e r = absurd (no_form_refuses _ line (no_form (seen_in p words shelf.old) o.unformed) e)
   refused LoadRefused o tells line e r = inl refl
   refused ReadFault o tells line e r = absurd (r o.rose)
-  refused WriteFault o tells line e r = let held = ends_held _ o.ends tells in absurd (refuses_finishes _ line held.0 e held.1)
   refused Memory o tells line e r = inr refl
+  refused _ o tells line e r = let held = ends_held _ o.ends tells in absurd (refuses_finishes _ line held.0 e held.1)
 
   no_failed_read : (status : Status) → Outcome p words shelf sink status → IsTrue shelf.tells_failed → PassesReads status → shelf.failed ≡ shelf.failed_old
-  no_failed_read Clean o tells passes = o.read tells
-  no_failed_read Done o tells passes = o.read tells
-  no_failed_read BadWords o tells passes = o.read tells
-  no_failed_read LoadRefused o tells passes = o.read tells
   no_failed_read ReadFault o tells passes = absurd passes
-  no_failed_read WriteFault o tells passes = o.read tells
   no_failed_read Memory o tells passes = absurd passes
+  no_failed_read _ o tells passes = o.read tells
 
   unchanged : (status : Status) → Outcome p words shelf sink status → IsTrue shelf.tells → WritesNothing status → SameContents shelf.old shelf.new
   unchanged Clean o tells w = absurd w
   unchanged Done o tells w = absurd w
-  unchanged BadWords o tells w = o.unchanged tells
-  unchanged LoadRefused o tells w = o.unchanged tells
-  unchanged ReadFault o tells w = o.unchanged tells
   unchanged WriteFault o tells w = absurd w
-  unchanged Memory o tells w = o.unchanged tells
+  unchanged _ o tells w = o.unchanged tells
 
   no_write_fault : (status : Status) → Outcome p words shelf sink status → WritesNothing status → shelf.writes_new ≡ shelf.writes_old
   no_write_fault Clean o w = absurd w
   no_write_fault Done o w = absurd w
-  no_write_fault BadWords o w = o.writes
-  no_write_fault LoadRefused o w = o.writes
-  no_write_fault ReadFault o w = o.writes
   no_write_fault WriteFault o w = absurd w
-  no_write_fault Memory o w = o.writes
+  no_write_fault _ o w = o.writes
 
   -- ---- what one status says
 
@@ -161,8 +136,8 @@ module _ {Job : Type 0} (p : Program Job) (words : List (List ℕ)) (shelf : She
     no_read_fault : (job : Job) → p.form words ≡ Some job → p.needed job ≡ [] → status ≢ ReadFault
     no_read_fault job formed none e =
         let c = outcome_at ReadFault e in
-        let unneeded : p.needed c.job ≡ [] = ap p.needed (same_job (p.form words) c.job job c.formed formed) ∙ none in
-        nothing_there c.place c.path (subst (λ (paths : List (List ℕ)). slice_get paths c.place ≡ Some c.path) unneeded c.needed)
+        let unneeded : p.needed c.job ≡ [] = ap p.needed (same_Some c.job job (sym c.formed ∙ formed)) ∙ none in
+        some_none (slice_get [] c.place) c.path (subst (λ (paths : List (List ℕ)). slice_get paths c.place ≡ Some c.path) unneeded c.needed) refl
 
     -- a run that leaves what its status says keeps all promises
     pub promises : Promises p words shelf sink status

@@ -39,16 +39,7 @@ all_ok v g (file ∷ files) each = rw (each file, all_ok v g files each) refl
 -- nine lists are those of the nine files
 nine_lists : (lists : List (List FileItem)) → length lists ≡ 9 → map (items_at lists) source_files ≡ lists
 nine_lists (a ∷ b ∷ c ∷ d ∷ e ∷ f ∷ g ∷ h ∷ i ∷ []) nine = refl
-nine_lists [] nine = absurd (omega arith)
-nine_lists (a ∷ []) nine = absurd (omega arith)
-nine_lists (a ∷ b ∷ []) nine = absurd (omega arith)
-nine_lists (a ∷ b ∷ c ∷ []) nine = absurd (omega arith)
-nine_lists (a ∷ b ∷ c ∷ d ∷ []) nine = absurd (omega arith)
-nine_lists (a ∷ b ∷ c ∷ d ∷ e ∷ []) nine = absurd (omega arith)
-nine_lists (a ∷ b ∷ c ∷ d ∷ e ∷ f ∷ []) nine = absurd (omega arith)
-nine_lists (a ∷ b ∷ c ∷ d ∷ e ∷ f ∷ g ∷ []) nine = absurd (omega arith)
-nine_lists (a ∷ b ∷ c ∷ d ∷ e ∷ f ∷ g ∷ h ∷ []) nine = absurd (omega arith)
-nine_lists (a ∷ b ∷ c ∷ d ∷ e ∷ f ∷ g ∷ h ∷ i ∷ j ∷ more) nine = absurd (omega arith)
+nine_lists _ nine = absurd (omega arith)
 
 -- files before a place are loaded as their verdict says, and those from it on have no items
 pub record IsLoadedTo (v : SourceFile → Result (List FileItem) FolderRefusal) (at : ℕ) (release : ReleaseItems) : Type 0 where
@@ -102,9 +93,6 @@ stopped_at v held here at release new Memory lt is loaded h = tt
 pub record MovesTo (old new : Seen) (first at : ℕ) : Type 0 where
   pub ahead : (file : SourceFile) → at ≤ file_place file → source_held new first file ≡ source_held old first file
   pub others : StayOutside first old new
-
-pub nothing_moves : (held : Seen) (first : ℕ) → MovesTo held held first 0
-nothing_moves held first = record { ahead = λ file above. refl; others = record { before = λ at low. refl; behind = λ at high. refl } }
 
 pub moves_on : (old now new : Seen) (first at : ℕ) → at < 9 → MovesTo old now first at → ((k : ℕ) → k ≢ first + file_place (file_at at) → held_at new k ≡ held_at now k)
     → MovesTo old new first (at + 1)

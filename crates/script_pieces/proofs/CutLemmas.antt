@@ -4,6 +4,7 @@
 use Rattle.std.proofs.Common.{◌≡◌, ◌≢◌, ◌≤◌, ◌<◌, ℕ, ◌+◌, ◌-◌, Bool, true, false, List, [], ◌∷◌, ◌++◌, length, map, take, drop, Option, Some, refl, sym, ap, ◌∙◌, arith, append_assoc, length-append, length-drop, append-nil}
 use Rattle.std.proofs.lemmas.List.{take_all}
 use Rattle.std.specs.Prelude.{if◌then◌else◌}
+use Rattle.std.proofs.Math.Seq.{take-append_seam, drop-append_seam}
 use Rattle.ucd_points.specs.Lines.{LineEnding, LineItem, cr_lf, ending_bytes, item_bytes, items_of, joined, lf, unended}
 use Rattle.ucd_lines.specs.Laws.{AreLines, EndingsAreToldApart, IsLine, LinesAreUnique, NoLineFeedInside, OnlyTheLastIsUnended}
 use Rattle.script_pieces.specs.Pieces.{Cut, Mark, cut, is_mark, marked_piece, pieces_from}
@@ -24,19 +25,11 @@ some_bytes line rest is = by line.content line.ending is.last
     by [] cr_lf last = omega arith
     by (b ∷ bs) ending last = omega arith
 
-drop_front : (a b : List ℕ) → drop (length a) (a ++ b) ≡ b
-drop_front [] b = refl
-drop_front (x ∷ a) b = drop_front a b
-
-take_front : (a b : List ℕ) → take (length a) (a ++ b) ≡ a
-take_front [] b = refl
-take_front (x ∷ a) b = ap (λ (rest : List ℕ). x ∷ rest) (take_front a b)
-
 pub line_bytes : (text : List ℕ) (item : LineItem) (rest : List LineItem) → items_of text ≡ item ∷ rest → joined (items_of text) ≡ text → text ≡ item_bytes item ++ joined rest
 line_bytes text item rest is join = sym join ∙ ap joined is
 
 pub behind_is : (text : List ℕ) (item : LineItem) (rest : List LineItem) → items_of text ≡ item ∷ rest → joined (items_of text) ≡ text → drop (length (item_bytes item)) text ≡ joined rest
-behind_is text item rest is join = ap (drop (length (item_bytes item))) (line_bytes text item rest is join) ∙ drop_front (item_bytes item) (joined rest)
+behind_is text item rest is join = ap (drop (length (item_bytes item))) (line_bytes text item rest is join) ∙ drop-append_seam (item_bytes item) (joined rest)
 
 pub lines_are : (text : List ℕ) (item : LineItem) (rest : List LineItem) → NoLineFeedInside → OnlyTheLastIsUnended → EndingsAreToldApart → LinesAreUnique
     → items_of text ≡ item ∷ rest → items_of (joined rest) ≡ rest
@@ -64,7 +57,7 @@ before text rest = take (length text - length rest) text
 pub before_is : (a b text : List ℕ) → text ≡ a ++ b → before text b ≡ a
 before_is a b text e =
     let len : length text - length b ≡ length a = omega (arith, ap length e, length-append a b) in
-    ap (λ n. take n text) len ∙ ap (take (length a)) e ∙ take_front a b
+    ap (λ n. take n text) len ∙ ap (take (length a)) e ∙ take-append_seam a b
 
 pub before_more : (text rest bytes behind : List ℕ) → text ≡ before text rest ++ rest → rest ≡ bytes ++ behind → before text behind ≡ before text rest ++ bytes
 before_more text rest bytes behind whole more =
@@ -112,11 +105,3 @@ module _ (text : List ℕ) (first : ℕ) (rest : List ℕ) (line : ℕ) (at : Is
           marked = at.marked ∙ ap (λ (it : Cut). it.marked) same;
           lines = omega (arith, at.lines, less);
         }
-
-    pub piece_before : is_mark item ≡ true → (mark : Option Mark) → pieces_from mark first (items_of text)
-        ≡ record { mark = mark; first_line = first; body = before text rest } ∷ pieces_from (Some (record { line = line; content = item.content })) (line + 1) (items_of behind)
-    piece_before is_one mark =
-        let same = cut_is ∙ mark_line line item (items_of behind) is_one in
-        ap (λ (body : List ℕ). record { mark = mark; first_line = first; body = body } ∷ map marked_piece (cut first (items_of text)).marked)
-        (at.front ∙ ap (λ (it : Cut). before text rest ++ joined it.front) same ∙ append-nil (before text rest))
-        ∙ ap (λ ms. record { mark = mark; first_line = first; body = before text rest } ∷ map marked_piece ms) (at.marked ∙ ap (λ (it : Cut). it.marked) same)

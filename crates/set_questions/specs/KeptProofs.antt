@@ -2,7 +2,7 @@
 --
 -- others_stay   after a group that was accepted, each code point that it is not answered with has the record that it had
 use Rattle.std.proofs.Common.{◌≡◌, ℕ, ◌<◌, false, List, Result, Ok, Err, sym, ap, ◌∙◌}
-use Rattle.edit_session.specs.Groups.{AppliesAs, files_facts, group_answer}
+use Rattle.edit_session.specs.Groups.{AppliesAs, files_facts}
 use Rattle.edit_session.specs.Unchanged.{unchanged_same}
 use Rattle.edit_session.specs.declared.accepted.Accepted.{Accepted}
 use Rattle.edit_session.specs.declared.apply_stop.Refused.{Refused}
@@ -10,7 +10,7 @@ use Rattle.release_rows.specs.FileItems.{FileItem}
 use Rattle.release_rows.specs.Releases.{ReleaseItems}
 use Rattle.ucd_model.specs.Sameness.{is_in}
 use Rattle.ucd_points.specs.Limits.{point_count}
-use Rattle.set_questions.specs.Kept.{files_record}
+use Rattle.set_answers.specs.Questions.{files_record}
 
 pub others_stay : (accepted : Accepted) (answer : Result (List (List FileItem)) Refused) (old new : ReleaseItems) → AppliesAs (Ok accepted) answer old new
     → (c : ℕ) → c < point_count → is_in accepted.changed c ≡ false → files_record old.current c ≡ files_record new.current c

@@ -1,9 +1,3 @@
-pub mod Questions
-pub mod SetTexts
-pub mod RowNames
-pub mod RowNamesProofs
-pub mod KeptPieces
 pub mod Kept
 pub mod KeptProofs
-pub mod Refusals
-pub mod Asking
+pub mod UneditedProofs

@@ -1,19 +1,22 @@
 //! What is kept from one run of questions to the next.
 
 ghost use Rattle.std.specs.Prelude.{◌≡◌, List, OnOk, Ok};
+ghost use Rattle.edit_session.specs.Benches.{bench_record};
 ghost use Rattle.edit_session.specs.Groups.{AppliesAs, group_answer};
 ghost use Rattle.edit_session.specs.declared.accepted.Accepted.{Accepted};
 ghost use Rattle.release_rows.specs.FileItems.{FileItem};
 ghost use Rattle.release_rows.specs.Releases.{ReleaseItems};
+ghost use Rattle.set_answers.specs.KeptPieces.{AreKept, HasPieces};
 ghost use Rattle.set_questions.specs.Kept.{IsFilled, IsKept};
 
-use crate::asking::Asking;
-use crate::kept_names::KeptNames;
-use crate::kept_pieces::KeptPieces;
 use edit_session::Bench;
 use release_rows::Op;
+use set_answers::{KeptNames, KeptPieces};
 use std::alloc::Global;
 use ucd_model::{Memory, Point};
+
+/// What answers questions on the release of a bench. Contracts see the items of its files.
+pub type Asking<'b> = set_answers::Asking<'b, Bench>;
 
 /// What questions need of a bench, as it was last made, and what changed since: only that is made again. It is what names mean, the
 /// sets of rows, and the pieces of equal records.
@@ -21,6 +24,21 @@ use ucd_model::{Memory, Point};
 pub struct Kept {
     names: KeptNames,
     pieces: KeptPieces,
+}
+
+/// Makes the pieces that are kept those of a bench.
+///
+/// - `Memory`: memory ran out. None are kept then.
+fn fill_pieces(alloc: Global, kept: &mut KeptPieces, bench: &Bench) -> Result<(), Memory>
+    requires { AreKept kept.old (bench_record bench.now) }
+    ensures kept { AreKept kept.new (bench_record bench.now) }
+    ensures filled { OnOk result (HasPieces kept.new (bench_record bench.now)) }
+{
+    if kept.renew(alloc, bench)? {
+        return Ok(());
+    }
+    let spans = bench.pieces(alloc)?;
+    kept.make(alloc, bench, spans.as_slice())
 }
 
 impl Kept {
@@ -54,8 +72,9 @@ impl Kept {
         ensures kept { IsKept self.new bench.now.current }
         ensures filled { OnOk result (IsFilled self.new bench.now.current) }
     {
-        self.names.fill(alloc, bench.release())?;
-        self.pieces.fill(alloc, bench)
+        // the spans of the pieces are let go of before the names are made, which then lie where they lay
+        fill_pieces(alloc, &mut self.pieces, bench)?;
+        self.names.fill(alloc, bench.release())
     }
 
     /// What answers questions on the bench of which it was filled.
@@ -63,6 +82,11 @@ impl Kept {
         requires { IsFilled self.now bench.now.current }
         ensures { result ≡ bench.now.current }
     {
-        Asking::of(bench, self.pieces.pieces(), self.names.names())
+        Asking::of(
+            bench,
+            bench.release(),
+            self.pieces.pieces(),
+            self.names.names(),
+        )
     }
 }

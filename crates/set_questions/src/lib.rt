@@ -1,17 +1,7 @@
-//! What questions of sets are answered on the release of a bench, the text of the answers, and why a question is refused.
+//! What questions of sets are answered on the release of a bench.
 #![tactic(auto)]
 
-mod ask_stop;
-mod asking;
 mod kept;
-mod kept_names;
-mod kept_pieces;
-mod refusals;
-mod row_names;
-mod set_text;
 
-pub use ask_stop::{AskFault, AskRule, AskStop};
-pub use asking::Asking;
-pub use kept::Kept;
-pub use refusals::put_refusal;
-pub use set_text::{put_answer, put_members};
+pub use kept::{Asking, Kept};
+pub use set_answers::{AskFault, AskRule, AskStop, put_answer, put_members, put_refusal};

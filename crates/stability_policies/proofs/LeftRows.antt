@@ -7,7 +7,7 @@ use Rattle.std.proofs.lemmas.Slice.Eq.{bytes_eq-Decides}
 use Rattle.std.specs.Str.{bytes_eq}
 use Rattle.ucd_facts.specs.Facts.{within}
 use Rattle.ucd_facts.specs.declared.row.Row.{Row}
-use Rattle.ucd_facts.specs.declared.row.Row.TheVariants.{Unit as DataLine, Value as ValueLine, Exclusion as ExclusionLine, Fold as FoldLine, Casing as CasingLine, Alias as AliasLine, Missing as MissingLine}
+use Rattle.ucd_facts.specs.declared.row.Row.TheVariants.{Unit as DataLine}
 use Rattle.stability_policies.specs.NamedRows.{AreAbove, AreLeft, Takes, name_at, named, named_in, news, olds}
 use Rattle.stability_policies.specs.Policies.{differ}
 use Rattle.stability_policies.specs.declared.differing.Step.{Step}
@@ -81,12 +81,7 @@ module _ (old new : List NamedRow) where
   both_left : (bs ds : List NamedRow) (x : Row) (xs ys : List Row) → AreLeft old new (bs ++ named (x ∷ xs)) (ds ++ named (x ∷ ys)) → AreLeft old new (bs ++ named xs) (ds ++ named ys)
   both_left bs ds (DataLine row) xs ys left =
       left_without bs (named xs) ds (named ys) (record { span = row.span; name = row.name }) left.before_above left.after_above old new left.same
-  both_left bs ds (ValueLine row) xs ys left = left
-  both_left bs ds (ExclusionLine row) xs ys left = left
-  both_left bs ds (FoldLine row) xs ys left = left
-  both_left bs ds (CasingLine row) xs ys left = left
-  both_left bs ds (AliasLine row) xs ys left = left
-  both_left bs ds (MissingLine row) xs ys left = left
+  both_left bs ds _ xs ys left = left
 
   pub step_left : (bs cs ds es : List NamedRow) (i j : ℕ) (olds_all news_all : List Row) (x y : Row) (step : Step) → i < length olds_all → j < length news_all → x ≡ get_or olds_all i x → y ≡ get_or news_all j y
       → Takes x y step bs cs ds es → AreLeft old new (bs ++ named (drop i olds_all)) (ds ++ named (drop j news_all)) → AreLeft old new (cs ++ named (drop (i + olds step) olds_all)) (es ++ named (drop (j + news step) news_all))
@@ -138,8 +133,7 @@ left_whole old new before after = record { before_above = before; after_above = 
 -- a step takes at least one row, and at most one of each release
 pub step_moves : (step : Step) → (olds step ≤ 1) × (news step ≤ 1) × (1 ≤ olds step + news step)
 step_moves Same = (omega arith, omega arith, omega arith)
-step_moves Old = (omega arith, omega arith, omega arith)
-step_moves New = (omega arith, omega arith, omega arith)
+step_moves _ = (omega arith, omega arith, omega arith)
 
 -- the rows from one on, as they are handed on
 pub rest_whole : (k : ℕ) (rows : List Row) → take (length rows - k) (drop k rows) ≡ drop k rows

@@ -14,7 +14,7 @@ use Rattle.stability_policies.specs.declared.breaks.Break.{Break}
 use Rattle.stability_policies.specs.declared.breaks.Break.TheVariants.{At, Alias}
 use Rattle.stability_policies.specs.declared.policy.Policy.{Policy}
 use Rattle.stability_policies.specs.declared.sieving.Stretches.{Stretches}
-use Rattle.stability_policies.specs.declared.policy.Policy.TheVariants.{P01, P02, P03, P04, P05, P06, P07, P08, P09, P10, P11, P12, P13, P14, P15, P16, P17, P18, P19, P20}
+use Rattle.stability_policies.specs.declared.policy.Policy.TheVariants.{P02, P17}
 
 -- ---- lists that are put one after the other
 
@@ -45,26 +45,9 @@ module _ (file : SourceFile) (new : List (ℕ × Row)) where
 -- ---- policies
 
 of_points : (policy : Policy) (old new : ReleaseItems) → policy ≢ P02 → policy ≢ P17 → map (At policy) (breaking policy (facts (rows_now old)) (facts (rows_now new)) point_count) ≡ breaks_of policy old new
-of_points P01 old new names rows = refl
 of_points P02 old new names rows = absurd (names refl)
-of_points P03 old new names rows = refl
-of_points P04 old new names rows = refl
-of_points P05 old new names rows = refl
-of_points P06 old new names rows = refl
-of_points P07 old new names rows = refl
-of_points P08 old new names rows = refl
-of_points P09 old new names rows = refl
-of_points P10 old new names rows = refl
-of_points P11 old new names rows = refl
-of_points P12 old new names rows = refl
-of_points P13 old new names rows = refl
-of_points P14 old new names rows = refl
-of_points P15 old new names rows = refl
-of_points P16 old new names rows = refl
 of_points P17 old new names rows = absurd (rows refl)
-of_points P18 old new names rows = refl
-of_points P19 old new names rows = refl
-of_points P20 old new names rows = refl
+of_points _ old new names rows = refl
 
 pub of_broken : (policy : Policy) (old new : ReleaseItems) (points : List ℕ) → policy ≢ P02 → policy ≢ P17 → points ≡ breaking policy (facts (rows_now old)) (facts (rows_now new)) point_count
     → map (At policy) points ≡ breaks_of policy old new

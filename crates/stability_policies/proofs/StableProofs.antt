@@ -7,6 +7,7 @@ use Rattle.std.proofs.lemmas.List.Elements.{All-head, All-tail}
 use Rattle.std.specs.List.{All}
 use Rattle.std.proofs.lemmas.Slice.Eq.{bytes_eq-Decides}
 use Rattle.std.specs.Cmp.{both_ways}
+use Rattle.std.proofs.lemmas.Option.{same_Some}
 use mathlib.Core.Path.{fun_ext}
 use Rattle.ucd_model.specs.CanonicalOrder.{class_of, order}
 use Rattle.ucd_model.specs.Casing.{fold, fold_of}
@@ -30,9 +31,6 @@ use Rattle.stability_policies.specs.StableForms.{CaselessStays, FoldsAlike, Form
 
 -- ---- values
 
-some_same : (xs ys : List ℕ) → (let x : Option (List ℕ) = Some xs in x ≡ Some ys) → xs ≡ ys
-some_same xs ys e = cc
-
 ok_same : (xs ys : List ℕ) → (let x : Result (List ℕ) Rule = Ok xs in x ≡ Ok ys) → xs ≡ ys
 ok_same xs ys e = cc
 
@@ -48,10 +46,8 @@ counts_sort compat (Compat s) Canonical e = let h : ◌≡◌ {A = ℕ} 2 1 = e 
 counts_sort compat (Compat s) (Compat t) e = refl
 
 pair_is : (s y : ℕ) (m : List ℕ) → is_pair s y m ≡ true → m ≡ s ∷ y ∷ []
-pair_is s y [] e = cc
-pair_is s y (a ∷ []) e = cc
 pair_is s y (a ∷ b ∷ []) e = let parts = and_parts (a == s) (b == y) e in rw (eqb-true a s parts.0, eqb-true b y parts.1) refl
-pair_is s y (a ∷ b ∷ c ∷ r) e = cc
+pair_is s y _ e = cc
 
 -- the pair of two code points is a primary composite
 primary_of_pair : (F : ℕ → Facts) (s y q : ℕ) → pair_of F s y ≡ Some q → primary F q ≡ true
@@ -72,16 +68,16 @@ module _ (P : ℕ → Type 0) where
   Gives r = (xs : List ℕ) → r ≡ Some xs → Each P xs
 
   both_each : (a b : Option (List ℕ)) → Gives a → Gives b → Gives (both a b)
-  both_each (Some xs) (Some ys) here rest zs e = subst (Each P) (some_same (xs ++ ys) zs e) (Each-append P xs ys (here xs refl) (rest ys refl))
+  both_each (Some xs) (Some ys) here rest zs e = subst (Each P) (same_Some (xs ++ ys) zs e) (Each-append P xs ys (here xs refl) (rest ys refl))
   both_each (Some xs) None here rest zs e = cc
   both_each None b here rest zs e = cc
 
   joined_each : (f : ℕ → Option (List ℕ)) (ms : List ℕ) → Each (λ m. Gives (f m)) ms → Gives (joined f ms)
-  joined_each f [] e xs is = subst (Each P) (some_same [] xs is) tt
+  joined_each f [] e xs is = subst (Each P) (same_Some [] xs is) tt
   joined_each f (m ∷ ms) e xs is = both_each (f m) (joined f ms) e.0 (joined_each f ms e.1) xs is
 
   alone_each : (c : ℕ) (f : ℕ → Option (List ℕ)) (ms : List ℕ) → P c → Each (λ m. Gives (f m)) ms → Gives (alone_or_joined c ms f)
-  alone_each c f [] here e xs is = subst (Each P) (some_same (c ∷ []) xs is) (here, tt)
+  alone_each c f [] here e xs is = subst (Each P) (same_Some (c ∷ []) xs is) (here, tt)
   alone_each c f (m ∷ ms) here e xs is = joined_each f (m ∷ ms) e xs is
 
   judged_each : (r : Option (List ℕ)) → Gives r → (xs : List ℕ) → judged r ≡ Ok xs → Each P xs

@@ -1,4 +1,5 @@
-//! Tests of sets of bits, tables, lists in parts, the pool of pages, stores and maps of dependants. They stand above the crates that they test, so that each is proved once.
+//! Tests of sets of bits, tables, lists in parts, the pool of pages, stores and maps of dependants. They stand above the
+//! crates that they test, so that each of those is proved once.
 #![tactic(auto)]
 
 #[cfg(test)]

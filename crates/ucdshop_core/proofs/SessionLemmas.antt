@@ -8,11 +8,11 @@ use Rattle.script_lines.specs.declared.command.What.TheVariants.{Group, Question
 use Rattle.edit_session.specs.Groups.{group_answer}
 use Rattle.edit_session.specs.declared.apply_stop.Refused.{Refused}
 use Rattle.ucd_points.specs.Bounds.{Bounds}
-use Rattle.set_questions.specs.Questions.{question_answer}
+use Rattle.set_answers.specs.Questions.{question_answer}
 use Rattle.ucdshop_core.specs.Session.{Session, after_group, after_question, changed_count, started, step, step_by, session}
 use Rattle.ucdshop_core.specs.SessionLaws.{IsRefusedOn, with_refusal, SameButTold, RefusalsChangeNothing, RefusalsAreLeftOut}
-use Rattle.set_questions.specs.SetTexts.{set_section}
-use Rattle.set_questions.specs.declared.ask_stop.AskFault.{AskFault}
+use Rattle.set_answers.specs.SetTexts.{set_section}
+use Rattle.set_answers.specs.declared.ask_stop.AskFault.{AskFault}
 
 refused_by : (s : Session) (line : ℕ) (what : What) (said : List ℕ) → IsRefusedOn s.files what said → step_by s line what ≡ with_refusal s line said
 refused_by s line (Group ops) said h = rw (h.1, h.2) refl

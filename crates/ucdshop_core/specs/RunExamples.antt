@@ -20,7 +20,7 @@ use Rattle.ucdshop_core.specs.Jobs.{apply_job, compare_job, derive_job, form, ma
 use Rattle.ucdshop_core.specs.Printed.{made_release, made_summary, summary}
 use Rattle.ucdshop_core.specs.Run.{ucdshop}
 use Rattle.ucdshop_core.specs.Session.{set_line, unasked_line}
-use Rattle.set_questions.specs.declared.ask_stop.AskRule.TheVariants.{Name, Text}
+use Rattle.set_answers.specs.declared.ask_stop.AskRule.TheVariants.{Name, Text}
 
 abbrev words : List ℕ → List (List ℕ)
 words line = slice_split (λ b. b == 32) line

@@ -24,10 +24,10 @@ use Rattle.script_lines.specs.declared.command.What.TheVariants.{Group, Question
 use Rattle.edit_session.specs.Groups.{changed, files_facts, group_answer}
 use Rattle.edit_session.specs.declared.apply_stop.Refused.{Refused}
 use Rattle.run_inputs.specs.GroupLines.{accepted_line, log_line, refused_line}
-use Rattle.set_questions.specs.Questions.{question_answer}
-use Rattle.set_questions.specs.Refusals.{unasked_text}
-use Rattle.set_questions.specs.SetTexts.{members_in, set_section}
-use Rattle.set_questions.specs.declared.ask_stop.AskFault.{AskFault}
+use Rattle.set_answers.specs.Questions.{question_answer}
+use Rattle.set_answers.specs.Refusals.{unasked_text}
+use Rattle.set_answers.specs.SetTexts.{members_in, set_section}
+use Rattle.set_answers.specs.declared.ask_stop.AskFault.{AskFault}
 
 -- ---- the log
 

@@ -13,11 +13,11 @@ use Rattle.script_lines.specs.declared.command.What.{What}
 use Rattle.script_lines.specs.declared.command.What.TheVariants.{Group, Question}
 use Rattle.edit_session.specs.Groups.{group_answer}
 use Rattle.edit_session.specs.declared.apply_stop.Refused.{Refused}
-use Rattle.set_questions.specs.Questions.{question_answer}
+use Rattle.set_answers.specs.Questions.{question_answer}
 use Rattle.run_inputs.specs.GroupLines.{log_line, refusal_text}
 use Rattle.ucdshop_core.specs.Session.{Session, step, session}
-use Rattle.set_questions.specs.Refusals.{unasked_text}
-use Rattle.set_questions.specs.declared.ask_stop.AskFault.{AskFault}
+use Rattle.set_answers.specs.Refusals.{unasked_text}
+use Rattle.set_answers.specs.declared.ask_stop.AskFault.{AskFault}
 
 abbrev pub IsRefusedOn : List (List FileItem) → What → List ℕ → Type 0
 IsRefusedOn files (Group ops) said = (why : Refused) × (group_answer files ops ≡ Err why) × (said ≡ refusal_text why)

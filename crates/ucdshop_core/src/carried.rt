@@ -5,7 +5,7 @@ ghost use Rattle.ucd_points.specs.Limits.{point_count};
 ghost use Rattle.ucdshop_core.specs.Carrying.{counted};
 ghost use Rattle.run_inputs.specs.GroupLines.{accepted_line, refused_line};
 ghost use Rattle.ucdshop_core.specs.Session.{set_line, unasked_line};
-ghost use Rattle.set_questions.specs.SetTexts.{members_in, set_section};
+ghost use Rattle.set_answers.specs.SetTexts.{members_in, set_section};
 
 use crate::log::{put_set, put_unasked};
 use edit_session::Refused;

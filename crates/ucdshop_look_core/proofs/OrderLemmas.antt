@@ -13,7 +13,7 @@ use Rattle.ucd_model.specs.Labels.{Label, LabelSpan, label_spans}
 use Rattle.ucd_model.specs.Sameness.{is_in}
 use Rattle.unicodeset_eval.specs.Members.{member_label, member_spans}
 use Rattle.ucd_model.specs.KeptNumbers.{in_kept}
-use Rattle.set_questions.specs.SetTexts.{members_in}
+use Rattle.set_answers.specs.SetTexts.{members_in}
 use Rattle.ucdshop_look_core.specs.PointSpans.{AreInOrder, point_spans}
 use Rattle.ucdshop_look_core.proofs.RangeLemmas.{filter_alike}
 

@@ -12,10 +12,10 @@ use Rattle.ucd_points.specs.Bounds.{Bounds}
 use Rattle.ucd_model.specs.DerivedText.{line_end}
 use Rattle.release_rows.specs.FileItems.{FileItem}
 use Rattle.run_endings.specs.Endings.{Ending}
-use Rattle.set_questions.specs.Questions.{question_answer}
-use Rattle.set_questions.specs.Refusals.{unasked_text}
-use Rattle.set_questions.specs.SetTexts.{members_text}
-use Rattle.set_questions.specs.declared.ask_stop.AskFault.{AskFault}
+use Rattle.set_answers.specs.Questions.{question_answer}
+use Rattle.set_answers.specs.Refusals.{unasked_text}
+use Rattle.set_answers.specs.SetTexts.{members_text}
+use Rattle.set_answers.specs.declared.ask_stop.AskFault.{AskFault}
 
 abbrev pub answer_text : Result (List Bounds) AskFault → List ℕ
 answer_text (Ok spans) = members_text spans

@@ -28,7 +28,7 @@ use Rattle.edit_session.specs.declared.apply_stop.Refused.{Refused}
 use Rattle.record_lines.specs.RecordTexts.{change_text}
 use Rattle.run_endings.specs.Endings.{Ending}
 use Rattle.run_inputs.specs.GroupLines.{refused_line}
-use Rattle.set_questions.specs.SetTexts.{members_text}
+use Rattle.set_answers.specs.SetTexts.{members_text}
 use Rattle.ucdshop_core.specs.Run.{Inputs}
 use Rattle.ucdshop_core.specs.Session.{started, step_by}
 use Rattle.ucdshop_look_core.specs.PointSpans.{point_spans}

@@ -3,7 +3,7 @@
 ghost use Rattle.std.specs.Prelude.{◌≡◌, ◌||◌, ◌++◌, IfOk, OnOk, codes};
 ghost use Rattle.run_endings.specs.Planning.{HasPlan};
 ghost use Rattle.set_questions.specs.Kept.{IsKept};
-ghost use Rattle.set_questions.specs.Questions.{question_answer};
+ghost use Rattle.set_answers.specs.Questions.{question_answer};
 ghost use Rattle.ucd_model.specs.DerivedText.{line_end};
 ghost use Rattle.ucdshop_look_core.specs.Answers.{any_refused, ask_ending, is_refused, section, sections};
 

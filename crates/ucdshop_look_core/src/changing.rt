@@ -9,7 +9,7 @@ ghost use Rattle.record_lines.specs.Earlier.{earlier_record, updated};
 ghost use Rattle.run_endings.specs.Planning.{HasPlan};
 ghost use Rattle.script_lines.specs.Groups.{AreReady, IsReady};
 ghost use Rattle.script_lines.specs.declared.command.What.TheVariants.{Group};
-ghost use Rattle.set_questions.specs.SetTexts.{members_text};
+ghost use Rattle.set_answers.specs.SetTexts.{members_text};
 ghost use Rattle.ucd_model.specs.DerivedText.{line_end};
 ghost use Rattle.ucdshop_core.specs.Judging.{inputs_of};
 ghost use Rattle.ucdshop_look_core.specs.Changes.{changes_ending, files_after, points_section, stage_on, stage_refused, stages, stages_ending, told, what_differs, what_leaves, what_refused, what_told};

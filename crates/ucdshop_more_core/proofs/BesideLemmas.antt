@@ -25,10 +25,8 @@ module _ {A B : Type 0} (view : A → B) (verdict : Seen → Result B (List ℕ)
 
   pub refused_as : (result : Result A Stop) → ToldAs view result (verdict read)
       → OnRefused result (λ line. Sees tells holds (sources_in input ++ second ∷ []) (λ seen. verdict seen ≡ Err line))
-  refused_as (Ok value) told = tt
   refused_as (Err (Refused line)) told = (held.0, seen_files, seen_verdict ∙ told)
-  refused_as (Err (ReadFailed line)) told = tt
-  refused_as (Err Memory) told = tt
+  refused_as _ told = tt
 
 -- no read fails once all files are read
 pub judged_unread : {A B : Type 0} (view : A → B) (result : Result A Stop) (verdict : Result B (List ℕ)) (paths : List (List ℕ)) (shelf : ShelfSeen) → ToldAs view result verdict

@@ -6,7 +6,6 @@ pub mod BesideLemmas
 pub mod ReadingLemmas
 pub mod StoppingLemmas
 pub mod TrialLemmas
-pub mod SittingLemmas
 pub mod SessionLemmas
 pub mod DeskPlanLemmas
-pub mod DraftLemmas
+pub mod BehindLemmas

@@ -32,10 +32,8 @@ module _ (tells : Bool) (holds : Contents) (folder : List ℕ) (paths : List (Li
   opens_as (Err stop) told = tt
 
   pub refused_as : (result : Result ReleaseItems Stop) → OpenedAs result (folder_verdict folder (source_held read 0)) → OnRefused result (λ line. IsRefused folder line tells holds)
-  refused_as (Ok bench) told = tt
   refused_as (Err (Refused line)) told = (held.0, seen_files, seen_verdict ∙ told)
-  refused_as (Err (ReadFailed line)) told = tt
-  refused_as (Err Memory) told = tt
+  refused_as _ told = tt
 
 -- no read fails once all files are read
 pub judged_unread : (result : Result ReleaseItems Stop) (verdict : Result (List (List FileItem)) (List ℕ)) (paths : List (List ℕ)) (shelf : ShelfSeen) → OpenedAs result verdict

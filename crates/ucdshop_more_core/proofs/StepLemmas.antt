@@ -14,9 +14,8 @@ step_to None new = []
 step_to (Some old) new = report old new ∷ []
 
 steps_more : (releases : List ReleaseItems) (new : ReleaseItems) → steps_of (releases ++ new ∷ []) ≡ steps_of releases ++ step_to (last_of releases) new
-steps_more [] new = refl
-steps_more (release ∷ []) new = refl
 steps_more (old ∷ next ∷ later) new = ap (λ (steps : List (List Break)). report old next ∷ steps) (steps_more (next ∷ later) new)
+steps_more _ new = refl
 
 -- a step leads to each release but the first
 pub steps_count : (release : ReleaseItems) (later : List ReleaseItems) → length (steps_of (release ∷ later)) ≡ length later

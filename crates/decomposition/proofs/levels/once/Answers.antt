@@ -1,17 +1,11 @@
 use Rattle.std.proofs.Common.{◌≡◌, Bool, true, false, List, refl, sym, ◌∙◌}
 use Rattle.std.specs.List.{Contains, dedup, list_any}
-use Rattle.std.specs.Cmp.{IsEquivalence}
+use Rattle.std.specs.Cmp.{IsEquivalence, both_ways}
 use Rattle.std.proofs.lemmas.List.Filters.{dedup_is}
 use Rattle.std.proofs.lemmas.List.Folds.{Any-from_list_any, list_any-from_Any}
 use Rattle.std.proofs.lemmas.List.Kept.{Contains-dedup, Contains-from_dedup}
 use Rattle.std.proofs.lemmas.List.Sorted.{list_any-IsPermutation}
 use Rattle.decomposition.proofs.levels.once.Goals as goal
-
-same_by : (a b : Bool) → (a ≡ true → b ≡ true) → (b ≡ true → a ≡ true) → a ≡ b
-same_by true true f g = refl
-same_by true false f g = sym (f refl)
-same_by false true f g = g refl
-same_by false false f g = refl
 
 any_by : {X : Type 0} (p : X → Bool) (xs ys : List X) → ((x : X) → Contains xs x → Contains ys x) → list_any p xs ≡ true → list_any p ys ≡ true
 any_by p xs ys all is =
@@ -21,7 +15,7 @@ any_by p xs ys all is =
 
 any_dedup : {X : Type 0} (E : X → X → Bool) (p : X → Bool) (xs : List X) → IsEquivalence E → ((x y : X) → E x y ≡ true → x ≡ y) → list_any p (dedup E xs) ≡ list_any p xs
 any_dedup E p xs laws same =
-    same_by (list_any p (dedup E xs)) (list_any p xs) (any_by p (dedup E xs) xs (Contains-from_dedup E xs)) (any_by p xs (dedup E xs) (Contains-dedup laws same xs))
+    both_ways (list_any p (dedup E xs)) (list_any p xs) (any_by p (dedup E xs) xs (Contains-from_dedup E xs)) (any_by p xs (dedup E xs) (Contains-dedup laws same xs))
 
 pub returns : goal.returns
 returns g c p =

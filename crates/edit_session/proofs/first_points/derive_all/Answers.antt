@@ -1,4 +1,4 @@
-use Rattle.std.proofs.Common.{◌≡◌, ℕ, arith}
+use Rattle.std.proofs.Common.{◌≡◌, ℕ, ◌∙◌, arith}
 use Rattle.code_facts.specs.FactTables.{tables_facts}
 use Rattle.paged_table.specs.Paged.{values_now}
 use Rattle.ucd_facts.specs.Facts.{Facts}
@@ -14,7 +14,8 @@ returns-clause-valid g c =
 pub returns-clause-records : goal.returns-clause-records
 returns-clause-records g c =
     let F : ℕ → Facts = tables_facts values_now c.args.tables.now in
-    all_records (record_next c.derive_behind.new.table) (record_now c.commit.new.self) 1114112 F all_count c.in_ok-derive_behind.ensures.records c.commit.ensures.committed
+    all_records (record_next c.derive_behind.new.table) (record_now c.shrink_to_fit.new.self) 1114112 F all_count c.in_ok-derive_behind.ensures.records
+    (λ k below. c.shrink_to_fit.ensures.now k below ∙ c.commit.ensures.committed k below)
 
 pub returns-in_err-table-clause-steps : goal.returns-in_err-table-clause-steps
 returns-in_err-table-clause-steps g c = omega (arith, all_count, c.derive_first.ensures.step)

@@ -1,16 +1,13 @@
-use Rattle.std.proofs.Common.{◌≡◌, ℕ, Bool, true, ◌==◌, List, [], length, Ok, ap, sym, ◌∙◌, arith}
-use Rattle.std.proofs.lemmas.Bool.Decides.{nat_tests}
+use Rattle.std.proofs.Common.{◌≡◌, ℕ, true, ◌==◌, List, [], length, Ok, ap, sym, ◌∙◌}
 use Rattle.std.proofs.lemmas.List.{nil_from_length}
+use Rattle.std.proofs.lemmas.Bool.{eqb-true}
 use Rattle.ucd_model.specs.Forms.{appended}
 use Rattle.normalisation.specs.FormLemmas.{expansion_alone}
 use Rattle.normalisation.proofs.forms.put_expansion.Goals as goal
 
-none_left : (b : Bool) (n : ℕ) → b ≡ (n == 0) → b ≡ true → n ≡ 0
-none_left b n e t = let test : (n == 0) ≡ true = cc in grind (arith, nat_tests)
-
 pub returns-in_ok-push : goal.returns-in_ok-push
 returns-in_ok-push g c =
     let mapping : List ℕ = c.counted.result.now in
-    let empty : mapping ≡ [] = nil_from_length mapping (none_left c.is_empty.result (length mapping) c.is_empty.ensures c.if-is_empty.true) in
+    let empty : mapping ≡ [] = nil_from_length mapping (eqb-true (length mapping) 0 (sym c.is_empty.ensures ∙ c.if-is_empty.true)) in
     let alone = expansion_alone (g.W.FactView.facts_of c.args.view.now) c.args.compat c.args.c (sym c.counted.ensures ∙ empty) in
     ap (appended (Ok c.args.points.now)) alone ∙ ap (λ zs. Ok zs) (sym c.in_ok-push.ensures.ok)

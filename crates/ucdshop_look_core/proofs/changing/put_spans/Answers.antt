@@ -1,7 +1,7 @@
 use Rattle.std.proofs.Common.{◌≤◌, List, subst, sym, ◌∙◌}
 use Rattle.ucd_points.specs.Bounds.{Bounds}
 use Rattle.ucd_points.specs.Limits.{point_count}
-use Rattle.set_questions.specs.SetTexts.{members_in}
+use Rattle.set_answers.specs.SetTexts.{members_in}
 use Rattle.ucdshop_look_core.proofs.OrderLemmas.{few_members}
 use Rattle.ucdshop_look_core.proofs.changing.put_spans.Goals as goal
 

@@ -1,13 +1,14 @@
 use Rattle.std.proofs.Common.{ℕ, List, Option, subst}
 use Rattle.run_inputs.specs.Held.{held_at}
-use Rattle.ucdshop_more_core.proofs.SittingLemmas.{SatAs, judged_behind}
-use Rattle.ucdshop_more_core.specs.Sessions.{with_turns}
-use Rattle.ucdshop_more_core.specs.Turns.{turns_told}
+use Rattle.run_inputs.specs.Judging.{ToldAs}
+use Rattle.ucdshop_more_core.proofs.BehindLemmas.{judged_behind}
+use Rattle.ucdshop_more_core.specs.Sessions.{session_of, with_turns}
+use Rattle.ucdshop_more_core.specs.Turns.{turns_in, turns_told}
 use Rattle.ucdshop_more_core.proofs.sitting.judge_sitting.Goals as goal
 
 pub returns-clause-session : goal.returns-clause-session
 returns-clause-session g c =
-    subst (SatAs c.judge_behind.result)
-    (judged_behind c.args.input.now c.args.events.now c.args.held.now.items c.open_folder.new.held.items c.in_ok-bench.bench c.in_ok-bench.ensures.files c.open_folder.ensures.others)
-    (subst (λ (held : List (Option (List ℕ))). SatAs c.judge_behind.result (with_turns c.in_ok-bench.bench.current (turns_told c.args.events.now (held_at held 9)))) c.as_slice.ensures.value
+    subst (ToldAs session_of c.judge_behind.result)
+    (judged_behind (turns_in c.args.events.now) with_turns c.args.input.now c.args.held.now.items c.open_folder.new.held.items c.in_ok-bench.bench c.in_ok-bench.ensures.files c.open_folder.ensures.others)
+    (subst (λ (held : List (Option (List ℕ))). ToldAs session_of c.judge_behind.result (with_turns c.in_ok-bench.bench.current (turns_told c.args.events.now (held_at held 9)))) c.as_slice.ensures.value
     c.judge_behind.ensures.session)

@@ -1,0 +1,7 @@
+pub mod Questions
+pub mod SetTexts
+pub mod RowNames
+pub mod RowNamesProofs
+pub mod KeptPieces
+pub mod Refusals
+pub mod Asking

@@ -150,7 +150,7 @@ impl RecordTable {
         }
     }
 
-    /// The same.
+    /// What `prepare` does.
     ///
     /// - `Memory`: memory ran out. Some of the records may be prepared.
     fn prepare_all(&mut self, points: &[Point], records: Vec<Record>) -> Result<(), Memory>

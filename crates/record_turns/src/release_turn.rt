@@ -66,9 +66,7 @@ pub fn turn<W: FactView, S: Store<Option<Queries>>, L: Ledger>(
     }
 }
 
-/// The same.
-///
-/// After either error, some may be prepared.
+/// What `turn` does. After either error, some may be prepared.
 fn turn_in_part<W: FactView, S: Store<Option<Queries>>, L: Ledger>(
     alloc: Global,
     view: &W,

@@ -12,8 +12,8 @@
 -- StopCounts answer form old new   the same of what is left to be done, or of why the run stops before it writes
 -- PlannedCounts planned form old new   the same of what was planned; nothing is said where the words have no listed form
 -- FormCounts form seen old new   the same of what the words ask for, by what was seen; the counter stays where they have no listed form
--- MayStep job old new          where no script is carried out, the counter rises by at most that limit; else nothing is said
--- FormMayStep form old new     the same of what the words ask for; the counter stays where they have no listed form
+-- StepsWithoutScript job old new          where no script is carried out, the counter rises by at most that limit; else nothing is said
+-- FormStepsWithoutScript form old new     the same of what the words ask for; the counter stays where they have no listed form
 use Rattle.std.specs.Prelude.{◌≡◌, ◌≤◌, ℕ, ◌+◌, ◌*◌, List, [], ◌∷◌, Option, Some, None, Result, Ok, Err, ⊤}
 use Rattle.ucd_points.specs.Limits.{point_count}
 use Rattle.release_rows.specs.FileItems.{FileItem}
@@ -73,9 +73,9 @@ abbrev pub FormCounts : Option Job → Seen → ℕ → ℕ → Type 0
 FormCounts None seen old new = new ≡ old
 FormCounts (Some job) seen old new = VerdictCounts job (job_verdict job seen) old new
 
-abbrev pub MayStep : Job → ℕ → ℕ → Type 0
-MayStep job old new = job.script ≡ None → new ≤ old + opened_limit job
+abbrev pub StepsWithoutScript : Job → ℕ → ℕ → Type 0
+StepsWithoutScript job old new = job.script ≡ None → new ≤ old + opened_limit job
 
-abbrev pub FormMayStep : Option Job → ℕ → ℕ → Type 0
-FormMayStep None old new = new ≡ old
-FormMayStep (Some job) old new = MayStep job old new
+abbrev pub FormStepsWithoutScript : Option Job → ℕ → ℕ → Type 0
+FormStepsWithoutScript None old new = new ≡ old
+FormStepsWithoutScript (Some job) old new = StepsWithoutScript job old new

@@ -1,6 +1,6 @@
 -- Judging the texts that a run works on.
 --
--- AreFor given job          what was made is the release of the job's number; nothing where it has none
+-- IsMadeForJob given job          what was made is the release of the job's number; nothing where it has none
 -- given_verdict job given   what is held of what is given gives, or the line that refuses it
 -- behind_verdict job held files   what is held gives behind the release, whose files are these: with the commands and the earlier release
 -- earlier_inputs job held files commands   the same behind the commands: with the earlier release
@@ -17,8 +17,8 @@ use Rattle.ucdshop_core.specs.Run.{Inputs, commands_verdict, earlier_place, earl
 use Rattle.ucdshop_core.specs.declared.given.Given.{Given}
 use Rattle.ucdshop_core.specs.declared.inputs.Inputs.{Inputs as InputsMade}
 
-abbrev pub AreFor : Given → Job → Type 0
-AreFor given job = given.made ≡ job.made
+abbrev pub IsMadeForJob : Given → Job → Type 0
+IsMadeForJob given job = given.made ≡ job.made
 
 abbrev pub given_verdict : Job → Given → Result Inputs (List ℕ)
 given_verdict job given = inputs_verdict job given.held.items

@@ -3,8 +3,8 @@
 ghost use Rattle.std.specs.Prelude.{◌≡◌, ◌≤◌, [], IfOk, None, Some, length};
 ghost use Rattle.std.specs.List.{All};
 ghost use Rattle.ucdshop_core.specs.JobWords.{IsListed, job_of};
-ghost use Rattle.ucdshop_core.specs.Counting.{FormCounts, MayStep, SessionCounts, StopCounts, VerdictCounts};
-ghost use Rattle.ucdshop_core.specs.Judging.{AreFor, given_verdict, inputs_of};
+ghost use Rattle.ucdshop_core.specs.Counting.{FormCounts, StepsWithoutScript, SessionCounts, StopCounts, VerdictCounts};
+ghost use Rattle.ucdshop_core.specs.Judging.{IsMadeForJob, given_verdict, inputs_of};
 ghost use Rattle.ucdshop_core.specs.Planning.{CountsRows};
 ghost use Rattle.run_endings.specs.Planning.{HasPlan, IsPlanOf, OnRefused, OnlyRead, PlansAs, UnreadAs};
 ghost use Rattle.run_endings.specs.Promises.{shelf_seen};
@@ -35,7 +35,7 @@ use std::sync::ledger::Ledger;
 use ucd_model::{Memory, Steps};
 
 /// Carries out the commands of a script, and makes the files that are then written, and the summary.
-fn carried_plan<L: Ledger>(
+fn plan_inputs<L: Ledger>(
     alloc: Global,
     job: Job<'_>,
     made: &Option<Made>,
@@ -55,11 +55,11 @@ fn carried_plan<L: Ledger>(
         commands,
         earlier,
     } = inputs;
-    plan_since(alloc, job, made, bench, commands, &earlier, steps)
+    plan_owned(alloc, job, made, bench, commands, &earlier, steps)
 }
 
-/// The same for the bench and the commands, which are let go, and of the earlier bench.
-fn plan_since<L: Ledger>(
+/// What `plan_inputs` makes. It lets the bench and the commands go, and borrows the earlier bench.
+fn plan_owned<L: Ledger>(
     alloc: Global,
     job: Job<'_>,
     made: &Option<Made>,
@@ -82,7 +82,7 @@ fn plan_since<L: Ledger>(
     ensures steps { commands ≡ [] → steps.new ≡ steps.old }
 {
     let mut bench = bench;
-    plan_after(
+    plan_borrowed(
         alloc,
         job,
         made,
@@ -93,8 +93,8 @@ fn plan_since<L: Ledger>(
     )
 }
 
-/// The same for the bench, the commands and the earlier bench that were read.
-fn plan_after<L: Ledger>(
+/// What `plan_inputs` makes, and it borrows all that was read.
+fn plan_borrowed<L: Ledger>(
     alloc: Global,
     job: Job<'_>,
     made: &Option<Made>,
@@ -149,17 +149,17 @@ fn given_plan<L: Ledger>(
     given: Given,
     steps: &mut Steps<L>,
 ) -> Result<Plan, Stop>
-    requires { AreFor given (job_of job) }
+    requires { IsMadeForJob given (job_of job) }
     ensures plan { PlansAs result
         (judged (job_of job.entry) (given_verdict (job_of job.entry) given)) }
     ensures counts { VerdictCounts (job_of job.entry)
         (given_verdict (job_of job.entry) given) steps.old steps.new }
     ensures stops { StopCounts result (Some (job_of job.entry)) steps.old steps.new }
-    ensures steps { MayStep (job_of job.entry) steps.old steps.new }
+    ensures steps { StepsWithoutScript (job_of job.entry) steps.old steps.new }
 {
     let mut given = given;
     match judge_inputs(alloc, job, &mut given.held, steps) {
-        Ok(inputs) => Ok(carried_plan(alloc, job, &given.made, inputs, steps)?),
+        Ok(inputs) => Ok(plan_inputs(alloc, job, &given.made, inputs, steps)?),
         Err(stop) => Err(stop),
     }
 }
@@ -170,7 +170,7 @@ fn given_plan<L: Ledger>(
 /// - `Memory`: memory ran out.
 fn given_texts<S: Shelf>(alloc: Global, job: Job<'_>, shelf: &mut S) -> Result<Given, Stop>
     requires { IsListed (job_of job) }
-    ensures given { IfOk result (λ given. AreFor given (job_of job.entry)) }
+    ensures given { IfOk result (λ given. IsMadeForJob given (job_of job.entry)) }
     ensures verdict { IfOk result
         (λ given. Sees S.tells (S.holds shelf.old) (needed (job_of job.entry))
         (λ seen. given_verdict (job_of job.entry) given
@@ -228,7 +228,7 @@ pub fn prepare<S: Shelf, L: Ledger>(
     ensures counts { Sees S.tells (S.holds shelf.old) (needed (job_of job.entry))
         (λ seen. FormCounts (Some (job_of job.entry)) seen steps.old steps.new) }
     ensures stops { StopCounts result (Some (job_of job.entry)) steps.old steps.new }
-    ensures steps { MayStep (job_of job.entry) steps.old steps.new }
+    ensures steps { StepsWithoutScript (job_of job.entry) steps.old steps.new }
 {
     let given = given_texts(alloc, job, shelf)?;
     let plan = given_plan(alloc, job, given, steps)?;

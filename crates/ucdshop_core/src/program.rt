@@ -4,7 +4,7 @@ ghost use Rattle.std.specs.Prelude.{◌≡◌};
 ghost use Rattle.run_endings.specs.Endings.{Sees, paths_read};
 ghost use Rattle.run_endings.specs.Ends.{HasRoom, Plans};
 ghost use Rattle.run_endings.specs.Promises.{Promises, shelf_seen, sink_seen};
-ghost use Rattle.ucdshop_core.specs.Counting.{FormCounts, FormMayStep, PlannedCounts, StatusCounts};
+ghost use Rattle.ucdshop_core.specs.Counting.{FormCounts, FormStepsWithoutScript, PlannedCounts, StatusCounts};
 ghost use Rattle.ucdshop_core.specs.Run.{ucdshop};
 ghost use Rattle.ucdshop_core.specs.Jobs.{form};
 
@@ -66,7 +66,7 @@ pub fn run_counted<S: Shelf, K: Sink, L: Ledger>(
     ensures counted { Sees S.tells (S.holds shelf.old) (paths_read ucdshop (form words.now))
         (λ seen. FormCounts (form words.now) seen steps.old steps.new) }
     ensures stopped { StatusCounts result (form words.now) steps.old steps.new }
-    ensures steps { FormMayStep (form words.now) steps.old steps.new }
+    ensures steps { FormStepsWithoutScript (form words.now) steps.old steps.new }
 {
     let planned = plan_words(alloc, words, shelf, steps);
     end_run(USAGE, planned, shelf, out)
@@ -84,7 +84,7 @@ fn plan_words<S: Shelf, L: Ledger>(
     ensures counts { Sees S.tells (S.holds shelf.old) (paths_read ucdshop (form words.now))
         (λ seen. FormCounts (form words.now) seen steps.old steps.new) }
     ensures stops { PlannedCounts result (form words.now) steps.old steps.new }
-    ensures steps { FormMayStep (form words.now) steps.old steps.new }
+    ensures steps { FormStepsWithoutScript (form words.now) steps.old steps.new }
 {
     match job_of(words.as_slice()) {
         Some(job) => Some(prepare(alloc, job, shelf, steps)),

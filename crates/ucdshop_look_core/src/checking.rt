@@ -37,11 +37,11 @@ pub fn check_plan<L: Ledger>(
         commands,
         earlier,
     } = inputs;
-    plan_since(alloc, bench, commands, &earlier, steps)
+    plan_owned(alloc, bench, commands, &earlier, steps)
 }
 
-/// The same of the bench and the commands, which are let go, and of the earlier bench.
-fn plan_since<L: Ledger>(
+/// What `check_plan` makes. It lets the bench and the commands go, and borrows the earlier bench.
+fn plan_owned<L: Ledger>(
     alloc: Global,
     bench: Bench,
     commands: Commands,
@@ -54,11 +54,11 @@ fn plan_since<L: Ledger>(
         (session bench.current commands))) }
 {
     let mut bench = bench;
-    plan_after(alloc, &mut bench, commands.as_slice(), earlier, steps)
+    plan_borrowed(alloc, &mut bench, commands.as_slice(), earlier, steps)
 }
 
-/// The same of the bench, the commands and the earlier bench that were read.
-fn plan_after<L: Ledger>(
+/// What `check_plan` makes, and it borrows all that was read.
+fn plan_borrowed<L: Ledger>(
     alloc: Global,
     bench: &mut Bench,
     commands: &[Command],

@@ -7,7 +7,7 @@ use Rattle.run_endings.specs.Endings.{Ending}
 use Rattle.ucdshop_core.specs.Session.{started}
 use Rattle.ucdshop_core.proofs.CarryingLemmas.{session_counts_none}
 use Rattle.ucdshop_core.proofs.PlanningLemmas.{ending_reached}
-use Rattle.ucdshop_core.proofs.planning.plan_after.Goals as goal
+use Rattle.ucdshop_core.proofs.planning.plan_borrowed.Goals as goal
 
 pub returns-clause-plan : goal.returns-clause-plan
 returns-clause-plan g c =

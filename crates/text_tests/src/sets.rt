@@ -24,19 +24,20 @@ fn put_tree(expr: &Expr, into: &mut Text) -> Result<(), Memory> {
     match expr {
         Expr::Chars(span) => put_span(*span, into),
         Expr::Several(spans) => put_letters(spans, into),
-        Expr::Named { name, at } => {
-            into.append(name.as_slice())?;
-            put_place(*at, into)
+        Expr::Listed(spans) => {
+            into.append(b"(")?;
+            put_letters(spans, into)?;
+            into.append(b")")
         }
-        Expr::Valued {
-            property,
-            value,
-            at,
-        } => {
-            into.append(property.as_slice())?;
+        Expr::Named(property) => {
+            into.append(property.name.as_slice())?;
+            put_place(property.at, into)
+        }
+        Expr::Valued(property) => {
+            into.append(property.property.as_slice())?;
             into.append(b"=")?;
-            into.append(value.as_slice())?;
-            put_place(*at, into)
+            into.append(property.value.as_slice())?;
+            put_place(property.at, into)
         }
         Expr::Not(part) => {
             into.append(b"!")?;
@@ -45,9 +46,7 @@ fn put_tree(expr: &Expr, into: &mut Text) -> Result<(), Memory> {
         Expr::Bracket(parts) => {
             into.append(b"(")?;
             'parts: for part in &parts.items {
-                if !is_letters(part) {
-                    into.append(join_text(part.join))?;
-                }
+                put_join(part, into)?;
                 put_tree(&part.part, into)?;
             }
             into.append(b")")
@@ -70,9 +69,20 @@ fn put_letters(spans: &Spans, into: &mut Text) -> Result<(), Memory> {
     Ok(())
 }
 
+/// How a part is joined, but that of steps for spans, which tell it themselves.
+fn put_join(part: &Part, into: &mut Text) -> Result<(), Memory> {
+    if !is_letters(part) {
+        into.append(join_text(part.join))?;
+    }
+    if part.negated {
+        into.append(b"!")?;
+    }
+    Ok(())
+}
+
 /// Whether a part is a step for each of its spans.
 fn is_letters(part: &Part) -> bool {
-    matches!((part.join, &part.part), (Join::Union, Expr::Several(_)))
+    !part.negated && matches!((part.join, &part.part), (Join::Union, Expr::Several(_)))
 }
 
 /// A place of one digit.

@@ -7,7 +7,7 @@
 -- parts_more       the set of a part is put together with the members so far, where its change is put behind those so far, and the steps
 --                  of the part are the next of those that are left
 -- parts_stop       where a part has no set, the bracket set has none for the same reason
-use Rattle.std.proofs.Common.{rules, ◌≡◌, ℕ, ◌+◌, ◌<◌, Bool, false, ◌||◌, List, [], ◌∷◌, ◌++◌, Ok, Err, map, drop, length, get_or, sym, ap, subst, ◌∙◌}
+use Rattle.std.proofs.Common.{rules, refl, ◌≡◌, ℕ, ◌+◌, ◌<◌, Bool, true, false, ◌||◌, List, [], ◌∷◌, ◌++◌, Ok, Err, map, drop, length, get_or, sym, ap, subst, ◌∙◌}
 use Rattle.std.specs.List.{flat_map, list_any}
 use Rattle.std.proofs.Math.Bool.{or_assoc, or-false}
 use Rattle.std.proofs.lemmas.List.{append-nil, drop_more}
@@ -22,8 +22,8 @@ use Rattle.unicodeset_eval.specs.Questions.{Members, Names, fault, members, memb
 use Rattle.unicodeset_eval.specs.declared.changes.Change.{Change}
 use Rattle.unicodeset_eval.specs.declared.stop.EvalStop.{EvalStop}
 use Rattle.unicodeset_eval.specs.declared.stop.EvalStop.TheVariants.{Fault, Memory}
-use Rattle.unicodeset_parser.specs.Trees.{Tree, bracket, Step, steps_of}
-use Rattle.unicodeset_parser.specs.Views.{Seen, one, several, part_view, seen_steps, seen_tree, seen_view, tree_view, united}
+use Rattle.unicodeset_parser.specs.Trees.{Tree, bracket, negated_by, Step, steps_of}
+use Rattle.unicodeset_parser.specs.Views.{Seen, one, several, part_view, seen_steps, seen_tree, seen_view, signed, tree_view, united}
 use Rattle.unicodeset_parser.specs.declared.expr.Expr.{the_lemmas}
 use Rattle.unicodeset_parser.specs.declared.expr.Join.{Join}
 use Rattle.unicodeset_parser.specs.declared.expr.Join.TheVariants.{Union, Meet, Minus}
@@ -87,30 +87,43 @@ seen_stops names tests before Union (several bs) rest (Fault rule at) is =
 seen_stops names tests before Meet seen rest (Fault rule at) is = ap (λ m. with_set m (λ s. members_after names tests (joined Meet before s) (steps_of rest))) is
 seen_stops names tests before Minus seen rest (Fault rule at) is = ap (λ m. with_set m (λ s. members_after names tests (joined Minus before s) (steps_of rest))) is
 
+-- what a part stands for
+abbrev part_seen : Part → Seen
+part_seen part = signed part.negated (seen_view part.part)
+
+signed_tree : (negated : Bool) (seen : Seen) → seen_tree (signed negated seen) ≡ negated_by negated (seen_tree seen)
+signed_tree true seen = refl
+signed_tree false seen = refl
+
+-- the tree of a part
+abbrev pub part_tree : Part → Tree
+part_tree part = negated_by part.negated (tree_view part.part)
+
 part_steps : (parts : List Part) (i : ℕ) (part : Part) → i < length parts → part ≡ get_or parts i part →
-    flat_map part_view (drop i parts) ≡ seen_steps part.join (seen_view part.part) ++ flat_map part_view (drop (i + 1) parts)
+    flat_map part_view (drop i parts) ≡ seen_steps part.join (part_seen part) ++ flat_map part_view (drop (i + 1) parts)
 part_steps parts i part lt here =
     let left : List Part = drop (i + 1) parts in
-    let view : part_view part ≡ seen_steps part.join (seen_view part.part) = search (rules, the_lemmas) in
+    let view : part_view part ≡ seen_steps part.join (part_seen part) = search (rules, the_lemmas) in
     let split : drop i parts ≡ part ∷ left = drop_more parts i part lt ∙ ap (λ (p : Part). p ∷ left) (sym here) in
     ap (flat_map part_view) split ∙ flat_map-cons part_view part left ∙ ap (λ (ps : List Step). ps ++ flat_map part_view left) view
 
 pub parts_more : (names : Names) (tests : Test → ℕ → Bool) (before after : List Change) (change : Change) (set : Edges) (parts : List Part) (i : ℕ) (part : Part) (all : Members) →
-    i < length parts → part ≡ get_or parts i part → members names tests (tree_view part.part) ≡ Ok (has set) → IsStep change part.join set → IsGrown after before change →
+    i < length parts → part ≡ get_or parts i part → members names tests (part_tree part) ≡ Ok (has set) → IsStep change part.join set → IsGrown after before change →
     members_after names tests (gathered before) (steps_of (flat_map part_view (drop i parts))) ≡ all →
     members_after names tests (gathered after) (steps_of (flat_map part_view (drop (i + 1) parts))) ≡ all
 parts_more names tests before after change set parts i part all lt here made is grown kept =
     let rest : List Step = flat_map part_view (drop (i + 1) parts) in
     sym (ap (λ (ps : List Step). members_after names tests (gathered before) (steps_of ps)) (part_steps parts i part lt here)
-    ∙ seen_more names tests (gathered before) (has set) part.join (seen_view part.part) rest made
+    ∙ seen_more names tests (gathered before) (has set) part.join (part_seen part) rest (ap (members names tests) (signed_tree part.negated (seen_view part.part)) ∙ made)
     ∙ ap (λ (s : ℕ → Bool). members_after names tests s (steps_of rest)) (gathered_more before after change part.join set is grown))
     ∙ kept
 
 pub parts_stop : (names : Names) (tests : Test → ℕ → Bool) (before : ℕ → Bool) (parts : List Part) (i : ℕ) (part : Part) (all : Members) (stop : EvalStop) →
-    i < length parts → part ≡ get_or parts i part → Stops stop (members names tests (tree_view part.part)) →
+    i < length parts → part ≡ get_or parts i part → Stops stop (members names tests (part_tree part)) →
     members_after names tests before (steps_of (flat_map part_view (drop i parts))) ≡ all → Stops stop all
 parts_stop names tests before parts i part all stop lt here stops kept =
     let rest : List Step = flat_map part_view (drop (i + 1) parts) in
-    let same : members_after names tests before (steps_of (seen_steps part.join (seen_view part.part) ++ rest)) ≡ all =
+    let same : members_after names tests before (steps_of (seen_steps part.join (part_seen part) ++ rest)) ≡ all =
     ap (λ (ps : List Step). members_after names tests before (steps_of ps)) (sym (part_steps parts i part lt here)) ∙ kept in
-    subst (Stops stop) same (seen_stops names tests before part.join (seen_view part.part) rest stop stops)
+    subst (Stops stop) same (seen_stops names tests before part.join (part_seen part) rest stop
+    (subst (λ t. Stops stop (members names tests t)) (sym (signed_tree part.negated (seen_view part.part))) stops))

@@ -10,7 +10,7 @@ ghost use Rattle.unicodeset_eval.specs.Edges.{has};
 ghost use Rattle.unicodeset_eval.specs.Members.{nothing};
 ghost use Rattle.unicodeset_eval.specs.Questions.{answer, fault, members, members_after, tested, value_members};
 ghost use Rattle.unicodeset_eval.specs.declared.stop.NameRule.TheVariants.{S8};
-ghost use Rattle.unicodeset_parser.specs.Trees.{complement, steps_of};
+ghost use Rattle.unicodeset_parser.specs.Trees.{complement, negated_by, steps_of};
 ghost use Rattle.unicodeset_parser.specs.Views.{parts_view, tree_view};
 
 use crate::changes::{Change, gathered, push_change};
@@ -21,7 +21,7 @@ use crate::unions::union_of;
 use property_aliases::{Aliases, Test};
 use std::alloc::Global;
 use ucd_model::Spans;
-use unicodeset_parser::{Expr, Parts};
+use unicodeset_parser::{Expr, Part, Parts};
 
 /// The set of a test.
 ///
@@ -85,6 +85,27 @@ fn valued<T: TestSets>(
     tested(alloc, index, test, NameRule::S9, at)
 }
 
+/// The set of a part of a bracket set.
+///
+/// - `Fault`: the first name without meaning.
+/// - `Memory`: memory ran out.
+#[cycle(evaluation)]
+fn part_set<T: TestSets>(
+    alloc: Global,
+    index: &T,
+    aliases: &Aliases,
+    part: &Part,
+) -> Result<PointSet, EvalStop>
+    ensures { Gives has result (members (names_in aliases.now) (T.holds index.now)
+        (negated_by part.now.negated (tree_view part.now.part))) }
+{
+    if part.negated {
+        complement(alloc, index, aliases, &part.part)
+    } else {
+        members_of(alloc, index, aliases, &part.part)
+    }
+}
+
 /// What the steps of a bracket set do.
 ///
 /// - `Fault`: the first name without meaning.
@@ -103,7 +124,7 @@ fn changes_of<T: TestSets>(
     let mut changes = Vec::new(alloc);
     let mut number = 0;
     'steps: for step in &parts.items {
-        let set = match members_of(alloc, index, aliases, &step.part) {
+        let set = match part_set(alloc, index, aliases, step) {
             Ok(set) => set,
             Err(stop) => return Err(stop),
         };
@@ -171,18 +192,21 @@ fn members_of<T: TestSets>(
     match expr {
         Expr::Chars(span) => Ok(PointSet::of_span(alloc, *span)?),
         Expr::Several(spans) => Ok(union_of(alloc, spans.as_slice())?),
-        Expr::Named { name, at } => named(alloc, index, aliases, name.as_slice(), *at),
-        Expr::Valued {
-            property,
-            value,
-            at,
-        } => valued(
+        Expr::Listed(spans) => Ok(union_of(alloc, spans.as_slice())?),
+        Expr::Named(property) => named(
             alloc,
             index,
             aliases,
-            property.as_slice(),
-            value.as_slice(),
-            *at,
+            property.name.as_slice(),
+            property.at,
+        ),
+        Expr::Valued(property) => valued(
+            alloc,
+            index,
+            aliases,
+            property.property.as_slice(),
+            property.value.as_slice(),
+            property.at,
         ),
         Expr::Not(part) => complement(alloc, index, aliases, part),
         Expr::Bracket(parts) => bracket(alloc, index, aliases, parts),

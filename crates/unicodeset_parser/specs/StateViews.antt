@@ -14,7 +14,7 @@ use Rattle.unicodeset_parser.specs.declared.state.State.{State}
 use Rattle.unicodeset_parser.specs.declared.state.State.TheVariants.{Before, Within, After}
 
 abbrev pub frame_view : Frame → machine.Frame
-frame_view f = record { negated = f.negated; join = f.join; steps = parts_view f.parts ++ map united f.letters }
+frame_view f = record { negated = f.negated; join = f.join; steps = parts_view f.parts ++ map united f.letters.items }
 
 -- the innermost last in the code, and first in the definitions
 abbrev pub frames_view : List Frame → List machine.Frame

@@ -1,11 +1,14 @@
 //! The tree of a UnicodeSet.
 
-ghost use Rattle.std.specs.Prelude.{◌≡◌, [], ◌++◌, OnOk, OnErr};
+ghost use Rattle.std.specs.Prelude.{◌≡◌, true, [], ◌++◌, IfOk, OnOk, OnErr};
 ghost use Rattle.std.specs.List.{flat_map};
 ghost use Rattle.unicodeset_parser.specs.Views.{part_view, parts_view};
 
 use std::alloc::Global;
 use ucd_points::{Memory, Span, Spans, Text};
+
+/// How many parts are moved rather than cut off.
+const FEW: usize = 16;
 
 /// How a set is joined to what stands before it in its bracket set.
 #[derive(Clone, Copy, Debug, PartialEq, Eq)]
@@ -18,9 +21,27 @@ pub enum Join {
     Minus,
 }
 
+/// A property that is named alone, such as `\p{Lu}`.
+#[derive(Debug, Drop)]
+pub struct NamedProperty {
+    /// Its name, or that of a value.
+    pub name: Text,
+    /// The byte of the text, counted from 0, where it begins: its `\` or its `[`.
+    pub at: usize,
+}
+
+/// A property with a value, such as `\p{gc=Lu}`.
+#[derive(Debug, Drop)]
+pub struct ValuedProperty {
+    /// Its name.
+    pub property: Text,
+    /// The name of its value.
+    pub value: Text,
+    /// The byte of the text, counted from 0, where it begins: its `\` or its `[`.
+    pub at: usize,
+}
+
 /// A UnicodeSet, or an element of one. UTS #35, "Unicode Sets".
-///
-/// Places are bytes of the text, counted from 0, where a property begins: its `\` or its `[`.
 #[cycle(tree)]
 #[derive(Debug, Drop)]
 pub enum Expr {
@@ -29,17 +50,12 @@ pub enum Expr {
     /// The characters of spans, in union. As a step in union they are a step for each span; elsewhere they are a bracket set of such
     /// steps.
     Several(Spans),
-    /// A property that is named alone, such as `\p{Lu}`.
-    Named {
-        name: Text,
-        at: usize,
-    },
-    /// A property with a value, such as `\p{gc=Lu}`.
-    Valued {
-        property: Text,
-        value: Text,
-        at: usize,
-    },
+    /// A bracket set with a step in union for each span.
+    Listed(Spans),
+    /// A property that is named alone.
+    Named(Box<NamedProperty>),
+    /// A property with a value.
+    Valued(Box<ValuedProperty>),
     /// The complement.
     Not(Box<Expr>),
     /// The steps of a bracket set from left to right, beginning with no members.
@@ -52,6 +68,8 @@ pub enum Expr {
 pub struct Part {
     /// How it is joined to what stands before it.
     pub join: Join,
+    /// Whether the complement is joined.
+    pub negated: bool,
     /// What is joined.
     pub part: Expr,
 }
@@ -83,6 +101,30 @@ impl Parts {
     {
         self.items.push(part)?;
         Ok(())
+    }
+
+    /// Whether there are none.
+    pub fn is_empty(&self) -> bool
+        ensures { result ≡ true → parts_view self.now ≡ [] }
+    {
+        self.items.is_empty()
+    }
+
+    /// The same parts in no more room than they need. A few are moved to a block of their own, since what is cut off a small block can
+    /// seldom be used again.
+    ///
+    /// - `Memory`: memory ran out.
+    pub fn fitted(self, alloc: Global) -> Result<Parts, Memory>
+        ensures { IfOk result (λ fitted. parts_view fitted ≡ parts_view self) }
+    {
+        let Parts { mut items } = self;
+        if items.len() > FEW {
+            items.shrink_to_fit();
+            return Ok(Parts { items });
+        }
+        let mut fitted = Vec::with_capacity(alloc, items.len())?;
+        fitted.append(&mut items)?;
+        Ok(Parts { items: fitted })
     }
 
     /// The parts in order.

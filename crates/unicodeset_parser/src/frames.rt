@@ -1,7 +1,7 @@
 //! Bracket sets that are open.
 
 ghost use Rattle.std.specs.Prelude.{◌≡◌, [], ◌∷◌, ◌++◌, map, Ok, Err, IfOk};
-ghost use Rattle.unicodeset_parser.specs.Trees.{bracket_of, chars};
+ghost use Rattle.unicodeset_parser.specs.Trees.{bracket, chars, steps_of};
 ghost use Rattle.unicodeset_parser.specs.declared.expr.Join.TheVariants.{Union};
 ghost use Rattle.unicodeset_parser.specs.Machine.{put, fresh, opened, closed, within};
 ghost use Rattle.unicodeset_parser.specs.Parsed.{Gives};
@@ -27,56 +27,55 @@ pub(crate) fn fresh(alloc: Global, negated: bool, join: Join) -> Frame
         negated,
         join,
         parts: Parts::new(alloc),
-        letters: Spans::new(alloc),
+        letters: Vec::new(alloc),
     }
 }
 
-/// The steps, and behind them one for each of these spans. One part has them all.
+/// The steps, and behind them one for each of these spans. One part has them all, in no more room than they need.
 ///
 /// - `Memory`: memory ran out.
-fn with_letters(parts: Parts, letters: Spans) -> Result<Parts, Memory>
+fn with_letters(alloc: Global, parts: Parts, letters: &[Span]) -> Result<Parts, Memory>
     ensures { IfOk result
-        (λ all. parts_view all ≡ parts_view parts ++ map united letters) }
+        (λ all. parts_view all ≡ parts_view parts ++ map united letters.now) }
 {
     let mut all = parts;
     if letters.len() == 1 {
         all.push(Part {
             join: Join::Union,
-            part: Expr::Chars(letters.as_slice()[0]),
+            negated: false,
+            part: Expr::Chars(letters[0]),
         })?;
     } else if letters.len() > 1 {
         all.push(Part {
             join: Join::Union,
-            part: Expr::Several(letters),
+            negated: false,
+            part: Expr::Several(Spans::of(alloc, letters)?),
         })?;
     }
     Ok(all)
 }
 
-/// A set as one step. Characters, which would be a step for each span, get a bracket set of their own.
-///
-/// - `Memory`: memory ran out.
-fn one_step(alloc: Global, join: Join, part: Expr) -> Result<Part, Memory>
-    ensures { IfOk result (λ step. part_view step
-        ≡ record { join = join; tree = tree_view part } ∷ []) }
+/// A set as one step. Characters, which would be a step for each span, are a bracket set here. A complement takes no box of its own.
+fn one_step(join: Join, part: Expr) -> Part
+    ensures { part_view result ≡ record { join = join; tree = tree_view part } ∷ [] }
 {
     match part {
-        Expr::Several(letters) => {
-            let mut parts = Parts::new(alloc);
-            parts.push(Part {
-                join: Join::Union,
-                part: Expr::Several(letters),
-            })?;
-            Ok(Part {
+        Expr::Several(letters) => Part {
+            join,
+            negated: false,
+            part: Expr::Listed(letters),
+        },
+        Expr::Not(inner) => Part {
+            join,
+            negated: true,
+            part: Box::into_inner(inner),
+        },
+        Expr::Chars(_) | Expr::Listed(_) | Expr::Named(_) | Expr::Valued(_) | Expr::Bracket(_) =>
+            Part {
                 join,
-                part: Expr::Bracket(parts),
-            })
-        }
-        Expr::Chars(_)
-        | Expr::Named { .. }
-        | Expr::Valued { .. }
-        | Expr::Not(_)
-        | Expr::Bracket(_) => Ok(Part { join, part }),
+                negated: false,
+                part,
+            },
     }
 }
 
@@ -91,15 +90,16 @@ fn with_step(alloc: Global, join: Join, part: Expr, frame: Frame) -> Result<Fram
         negated,
         join: outward,
         parts,
-        letters,
+        mut letters,
     } = frame;
-    let mut parts = with_letters(parts, letters)?;
-    parts.push(one_step(alloc, join, part)?)?;
+    let mut parts = with_letters(alloc, parts, letters.as_slice())?;
+    letters.clear();
+    parts.push(one_step(join, part))?;
     Ok(Frame {
         negated,
         join: outward,
         parts,
-        letters: Spans::new(alloc),
+        letters,
     })
 }
 
@@ -174,12 +174,18 @@ pub(crate) fn opened(
     ))
 }
 
-/// The bracket set that ends.
-fn bracket_of(alloc: Global, negated: bool, parts: Parts) -> Result<Expr, Memory>
-    ensures { IfOk result
-        (λ expr. tree_view expr ≡ bracket_of negated (parts_view parts)) }
+/// The bracket set of these steps, and behind them one for each of these spans, in no more room than they need.
+///
+/// - `Memory`: memory ran out.
+fn bracket_of(alloc: Global, parts: Parts, letters: &[Span]) -> Result<Expr, Memory>
+    ensures { IfOk result (λ expr. tree_view expr
+        ≡ bracket (steps_of (parts_view parts ++ map united letters.now))) }
 {
-    negated_by(alloc, negated, Expr::Bracket(parts))
+    if parts.is_empty() && !letters.is_empty() {
+        return Ok(Expr::Listed(Spans::of(alloc, letters)?));
+    }
+    let all = with_letters(alloc, parts, letters)?;
+    Ok(Expr::Bracket(all.fitted(alloc)?))
 }
 
 /// Closes the innermost bracket set, and makes it a step of the one around it.
@@ -194,7 +200,8 @@ pub(crate) fn closed(alloc: Global, nest: Nest) -> Result<State, SetStop>
         parts,
         letters,
     } = frame;
-    let expr = bracket_of(alloc, negated, with_letters(parts, letters)?)?;
+    let expr = bracket_of(alloc, parts, letters.as_slice())?;
+    let expr = negated_by(alloc, negated, expr)?;
     match around.pop() {
         Some(outer) => Ok(State::Within(
             Mode::BehindSet,

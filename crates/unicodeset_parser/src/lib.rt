@@ -16,7 +16,7 @@ mod state;
 mod stop;
 mod token;
 
-pub use expr::{Expr, Join, Part, Parts};
+pub use expr::{Expr, Join, NamedProperty, Part, Parts, ValuedProperty};
 pub use laws::{
     faults_are_first, faults_are_named, one_tree, places_ascend, read_trees_are_text,
     read_trees_can_be_written, read_trees_read_back, reads_exactly, texts_read_back,

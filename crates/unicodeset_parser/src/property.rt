@@ -9,7 +9,7 @@ ghost use Rattle.unicodeset_parser.specs.Views.{tree_view};
 
 use crate::bytes::{begins_with, behind, found_at};
 use crate::escape::bad_escape;
-use crate::expr::Expr;
+use crate::expr::{Expr, NamedProperty, ValuedProperty};
 use crate::token::{Lexeme, Token, Wrong};
 use std::alloc::Global;
 use ucd_lines::{cut, first_at};
@@ -35,7 +35,8 @@ fn named(alloc: Global, negated: bool, name: &[u8], at: usize) -> Result<Token, 
         (λ token. sign_view token ≡ property (negated_by negated (named name.now at))) }
 {
     let name = Text::of(alloc, name)?;
-    Ok(Token::Property(negated_by(alloc, negated, Expr::Named { name, at })?))
+    let property = Box::new(alloc, NamedProperty { name, at })?;
+    Ok(Token::Property(negated_by(alloc, negated, Expr::Named(property))?))
 }
 
 /// The property of a name with a `=`, which parts property and value.
@@ -49,15 +50,15 @@ fn parted(alloc: Global, negated: bool, name: &[u8], at: usize) -> Result<Token,
     }
     let property = Text::of(alloc, property)?;
     let value = Text::of(alloc, value)?;
-    Ok(Token::Property(negated_by(
+    let property = Box::new(
         alloc,
-        negated,
-        Expr::Valued {
+        ValuedProperty {
             property,
             value,
             at,
         },
-    )?))
+    )?;
+    Ok(Token::Property(negated_by(alloc, negated, Expr::Valued(property))?))
 }
 
 /// The property of a name.

@@ -1,7 +1,7 @@
 //! How far a text is read.
 
 use crate::expr::{Expr, Join, Parts};
-use ucd_points::{Point, Spans};
+use ucd_points::{Point, Span};
 
 /// A bracket set that is open.
 #[derive(Debug, Drop)]
@@ -13,7 +13,7 @@ pub(crate) struct Frame {
     /// Its steps so far, but for the last ones that are characters in union.
     pub(crate) parts: Parts,
     /// The characters of those.
-    pub(crate) letters: Spans,
+    pub(crate) letters: Vec<Span>,
 }
 
 /// The bracket sets that are open.

@@ -50,3 +50,11 @@ members_of-returns-in_ok-union_of-in-Several g t c =
     let spans = c.as_slice.result.now in
     let tree : tree_view c.args.expr.now ≡ bracket (steps_of (map united spans)) = search (rules, the_lemmas) in
     ap (members names tests) tree ∙ several_are names tests spans c.in_ok-union_of-in-Several.field-0 c.in_ok-union_of-in-Several.ensures
+
+pub members_of-returns-in_ok-union_of-in-Listed : goal.members_of-returns-in_ok-union_of-in-Listed
+members_of-returns-in_ok-union_of-in-Listed g t c =
+    let names = names_in c.args.aliases.now in
+    let tests = g.T.TestSets.holds c.args.index.now in
+    let spans = c.as_slice-in-Listed.result.now in
+    let tree : tree_view c.args.expr.now ≡ bracket (steps_of (map united spans)) = search (rules, the_lemmas) in
+    ap (members names tests) tree ∙ several_are names tests spans c.in_ok-union_of-in-Listed.field-0 c.in_ok-union_of-in-Listed.ensures

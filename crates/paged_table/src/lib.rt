@@ -4,6 +4,7 @@
 mod block;
 pub mod laws;
 mod layers;
+mod next;
 mod paged_table;
 mod part;
 mod span;

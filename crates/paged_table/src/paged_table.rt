@@ -7,6 +7,7 @@ ghost use Rattle.paged_table.specs.Pages.{ShowsPage, uneven_count, block_count};
 
 use crate::block::Block;
 use crate::layers::{BLOCKS, WIDTH, settle};
+use crate::next::{next_blocks, part_next};
 use crate::span::prepare_span;
 use crate::stretches::last_alike;
 use crate::value::value_in;
@@ -24,23 +25,24 @@ use ucd_points::{Copied, Memory, Point, Span};
 pub struct PagedTable {
     // the pages of all blocks, now and next; a page that is the same in both is one page
     pool: PagePool,
-    // the blocks now, and next
+    // the blocks now
     committed: Vec<Block>,
+    // the blocks next; empty if they are those now, and nothing was prepared since room was given back
     prepared: Vec<Block>,
     // the blocks that may differ
     touched: Vec<u32>,
 }
 
 impl Model for PagedTable {
-    ghost use Rattle.paged_table.specs.Paged.{Paged};
+    ghost use Rattle.paged_table.specs.Paged.{Paged, blocks_next};
     ghost use Rattle.paged_table.specs.Layers.{IsApart, Covers};
 
     ghost Value = { Paged };
 
-    ghost view = { λ t. record { pool = t.pool; committed = t.committed.items; prepared = t.prepared.items } };
+    ghost view = { λ t. record { pool = t.pool; committed = t.committed.items; prepared = blocks_next t.committed.items t.prepared.items } };
 
-    ghost invariant = { λ t. IsApart t.pool t.committed.items t.prepared.items
-        × Covers t.touched.items t.committed.items t.prepared.items };
+    ghost invariant = { λ t. IsApart t.pool t.committed.items (blocks_next t.committed.items t.prepared.items)
+        × Covers t.touched.items t.committed.items (blocks_next t.committed.items t.prepared.items) };
 }
 
 impl PagedTable {
@@ -89,11 +91,10 @@ impl Table<u64> for PagedTable {
 
     fn filled(alloc: Global, value: u64) -> Result<PagedTable, Memory> {
         let committed = filled_blocks(alloc, value)?;
-        let prepared = filled_blocks(alloc, value)?;
         Ok(PagedTable {
             pool: PagePool::new(alloc),
             committed,
-            prepared,
+            prepared: Vec::new(alloc),
             touched: Vec::new(alloc),
         })
     }
@@ -104,11 +105,13 @@ impl Table<u64> for PagedTable {
     }
 
     fn get_next(&self, c: Point) -> u64 {
-        let block = self.prepared[(c.number() / WIDTH) as usize];
+        let blocks = next_blocks(&self.committed, &self.prepared);
+        let block = blocks[(c.number() / WIDTH) as usize];
         value_in(&self.pool, block, (c.number() % WIDTH) as u8)
     }
 
     fn prepare(&mut self, span: Span, value: u64) -> Result<(), Memory> {
+        part_next(&self.committed, &mut self.prepared)?;
         prepare_span(
             &mut self.pool,
             &mut self.touched,
@@ -120,6 +123,9 @@ impl Table<u64> for PagedTable {
     }
 
     fn commit(&mut self) {
+        if self.prepared.is_empty() {
+            return;
+        }
         settle(
             &mut self.pool,
             &self.prepared,
@@ -130,6 +136,9 @@ impl Table<u64> for PagedTable {
     }
 
     fn discard(&mut self) {
+        if self.prepared.is_empty() {
+            return;
+        }
         settle(
             &mut self.pool,
             &self.committed,
@@ -147,6 +156,12 @@ impl Table<u64> for PagedTable {
     fn shrink_to_fit(&mut self) {
         self.pool.shrink_to_fit();
         self.touched.shrink_to_fit();
+        if !self.touched.is_empty() {
+            return;
+        }
+        // no block may differ: those next are those now
+        self.prepared.clear();
+        self.prepared.shrink_to_fit();
     }
 }
 
@@ -156,7 +171,7 @@ impl Stretches<u64> for PagedTable {
     }
 
     fn last_of_stretch_next(&self, c: Point) -> Point {
-        last_alike(&self.pool, &self.prepared, c)
+        last_alike(&self.pool, next_blocks(&self.committed, &self.prepared), c)
     }
 }
 

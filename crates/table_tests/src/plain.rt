@@ -1,14 +1,22 @@
 //! Plain lists beside a table or a store, and numbers that are drawn one after the other.
 
-ghost use Rattle.std.specs.Prelude.{◌<◌};
+ghost use Rattle.std.specs.Prelude.{◌<◌, ◌≤◌};
 
 use std::alloc::Global;
 use std::process::Abort;
-use ucd_facts::{Memory, Span};
+use ucd_facts::{Memory, Point, Span};
 
 /// Stops unless these two are seen at a number. One function for all tests keeps each of them small.
 pub fn expect(rt: &impl Abort, number: u32, seen: Option<(u64, u64)>, expected: (u64, u64)) {
     assert_eq!(rt; (number, seen), (number, Some(expected)));
+}
+
+/// The span from one number to another.
+pub fn span(lo: u32, hi: u32) -> Span
+    requires ordered { lo ≤ hi }
+    requires bound { hi < 1114112 }
+{
+    Span::between(Point::at(lo), Point::at(hi))
 }
 
 /// The values of the first code points, now and next, one by one.

@@ -1,9 +1,9 @@
 //! Worked stores, and a store against plain lists.
 
-use crate::plain::{Plain, drawn, expect};
+use crate::plain::{Plain, drawn, expect, span};
 use paged_table::PagedTable;
 use point_store::{Kept, Store};
-use range_table::RunTable;
+use range_table::{RunTable, Stretches};
 use std::alloc::Global;
 use std::process::Abort;
 use ucd_facts::{Memory, Point, Span};
@@ -18,29 +18,63 @@ fn named(number: u64) -> Name {
     Name { number }
 }
 
-type Names = Kept<RunTable<u64>, Name>;
+/// A store that lets go of values that no code point has any more.
+trait Sweep: Store<Name> {
+    fn sweep(&mut self);
+}
 
-type PagedNames = Kept<PagedTable, Name>;
+impl<T: Stretches<u64>> Sweep for Kept<T, Name> {
+    fn sweep(&mut self) {
+        Kept::sweep(self)
+    }
+}
 
-fn span(lo: u32, hi: u32) -> Option<Span> {
-    Span::new(Point::new(lo)?, Point::new(hi)?)
+/// What is looked at on a store of its own. The functions see any store, and one of them owns it: that keeps each small.
+#[derive(Clone, Copy)]
+enum Look {
+    Shares,
+    Places,
+    Steps,
+}
+
+fn on_runs(rt: &impl Abort, alloc: Global, look: Look) -> Result<(), Memory> {
+    on_a_store::<Kept<RunTable<u64>, Name>>(rt, alloc, look)
+}
+
+fn on_pages(rt: &impl Abort, alloc: Global, look: Look) -> Result<(), Memory> {
+    on_a_store::<Kept<PagedTable, Name>>(rt, alloc, look)
+}
+
+fn on_a_store<S: Sweep>(rt: &impl Abort, alloc: Global, look: Look) -> Result<(), Memory> {
+    let mut store = S::filled(alloc, named(0))?;
+    look_at(rt, alloc, &mut store, look)
+}
+
+fn look_at<S: Sweep>(
+    rt: &impl Abort,
+    alloc: Global,
+    store: &mut S,
+    look: Look,
+) -> Result<(), Memory> {
+    match look {
+        Look::Shares => look_at_shares(rt, store),
+        Look::Places => look_at_places(rt, store),
+        Look::Steps => take_steps(rt, alloc, store),
+    }
 }
 
 /// Holds 5 at a place and gives it to two spans, the first of which then has 6 within; the place.
-fn share(store: &mut Names) -> Option<u64> {
-    let (one, within, other) = (span(0x30, 0x39)?, span(0x35, 0x36)?, span(0x660, 0x669)?);
-    let place = store.hold(named(5)).ok()?;
-    store.prepare_held(one, place).ok()?;
-    store.prepare(within, named(6)).ok()?;
-    store.prepare_held(other, place).ok()?;
-    Some(place)
+fn share<S: Store<Name>>(store: &mut S) -> Result<u64, Memory> {
+    let place = store.hold(named(5))?;
+    store.prepare_held(span(0x30, 0x39), place)?;
+    store.prepare(span(0x35, 0x36), named(6))?;
+    store.prepare_held(span(0x660, 0x669), place)?;
+    Ok(place)
 }
 
 #[test]
 fn spans_share_a_held_value(rt: HostRuntime) -> Result<(), Memory> {
-    let mut store: Names = Kept::filled(rt.alloc(), named(0))?;
-    look_at_shares(&rt, &mut store);
-    Ok(())
+    on_runs(&rt, rt.alloc(), Look::Shares)
 }
 
 /// Code points, with their values next, and whether that is the one that is held.
@@ -60,54 +94,64 @@ fn values<S: Store<Name>>(store: &S, number: u32) -> Option<(u64, u64)> {
 }
 
 /// Whether the value of a code point stands at a place, now and next.
-fn are_at(store: &Names, number: u32, place: u64) -> Option<(u64, u64)> {
+fn are_at<S: Store<Name>>(store: &S, number: u32, place: u64) -> Option<(u64, u64)> {
     let c = Point::new(number)?;
     let (now, next) = (store.place(c) == place, store.place_next(c) == place);
     Some((u64::from(now), u64::from(next)))
 }
 
-/// Without a place the values differ from those expected.
-fn look_at_shares(rt: &impl Abort, store: &mut Names) {
-    let place = share(store).unwrap_or(u64::MAX);
-    for (number, value, shares) in &SHARED {
-        expect(rt, *number, values(store, *number), (0, *value));
-        expect(
-            rt,
-            *number,
-            are_at(store, *number, place),
-            (0, u64::from(*shares)),
-        );
+fn look_at_shares<S: Store<Name>>(rt: &impl Abort, store: &mut S) -> Result<(), Memory> {
+    let place = share(store)?;
+    for row in &SHARED {
+        look_at_share(rt, store, place, row);
     }
+    Ok(())
 }
 
-/// Whether a code point that got many values, every second of which was dropped before it was committed, has the last
-/// one, at no high place, and its neighbour has the one that it had at first.
-fn takes_places_again(store: &mut Names) -> Result<bool, Memory> {
-    let c = Point::at(0x41);
+fn look_at_share<S: Store<Name>>(rt: &impl Abort, store: &S, place: u64, row: &(u32, u64, bool)) {
+    let (number, value, shares) = *row;
+    expect(rt, number, values(store, number), (0, value));
+    expect(
+        rt,
+        number,
+        are_at(store, number, place),
+        (0, u64::from(shares)),
+    );
+}
+
+/// A code point gets many values, every second of which is dropped before it is committed: it has the last one, at no
+/// high place, and its neighbour has the one that it had at first.
+fn look_at_places<S: Sweep>(rt: &impl Abort, store: &mut S) -> Result<(), Memory> {
     store.prepare(Span::one(Point::at(0x42)), named(7))?;
     store.commit();
+    take_places(store)?;
+    expect(rt, 0x41, values(store, 0x41), (19_999, 19_999));
+    expect(rt, 0x42, values(store, 0x42), (7, 7));
+    assert!(rt; store.place(Point::at(0x41)) < 5_000);
+    Ok(())
+}
+
+fn take_places<S: Sweep>(store: &mut S) -> Result<(), Memory> {
     for number in 0..20_000 {
-        store.prepare(Span::one(c), named(number))?;
-        if number % 2 == 1 {
-            store.commit();
-        } else {
-            store.discard();
-        }
-        store.sweep();
+        take_place(store, number)?;
     }
-    Ok(
-        store.get(c).number == 19_999
-            && store.place(c) < 5_000
-            && values(store, 0x42) == Some((7, 7)),
-    )
+    Ok(())
+}
+
+fn take_place<S: Sweep>(store: &mut S, number: u64) -> Result<(), Memory> {
+    store.prepare(Span::one(Point::at(0x41)), named(number))?;
+    if number % 2 == 1 {
+        store.commit();
+    } else {
+        store.discard();
+    }
+    store.sweep();
+    Ok(())
 }
 
 #[test]
 fn places_of_values_that_went_are_taken_again(rt: HostRuntime) -> Result<(), Memory> {
-    let mut store: Names = Kept::filled(rt.alloc(), named(0))?;
-    let taken = takes_places_again(&mut store);
-    assert!(rt; taken?);
-    Ok(())
+    on_runs(&rt, rt.alloc(), Look::Places)
 }
 
 /// How many code points are looked at.
@@ -180,15 +224,14 @@ fn steps<S: Store<Name>>(rt: &impl Abort, store: &mut S, plain: &mut Plain) {
     }
 }
 
-/// The steps, on a new store beside new plain lists.
-fn any_steps<S: Store<Name>>(rt: &impl Abort, alloc: Global) -> Result<(), Memory> {
+/// The steps, beside new plain lists.
+fn take_steps<S: Store<Name>>(rt: &impl Abort, alloc: Global, store: &mut S) -> Result<(), Memory> {
     let mut plain = Plain::filled(alloc, 0, SHOWN as usize)?;
-    let mut store = S::filled(alloc, named(0))?;
-    steps(rt, &mut store, &mut plain);
+    steps(rt, store, &mut plain);
     Ok(())
 }
 
 #[test]
 fn any_steps_over_pages_as_in_plain_lists(rt: HostRuntime) -> Result<(), Memory> {
-    any_steps::<PagedNames>(&rt, rt.alloc())
+    on_pages(&rt, rt.alloc(), Look::Steps)
 }

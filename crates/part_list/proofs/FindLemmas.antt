@@ -10,7 +10,7 @@ use Rattle.part_list.specs.PartValues.{PartValue, parts_next}
 use Rattle.part_list.specs.SpotLaws.{around}
 use Rattle.part_list.proofs.FlatLemmas.{flat-take_more, part_next}
 
-prefix_len-all : {A : Type 0} (p : A → Bool) (xs ys : List A) → prefix_len p xs ≡ length xs → prefix_len p (xs ++ ys) ≡ length xs + prefix_len p ys
+pub prefix_len-all : {A : Type 0} (p : A → Bool) (xs ys : List A) → prefix_len p xs ≡ length xs → prefix_len p (xs ++ ys) ≡ length xs + prefix_len p ys
 prefix_len-all p xs ys h =
     let same : eqb (prefix_len p xs) (length xs) ≡ true = grind (arith, nat_tests) in
     prefix_len-append p xs ys ∙ ap (λ b. cond b (length xs + prefix_len p ys) (prefix_len p xs)) same

@@ -8,3 +8,4 @@ pub mod GatherLemmas
 pub mod CoverLemmas
 pub mod HintLemmas
 pub mod OrderLemmas
+pub mod BehindLemmas

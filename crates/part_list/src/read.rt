@@ -1,7 +1,7 @@
 //! What a list has: entries at spots, those that pass, and all of them, now and next.
 
-ghost use Rattle.std.specs.Prelude.{◌≡◌, ◌<◌, length, slice_index_or};
-ghost use Rattle.std.specs.List.{filter};
+ghost use Rattle.std.specs.Prelude.{◌≡◌, ◌<◌, ◌^◌, false, length, slice_index_or, take};
+ghost use Rattle.std.specs.List.{All, filter};
 ghost use Rattle.std.specs.Option.{MatchOption};
 ghost use Rattle.part_list.specs.Finds.{FirstAt, IsBefore, LastAt, StandsAt};
 ghost use Rattle.part_list.specs.Parts.{IsEntry, next_in, now_in, part_at, place};
@@ -9,7 +9,7 @@ ghost use Rattle.part_list.specs.Parts.{IsEntry, next_in, now_in, part_at, place
 use crate::entries::Entries;
 use crate::part_list::PartList;
 use crate::passing::Passing;
-use crate::search::{first_spot, last_spot, spot_at, spot_before};
+use crate::search::{first_spot, first_spot_behind, last_spot, place_of, spot_at, spot_before};
 use crate::seek::Seek;
 use crate::spanned::Spanned;
 use crate::spot::Spot;
@@ -31,7 +31,16 @@ impl<T: Copy> PartList<T> {
         if self.hints.lacks(seek) {
             return None;
         }
-        first_spot(&self.parts, &self.guides, seek)
+        first_spot(&self.parts, &self.guides, seek, 0)
+    }
+
+    /// The spot of the first entry next that passes; `None` if none passes. None of the first `count` passes, and these are not looked at.
+    pub fn first_behind<S: Seek<T>>(&self, count: usize, seek: &S) -> Option<Spot>
+        requires { All (λ entry. S.passing seek.now entry ≡ false)
+            (take count (next_in self.now)) }
+        ensures { FirstAt result (S.passing seek.now) self.now.next }
+    {
+        first_spot_behind(&self.parts, &self.guides, seek, count)
     }
 
     /// The spot of the last entry next that passes; `None` if none passes.
@@ -65,6 +74,15 @@ impl<T: Copy> PartList<T> {
         ensures { StandsAt result place self.now.next }
     {
         spot_at(&self.parts, place)
+    }
+
+    /// The place in the list of the entry next at a spot, counted from 0. It takes time by the parts before it.
+    pub fn place_of(&self, spot: Spot) -> usize
+        requires entry { IsEntry self.now.next spot }
+        requires few { length (next_in self.now) < 2 ^ 64 }
+        ensures { result ≡ place self.now.next spot }
+    {
+        place_of(&self.parts, spot)
     }
 
     /// How many parts there are, now and next.

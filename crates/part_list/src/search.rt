@@ -1,26 +1,34 @@
 //! Searches over all parts of a list.
 
+ghost use Rattle.std.specs.Prelude.{◌≡◌, ◌<◌, ◌≤◌, ◌^◌, drop, false, length, take};
+ghost use Rattle.std.specs.List.{All, position_or_len};
 ghost use Rattle.part_list.specs.Finds.{FirstAt, IsBefore, LastAt, StandsAt};
 ghost use Rattle.part_list.specs.Guides.{Covers};
-ghost use Rattle.part_list.specs.Parts.{IsEntry};
+ghost use Rattle.part_list.specs.Parts.{IsEntry, flat, place};
 ghost use Rattle.part_list.specs.PartValues.{parts_next};
 
+use crate::find::first_in;
 use crate::guides::next_slot;
 use crate::part::Part;
 use crate::reach::Reach;
 use crate::seek::Seek;
+use crate::spanned::Spanned;
 use crate::spot::Spot;
 
-/// The spot of the first entry next that passes. The guides bound blocks of the parts.
+/// The spot of the first entry next that passes. No entry of the parts before the one at `from` passes. The guides bound blocks of the
+/// parts.
 pub fn first_spot<T: Copy, S: Seek<T>>(
     parts: &[Part<T>],
     guides: &[Reach],
     seek: &S,
+    from: usize,
 ) -> Option<Spot>
-    requires { Covers guides.now (parts_next parts.now) }
+    requires guides { Covers guides.now (parts_next parts.now) }
+    requires before { position_or_len (S.passing seek.now) (flat (take from (parts_next parts.now)))
+        ≡ length (flat (take from (parts_next parts.now))) }
     ensures { FirstAt result (S.passing seek.now) (parts_next parts.now) }
 {
-    let mut slot = next_slot(guides, parts, seek, 0);
+    let mut slot = next_slot(guides, parts, seek, from);
     'parts: while slot < parts.len() {
         if let Some(at) = parts[slot].first(seek) {
             return Some(Spot { slot, at });
@@ -28,6 +36,40 @@ pub fn first_spot<T: Copy, S: Seek<T>>(
         slot = next_slot(guides, parts, seek, slot + 1);
     }
     None
+}
+
+/// The entries from a place on.
+fn from_place<T: Copy>(entries: &[Spanned<T>], at: usize) -> &[Spanned<T>]
+    requires { at ≤ length entries.now }
+    ensures { result.now ≡ drop at entries.now }
+{
+    &entries[at..]
+}
+
+/// The spot of the first entry next that passes. None of the first `count` passes, and these are not looked at. The guides bound blocks
+/// of the parts.
+pub fn first_spot_behind<T: Copy, S: Seek<T>>(
+    parts: &[Part<T>],
+    guides: &[Reach],
+    seek: &S,
+    count: usize,
+) -> Option<Spot>
+    requires guides { Covers guides.now (parts_next parts.now) }
+    requires before { All (λ entry. S.passing seek.now entry ≡ false)
+        (take count (flat (parts_next parts.now))) }
+    ensures { FirstAt result (S.passing seek.now) (parts_next parts.now) }
+{
+    let Some(begin) = spot_at(parts, count) else {
+        return None;
+    };
+    let slot = begin.slot;
+    match first_in(from_place(parts[slot].next(), begin.at), seek) {
+        Some(at) => Some(Spot {
+            slot,
+            at: begin.at + at,
+        }),
+        None => first_spot(parts, guides, seek, slot + 1),
+    }
 }
 
 /// The spot of the last entry next that passes.
@@ -83,4 +125,19 @@ pub fn spot_at<T: Copy>(parts: &[Part<T>], place: usize) -> Option<Spot>
         slot += 1;
     }
     None
+}
+
+/// The place in the list of the entry next at a spot, counted from 0.
+pub fn place_of<T: Copy>(parts: &[Part<T>], spot: Spot) -> usize
+    requires part { spot.slot < length parts.now }
+    requires few { place (parts_next parts.now) spot < 2 ^ 64 }
+    ensures { result ≡ place (parts_next parts.now) spot }
+{
+    let mut place = spot.at;
+    let mut left = spot.slot;
+    'parts: while left > 0 {
+        left -= 1;
+        place += parts[left].next().len();
+    }
+    place
 }

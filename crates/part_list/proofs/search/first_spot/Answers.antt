@@ -1,4 +1,4 @@
-use Rattle.std.proofs.Common.{refl, arith}
+use Rattle.std.proofs.Common.{arith}
 use Rattle.part_list.specs.PartValues.{parts_next}
 use Rattle.part_list.proofs.FindLemmas.{FirstAt-found, none_of-part}
 use Rattle.part_list.proofs.GuideLemmas.{none_of-all, none_of-ruled}
@@ -11,7 +11,7 @@ returns-in-Some g c =
     c.parts.invariant c.in-Some.ensures
 
 pub parts-init : goal.parts-init
-parts-init g c = none_of-ruled (g.S.Seek.passing c.args.seek.now) (parts_next c.args.parts.now) 0 c.next_slot-slot.result c.next_slot-slot.ensures.from refl c.next_slot-slot.ensures.ruled
+parts-init g c = none_of-ruled (g.S.Seek.passing c.args.seek.now) (parts_next c.args.parts.now) c.args.from c.next_slot-slot.result c.next_slot-slot.ensures.from c.requires.before c.next_slot-slot.ensures.ruled
 
 pub parts-preserved : goal.parts-preserved
 parts-preserved g c =

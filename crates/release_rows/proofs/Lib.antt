@@ -47,3 +47,4 @@ mod Backward
 mod Leading
 mod LeadingFiles
 mod TouchedBack
+mod Leads

@@ -35,3 +35,4 @@ pub mod ValuesApart
 pub mod ValuesApartProofs
 pub mod Patches
 pub mod Back
+pub mod Leads

@@ -1,6 +1,6 @@
 //! Edits of the entries of a file, next.
 
-ghost use Rattle.std.specs.Prelude.{◌≡◌, ℕ, ◌+◌, ◌≤◌, true, false, List, length, map, OnOk, OnErr};
+ghost use Rattle.std.specs.Prelude.{◌≡◌, ℕ, ◌+◌, ◌<◌, ◌≤◌, ◌^◌, true, false, List, length, map, OnOk, OnErr};
 ghost use Rattle.std.specs.List.{All, insert};
 ghost use Rattle.ucd_points.specs.declared.files.SourceFile.{SourceFile as FileValue};
 ghost use Rattle.ucd_facts.specs.declared.row.Row.{Row as RowValue};
@@ -8,10 +8,12 @@ ghost use Rattle.part_list.specs.Parts.{next_in, now_in};
 ghost use Rattle.release_rows.specs.Gaps.{IsGapAt};
 ghost use Rattle.release_rows.specs.Groups.{AreMarked};
 ghost use Rattle.release_rows.specs.Keys.{is_missing_in};
+ghost use Rattle.release_rows.specs.Leads.{KeepLeads};
 ghost use Rattle.release_rows.specs.Operations.{place_in, put_in, with_end};
 ghost use Rattle.release_rows.specs.Searches.{IsSoughtRow};
 ghost use Rattle.release_rows.specs.StoredItems.{stored_at, IsStored};
 
+use crate::lead::Leads;
 use crate::mark::group_mark;
 use crate::search::{Search, Test};
 use crate::stretch::Stretch;
@@ -43,7 +45,11 @@ fn end_gap(items: &PartList<Stretch>, search: &Search<'_>) -> Gap
 
 /// Where a row other than a missing row has its place: before the first one of its group that has a greater key; if none
 /// has, behind the last one of its group; if there is none, behind all. If it is known that no row has its group, nothing is looked for.
-fn ordinary_gap(items: &PartList<Stretch>, groups: &Tags, search: &Search<'_>) -> Gap
+fn ordinary_gap(items: &PartList<Stretch>, groups: &Tags, leads: &Leads, search: &Search<'_>) -> Gap
+    requires sought { (row : RowValue)
+        × IsSoughtRow search.now.file row search.now.text search.now }
+    requires leads { KeepLeads search.now.file search.now.text
+        (map (stored_at search.now.file search.now.text) (next_in items.now)) leads.now }
     requires marked { AreMarked search.now.file groups.now
         (map (stored_at search.now.file search.now.text) (next_in items.now)) }
     requires each { All (IsStored search.now.file search.now.text) (next_in items.now) }
@@ -56,7 +62,7 @@ fn ordinary_gap(items: &PartList<Stretch>, groups: &Tags, search: &Search<'_>) -
     if !groups.may_have(group_mark(search.group)) {
         return end_gap(items, search);
     }
-    if let Some(spot) = items.first(&search.with(Test::Follows)) {
+    if let Some(spot) = items.first_behind(leads.passed(search), &search.with(Test::Follows)) {
         return match items.before(spot) {
             Some(before) => Gap::Behind(before),
             None => Gap::Front(spot),
@@ -87,7 +93,11 @@ fn missing_gap(items: &PartList<Stretch>, search: &Search<'_>) -> Gap
 }
 
 /// Where a row that is added has its place.
-pub fn gap_for(items: &PartList<Stretch>, groups: &Tags, search: &Search<'_>) -> Gap
+pub fn gap_for(items: &PartList<Stretch>, groups: &Tags, leads: &Leads, search: &Search<'_>) -> Gap
+    requires sought { (row : RowValue)
+        × IsSoughtRow search.now.file row search.now.text search.now }
+    requires leads { KeepLeads search.now.file search.now.text
+        (map (stored_at search.now.file search.now.text) (next_in items.now)) leads.now }
     requires marked { AreMarked search.now.file groups.now
         (map (stored_at search.now.file search.now.text) (next_in items.now)) }
     requires each { All (IsStored search.now.file search.now.text) (next_in items.now) }
@@ -98,7 +108,19 @@ pub fn gap_for(items: &PartList<Stretch>, groups: &Tags, search: &Search<'_>) ->
     if search.is_missing() {
         missing_gap(items, search)
     } else {
-        ordinary_gap(items, groups, search)
+        ordinary_gap(items, groups, leads, search)
+    }
+}
+
+/// How many entries stand before a gap.
+pub fn gap_place(items: &PartList<Stretch>, gap: Gap) -> usize
+    requires gap { (n : ℕ) × IsGapAt gap n items.now.next }
+    requires few { length (next_in items.now) < 2 ^ 63 }
+    ensures { (n : ℕ) → IsGapAt gap n items.now.next → result ≡ n }
+{
+    match gap {
+        Gap::Front(_) | Gap::Only => 0,
+        Gap::Behind(spot) => items.place_of(spot) + 1,
     }
 }
 

@@ -41,6 +41,7 @@ impl FileText {
             unreachable!()
         };
         self.whole = false;
+        self.leads.clear();
         self.items.remove(found)?;
         Ok(())
     }
@@ -66,6 +67,7 @@ impl FileText {
             return Err(Memory);
         };
         self.whole = false;
+        self.leads.clear();
         note_group(&mut self.groups, self.file, content_in(from, entry.item));
         let copy = copy_entry(self.file, from, entry, &mut self.text)?;
         put_at(&mut self.items, at, copy)?;

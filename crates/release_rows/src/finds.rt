@@ -10,12 +10,14 @@ ghost use Rattle.release_rows.specs.Finding.{FindsGap, FindsRow, FindsSpot, item
 ghost use Rattle.part_list.specs.Tags.{may_have};
 ghost use Rattle.release_rows.specs.Groups.{AreMarked, key_mark};
 ghost use Rattle.release_rows.specs.Keys.{has_spans, is_missing_row};
+ghost use Rattle.release_rows.specs.Leads.{KeepLeads};
 ghost use Rattle.release_rows.specs.Operations.{has_key};
 ghost use Rattle.release_rows.specs.Searches.{IsSoughtRow};
 ghost use Rattle.release_rows.specs.StoredItems.{IsStored, stored_at};
 
 use crate::edits::{Gap, gap_for};
 use crate::key_rule::KeyRule;
+use crate::lead::Leads;
 use crate::mark::key_mark;
 use crate::op_spans::{code_of, has_code};
 use crate::row_key::{has_spans, row_end};
@@ -66,8 +68,13 @@ pub fn search_row<'a>(
 pub fn added_gap(
     items: &PartList<Stretch>,
     groups: &Tags,
+    leads: &Leads,
     search: &Search<'_>,
 ) -> Result<Gap, KeyRule>
+    requires sought { (row : RowValue)
+        × IsSoughtRow search.now.file row search.now.text search.now }
+    requires leads { KeepLeads search.now.file search.now.text
+        (map (stored_at search.now.file search.now.text) (next_in items.now)) leads.now }
     requires each { All (IsStored search.now.file search.now.text) (next_in items.now) }
     requires marked { AreMarked search.now.file groups.now
         (map (stored_at search.now.file search.now.text) (next_in items.now)) }
@@ -76,7 +83,7 @@ pub fn added_gap(
 {
     contents_have_keys();
     if is_first_of_key(groups, search) {
-        return Ok(gap_for(items, groups, search));
+        return Ok(gap_for(items, groups, leads, search));
     }
     if items.first(&search.with(Test::SameKey)).is_some() {
         return Err(KeyRule::K1);
@@ -84,7 +91,7 @@ pub fn added_gap(
     if items.first(&search.with(Test::OverlapsAnother)).is_some() {
         return Err(KeyRule::K4);
     }
-    Ok(gap_for(items, groups, search))
+    Ok(gap_for(items, groups, leads, search))
 }
 
 /// Whether keys of the file are names alone, and no row has the key that is looked for, as far as keys are noted.

@@ -23,6 +23,7 @@ invariant_of-self-in_err-put_at c =
       rw (c.in_err-put_at.ensures.err, grew.1) (kept_grown inside.file inside.text grew.0 inside.added inside.items c.self.invariant.0),
       λ e. absurd cc,
       rw (c.in_err-put_at.ensures.err, grew.1) (marks_grown inside.file inside.text grew.0 inside.added inside.groups c.note_group.new.groups inside.items c.self.invariant.0 c.self.invariant.2 c.note_group.ensures.grows),
+      c.clear.ensures inside.file _ _,
     )
 
 pub invariant_of-self-2 : goal.invariant_of-self-2
@@ -41,7 +42,7 @@ invariant_of-self-2 c =
     let new : map st (next_in c.put_at.new.items) ≡ insert (map st (next_in inside.items)) c.args.at (st c.in_ok-copy.copy) = ap (map st) c.in_ok-put_at.ensures.ok ∙ map_insert st (next_in inside.items) c.args.at c.in_ok-copy.copy in
     let all = subst (λ (t : List ℕ). AreMarked inside.file later (map (stored_at inside.file t) (next_in c.put_at.new.items))) c.in_ok-copy.ensures.grows.1 (rw new (marked_insert inside.file later (map st (next_in inside.items)) c.args.at (st c.in_ok-copy.copy) before one)) in
     let marks : KeepMarks inside.file c.copy_entry.new.into later c.put_at.new.items = rw c.in_ok-copy.ensures.grows.1 (marks_edited inside.file inside.text c.in_ok-copy.ensures.grows.0 inside.added inside.groups later inside.items c.put_at.new.items c.self.invariant.0 c.self.invariant.2 c.note_group.ensures.grows c.put_at.ensures.now all) in
-    (kept_inserted inside.file inside.text c.copy_entry.new.into inside.added c.in-Some.added c.args.at c.in_ok-copy.copy inside.items c.put_at.new.items c.in_ok-copy.ensures.grows c.self.invariant.0 c.put_at.ensures.now c.in_ok-put_at.ensures.ok (omega arith) c.in_ok-copy.ensures.stored (omega arith) (omega arith), λ e. absurd cc, marks)
+    (kept_inserted inside.file inside.text c.copy_entry.new.into inside.added c.in-Some.added c.args.at c.in_ok-copy.copy inside.items c.put_at.new.items c.in_ok-copy.ensures.grows c.self.invariant.0 c.put_at.ensures.now c.in_ok-put_at.ensures.ok (omega arith) c.in_ok-copy.ensures.stored (omega arith) (omega arith), λ e. absurd cc, marks, c.clear.ensures inside.file _ _)
 
 pub returns-clause-now : goal.returns-clause-now
 returns-clause-now c =

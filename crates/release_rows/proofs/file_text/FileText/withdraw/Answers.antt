@@ -29,6 +29,7 @@ invariant_of-self-2 c =
       kept_without inside.file inside.text inside.added (place inside.items.next c.in_ok-spot.spot) inside.items c.remove.new.self c.self.invariant.0 c.in_ok-remove.ensures.now c.in_ok-remove.ensures.ok,
       λ e. absurd cc,
       marks_without inside.file inside.text inside.groups (place inside.items.next c.in_ok-spot.spot) inside.items c.remove.new.self c.self.invariant.2 c.in_ok-remove.ensures.now c.in_ok-remove.ensures.ok,
+      c.clear.ensures inside.file _ _,
     )
 
 pub returns-clause-answer : goal.returns-clause-answer

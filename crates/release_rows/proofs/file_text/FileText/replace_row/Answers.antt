@@ -17,7 +17,7 @@ use Rattle.release_rows.proofs.EntrySpans.{has_row}
 use Rattle.release_rows.proofs.FirstRows.{finds_spot, first_passes, first_spans, items_of_change, rule_of_change}
 use Rattle.release_rows.proofs.Marking.{marked_more, marked_set, marks_edited, marks_grown, marks_more}
 use Rattle.release_rows.proofs.OneRow.{same_key_once}
-use Rattle.release_rows.proofs.file_text.FileText.change.Goals as goal
+use Rattle.release_rows.proofs.file_text.FileText.replace_row.Goals as goal
 
 pub returns-in_err-spot-clause-answer : goal.returns-in_err-spot-clause-answer
 returns-in_err-spot-clause-answer c =
@@ -29,12 +29,12 @@ returns-in_err-spot-clause-answer c =
 pub invariant_of-self : goal.invariant_of-self
 invariant_of-self c =
     let inside = c.self.inside in
-    (rw c.in_err-entry.ensures.err c.self.invariant.0, λ e. absurd cc, rw c.in_err-entry.ensures.err (marks_more inside.file inside.text inside.groups c.store_row.new.groups inside.items c.store_row.ensures.grows c.self.invariant.2))
+    (rw c.in_err-entry.ensures.err c.self.invariant.0, λ e. absurd cc, rw c.in_err-entry.ensures.err (marks_more inside.file inside.text inside.groups c.store_row.new.groups inside.items c.store_row.ensures.grows c.self.invariant.2), c.clear.ensures inside.file _ _)
 
 pub invariant_of-self-in_err-replace : goal.invariant_of-self-in_err-replace
 invariant_of-self-in_err-replace c =
     let inside = c.self.inside in
-    (rw (c.in_err-replace.ensures.err, c.in_ok-entry.ensures.ok) (kept_grown inside.file inside.text c.args.bytes.now inside.added inside.items c.self.invariant.0), λ e. absurd cc, rw (c.in_err-replace.ensures.err, c.in_ok-entry.ensures.ok) (marks_grown inside.file inside.text c.args.bytes.now inside.added inside.groups c.store_row.new.groups inside.items c.self.invariant.0 c.self.invariant.2 c.store_row.ensures.grows))
+    (rw (c.in_err-replace.ensures.err, c.in_ok-entry.ensures.ok) (kept_grown inside.file inside.text c.args.bytes.now inside.added inside.items c.self.invariant.0), λ e. absurd cc, rw (c.in_err-replace.ensures.err, c.in_ok-entry.ensures.ok) (marks_grown inside.file inside.text c.args.bytes.now inside.added inside.groups c.store_row.new.groups inside.items c.self.invariant.0 c.self.invariant.2 c.store_row.ensures.grows), c.clear.ensures inside.file _ _)
 
 pub returns-in_err-replace-clause-now : goal.returns-in_err-replace-clause-now
 returns-in_err-replace-clause-now c =
@@ -61,7 +61,7 @@ invariant_of-self-2 c =
     let new : map st (next_in c.replace.new.self) ≡ set (map st (next_in inside.items)) at (st c.in_ok-entry.entry) = ap (map st) c.in_ok-replace.ensures.ok ∙ map-set st (next_in inside.items) at c.in_ok-entry.entry in
     let all = subst (λ (t : List ℕ). AreMarked inside.file later (map (stored_at inside.file t) (next_in c.replace.new.self))) c.in_ok-entry.ensures.ok (rw new (marked_set inside.file later (map st (next_in inside.items)) at (st c.in_ok-entry.entry) before one)) in
     let marks = marks_edited inside.file inside.text c.args.bytes.now inside.added inside.groups later inside.items c.replace.new.self c.self.invariant.0 c.self.invariant.2 c.store_row.ensures.grows c.in_ok-replace.ensures.now all in
-    (rw c.in_ok-entry.ensures.ok (kept_replaced inside.file inside.text c.args.bytes.now inside.added (place inside.items.next c.in_ok-spot.spot) c.in_ok-entry.entry inside.items c.replace.new.self c.self.invariant.0 c.in_ok-replace.ensures.now c.in_ok-replace.ensures.ok stored), λ e. absurd cc, rw c.in_ok-entry.ensures.ok marks)
+    (rw c.in_ok-entry.ensures.ok (kept_replaced inside.file inside.text c.args.bytes.now inside.added (place inside.items.next c.in_ok-spot.spot) c.in_ok-entry.entry inside.items c.replace.new.self c.self.invariant.0 c.in_ok-replace.ensures.now c.in_ok-replace.ensures.ok stored), λ e. absurd cc, rw c.in_ok-entry.ensures.ok marks, c.clear.ensures inside.file _ _)
 
 pub returns-clause-now : goal.returns-clause-now
 returns-clause-now c =

@@ -4,7 +4,7 @@
 --                             number when it is divided by 4294967291, a prime
 -- names_mark mark names       the mark with more names, each with a `;` behind it
 -- group_mark group            the mark of the group's name
--- key_mark file names         the mark of the names of a key in the files whose keys are names alone; else 0
+-- key_mark file names         the mark of the names of a key in PropList.txt and in the files whose keys are names alone; else 0
 -- RowMarked file groups row   the marks of the row's group and of its key may be among the groups
 -- IsMarked file groups item   so it is of the item's row, if it has a row
 -- AreMarked file groups items   so it is of each item
@@ -12,7 +12,7 @@
 use Rattle.std.specs.Prelude.{◌≡◌, ℕ, ◌+◌, ◌*◌, ◌%◌, true, List, [], ◌∷◌, map, Option, Some, None, codes}
 use Rattle.std.specs.List.{All}
 use Rattle.ucd_points.specs.declared.files.SourceFile.{SourceFile}
-use Rattle.ucd_points.specs.declared.files.SourceFile.TheVariants.{PropertyAliases, PropertyValueAliases}
+use Rattle.ucd_points.specs.declared.files.SourceFile.TheVariants.{PropList, PropertyAliases, PropertyValueAliases}
 use Rattle.ucd_facts.specs.declared.row.Row.{Row}
 use Rattle.source_rows.specs.KeyNames.{group_of}
 use Rattle.source_rows.specs.Keys.{key_names}
@@ -36,6 +36,7 @@ abbrev pub group_mark : List ℕ → ℕ
 group_mark group = mark_on 0 group
 
 abbrev pub key_mark : SourceFile → List (List ℕ) → ℕ
+key_mark PropList names = names_mark 0 names
 key_mark PropertyAliases names = names_mark 0 names
 key_mark PropertyValueAliases names = names_mark 0 names
 key_mark _ names = 0

@@ -11,8 +11,8 @@ ghost use Rattle.release_rows.specs.declared.operation.Op.TheVariants.{Add, Chan
 use crate::edits::{gap_place, put_in};
 use crate::file_text::FileText;
 use crate::finds::{added_gap, changed_spot, search_row, withdrawn_spot};
-use crate::groups::groups_of;
-use crate::op_spans::{both_spans, entry_spans, has_code, row_spans};
+use crate::groups::{groups_of, has_marks};
+use crate::op_spans::{both_spans, entry_spans, row_spans};
 use crate::operation::{Op, OpStop};
 use crate::stored_row::store_row;
 use source_rows::{Key, row_key};
@@ -22,11 +22,11 @@ use ucd_lines::Ending;
 
 /// Edits. What is now stays.
 impl FileText {
-    /// Gathers the groups and the keys of the rows, if these are names alone and were not gathered yet.
+    /// Gathers the groups and the keys of the rows, if those of the file are noted and were not gathered yet.
     fn gather_groups(&mut self, alloc: Global)
         ensures { self.new ≡ self.old }
     {
-        if !has_code(self.file) && self.groups.are_unknown() {
+        if has_marks(self.file) && self.groups.are_unknown() {
             self.groups = groups_of(alloc, self.file, self.text.as_slice(), &self.items);
         }
     }

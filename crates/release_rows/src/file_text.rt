@@ -31,7 +31,7 @@ pub struct FileText {
     pub(crate) whole: bool,
     /// How many items were added since the file was loaded.
     pub(crate) added: u32,
-    /// Marks of the groups and the keys of the rows, now and next, if these are names alone: noted from the first addition on.
+    /// Marks of the groups and the keys of the rows, now and next, if those of the file are noted: from the first addition on.
     pub(crate) groups: Tags,
     /// Rows by which the place of an added row is found, if keys are names alone.
     pub(crate) leads: Leads,

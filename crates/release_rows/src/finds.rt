@@ -9,7 +9,7 @@ ghost use Rattle.part_list.specs.Parts.{next_in};
 ghost use Rattle.release_rows.specs.Finding.{FindsGap, FindsRow, FindsSpot, items_of};
 ghost use Rattle.part_list.specs.Tags.{may_have};
 ghost use Rattle.release_rows.specs.Groups.{AreMarked, key_mark};
-ghost use Rattle.release_rows.specs.Keys.{has_spans, is_missing_row};
+ghost use Rattle.release_rows.specs.Keys.{is_missing_row};
 ghost use Rattle.release_rows.specs.Leads.{KeepLeads};
 ghost use Rattle.release_rows.specs.Operations.{has_key};
 ghost use Rattle.release_rows.specs.Searches.{IsSoughtRow};
@@ -20,7 +20,7 @@ use crate::key_rule::KeyRule;
 use crate::lead::Leads;
 use crate::mark::key_mark;
 use crate::op_spans::{code_of, has_code};
-use crate::row_key::{has_spans, row_end};
+use crate::row_key::row_end;
 use crate::search::{Search, Test};
 use crate::stretch::Stretch;
 use crate::tag::{content_tag, key_tag};
@@ -82,7 +82,7 @@ pub fn added_gap(
         → FindsGap result search.now.file search.now.text row items.now.next }
 {
     contents_have_keys();
-    if is_first_of_key(groups, search) {
+    if are_new_names(groups, search) {
         return Ok(gap_for(items, groups, leads, search));
     }
     if items.first(&search.with(Test::SameKey)).is_some() {
@@ -94,13 +94,12 @@ pub fn added_gap(
     Ok(gap_for(items, groups, leads, search))
 }
 
-/// Whether keys of the file are names alone, and no row has the key that is looked for, as far as keys are noted.
-fn is_first_of_key(groups: &Tags, search: &Search<'_>) -> bool
-    ensures file { result ≡ true → has_spans search.now.file ≡ false }
-    ensures key { result ≡ true
+/// Whether no row has the names of the key that is looked for, as far as keys are noted. So none has the key, and none overlaps the row.
+fn are_new_names(groups: &Tags, search: &Search<'_>) -> bool
+    ensures { result ≡ true
         → may_have groups.now (key_mark search.now.file search.now.names) ≡ false }
 {
-    !has_spans(search.file) && !groups.may_have(key_mark(search.file, search.names))
+    !groups.may_have(key_mark(search.file, search.names))
 }
 
 /// Where the row stands that a change replaces.

@@ -16,6 +16,14 @@ use source_rows::{content_group, contents_have_keys};
 use std::alloc::Global;
 use ucd_facts::SourceFile;
 
+/// Whether groups and keys of the file's rows are noted: those of PropList.txt, and of the files whose keys are names alone.
+pub fn has_marks(file: SourceFile) -> bool {
+    matches!(
+        file,
+        SourceFile::PropList | SourceFile::PropertyAliases | SourceFile::PropertyValueAliases
+    )
+}
+
 /// Notes the group and the key of a row that stands in this content, if they are noted at all.
 pub fn note_group(groups: &mut Tags, file: SourceFile, content: &[u8])
     ensures noted { (row : RowValue) → row_or_fault file content.now ≡ Ok row

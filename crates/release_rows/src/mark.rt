@@ -4,6 +4,7 @@ ghost use Rattle.std.specs.Prelude.{◌≡◌, ℕ, ◌+◌, ◌*◌, ◌%◌, �
 ghost use Rattle.source_rows.specs.KeyNames.{content_names};
 ghost use Rattle.release_rows.specs.Groups.{group_mark, key_mark, mark_on, names_mark};
 
+use source_rows::content_group;
 use ucd_facts::{SourceFile, Text};
 use ucd_lines::{Fields, fields};
 
@@ -68,12 +69,14 @@ fn fields_mark(mut names: Fields<'_>, count: usize) -> u32
     mark
 }
 
-/// The mark of the names of a key, if keys of the file are names alone; else 0.
+/// The mark of the names of a key in PropList.txt, and in the files whose keys are names alone; else 0.
 pub fn key_mark(file: SourceFile, names: &[Text]) -> u32
     ensures { result ≡ key_mark file names.now }
 {
     match file {
-        SourceFile::PropertyAliases | SourceFile::PropertyValueAliases => names_mark(names),
+        SourceFile::PropList | SourceFile::PropertyAliases | SourceFile::PropertyValueAliases => {
+            names_mark(names)
+        }
         _ => 0,
     }
 }
@@ -83,6 +86,7 @@ pub fn content_mark(file: SourceFile, content: &[u8]) -> u32
     ensures { result ≡ key_mark file (content_names file content.now) }
 {
     match file {
+        SourceFile::PropList => with_name(0, content_group(file, content)),
         SourceFile::PropertyAliases => fields_mark(fields(file, content), 2),
         SourceFile::PropertyValueAliases => fields_mark(fields(file, content), 3),
         _ => 0,

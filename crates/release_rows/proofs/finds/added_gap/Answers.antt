@@ -7,13 +7,12 @@ use Rattle.release_rows.proofs.FirstOfKey.{no_key, no_overlap}
 use Rattle.release_rows.proofs.FoundRows.{key_any, overlap_any}
 use Rattle.release_rows.proofs.finds.added_gap.Goals as goal
 
-pub returns-then-is_first_of_key : goal.returns-then-is_first_of_key
-returns-then-is_first_of_key c row is =
+pub returns-then-are_new_names : goal.returns-then-are_new_names
+returns-then-are_new_names c row is =
     let sought = c.args.search.now in
     let items = items_of sought.file sought.text c.args.items.now.next in
-    let spans = c.is_first_of_key.ensures.file c.if-is_first_of_key.true in
-    let lacks : may_have c.args.groups.now (key_mark sought.file (key_names sought.file row)) ≡ false = rw (← is.names) (c.is_first_of_key.ensures.key c.if-is_first_of_key.true) in
-    (no_key sought.file c.args.groups.now row items lacks c.requires.marked, no_overlap sought.file row items spans, c.gap_for.ensures row is)
+    let lacks : may_have c.args.groups.now (key_mark sought.file (key_names sought.file row)) ≡ false = rw (← is.names) (c.are_new_names.ensures c.if-are_new_names.true) in
+    (no_key sought.file c.args.groups.now row items lacks c.requires.marked, no_overlap sought.file c.args.groups.now row items lacks c.requires.marked, c.gap_for.ensures row is)
 
 pub returns-then-is_some : goal.returns-then-is_some
 returns-then-is_some c row is =

@@ -9,3 +9,4 @@ mod GroupLemmas
 mod PageLemmas
 mod BackLemmas
 mod CutLemmas
+mod PieceLemmas

@@ -22,6 +22,8 @@ use crate::derivation::Derivation;
 use crate::group::apply_group;
 use crate::kept_group::apply_kept;
 use crate::open_stop::OpenStop;
+use crate::pieces::pieces_of;
+use crate::recorded::Recorded;
 use crate::revert::revert;
 use code_facts::FactTables;
 use page_pool::PagePool;
@@ -32,8 +34,7 @@ use std::marker::Model;
 use std::sync::ledger::Ledger;
 use ucd_facts::UniformFacts;
 use ucd_model::{
-    Category, Copied, FactView, FactsRef, Flags, Kind, Memory, Point, Record, Records, Span, Spans,
-    Steps,
+    Category, Copied, FactView, FactsRef, Flags, Kind, Memory, Point, Record, Records, Spans, Steps,
 };
 
 /// A valid release, with the facts of its rows, the records of all code points and, once a group came, what each of them
@@ -176,15 +177,19 @@ impl Bench {
             (λ pieces. IsCut (bench_record self.now) 0 point_count pieces) }
         ensures ends { IfOk result (λ pieces. All (EndsAlike (bench_record self.now)) pieces) }
     {
-        let mut pieces = Spans::new(alloc);
-        let mut number = 0;
-        'pieces: while number < Point::COUNT {
-            let lo = Point::at(number);
-            let hi = self.last_alike(lo);
-            pieces.push(Span { lo, hi })?;
-            number = hi.number() + 1;
-        }
-        Ok(pieces)
+        pieces_of(alloc, &self.derivation.records)
+    }
+
+    /// The release with its records alone: the tables of its facts are let go, and what was listed for groups.
+    pub fn into_recorded(self) -> Recorded
+        ensures { result ≡ self }
+    {
+        let Bench {
+            release,
+            derivation,
+        } = self;
+        let Derivation { records, .. } = Box::into_inner(derivation);
+        Recorded::of(release, records)
     }
 
     /// The release, which is valid.

@@ -11,10 +11,13 @@ mod kept_group;
 mod listed_points;
 mod mentions;
 mod open_stop;
+mod pieces;
 mod questions;
+mod recorded;
 mod revert;
 
 pub use accepted::Accepted;
 pub use apply_stop::{ApplyStop, Refused};
 pub use bench::Bench;
 pub use open_stop::OpenStop;
+pub use recorded::Recorded;

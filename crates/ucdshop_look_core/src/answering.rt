@@ -2,45 +2,66 @@
 
 ghost use Rattle.std.specs.Prelude.{◌≡◌, ◌||◌, ◌++◌, IfOk, OnOk, codes};
 ghost use Rattle.run_endings.specs.Planning.{HasPlan};
-ghost use Rattle.set_questions.specs.Kept.{IsKept};
-ghost use Rattle.set_answers.specs.Questions.{question_answer};
+ghost use Rattle.set_answers.specs.Questions.{files_record, question_answer};
 ghost use Rattle.ucd_model.specs.DerivedText.{line_end};
+ghost use Rattle.unicodeset_eval.specs.RecordPieces.{ArePiecesOf};
 ghost use Rattle.ucdshop_look_core.specs.Answers.{any_refused, ask_ending, is_refused, section, sections};
 
-use edit_session::Bench;
+use edit_session::{Bench, Recorded};
 use run_endings::Plan;
-use set_questions::{AskStop, Asking, Kept, put_members, put_refusal};
+use set_answers::{AskStop, RowNames, put_members, put_refusal};
 use std::alloc::Global;
 use ucd_model::{Memory, Text};
+use unicodeset_eval::RecordPieces;
 
-/// What `ask` tells of these questions on the release of a bench.
+/// What answers questions on a release and its records.
+type Asking<'b> = set_answers::Asking<'b, Recorded>;
+
+/// What `ask` tells of these questions on the release of a bench. Answers need its records alone, so the tables of its facts are let go
+/// of first: what the questions need takes their place.
 ///
 /// - `Memory`: memory ran out.
-pub fn answers_plan(alloc: Global, bench: &Bench, questions: &[Text]) -> Result<Plan, Memory>
-    ensures { IfOk result (HasPlan (ask_ending questions.now bench.now.current)) }
+pub fn answers_plan(alloc: Global, bench: Bench, questions: &[Text]) -> Result<Plan, Memory>
+    ensures { IfOk result (HasPlan (ask_ending questions.now bench.current)) }
 {
-    let mut kept = Kept::nothing(alloc);
-    let plan = plan_by(alloc, bench, &mut kept, questions);
-    drop(kept);
-    plan
+    let recorded = bench.into_recorded();
+    plan_over(alloc, &recorded, questions)
 }
 
-/// The same with what is kept for questions, which is filled. It owns nothing with many parts, so it is quick to prove.
+/// The same by the records. The spans by which their pieces are made are let go of before names are read.
+fn plan_over(alloc: Global, recorded: &Recorded, questions: &[Text]) -> Result<Plan, Memory>
+    ensures { IfOk result (HasPlan (ask_ending questions.now recorded.now.current)) }
+{
+    let pieces = record_pieces(alloc, recorded)?;
+    plan_by(alloc, recorded, &pieces, questions)
+}
+
+/// The pieces of equal records.
+///
+/// - `Memory`: memory ran out.
+fn record_pieces(alloc: Global, recorded: &Recorded) -> Result<RecordPieces, Memory>
+    ensures { IfOk result (λ pieces. ArePiecesOf pieces (files_record recorded.now.current)) }
+{
+    let spans = recorded.pieces(alloc)?;
+    RecordPieces::of(alloc, recorded, spans.as_slice())
+}
+
+/// The same by the pieces of equal records.
 fn plan_by(
     alloc: Global,
-    bench: &Bench,
-    kept: &mut Kept,
+    recorded: &Recorded,
+    pieces: &RecordPieces,
     questions: &[Text],
 ) -> Result<Plan, Memory>
-    requires { IsKept kept.old bench.now.current }
-    ensures { IfOk result (HasPlan (ask_ending questions.now bench.now.current)) }
+    requires { ArePiecesOf pieces.now (files_record recorded.now.current) }
+    ensures { IfOk result (HasPlan (ask_ending questions.now recorded.now.current)) }
 {
-    kept.fill(alloc, bench)?;
-    let asking = kept.asking(bench);
+    let names = RowNames::of(alloc, recorded.release())?;
+    let asking = Asking::of(recorded, recorded.release(), pieces, &names);
     plan_from(alloc, &asking, questions)
 }
 
-/// The same by what answers questions on the bench. The text of the answers is made once, and moves into the plan.
+/// The same by what answers questions. The text of the answers is made once, and moves into the plan.
 fn plan_from(alloc: Global, asking: &Asking<'_>, questions: &[Text]) -> Result<Plan, Memory>
     ensures { IfOk result (HasPlan (ask_ending questions.now asking.now)) }
 {

@@ -120,7 +120,7 @@ fn plan_ask<L: Ledger>(
         (folder_verdict folder.now (source_held held.old.items 0))) }
 {
     match open_folder(alloc, folder, held, 0, steps) {
-        Ok(bench) => Ok(answers_plan(alloc, &bench, questions)?),
+        Ok(bench) => Ok(answers_plan(alloc, bench, questions)?),
         Err(stop) => Err(stop),
     }
 }

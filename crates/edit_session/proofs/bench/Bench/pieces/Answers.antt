@@ -1,21 +1,22 @@
-use Rattle.std.proofs.Common.{arith}
-use Rattle.ucd_points.specs.Bounds.{Bounds}
-use Rattle.std.proofs.lemmas.List.Elements.{All-push}
+use Rattle.std.proofs.Common.{subst, sym}
+use Rattle.std.specs.List.{All}
+use Rattle.record_table.specs.Records.{record_now}
+use Rattle.ucd_model.specs.Cuts.{IsCut}
+use Rattle.ucd_points.specs.Limits.{point_count}
 use Rattle.edit_session.specs.Benches.{bench_record, EndsAlike}
-use Rattle.ucd_model.specs.CutLemmas.{cut_push}
-use Rattle.edit_session.proofs.CutLemmas.{cut_whole}
+use Rattle.edit_session.specs.FirstRecords.{SameRecords}
+use Rattle.edit_session.specs.declared.derivation.Derivation.{Derivation}
+use Rattle.edit_session.proofs.PieceLemmas.{by_records}
 use Rattle.edit_session.proofs.bench.Bench.pieces.Goals as goal
 
--- one more span, behind the pieces so far
-pub pieces-preserved : goal.pieces-preserved
-pieces-preserved c =
-    let s : Bounds = record { lo = c.at-lo.result; hi = c.last_alike-hi.result } in
-    record {
-      cut = rw (c.number-number.ensures.value, c.in_ok-push.ensures.ok) (cut_push (bench_record c.args.self.now) 0 c.pieces.number c.pieces.pieces s c.pieces.invariant.cut c.at-lo.ensures c.last_alike-hi.ensures.from c.last_alike-hi.ensures.same);
-      ends = rw (c.in_ok-push.ensures.ok) (All-push (EndsAlike (bench_record c.args.self.now)) c.pieces.pieces s c.pieces.invariant.ends c.last_alike-hi.ensures.ends);
-      within = omega (arith, c.number-number.ensures.bound);
-    }
-
--- all code points are in them
 pub returns-clause-cut : goal.returns-clause-cut
-returns-clause-cut c = cut_whole (bench_record c.args.self.now) c.pieces.number c.pieces.pieces (omega (arith, c.pieces-test.false, c.pieces.invariant.within)) c.pieces.invariant.cut
+returns-clause-cut c =
+    let R = bench_record c.self.inside.release in
+    let records = subst (λ (b : Derivation). SameRecords (record_now b.records) R) (sym c.deref.ensures) c.self.invariant.now.records in
+    rw (← c.self.view_is) (by_records (record_now c.deref.result.now.records) R c.pieces_of.result (λ Q pieces. IsCut Q 0 point_count pieces) records c.pieces_of.ensures.cut)
+
+pub returns-clause-ends : goal.returns-clause-ends
+returns-clause-ends c =
+    let R = bench_record c.self.inside.release in
+    let records = subst (λ (b : Derivation). SameRecords (record_now b.records) R) (sym c.deref.ensures) c.self.invariant.now.records in
+    rw (← c.self.view_is) (by_records (record_now c.deref.result.now.records) R c.pieces_of.result (λ Q pieces. All (EndsAlike Q) pieces) records c.pieces_of.ensures.ends)

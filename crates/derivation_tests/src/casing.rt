@@ -1,10 +1,9 @@
 //! Worked mappings, over a view that lists a few rows of the Unicode Character Database.
 
-use crate::facts::{PLAIN, are, facts_of, point, points, put_flagged};
+use crate::facts::{FoldedRow, PLAIN, are, facts_of, point, points, put_flagged};
 use case_derivation::{Changes, case_ignorable, cased, changes_when, fold, lower, title, upper};
 use std::alloc::Global;
-use std::test::Fail;
-use ucd_model::{Category, FactList, Facts, Flag, Flags, Image, Memory, Point, Points};
+use ucd_model::{Category, FactList, FactView, Facts, Flag, Flags, Image, Memory, Point, Points};
 
 /// A code point, its category, and its full mappings: lower, upper, title, and the folding.
 type CaseRow = (
@@ -67,7 +66,10 @@ enum Mapping {
     Fold,
 }
 
-const MAPPING_CASES: [(Mapping, &'static [u32], &'static [u32]); 6] = [
+/// A mapping, a list, and what it is mapped to.
+type MappingCase = (Mapping, &'static [u32], &'static [u32]);
+
+const MAPPING_CASES: [MappingCase; 6] = [
     // a sharp s has two letters in upper case
     (Mapping::Lower, &SHARP, &[0x73, 0xDF, 0x73]),
     (Mapping::Upper, &SHARP, &[0x53, 0x53, 0x53, 0x53]),
@@ -107,119 +109,167 @@ const CUT_CASES: [ChangeCase; 3] = [
     (&[0x1001], [true; 5]),
 ];
 
-fn image(alloc: Global, c: Point, numbers: &[u32]) -> Result<Image, Fail> {
-    Ok(Image::of(c, points(alloc, numbers)?))
-}
-
-fn put_images(alloc: Global, facts: &mut Facts, c: Point, row: &CaseRow) -> Result<(), Fail> {
-    facts.lower = image(alloc, c, row.2)?;
-    facts.upper = image(alloc, c, row.3)?;
-    facts.title = image(alloc, c, row.4)?;
-    facts.fold = image(alloc, c, row.5)?;
+/// Gives a code point an image.
+fn put_image(alloc: Global, image: &mut Image, c: Point, numbers: &[u32]) -> Result<(), Memory> {
+    *image = Image::of(c, points(alloc, numbers)?);
     Ok(())
 }
 
-fn cased_facts(alloc: Global, c: Point, row: &CaseRow) -> Result<Facts, Fail> {
-    let mut facts = Facts::unassigned(alloc, c);
+fn put_images(alloc: Global, facts: &mut Facts, c: Point, row: &CaseRow) -> Result<(), Memory> {
+    put_image(alloc, &mut facts.lower, c, row.2)?;
+    put_image(alloc, &mut facts.upper, c, row.3)?;
+    put_image(alloc, &mut facts.title, c, row.4)?;
+    put_image(alloc, &mut facts.fold, c, row.5)
+}
+
+fn put_facts(alloc: Global, facts: &mut Facts, c: Point, row: &CaseRow) -> Result<(), Memory> {
     facts.assigned = true;
     facts.category = row.1;
-    put_images(alloc, &mut facts, c, row)?;
+    put_images(alloc, facts, c, row)
+}
+
+fn cased_facts(alloc: Global, c: Point, row: &CaseRow) -> Result<Facts, Memory> {
+    let mut facts = Facts::unassigned(alloc, c);
+    put_facts(alloc, &mut facts, c, row)?;
     Ok(facts)
 }
 
-fn put_cased(alloc: Global, list: &mut FactList, row: &CaseRow) -> Result<(), Fail> {
-    let c = point(row.0)?;
+fn put_cased(alloc: Global, list: &mut FactList, row: &CaseRow) -> Result<(), Memory> {
+    let c = point(row.0);
     let facts = cased_facts(alloc, c, row)?;
-    Ok(list.push((c, facts))?)
+    list.push((c, facts))
 }
 
-fn listed_cased(alloc: Global, rows: &[CaseRow]) -> Result<FactList, Fail> {
-    let mut list = FactList::new(alloc);
+fn put_all_cased(alloc: Global, list: &mut FactList, rows: &[CaseRow]) -> Result<(), Memory> {
     for row in rows {
-        put_cased(alloc, &mut list, row)?;
+        put_cased(alloc, list, row)?;
     }
+    Ok(())
+}
+
+fn listed_cased(alloc: Global, rows: &[CaseRow]) -> Result<FactList, Memory> {
+    let mut list = FactList::new(alloc);
+    put_all_cased(alloc, &mut list, rows)?;
     Ok(list)
 }
 
-fn mapped(alloc: Global, list: &FactList, mapping: Mapping, s: &[Point]) -> Result<Points, Memory> {
+fn mapped<W: FactView>(
+    alloc: Global,
+    view: &W,
+    mapping: Mapping,
+    s: &[Point],
+) -> Result<Points, Memory> {
     match mapping {
-        Mapping::Lower => lower(alloc, list, s),
-        Mapping::Upper => upper(alloc, list, s),
-        Mapping::Title => title(alloc, list, s),
-        Mapping::Fold => fold(alloc, list, s),
+        Mapping::Lower => lower(alloc, view, s),
+        Mapping::Upper => upper(alloc, view, s),
+        Mapping::Title => title(alloc, view, s),
+        Mapping::Fold => fold(alloc, view, s),
     }
 }
 
-/// Whether the list is mapped to exactly these code points.
-fn maps_to(
-    alloc: Global,
-    list: &FactList,
-    mapping: Mapping,
-    s: &[u32],
-    wanted: &[u32],
-) -> Result<bool, Fail> {
-    let s = points(alloc, s)?;
-    let found = mapped(alloc, list, mapping, s.as_slice())?;
-    Ok(are(found.as_slice(), wanted))
+/// Whether a list is mapped to exactly the wanted code points.
+fn is_mapped<W: FactView>(alloc: Global, view: &W, case: &MappingCase) -> bool {
+    match points(alloc, case.1) {
+        Ok(s) => maps_to(alloc, view, case.0, s.as_slice(), case.2),
+        Err(Memory) => false,
+    }
 }
 
-fn are_mapped(alloc: Global, list: &FactList) -> Result<bool, Fail> {
-    for (mapping, s, wanted) in &MAPPING_CASES {
-        if !maps_to(alloc, list, *mapping, s, wanted)? {
-            return Ok(false);
+fn maps_to<W: FactView>(
+    alloc: Global,
+    view: &W,
+    mapping: Mapping,
+    s: &[Point],
+    wanted: &[u32],
+) -> bool {
+    match mapped(alloc, view, mapping, s) {
+        Ok(found) => are(found.as_slice(), wanted),
+        Err(Memory) => false,
+    }
+}
+
+fn are_mapped<W: FactView>(alloc: Global, view: &W) -> bool {
+    for case in &MAPPING_CASES {
+        if !is_mapped(alloc, view, case) {
+            return false;
         }
     }
-    Ok(true)
+    true
+}
+
+fn letters_have_images(alloc: Global) -> bool {
+    match letters(alloc) {
+        Ok(list) => are_mapped(alloc, &list),
+        Err(Memory) => false,
+    }
+}
+
+fn letters(alloc: Global) -> Result<FactList, Memory> {
+    listed_cased(alloc, &LETTERS)
+}
+
+#[test]
+fn letters_are_mapped(rt: HostRuntime) {
+    assert!(rt; letters_have_images(rt.alloc()));
 }
 
 /// What changes of a list: lower, upper, title, folding, and one of the first three.
-fn changes(alloc: Global, list: &FactList, s: &[u32]) -> Result<[bool; 5], Fail> {
-    let found: Changes = changes_when(list, points(alloc, s)?.as_slice());
-    Ok([
+fn changes<W: FactView>(view: &W, s: &[Point]) -> [bool; 5] {
+    let found: Changes = changes_when(view, s);
+    [
         found.lowered,
         found.uppered,
         found.titled,
         found.folded,
         found.mapped,
-    ])
+    ]
 }
 
-#[test]
-fn letters_are_mapped(rt: HostRuntime) -> Result<(), Fail> {
-    let list = listed_cased(rt.alloc(), &LETTERS)?;
-    assert!(rt; are_mapped(rt.alloc(), &list)?);
-    Ok(())
+fn is_changed<W: FactView>(alloc: Global, view: &W, case: &ChangeCase) -> bool {
+    match points(alloc, case.0) {
+        Ok(s) => changes(view, s.as_slice()) == case.1,
+        Err(Memory) => false,
+    }
 }
 
 /// Whether just the wanted changes of each list.
-fn are_changed(alloc: Global, list: &FactList, cases: &[ChangeCase]) -> Result<bool, Fail> {
-    for (s, wanted) in cases {
-        if changes(alloc, list, s)? != *wanted {
-            return Ok(false);
+fn are_changed<W: FactView>(alloc: Global, view: &W, cases: &[ChangeCase]) -> bool {
+    for case in cases {
+        if !is_changed(alloc, view, case) {
+            return false;
         }
     }
-    Ok(true)
+    true
 }
 
 /// The same over a list of rows.
-fn rows_are_changed(alloc: Global, rows: &[CaseRow], cases: &[ChangeCase]) -> Result<bool, Fail> {
-    let list = listed_cased(alloc, rows)?;
-    are_changed(alloc, &list, cases)
+fn rows_are_changed(alloc: Global, rows: &[CaseRow], cases: &[ChangeCase]) -> bool {
+    match listed_cased(alloc, rows) {
+        Ok(list) => are_changed(alloc, &list, cases),
+        Err(Memory) => false,
+    }
+}
+
+fn letters_are_changed(alloc: Global) -> bool {
+    rows_are_changed(alloc, &LETTERS, &CHANGE_CASES)
+}
+
+fn cuts_are_changed(alloc: Global) -> bool {
+    rows_are_changed(alloc, &CUT_OTHERWISE, &CUT_CASES)
 }
 
 #[test]
-fn lists_change_by_their_joined_images(rt: HostRuntime) -> Result<(), Fail> {
-    assert!(rt; rows_are_changed(rt.alloc(), &LETTERS, &CHANGE_CASES)?);
-    assert!(rt; rows_are_changed(rt.alloc(), &CUT_OTHERWISE, &CUT_CASES)?);
-    Ok(())
+fn lists_change_by_their_joined_images(rt: HostRuntime) {
+    assert!(rt; letters_are_changed(rt.alloc()) && cuts_are_changed(rt.alloc()));
 }
 
+const APOSTROPHE: FoldedRow<'static> = (0x0027, Category::Po, 0, PLAIN, &[], &[]);
+
 /// Puts APOSTROPHE, which stands in the middle of words.
-fn put_apostrophe(alloc: Global, list: &mut FactList) -> Result<(), Fail> {
-    let c = point(0x0027)?;
-    let mut facts = facts_of(alloc, (0x0027, Category::Po, 0, PLAIN, &[], &[]))?;
+fn put_apostrophe(alloc: Global, list: &mut FactList) -> Result<(), Memory> {
+    let mut facts = facts_of(alloc, APOSTROPHE)?;
     facts.mid_word = true;
-    Ok(list.push((c, facts))?)
+    list.push((point(APOSTROPHE.0), facts))
 }
 
 /// A code point, whether it is cased, and whether it is ignored around cased ones.
@@ -235,32 +285,38 @@ const CASED_CASES: [CasedCase; 6] = [
 ];
 
 /// Whether a view tells this of each code point.
-fn are_told(list: &FactList) -> Result<bool, Fail> {
+fn are_told<W: FactView>(view: &W) -> bool {
     for (c, is_one, is_passed) in &CASED_CASES {
-        let c = point(*c)?;
-        if cased(list, c) != *is_one || case_ignorable(list, c) != *is_passed {
-            return Ok(false);
+        let c = point(*c);
+        if cased(view, c) != *is_one || case_ignorable(view, c) != *is_passed {
+            return false;
         }
     }
-    Ok(true)
+    true
 }
 
 /// Puts FEMININE ORDINAL INDICATOR, SOFT HYPHEN and APOSTROPHE.
-fn put_others(alloc: Global, list: &mut FactList) -> Result<(), Fail> {
+fn put_others(alloc: Global, list: &mut FactList) -> Result<(), Memory> {
     let lowercase = Flags::none().with(Flag::OtherLowercase, true);
     put_flagged(alloc, list, 0x00AA, Category::Lo, lowercase)?;
     put_flagged(alloc, list, 0x00AD, Category::Cf, Flags::none())?;
     put_apostrophe(alloc, list)
 }
 
-fn others_are_told(alloc: Global, list: &mut FactList) -> Result<bool, Fail> {
-    put_others(alloc, list)?;
-    are_told(list)
+fn letters_and_others(alloc: Global) -> Result<FactList, Memory> {
+    let mut list = letters(alloc)?;
+    put_others(alloc, &mut list)?;
+    Ok(list)
+}
+
+fn others_are_told(alloc: Global) -> bool {
+    match letters_and_others(alloc) {
+        Ok(list) => are_told(&list),
+        Err(Memory) => false,
+    }
 }
 
 #[test]
-fn which_points_are_cased_and_ignored_around_them(rt: HostRuntime) -> Result<(), Fail> {
-    let mut list = listed_cased(rt.alloc(), &LETTERS)?;
-    assert!(rt; others_are_told(rt.alloc(), &mut list)?);
-    Ok(())
+fn which_points_are_cased_and_ignored_around_them(rt: HostRuntime) {
+    assert!(rt; others_are_told(rt.alloc()));
 }

@@ -1,10 +1,9 @@
 //! Worked quick checks, over a view that lists a few rows of the Unicode Character Database.
 
-use crate::facts::{CANONICAL, COMPAT, HANGUL, PLAIN, Row, facts_of, listed, point, rule_of};
+use crate::facts::{CANONICAL, COMPAT, FoldedRow, HANGUL, PLAIN, Row, facts_of, listed, point};
 use quick_checks::{full_exclusion, quick, quick_composed, quick_decomposed};
 use std::alloc::Global;
-use std::test::Fail;
-use ucd_model::{Bad, Category, FactList, Form, Point, Quick};
+use ucd_model::{Bad, Category, FactList, FactView, Form, FormStop, Memory, Point, Quick};
 
 /// A letter with a mark, the marks, and a ligature.
 const LETTERS: [Row<'static>; 5] = [
@@ -32,49 +31,71 @@ const HANGUL_CASES: [Case; 3] = [
     (0x1100, [Quick::Yes, Quick::Yes, Quick::Yes, Quick::Yes]),
 ];
 
-/// The quick checks of the forms D, C, KD and KC.
-fn four(alloc: Global, list: &FactList, c: u32) -> Result<[Quick; 4], Fail> {
-    let c = point(c)?;
-    Ok([
-        quick(alloc, list, Form::Nfd, c)?,
-        quick(alloc, list, Form::Nfc, c)?,
-        quick(alloc, list, Form::Nfkd, c)?,
-        quick(alloc, list, Form::Nfkc, c)?,
-    ])
+/// Whether a quick check is the wanted one, or the rule that stands in its place.
+fn is_check<W: FactView>(
+    alloc: Global,
+    view: &W,
+    form: Form,
+    c: u32,
+    wanted: Result<Quick, Bad>,
+) -> bool {
+    match (quick(alloc, view, form, point(c)), wanted) {
+        (Ok(found), Ok(wanted)) => found == wanted,
+        (Err(FormStop::Bad(found)), Err(wanted)) => found == wanted,
+        _ => false,
+    }
 }
 
-/// Whether the quick checks of each code point are the wanted ones.
-fn are_checked(alloc: Global, list: &FactList, cases: &[Case]) -> Result<bool, Fail> {
-    for (c, wanted) in cases {
-        if four(alloc, list, *c)? != *wanted {
-            return Ok(false);
+/// Whether the quick checks of a code point are the wanted ones.
+fn is_checked<W: FactView>(alloc: Global, view: &W, case: &Case) -> bool {
+    let (c, [nfd, nfc, nfkd, nfkc]) = *case;
+    is_check(alloc, view, Form::Nfd, c, Ok(nfd))
+        && is_check(alloc, view, Form::Nfc, c, Ok(nfc))
+        && is_check(alloc, view, Form::Nfkd, c, Ok(nfkd))
+        && is_check(alloc, view, Form::Nfkc, c, Ok(nfkc))
+}
+
+fn are_checked<W: FactView>(alloc: Global, view: &W, cases: &[Case]) -> bool {
+    for case in cases {
+        if !is_checked(alloc, view, case) {
+            return false;
         }
     }
-    Ok(true)
+    true
 }
 
 /// The same over a list of rows.
-fn rows_are_checked(alloc: Global, rows: &[Row<'_>], cases: &[Case]) -> Result<bool, Fail> {
-    let list = listed(alloc, rows)?;
-    are_checked(alloc, &list, cases)
+fn rows_are_checked(alloc: Global, rows: &[Row<'_>], cases: &[Case]) -> bool {
+    match listed(alloc, rows) {
+        Ok(list) => are_checked(alloc, &list, cases),
+        Err(Memory) => false,
+    }
+}
+
+fn letters_are_checked(alloc: Global) -> bool {
+    rows_are_checked(alloc, &LETTERS, &LETTER_CASES)
+}
+
+fn syllables_are_checked(alloc: Global) -> bool {
+    rows_are_checked(alloc, &HANGUL, &HANGUL_CASES)
 }
 
 #[test]
-fn letters_and_syllables_are_checked(rt: HostRuntime) -> Result<(), Fail> {
-    assert!(rt; rows_are_checked(rt.alloc(), &LETTERS, &LETTER_CASES)?);
-    assert!(rt; rows_are_checked(rt.alloc(), &HANGUL, &HANGUL_CASES)?);
-    Ok(())
+fn letters_and_syllables_are_checked(rt: HostRuntime) {
+    assert!(rt; letters_are_checked(rt.alloc()) && syllables_are_checked(rt.alloc()));
+}
+
+fn letters(alloc: Global) -> Result<FactList, Memory> {
+    listed(alloc, &LETTERS)
 }
 
 /// A letter with a mark that CompositionExclusions.txt lists.
-fn put_excluded(alloc: Global, list: &mut FactList) -> Result<(), Fail> {
-    let c = point(0x0958)?;
-    let mut facts = facts_of(
-        alloc,
-        (0x0958, Category::Lo, 0, CANONICAL, &[0x0915, 0x093C], &[]),
-    )?;
+const EXCLUDED: FoldedRow<'static> = (0x0958, Category::Lo, 0, CANONICAL, &[0x0915, 0x093C], &[]);
+
+fn put_excluded(alloc: Global, list: &mut FactList) -> Result<(), Memory> {
+    let mut facts = facts_of(alloc, EXCLUDED)?;
     facts.excluded = true;
-    Ok(list.push((c, facts))?)
+    list.push((point(EXCLUDED.0), facts))
 }
 
 /// Code points, and whether they are excluded.
@@ -87,51 +108,58 @@ const EXCLUSIONS: [(u32, bool); 6] = [
     (0xFB01, false),
 ];
 
-fn are_excluded(list: &FactList) -> Result<bool, Fail> {
+fn are_excluded<W: FactView>(view: &W) -> bool {
     for (c, wanted) in &EXCLUSIONS {
-        if full_exclusion(list, point(*c)?) != *wanted {
-            return Ok(false);
+        if full_exclusion(view, point(*c)) != *wanted {
+            return false;
         }
     }
-    Ok(true)
+    true
 }
 
-fn is_listed_excluded(alloc: Global, list: &mut FactList) -> Result<bool, Fail> {
-    put_excluded(alloc, list)?;
-    Ok(
-        are_excluded(list)?
-            && quick(alloc, list, Form::Nfc, point(0x0958)?)? == Quick::No
-            && quick(alloc, list, Form::Nfc, point(0x093C)?)? == Quick::Yes,
-    )
+fn is_listed_excluded<W: FactView>(alloc: Global, view: &W) -> bool {
+    are_excluded(view)
+        && is_check(alloc, view, Form::Nfc, 0x0958, Ok(Quick::No))
+        && is_check(alloc, view, Form::Nfc, 0x093C, Ok(Quick::Yes))
+}
+
+fn letters_and_excluded(alloc: Global) -> Result<FactList, Memory> {
+    let mut list = letters(alloc)?;
+    put_excluded(alloc, &mut list)?;
+    Ok(list)
+}
+
+fn excluded_are_told(alloc: Global) -> bool {
+    match letters_and_excluded(alloc) {
+        Ok(list) => is_listed_excluded(alloc, &list),
+        Err(Memory) => false,
+    }
 }
 
 #[test]
-fn singletons_marks_and_listed_letters_are_excluded(rt: HostRuntime) -> Result<(), Fail> {
-    let mut list = listed(rt.alloc(), &LETTERS)?;
-    assert!(rt; is_listed_excluded(rt.alloc(), &mut list)?);
-    Ok(())
+fn singletons_marks_and_listed_letters_are_excluded(rt: HostRuntime) {
+    assert!(rt; excluded_are_told(rt.alloc()));
 }
 
 /// Whether forms that are known are checked.
-fn known_are_checked(list: &FactList, mark: Point) -> bool {
-    quick_composed(list, mark, &[mark]) == Quick::Maybe
-        && quick_composed(list, mark, &[mark, mark]) == Quick::No
+fn known_are_checked<W: FactView>(view: &W, mark: Point) -> bool {
+    quick_composed(view, mark, &[mark]) == Quick::Maybe
+        && quick_composed(view, mark, &[mark, mark]) == Quick::No
         && quick_decomposed(COMPAT, false) == Quick::Yes
         && quick_decomposed(COMPAT, true) == Quick::No
         && quick_decomposed(CANONICAL, false) == Quick::No
 }
 
-#[test]
-fn forms_that_are_known_are_checked(rt: HostRuntime) -> Result<(), Fail> {
-    let mark = point(0x0300)?;
-    let list = listed(rt.alloc(), &LETTERS)?;
-    assert!(rt; known_are_checked(&list, mark));
-    Ok(())
+fn known_of_letters_are_checked(alloc: Global) -> bool {
+    match letters(alloc) {
+        Ok(list) => known_are_checked(&list, point(0x0300)),
+        Err(Memory) => false,
+    }
 }
 
-/// The rule that stands in the place of a quick check.
-fn rule(alloc: Global, list: &FactList, form: Form, c: u32) -> Result<Option<Bad>, Fail> {
-    rule_of(quick(alloc, list, form, point(c)?))
+#[test]
+fn forms_that_are_known_are_checked(rt: HostRuntime) {
+    assert!(rt; known_of_letters_are_checked(rt.alloc()));
 }
 
 const ENDLESS: [Row<'static>; 2] = [
@@ -139,28 +167,33 @@ const ENDLESS: [Row<'static>; 2] = [
     (0x2000, 0, COMPAT, &[0x2000]),
 ];
 
-/// Forms and code points, with the rules that stand in the place of the quick checks.
-const RULES: [(Form, u32, Option<Bad>); 6] = [
-    (Form::Nfd, 0x1000, Some(Bad::V2)),
-    (Form::Nfc, 0x1000, Some(Bad::V2)),
-    (Form::Nfkd, 0x1000, Some(Bad::V2)),
-    (Form::Nfkc, 0x1000, Some(Bad::V2)),
-    (Form::Nfc, 0x2000, None),
-    (Form::Nfkd, 0x2000, Some(Bad::V2)),
+/// Forms and code points, with their quick checks or the rules that stand in their place.
+const RULES: [(Form, u32, Result<Quick, Bad>); 6] = [
+    (Form::Nfd, 0x1000, Err(Bad::V2)),
+    (Form::Nfc, 0x1000, Err(Bad::V2)),
+    (Form::Nfkd, 0x1000, Err(Bad::V2)),
+    (Form::Nfkc, 0x1000, Err(Bad::V2)),
+    (Form::Nfc, 0x2000, Ok(Quick::Yes)),
+    (Form::Nfkd, 0x2000, Err(Bad::V2)),
 ];
 
-fn rules_are_told(alloc: Global, list: &FactList) -> Result<bool, Fail> {
+fn rules_are_told<W: FactView>(alloc: Global, view: &W) -> bool {
     for (form, c, wanted) in &RULES {
-        if rule(alloc, list, *form, *c)? != *wanted {
-            return Ok(false);
+        if !is_check(alloc, view, *form, *c, *wanted) {
+            return false;
         }
     }
-    Ok(true)
+    true
+}
+
+fn endless_are_told(alloc: Global) -> bool {
+    match listed(alloc, &ENDLESS) {
+        Ok(list) => rules_are_told(alloc, &list),
+        Err(Memory) => false,
+    }
 }
 
 #[test]
-fn an_endless_mapping_has_no_quick_check(rt: HostRuntime) -> Result<(), Fail> {
-    let list = listed(rt.alloc(), &ENDLESS)?;
-    assert!(rt; rules_are_told(rt.alloc(), &list)?);
-    Ok(())
+fn an_endless_mapping_has_no_quick_check(rt: HostRuntime) {
+    assert!(rt; endless_are_told(rt.alloc()));
 }

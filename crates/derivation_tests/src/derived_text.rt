@@ -1,12 +1,14 @@
 //! Whole files over a few records. The lines are those of Unicode 15.0.0 for these code points, but for their totals
 //! and for points that the sample leaves out.
 
+ghost use Rattle.ucd_points.specs.Limits.{point_count};
+ghost use Rattle.ucd_model.specs.Cuts.{IsCut};
+
 use crate::sample::Sample;
 use crate::sample_text::{Forms, Mapped, Marks, Normal, has_text, put_mapped, put_marks};
 use derived_writer::text_over;
 use std::alloc::Global;
-use std::test::Fail;
-use ucd_model::{Category, DerivedFile, Kind, Tag, equal_pieces};
+use ucd_model::{Category, DerivedFile, Kind, Memory, Records, Span, Tag, equal_pieces};
 
 /// The normalisation properties of `A` and `B`, of DIAERESIS and SOFT HYPHEN, of five combining marks, of two that are
 /// excluded from composition, and of the spaces from EN QUAD to HAIR SPACE; a sample of no other point.
@@ -63,11 +65,18 @@ const NORMAL: [Normal; 9] = [
     ),
 ];
 
+fn normalization_is_written(alloc: Global) -> bool {
+    has_text(
+        alloc,
+        &NORMAL,
+        DerivedFile::NormalizationProps,
+        NORMALIZATION_TEXT,
+    )
+}
+
 #[test]
-fn all_normalization_properties(rt: HostRuntime) -> Result<(), Fail> {
-    let file = DerivedFile::NormalizationProps;
-    assert!(rt; has_text(rt.alloc(), &NORMAL, file, NORMALIZATION_TEXT)?);
-    Ok(())
+fn all_normalization_properties(rt: HostRuntime) {
+    assert!(rt; normalization_is_written(rt.alloc()));
 }
 
 /// Files with their texts, over a few spans and marks. Records of one category that follow one another are one span.
@@ -104,26 +113,58 @@ const MARKS: [Marks; 5] = [
     (0x10A0D, 0x10A0D, 220),
 ];
 
-#[test]
-fn files_over_the_same_pieces(rt: HostRuntime) -> Result<(), Fail> {
-    let mut bench = Sample::new(rt.alloc());
-    assert!(rt; are_over_pieces(rt.alloc(), &mut bench)?);
-    Ok(())
-}
-
-fn are_over_pieces(alloc: Global, bench: &mut Sample) -> Result<bool, Fail> {
+fn put_spans(bench: &mut Sample) -> Result<(), Memory> {
     put_mapped(bench, &MAPPED)?;
-    put_marks(bench, &MARKS)?;
-    are_texts(alloc, bench)
+    put_marks(bench, &MARKS)
 }
 
-fn are_texts(alloc: Global, bench: &Sample) -> Result<bool, Fail> {
-    let pieces = equal_pieces(alloc, bench)?;
+fn sample(alloc: Global) -> Result<Sample, Memory> {
+    let mut bench = Sample::new(alloc);
+    put_spans(&mut bench)?;
+    Ok(bench)
+}
+
+fn pieces_are_written(alloc: Global) -> bool {
+    match sample(alloc) {
+        Ok(bench) => are_over_pieces(alloc, &bench),
+        Err(Memory) => false,
+    }
+}
+
+fn are_over_pieces<B: Records>(alloc: Global, bench: &B) -> bool {
+    match equal_pieces(alloc, bench) {
+        Ok(pieces) => are_over(alloc, bench, pieces.as_slice()),
+        Err(Memory) => false,
+    }
+}
+
+fn are_over<B: Records>(alloc: Global, bench: &B, pieces: &[Span]) -> bool
+    requires { IsCut (B.record_of bench.now) 0 point_count pieces.now }
+{
     for (file, wanted) in &OVER_PIECES {
-        let text = text_over(alloc, bench, pieces.as_slice(), *file)?;
-        if text.as_slice() != *wanted {
-            return Ok(false);
+        if !is_over(alloc, bench, pieces, *file, wanted) {
+            return false;
         }
     }
-    Ok(true)
+    true
+}
+
+fn is_over<B: Records>(
+    alloc: Global,
+    bench: &B,
+    pieces: &[Span],
+    file: DerivedFile,
+    wanted: &[u8],
+) -> bool
+    requires { IsCut (B.record_of bench.now) 0 point_count pieces.now }
+{
+    match text_over(alloc, bench, pieces, file) {
+        Ok(text) => text.as_slice() == wanted,
+        Err(Memory) => false,
+    }
+}
+
+#[test]
+fn files_over_the_same_pieces(rt: HostRuntime) {
+    assert!(rt; pieces_are_written(rt.alloc()));
 }

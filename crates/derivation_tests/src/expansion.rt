@@ -1,10 +1,11 @@
 //! Worked expansions, over a view that lists a few rows of the Unicode Character Database.
 
-use crate::facts::{CANONICAL, COMPAT, HANGUL, Row, are, listed, point, put, repeated, rule_of};
+use crate::facts::{
+    Answer, CANONICAL, COMPAT, HANGUL, Row, is_answer, listed, point, put, repeated,
+};
 use decomposition::expand;
 use std::alloc::Global;
-use std::test::Fail;
-use ucd_model::{Bad, FactList};
+use ucd_model::{Bad, FactList, FactView, Memory};
 
 /// Letters of UnicodeData.txt.
 const LETTERS: [Row<'static>; 6] = [
@@ -18,7 +19,7 @@ const LETTERS: [Row<'static>; 6] = [
 
 /// Whether an expansion is one by compatibility mappings too, the code point, and the answer: its expansion, or the rule
 /// that it breaks.
-type Case = (bool, u32, Result<&'static [u32], Bad>);
+type Case = (bool, u32, Answer);
 
 const LETTER_CASES: [Case; 6] = [
     (false, 0x1E09, Ok(&[0x0063, 0x0327, 0x0301])),
@@ -52,53 +53,44 @@ const CYCLE_CASES: [Case; 2] = [(false, 0x1000, Err(Bad::V2)), (false, 0x1001, E
 
 const LONG_CASES: [Case; 2] = [(true, 0x2000, Err(Bad::V3)), (false, 0x2000, Ok(&[0x2000]))];
 
-/// Whether the expansion is exactly these code points.
-fn expands_to(
-    alloc: Global,
-    list: &FactList,
-    compat: bool,
-    c: u32,
-    wanted: &[u32],
-) -> Result<bool, Fail> {
-    let found = expand(alloc, list, compat, point(c)?)?;
-    Ok(are(found.as_slice(), wanted))
-}
-
-/// The rule that the code point breaks.
-fn rule(alloc: Global, list: &FactList, compat: bool, c: u32) -> Result<Option<Bad>, Fail> {
-    rule_of(expand(alloc, list, compat, point(c)?))
+fn is_answered<W: FactView>(alloc: Global, view: &W, case: &Case) -> bool {
+    is_answer(expand(alloc, view, case.0, point(case.1)), &case.2)
 }
 
 /// Whether each answer is the wanted one.
-fn are_answered(alloc: Global, list: &FactList, cases: &[Case]) -> Result<bool, Fail> {
-    for (compat, c, wanted) in cases {
-        let same = match wanted {
-            Ok(wanted) => expands_to(alloc, list, *compat, *c, wanted)?,
-            Err(bad) => rule(alloc, list, *compat, *c)? == Some(*bad),
-        };
-        if !same {
-            return Ok(false);
+fn are_answered<W: FactView>(alloc: Global, view: &W, cases: &[Case]) -> bool {
+    for case in cases {
+        if !is_answered(alloc, view, case) {
+            return false;
         }
     }
-    Ok(true)
+    true
 }
 
 /// The same over a list of rows.
-fn rows_are_answered(alloc: Global, rows: &[Row<'_>], cases: &[Case]) -> Result<bool, Fail> {
-    let list = listed(alloc, rows)?;
-    are_answered(alloc, &list, cases)
+fn rows_are_answered(alloc: Global, rows: &[Row<'_>], cases: &[Case]) -> bool {
+    match listed(alloc, rows) {
+        Ok(list) => are_answered(alloc, &list, cases),
+        Err(Memory) => false,
+    }
+}
+
+fn letters_are_answered(alloc: Global) -> bool {
+    rows_are_answered(alloc, &LETTERS, &LETTER_CASES)
+}
+
+fn syllables_are_answered(alloc: Global) -> bool {
+    rows_are_answered(alloc, &HANGUL, &HANGUL_CASES)
 }
 
 #[test]
-fn members_are_expanded_in_turn(rt: HostRuntime) -> Result<(), Fail> {
-    assert!(rt; rows_are_answered(rt.alloc(), &LETTERS, &LETTER_CASES)?);
-    assert!(rt; rows_are_answered(rt.alloc(), &HANGUL, &HANGUL_CASES)?);
-    Ok(())
+fn members_are_expanded_in_turn(rt: HostRuntime) {
+    assert!(rt; letters_are_answered(rt.alloc()) && syllables_are_answered(rt.alloc()));
 }
 
 /// Puts 1000, which begins a chain of canonical mappings, each to the next code point; the last of these has a
 /// compatibility mapping to 0061.
-fn put_chain(alloc: Global, list: &mut FactList, links: u8) -> Result<(), Fail> {
+fn put_chain(alloc: Global, list: &mut FactList, links: u8) -> Result<(), Memory> {
     for at in 0..links {
         let c = 0x1000 + at as u32;
         put(alloc, list, (c, 0, CANONICAL, &[c + 1]))?;
@@ -106,64 +98,111 @@ fn put_chain(alloc: Global, list: &mut FactList, links: u8) -> Result<(), Fail> 
     put(alloc, list, (0x1000 + links as u32, 0, COMPAT, &[0x0061]))
 }
 
-fn chain_is_answered(alloc: Global, links: u8, cases: &[Case]) -> Result<bool, Fail> {
+fn chain(alloc: Global, links: u8) -> Result<FactList, Memory> {
     let mut list = FactList::new(alloc);
     put_chain(alloc, &mut list, links)?;
-    are_answered(alloc, &list, cases)
+    Ok(list)
+}
+
+fn chain_is_answered(alloc: Global, links: u8, cases: &[Case]) -> bool {
+    match chain(alloc, links) {
+        Ok(list) => are_answered(alloc, &list, cases),
+        Err(Memory) => false,
+    }
+}
+
+fn chains_are_answered(alloc: Global) -> bool {
+    chain_is_answered(alloc, 7, &SEVEN_CASES) && chain_is_answered(alloc, 8, &EIGHT_CASES)
+}
+
+fn cycle_is_answered(alloc: Global) -> bool {
+    rows_are_answered(alloc, &CYCLE, &CYCLE_CASES)
 }
 
 #[test]
-fn a_chain_has_at_most_seven_mappings(rt: HostRuntime) -> Result<(), Fail> {
-    assert!(rt; chain_is_answered(rt.alloc(), 7, &SEVEN_CASES)?);
-    assert!(rt; chain_is_answered(rt.alloc(), 8, &EIGHT_CASES)?);
-    assert!(rt; rows_are_answered(rt.alloc(), &CYCLE, &CYCLE_CASES)?);
-    Ok(())
+fn a_chain_has_at_most_seven_mappings(rt: HostRuntime) {
+    assert!(rt; chains_are_answered(rt.alloc()) && cycle_is_answered(rt.alloc()));
 }
 
 const TWO: [Row<'static>; 1] = [(0x1000, 0, COMPAT, &[0x0061, 0x0062])];
 
 /// Puts 2000, which maps to 1000 this many times.
-fn put_times(alloc: Global, list: &mut FactList, times: u32) -> Result<(), Fail> {
+fn put_times(alloc: Global, list: &mut FactList, times: u32) -> Result<(), Memory> {
     let mapping = repeated(alloc, 0x1000, times)?;
     put(alloc, list, (0x2000, 0, COMPAT, mapping.as_slice()))
 }
 
+fn two(alloc: Global) -> Result<FactList, Memory> {
+    listed(alloc, &TWO)
+}
+
 /// A list in which 2000 maps to 1000 this many times, and 1000 maps to two code points.
-fn doubled(alloc: Global, times: u32) -> Result<FactList, Fail> {
-    let mut list = listed(alloc, &TWO)?;
+fn doubled(alloc: Global, times: u32) -> Result<FactList, Memory> {
+    let mut list = two(alloc)?;
     put_times(alloc, &mut list, times)?;
     Ok(list)
 }
 
-/// How many code points the expansion of 2000 has, if it maps to 1000 this many times.
-fn expanded_length(alloc: Global, times: u32) -> Result<usize, Fail> {
-    let list = doubled(alloc, times)?;
-    Ok(expand(alloc, &list, true, point(0x2000)?)?.len())
+/// Whether the expansion of 2000 has as many code points as there may be.
+fn is_full<W: FactView>(alloc: Global, view: &W) -> bool {
+    match expand(alloc, view, true, point(0x2000)) {
+        Ok(found) => found.len() == 64,
+        Err(_) => false,
+    }
 }
 
-fn doubled_are_answered(alloc: Global, times: u32, cases: &[Case]) -> Result<bool, Fail> {
-    let list = doubled(alloc, times)?;
-    are_answered(alloc, &list, cases)
+fn doubled_is_full(alloc: Global) -> bool {
+    match doubled(alloc, 32) {
+        Ok(list) => is_full(alloc, &list),
+        Err(Memory) => false,
+    }
 }
 
-#[test]
-fn an_expansion_has_at_most_64_points(rt: HostRuntime) -> Result<(), Fail> {
-    assert!(rt; expanded_length(rt.alloc(), 32)? == 64);
-    assert!(rt; doubled_are_answered(rt.alloc(), 33, &LONG_CASES)?);
-    Ok(())
-}
-
-/// Whether the rule of 3000 is that of a long expansion first, and that of an endless mapping once it has one too.
-fn long_chain_comes_first(alloc: Global, list: &mut FactList) -> Result<bool, Fail> {
-    put(alloc, list, (0x3000, 0, COMPAT, &[0x2000, 0x3001]))?;
-    let before = rule(alloc, list, true, 0x3000)?;
-    put(alloc, list, (0x3001, 0, COMPAT, &[0x3001]))?;
-    Ok(before == Some(Bad::V3) && rule(alloc, list, true, 0x3000)? == Some(Bad::V2))
+fn more_are_answered(alloc: Global) -> bool {
+    match doubled(alloc, 33) {
+        Ok(list) => are_answered(alloc, &list, &LONG_CASES),
+        Err(Memory) => false,
+    }
 }
 
 #[test]
-fn a_long_chain_is_named_before_a_long_expansion(rt: HostRuntime) -> Result<(), Fail> {
-    let mut list = doubled(rt.alloc(), 64)?;
-    assert!(rt; long_chain_comes_first(rt.alloc(), &mut list)?);
-    Ok(())
+fn an_expansion_has_at_most_64_points(rt: HostRuntime) {
+    assert!(rt; doubled_is_full(rt.alloc()) && more_are_answered(rt.alloc()));
+}
+
+const BEFORE_CASES: [Case; 1] = [(true, 0x3000, Err(Bad::V3))];
+
+const AFTER_CASES: [Case; 1] = [(true, 0x3000, Err(Bad::V2))];
+
+/// A list in which 3000 has a mapping that is too long.
+fn long(alloc: Global) -> Result<FactList, Memory> {
+    let mut list = doubled(alloc, 64)?;
+    put(alloc, &mut list, (0x3000, 0, COMPAT, &[0x2000, 0x3001]))?;
+    Ok(list)
+}
+
+/// The same in which a member of the mapping has an endless one.
+fn endless(alloc: Global) -> Result<FactList, Memory> {
+    let mut list = long(alloc)?;
+    put(alloc, &mut list, (0x3001, 0, COMPAT, &[0x3001]))?;
+    Ok(list)
+}
+
+fn long_is_named(alloc: Global) -> bool {
+    match long(alloc) {
+        Ok(list) => are_answered(alloc, &list, &BEFORE_CASES),
+        Err(Memory) => false,
+    }
+}
+
+fn endless_is_named(alloc: Global) -> bool {
+    match endless(alloc) {
+        Ok(list) => are_answered(alloc, &list, &AFTER_CASES),
+        Err(Memory) => false,
+    }
+}
+
+#[test]
+fn a_long_chain_is_named_before_a_long_expansion(rt: HostRuntime) {
+    assert!(rt; long_is_named(rt.alloc()) && endless_is_named(rt.alloc()));
 }

@@ -7,8 +7,7 @@ use identifier_closure::{derive_record, id_continue, id_start};
 use std::alloc::Global;
 use std::marker::Brand;
 use std::sync::ledger::{Blank, Ledger};
-use std::test::Fail;
-use ucd_model::{Category, Core, CoreSet, FactList, FormStop, Point, Record, Steps};
+use ucd_model::{Category, Core, CoreSet, FactView, FormStop, Memory, Point, Record, Steps};
 
 /// LATIN CAPITAL LETTER A and SMALL LETTER A, and THAI CHARACTER SARA AM with its parts.
 const ROWS: [FoldedRow<'static>; 5] = [
@@ -20,9 +19,9 @@ const ROWS: [FoldedRow<'static>; 5] = [
 ];
 
 /// The record of a code point, counted on a ledger.
-fn counted<L: Ledger>(
+fn counted<W: FactView, L: Ledger>(
     alloc: Global,
-    list: &FactList,
+    view: &W,
     c: Point,
     blank: Blank,
 ) -> Result<Record, FormStop>
@@ -31,17 +30,20 @@ fn counted<L: Ledger>(
     requires some { blank.parts ≡ 1 }
 {
     let mut steps = Steps::<L>::new(blank);
-    derive_record(alloc, list, c, &mut steps)
+    derive_record(alloc, view, c, &mut steps)
 }
 
 /// The record of a code point.
-pub fn record(alloc: Global, list: &FactList, c: Point) -> Result<Record, FormStop> {
-    counted::<Brand>(alloc, list, c, Blank::new(1))
+pub fn record<W: FactView>(alloc: Global, view: &W, c: Point) -> Result<Record, FormStop> {
+    counted::<W, Brand>(alloc, view, c, Blank::new(1))
 }
 
-/// The core properties of a code point.
-fn core(alloc: Global, list: &FactList, c: u32) -> Result<CoreSet, Fail> {
-    Ok(record(alloc, list, point(c)?)?.core)
+/// The core properties of a code point, if it has a record.
+fn core<W: FactView>(alloc: Global, view: &W, c: Point) -> Option<CoreSet> {
+    match record(alloc, view, c) {
+        Ok(found) => Some(found.core),
+        Err(_) => None,
+    }
 }
 
 fn is_capital(core: CoreSet) -> bool {
@@ -55,29 +57,44 @@ fn is_vowel(core: CoreSet) -> bool {
     core.has(Core::IdStart) && core.has(Core::XidContinue) && !core.has(Core::XidStart)
 }
 
-fn cores_are_derived(alloc: Global, list: &FactList) -> Result<bool, Fail> {
-    Ok(is_capital(core(alloc, list, 0x0041)?) && is_vowel(core(alloc, list, 0x0E33)?))
+fn cores_are_derived<W: FactView>(alloc: Global, view: &W) -> bool {
+    match (
+        core(alloc, view, point(0x0041)),
+        core(alloc, view, point(0x0E33)),
+    ) {
+        (Some(capital), Some(vowel)) => is_capital(capital) && is_vowel(vowel),
+        _ => false,
+    }
+}
+
+fn cores_of_rows_are_derived(alloc: Global) -> bool {
+    match listed_folded(alloc, &ROWS) {
+        Ok(list) => cores_are_derived(alloc, &list),
+        Err(Memory) => false,
+    }
 }
 
 #[test]
-fn core_properties_are_derived(rt: HostRuntime) -> Result<(), Fail> {
-    let list = listed_folded(rt.alloc(), &ROWS)?;
-    assert!(rt; cores_are_derived(rt.alloc(), &list)?);
-    Ok(())
+fn core_properties_are_derived(rt: HostRuntime) {
+    assert!(rt; cores_of_rows_are_derived(rt.alloc()));
 }
 
 /// Whether a vowel begins an identifier, and a mark only goes on with one.
-fn goes_on(list: &FactList, vowel: Point, mark: Point) -> bool {
-    id_start(list, vowel)
-        && id_continue(list, vowel)
-        && !id_start(list, mark)
-        && id_continue(list, mark)
+fn goes_on<W: FactView>(view: &W, vowel: Point, mark: Point) -> bool {
+    id_start(view, vowel)
+        && id_continue(view, vowel)
+        && !id_start(view, mark)
+        && id_continue(view, mark)
+}
+
+fn marks_of_rows_go_on(alloc: Global) -> bool {
+    match listed_folded(alloc, &ROWS) {
+        Ok(list) => goes_on(&list, point(0x0E33), point(0x0E4D)),
+        Err(Memory) => false,
+    }
 }
 
 #[test]
-fn marks_go_on_with_identifiers(rt: HostRuntime) -> Result<(), Fail> {
-    let (vowel, mark) = (point(0x0E33)?, point(0x0E4D)?);
-    let list = listed_folded(rt.alloc(), &ROWS)?;
-    assert!(rt; goes_on(&list, vowel, mark));
-    Ok(())
+fn marks_go_on_with_identifiers(rt: HostRuntime) {
+    assert!(rt; marks_of_rows_go_on(rt.alloc()));
 }

@@ -4,10 +4,11 @@ ghost use Rattle.std.specs.Prelude.{◌≡◌};
 ghost use Rattle.ucd_facts.specs.Facts.{within};
 ghost use Rattle.derivation_tests.specs.Samples.{sample_record};
 
-use crate::facts::points;
+use crate::facts::{point, points};
 use std::alloc::Global;
-use std::test::Fail;
-use ucd_model::{Category, CoreSet, Image, Kind, ListOf, Point, Quick, Record, Records, Span};
+use ucd_model::{
+    Category, CoreSet, Image, Kind, ListOf, Memory, Point, Quick, Record, Records, Span,
+};
 
 /// Records of a few spans. If two cover a code point, the first one counts; all other code points have the default.
 #[derive(Drop)]
@@ -69,8 +70,8 @@ pub fn with_class(class: u8) -> Record {
 
 /// The record of a point that is folded into these, by either folding.
 ///
-/// - `Fail`: a number is no code point, or memory ran out.
-pub fn with_folding(alloc: Global, category: Category, numbers: &[u32]) -> Result<Record, Fail> {
+/// - `Memory`: memory ran out.
+pub fn with_folding(alloc: Global, category: Category, numbers: &[u32]) -> Result<Record, Memory> {
     let full = points(alloc, numbers)?;
     let simple = points(alloc, numbers)?;
     let mut record = plain(category);
@@ -101,10 +102,12 @@ pub fn excluded(record: Record) -> Record {
     record
 }
 
-fn span(lo: u32, hi: u32) -> Result<Span, Fail> {
-    let lo = Point::new(lo).ok_or("a code point")?;
-    let hi = Point::new(hi).ok_or("a code point")?;
-    Ok(Span::new(lo, hi).ok_or("a span")?)
+/// The span from one number to another: if it is less, that of the first number alone.
+pub fn span(lo: u32, hi: u32) -> Span {
+    match Span::new(point(lo), point(hi)) {
+        Some(span) => span,
+        None => Span::one(point(lo)),
+    }
 }
 
 impl Sample {
@@ -118,8 +121,8 @@ impl Sample {
 
     /// Puts an entry behind the others.
     ///
-    /// - `Fail`: a number is no code point, `lo` is greater than `hi`, or memory ran out.
-    pub fn put(&mut self, lo: u32, hi: u32, record: Record) -> Result<(), Fail> {
-        Ok(self.entries.push((span(lo, hi)?, record))?)
+    /// - `Memory`: memory ran out.
+    pub fn put(&mut self, span: Span, record: Record) -> Result<(), Memory> {
+        self.entries.push((span, record))
     }
 }

@@ -1,12 +1,11 @@
 //! Worked foldings of letters whose simple folding differs from the full one.
 
 use crate::asking::asks;
-use crate::facts::{COMPAT, FoldedRow, PLAIN, facts_of, point, points};
+use crate::facts::{COMPAT, FoldedRow, PLAIN, facts_of, is_image, is_image_answer, point};
 use crate::records::record;
 use fold_rounds::{nfkc_casefold, nfkc_simple_casefold};
 use std::alloc::Global;
-use std::test::Fail;
-use ucd_model::{Category, FactList, Image, Point, Query};
+use ucd_model::{Category, FactList, FactView, Memory, Query};
 
 /// The capital sharp s, which CaseFolding.txt folds to two letters with status F, and to the small one with status S.
 const SHARP: FoldedRow<'static> = (0x1E9E, Category::Lo, 0, PLAIN, &[], &[0x0073, 0x0073]);
@@ -17,38 +16,17 @@ fn put_simple(
     list: &mut FactList,
     row: FoldedRow<'_>,
     simple: u32,
-) -> Result<(), Fail> {
-    let c = point(row.0)?;
+) -> Result<(), Memory> {
     let mut facts = facts_of(alloc, row)?;
-    facts.simple_fold = point(simple)?;
-    Ok(list.push((c, facts))?)
+    facts.simple_fold = point(simple);
+    list.push((point(row.0), facts))
 }
 
-/// Whether NFKC_Casefold and NFKC_Simple_Casefold of the capital sharp s are exactly these code points.
-fn sharp_folds_to(
-    alloc: Global,
-    list: &FactList,
-    full: &[u32],
-    simple: &[u32],
-) -> Result<bool, Fail> {
-    let c = point(0x1E9E)?;
-    let found = [
-        nfkc_casefold(alloc, list, c)?,
-        nfkc_simple_casefold(alloc, list, c)?,
-    ];
-    let wanted = [
-        Image::To(points(alloc, full)?),
-        Image::To(points(alloc, simple)?),
-    ];
-    Ok(found[0].is_same(&wanted[0]) && found[1].is_same(&wanted[1]))
-}
-
-#[test]
-fn each_folding_has_its_own_list(rt: HostRuntime) -> Result<(), Fail> {
-    let mut list = FactList::new(rt.alloc());
-    put_simple(rt.alloc(), &mut list, SHARP, 0x00DF)?;
-    assert!(rt; sharp_folds_to(rt.alloc(), &list, &[0x0073, 0x0073], &[0x00DF])?);
-    Ok(())
+/// Whether NFKC_Casefold and NFKC_Simple_Casefold of the capital sharp s are two letters and one.
+fn sharp_is_folded<W: FactView>(alloc: Global, view: &W) -> bool {
+    let c = point(SHARP.0);
+    is_image_answer(nfkc_casefold(alloc, view, c), c, &Ok(&[0x0073, 0x0073]))
+        && is_image_answer(nfkc_simple_casefold(alloc, view, c), c, &Ok(&[0x00DF]))
 }
 
 /// A row, its simple folding, and what the code point is folded to under NFKC, by the full and by the simple folding.
@@ -108,95 +86,111 @@ const OTHERS: [BothCase; 4] = [
 ];
 
 /// Puts the facts of these letters.
-fn put_letters(alloc: Global, list: &mut FactList, cases: &[BothCase]) -> Result<(), Fail> {
+fn put_letters(alloc: Global, list: &mut FactList, cases: &[BothCase]) -> Result<(), Memory> {
     for (row, simple, _, _) in cases {
         put_simple(alloc, list, *row, *simple)?;
     }
     Ok(())
 }
 
-/// The facts of all these letters.
-fn letters(alloc: Global) -> Result<FactList, Fail> {
-    let mut list = FactList::new(alloc);
-    let put = put_folded(alloc, &mut list);
-    match put {
-        Ok(()) => Ok(list),
-        Err(fail) => Err(fail),
-    }
-}
-
-fn put_folded(alloc: Global, list: &mut FactList) -> Result<(), Fail> {
+fn put_all(alloc: Global, list: &mut FactList) -> Result<(), Memory> {
     put_letters(alloc, list, &FOLDED)?;
     put_others(alloc, list)
 }
 
-fn put_others(alloc: Global, list: &mut FactList) -> Result<(), Fail> {
+fn put_others(alloc: Global, list: &mut FactList) -> Result<(), Memory> {
     put_letters(alloc, list, &OTHERS)
 }
 
-/// Whether the record of a letter has the wanted foldings.
-fn has_both(alloc: Global, list: &FactList, case: &BothCase) -> Result<bool, Fail> {
-    let (row, _, full, simple) = case;
-    let c = point(row.0)?;
-    let found = record(alloc, list, c)?;
-    Ok(
-        is_image(alloc, c, &found.casefold, full)?
-            && is_image(alloc, c, &found.simple_casefold, simple)?,
-    )
+/// The facts of all these letters.
+fn letters(alloc: Global) -> Result<FactList, Memory> {
+    let mut list = FactList::new(alloc);
+    put_all(alloc, &mut list)?;
+    Ok(list)
 }
 
-/// Whether this is the image of a letter that has these members.
-fn is_image(alloc: Global, c: Point, image: &Image, members: &[u32]) -> Result<bool, Fail> {
-    Ok(image.is_same(&Image::of(c, points(alloc, members)?)))
+/// The facts of the capital sharp s alone.
+fn sharp(alloc: Global) -> Result<FactList, Memory> {
+    let mut list = FactList::new(alloc);
+    put_simple(alloc, &mut list, SHARP, 0x00DF)?;
+    Ok(list)
+}
+
+fn sharp_alone_is_folded(alloc: Global) -> bool {
+    match sharp(alloc) {
+        Ok(list) => sharp_is_folded(alloc, &list),
+        Err(Memory) => false,
+    }
+}
+
+#[test]
+fn each_folding_has_its_own_list(rt: HostRuntime) {
+    assert!(rt; sharp_alone_is_folded(rt.alloc()));
+}
+
+/// Whether the record of a letter has the wanted foldings.
+fn has_both<W: FactView>(alloc: Global, view: &W, case: &BothCase) -> bool {
+    let c = point(case.0.0);
+    match record(alloc, view, c) {
+        Ok(found) => {
+            is_image(&found.casefold, c, case.2) && is_image(&found.simple_casefold, c, case.3)
+        }
+        Err(_) => false,
+    }
 }
 
 /// Whether the records of these letters have them.
-fn have_both(alloc: Global, list: &FactList, cases: &[BothCase]) -> Result<bool, Fail> {
+fn have_both<W: FactView>(alloc: Global, view: &W, cases: &[BothCase]) -> bool {
     for case in cases {
-        if !has_both(alloc, list, case)? {
-            return Ok(false);
+        if !has_both(alloc, view, case) {
+            return false;
         }
     }
-    Ok(true)
+    true
 }
 
 /// The same over the facts of all letters.
-fn are_folded(alloc: Global, cases: &[BothCase]) -> Result<bool, Fail> {
-    let list = letters(alloc)?;
-    let held = have_both(alloc, &list, cases);
-    drop(list);
-    held
+fn are_folded(alloc: Global, cases: &[BothCase]) -> bool {
+    match letters(alloc) {
+        Ok(list) => have_both(alloc, &list, cases),
+        Err(Memory) => false,
+    }
+}
+
+fn folded_are_folded(alloc: Global) -> bool {
+    are_folded(alloc, &FOLDED)
+}
+
+fn others_are_folded(alloc: Global) -> bool {
+    are_folded(alloc, &OTHERS)
 }
 
 #[test]
-fn records_have_both_foldings(rt: HostRuntime) -> Result<(), Fail> {
-    assert!(rt; are_folded(rt.alloc(), &FOLDED)?);
-    Ok(())
-}
-
-#[test]
-fn records_of_other_letters_have_them(rt: HostRuntime) -> Result<(), Fail> {
-    assert!(rt; are_folded(rt.alloc(), &OTHERS)?);
-    Ok(())
+fn records_have_both_foldings(rt: HostRuntime) {
+    assert!(rt; folded_are_folded(rt.alloc()) && others_are_folded(rt.alloc()));
 }
 
 /// What the compatibility character asks: of the members of its full folding, and of that of its simple one.
-fn asked_by_both() -> Result<[Query; 6], Fail> {
-    let (letter, compat) = (point(0x0073)?, point(0x2000)?);
-    Ok([
+fn asked_by_both() -> [Query; 6] {
+    let (letter, compat) = (point(0x0073), point(0x2000));
+    [
         Query::Row(letter),
-        Query::Row(point(0x00DF)?),
-        Query::Row(point(0x1E9E)?),
+        Query::Row(point(0x00DF)),
+        Query::Row(point(0x1E9E)),
         Query::Row(compat),
         Query::Pair(letter, letter),
         Query::Second(compat),
-    ])
+    ]
+}
+
+fn letters_ask(alloc: Global) -> bool {
+    match letters(alloc) {
+        Ok(list) => asks(alloc, &list, point(0x2000), &asked_by_both()),
+        Err(Memory) => false,
+    }
 }
 
 #[test]
-fn both_foldings_ask(rt: HostRuntime) -> Result<(), Fail> {
-    let list = letters(rt.alloc())?;
-    let wanted = asked_by_both()?;
-    assert!(rt; asks(rt.alloc(), &list, point(0x2000)?, &wanted)?);
-    Ok(())
+fn both_foldings_ask(rt: HostRuntime) {
+    assert!(rt; letters_ask(rt.alloc()));
 }

@@ -1,0 +1,4 @@
+use Rattle.derivation_tests.proofs.asking.asked.Given as goal
+
+abbrev pub ghosts-counted : goal.ghosts-counted
+ghosts-counted g a = record { name = a.blank.name; parts = a.blank.parts }

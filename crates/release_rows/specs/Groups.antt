@@ -1,6 +1,6 @@
 -- The groups and the keys of the rows of a file, as numbers.
 --
--- mark_on mark bytes          the mark with more bytes: each is one more digit of base 257, and no digit is 0; what is left of that
+-- mark_on mark bytes          the mark with more bytes: each is one more digit of base 2654435761, and no digit is 0; what is left of that
 --                             number when it is divided by 4294967291, a prime
 -- names_mark mark names       the mark with more names, each with a `;` behind it
 -- group_mark group            the mark of the group's name
@@ -26,7 +26,7 @@ use Rattle.release_rows.specs.declared.stretch.Stretch.{Stretch}
 
 abbrev pub mark_on : ℕ → List ℕ → ℕ
 mark_on mark [] = mark
-mark_on mark (b ∷ bs) = mark_on ((mark * 257 + b + 1) % 4294967291) bs
+mark_on mark (b ∷ bs) = mark_on ((mark * 2654435761 + b + 1) % 4294967291) bs
 
 abbrev pub names_mark : ℕ → List (List ℕ) → ℕ
 names_mark mark [] = mark

@@ -10,9 +10,9 @@ use ucd_lines::{Fields, fields};
 
 /// The mark with one more byte.
 fn with_byte(mark: u32, byte: u8) -> u32
-    ensures { result ≡ (mark * 257 + byte + 1) % 4294967291 }
+    ensures { result ≡ (mark * 2654435761 + byte + 1) % 4294967291 }
 {
-    let more = u64::from(mark) * 257 + u64::from(byte) + 1;
+    let more = u64::from(mark) * 2_654_435_761 + u64::from(byte) + 1;
     (more % 4_294_967_291) as u32
 }
 

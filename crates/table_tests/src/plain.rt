@@ -11,12 +11,17 @@ pub fn expect(rt: &impl Abort, number: u32, seen: Option<(u64, u64)>, expected: 
     assert_eq!(rt; (number, seen), (number, Some(expected)));
 }
 
-/// The span from one number to another.
-pub fn span(lo: u32, hi: u32) -> Span
-    requires ordered { lo ≤ hi }
-    requires bound { hi < 1114112 }
-{
-    Span::between(Point::at(lo), Point::at(hi))
+/// The span from one number to another: if that is less, of the first number alone.
+pub fn span(lo: u32, hi: u32) -> Span {
+    let (lo, hi) = (point(lo), point(hi));
+    match Span::new(lo, hi) {
+        Some(span) => span,
+        None => Span::one(lo),
+    }
+}
+
+fn point(number: u32) -> Point {
+    Point::at(number.min(0x10_FFFF))
 }
 
 /// The values of the first code points, now and next, one by one.
@@ -79,4 +84,17 @@ pub fn drawn(state: u64, bound: u64) -> (u64, u64)
         .wrapping_mul(6_364_136_223_846_793_005)
         .wrapping_add(1_442_695_040_888_963_407);
     ((next >> 33) % bound, next)
+}
+
+/// A span of some of the first `count` code points, of `longest` code points at most, and the next state.
+pub fn drawn_span(state: u64, count: u32, longest: u64) -> (Span, u64)
+    requires some { 0 < count }
+    requires long { 0 < longest }
+    requires few { count ≤ 1114112 }
+    requires short { longest ≤ 1114112 }
+{
+    let (lo, state) = drawn(state, u64::from(count));
+    let (more, state) = drawn(state, longest);
+    let hi = (lo + more).min(u64::from(count) - 1);
+    (span(lo as u32, hi as u32), state)
 }

@@ -1,6 +1,6 @@
 //! Worked stores, and a store against plain lists.
 
-use crate::plain::{Plain, drawn, expect, span};
+use crate::plain::{Plain, drawn, drawn_span, expect, span};
 use paged_table::PagedTable;
 use point_store::{Kept, Store};
 use range_table::{RunTable, Stretches};
@@ -192,16 +192,10 @@ fn step<S: Store<Name>>(store: &mut S, plain: &mut Plain, state: u64) -> u64 {
 }
 
 fn prepare<S: Store<Name>>(store: &mut S, plain: &mut Plain, state: u64) -> u64 {
-    let (one, state) = drawn(state, u64::from(SHOWN));
-    let (other, state) = drawn(state, 60);
+    let (span, state) = drawn_span(state, SHOWN, 60);
     let (value, state) = drawn(state, 3);
-    let last = (one + other).min(u64::from(SHOWN) - 1);
-    if let (Some(lo), Some(hi)) = (Point::new(one as u32), Point::new(last as u32)) {
-        if let Some(span) = Span::new(lo, hi) {
-            if put(store, span, value).is_ok() {
-                plain.set(span, value);
-            }
-        }
+    if put(store, span, value).is_ok() {
+        plain.set(span, value);
     }
     state
 }

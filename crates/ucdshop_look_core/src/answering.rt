@@ -3,13 +3,14 @@
 ghost use Rattle.std.specs.Prelude.{◌≡◌, ◌||◌, ◌++◌, IfOk, OnOk, codes};
 ghost use Rattle.run_endings.specs.Planning.{HasPlan};
 ghost use Rattle.set_answers.specs.Questions.{files_record, question_answer};
+ghost use Rattle.set_answers.specs.RowNames.{AreNamesKept, AreRowNames};
 ghost use Rattle.ucd_model.specs.DerivedText.{line_end};
 ghost use Rattle.unicodeset_eval.specs.RecordPieces.{ArePiecesOf};
 ghost use Rattle.ucdshop_look_core.specs.Answers.{any_refused, ask_ending, is_refused, section, sections};
 
 use edit_session::{Bench, Recorded};
 use run_endings::Plan;
-use set_answers::{AskStop, RowNames, put_members, put_refusal};
+use set_answers::{AskStop, KeptNames, RowNames, put_members, put_refusal};
 use std::alloc::Global;
 use ucd_model::{Memory, Text};
 use unicodeset_eval::RecordPieces;
@@ -28,12 +29,44 @@ pub fn answers_plan(alloc: Global, bench: Bench, questions: &[Text]) -> Result<P
     plan_over(alloc, &recorded, questions)
 }
 
-/// The same by the records. The spans by which their pieces are made are let go of before names are read.
+/// What `answers_plan` makes, by the records. It owns the names, and a call lets them go: their many parts would else fill its proof.
 fn plan_over(alloc: Global, recorded: &Recorded, questions: &[Text]) -> Result<Plan, Memory>
     ensures { IfOk result (HasPlan (ask_ending questions.now recorded.now.current)) }
 {
+    let mut names = KeptNames::nothing();
+    let plan = plan_beside(alloc, recorded, &mut names, questions);
+    drop(names);
+    plan
+}
+
+/// The same with what is kept of names. It owns the pieces. The spans by which these are made are let go of before names are read.
+fn plan_beside(
+    alloc: Global,
+    recorded: &Recorded,
+    kept: &mut KeptNames,
+    questions: &[Text],
+) -> Result<Plan, Memory>
+    requires { AreNamesKept kept.old recorded.now.current }
+    ensures { IfOk result (HasPlan (ask_ending questions.now recorded.now.current)) }
+{
     let pieces = record_pieces(alloc, recorded)?;
-    plan_by(alloc, recorded, &pieces, questions)
+    plan_by(alloc, recorded, &pieces, kept, questions)
+}
+
+/// The same by the pieces of equal records. It owns nothing.
+fn plan_by(
+    alloc: Global,
+    recorded: &Recorded,
+    pieces: &RecordPieces,
+    kept: &mut KeptNames,
+    questions: &[Text],
+) -> Result<Plan, Memory>
+    requires pieces { ArePiecesOf pieces.now (files_record recorded.now.current) }
+    requires names { AreNamesKept kept.old recorded.now.current }
+    ensures { IfOk result (HasPlan (ask_ending questions.now recorded.now.current)) }
+{
+    kept.fill(alloc, recorded.release())?;
+    plan_named(alloc, recorded, pieces, kept.names(), questions)
 }
 
 /// The pieces of equal records.
@@ -46,18 +79,19 @@ fn record_pieces(alloc: Global, recorded: &Recorded) -> Result<RecordPieces, Mem
     RecordPieces::of(alloc, recorded, spans.as_slice())
 }
 
-/// The same by the pieces of equal records.
-fn plan_by(
+/// The same by the names of the rows too.
+fn plan_named(
     alloc: Global,
     recorded: &Recorded,
     pieces: &RecordPieces,
+    names: &RowNames,
     questions: &[Text],
 ) -> Result<Plan, Memory>
-    requires { ArePiecesOf pieces.now (files_record recorded.now.current) }
+    requires pieces { ArePiecesOf pieces.now (files_record recorded.now.current) }
+    requires names { AreRowNames names.now recorded.now.current }
     ensures { IfOk result (HasPlan (ask_ending questions.now recorded.now.current)) }
 {
-    let names = RowNames::of(alloc, recorded.release())?;
-    let asking = Asking::of(recorded, recorded.release(), pieces, &names);
+    let asking = Asking::of(recorded, recorded.release(), pieces, names);
     plan_from(alloc, &asking, questions)
 }
 

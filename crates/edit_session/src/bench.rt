@@ -188,8 +188,7 @@ impl Bench {
             release,
             derivation,
         } = self;
-        let Derivation { records, .. } = Box::into_inner(derivation);
-        Recorded::of(release, records)
+        Recorded::of(release, Box::into_inner(derivation).into_records())
     }
 
     /// The release, which is valid.

@@ -43,6 +43,14 @@ pub struct Derivation {
 }
 
 impl Derivation {
+    /// The records alone. It lets go of the rest by itself: whoever owned more would be large to prove.
+    pub fn into_records(self) -> RecordTable
+        ensures { result ≡ self.records }
+    {
+        let Derivation { records, .. } = self;
+        records
+    }
+
     /// What is derived from the rows of a release now; next it is the same. UAX #44, section 5.3.
     ///
     /// - `Invalid { rule, point }`: a code point breaks a rule of a valid release: the least one, with its first rule.

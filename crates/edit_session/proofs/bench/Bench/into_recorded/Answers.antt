@@ -6,4 +6,5 @@ use Rattle.edit_session.specs.declared.derivation.Derivation.{Derivation}
 use Rattle.edit_session.proofs.bench.Bench.into_recorded.Goals as goal
 
 pub of-requires : goal.of-requires
-of-requires c = subst (λ (b : Derivation). SameRecords (record_now b.records) (bench_record c.self.inside.release)) (sym c.into_inner-records.ensures) c.self.invariant.now.records
+of-requires c =
+    rw c.into_records.ensures (subst (λ (b : Derivation). SameRecords (record_now b.records) (bench_record c.self.inside.release)) (sym c.into_inner.ensures) c.self.invariant.now.records)

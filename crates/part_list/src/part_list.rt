@@ -1,6 +1,6 @@
 //! Lists that can be edited.
 
-ghost use Rattle.std.specs.Prelude.{◌≡◌, ◌+◌, ◌<◌, ◌≤◌, [], ◌∷◌, ◌++◌, length, slice_set, OnOk, OnErr};
+ghost use Rattle.std.specs.Prelude.{◌≡◌, ◌+◌, ◌<◌, ◌≤◌, false, [], ◌∷◌, ◌++◌, length, slice_set, OnOk, OnErr};
 ghost use Rattle.std.specs.List.{insert, remove};
 ghost use Rattle.part_list.specs.Parts.{IsEntry, IsGap, now_in, next_in, part_at, place, spliced};
 ghost use Rattle.part_list.specs.Puts.{put_entries};
@@ -187,6 +187,13 @@ impl<T: Copy> PartList<T> {
     {
         self.shrunk = true;
         self.edit(spot, 1, Put::none())
+    }
+
+    /// Whether what is next may be other than what is now: something was edited since the last `commit` or `discard`.
+    pub fn is_edited(&self) -> bool
+        ensures { result ≡ false → next_in self.now ≡ now_in self.now }
+    {
+        self.edited
     }
 
     /// Makes what is next what is now. It takes no memory.

@@ -40,6 +40,9 @@ impl<T: Copy> PartList<T> {
             (take count (next_in self.now)) }
         ensures { FirstAt result (S.passing seek.now) self.now.next }
     {
+        if count == 0 {
+            return self.first(seek);
+        }
         first_spot_behind(&self.parts, &self.guides, seek, count)
     }
 

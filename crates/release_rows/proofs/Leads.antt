@@ -273,10 +273,9 @@ gap_within (Front spot) n parts h = let none = h.2 in omega arith
 gap_within (Behind spot) n parts h = let lt = place-lt parts spot h.0 in let next = h.1 in omega arith
 gap_within Only n parts h = let none = h.1 in omega arith
 
-pub leads_of : (file : SourceFile) (row : Row) (text : List ℕ) (s : Sought) (items new : List FileItem) (added : FileItem) (count : ℕ) (item : Stretch) (old later : Leads) → IsSoughtRow file row text s → GivesRow file text item row → count ≡ place_in file row items → count ≤ length items → KeepLeads file text items old → new ≡ put_in items (place_in file row items) added → added.row ≡ Some row → ((r : Row) (is : List FileItem) (one : FileItem) → IsSoughtRow s.file r s.text s → GivesRow s.file s.text item r → one.row ≡ Some r → count ≡ place_in s.file r is → count ≤ length is → KeepLeads s.file s.text is old → KeepLeads s.file s.text (put_in is count one) later) → KeepLeads file text new later
+pub leads_of : (file : SourceFile) (row : Row) (text : List ℕ) (s : Sought) (items new : List FileItem) (added : FileItem) (count : Option ℕ) (item : Stretch) (old later : Leads) → IsSoughtRow file row text s → GivesRow file text item row → IfSome count (λ count. count ≡ place_in file row items) → place_in file row items ≤ length items → KeepLeads file text items old → new ≡ put_in items (place_in file row items) added → added.row ≡ Some row → ((r : Row) (is : List FileItem) (one : FileItem) → IsSoughtRow s.file r s.text s → GivesRow s.file s.text item r → one.row ≡ Some r → IfSome count (λ count. count ≡ place_in s.file r is) → place_in s.file r is ≤ length is → KeepLeads s.file s.text is old → KeepLeads s.file s.text (put_in is (place_in s.file r is) one) later) → KeepLeads file text new later
 leads_of file row text s items new added count item old later sought gives place within all put some noted =
-    let leads = noted row items added (sought_own file row text s sought) (rw (sought.file_is, sought.text_is) gives) some (rw sought.file_is place) within (rw (sought.file_is, sought.text_is) all) in
-    let same : put_in items count added ≡ new = ap (λ n. put_in items n added) place ∙ sym put in
-    subst (λ (is : List FileItem). KeepLeads file text is later) same
-    (subst (λ (f : SourceFile). KeepLeads f text (put_in items count added) later) sought.file_is
-    (subst (λ (t : List ℕ). KeepLeads s.file t (put_in items count added) later) sought.text_is leads))
+    let leads = noted row items added (sought_own file row text s sought) (rw (sought.file_is, sought.text_is) gives) some (rw sought.file_is place) (rw sought.file_is within) (rw (sought.file_is, sought.text_is) all) in
+    subst (λ (is : List FileItem). KeepLeads file text is later) (sym put)
+    (subst (λ (f : SourceFile). KeepLeads f text (put_in items (place_in f row items) added) later) sought.file_is
+    (subst (λ (t : List ℕ). KeepLeads s.file t (put_in items (place_in s.file row items) added) later) sought.text_is leads))

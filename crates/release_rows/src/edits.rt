@@ -1,6 +1,6 @@
 //! Edits of the entries of a file, next.
 
-ghost use Rattle.std.specs.Prelude.{◌≡◌, ℕ, ◌+◌, ◌<◌, ◌≤◌, ◌^◌, true, false, List, length, map, OnOk, OnErr};
+ghost use Rattle.std.specs.Prelude.{◌≡◌, ℕ, ◌+◌, ◌<◌, ◌≤◌, ◌^◌, true, false, List, length, map, IfSome, OnOk, OnErr};
 ghost use Rattle.std.specs.List.{All, insert};
 ghost use Rattle.ucd_points.specs.declared.files.SourceFile.{SourceFile as FileValue};
 ghost use Rattle.ucd_facts.specs.declared.row.Row.{Row as RowValue};
@@ -15,11 +15,12 @@ ghost use Rattle.release_rows.specs.StoredItems.{stored_at, IsStored};
 
 use crate::lead::Leads;
 use crate::mark::group_mark;
+use crate::op_spans::has_code;
 use crate::search::{Search, Test};
 use crate::stretch::Stretch;
 use part_list::{PartList, Spanned, Spot, Tags};
 use source_rows::contents_have_keys;
-use ucd_facts::Memory;
+use ucd_facts::{Memory, SourceFile};
 use ucd_lines::Ending;
 
 /// Where an entry is put.
@@ -113,7 +114,7 @@ pub fn gap_for(items: &PartList<Stretch>, groups: &Tags, leads: &Leads, search: 
 }
 
 /// How many entries stand before a gap.
-pub fn gap_place(items: &PartList<Stretch>, gap: Gap) -> usize
+fn gap_place(items: &PartList<Stretch>, gap: Gap) -> usize
     requires gap { (n : ℕ) × IsGapAt gap n items.now.next }
     requires few { length (next_in items.now) < 2 ^ 63 }
     ensures { (n : ℕ) → IsGapAt gap n items.now.next → result ≡ n }
@@ -122,6 +123,19 @@ pub fn gap_place(items: &PartList<Stretch>, gap: Gap) -> usize
         Gap::Front(_) | Gap::Only => 0,
         Gap::Behind(spot) => items.place_of(spot) + 1,
     }
+}
+
+/// How many entries stand before a gap of a file that has leads; `None` for another file.
+pub fn lead_count(file: SourceFile, items: &PartList<Stretch>, gap: Gap) -> Option<usize>
+    requires gap { (n : ℕ) × IsGapAt gap n items.now.next }
+    requires few { length (next_in items.now) < 2 ^ 63 }
+    ensures { (n : ℕ) → IsGapAt gap n items.now.next
+        → IfSome result (λ count. count ≡ n) }
+{
+    if has_code(file) {
+        return None;
+    }
+    Some(gap_place(items, gap))
 }
 
 /// The entry, with a LF if it has no line end.

@@ -253,7 +253,7 @@ impl Leads {
 
     /// Notes that the row that is looked for, which stands there in the text, is put in at its place, behind so many items. There are no
     /// leads if keys have code points, or if there is no memory for the first.
-    pub fn note(&mut self, alloc: Global, search: &Search<'_>, count: usize, item: Stretch)
+    fn note_behind(&mut self, alloc: Global, search: &Search<'_>, count: usize, item: Stretch)
         ensures { (row : RowValue) (items : List FileItem) (added : FileItem)
             → IsSoughtRow search.now.file row search.now.text search.now
             → GivesRow search.now.file search.now.text item row
@@ -270,5 +270,24 @@ impl Leads {
         let mut leads = taken(alloc, &mut self.list);
         note_row(&mut leads, search, count, item);
         self.list = Some(leads);
+    }
+
+    /// Notes that the row that is looked for, which stands there in the text, is put in at its place. If it is told behind how many items
+    /// that is, leads are moved for it; otherwise all are dropped.
+    pub fn note(&mut self, alloc: Global, search: &Search<'_>, count: Option<usize>, item: Stretch)
+        ensures { (row : RowValue) (items : List FileItem) (added : FileItem)
+            → IsSoughtRow search.now.file row search.now.text search.now
+            → GivesRow search.now.file search.now.text item row
+            → added.row ≡ Some row
+            → IfSome count (λ count. count ≡ place_in search.now.file row items)
+            → place_in search.now.file row items ≤ length items
+            → KeepLeads search.now.file search.now.text items self.old
+            → KeepLeads search.now.file search.now.text
+            (put_in items (place_in search.now.file row items) added) self.new }
+    {
+        match count {
+            Some(count) => self.note_behind(alloc, search, count, item),
+            None => self.list = None,
+        }
     }
 }

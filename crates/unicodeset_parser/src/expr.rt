@@ -104,7 +104,7 @@ impl Parts {
     }
 
     /// Whether there are none.
-    pub fn is_empty(&self) -> bool
+    pub(crate) fn is_empty(&self) -> bool
         ensures { result ≡ true → parts_view self.now ≡ [] }
     {
         self.items.is_empty()
@@ -114,7 +114,7 @@ impl Parts {
     /// seldom be used again.
     ///
     /// - `Memory`: memory ran out.
-    pub fn fitted(self, alloc: Global) -> Result<Parts, Memory>
+    pub(crate) fn fitted(self, alloc: Global) -> Result<Parts, Memory>
         ensures { IfOk result (λ fitted. parts_view fitted ≡ parts_view self) }
     {
         let Parts { mut items } = self;

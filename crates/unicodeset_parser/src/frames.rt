@@ -14,10 +14,14 @@ use crate::property::negated_by;
 use crate::state::{Frame, Mode, Nest, State};
 use crate::stop::{SetRule, SetStop};
 use std::alloc::Global;
+use std::mem::replace;
 use ucd_points::{Memory, Span, Spans};
 
 /// How many bracket sets may stand around an open one. UTS #35 has no limit; this one is the project's.
 const AROUND: usize = 63;
+
+/// How many spans are copied rather than moved.
+const FEW: usize = 64;
 
 /// A bracket set without steps.
 pub(crate) fn fresh(alloc: Global, negated: bool, join: Join) -> Frame
@@ -31,12 +35,26 @@ pub(crate) fn fresh(alloc: Global, negated: bool, join: Join) -> Frame
     }
 }
 
+/// These spans, in no more room than they need. A few are copied, since the room of what is left is used again; more are taken out.
+///
+/// - `Memory`: memory ran out.
+fn taken(alloc: Global, letters: &mut Vec<Span>) -> Result<Spans, Memory>
+    ensures { IfOk result (λ spans. spans ≡ letters.old.items) }
+{
+    if letters.len() <= FEW {
+        return Spans::of(alloc, letters.as_slice());
+    }
+    let mut moved = replace(letters, Vec::new(alloc));
+    moved.shrink_to_fit();
+    Ok(Spans::from_vec(moved))
+}
+
 /// The steps, and behind them one for each of these spans. One part has them all, in no more room than they need.
 ///
 /// - `Memory`: memory ran out.
-fn with_letters(alloc: Global, parts: Parts, letters: &[Span]) -> Result<Parts, Memory>
+fn with_letters(alloc: Global, parts: Parts, letters: &mut Vec<Span>) -> Result<Parts, Memory>
     ensures { IfOk result
-        (λ all. parts_view all ≡ parts_view parts ++ map united letters.now) }
+        (λ all. parts_view all ≡ parts_view parts ++ map united letters.old.items) }
 {
     let mut all = parts;
     if letters.len() == 1 {
@@ -49,7 +67,7 @@ fn with_letters(alloc: Global, parts: Parts, letters: &[Span]) -> Result<Parts, 
         all.push(Part {
             join: Join::Union,
             negated: false,
-            part: Expr::Several(Spans::of(alloc, letters)?),
+            part: Expr::Several(taken(alloc, letters)?),
         })?;
     }
     Ok(all)
@@ -92,7 +110,7 @@ fn with_step(alloc: Global, join: Join, part: Expr, frame: Frame) -> Result<Fram
         parts,
         mut letters,
     } = frame;
-    let mut parts = with_letters(alloc, parts, letters.as_slice())?;
+    let mut parts = with_letters(alloc, parts, &mut letters)?;
     letters.clear();
     parts.push(one_step(join, part))?;
     Ok(Frame {
@@ -177,12 +195,12 @@ pub(crate) fn opened(
 /// The bracket set of these steps, and behind them one for each of these spans, in no more room than they need.
 ///
 /// - `Memory`: memory ran out.
-fn bracket_of(alloc: Global, parts: Parts, letters: &[Span]) -> Result<Expr, Memory>
+fn bracket_of(alloc: Global, parts: Parts, letters: &mut Vec<Span>) -> Result<Expr, Memory>
     ensures { IfOk result (λ expr. tree_view expr
-        ≡ bracket (steps_of (parts_view parts ++ map united letters.now))) }
+        ≡ bracket (steps_of (parts_view parts ++ map united letters.old.items))) }
 {
     if parts.is_empty() && !letters.is_empty() {
-        return Ok(Expr::Listed(Spans::of(alloc, letters)?));
+        return Ok(Expr::Listed(taken(alloc, letters)?));
     }
     let all = with_letters(alloc, parts, letters)?;
     Ok(Expr::Bracket(all.fitted(alloc)?))
@@ -198,9 +216,9 @@ pub(crate) fn closed(alloc: Global, nest: Nest) -> Result<State, SetStop>
         negated,
         join,
         parts,
-        letters,
+        mut letters,
     } = frame;
-    let expr = bracket_of(alloc, parts, letters.as_slice())?;
+    let expr = bracket_of(alloc, parts, &mut letters)?;
     let expr = negated_by(alloc, negated, expr)?;
     match around.pop() {
         Some(outer) => Ok(State::Within(

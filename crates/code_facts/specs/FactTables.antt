@@ -11,8 +11,7 @@
 use Rattle.std.specs.Prelude.{ℕ}
 use Rattle.ucd_facts.specs.Facts.{Facts}
 use Rattle.range_table.specs.declared.table.Table.{Ghosts}
-use Rattle.point_store.specs.Kept.{values}
-use Rattle.point_store.specs.Slots.{held_behind}
+use Rattle.point_store.specs.Kept.{held_count, values}
 use Rattle.code_facts.specs.KeptFacts.{all_kept}
 use Rattle.code_facts.specs.Rest.{RestOf}
 use Rattle.code_facts.specs.declared.fact_tables.FactTables.{FactTables}
@@ -37,4 +36,4 @@ abbrev pub tables_next : {T : Type 0} {d : Ghosts T ℕ} → (T → ℕ → ℕ)
 tables_next now t = facts_at Next t
 
 abbrev pub mappings_kept : {T : Type 0} {d : Ghosts T ℕ} → FactTables T d → ℕ
-mappings_kept t = held_behind t.rests.slots
+mappings_kept t = held_count t.rests

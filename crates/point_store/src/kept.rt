@@ -3,7 +3,7 @@
 ghost use Rattle.std.specs.Prelude.{◌≡◌, ◌≢◌, ℕ, ◌+◌, ◌%◌, ◌<◌, ◌≤◌, IfOk};
 ghost use Rattle.range_table.specs.Values.{SameValues};
 ghost use Rattle.point_store.specs.Copies.{Copies};
-ghost use Rattle.point_store.specs.Slots.{AreHeld, held_behind};
+ghost use Rattle.point_store.specs.Slots.{AreHeld};
 
 use crate::slots::Slots;
 use crate::store::Store;
@@ -99,9 +99,11 @@ impl<T: Table<u64>, V: Drop> Store<V> for Kept<T, V> {
 }
 
 impl<T: Table<u64>, V: Drop> Kept<T, V> {
+    ghost use Rattle.point_store.specs.Kept.{held_count};
+
     /// How many values are held beside the one that was given at first. It takes time in proportion to the places.
     pub fn count(&self) -> usize
-        ensures { result ≡ held_behind self.now.slots }
+        ensures { result ≡ held_count self.now }
     {
         self.slots.held_behind()
     }

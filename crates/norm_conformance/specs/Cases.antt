@@ -11,10 +11,12 @@
 -- cases_from part lines         what the lines hold, of which the first stands in this part
 -- cases_or_fault bytes          what the file holds: its first line stands in part 0
 -- onto before result            the cases behind those of `before`
+-- stop_fault stop               the fault that the stop tells; None if memory ran out
 -- CasesAs result expected       the cases, or the fault, are what was expected; no claim if memory ran out
 -- LineAs result n part old new said   line n was put to the cases before it: `result` is the part of the lines behind it, or the rule
 --                               that the line breaks; no claim if memory ran out
-use Rattle.std.specs.Prelude.{◌≡◌, ℕ, ◌+◌, false, ◌||◌, List, [], ◌∷◌, ◌++◌, Result, Ok, Err, ◌==◌, ⊤}
+use Rattle.std.specs.Prelude.{◌≡◌, ℕ, ◌+◌, false, ◌||◌, List, [], ◌∷◌, ◌++◌, Result, Ok, Err, ◌==◌, ⊤, Option, Some, None}
+use Rattle.ucd_points.specs.Answers.{AnswersBy}
 use Rattle.ucd_points.specs.Lines.{LineItem, items_of}
 use Rattle.norm_conformance.specs.Lines.{said}
 use Rattle.norm_conformance.specs.declared.case.Case.{Case}
@@ -73,10 +75,12 @@ abbrev pub onto : Cases → Result Cases CaseFault → Result Cases CaseFault
 onto before (Ok cases) = Ok (record { list = before.list ++ cases.list; part_one = before.part_one || cases.part_one })
 onto before (Err fault) = Err fault
 
+abbrev pub stop_fault : CaseStop → Option CaseFault
+stop_fault (Fault line rule) = Some (record { line = line; rule = rule })
+stop_fault Memory = None
+
 abbrev pub CasesAs : Result Cases CaseStop → Result Cases CaseFault → Type 0
-CasesAs (Ok cases) expected = expected ≡ Ok cases
-CasesAs (Err (Fault line rule)) expected = expected ≡ Err (record { line = line; rule = rule })
-CasesAs (Err Memory) expected = ⊤
+CasesAs result expected = AnswersBy (λ cases. cases) stop_fault result expected
 
 abbrev pub LineAs : Result ℕ CaseStop → ℕ → ℕ → Cases → Cases → Result Line CaseRule → Type 0
 LineAs (Ok next) n part old new said = (rest : ℕ → Result Cases CaseFault) → onto old (with_line n part said rest) ≡ onto new (rest next)

@@ -8,10 +8,11 @@
 --                          folding rounds ask
 -- plain_asked              a point that is shown to have no mapping asks Row(c) and Second(c) alone
 -- asked_is                 of a point that has its record, Row(c), Second(c) and what is put beside these are what is asked
-use Rattle.std.proofs.Common.{◌≡◌, ℕ, Bool, true, false, cond, ◌&&◌, not, ◌==◌, List, [], ◌∷◌, ◌++◌, append_assoc, append-nil, length, Option, Some, None, is_some, Result, Ok, Err, if◌then◌else◌, refl, sym, ap, ◌∙◌, ◌+◌, ◌||◌}
+use Rattle.std.proofs.Common.{◌≡◌, ℕ, Bool, true, false, cond, ◌&&◌, not, ◌==◌, List, [], ◌∷◌, ◌++◌, append_assoc, append-nil, length, Option, Some, None, is_some, Result, if◌then◌else◌, refl, sym, ap, ◌∙◌, ◌+◌, ◌||◌}
 use Rattle.std.specs.Prelude.{⊤}
 use Rattle.std.specs.List.{flat_map, range_with_len}
 use Rattle.ucd_facts.specs.Composites.{is_canonical, first_has_class_zero}
+use Rattle.ucd_facts.specs.Expansion.{rule_of}
 use Rattle.ucd_facts.specs.Facts.{Facts}
 use Rattle.ucd_model.specs.FoldRounds.{rounds}
 use Rattle.ucd_model.specs.Records.{Record, kept_record}
@@ -23,7 +24,6 @@ use Rattle.ucd_facts.specs.declared.folding.Folding.{Folding}
 use Rattle.ucd_facts.specs.declared.folding.Folding.TheVariants.{Full, Simple}
 use Rattle.ucd_facts.specs.declared.form.Bad.{Bad as Rule}
 use Rattle.ucd_facts.specs.declared.form.FormStop.{FormStop}
-use Rattle.ucd_facts.specs.declared.form.FormStop.TheVariants.{Bad, Memory}
 use Rattle.ucd_facts.specs.declared.image.Image.{Image}
 use Rattle.ucd_facts.specs.declared.image.Image.TheVariants.{Same, To}
 use Rattle.ucd_facts.specs.declared.query.Query.{Query}
@@ -31,6 +31,7 @@ use Rattle.ucd_facts.specs.declared.query.Query.TheVariants.{Row, Second}
 use Rattle.std.proofs.lemmas.Bool.{true≢false, and_parts, eqb-true}
 use Rattle.std.proofs.lemmas.List.{nil_from_length}
 use Rattle.std.proofs.lemmas.List.Folds.{list_any-append}
+use Rattle.ucd_points.specs.Answers.{AnswersBy}
 use Rattle.ucd_model.specs.Forms.{nfkc}
 use Rattle.ucd_facts.specs.Answers.{same_query, is_asked}
 use Rattle.ucd_facts.specs.Shown.{shown_facts}
@@ -44,9 +45,7 @@ use Rattle.point_queries.specs.KnownForms.{puts_from, puts_are}
 use Rattle.point_queries.specs.declared.derivation.Derived.{Derived}
 
 abbrev pub DerivesAs : Result Derived FormStop → Result Record Rule → Type 0
-DerivesAs (Ok found) value = value ≡ Ok (kept_record found.value)
-DerivesAs (Err (Bad rule)) value = value ≡ Err rule
-DerivesAs (Err Memory) value = ⊤
+DerivesAs result value = AnswersBy (λ (found : Derived). kept_record found.value) rule_of result value
 
 abbrev pub is_same_image : Image → Bool
 is_same_image Same = true

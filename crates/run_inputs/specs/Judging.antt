@@ -1,5 +1,6 @@
 -- Judging what was read.
 --
+-- refusal_of stop                 the refusal that the stop tells; None if memory ran out
 -- JudgedAs view result expected   a result, seen by view, is what was expected; no claim if memory ran out
 -- ToldAs view result expected     the same of a result whose refusal is a line; no read failed
 -- GivesAs result expected         the bytes are those that were expected, or the refusal is
@@ -10,8 +11,9 @@
 -- Loads file expected old new     the file has the items that were expected, all other files and their number stay, and nothing is
 --                                 prepared where nothing was
 -- LoadsFile result expected file old new   so it is, or the refusal is the expected one; no claim if memory ran out
-use Rattle.std.specs.Prelude.{◌≡◌, ◌≢◌, ℕ, List, length, Result, Ok, Err, ⊤}
+use Rattle.std.specs.Prelude.{◌≡◌, ◌≢◌, ℕ, List, length, Result, Ok, Err, ⊤, Option, Some, None}
 use Rattle.std.specs.Borrow.{Bor}
+use Rattle.ucd_points.specs.Answers.{AnswersBy}
 use Rattle.ucd_points.specs.declared.files.SourceFile.{SourceFile}
 use Rattle.release_rows.specs.FileItems.{FileItem}
 use Rattle.release_rows.specs.Releases.{ReleaseItems, items_now}
@@ -30,10 +32,12 @@ use Rattle.run_inputs.specs.declared.refusal.FolderStop.{FolderStop}
 use Rattle.run_inputs.specs.declared.refusal.FolderStop.TheVariants.{Refused, Memory}
 use Rattle.run_inputs.specs.declared.refusal.ScriptRefusal.{ScriptRefusal}
 
+abbrev pub refusal_of : FolderStop → Option FolderRefusal
+refusal_of (Refused refusal) = Some refusal
+refusal_of Memory = None
+
 abbrev pub JudgedAs : {A B : Type 0} → (A → B) → Result A FolderStop → Result B FolderRefusal → Type 0
-JudgedAs view (Ok value) expected = expected ≡ Ok (view value)
-JudgedAs view (Err (Refused refusal)) expected = expected ≡ Err refusal
-JudgedAs view (Err Memory) expected = ⊤
+JudgedAs view result expected = AnswersBy view refusal_of result expected
 
 abbrev pub ToldAs : {A B : Type 0} → (A → B) → Result A Stop → Result B (List ℕ) → Type 0
 ToldAs view (Ok value) expected = expected ≡ Ok (view value)
@@ -42,8 +46,7 @@ ToldAs view (Err (told.ReadFailed line)) expected = ⊥
 ToldAs view (Err told.Memory) expected = ⊤
 
 abbrev pub GivesAs : Result (Bor (List ℕ)) FileRule → Result (List ℕ) FileRule → Type 0
-GivesAs (Ok bytes) expected = expected ≡ Ok bytes.now
-GivesAs (Err rule) expected = expected ≡ Err rule
+GivesAs result expected = AnswersBy (λ (bytes : Bor (List ℕ)). bytes.now) Some result expected
 
 abbrev pub FaultyBy : SourceFile → FolderStop → LoadStop → Type 0
 FaultyBy file (Refused refusal) (Fault line rule) = refusal ≡ FileLine file line rule

@@ -28,10 +28,12 @@
 -- closed result                the commands, or the fault; E2 where a group is open at the end
 -- script_from n bytes          the commands of a script whose first line has the number n, or its first fault
 -- script_or_fault bytes        the same of a script whose first line has the number 1
+-- stop_fault stop              the fault that the stop tells; None if memory ran out
 -- StepsAs result new expected  a result and what it leaves are what was expected; no claim if memory ran out
 -- OpAs result expected         an operation, or the fault, is what was expected; no claim if memory ran out
 -- CommandsAs result expected   the commands, or the fault, are what was expected; no claim if memory ran out
 use Rattle.std.specs.Prelude.{◌≡◌, ℕ, ◌+◌, Bool, false, ◌&&◌, List, [], ◌∷◌, ◌++◌, length, Option, Some, None, is_some, Result, Ok, Err, ◌==◌, if◌then◌else◌}
+use Rattle.ucd_points.specs.Answers.{AnswersBy}
 use Rattle.ucd_points.specs.Lines.{LineItem, items_of}
 use Rattle.ucd_points.specs.declared.files.SourceFile.{SourceFile}
 use Rattle.ucd_points.specs.declared.files.SourceFile.TheVariants.{UnicodeData}
@@ -213,17 +215,15 @@ abbrev pub StopsAs : ScriptStop → ScriptFault → Type 0
 StopsAs (Fault line rule) fault = fault ≡ record { line = line; rule = rule }
 StopsAs Memory fault = Unit {0}
 
+abbrev pub stop_fault : ScriptStop → Option ScriptFault
+stop_fault (Fault line rule) = Some (record { line = line; rule = rule })
+stop_fault Memory = None
+
 abbrev pub StepsAs : Result (Unit {0}) ScriptStop → Script → Result Script ScriptFault → Type 0
-StepsAs (Ok _) new expected = expected ≡ Ok new
-StepsAs (Err (Fault line rule)) new expected = expected ≡ Err (record { line = line; rule = rule })
-StepsAs (Err Memory) new expected = Unit {0}
+StepsAs result new expected = AnswersBy (λ _. new) stop_fault result expected
 
 abbrev pub OpAs : Result Op ScriptStop → Result Op ScriptFault → Type 0
-OpAs (Ok op) expected = expected ≡ Ok op
-OpAs (Err (Fault line rule)) expected = expected ≡ Err (record { line = line; rule = rule })
-OpAs (Err Memory) expected = Unit {0}
+OpAs result expected = AnswersBy (λ op. op) stop_fault result expected
 
 abbrev pub CommandsAs : Result (List Command) ScriptStop → Result (List Command) ScriptFault → Type 0
-CommandsAs (Ok commands) expected = expected ≡ Ok commands
-CommandsAs (Err (Fault line rule)) expected = expected ≡ Err (record { line = line; rule = rule })
-CommandsAs (Err Memory) expected = Unit {0}
+CommandsAs result expected = AnswersBy (λ commands. commands) stop_fault result expected

@@ -5,8 +5,10 @@
 -- first_line_of commands n    the line of the first of these commands; n where there are none
 -- misfit_line piece commands  where the piece does not fit its mark, the line that says so: the mark's, or where it has none that
 --                             of its first command
+-- stop_fault stop             the fault that the stop tells; None if memory ran out
 -- PieceCommandsAs result expected   the commands, or the fault, are what was expected; no claim if memory ran out
 use Rattle.std.specs.Prelude.{◌≡◌, ℕ, List, [], ◌∷◌, Option, Some, None, Result, Ok, Err, ⊤}
+use Rattle.ucd_points.specs.Answers.{AnswersBy}
 use Rattle.script_lines.specs.Scripts.{ScriptFault, script_from}
 use Rattle.script_lines.specs.declared.command.Command.{Command}
 use Rattle.script_pieces.specs.Pieces.{Mark, Piece}
@@ -37,7 +39,9 @@ misfit_by (Some mark) n = mark.line
 abbrev pub misfit_line : Piece → List Command → ℕ
 misfit_line piece commands = misfit_by piece.mark (first_line_of commands piece.first_line)
 
+abbrev pub stop_fault : PieceStop → Option PieceFault
+stop_fault (Fault line rule) = Some (record { line = line; rule = rule })
+stop_fault Memory = None
+
 abbrev pub PieceCommandsAs : Result (List Command) PieceStop → Result (List Command) PieceFault → Type 0
-PieceCommandsAs (Ok commands) expected = expected ≡ Ok commands
-PieceCommandsAs (Err (Fault line rule)) expected = expected ≡ Err (record { line = line; rule = rule })
-PieceCommandsAs (Err Memory) expected = ⊤
+PieceCommandsAs result expected = AnswersBy (λ commands. commands) stop_fault result expected

@@ -10,8 +10,10 @@
 -- parsed_answer files tree        the same of what a text is read as; the fault of the text where it is no set
 -- question_answer files text      what a question of this text is answered on these files: the members of its set as maximal ascending
 --                                 spans; or the fault of the text, and if it has none, the first name without meaning
+-- stop_fault stop                 the fault that the stop tells; None if memory ran out
 -- AskedAs result expected         the spans, or the rule and the place, are those that were expected; no claim if memory ran out
-use Rattle.std.specs.Prelude.{◌≡◌, ℕ, Bool, ◌&&◌, nat_lt, List, Result, Ok, Err, ⊤}
+use Rattle.std.specs.Prelude.{◌≡◌, ℕ, Bool, ◌&&◌, nat_lt, List, Result, Ok, Err, Option, Some, None}
+use Rattle.ucd_points.specs.Answers.{AnswersBy}
 use Rattle.ucd_points.specs.Bounds.{Bounds}
 use Rattle.ucd_points.specs.Limits.{point_count}
 use Rattle.ucd_facts.specs.Facts.{facts}
@@ -59,7 +61,9 @@ parsed_answer files (Err f) = Err (text_fault f)
 unfoldable pub question_answer : List (List FileItem) → List ℕ → Result (List Bounds) AskFault
 question_answer files text = parsed_answer files (parsed text)
 
+abbrev pub stop_fault : AskStop → Option AskFault
+stop_fault (Fault fault) = Some fault
+stop_fault Memory = None
+
 abbrev pub AskedAs : Result (List Bounds) AskStop → Result (List Bounds) AskFault → Type 0
-AskedAs (Ok spans) expected = expected ≡ Ok spans
-AskedAs (Err (Fault fault)) expected = expected ≡ Err fault
-AskedAs (Err Memory) expected = ⊤
+AskedAs result expected = AnswersBy (λ spans. spans) stop_fault result expected

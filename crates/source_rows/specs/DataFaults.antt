@@ -23,6 +23,7 @@
 use Rattle.std.specs.Prelude.{◌≡◌, ℕ, Bool, true, false, ◌&&◌, List, [], ◌∷◌, length, ◌++◌, Option, Some, None, Result, Ok, Err, ◌==◌, nat_le, if◌then◌else◌, codes}
 use Rattle.std.specs.List.{before_first, after_first}
 use Rattle.std.specs.Str.{bytes_eq}
+use Rattle.ucd_points.specs.Answers.{AnswersBy}
 use Rattle.ucd_points.specs.Bounds.{Bounds}
 use Rattle.ucd_facts.specs.Names.{category_of, tag_of}
 use Rattle.ucd_points.specs.Fields.{field, point_of, is_name, is_range_name, label_of, class_of, case_of}
@@ -113,5 +114,4 @@ pair_or_fault first last =
 -- ---- results
 
 abbrev pub DataTextAs : Result DataText RowFault → Result Row RowFault → Type 0
-DataTextAs (Ok text) expected = expected ≡ Ok (DataLine (text_row text))
-DataTextAs (Err fault) expected = expected ≡ Err fault
+DataTextAs result expected = AnswersBy (λ text. DataLine (text_row text)) Some result expected

@@ -6,9 +6,11 @@
 --                                  behind, and in every other file
 -- row_or_fault file bytes          of the bytes; bytes with a LF have G03, but for two lines of UnicodeData.txt of which the
 --                                  first one is that of a range. One CR before that LF is no part of the line
+-- fault_of stop                    the fault that the stop tells; None if memory ran out
 -- ReadsAs result expected          a result is what was expected; no claim if memory ran out
-use Rattle.std.specs.Prelude.{◌≡◌, ℕ, List, Result, Ok, Err, if◌then◌else◌}
+use Rattle.std.specs.Prelude.{ℕ, List, Result, Ok, Err, if◌then◌else◌, Option, Some, None}
 use Rattle.std.specs.List.{before_first, after_first}
+use Rattle.ucd_points.specs.Answers.{AnswersBy}
 use Rattle.ucd_points.specs.Lines.{is_lf, holds_line_feed, without_return}
 use Rattle.ucd_points.specs.Fields.{fields}
 use Rattle.ucd_points.specs.MissingLines.{is_missing}
@@ -46,7 +48,9 @@ lines_or_fault _ front last = Err G03
 unfoldable pub row_or_fault : SourceFile → List ℕ → Result Row RowFault
 row_or_fault file bytes = if holds_line_feed bytes then lines_or_fault file (before_first is_lf bytes) (after_first is_lf bytes) else line_or_fault file bytes
 
+abbrev pub fault_of : RowStop → Option RowFault
+fault_of (Fault fault) = Some fault
+fault_of Memory = None
+
 abbrev pub ReadsAs : Result Row RowStop → Result Row RowFault → Type 0
-ReadsAs (Ok row) expected = expected ≡ Ok row
-ReadsAs (Err (Fault fault)) expected = expected ≡ Err fault
-ReadsAs (Err Memory) expected = Unit {0}
+ReadsAs result expected = AnswersBy (λ row. row) fault_of result expected

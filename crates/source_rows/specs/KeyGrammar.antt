@@ -20,6 +20,7 @@
 -- KeysAreRead                   a key is given exactly where the text stands for that key
 use Rattle.std.specs.Prelude.{◌≡◌, ◌↔◌, ℕ, ◌≤◌, Bool, true, false, List, [], ◌∷◌, length, Some, None, Result, Ok, Err, ◌==◌, nat_le, if◌then◌else◌}
 use Rattle.std.specs.List.{list_all}
+use Rattle.ucd_points.specs.Answers.{AnswersBy}
 use Rattle.ucd_points.specs.Lines.{holds_line_feed}
 use Rattle.ucd_points.specs.Bounds.{Bounds}
 use Rattle.ucd_points.specs.Fields.{fields, field, point_of, SpellsSpan, span_of, is_name}
@@ -30,13 +31,13 @@ use Rattle.ucd_facts.specs.OtherLines.{is_name_or_empty}
 use Rattle.ucd_points.specs.declared.files.SourceFile.{SourceFile}
 use Rattle.ucd_points.specs.declared.files.SourceFile.TheVariants.{UnicodeData, PropList, Scripts, WordBreakProperty, CompositionExclusions, CaseFolding, SpecialCasing, PropertyAliases, PropertyValueAliases}
 use Rattle.ucd_facts.specs.declared.row.FoldStatus.{FoldStatus}
+use Rattle.source_rows.specs.Faults.{fault_of}
 use Rattle.source_rows.specs.Keys.{condition_names, missing_names}
 use Rattle.source_rows.specs.OtherFaults.{names_of}
 use Rattle.source_rows.specs.Steps.{or_fault}
 use Rattle.source_rows.specs.declared.fault.RowFault.{RowFault}
 use Rattle.source_rows.specs.declared.fault.RowFault.TheVariants.{G03, G04, G08, G11}
 use Rattle.source_rows.specs.declared.fault.RowStop.{RowStop}
-use Rattle.source_rows.specs.declared.fault.RowStop.TheVariants.{Fault, Memory}
 use Rattle.source_rows.specs.declared.key.Key.{Key}
 
 -- ---- which texts stand for which keys
@@ -157,9 +158,7 @@ unfoldable pub key_or_fault : SourceFile → List ℕ → Result Key RowFault
 key_or_fault file bytes = if holds_line_feed bytes then Err G03 else key_line_or_fault file bytes
 
 abbrev pub ReadsKeyAs : Result Key RowStop → Result Key RowFault → Type 0
-ReadsKeyAs (Ok key) expected = expected ≡ Ok key
-ReadsKeyAs (Err (Fault fault)) expected = expected ≡ Err fault
-ReadsKeyAs (Err Memory) expected = Unit {0}
+ReadsKeyAs result expected = AnswersBy (λ key. key) fault_of result expected
 
 abbrev pub KeysAreRead : Type 0
 KeysAreRead = (file : SourceFile) (bytes : List ℕ) (key : Key) → (key_or_fault file bytes ≡ Ok key) ↔ ReadsKey file bytes key

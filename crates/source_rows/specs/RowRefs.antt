@@ -8,7 +8,8 @@
 -- ValuedAs result expected   the row that stands there, or the fault, is what was expected, of a file that gives values
 -- RefAs result expected      the row that stands there, or the fault, is what was expected
 -- NamesAs result expected    the names, or the fault, are what was expected, of a line of names
-use Rattle.std.specs.Prelude.{◌≡◌, ℕ, Bool, true, false, List, Result, Ok, Err}
+use Rattle.std.specs.Prelude.{ℕ, Bool, true, false, List, Result, Some}
+use Rattle.ucd_points.specs.Answers.{AnswersBy}
 use Rattle.ucd_points.specs.declared.files.SourceFile.{SourceFile}
 use Rattle.ucd_points.specs.declared.files.SourceFile.TheVariants.{PropList, Scripts, WordBreakProperty}
 use Rattle.ucd_facts.specs.declared.row.CasingRow.{CasingRow}
@@ -55,17 +56,13 @@ has_values WordBreakProperty = true
 has_values _ = false
 
 abbrev pub ValueAs : Result ValueText RowFault → Result ValueRow RowFault → Type 0
-ValueAs (Ok text) expected = expected ≡ Ok (value_in text)
-ValueAs (Err fault) expected = expected ≡ Err fault
+ValueAs result expected = AnswersBy value_in Some result expected
 
 abbrev pub RefAs : Result RowRef RowFault → Result Row RowFault → Type 0
-RefAs (Ok row) expected = expected ≡ Ok (row_in row)
-RefAs (Err fault) expected = expected ≡ Err fault
+RefAs result expected = AnswersBy row_in Some result expected
 
 abbrev pub ValuedAs : Result Valued RowFault → Result Row RowFault → Type 0
-ValuedAs (Ok row) expected = expected ≡ Ok (valued_in row)
-ValuedAs (Err fault) expected = expected ≡ Err fault
+ValuedAs result expected = AnswersBy valued_in Some result expected
 
 abbrev pub NamesAs : Result (List (List ℕ)) RowFault → Result Row RowFault → Type 0
-NamesAs (Ok names) expected = expected ≡ Ok (AliasLine (record { names = names }))
-NamesAs (Err fault) expected = expected ≡ Err fault
+NamesAs result expected = AnswersBy (λ names. AliasLine (record { names = names })) Some result expected

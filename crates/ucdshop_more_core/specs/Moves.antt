@@ -30,13 +30,14 @@ use Rattle.std.specs.Prelude.{◌≡◌, ℕ, Bool, List, [], ◌∷◌, ◌++�
 use Rattle.std.specs.List.{flat_map, list_all}
 use Rattle.std.specs.Option.{option_map}
 use Rattle.std.specs.Str.{bytes_eq}
+use Rattle.ucd_points.specs.Answers.{AnswersBy}
 use Rattle.release_rows.specs.declared.operation.Op.{Op}
 use Rattle.run_inputs.specs.Printed.{file_rule_code, refused}
 use Rattle.run_inputs.specs.Verdict.{and_then, second_verdict}
 use Rattle.run_inputs.specs.declared.refusal.FileRule.{FileRule}
 use Rattle.script_lines.specs.declared.command.Command.{Command}
 use Rattle.script_pieces.specs.Pieces.{Mark, Piece, pieces}
-use Rattle.script_pieces.specs.Scripts.{PieceFault, misfit_line, piece_script}
+use Rattle.script_pieces.specs.Scripts.{PieceFault, misfit_line, piece_script, stop_fault}
 use Rattle.script_pieces.specs.declared.stop.PieceRule.TheVariants.{E7}
 use Rattle.script_pieces.specs.declared.stop.PieceStop.{PieceStop}
 use Rattle.script_pieces.specs.declared.stop.PieceStop.TheVariants.{Fault, Memory}
@@ -116,9 +117,7 @@ abbrev pub all_moves : List Section → List Move
 all_moves sections = flat_map section_moves sections
 
 abbrev pub SectionAs : Result Section PieceStop → Result (List Move) PieceFault → Type 0
-SectionAs (Ok section) expected = expected ≡ Ok (section_moves section)
-SectionAs (Err (Fault line rule)) expected = expected ≡ Err (record { line = line; rule = rule })
-SectionAs (Err Memory) expected = ⊤
+SectionAs result expected = AnswersBy section_moves stop_fault result expected
 
 abbrev pub onto : List Move → Result (List Move) PieceFault → Result (List Move) PieceFault
 onto moves (Ok later) = Ok (moves ++ later)
@@ -130,6 +129,4 @@ PutAs (Err (Fault line rule)) old new moves = moves ≡ Err (record { line = lin
 PutAs (Err Memory) old new moves = ⊤
 
 abbrev pub SectionsAs : Result (List Section) PieceStop → Result (List Move) PieceFault → Type 0
-SectionsAs (Ok sections) expected = expected ≡ Ok (all_moves sections)
-SectionsAs (Err (Fault line rule)) expected = expected ≡ Err (record { line = line; rule = rule })
-SectionsAs (Err Memory) expected = ⊤
+SectionsAs result expected = AnswersBy all_moves stop_fault result expected

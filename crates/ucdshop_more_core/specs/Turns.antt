@@ -23,6 +23,7 @@
 -- TurnsAs result expected    the same of all requests
 use Rattle.std.specs.Prelude.{◌≡◌, ℕ, List, [], ◌∷◌, ◌++◌, map, Option, Some, None, Result, Ok, Err, if◌then◌else◌, codes, ⊤}
 use Rattle.std.specs.Option.{option_map}
+use Rattle.ucd_points.specs.Answers.{AnswersBy}
 use Rattle.bench_editors.specs.declared.event.Event.{Event}
 use Rattle.run_inputs.specs.Printed.{file_rule_code, refused}
 use Rattle.run_inputs.specs.Refusals.{script_rule_code}
@@ -30,7 +31,7 @@ use Rattle.run_inputs.specs.Verdict.{and_then, second_verdict}
 use Rattle.run_inputs.specs.declared.refusal.FileRule.{FileRule}
 use Rattle.script_lines.specs.declared.command.Command.{Command}
 use Rattle.script_pieces.specs.Pieces.{Mark, Piece, pieces}
-use Rattle.script_pieces.specs.Scripts.{PieceFault, misfit_line, piece_script}
+use Rattle.script_pieces.specs.Scripts.{PieceFault, misfit_line, piece_script, stop_fault}
 use Rattle.script_pieces.specs.declared.stop.PieceRule.{PieceRule}
 use Rattle.script_pieces.specs.declared.stop.PieceRule.TheVariants.{E7, Script}
 use Rattle.script_pieces.specs.declared.stop.PieceStop.{PieceStop}
@@ -108,14 +109,10 @@ abbrev pub request_turns : List Request → List Turn
 request_turns requests = map request_turn requests
 
 abbrev pub TurnAs : Result (Option Request) PieceStop → Result (Option Turn) PieceFault → Type 0
-TurnAs (Ok request) expected = expected ≡ Ok (option_map request_turn request)
-TurnAs (Err (Fault line rule)) expected = expected ≡ Err (record { line = line; rule = rule })
-TurnAs (Err Memory) expected = ⊤
+TurnAs result expected = AnswersBy (option_map request_turn) stop_fault result expected
 
 abbrev pub MarkedAs : Result Request PieceStop → Result (Option Turn) PieceFault → Type 0
-MarkedAs (Ok request) expected = expected ≡ Ok (Some (request_turn request))
-MarkedAs (Err (Fault line rule)) expected = expected ≡ Err (record { line = line; rule = rule })
-MarkedAs (Err Memory) expected = ⊤
+MarkedAs result expected = AnswersBy (λ request. Some (request_turn request)) stop_fault result expected
 
 abbrev pub onto : List Turn → Result (List Turn) PieceFault → Result (List Turn) PieceFault
 onto turns (Ok later) = Ok (turns ++ later)
@@ -127,6 +124,4 @@ PutAs (Err (Fault line rule)) old new turn = turn ≡ Err (record { line = line;
 PutAs (Err Memory) old new turn = ⊤
 
 abbrev pub TurnsAs : Result (List Request) PieceStop → Result (List Turn) PieceFault → Type 0
-TurnsAs (Ok requests) expected = expected ≡ Ok (request_turns requests)
-TurnsAs (Err (Fault line rule)) expected = expected ≡ Err (record { line = line; rule = rule })
-TurnsAs (Err Memory) expected = ⊤
+TurnsAs result expected = AnswersBy request_turns stop_fault result expected

@@ -2,10 +2,12 @@
 --
 -- parsed text                 what the tokens of the text give; S1 where it is not UTF-8, at the end of its longest front that is
 -- stop_of f                   the fault, as the code answers it
+-- stop_fault stop             the fault that the stop tells; None if memory ran out
 -- Gives view result wanted    the result shows what is wanted: the value, or the fault with its rule and place. If memory ran out, nothing is claimed
-use Rattle.std.specs.Prelude.{◌≡◌, ℕ, List, length, Result, Ok, Err, if◌then◌else◌}
+use Rattle.std.specs.Prelude.{ℕ, List, length, Result, Err, if◌then◌else◌, Option, Some, None}
 use Rattle.std.specs.Str.{is_utf8}
 use Rattle.std.specs.Str.Lossy.{utf8_valid_len}
+use Rattle.ucd_points.specs.Answers.{AnswersBy}
 use Rattle.unicodeset_parser.specs.Trees.{Tree}
 use Rattle.unicodeset_parser.specs.Lexing.{tokens}
 use Rattle.unicodeset_parser.specs.Machine.{Fault, fault, before, run}
@@ -19,10 +21,9 @@ parsed text = if is_utf8 text then run (length text) before (tokens 0 0 text) el
 abbrev pub stop_of : Fault → SetStop
 stop_of f = Stopped f.rule f.at
 
-abbrev pub Stops : {T : Type 0} → SetStop → Result T Fault → Type 0
-Stops (Stopped rule at) wanted = wanted ≡ Err (fault rule at)
-Stops Memory wanted = Unit
+abbrev pub stop_fault : SetStop → Option Fault
+stop_fault (Stopped rule at) = Some (fault rule at)
+stop_fault Memory = None
 
 abbrev pub Gives : {X T : Type 0} → (X → T) → Result X SetStop → Result T Fault → Type 0
-Gives view (Ok x) wanted = wanted ≡ Ok (view x)
-Gives view (Err stop) wanted = Stops stop wanted
+Gives view result wanted = AnswersBy view stop_fault result wanted

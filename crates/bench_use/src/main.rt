@@ -14,7 +14,7 @@
 
 ghost use Rattle.std.specs.Prelude.{◌≡◌, IfOk};
 ghost use Rattle.std.specs.List.{All};
-ghost use Rattle.script_lines.specs.Groups.{AreReady, IsReady};
+ghost use Rattle.script_lines.specs.Groups.{AreWellFormed, IsWellFormed};
 
 use anyhow::{Error, Result, anyhow, bail};
 use bstr::ByteSlice;
@@ -96,7 +96,7 @@ fn told(stop: Stop) -> Error {
 /// carried out. The prover computes that it is not longer than a file may be.
 #[tactic(auto, unfolding(ucd_points::specs::Limits::file_limit))]
 fn script(alloc: Global) -> Result<Commands, ScriptStop>
-    ensures { IfOk result (All IsReady) }
+    ensures { IfOk result (All IsWellFormed) }
 {
     groups_are_ready();
     commands(alloc, SCRIPT)
@@ -110,7 +110,7 @@ fn carry_out<L: Ledger>(
     commands: &[Command],
     steps: &mut Steps<L>,
 ) -> Result<()>
-    requires { All IsReady commands.now }
+    requires { All IsWellFormed commands.now }
 {
     for command in commands {
         match &command.what {
@@ -130,7 +130,7 @@ fn edit<L: Ledger>(
     ops: &[Op],
     steps: &mut Steps<L>,
 ) -> Result<()>
-    requires { AreReady ops.now }
+    requires { AreWellFormed ops.now }
 {
     match bench.apply(alloc, ops, steps) {
         Ok(accepted) => print_changed(rt, accepted.changed.as_slice()),

@@ -11,7 +11,7 @@
 use Rattle.std.specs.Prelude.{ℕ}
 use Rattle.ucd_facts.specs.Facts.{Facts}
 use Rattle.range_table.specs.declared.table.Table.{Ghosts}
-use Rattle.point_store.specs.Kept.{held_count, values}
+use Rattle.point_store.specs.SlotStore.{held_count, values}
 use Rattle.code_facts.specs.KeptFacts.{all_kept}
 use Rattle.code_facts.specs.Rest.{RestOf}
 use Rattle.code_facts.specs.declared.fact_tables.FactTables.{FactTables}

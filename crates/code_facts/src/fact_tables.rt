@@ -1,13 +1,13 @@
 //! The tables of facts, now and next.
 
-ghost use Rattle.point_store.specs.Kept.{values};
+ghost use Rattle.point_store.specs.SlotStore.{values};
 ghost use Rattle.code_facts.specs.Changes.{StaysOutside};
 ghost use Rattle.code_facts.specs.Index.{Lists};
 ghost use Rattle.code_facts.specs.KeptFacts.{all_kept, Packs};
 
 use crate::pair_index::PairIndex;
 use crate::rest::Rest;
-use point_store::Kept;
+use point_store::SlotStore;
 use range_table::Table;
 use ucd_facts::Spans;
 
@@ -20,7 +20,7 @@ pub struct FactTables<T: Table<u64>> {
     // the packed words
     pub(crate) words: T,
     // what is kept beside them
-    pub(crate) rests: Kept<T, Rest>,
+    pub(crate) rests: SlotStore<T, Rest>,
     // the code points whose word now or next lets them compose the two members of their mapping; others may be in it too
     pub(crate) index: PairIndex,
     // the code points outside of which next is now

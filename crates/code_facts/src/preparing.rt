@@ -25,7 +25,7 @@ use crate::rest::Rest;
 use crate::row_lists::RowLists;
 use crate::row_tables::RowTables;
 use crate::word::NO_ROW;
-use point_store::{Kept, Store};
+use point_store::{SlotStore, Store};
 use range_table::Table;
 use release_rows::{Release, rows_meet};
 use std::alloc::Global;
@@ -62,7 +62,7 @@ impl<T: Table<u64>> FactTables<T> {
             → tables_next T.now tables c ≡ made_facts made.now c) }
     {
         let mut words = T::filled(alloc, NO_ROW)?;
-        let mut rests = Kept::filled(alloc, Rest::none())?;
+        let mut rests = SlotStore::filled(alloc, Rest::none())?;
         let index = fill(alloc, &mut words, &mut rests, made)?;
         Ok(FactTables {
             words,

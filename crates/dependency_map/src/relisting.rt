@@ -2,12 +2,12 @@
 
 ghost use Rattle.std.specs.Prelude.{◌≡◌, ℕ, ◌+◌, ◌<◌, ◌≤◌, true, None, IfOk, IfSome, IsTrue, OnOk};
 ghost use Rattle.number_sets.specs.Keys.{is_in};
-ghost use Rattle.point_store.specs.Kept.{values};
+ghost use Rattle.point_store.specs.SlotStore.{values};
 ghost use Rattle.ucd_facts.specs.declared.query.Query.{Query as Question};
 ghost use Rattle.dependency_map.specs.Index.{keeps, kept_at, may_ask, Lists, ListsFrom};
 
 use crate::asker_index::push_keys;
-use point_store::{Kept, Store};
+use point_store::{SlotStore, Store};
 use range_table::Stretches;
 use std::alloc::Global;
 use ucd_facts::{Memory, Point, Queries};
@@ -26,7 +26,7 @@ pub fn few_beside(keys: &[u64]) -> usize {
 /// - `Memory`: memory ran out.
 pub fn keys_of<T: Stretches<u64>>(
     alloc: Global,
-    lists: &Option<Kept<T, Option<Queries>>>,
+    lists: &Option<SlotStore<T, Option<Queries>>>,
 ) -> Result<Vec<u64>, Memory>
     ensures now { IfOk result (λ keys. Lists (is_in keys.items)
         (kept_at (values T.now) lists.now)) }
@@ -45,7 +45,7 @@ pub fn keys_of<T: Stretches<u64>>(
 /// - `Memory`: memory ran out.
 fn push_all<T: Stretches<u64>>(
     keys: &mut Vec<u64>,
-    lists: &Kept<T, Option<Queries>>,
+    lists: &SlotStore<T, Option<Queries>>,
 ) -> Result<(), Memory>
     ensures now { OnOk result (Lists (is_in keys.new.items) (values T.now lists.now)) }
     ensures next { OnOk result (Lists (is_in keys.new.items) (values T.next lists.now)) }
@@ -64,7 +64,7 @@ fn push_all<T: Stretches<u64>>(
 /// - `Memory`: memory ran out. The keys that were there stay.
 fn push_run<T: Stretches<u64>>(
     keys: &mut Vec<u64>,
-    lists: &Kept<T, Option<Queries>>,
+    lists: &SlotStore<T, Option<Queries>>,
     c: Point,
 ) -> Result<u32, Memory>
     ensures from { IfOk result (λ end. c < end) }
@@ -86,7 +86,7 @@ fn push_run<T: Stretches<u64>>(
 
 /// One past the last code point of a run from this one on for which nothing is kept; `None` if something is kept for
 /// this one.
-fn plain_end<T: Stretches<u64>>(lists: &Kept<T, Option<Queries>>, c: Point) -> Option<u32>
+fn plain_end<T: Stretches<u64>>(lists: &SlotStore<T, Option<Queries>>, c: Point) -> Option<u32>
     ensures from { IfSome result (λ end. c < end) }
     ensures now { IfSome result (λ end. (k : ℕ) → c ≤ k → k < end
         → values T.now lists.now k ≡ None) }
@@ -104,7 +104,7 @@ fn plain_end<T: Stretches<u64>>(lists: &Kept<T, Option<Queries>>, c: Point) -> O
 /// Puts the keys of a code point under what it asks, now and next, behind others.
 fn push_asked<T: Stretches<u64>>(
     keys: &mut Vec<u64>,
-    lists: &Kept<T, Option<Queries>>,
+    lists: &SlotStore<T, Option<Queries>>,
     c: Point,
 ) -> Result<(), Memory>
     ensures grows { (q : Question) (k : ℕ) → may_ask (is_in keys.old.items) q k ≡ true
@@ -135,7 +135,7 @@ fn push_list(keys: &mut Vec<u64>, c: Point, list: &Option<Queries>) -> Result<()
 }
 
 /// Whether what is kept for a code point next lies where it lies now.
-fn is_still<T: Stretches<u64>>(lists: &Kept<T, Option<Queries>>, c: Point) -> bool
+fn is_still<T: Stretches<u64>>(lists: &SlotStore<T, Option<Queries>>, c: Point) -> bool
     ensures { IsTrue result → values T.next lists.now c ≡ values T.now lists.now c }
 {
     lists.place(c) == lists.place_next(c)

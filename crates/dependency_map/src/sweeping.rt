@@ -1,17 +1,17 @@
 //! Questions of earlier states, which are let go.
 
 ghost use Rattle.dependency_map.specs.Maps.{asked_at};
-ghost use Rattle.point_store.specs.Kept.{values};
+ghost use Rattle.point_store.specs.SlotStore.{values};
 ghost use Rattle.range_table.specs.Values.{SameValues};
 
 use crate::dependencies::DependencyMap;
 use crate::relisting::{few_beside, keys_of};
 use number_sets::KeySet;
-use point_store::Kept;
+use point_store::SlotStore;
 use range_table::Stretches;
 use ucd_facts::Queries;
 
-impl<T: Stretches<u64>> DependencyMap<Kept<T, Option<Queries>>> {
+impl<T: Stretches<u64>> DependencyMap<SlotStore<T, Option<Queries>>> {
     /// If many questions were prepared since this was done last, lets go of those that no code point asks any more, now
     /// or next, as far as there is memory to look for them. What is now and next stays.
     pub fn sweep(&mut self)

@@ -22,7 +22,7 @@ use Rattle.record_turns.specs.declared.again_stop.AgainStop.TheVariants.{Broken 
 use Rattle.release_rows.specs.FileItems.{FileItem}
 use Rattle.code_facts.specs.FactTables.{tables_facts, tables_next}
 use Rattle.dependency_map.specs.Maps.{asked_at}
-use Rattle.point_store.specs.Kept.{values}
+use Rattle.point_store.specs.SlotStore.{values}
 use Rattle.mention_index.specs.declared.mentions.Mentions.{Mentions}
 use Rattle.paged_table.specs.Paged.{values_next, values_now}
 use Rattle.edit_session.specs.Derivations.{AreOf, IsNext, IsNow, IsStill}

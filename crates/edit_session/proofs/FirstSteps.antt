@@ -16,8 +16,8 @@ use Rattle.ucd_points.specs.Stretches.{HoldsTo}
 use Rattle.identifier_closure.specs.UniformProofs.{uniform_derived}
 use Rattle.range_table.specs.Values.{SameValues, with_span}
 use Rattle.edit_session.specs.Benches.{NamesBroken}
-use Rattle.edit_session.specs.FirstRecords.{DerivedBelow, IsFound, IsRun, IsValidBelow, SameRecords}
-use Rattle.edit_session.specs.declared.first_points.Run.{Run}
+use Rattle.edit_session.specs.FirstRecords.{DerivedBelow, IsFound, IsRecordSpan, IsValidBelow, SameRecords}
+use Rattle.edit_session.specs.declared.first_points.RecordSpan.{RecordSpan}
 use Rattle.edit_session.specs.declared.open_stop.OpenStop.{OpenStop}
 use Rattle.edit_session.specs.declared.open_stop.OpenStop.TheVariants.{Invalid, Memory}
 
@@ -38,8 +38,8 @@ first_below R F here is same = λ c lt.
 
 -- ---- runs
 
-pub run_is : (F : ℕ → Facts) (c end : ℕ) (here : Record) (run : Run) → run.span ≡ record { lo = c; hi = end - 1 } → kept_record run.value ≡ here → c < end → end ≤ 1114112
-    → ((d : ℕ) → c ≤ d → d < end → derived F d ≡ Ok here) → IsRun F run
+pub run_is : (F : ℕ → Facts) (c end : ℕ) (here : Record) (run : RecordSpan) → run.span ≡ record { lo = c; hi = end - 1 } → kept_record run.value ≡ here → c < end → end ≤ 1114112
+    → ((d : ℕ) → c ≤ d → d < end → derived F d ≡ Ok here) → IsRecordSpan F run
 run_is F c end here run span record_is some inside same =
     let lo : run.span.lo ≡ c = ap (λ (s : Bounds). s.lo) span in
     let hi : run.span.hi ≡ end - 1 = ap (λ (s : Bounds). s.hi) span in
@@ -50,7 +50,7 @@ run_is F c end here run span record_is some inside same =
     }
 
 -- a run is put behind what is derived already
-pub run_put : (old new : ℕ → Record) (F : ℕ → Facts) (run : Run) → IsRun F run → DerivedBelow old run.span.lo F → SameValues new (with_span old run.span.lo run.span.hi (kept_record run.value)) → DerivedBelow new (run.span.hi + 1) F
+pub run_put : (old new : ℕ → Record) (F : ℕ → Facts) (run : RecordSpan) → IsRecordSpan F run → DerivedBelow old run.span.lo F → SameValues new (with_span old run.span.lo run.span.hi (kept_record run.value)) → DerivedBelow new (run.span.hi + 1) F
 run_put old new F run is holds put = λ c lt.
     let inside : run.span.hi < 1114112 = is.inside in
     elim (cases_lt c run.span.lo) [
@@ -65,7 +65,7 @@ run_put old new F run is holds put = λ c lt.
     within c past lt = grind (arith, nat_tests)
 
 -- no point up to the end of a run breaks a rule
-pub run_valid : (R : ℕ → Record) (F : ℕ → Facts) (run : Run) (end : ℕ) → IsRun F run → DerivedBelow R run.span.lo F → end ≡ run.span.hi + 1 → IsValidBelow F end
+pub run_valid : (R : ℕ → Record) (F : ℕ → Facts) (run : RecordSpan) (end : ℕ) → IsRecordSpan F run → DerivedBelow R run.span.lo F → end ≡ run.span.hi + 1 → IsValidBelow F end
 run_valid R F run end is holds past = λ c lt.
     elim (cases_lt c run.span.lo) [
       | inl less ↦ (R c, holds c less)
@@ -73,8 +73,8 @@ run_valid R F run end is holds past = λ c lt.
     ]
 
 -- two runs of one record are one
-pub run_joined : (F : ℕ → Facts) (run next left : Run) → IsRun F run → IsRun F next → next.span.lo ≡ run.span.hi + 1 → kept_record run.value ≡ kept_record next.value
-    → left.span.lo ≡ run.span.lo → left.span.hi ≡ next.span.hi → kept_record left.value ≡ kept_record run.value → IsRun F left
+pub run_joined : (F : ℕ → Facts) (run next left : RecordSpan) → IsRecordSpan F run → IsRecordSpan F next → next.span.lo ≡ run.span.hi + 1 → kept_record run.value ≡ kept_record next.value
+    → left.span.lo ≡ run.span.lo → left.span.hi ≡ next.span.hi → kept_record left.value ≡ kept_record run.value → IsRecordSpan F left
 run_joined F run next left is then follows same lo hi record_is =
     let low : run.span.lo ≤ run.span.hi = is.ordered in
     let high : next.span.lo ≤ next.span.hi = then.ordered in

@@ -12,7 +12,7 @@ use Rattle.ucd_model.specs.ValidityLaws.{IsValid}
 use Rattle.ucd_facts.specs.declared.query.Query.{Query}
 use Rattle.code_facts.specs.FactTables.{tables_facts, tables_next}
 use Rattle.dependency_map.specs.Maps.{asked_at}
-use Rattle.point_store.specs.Kept.{values}
+use Rattle.point_store.specs.SlotStore.{values}
 use Rattle.mention_index.specs.declared.mentions.Mentions.{Mentions}
 use Rattle.paged_table.specs.Paged.{values_next, values_now}
 use Rattle.range_table.specs.Values.{SameValues}

@@ -25,7 +25,7 @@ use Rattle.query_laws.specs.Questions.{asked}
 use Rattle.query_laws.specs.Turns.{SameQueries}
 use Rattle.dependency_map.specs.Askers.{own_queries}
 use Rattle.dependency_map.specs.Maps.{asked_at}
-use Rattle.point_store.specs.Kept.{values}
+use Rattle.point_store.specs.SlotStore.{values}
 use Rattle.mention_index.specs.Mentions.{is_walked, leads}
 use Rattle.mention_index.specs.Steps.{HasStepsTo, IsClosed, Leads}
 use Rattle.mention_index.specs.declared.mentions.Mentions.{Mentions}

@@ -11,7 +11,7 @@ ghost use Rattle.ucd_facts.specs.Predicates.{is_visible_format};
 ghost use Rattle.ucd_model.specs.Records.{derived, kept_record, record_at};
 ghost use Rattle.ucd_model.specs.ValidityLaws.{IsValid};
 ghost use Rattle.edit_session.specs.Benches.{NamesBroken};
-ghost use Rattle.edit_session.specs.FirstRecords.{DerivedBelow, IsFound, IsRun, IsValidBelow, SameRecords, StandsBehind};
+ghost use Rattle.edit_session.specs.FirstRecords.{DerivedBelow, IsFound, IsRecordSpan, IsValidBelow, SameRecords, StandsBehind};
 
 use crate::open_stop::OpenStop;
 use code_facts::FactTables;
@@ -24,7 +24,7 @@ use ucd_model::{FactView, FormStop, Memory, Point, Record, Span, Steps};
 
 /// Code points that stand together, and the record that each of them has.
 #[derive(Drop)]
-struct Run {
+struct RecordSpan {
     span: Span,
     value: Record,
 }
@@ -106,10 +106,10 @@ fn derive_run<L: Ledger>(
     tables: &FactTables<PagedTable>,
     c: Point,
     steps: &mut Steps<L>,
-) -> Result<Run, OpenStop>
+) -> Result<RecordSpan, OpenStop>
     requires { IsValidBelow (tables_facts values_now tables.now) c }
     ensures first { IfOk result (λ run. run.span.lo ≡ c) }
-    ensures run { IfOk result (IsRun (tables_facts values_now tables.now)) }
+    ensures run { IfOk result (IsRecordSpan (tables_facts values_now tables.now)) }
     ensures invalid { IfErr result (λ stop. NamesBroken stop (tables_facts values_now tables.now)) }
     ensures step { steps.new ≡ steps.old + 1 }
 {
@@ -117,7 +117,7 @@ fn derive_run<L: Ledger>(
     match derive_one(alloc, tables, c, steps) {
         Ok(value) => {
             let end = end_of_alike(tables, c);
-            Ok(Run {
+            Ok(RecordSpan {
                 span: span_up_to(c, end),
                 value,
             })
@@ -130,14 +130,18 @@ fn derive_run<L: Ledger>(
 /// answer is the second.
 ///
 /// - `Memory`: memory ran out. What is next stays.
-fn put_behind(table: &mut RecordTable, run: Run, next: Run) -> Result<Run, Memory>
+fn put_behind(
+    table: &mut RecordTable,
+    run: RecordSpan,
+    next: RecordSpan,
+) -> Result<RecordSpan, Memory>
     requires { next.span.lo ≡ run.span.hi + 1 }
-    ensures { IfOk result (λ left. (F : ℕ → Facts) → IsRun F run → IsRun F next
+    ensures { IfOk result (λ left. (F : ℕ → Facts) → IsRecordSpan F run → IsRecordSpan F next
         → DerivedBelow (record_next table.old) run.span.lo F
         → StandsBehind F (record_next table.new) left next.span.hi) }
 {
     if has_one_record(&run, &next) {
-        return Ok(Run {
+        return Ok(RecordSpan {
             span: joined(run.span, next.span),
             value: run.value,
         });
@@ -147,7 +151,7 @@ fn put_behind(table: &mut RecordTable, run: Run, next: Run) -> Result<Run, Memor
 }
 
 /// Whether two runs have one record.
-fn has_one_record(run: &Run, next: &Run) -> bool
+fn has_one_record(run: &RecordSpan, next: &RecordSpan) -> bool
     ensures { IsTrue result → kept_record run.now.value ≡ kept_record next.now.value }
 {
     run.value.is_same(&next.value)

@@ -3,7 +3,7 @@
 ghost use Rattle.std.specs.Prelude.{◌≡◌, ◌<◌, OnOk};
 ghost use Rattle.code_facts.specs.FactTables.{tables_facts};
 ghost use Rattle.dependency_map.specs.Maps.{asked_at};
-ghost use Rattle.point_store.specs.Kept.{values};
+ghost use Rattle.point_store.specs.SlotStore.{values};
 ghost use Rattle.paged_table.specs.Paged.{values_now, values_next};
 ghost use Rattle.ucd_model.specs.ValidityLaws.{HasRecord, IsValid};
 ghost use Rattle.edit_session.specs.Questions.{AreListed, IsListed};

@@ -4,7 +4,7 @@ ghost use Rattle.std.specs.Prelude.{◌≡◌, ℕ, [], true, Some, IfOk, OnOk};
 ghost use Rattle.ucd_facts.specs.Answers.{is_asked};
 ghost use Rattle.code_facts.specs.FactTables.{tables_facts};
 ghost use Rattle.dependency_map.specs.Maps.{asked_at};
-ghost use Rattle.point_store.specs.Kept.{values};
+ghost use Rattle.point_store.specs.SlotStore.{values};
 ghost use Rattle.mention_index.specs.Mentions.{is_walked, leads};
 ghost use Rattle.mention_index.specs.Reached.{about};
 ghost use Rattle.paged_table.specs.Paged.{values_now, values_next};
@@ -20,7 +20,7 @@ use code_facts::FactTables;
 use dependency_map::DependencyMap;
 use mention_index::Mentions;
 use paged_table::PagedTable;
-use point_store::Kept;
+use point_store::SlotStore;
 use std::alloc::Global;
 use std::mem::replace;
 use ucd_model::{Memory, Queries};
@@ -28,7 +28,7 @@ use ucd_model::{Memory, Queries};
 /// The questions of each code point, in a store over a paged table.
 pub type QuestionMap = DependencyMap<QuestionLists>;
 
-type QuestionLists = Kept<PagedTable, Option<Queries>>;
+type QuestionLists = SlotStore<PagedTable, Option<Queries>>;
 
 /// What code points ask, now and next, as far as it was needed: of the code points that a changed question led to. Before
 /// any question changes, it takes no room.

@@ -1,3 +1,3 @@
 pub mod Slots
-pub mod Kept
+pub mod SlotStore
 pub mod Copies

@@ -1,10 +1,10 @@
 //! A value of any type for each code point, over a table of places.
 #![tactic(auto)]
 
-mod kept;
+mod slot_store;
 mod slots;
 mod store;
 mod used;
 
-pub use kept::Kept;
+pub use slot_store::SlotStore;
 pub use store::Store;

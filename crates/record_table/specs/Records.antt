@@ -10,7 +10,7 @@ use Rattle.std.specs.Prelude.{ℕ, List, [], ◌∷◌}
 use Rattle.ucd_model.specs.Records.{Record, kept_record}
 use Rattle.ucd_model.specs.declared.records.Record.{Record as KeptRecord}
 use Rattle.range_table.specs.Values.{with_span}
-use Rattle.point_store.specs.Kept.{places, values}
+use Rattle.point_store.specs.SlotStore.{places, values}
 use Rattle.paged_table.specs.Paged.{values_next, values_now}
 use Rattle.record_table.specs.declared.table.RecordTable.{RecordTable}
 

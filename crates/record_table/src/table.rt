@@ -1,7 +1,7 @@
 //! The records of all code points, now and next.
 
 ghost use Rattle.std.specs.Prelude.{◌≡◌, ◌≢◌, ℕ, ◌+◌, ◌<◌, ◌≤◌, Some, length, IfOk, IfSome, OnErr, OnOk};
-ghost use Rattle.point_store.specs.Kept.{held};
+ghost use Rattle.point_store.specs.SlotStore.{held};
 ghost use Rattle.range_table.specs.Values.{SameValues, with_span};
 ghost use Rattle.ucd_model.specs.Records.{kept_record};
 ghost use Rattle.record_table.specs.Records.{place_next, place_now, record_next, record_now, written};
@@ -9,7 +9,7 @@ ghost use Rattle.record_table.specs.Records.{place_next, place_now, record_next,
 use crate::copy::copied_record;
 use crate::witnesses::{Witnesses, slot_of};
 use paged_table::PagedTable;
-use point_store::{Kept, Store};
+use point_store::{SlotStore, Store};
 use std::alloc::Global;
 use ucd_model::{Memory, Point, Record, Records, Span};
 
@@ -24,7 +24,7 @@ pub struct RecordTable {
     witnesses: Witnesses,
 }
 
-type HeldRecords = Kept<PagedTable, Record>;
+type HeldRecords = SlotStore<PagedTable, Record>;
 
 impl RecordTable {
     /// The table in which all code points have a record, now and next.

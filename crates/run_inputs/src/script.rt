@@ -3,7 +3,7 @@
 ghost use Rattle.std.specs.Prelude.{◌≡◌, IfOk};
 ghost use Rattle.std.specs.List.{All};
 ghost use Rattle.std.specs.Option.{option_map};
-ghost use Rattle.script_lines.specs.Groups.{IsReady};
+ghost use Rattle.script_lines.specs.Groups.{IsWellFormed};
 ghost use Rattle.run_inputs.specs.Judging.{TellsScript, ToldAs};
 ghost use Rattle.run_inputs.specs.Refusals.{script_told};
 
@@ -22,7 +22,7 @@ use std::alloc::Global;
 pub fn read_script(alloc: Global, path: &[u8], held: Option<&[u8]>) -> Result<Commands, Stop>
     ensures script { ToldAs (λ commands. commands) result
         (script_told path.now (option_map (λ bytes. bytes.now) held.entry)) }
-    ensures commands { IfOk result (All IsReady) }
+    ensures commands { IfOk result (All IsWellFormed) }
 {
     groups_are_ready();
     let bytes = match second_file(held) {

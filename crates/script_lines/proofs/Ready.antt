@@ -15,7 +15,7 @@ use Rattle.source_rows.specs.declared.fault.RowFault.{RowFault}
 use Rattle.source_rows.specs.declared.key.Key.{Key}
 use Rattle.release_rows.specs.Operations.{IsOp}
 use Rattle.release_rows.specs.declared.operation.Op.{Op}
-use Rattle.script_lines.specs.Groups.{AreReady, GroupsAreReady, IsReady}
+use Rattle.script_lines.specs.Groups.{AreWellFormed, GroupsAreWellFormed, IsWellFormed}
 use Rattle.script_lines.specs.Lines.{Said, nothing, begins, ends, asks, puts, withdraws, no_command, said}
 use Rattle.script_lines.specs.Scripts.{ScriptFault, ScriptPiece, row_text, row_op, row_op_by, key_op, key_op_by, begun_by, ended_by, asked_by, with_op_by, is_full, with_found, operated, step, step_by, steps, then_steps, closed, closed_by, empty_script, piece_lines, script_from, script_pieces}
 use Rattle.script_lines.specs.declared.command.Command.{Command}
@@ -39,37 +39,37 @@ key_ready n file (Err fault) = tt
 
 abbrev ReadyGroup : Option OpenGroup → Type 0
 ReadyGroup None = ⊤
-ReadyGroup (Some group) = AreReady group.ops
+ReadyGroup (Some group) = AreWellFormed group.ops
 
 record ReadyScript (script : Script) : Type 0 where
-  commands : All IsReady script.commands
+  commands : All IsWellFormed script.commands
   group : ReadyGroup script.group
 
-none_ready : AreReady []
+none_ready : AreWellFormed []
 none_ready = (All-nil IsOp, omega arith)
 
-begun_ready : (n : ℕ) (script : Script) (group : Option OpenGroup) → All IsReady script.commands → IfOk (begun_by n script group) ReadyScript
+begun_ready : (n : ℕ) (script : Script) (group : Option OpenGroup) → All IsWellFormed script.commands → IfOk (begun_by n script group) ReadyScript
 begun_ready n script (Some group) ready = tt
 begun_ready n script None ready = record { commands = ready; group = none_ready }
 
-ended_ready : (n : ℕ) (script : Script) (group : Option OpenGroup) → All IsReady script.commands → ReadyGroup group → IfOk (ended_by n script group) ReadyScript
-ended_ready n script (Some group) ready held = record { commands = All-push IsReady script.commands _ ready held; group = tt }
+ended_ready : (n : ℕ) (script : Script) (group : Option OpenGroup) → All IsWellFormed script.commands → ReadyGroup group → IfOk (ended_by n script group) ReadyScript
+ended_ready n script (Some group) ready held = record { commands = All-push IsWellFormed script.commands _ ready held; group = tt }
 ended_ready n script None ready held = tt
 
-asked_ready : (n : ℕ) (text : List ℕ) (script : Script) (group : Option OpenGroup) → All IsReady script.commands → IfOk (asked_by n text script group) ReadyScript
+asked_ready : (n : ℕ) (text : List ℕ) (script : Script) (group : Option OpenGroup) → All IsWellFormed script.commands → IfOk (asked_by n text script group) ReadyScript
 asked_ready n text script (Some group) ready = tt
-asked_ready n text script None ready = record { commands = All-push IsReady script.commands _ ready tt; group = tt }
+asked_ready n text script None ready = record { commands = All-push IsWellFormed script.commands _ ready tt; group = tt }
 
-one_ready : (op : Op) → IsOp op → AreReady (op ∷ [])
+one_ready : (op : Op) → IsOp op → AreWellFormed (op ∷ [])
 one_ready op ready = (All-push IsOp [] op (All-nil IsOp) ready, omega arith)
 
 pub few_more : (ops : List Op) (op : Op) → length ops ≤ 4096 → (length ops ≡ 4096 → ⊥) → length (ops ++ op ∷ []) ≤ 4096
 few_more ops op few other = let one = length_push ops op in omega (arith, one, few, other)
 
-put_ready : (n : ℕ) (op : Op) (script : Script) (group : Option OpenGroup) → All IsReady script.commands → ReadyGroup group → is_full group ≡ false → IsOp op → ReadyScript (with_op_by n op script group)
+put_ready : (n : ℕ) (op : Op) (script : Script) (group : Option OpenGroup) → All IsWellFormed script.commands → ReadyGroup group → is_full group ≡ false → IsOp op → ReadyScript (with_op_by n op script group)
 put_ready n op script (Some group) ready held room is_op =
     record { commands = ready; group = (All-push IsOp group.ops op held.0 is_op, few_more group.ops op held.1 (eqb-false (length group.ops) 4096 room)) }
-put_ready n op script None ready held room is_op = record { commands = All-push IsReady script.commands _ ready (one_ready op is_op); group = tt }
+put_ready n op script None ready held room is_op = record { commands = All-push IsWellFormed script.commands _ ready (one_ready op is_op); group = tt }
 
 -- ---- a step
 
@@ -104,14 +104,14 @@ steps_ready read ok n script (piece ∷ pieces) ready =
     then_ready (step n script piece) (λ next. steps (n + piece_lines piece) next pieces) (step_ready read ok n script piece.next (said piece.line) ready)
     (λ next more. steps_ready read ok (n + piece_lines piece) next pieces more)
 
-commands_ready : (commands : List Command) (group : Option OpenGroup) → All IsReady commands → IfOk (closed_by commands group) (All IsReady)
+commands_ready : (commands : List Command) (group : Option OpenGroup) → All IsWellFormed commands → IfOk (closed_by commands group) (All IsWellFormed)
 commands_ready commands (Some group) ready = tt
 commands_ready commands None ready = ready
 
-closed_ready : (found : Result Script ScriptFault) → IfOk found ReadyScript → IfOk (closed found) (All IsReady)
+closed_ready : (found : Result Script ScriptFault) → IfOk found ReadyScript → IfOk (closed found) (All IsWellFormed)
 closed_ready (Ok script) ready = commands_ready script.commands script.group ready.commands
 closed_ready (Err fault) ready = tt
 
-pub groups_are_ready : RowsAreRead → RowsAreOk → GroupsAreReady
+pub groups_are_ready : RowsAreRead → RowsAreOk → GroupsAreWellFormed
 unfolding script_from
-groups_are_ready read ok n bytes = closed_ready (steps n empty_script (script_pieces (items_of bytes))) (steps_ready read ok n empty_script (script_pieces (items_of bytes)) (record { commands = All-nil IsReady; group = tt }))
+groups_are_ready read ok n bytes = closed_ready (steps n empty_script (script_pieces (items_of bytes))) (steps_ready read ok n empty_script (script_pieces (items_of bytes)) (record { commands = All-nil IsWellFormed; group = tt }))

@@ -1,9 +1,9 @@
 -- The groups of a script can be carried out: each operation is one, and a group has at most 4,096.
 --
--- AreReady ops              each of the operations has a row that its file can have, and bytes that are read as it; and there are at
+-- AreWellFormed ops         each of the operations has a row that its file can have, and bytes that are read as it; and there are at
 --                           most 4,096
--- IsReady command           so are those of its group, if it is one; nothing is said of a question
--- GroupsAreReady            so are those of each command of a script without a fault
+-- IsWellFormed command      so are those of its group, if it is one; nothing is said of a question
+-- GroupsAreWellFormed       so are those of each command of a script without a fault
 use Rattle.std.specs.Prelude.{◌≤◌, List, length, ℕ, IfOk, ⊤}
 use Rattle.std.specs.List.{All}
 use Rattle.release_rows.specs.Operations.{IsOp}
@@ -13,15 +13,15 @@ use Rattle.script_lines.specs.declared.command.Command.{Command}
 use Rattle.script_lines.specs.declared.command.What.{What}
 use Rattle.script_lines.specs.declared.command.What.TheVariants.{Group, Question}
 
-abbrev pub AreReady : List Op → Type 0
-AreReady ops = All IsOp ops × (length ops ≤ 4096)
+abbrev pub AreWellFormed : List Op → Type 0
+AreWellFormed ops = All IsOp ops × (length ops ≤ 4096)
 
-abbrev ReadyWhat : What → Type 0
-ReadyWhat (Group ops) = AreReady ops
-ReadyWhat (Question text) = ⊤
+abbrev WellFormedWhat : What → Type 0
+WellFormedWhat (Group ops) = AreWellFormed ops
+WellFormedWhat (Question text) = ⊤
 
-abbrev pub IsReady : Command → Type 0
-IsReady command = ReadyWhat command.what
+abbrev pub IsWellFormed : Command → Type 0
+IsWellFormed command = WellFormedWhat command.what
 
-abbrev pub GroupsAreReady : Type 0
-GroupsAreReady = (n : ℕ) (bytes : List ℕ) → IfOk (script_from n bytes) (All IsReady)
+abbrev pub GroupsAreWellFormed : Type 0
+GroupsAreWellFormed = (n : ℕ) (bytes : List ℕ) → IfOk (script_from n bytes) (All IsWellFormed)

@@ -2,7 +2,7 @@
 
 ghost use Rattle.script_lines.specs.Faults.{FaultsAreFirst};
 ghost use Rattle.script_lines.specs.Grammar.{ScriptsAreRead};
-ghost use Rattle.script_lines.specs.Groups.{GroupsAreReady};
+ghost use Rattle.script_lines.specs.Groups.{GroupsAreWellFormed};
 
 use source_rows::{keys_are_read, rows_are_ok, rows_are_read};
 
@@ -24,7 +24,7 @@ pub fn faults_are_first()
 /// The groups of a script without a fault can be carried out: each operation has a row that its file can have, with
 /// bytes that are read as it, and a group has at most 4,096 operations.
 pub fn groups_are_ready()
-    ensures { GroupsAreReady }
+    ensures { GroupsAreWellFormed }
 {
     rows_are_read();
     rows_are_ok();

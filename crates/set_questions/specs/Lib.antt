@@ -1,3 +1,3 @@
-pub mod Kept
+pub mod QuestionCache
 pub mod KeptProofs
 pub mod UneditedProofs

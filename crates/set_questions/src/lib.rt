@@ -1,7 +1,7 @@
 //! What questions of sets are answered on the release of a bench.
 #![tactic(auto)]
 
-mod kept;
+mod question_cache;
 
-pub use kept::{Asking, Kept};
+pub use question_cache::{Asking, QuestionCache};
 pub use set_answers::{AskFault, AskRule, AskStop, put_answer, put_members, put_refusal};

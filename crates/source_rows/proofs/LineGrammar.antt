@@ -7,7 +7,7 @@ use Rattle.std.proofs.lemmas.Slice.Eq.{bytes_eq-Decides}
 use Rattle.ucd_points.specs.Bounds.{Bounds}
 use Rattle.ucd_points.specs.Fields.{field, point_of, is_name, is_range_name, label_of}
 use Rattle.ucd_facts.specs.DataLines.{ReadsValues, ReadsSingle, ReadsPair, kept_of}
-use Rattle.ucd_facts.specs.declared.row.Kept.{Kept}
+use Rattle.ucd_facts.specs.declared.row.OtherFields.{OtherFields}
 use Rattle.ucd_facts.specs.declared.row.DataRow.{DataRow}
 use Rattle.ucd_facts.specs.declared.row.Row.{Row}
 use Rattle.ucd_facts.specs.declared.row.Row.TheVariants.{Unit as DataLine}
@@ -71,7 +71,7 @@ single_read fs row h =
 unit_given : (fs : List (List ℕ)) (row : DataRow) (range : Bool) (name : List ℕ) (end : Result Bounds RowFault) → ReadsValues fs row → end ≡ Ok row.span → row.range ≡ range → row.name ≡ name → unit_or_fault fs range name end ≡ Ok (DataLine row)
 unfolding unit_or_fault
 unit_given fs row range name end r ended ranged named =
-    rw (values_given fs row r, ended, ← ranged, ← named) (ap (λ (k : Kept). Ok (DataLine (record { span = row.span; range = row.range; name = row.name; category = row.category; class = row.class; kind = row.kind; mapping = row.mapping; upper = row.upper; lower = row.lower; title = row.title; kept = k }))) (sym r.kept))
+    rw (values_given fs row r, ended, ← ranged, ← named) (ap (λ (k : OtherFields). Ok (DataLine (record { span = row.span; range = row.range; name = row.name; category = row.category; class = row.class; kind = row.kind; mapping = row.mapping; upper = row.upper; lower = row.lower; title = row.title; kept = k }))) (sym r.kept))
 
 pub single_given : (fs : List (List ℕ)) (row : DataRow) → ReadsSingle fs row → single_or_fault fs ≡ Ok (DataLine row)
 unfolding single_or_fault

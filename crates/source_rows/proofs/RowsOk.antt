@@ -13,7 +13,7 @@ use Rattle.ucd_facts.specs.RowTexts.{row_text}
 use Rattle.ucd_facts.specs.RowValues.{IsSpan, IsKept, IsTrimmed, IsValueName, SingleOk, NameOk, DataOk, ValueOk, ExclusionOk, FoldOk, CasingOk, IsAliasName, AliasOk, RowOk}
 use Rattle.ucd_points.specs.declared.files.SourceFile.{SourceFile}
 use Rattle.ucd_points.specs.declared.files.SourceFile.TheVariants.{UnicodeData, PropList, Scripts, WordBreakProperty, CompositionExclusions, CaseFolding, SpecialCasing, PropertyAliases, PropertyValueAliases}
-use Rattle.ucd_facts.specs.declared.row.Kept.{Kept}
+use Rattle.ucd_facts.specs.declared.row.OtherFields.{OtherFields}
 use Rattle.ucd_facts.specs.declared.row.DataRow.{DataRow}
 use Rattle.ucd_facts.specs.declared.row.ValueRow.{ValueRow}
 use Rattle.ucd_facts.specs.declared.row.ExclusionRow.{ExclusionRow}
@@ -49,13 +49,13 @@ data_ok text row h v span name = record {
   upper = case_ok (field (fields_of text) 12) row.upper v.upper;
   lower = case_ok (field (fields_of text) 13) row.lower v.lower;
   title = case_ok (field (fields_of text) 14) row.title v.title;
-  f4 = subst (λ (k : Kept). IsKept k.f4) (sym v.kept) (kept_field text 4 h);
-  f6 = subst (λ (k : Kept). IsKept k.f6) (sym v.kept) (kept_field text 6 h);
-  f7 = subst (λ (k : Kept). IsKept k.f7) (sym v.kept) (kept_field text 7 h);
-  f8 = subst (λ (k : Kept). IsKept k.f8) (sym v.kept) (kept_field text 8 h);
-  f9 = subst (λ (k : Kept). IsKept k.f9) (sym v.kept) (kept_field text 9 h);
-  f10 = subst (λ (k : Kept). IsKept k.f10) (sym v.kept) (kept_field text 10 h);
-  f11 = subst (λ (k : Kept). IsKept k.f11) (sym v.kept) (kept_field text 11 h);
+  f4 = subst (λ (k : OtherFields). IsKept k.f4) (sym v.kept) (kept_field text 4 h);
+  f6 = subst (λ (k : OtherFields). IsKept k.f6) (sym v.kept) (kept_field text 6 h);
+  f7 = subst (λ (k : OtherFields). IsKept k.f7) (sym v.kept) (kept_field text 7 h);
+  f8 = subst (λ (k : OtherFields). IsKept k.f8) (sym v.kept) (kept_field text 8 h);
+  f9 = subst (λ (k : OtherFields). IsKept k.f9) (sym v.kept) (kept_field text 9 h);
+  f10 = subst (λ (k : OtherFields). IsKept k.f10) (sym v.kept) (kept_field text 10 h);
+  f11 = subst (λ (k : OtherFields). IsKept k.f11) (sym v.kept) (kept_field text 11 h);
 }
 
 single_ok : (text : List ℕ) (row : DataRow) → Lacks is_lf text → ReadsSingle (fields_of text) row → DataOk row

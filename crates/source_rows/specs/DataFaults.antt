@@ -31,7 +31,7 @@ use Rattle.ucd_facts.specs.Mappings.{mapping_of}
 use Rattle.ucd_facts.specs.DataLines.{kept_of}
 use Rattle.ucd_facts.specs.declared.decomposition.Kind.TheVariants.{Plain, Canonical, Compat}
 use Rattle.ucd_facts.specs.declared.row.DataRow.{DataRow}
-use Rattle.ucd_facts.specs.declared.row.Kept.{Kept}
+use Rattle.ucd_facts.specs.declared.row.OtherFields.{OtherFields}
 use Rattle.ucd_facts.specs.declared.row.Row.{Row}
 use Rattle.ucd_facts.specs.declared.row.Row.TheVariants.{Unit as DataLine}
 use Rattle.source_rows.specs.Lines.{has_last_name, are_first_fields}
@@ -76,7 +76,7 @@ unit_of fs range name v span = DataLine (data_of fs range name v span)
 abbrev pub text_row : DataText → DataRow
 text_row t = data_of (fields_in t.line) t.range t.name.now t.values t.span
 
-abbrev pub with_kept : Kept → Kept → Kept
+abbrev pub with_kept : OtherFields → OtherFields → OtherFields
 with_kept old new = record { f4 = old.f4 ++ new.f4; f6 = old.f6 ++ new.f6; f7 = old.f7 ++ new.f7; f8 = old.f8 ++ new.f8; f9 = old.f9 ++ new.f9; f10 = old.f10 ++ new.f10; f11 = old.f11 ++ new.f11 }
 
 unfoldable pub unit_or_fault : List (List ℕ) → Bool → List ℕ → Result Bounds RowFault → Result Row RowFault

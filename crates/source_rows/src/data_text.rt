@@ -8,7 +8,7 @@ ghost use Rattle.source_rows.specs.DataFaults.{with_kept, text_row};
 use crate::data_values::Values;
 use crate::fifteen::DataFields;
 use std::alloc::Global;
-use ucd_facts::{DataRow, Kept, Memory, Span, Text};
+use ucd_facts::{DataRow, Memory, OtherFields, Span, Text};
 
 /// A row of UnicodeData.txt as it stands in its line, or in the two lines of a range. UAX #44, section 5.3, table 9.
 #[derive(Drop)]
@@ -50,10 +50,10 @@ pub fn data_row(alloc: Global, text: DataText<'_>) -> Result<DataRow, Memory>
 }
 
 /// Fields 4 and 6 to 11, as they stand.
-fn kept_of(alloc: Global, line: DataFields<'_>) -> Result<Kept, Memory>
+fn kept_of(alloc: Global, line: DataFields<'_>) -> Result<OtherFields, Memory>
     ensures { IfOk result (λ kept. kept ≡ kept_of (fields_in line.entry)) }
 {
-    let mut kept = Kept {
+    let mut kept = OtherFields {
         f4: Text::new(alloc),
         f6: Text::new(alloc),
         f7: Text::new(alloc),
@@ -67,7 +67,7 @@ fn kept_of(alloc: Global, line: DataFields<'_>) -> Result<Kept, Memory>
 }
 
 /// Puts fields 4 and 6 to 11 behind what is kept of each.
-fn put_kept(line: DataFields<'_>, kept: &mut Kept) -> Result<(), Memory>
+fn put_kept(line: DataFields<'_>, kept: &mut OtherFields) -> Result<(), Memory>
     ensures { OnOk result (kept.new ≡ with_kept kept.old (kept_of (fields_in line.entry))) }
 {
     kept.f4.append(line.f4)?;

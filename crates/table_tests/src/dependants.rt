@@ -4,7 +4,7 @@ ghost use Rattle.std.specs.Prelude.{◌<◌};
 
 use crate::plain::{Plain, drawn};
 use dependency_map::{Askers, DependencyMap, Listing};
-use point_store::{Kept, Store};
+use point_store::{SlotStore, Store};
 use range_table::{RunTable, Stretches};
 use std::alloc::Global;
 use std::process::Abort;
@@ -102,7 +102,7 @@ fn on_runs(rt: &impl Abort, alloc: Global, look: Look) -> Result<(), Memory> {
 }
 
 fn on_a_map<T: Stretches<u64>>(rt: &impl Abort, alloc: Global, look: Look) -> Result<(), Memory> {
-    let mut map = map_of::<Kept<T, Option<Queries>>>(alloc, look)?;
+    let mut map = map_of::<SlotStore<T, Option<Queries>>>(alloc, look)?;
     look_at(rt, alloc, &mut map, look)
 }
 
@@ -119,7 +119,7 @@ fn map_of<S: Store<Option<Queries>>>(
 fn look_at<T: Stretches<u64>>(
     rt: &impl Abort,
     alloc: Global,
-    map: &mut DependencyMap<Kept<T, Option<Queries>>>,
+    map: &mut DependencyMap<SlotStore<T, Option<Queries>>>,
     look: Look,
 ) -> Result<(), Memory> {
     match look {
@@ -138,7 +138,7 @@ fn askers_after_sweeps(rt: HostRuntime) -> Result<(), Memory> {
 fn sweep_letters<T: Stretches<u64>>(
     rt: &impl Abort,
     alloc: Global,
-    map: &mut DependencyMap<Kept<T, Option<Queries>>>,
+    map: &mut DependencyMap<SlotStore<T, Option<Queries>>>,
 ) -> Result<(), Memory> {
     put(alloc, map, acute())?;
     for round in 0..1_000 {
@@ -151,7 +151,7 @@ fn sweep_letters<T: Stretches<u64>>(
 /// A with grave gets this mark.
 fn sweep_letter<T: Stretches<u64>>(
     alloc: Global,
-    map: &mut DependencyMap<Kept<T, Option<Queries>>>,
+    map: &mut DependencyMap<SlotStore<T, Option<Queries>>>,
     mark: u32,
 ) -> Result<(), Memory>
     requires { mark < 1114112 }

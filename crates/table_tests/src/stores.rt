@@ -2,7 +2,7 @@
 
 use crate::plain::{Plain, drawn, drawn_span, expect, span};
 use paged_table::PagedTable;
-use point_store::{Kept, Store};
+use point_store::{SlotStore, Store};
 use range_table::{RunTable, Stretches};
 use std::alloc::Global;
 use std::process::Abort;
@@ -23,9 +23,9 @@ trait Sweep: Store<Name> {
     fn sweep(&mut self);
 }
 
-impl<T: Stretches<u64>> Sweep for Kept<T, Name> {
+impl<T: Stretches<u64>> Sweep for SlotStore<T, Name> {
     fn sweep(&mut self) {
-        Kept::sweep(self)
+        SlotStore::sweep(self)
     }
 }
 
@@ -38,11 +38,11 @@ enum Look {
 }
 
 fn on_runs(rt: &impl Abort, alloc: Global, look: Look) -> Result<(), Memory> {
-    on_a_store::<Kept<RunTable<u64>, Name>>(rt, alloc, look)
+    on_a_store::<SlotStore<RunTable<u64>, Name>>(rt, alloc, look)
 }
 
 fn on_pages(rt: &impl Abort, alloc: Global, look: Look) -> Result<(), Memory> {
-    on_a_store::<Kept<PagedTable, Name>>(rt, alloc, look)
+    on_a_store::<SlotStore<PagedTable, Name>>(rt, alloc, look)
 }
 
 fn on_a_store<S: Sweep>(rt: &impl Abort, alloc: Global, look: Look) -> Result<(), Memory> {

@@ -12,7 +12,7 @@ use Rattle.ucd_points.specs.Fields.{field, point_of, is_name, is_range_name, cla
 use Rattle.ucd_facts.specs.Mappings.{SpellsMapping}
 use Rattle.ucd_facts.specs.declared.decomposition.Kind.{Kind}
 use Rattle.ucd_facts.specs.declared.decomposition.Kind.TheVariants.{Plain, Canonical, Compat}
-use Rattle.ucd_facts.specs.declared.row.Kept.{Kept}
+use Rattle.ucd_facts.specs.declared.row.OtherFields.{OtherFields}
 use Rattle.ucd_facts.specs.declared.row.DataRow.{DataRow}
 
 abbrev pub SpellsDecomposition : List ℕ → Kind → List ℕ → Type 0
@@ -20,7 +20,7 @@ SpellsDecomposition bs Plain cs = (bs ≡ []) × (cs ≡ [])
 SpellsDecomposition bs Canonical cs = SpellsMapping bs cs × (0 < length cs) × (length cs ≤ 2)
 SpellsDecomposition bs (Compat tag) cs = (rest : List ℕ) × (bs ≡ tag_text tag ++ rest) × SpellsMapping rest cs × (0 < length cs)
 
-abbrev pub kept_of : List (List ℕ) → Kept
+abbrev pub kept_of : List (List ℕ) → OtherFields
 kept_of fs = record { f4 = field fs 4; f6 = field fs 6; f7 = field fs 7; f8 = field fs 8; f9 = field fs 9; f10 = field fs 10; f11 = field fs 11 }
 
 pub record ReadsValues (fs : List (List ℕ)) (row : DataRow) : Type 0 where

@@ -34,7 +34,7 @@ pub use image::Image;
 pub use property::{CORE_PROPERTIES, Core, FLAGS, Flag};
 pub use query::{Queries, Query};
 pub use row::{
-    AliasRow, CasingRow, DataRow, ExclusionRow, FoldRow, FoldStatus, Kept, Row, ValueRow,
+    AliasRow, CasingRow, DataRow, ExclusionRow, FoldRow, FoldStatus, OtherFields, Row, ValueRow,
 };
 pub use sets::{CoreSet, Flags};
 pub use shown::same_facts;

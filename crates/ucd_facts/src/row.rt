@@ -11,7 +11,7 @@ use ucd_points::{Point, Points, Span, Text, Texts};
 /// Fields 4 and 6 to 11 of a row of UnicodeData.txt, which are kept as they stand, without white space around them,
 /// and are not tested. UAX #44, section 5.3, table 9.
 #[derive(Debug, Drop)]
-pub struct Kept {
+pub struct OtherFields {
     /// Field 4, Bidi_Class.
     pub f4: Text,
     /// Field 6, Numeric_Value if Numeric_Type is Decimal.
@@ -52,7 +52,7 @@ pub struct DataRow {
     /// Field 14, Simple_Titlecase_Mapping; `None` if the field is empty.
     pub title: Option<Point>,
     /// The other fields.
-    pub kept: Kept,
+    pub kept: OtherFields,
 }
 
 /// A row that gives the points of a span a value: PropList.txt, Scripts.txt, WordBreakProperty.txt.

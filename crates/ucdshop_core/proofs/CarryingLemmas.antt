@@ -5,7 +5,7 @@ use Rattle.std.specs.Prelude.{IfOk, IfErr}
 use Rattle.std.specs.List.{All}
 use Rattle.std.proofs.lemmas.List.Elements.{All-head, All-tail}
 use Rattle.release_rows.specs.FileItems.{FileItem}
-use Rattle.script_lines.specs.Groups.{IsReady}
+use Rattle.script_lines.specs.Groups.{IsWellFormed}
 use Rattle.script_lines.specs.declared.command.Command.{Command}
 use Rattle.script_lines.specs.declared.command.What.{What}
 use Rattle.script_lines.specs.declared.command.What.TheVariants.{Group, Question}
@@ -18,11 +18,11 @@ use Rattle.ucdshop_core.specs.Counting.{CommandCounts, SessionCounts}
 use Rattle.ucdshop_core.specs.Session.{Session, step, step_by}
 use Rattle.ucdshop_core.specs.declared.carried.Carried.{Carried}
 
-pub ready_first : (commands : List Command) (first : Command) (behind : List Command) → commands ≡ first ∷ behind → All IsReady commands → IsReady first
-ready_first commands first behind e ready = All-head IsReady first behind (subst (All IsReady) e ready)
+pub ready_first : (commands : List Command) (first : Command) (behind : List Command) → commands ≡ first ∷ behind → All IsWellFormed commands → IsWellFormed first
+ready_first commands first behind e ready = All-head IsWellFormed first behind (subst (All IsWellFormed) e ready)
 
-pub ready_behind : (commands : List Command) (first : Command) (behind : List Command) → commands ≡ first ∷ behind → All IsReady commands → All IsReady behind
-ready_behind commands first behind e ready = All-tail IsReady first behind (subst (All IsReady) e ready)
+pub ready_behind : (commands : List Command) (first : Command) (behind : List Command) → commands ≡ first ∷ behind → All IsWellFormed commands → All IsWellFormed behind
+ready_behind commands first behind e ready = All-tail IsWellFormed first behind (subst (All IsWellFormed) e ready)
 
 pub first_carried : (commands : List Command) (first : Command) (behind : List Command) (what : What) (s t : Session) → commands ≡ first ∷ behind → first.what ≡ what
     → t ≡ step_by s first.line what → fold step t behind ≡ fold step s commands

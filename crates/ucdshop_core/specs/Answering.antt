@@ -7,7 +7,7 @@
 use Rattle.std.specs.Prelude.{◌≡◌, ◌≤◌, ℕ, ◌+◌, List, fold, length}
 use Rattle.std.specs.List.{All}
 use Rattle.release_rows.specs.FileItems.{FileItem}
-use Rattle.script_lines.specs.Groups.{IsReady}
+use Rattle.script_lines.specs.Groups.{IsWellFormed}
 use Rattle.script_lines.specs.declared.command.Command.{Command}
 use Rattle.ucdshop_core.specs.Carrying.{counted, session_on}
 use Rattle.ucdshop_core.specs.Counting.{SessionCounts}
@@ -19,4 +19,4 @@ pub record AnswersFront (files : List (List FileItem)) (from : Session) (count :
   pub counts : (old new : ℕ) → SessionCounts (session_on files carried) rest old new → SessionCounts from commands old new
   pub counted : counted carried + length rest ≡ count + length commands
   pub left : length rest ≤ length commands
-  pub ready : All IsReady rest
+  pub ready : All IsWellFormed rest

@@ -10,10 +10,10 @@ use Rattle.run_endings.specs.Paths.{path_in}
 use Rattle.ucdshop_core.specs.Jobs.{Job}
 use Rattle.ucdshop_core.specs.Making.{IsInRange}
 use Rattle.ucdshop_core.specs.declared.job.Job.{Job as JobWords}
-use Rattle.ucdshop_core.specs.declared.job.Place.{Place}
-use Rattle.ucdshop_core.specs.declared.job.Place.TheVariants.{Named, Below}
+use Rattle.ucdshop_core.specs.declared.job.ScriptPlace.{ScriptPlace}
+use Rattle.ucdshop_core.specs.declared.job.ScriptPlace.TheVariants.{Named, Below}
 
-abbrev pub path_at : Place → List ℕ
+abbrev pub path_at : ScriptPlace → List ℕ
 path_at (Named path) = path.now
 path_at (Below folder name) = path_in folder.now name.now
 

@@ -3,17 +3,17 @@
 ghost use Rattle.std.specs.Prelude.{◌≡◌, ◌∷◌, ◌+◌, ◌<◌, ◌^◌, ⊤, length, IfOk, OnOk};
 ghost use Rattle.std.specs.List.{All};
 ghost use Rattle.std.specs.Option.{MatchOption};
-ghost use Rattle.script_lines.specs.Groups.{IsReady};
+ghost use Rattle.script_lines.specs.Groups.{IsWellFormed};
 ghost use Rattle.script_lines.specs.declared.command.What.TheVariants.{Question};
 ghost use Rattle.ucdshop_core.specs.Answering.{AnswersFront};
 ghost use Rattle.ucdshop_core.specs.Carrying.{counted, session_on, question_command};
-ghost use Rattle.set_questions.specs.Kept.{IsKept};
+ghost use Rattle.set_questions.specs.QuestionCache.{IsKept};
 ghost use Rattle.ucdshop_core.specs.Session.{step_by};
 
 use crate::carried::Carried;
 use edit_session::Bench;
 use script_lines::{Command, What};
-use set_questions::{AskStop, Asking, Kept};
+use set_questions::{AskStop, Asking, QuestionCache};
 use std::alloc::Global;
 use ucd_model::Memory;
 
@@ -25,7 +25,7 @@ use ucd_model::Memory;
 pub fn answer_run<'c>(
     alloc: Global,
     bench: &Bench,
-    kept: &mut Kept,
+    kept: &mut QuestionCache,
     line: u32,
     text: &[u8],
     behind: &'c [Command],
@@ -33,7 +33,7 @@ pub fn answer_run<'c>(
 ) -> Result<&'c [Command], Memory>
     requires kept { IsKept kept.old bench.now.current }
     requires room { counted carried.old + 1 + length behind.now < 2 ^ 64 }
-    requires ready { All IsReady behind.now }
+    requires ready { All IsWellFormed behind.now }
     ensures kept { IsKept kept.new bench.now.current }
     ensures answers { IfOk result
         (λ rest. AnswersFront bench.now.current
@@ -55,7 +55,7 @@ fn answer_first<'c>(
     carried: &mut Carried,
 ) -> Result<&'c [Command], Memory>
     requires room { counted carried.old + 1 + length behind.now < 2 ^ 64 }
-    requires ready { All IsReady behind.now }
+    requires ready { All IsWellFormed behind.now }
     ensures { IfOk result (λ rest. AnswersFront asking.now
         (step_by (session_on asking.now carried.old) line (Question text.now))
         (counted carried.old + 1) behind.now carried.new rest.now) }
@@ -72,7 +72,7 @@ fn answer_more<'c>(
     carried: &mut Carried,
 ) -> Result<&'c [Command], Memory>
     requires room { counted carried.old + length commands.now < 2 ^ 64 }
-    requires ready { All IsReady commands.now }
+    requires ready { All IsWellFormed commands.now }
     ensures { IfOk result (λ rest. AnswersFront asking.now (session_on asking.now carried.old)
         (counted carried.old) commands.now carried.new rest.now) }
 {

@@ -2,11 +2,11 @@
 
 ghost use Rattle.std.specs.Prelude.{◌≡◌, ℕ, ◌∷◌, ◌+◌, ◌<◌, ◌^◌, [], fold, length, IfOk, IfErr, OnOk};
 ghost use Rattle.std.specs.List.{All};
-ghost use Rattle.script_lines.specs.Groups.{AreReady, IsReady};
+ghost use Rattle.script_lines.specs.Groups.{AreWellFormed, IsWellFormed};
 ghost use Rattle.script_lines.specs.declared.command.What.TheVariants.{Group};
 ghost use Rattle.ucdshop_core.specs.Carrying.{counted, session_of};
 ghost use Rattle.ucdshop_core.specs.Counting.{CommandCounts, SessionCounts};
-ghost use Rattle.set_questions.specs.Kept.{IsKept};
+ghost use Rattle.set_questions.specs.QuestionCache.{IsKept};
 ghost use Rattle.ucdshop_core.specs.Session.{session, started, step, step_by};
 
 use crate::answering::answer_run;
@@ -14,7 +14,7 @@ use crate::carried::Carried;
 use edit_session::{ApplyStop, Bench};
 use release_rows::Op;
 use script_lines::{Command, What};
-use set_questions::Kept;
+use set_questions::QuestionCache;
 use std::alloc::Global;
 use std::sync::ledger::Ledger;
 use ucd_model::{Memory, Steps};
@@ -29,13 +29,13 @@ pub fn carry_out<L: Ledger>(
     commands: &[Command],
     steps: &mut Steps<L>,
 ) -> Result<Carried, Memory>
-    requires { All IsReady commands.now }
+    requires { All IsWellFormed commands.now }
     ensures session { IfOk result
         (λ carried. session_of bench.new carried ≡ session bench.old.current commands.now) }
     ensures counts { SessionCounts (started bench.old.current) commands.now steps.old steps.new }
     ensures steps { commands.now ≡ [] → steps.new ≡ steps.old }
 {
-    let mut kept = Kept::nothing(alloc);
+    let mut kept = QuestionCache::nothing(alloc);
     let carried = carry_all(alloc, bench, &mut kept, commands, steps);
     drop(kept);
     carried
@@ -45,12 +45,12 @@ pub fn carry_out<L: Ledger>(
 fn carry_all<L: Ledger>(
     alloc: Global,
     bench: &mut Bench,
-    kept: &mut Kept,
+    kept: &mut QuestionCache,
     commands: &[Command],
     steps: &mut Steps<L>,
 ) -> Result<Carried, Memory>
     requires kept { IsKept kept.old bench.old.current }
-    requires ready { All IsReady commands.now }
+    requires ready { All IsWellFormed commands.now }
     ensures session { IfOk result
         (λ carried. session_of bench.new carried ≡ session bench.old.current commands.now) }
     ensures counts { SessionCounts (started bench.old.current) commands.now steps.old steps.new }
@@ -69,14 +69,14 @@ fn carry_all<L: Ledger>(
 fn carry_some<'c, L: Ledger>(
     alloc: Global,
     bench: &mut Bench,
-    kept: &mut Kept,
+    kept: &mut QuestionCache,
     commands: &'c [Command],
     carried: &mut Carried,
     steps: &mut Steps<L>,
 ) -> Result<&'c [Command], Memory>
     requires some { 0 < length commands.now }
     requires kept { IsKept kept.old bench.old.current }
-    requires ready { All IsReady commands.now }
+    requires ready { All IsWellFormed commands.now }
     requires room { counted carried.old + length commands.now < 2 ^ 64 }
     ensures kept { IsKept kept.new bench.new.current }
     ensures session { IfOk result
@@ -92,7 +92,7 @@ fn carry_some<'c, L: Ledger>(
         (λ rest. counted carried.new + length rest.now
         ≡ counted carried.old + length commands.now) }
     ensures shorter { IfOk result (λ rest. length rest.now < length commands.now) }
-    ensures ready { IfOk result (λ rest. All IsReady rest.now) }
+    ensures ready { IfOk result (λ rest. All IsWellFormed rest.now) }
 {
     let (command, behind) = first_command(commands);
     match &command.what {
@@ -134,14 +134,14 @@ fn first_command(commands: &[Command]) -> (&Command, &[Command])
 fn carry_group<L: Ledger>(
     alloc: Global,
     bench: &mut Bench,
-    kept: &mut Kept,
+    kept: &mut QuestionCache,
     line: u32,
     ops: &[Op],
     carried: &mut Carried,
     steps: &mut Steps<L>,
 ) -> Result<(), Memory>
     requires kept { IsKept kept.old bench.old.current }
-    requires ready { AreReady ops.now }
+    requires ready { AreWellFormed ops.now }
     requires room { counted carried.old + 1 < 2 ^ 64 }
     ensures kept { IsKept kept.new bench.new.current }
     ensures session { OnOk result

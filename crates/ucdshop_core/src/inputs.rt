@@ -11,7 +11,7 @@ ghost use Rattle.ucdshop_core.specs.JobWords.{job_of};
 ghost use Rattle.ucdshop_core.specs.Counting.{opened_limit};
 ghost use Rattle.ucdshop_core.specs.Judging.{behind_verdict, earlier_inputs, inputs_of};
 ghost use Rattle.ucdshop_core.specs.Run.{commands_verdict, earlier_place, earlier_verdict, inputs_verdict};
-ghost use Rattle.script_lines.specs.Groups.{IsReady};
+ghost use Rattle.script_lines.specs.Groups.{IsWellFormed};
 
 use crate::job::Job;
 use edit_session::Bench;
@@ -48,7 +48,7 @@ pub fn judge_inputs<L: Ledger>(
     steps: &mut Steps<L>,
 ) -> Result<Inputs, Stop>
     ensures inputs { ToldAs inputs_of result (inputs_verdict (job_of job.entry) held.old.items) }
-    ensures commands { IfOk result (λ inputs. All IsReady inputs.commands) }
+    ensures commands { IfOk result (λ inputs. All IsWellFormed inputs.commands) }
     ensures steps { steps.new ≤ steps.old + opened_limit (job_of job.entry) }
 {
     let same = is_same_release(job, held.as_slice());
@@ -78,7 +78,7 @@ fn judge_behind<L: Ledger>(
         (source_held held.old.items (earlier_place (job_of job))) ≡ Ok bench.current }
     ensures inputs { ToldAs inputs_of result
         (behind_verdict (job_of job.entry) held.old.items bench.current) }
-    ensures commands { IfOk result (λ inputs. All IsReady inputs.commands) }
+    ensures commands { IfOk result (λ inputs. All IsWellFormed inputs.commands) }
     ensures steps { steps.new + point_count ≤ steps.old + opened_limit (job_of job.entry) }
 {
     match judge_commands(alloc, job, held.as_slice()) {
@@ -100,10 +100,10 @@ fn with_earlier<L: Ledger>(
 ) -> Result<Inputs, Stop>
     requires same { IsTrue same → release_verdict
         (source_held held.old.items (earlier_place (job_of job))) ≡ Ok bench.current }
-    requires commands { All IsReady commands }
+    requires commands { All IsWellFormed commands }
     ensures inputs { ToldAs inputs_of result
         (earlier_inputs (job_of job.entry) held.old.items bench.current commands) }
-    ensures commands { IfOk result (λ inputs. All IsReady inputs.commands) }
+    ensures commands { IfOk result (λ inputs. All IsWellFormed inputs.commands) }
     ensures steps { steps.new + point_count ≤ steps.old + opened_limit (job_of job.entry) }
 {
     match judge_earlier(alloc, job, held, &bench, same, steps) {
@@ -146,7 +146,7 @@ fn judge_earlier<L: Ledger>(
 fn judge_commands(alloc: Global, job: Job<'_>, held: &[Option<Text>]) -> Result<Commands, Stop>
     ensures script { ToldAs (λ commands. commands) result
         (commands_verdict (job_of job.entry).script (held_at held.now 9)) }
-    ensures commands { IfOk result (All IsReady) }
+    ensures commands { IfOk result (All IsWellFormed) }
 {
     match job.script {
         Some(script) => {

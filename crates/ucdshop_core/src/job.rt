@@ -26,9 +26,9 @@ pub enum Part {
     Made,
 }
 
-/// Where a file lies.
+/// Where the file of a script lies.
 #[derive(Clone, Copy, Debug)]
-pub enum Place<'a> {
+pub enum ScriptPlace<'a> {
     /// At this path.
     Named(&'a [u8]),
     /// Below a folder.
@@ -38,7 +38,7 @@ pub enum Place<'a> {
     },
 }
 
-impl Place<'_> {
+impl ScriptPlace<'_> {
     /// The path.
     ///
     /// - `Memory`: memory ran out.
@@ -46,8 +46,8 @@ impl Place<'_> {
         ensures { IfOk result (λ path. path ≡ path_at self.entry) }
     {
         match self {
-            Place::Named(path) => Text::of(alloc, path),
-            Place::Below { folder, name } => path_in(alloc, folder, name),
+            ScriptPlace::Named(path) => Text::of(alloc, path),
+            ScriptPlace::Below { folder, name } => path_in(alloc, folder, name),
         }
     }
 }
@@ -60,7 +60,7 @@ pub struct Job<'a> {
     /// The folder of the release. What is made is judged as the files of the folder that it is written into.
     pub folder: &'a [u8],
     /// The script that is carried out on the release.
-    pub script: Option<Place<'a>>,
+    pub script: Option<ScriptPlace<'a>>,
     /// The folder of the earlier release that it is compared with.
     pub previous: Option<&'a [u8]>,
     /// The folder that is written into.
@@ -92,7 +92,7 @@ impl<'a> Job<'a> {
         Job {
             made: None,
             folder: input,
-            script: Some(Place::Named(script)),
+            script: Some(ScriptPlace::Named(script)),
             previous: None,
             output,
             parts: &[Part::Sources, Part::Derived, Part::Log, Part::Sets],
@@ -112,7 +112,7 @@ impl<'a> Job<'a> {
         Job {
             made: None,
             folder: input,
-            script: Some(Place::Named(script)),
+            script: Some(ScriptPlace::Named(script)),
             previous: Some(previous),
             output,
             parts: &[
@@ -132,7 +132,7 @@ impl<'a> Job<'a> {
         Job {
             made: Some(number),
             folder: output,
-            script: Some(Place::Below {
+            script: Some(ScriptPlace::Below {
                 folder: output,
                 name: b"script.txt",
             }),

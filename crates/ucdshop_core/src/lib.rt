@@ -25,7 +25,7 @@ pub use carried::Carried;
 pub use carrying::carry_out;
 pub use given::Given;
 pub use inputs::{Inputs, judge_inputs};
-pub use job::{Job, Part, Place};
+pub use job::{Job, Part, ScriptPlace};
 pub use needed::needed_paths;
 pub use outputs::Work;
 pub use perfect_run::run_perfectly;

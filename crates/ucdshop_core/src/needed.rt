@@ -7,7 +7,7 @@ ghost use Rattle.run_inputs.specs.Paths.{sources_in};
 ghost use Rattle.ucdshop_core.specs.JobWords.{job_of, path_at};
 ghost use Rattle.ucdshop_core.specs.Jobs.{needed};
 
-use crate::job::{Job, Place};
+use crate::job::{Job, ScriptPlace};
 use run_inputs::put_source_paths;
 use std::alloc::Global;
 use ucd_model::{Memory, Texts};
@@ -28,7 +28,11 @@ pub fn needed_paths(alloc: Global, job: Job<'_>) -> Result<Texts, Memory>
 }
 
 /// Puts the path of the script, if there is one.
-fn put_script_path(alloc: Global, script: Option<Place<'_>>, into: &mut Texts) -> Result<(), Memory>
+fn put_script_path(
+    alloc: Global,
+    script: Option<ScriptPlace<'_>>,
+    into: &mut Texts,
+) -> Result<(), Memory>
     ensures { OnOk result (into.new ≡ into.old
         ++ option_to_list (option_map path_at script.entry)) }
 {

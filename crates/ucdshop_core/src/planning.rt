@@ -13,7 +13,7 @@ ghost use Rattle.std.specs.Option.{option_map};
 ghost use Rattle.run_endings.specs.Endings.{Refuses, Sees};
 ghost use Rattle.ucdshop_core.specs.Run.{expected_of, inputs_ending, job_verdict, judged};
 ghost use Rattle.ucdshop_core.specs.Jobs.{needed};
-ghost use Rattle.script_lines.specs.Groups.{IsReady};
+ghost use Rattle.script_lines.specs.Groups.{IsWellFormed};
 ghost use Rattle.ucdshop_core.specs.Session.{started};
 
 use crate::carrying::carry_out;
@@ -42,7 +42,7 @@ fn plan_inputs<L: Ledger>(
     inputs: Inputs,
     steps: &mut Steps<L>,
 ) -> Result<Plan, Memory>
-    requires ready { All IsReady inputs.commands }
+    requires ready { All IsWellFormed inputs.commands }
     requires made { made.now ≡ job.made }
     ensures plan { IfOk result (λ plan. HasPlan
         (inputs_ending (job_of job.entry) (inputs_of inputs)) plan) }
@@ -68,7 +68,7 @@ fn plan_owned<L: Ledger>(
     earlier: &Option<Bench>,
     steps: &mut Steps<L>,
 ) -> Result<Plan, Memory>
-    requires ready { All IsReady commands }
+    requires ready { All IsWellFormed commands }
     requires made { made.now ≡ job.made }
     ensures plan { IfOk result (λ plan. HasPlan
         (inputs_ending (job_of job.entry)
@@ -103,7 +103,7 @@ fn plan_borrowed<L: Ledger>(
     earlier: &Option<Bench>,
     steps: &mut Steps<L>,
 ) -> Result<Plan, Memory>
-    requires ready { All IsReady commands.now }
+    requires ready { All IsWellFormed commands.now }
     requires made { made.now ≡ job.made }
     ensures plan { IfOk result (λ plan. HasPlan
         (inputs_ending (job_of job.entry)

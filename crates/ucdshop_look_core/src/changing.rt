@@ -7,7 +7,7 @@ ghost use Rattle.edit_session.specs.Benches.{bench_record};
 ghost use Rattle.range_table.specs.Values.{SameValues};
 ghost use Rattle.record_lines.specs.Earlier.{earlier_record, updated};
 ghost use Rattle.run_endings.specs.Planning.{HasPlan};
-ghost use Rattle.script_lines.specs.Groups.{AreReady, IsReady};
+ghost use Rattle.script_lines.specs.Groups.{AreWellFormed, IsWellFormed};
 ghost use Rattle.script_lines.specs.declared.command.What.TheVariants.{Group};
 ghost use Rattle.set_answers.specs.SetTexts.{members_text};
 ghost use Rattle.ucd_model.specs.DerivedText.{line_end};
@@ -38,7 +38,7 @@ pub fn changes_plan<L: Ledger>(
     inputs: Inputs,
     steps: &mut Steps<L>,
 ) -> Result<Plan, Memory>
-    requires { All IsReady inputs.commands }
+    requires { All IsWellFormed inputs.commands }
     ensures { IfOk result (HasPlan (changes_ending (inputs_of inputs))) }
 {
     let Inputs {
@@ -56,7 +56,7 @@ fn plan_over<L: Ledger>(
     commands: Commands,
     steps: &mut Steps<L>,
 ) -> Result<Plan, Memory>
-    requires { All IsReady commands }
+    requires { All IsWellFormed commands }
     ensures { IfOk result (HasPlan (stages_ending (stages bench.current commands))) }
 {
     let mut bench = bench;
@@ -72,7 +72,7 @@ fn plan_from<L: Ledger>(
     commands: &[Command],
     steps: &mut Steps<L>,
 ) -> Result<Plan, Memory>
-    requires ready { All IsReady commands.now }
+    requires ready { All IsWellFormed commands.now }
     requires earlier { SameValues (earlier_record earlier) (bench_record bench.old) }
     ensures { IfOk result (HasPlan (stages_ending (stages bench.old.current commands.now))) }
 {
@@ -88,7 +88,7 @@ fn plan_beside<L: Ledger>(
     commands: &[Command],
     steps: &mut Steps<L>,
 ) -> Result<Plan, Memory>
-    requires ready { All IsReady commands.now }
+    requires ready { All IsWellFormed commands.now }
     requires earlier { SameValues (earlier_record earlier.old) (bench_record bench.old) }
     ensures { IfOk result (HasPlan (stages_ending (stages bench.old.current commands.now))) }
 {
@@ -113,7 +113,7 @@ fn tell_all<L: Ledger>(
     text: &mut Text,
     steps: &mut Steps<L>,
 ) -> Result<bool, Memory>
-    requires ready { All IsReady commands.now }
+    requires ready { All IsWellFormed commands.now }
     requires earlier { SameValues (earlier_record earlier.old) (bench_record bench.old) }
     ensures text { OnOk result (text.new ≡ text.old
         ++ flat_map told (stages bench.old.current commands.now)) }
@@ -137,7 +137,7 @@ fn tell_command<L: Ledger>(
     text: &mut Text,
     steps: &mut Steps<L>,
 ) -> Result<bool, Memory>
-    requires ready { IsReady command.now }
+    requires ready { IsWellFormed command.now }
     requires earlier { SameValues (earlier_record earlier.old) (bench_record bench.old) }
     ensures text { OnOk result (text.new ≡ text.old
         ++ told (stage_on bench.old.current command.now)) }
@@ -172,7 +172,7 @@ fn tell_group<L: Ledger>(
     text: &mut Text,
     steps: &mut Steps<L>,
 ) -> Result<bool, Memory>
-    requires ready { AreReady ops.now }
+    requires ready { AreWellFormed ops.now }
     requires earlier { SameValues (earlier_record earlier.old) (bench_record bench.old) }
     ensures text { OnOk result (text.new ≡ text.old
         ++ what_told bench.old.current line (Group ops.now)) }

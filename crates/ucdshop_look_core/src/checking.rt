@@ -4,7 +4,7 @@ ghost use Rattle.std.specs.Prelude.{◌≡◌, ◌||◌, IfOk, List, length, nat
 ghost use Rattle.std.specs.List.{All};
 ghost use Rattle.std.specs.Option.{option_map};
 ghost use Rattle.release_rows.specs.FileItems.{FileItem};
-ghost use Rattle.script_lines.specs.Groups.{IsReady};
+ghost use Rattle.script_lines.specs.Groups.{IsWellFormed};
 ghost use Rattle.run_endings.specs.Planning.{HasPlan};
 ghost use Rattle.ucdshop_core.specs.Carrying.{session_of, session_on};
 ghost use Rattle.ucdshop_core.specs.Judging.{inputs_of};
@@ -29,7 +29,7 @@ pub fn check_plan<L: Ledger>(
     inputs: Inputs,
     steps: &mut Steps<L>,
 ) -> Result<Plan, Memory>
-    requires { All IsReady inputs.commands }
+    requires { All IsWellFormed inputs.commands }
     ensures { IfOk result (HasPlan (check_ending (inputs_of inputs))) }
 {
     let Inputs {
@@ -48,7 +48,7 @@ fn plan_owned<L: Ledger>(
     earlier: &Option<Bench>,
     steps: &mut Steps<L>,
 ) -> Result<Plan, Memory>
-    requires { All IsReady commands }
+    requires { All IsWellFormed commands }
     ensures { IfOk result (HasPlan
         (session_ending (option_map (λ before. before.current) earlier.now)
         (session bench.current commands))) }
@@ -65,7 +65,7 @@ fn plan_borrowed<L: Ledger>(
     earlier: &Option<Bench>,
     steps: &mut Steps<L>,
 ) -> Result<Plan, Memory>
-    requires { All IsReady commands.now }
+    requires { All IsWellFormed commands.now }
     ensures { IfOk result (HasPlan
         (session_ending (option_map (λ before. before.current) earlier.now)
         (session bench.old.current commands.now))) }

@@ -5,7 +5,7 @@
 -- draft_verdict input script seen   the release in a folder and the moves of the script behind it, of which this was seen; or the line
 --                         that refuses the first of these: a file of the folder, a code point, the script
 -- draft_of drafted        what the code holds
--- AreReady sections       the groups can be carried out
+-- AreWellFormed sections       the groups can be carried out
 use Rattle.std.specs.Prelude.{ℕ, List, Result, Ok, Err}
 use Rattle.std.specs.List.{All}
 use Rattle.release_rows.specs.FileItems.{FileItem}
@@ -13,7 +13,7 @@ use Rattle.run_endings.specs.Endings.{Seen}
 use Rattle.run_inputs.specs.Held.{held_at, source_held}
 use Rattle.run_inputs.specs.Refusals.{folder_verdict}
 use Rattle.run_inputs.specs.Verdict.{and_then}
-use Rattle.script_lines.specs.Groups.{IsReady}
+use Rattle.script_lines.specs.Groups.{IsWellFormed}
 use Rattle.ucdshop_more_core.specs.Moves.{Move, all_moves, moves_told}
 use Rattle.ucdshop_more_core.specs.declared.draft.Drafted.{Drafted}
 use Rattle.ucdshop_more_core.specs.declared.sections.Section.{Section}
@@ -35,5 +35,5 @@ draft_verdict input script seen = and_then (folder_verdict input (source_held se
 abbrev pub draft_of : Drafted → Draft
 draft_of drafted = record { files = drafted.bench.current; moves = all_moves drafted.sections }
 
-abbrev pub AreReady : List Section → Type 0
-AreReady sections = All (λ section. All IsReady section.commands) sections
+abbrev pub AreWellFormed : List Section → Type 0
+AreWellFormed sections = All (λ section. All IsWellFormed section.commands) sections

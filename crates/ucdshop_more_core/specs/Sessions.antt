@@ -5,7 +5,7 @@
 -- session_verdict input events seen   the release in a folder and the turns of the file behind it, of which this was seen; or the line
 --                         that refuses the first of these: a file of the folder, a code point, the file of events
 -- session_of sitting      what the code holds
--- AreReady requests       the groups behind the marks can be carried out
+-- AreWellFormed requests       the groups behind the marks can be carried out
 -- AreFew requests         there are fewer than revisions are counted
 use Rattle.std.specs.Prelude.{◌<◌, ℕ, List, length, Result, Ok, Err}
 use Rattle.std.specs.List.{All}
@@ -14,7 +14,7 @@ use Rattle.run_endings.specs.Endings.{Seen}
 use Rattle.run_inputs.specs.Held.{held_at, source_held}
 use Rattle.run_inputs.specs.Refusals.{folder_verdict}
 use Rattle.run_inputs.specs.Verdict.{and_then}
-use Rattle.script_lines.specs.Groups.{IsReady}
+use Rattle.script_lines.specs.Groups.{IsWellFormed}
 use Rattle.ucdshop_more_core.specs.Turns.{Turn, request_turns, turns_told}
 use Rattle.ucdshop_more_core.specs.declared.requests.Request.{Request}
 use Rattle.ucdshop_more_core.specs.declared.sitting.Sitting.{Sitting}
@@ -36,8 +36,8 @@ session_verdict input events seen = and_then (folder_verdict input (source_held 
 abbrev pub session_of : Sitting → Session
 session_of sitting = record { files = sitting.bench.current; turns = request_turns sitting.requests }
 
-abbrev pub AreReady : List Request → Type 0
-AreReady requests = All (λ request. All IsReady request.commands) requests
+abbrev pub AreWellFormed : List Request → Type 0
+AreWellFormed requests = All (λ request. All IsWellFormed request.commands) requests
 
 abbrev pub AreFew : List Request → Type 0
 AreFew requests = length requests < 4294967295

@@ -3,7 +3,7 @@
 ghost use Rattle.std.specs.Prelude.{◌≡◌, None, Some};
 ghost use Rattle.std.specs.List.{All};
 ghost use Rattle.std.specs.Option.{MatchOption};
-ghost use Rattle.script_lines.specs.Groups.{AreReady, IsReady};
+ghost use Rattle.script_lines.specs.Groups.{AreWellFormed, IsWellFormed};
 ghost use Rattle.script_lines.specs.Lines.{behind};
 ghost use Rattle.ucdshop_more_core.specs.Marks.{are_a_group, fits, mark_of, ops_of, proposal_of};
 
@@ -93,9 +93,9 @@ fn are_a_group(commands: &[Command]) -> bool
 
 /// The operations of the first command.
 pub fn ops_of(commands: &[Command]) -> &[Op]
-    requires { All IsReady commands.now }
+    requires { All IsWellFormed commands.now }
     ensures ops { result.now ≡ ops_of commands.now }
-    ensures ready { AreReady result.now }
+    ensures ready { AreWellFormed result.now }
 {
     match commands {
         [first, ..] => ops_in(first),

@@ -5,7 +5,7 @@ ghost use Rattle.bench_editors.specs.Desks.{DeskState};
 ghost use Rattle.bench_editors.specs.Standing.{StandsFor, desk_revision};
 ghost use Rattle.run_endings.specs.Planning.{HasPlan, Puts};
 ghost use Rattle.ucdshop_more_core.specs.Run.{desk_ending, desk_ending_by, desk_ending_from, desk_log_file};
-ghost use Rattle.ucdshop_more_core.specs.Sessions.{AreFew, AreReady, session_of};
+ghost use Rattle.ucdshop_more_core.specs.Sessions.{AreFew, AreWellFormed, session_of};
 ghost use Rattle.ucdshop_more_core.specs.Turns.{request_turns};
 
 use crate::desk_log::DeskLog;
@@ -30,7 +30,7 @@ pub fn desk_plan<L: Ledger>(
     sitting: Sitting,
     steps: &mut Steps<L>,
 ) -> Result<Plan, Memory>
-    requires ready { AreReady sitting.requests }
+    requires ready { AreWellFormed sitting.requests }
     requires few { AreFew sitting.requests }
     ensures { IfOk result (HasPlan (desk_ending output.now (session_of sitting))) }
 {
@@ -47,7 +47,7 @@ fn plan_at<L: Ledger>(
     requests: &[Request],
     steps: &mut Steps<L>,
 ) -> Result<Plan, Memory>
-    requires ready { AreReady requests.now }
+    requires ready { AreWellFormed requests.now }
     requires room { desk_revision desk.old + length requests.now ≤ 4294967295 }
     ensures { IfOk result (λ plan. (s : DeskState) → StandsFor desk.old s
         → HasPlan (desk_ending_from output.now s (request_turns requests.now)) plan) }

@@ -4,9 +4,9 @@ ghost use Rattle.std.specs.Prelude.{◌≡◌, ◌+◌, ◌<◌, ◌≤◌, IfOk
 ghost use Rattle.std.specs.List.{All};
 ghost use Rattle.bench_editors.specs.Desks.{DeskState, answer};
 ghost use Rattle.bench_editors.specs.Standing.{StandsFor, desk_revision};
-ghost use Rattle.script_lines.specs.Groups.{IsReady};
+ghost use Rattle.script_lines.specs.Groups.{IsWellFormed};
 ghost use Rattle.ucdshop_more_core.specs.Logging.{LogsAll};
-ghost use Rattle.ucdshop_more_core.specs.Sessions.{AreReady};
+ghost use Rattle.ucdshop_more_core.specs.Sessions.{AreWellFormed};
 ghost use Rattle.ucdshop_more_core.specs.Turns.{request_turn, request_turns};
 
 use crate::desk_log::DeskLog;
@@ -26,7 +26,7 @@ pub fn hold_session<L: Ledger>(
     requests: &[Request],
     steps: &mut Steps<L>,
 ) -> Result<DeskLog, Memory>
-    requires ready { AreReady requests.now }
+    requires ready { AreWellFormed requests.now }
     requires room { desk_revision desk.old + length requests.now ≤ 4294967295 }
     ensures { IfOk result (λ log. (s : DeskState) → StandsFor desk.old s
         → LogsAll s (request_turns requests.now) log desk.new) }
@@ -47,7 +47,7 @@ fn reply_to<L: Ledger>(
     request: &Request,
     steps: &mut Steps<L>,
 ) -> Result<Reply, Memory>
-    requires ready { All IsReady request.now.commands }
+    requires ready { All IsWellFormed request.now.commands }
     requires room { desk_revision desk.old < 4294967295 }
     ensures reply { IfOk result (λ reply. (s : DeskState) → StandsFor desk.old s
         → reply ≡ (answer s (request_turn request.now).event).reply) }

@@ -8,7 +8,7 @@ ghost use Rattle.run_endings.specs.Promises.{shelf_seen};
 ghost use Rattle.run_inputs.specs.Held.{held_at};
 ghost use Rattle.run_inputs.specs.Judging.{ToldAs};
 ghost use Rattle.run_inputs.specs.Paths.{sources_in};
-ghost use Rattle.ucdshop_more_core.specs.Drafts.{AreReady, draft_of, draft_verdict, with_moves};
+ghost use Rattle.ucdshop_more_core.specs.Drafts.{AreWellFormed, draft_of, draft_verdict, with_moves};
 ghost use Rattle.ucdshop_more_core.specs.Moves.{all_moves, moves_told};
 
 use crate::beside::{paths_with, piece_refusal, refusal};
@@ -46,7 +46,7 @@ pub fn read_draft<S: Shelf, L: Ledger>(
     ensures given { IfOk result (λ drafted. Sees S.tells (S.holds shelf.old)
         (sources_in input.now ++ script.now ∷ [])
         (λ seen. draft_verdict input.now script.now seen ≡ Ok (draft_of drafted))) }
-    ensures ready { IfOk result (λ drafted. AreReady drafted.sections) }
+    ensures ready { IfOk result (λ drafted. AreWellFormed drafted.sections) }
     ensures refused { OnRefused result
         (λ line. Sees S.tells (S.holds shelf.old) (sources_in input.now ++ script.now ∷ [])
         (λ seen. draft_verdict input.now script.now seen ≡ Err line)) }
@@ -71,7 +71,7 @@ fn judge_draft<L: Ledger>(
     steps: &mut Steps<L>,
 ) -> Result<Drafted, Stop>
     ensures draft { ToldAs draft_of result (draft_verdict input.now script.now held.old.items) }
-    ensures ready { IfOk result (λ drafted. AreReady drafted.sections) }
+    ensures ready { IfOk result (λ drafted. AreWellFormed drafted.sections) }
 {
     let bench = open_folder(alloc, input, held, 0, steps)?;
     judge_behind(alloc, script, held.as_slice(), bench)
@@ -89,7 +89,7 @@ fn judge_behind(
 ) -> Result<Drafted, Stop>
     ensures draft { ToldAs draft_of result
         (with_moves bench.current (moves_told script.now (held_at held.now 9))) }
-    ensures ready { IfOk result (λ drafted. AreReady drafted.sections) }
+    ensures ready { IfOk result (λ drafted. AreWellFormed drafted.sections) }
 {
     match judge_sections(alloc, script, held_at(held, SOURCE_FILES.len())) {
         Ok(sections) => Ok(Drafted { bench, sections }),
@@ -104,7 +104,7 @@ fn judge_behind(
 fn judge_sections(alloc: Global, path: &[u8], held: Option<&[u8]>) -> Result<Sections, Stop>
     ensures moves { ToldAs all_moves result
         (moves_told path.now (option_map (λ bytes. bytes.now) held.entry)) }
-    ensures ready { IfOk result AreReady }
+    ensures ready { IfOk result AreWellFormed }
 {
     let bytes = match second_file(held) {
         Ok(bytes) => bytes,

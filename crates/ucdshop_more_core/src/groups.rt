@@ -1,7 +1,7 @@
 //! The groups among the commands of a script.
 
 ghost use Rattle.std.specs.Prelude.{◌≡◌};
-ghost use Rattle.script_lines.specs.Groups.{AreReady, IsReady};
+ghost use Rattle.script_lines.specs.Groups.{AreWellFormed, IsWellFormed};
 ghost use Rattle.ucdshop_more_core.specs.Marks.{is_group, ops_in};
 
 use release_rows::Op;
@@ -16,9 +16,9 @@ pub fn is_group(command: &Command) -> bool
 
 /// The operations of a group; none of a question.
 pub fn ops_in(command: &Command) -> &[Op]
-    requires { IsReady command.now }
+    requires { IsWellFormed command.now }
     ensures ops { result.now ≡ ops_in command.now.what }
-    ensures ready { AreReady result.now }
+    ensures ready { AreWellFormed result.now }
 {
     match &command.what {
         What::Group(ops) => ops.as_slice(),

@@ -4,12 +4,12 @@ ghost use Rattle.std.specs.Prelude.{◌≡◌, ◌+◌, ◌<◌, ◌≤◌, ◌^
 ghost use Rattle.std.specs.List.{All};
 ghost use Rattle.std.specs.Option.{MatchOption};
 ghost use Rattle.ucd_points.specs.Limits.{file_limit};
-ghost use Rattle.script_lines.specs.Groups.{IsReady};
+ghost use Rattle.script_lines.specs.Groups.{IsWellFormed};
 ghost use Rattle.run_inputs.specs.Verdict.{and_then};
 ghost use Rattle.script_pieces.specs.Scripts.{piece_script};
 ghost use Rattle.script_pieces.specs.Views.{mark_of as seen_mark, piece_of};
 ghost use Rattle.ucdshop_more_core.specs.Marks.{mark_of};
-ghost use Rattle.ucdshop_more_core.specs.Sessions.{AreFew, AreReady};
+ghost use Rattle.ucdshop_more_core.specs.Sessions.{AreFew, AreWellFormed};
 ghost use Rattle.ucdshop_more_core.specs.Turns.{MarkedAs, PutAs, TurnAs, TurnsAs, before_marks, behind_mark, piece_turn, request_turns, turns_or_fault};
 
 use crate::desk_mark::{DeskMark, fits, mark_of};
@@ -43,7 +43,7 @@ pub type Requests = ListOf<Request>;
 pub fn read_requests(alloc: Global, bytes: &[u8]) -> Result<Requests, PieceStop>
     requires { length bytes.now ≤ file_limit }
     ensures turns { TurnsAs result (turns_or_fault bytes.now) }
-    ensures ready { IfOk result AreReady }
+    ensures ready { IfOk result AreWellFormed }
     ensures few { IfOk result AreFew }
 {
     pieces_fit();
@@ -63,7 +63,7 @@ fn put_request(alloc: Global, piece: Piece<'_>, requests: &mut Requests) -> Resu
     requires { piece.first_line + length piece.body.now < 2 ^ 32 }
     ensures turn { PutAs result (request_turns requests.old) (request_turns requests.new)
         (piece_turn (piece_of piece.entry)) }
-    ensures ready { AreReady requests.old → AreReady requests.new }
+    ensures ready { AreWellFormed requests.old → AreWellFormed requests.new }
     ensures few { length requests.new ≤ length requests.old + 1 }
 {
     match piece_request(alloc, piece)? {
@@ -81,7 +81,7 @@ fn piece_request(alloc: Global, piece: Piece<'_>) -> Result<Option<Request>, Pie
     requires { piece.first_line + length piece.body.now < 2 ^ 32 }
     ensures turn { TurnAs result (piece_turn (piece_of piece.entry)) }
     ensures ready { IfOk result (λ found. MatchOption found ⊤
-        (λ request. All IsReady request.commands)) }
+        (λ request. All IsWellFormed request.commands)) }
 {
     match piece.mark {
         Some(mark) => {
@@ -98,7 +98,7 @@ fn marked_request(alloc: Global, mark: Mark<'_>, piece: Piece<'_>) -> Result<Req
     ensures turn { MarkedAs result
         (behind_mark (seen_mark mark.entry) (mark_of mark.entry.content.now)
         (piece_script (piece_of piece.entry))) }
-    ensures ready { IfOk result (λ request. All IsReady request.commands) }
+    ensures ready { IfOk result (λ request. All IsWellFormed request.commands) }
 {
     groups_are_ready();
     let fault = PieceStop::Fault {

@@ -3,12 +3,12 @@
 ghost use Rattle.std.specs.Prelude.{◌≡◌, ◌+◌, ◌<◌, ◌≤◌, ◌^◌, IfOk, length};
 ghost use Rattle.std.specs.List.{All};
 ghost use Rattle.ucd_points.specs.Limits.{file_limit};
-ghost use Rattle.script_lines.specs.Groups.{IsReady};
+ghost use Rattle.script_lines.specs.Groups.{IsWellFormed};
 ghost use Rattle.script_pieces.specs.Scripts.{piece_script};
 ghost use Rattle.script_pieces.specs.Views.{piece_of};
 ghost use Rattle.script_pieces.specs.declared.stop.PieceRule.TheVariants.{E7};
 ghost use Rattle.script_pieces.specs.declared.stop.PieceStop.TheVariants.{Fault};
-ghost use Rattle.ucdshop_more_core.specs.Drafts.{AreReady};
+ghost use Rattle.ucdshop_more_core.specs.Drafts.{AreWellFormed};
 ghost use Rattle.ucdshop_more_core.specs.Moves.{PutAs, SectionAs, SectionsAs, all_moves, are_groups, is_undo, mark_line, moves_by, moves_or_fault, piece_moves};
 
 use crate::groups::is_group;
@@ -39,7 +39,7 @@ pub type Sections = ListOf<Section>;
 pub fn read_sections(alloc: Global, bytes: &[u8]) -> Result<Sections, PieceStop>
     requires { length bytes.now ≤ file_limit }
     ensures moves { SectionsAs result (moves_or_fault bytes.now) }
-    ensures ready { IfOk result AreReady }
+    ensures ready { IfOk result AreWellFormed }
 {
     pieces_fit();
     let mut sections = Sections::new(alloc);
@@ -57,7 +57,7 @@ fn put_section(alloc: Global, piece: Piece<'_>, sections: &mut Sections) -> Resu
     requires { piece.first_line + length piece.body.now < 2 ^ 32 }
     ensures moves { PutAs result (all_moves sections.old) (all_moves sections.new)
         (piece_moves (piece_of piece.entry)) }
-    ensures ready { AreReady sections.old → AreReady sections.new }
+    ensures ready { AreWellFormed sections.old → AreWellFormed sections.new }
 {
     let section = piece_section(alloc, piece)?;
     Ok(sections.push(section)?)
@@ -71,7 +71,7 @@ fn put_section(alloc: Global, piece: Piece<'_>, sections: &mut Sections) -> Resu
 fn piece_section(alloc: Global, piece: Piece<'_>) -> Result<Section, PieceStop>
     requires { piece.first_line + length piece.body.now < 2 ^ 32 }
     ensures moves { SectionAs result (piece_moves (piece_of piece.entry)) }
-    ensures ready { IfOk result (λ section. All IsReady section.commands) }
+    ensures ready { IfOk result (λ section. All IsWellFormed section.commands) }
 {
     let Some(mark) = piece.mark else {
         return section_by(alloc, piece, None);
@@ -91,7 +91,7 @@ fn section_by(alloc: Global, piece: Piece<'_>, undo: Option<u32>) -> Result<Sect
     requires mark { undo ≡ mark_line (piece_of piece) }
     ensures moves { SectionAs result
         (moves_by (piece_of piece.entry) (piece_script (piece_of piece.entry))) }
-    ensures ready { IfOk result (λ section. All IsReady section.commands) }
+    ensures ready { IfOk result (λ section. All IsWellFormed section.commands) }
 {
     groups_are_ready();
     let commands = piece_commands(alloc, piece)?;

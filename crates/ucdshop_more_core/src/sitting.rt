@@ -8,7 +8,7 @@ ghost use Rattle.run_endings.specs.Promises.{shelf_seen};
 ghost use Rattle.run_inputs.specs.Held.{held_at};
 ghost use Rattle.run_inputs.specs.Judging.{ToldAs};
 ghost use Rattle.run_inputs.specs.Paths.{sources_in};
-ghost use Rattle.ucdshop_more_core.specs.Sessions.{AreFew, AreReady, session_of, session_verdict, with_turns};
+ghost use Rattle.ucdshop_more_core.specs.Sessions.{AreFew, AreWellFormed, session_of, session_verdict, with_turns};
 ghost use Rattle.ucdshop_more_core.specs.Turns.{request_turns, turns_told};
 
 use crate::beside::{paths_with, piece_refusal, refusal};
@@ -46,7 +46,7 @@ pub fn read_sitting<S: Shelf, L: Ledger>(
     ensures given { IfOk result (λ sitting. Sees S.tells (S.holds shelf.old)
         (sources_in input.now ++ events.now ∷ [])
         (λ seen. session_verdict input.now events.now seen ≡ Ok (session_of sitting))) }
-    ensures ready { IfOk result (λ sitting. AreReady sitting.requests) }
+    ensures ready { IfOk result (λ sitting. AreWellFormed sitting.requests) }
     ensures few { IfOk result (λ sitting. AreFew sitting.requests) }
     ensures refused { OnRefused result
         (λ line. Sees S.tells (S.holds shelf.old) (sources_in input.now ++ events.now ∷ [])
@@ -73,7 +73,7 @@ fn judge_sitting<L: Ledger>(
 ) -> Result<Sitting, Stop>
     ensures session { ToldAs session_of result
         (session_verdict input.now events.now held.old.items) }
-    ensures ready { IfOk result (λ sitting. AreReady sitting.requests) }
+    ensures ready { IfOk result (λ sitting. AreWellFormed sitting.requests) }
     ensures few { IfOk result (λ sitting. AreFew sitting.requests) }
 {
     let bench = open_folder(alloc, input, held, 0, steps)?;
@@ -92,7 +92,7 @@ fn judge_behind(
 ) -> Result<Sitting, Stop>
     ensures session { ToldAs session_of result
         (with_turns bench.current (turns_told events.now (held_at held.now 9))) }
-    ensures ready { IfOk result (λ sitting. AreReady sitting.requests) }
+    ensures ready { IfOk result (λ sitting. AreWellFormed sitting.requests) }
     ensures few { IfOk result (λ sitting. AreFew sitting.requests) }
 {
     match judge_requests(alloc, events, held_at(held, SOURCE_FILES.len())) {
@@ -108,7 +108,7 @@ fn judge_behind(
 fn judge_requests(alloc: Global, path: &[u8], held: Option<&[u8]>) -> Result<Requests, Stop>
     ensures turns { ToldAs request_turns result
         (turns_told path.now (option_map (λ bytes. bytes.now) held.entry)) }
-    ensures ready { IfOk result AreReady }
+    ensures ready { IfOk result AreWellFormed }
     ensures few { IfOk result AreFew }
 {
     let bytes = match second_file(held) {

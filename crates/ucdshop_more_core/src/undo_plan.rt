@@ -3,7 +3,7 @@
 ghost use Rattle.std.specs.Prelude.{◌≡◌, ◌∷◌, [], ◌≤◌, IfOk, OnOk};
 ghost use Rattle.std.specs.List.{fold};
 ghost use Rattle.run_endings.specs.Planning.{HasPlan, Puts};
-ghost use Rattle.ucdshop_more_core.specs.Drafts.{AreReady, draft_of};
+ghost use Rattle.ucdshop_more_core.specs.Drafts.{AreWellFormed, draft_of};
 ghost use Rattle.ucdshop_more_core.specs.Moves.{all_moves};
 ghost use Rattle.ucdshop_more_core.specs.Run.{course_ending, release_files, undo_ending, undo_log_file};
 ghost use Rattle.ucdshop_more_core.specs.Undoing.{after_move, course_of};
@@ -32,7 +32,7 @@ pub fn undo_plan<L: Ledger>(
 ) -> Result<Plan, Memory>
     requires some { 1 ≤ depth }
     requires few { depth ≤ 1024 }
-    requires ready { AreReady drafted.sections }
+    requires ready { AreWellFormed drafted.sections }
     ensures { IfOk result (HasPlan (undo_ending output.now depth (draft_of drafted))) }
 {
     let Drafted { bench, sections } = drafted;
@@ -48,7 +48,7 @@ fn plan_with<L: Ledger>(
     sections: &[Section],
     steps: &mut Steps<L>,
 ) -> Result<Plan, Memory>
-    requires ready { AreReady sections.now }
+    requires ready { AreWellFormed sections.now }
     ensures { IfOk result (HasPlan
         (course_ending output.now
         (fold after_move (course_of history.old

@@ -2,8 +2,8 @@
 
 ghost use Rattle.std.specs.Prelude.{◌≡◌, ◌∷◌, [], IfOk, OnOk, map};
 ghost use Rattle.std.specs.List.{All, fold};
-ghost use Rattle.script_lines.specs.Groups.{IsReady};
-ghost use Rattle.ucdshop_more_core.specs.Drafts.{AreReady};
+ghost use Rattle.script_lines.specs.Groups.{IsWellFormed};
+ghost use Rattle.ucdshop_more_core.specs.Drafts.{AreWellFormed};
 ghost use Rattle.ucdshop_more_core.specs.Moves.{TakeBack, all_moves, group_move, section_moves};
 ghost use Rattle.ucdshop_more_core.specs.Undoing.{after_move, course_of};
 
@@ -26,7 +26,7 @@ pub fn make_moves<L: Ledger>(
     sections: &[Section],
     steps: &mut Steps<L>,
 ) -> Result<UndoLog, Memory>
-    requires ready { AreReady sections.now }
+    requires ready { AreWellFormed sections.now }
     ensures { IfOk result (λ log. course_of history.new log
         ≡ fold after_move (course_of history.old
         (record { text = []; accepted = 0; undone = 0; refused = 0 }))
@@ -49,7 +49,7 @@ fn make_section<L: Ledger>(
     log: &mut UndoLog,
     steps: &mut Steps<L>,
 ) -> Result<(), Memory>
-    requires ready { All IsReady section.now.commands }
+    requires ready { All IsWellFormed section.now.commands }
     ensures { OnOk result (course_of history.new log.new
         ≡ fold after_move (course_of history.old log.old) (section_moves section.now)) }
 {
@@ -88,7 +88,7 @@ fn carry_groups<L: Ledger>(
     log: &mut UndoLog,
     steps: &mut Steps<L>,
 ) -> Result<(), Memory>
-    requires ready { All IsReady commands.now }
+    requires ready { All IsWellFormed commands.now }
     ensures { OnOk result (course_of history.new log.new
         ≡ fold after_move (course_of history.old log.old) (map group_move commands.now)) }
 {
@@ -108,7 +108,7 @@ fn carry_group<L: Ledger>(
     log: &mut UndoLog,
     steps: &mut Steps<L>,
 ) -> Result<(), Memory>
-    requires ready { IsReady command.now }
+    requires ready { IsWellFormed command.now }
     ensures { OnOk result (course_of history.new log.new
         ≡ after_move (course_of history.old log.old) (group_move command.now)) }
 {

@@ -1,6 +1,6 @@
 use Rattle.std.proofs.Common.{◌-◌}
 use Rattle.number_sets.specs.Keys.{is_in}
-use Rattle.point_store.specs.Kept.{values}
+use Rattle.point_store.specs.SlotStore.{values}
 use Rattle.dependency_map.specs.Index.{ListsFrom}
 use Rattle.dependency_map.proofs.relisting.push_all.Given as goal
 

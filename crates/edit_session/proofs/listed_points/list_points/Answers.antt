@@ -1,7 +1,7 @@
 use Rattle.std.proofs.Common.{ℕ, List, subst}
 use Rattle.code_facts.specs.FactTables.{tables_facts}
 use Rattle.dependency_map.specs.Maps.{asked_at}
-use Rattle.point_store.specs.Kept.{values}
+use Rattle.point_store.specs.SlotStore.{values}
 use Rattle.paged_table.specs.Paged.{values_now, values_next}
 use Rattle.ucd_facts.specs.Facts.{Facts}
 use Rattle.ucd_facts.specs.declared.query.Query.{Query}

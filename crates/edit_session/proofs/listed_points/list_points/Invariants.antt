@@ -1,7 +1,7 @@
 use Rattle.std.proofs.Common.{take}
 use Rattle.code_facts.specs.FactTables.{tables_facts}
 use Rattle.dependency_map.specs.Maps.{asked_at}
-use Rattle.point_store.specs.Kept.{values}
+use Rattle.point_store.specs.SlotStore.{values}
 use Rattle.paged_table.specs.Paged.{values_now, values_next}
 use Rattle.edit_session.specs.Questions.{AreListed}
 use Rattle.edit_session.proofs.listed_points.list_points.Given as goal

@@ -1,6 +1,6 @@
 use Rattle.code_facts.specs.FactTables.{tables_facts}
 use Rattle.dependency_map.specs.Maps.{asked_at}
-use Rattle.point_store.specs.Kept.{values}
+use Rattle.point_store.specs.SlotStore.{values}
 use Rattle.paged_table.specs.Paged.{values_now, values_next}
 use Rattle.edit_session.proofs.ListedLemmas.{listed_one}
 use Rattle.edit_session.proofs.listed_points.put_asked.Goals as goal

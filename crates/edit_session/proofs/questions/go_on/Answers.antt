@@ -1,7 +1,7 @@
 use Rattle.std.proofs.Common.{ℕ, Bool, List, sym, subst}
 use Rattle.code_facts.specs.FactTables.{tables_facts}
 use Rattle.dependency_map.specs.Maps.{asked_at}
-use Rattle.point_store.specs.Kept.{values}
+use Rattle.point_store.specs.SlotStore.{values}
 use Rattle.mention_index.specs.Mentions.{is_walked, leads}
 use Rattle.paged_table.specs.Paged.{values_now, values_next}
 use Rattle.ucd_facts.specs.Facts.{Facts}

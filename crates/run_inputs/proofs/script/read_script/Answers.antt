@@ -1,8 +1,8 @@
 use Rattle.std.proofs.Common.{subst}
 use Rattle.std.specs.Prelude.{IfOk}
 use Rattle.std.specs.List.{All}
-use Rattle.script_lines.specs.Groups.{IsReady}
+use Rattle.script_lines.specs.Groups.{IsWellFormed}
 use Rattle.run_inputs.proofs.script.read_script.Goals as goal
 
 pub returns-in-Ok-commands-clause-commands : goal.returns-in-Ok-commands-clause-commands
-returns-in-Ok-commands-clause-commands c = subst (λ result. IfOk result (All IsReady)) c.in-Ok-commands.ensures (c.groups_are_ready.ensures 1 _)
+returns-in-Ok-commands-clause-commands c = subst (λ result. IfOk result (All IsWellFormed)) c.in-Ok-commands.ensures (c.groups_are_ready.ensures 1 _)

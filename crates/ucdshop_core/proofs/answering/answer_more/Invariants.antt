@@ -1,6 +1,6 @@
 use Rattle.std.proofs.Common.{◌≡◌, ℕ, ◌+◌, ◌≤◌, fold, length}
 use Rattle.std.specs.List.{All}
-use Rattle.script_lines.specs.Groups.{IsReady}
+use Rattle.script_lines.specs.Groups.{IsWellFormed}
 use Rattle.ucdshop_core.specs.Carrying.{counted, session_on}
 use Rattle.ucdshop_core.specs.Counting.{SessionCounts}
 use Rattle.ucdshop_core.specs.Session.{step}
@@ -14,7 +14,7 @@ invariant-questions l =
       counts : (old new : ℕ) → SessionCounts (session_on l.asking l.carried) l.rest old new → SessionCounts (session_on l.asking l.initial.carried) l.commands old new;
       counted : counted l.carried + length l.rest ≡ counted l.initial.carried + length l.commands;
       left : length l.rest ≤ length l.commands;
-      ready : All IsReady l.rest;
+      ready : All IsWellFormed l.rest;
     }
 
 abbrev pub decreases-questions : goal.decreases-questions

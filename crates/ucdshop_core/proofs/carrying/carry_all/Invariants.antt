@@ -1,9 +1,9 @@
 use Rattle.std.proofs.Common.{◌≡◌, ℕ, ◌+◌, [], fold, length}
 use Rattle.std.specs.List.{All}
-use Rattle.script_lines.specs.Groups.{IsReady}
+use Rattle.script_lines.specs.Groups.{IsWellFormed}
 use Rattle.ucdshop_core.specs.Carrying.{counted, session_of}
 use Rattle.ucdshop_core.specs.Counting.{SessionCounts}
-use Rattle.set_questions.specs.Kept.{IsKept}
+use Rattle.set_questions.specs.QuestionCache.{IsKept}
 use Rattle.ucdshop_core.specs.Session.{session, started, step}
 use Rattle.ucdshop_core.proofs.carrying.carry_all.Given as goal
 
@@ -15,7 +15,7 @@ invariant-commands g l =
       session : fold step (session_of l.bench l.carried) l.rest ≡ session l.initial.bench.current l.commands;
       counts : (n : ℕ) → SessionCounts (session_of l.bench l.carried) l.rest l.steps n → SessionCounts (started l.initial.bench.current) l.commands l.initial.steps n;
       counted : counted l.carried + length l.rest ≡ length l.commands;
-      ready : All IsReady l.rest;
+      ready : All IsWellFormed l.rest;
       steps : l.commands ≡ [] → l.steps ≡ l.initial.steps;
     }
 

@@ -1,6 +1,6 @@
 use Rattle.std.proofs.Common.{◌≡◌, ◌+◌, ◌≤◌, All, length}
 use Rattle.script_pieces.specs.Pieces.{FitsBelow}
-use Rattle.ucdshop_more_core.specs.Sessions.{AreReady}
+use Rattle.ucdshop_more_core.specs.Sessions.{AreWellFormed}
 use Rattle.ucdshop_more_core.specs.Turns.{onto, request_turns, turns_of, turns_or_fault}
 use Rattle.ucdshop_more_core.proofs.requests.read_requests.Given as goal
 
@@ -9,6 +9,6 @@ abbrev pub invariant-pieces : goal.invariant-pieces
 invariant-pieces l = record {
   whole : onto (request_turns l.requests) (turns_of l.piece-iterator) ≡ turns_or_fault l.bytes;
   fits : All (FitsBelow (1 + length l.bytes)) l.piece-iterator;
-  ready : AreReady l.requests;
+  ready : AreWellFormed l.requests;
   few : length l.requests + length l.piece-iterator ≤ 1 + length l.bytes;
 }

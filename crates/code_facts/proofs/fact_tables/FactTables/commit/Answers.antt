@@ -1,7 +1,7 @@
 use Rattle.std.proofs.Common.{ℕ, ap, sym, ◌∙◌}
 use Rattle.ucd_facts.specs.Facts.{Facts}
 use Rattle.code_facts.specs.FactTables.{words_at, rests_at}
-use Rattle.point_store.specs.Kept.{values}
+use Rattle.point_store.specs.SlotStore.{values}
 use Rattle.code_facts.specs.declared.version.Version.TheVariants.{Next}
 use Rattle.code_facts.proofs.FactLemmas.{same_kept}
 use Rattle.code_facts.proofs.TableLemmas.{sound_same, sound_at}

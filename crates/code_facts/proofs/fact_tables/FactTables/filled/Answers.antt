@@ -1,6 +1,6 @@
 use Rattle.std.proofs.Common.{ℕ, ap, sym, ◌∙◌}
 use Rattle.ucd_facts.specs.Facts.{Facts}
-use Rattle.point_store.specs.Kept.{values}
+use Rattle.point_store.specs.SlotStore.{values}
 use Rattle.code_facts.proofs.FactLemmas.{same_kept}
 use Rattle.code_facts.proofs.TableLemmas.{made_point, sound_made}
 use Rattle.code_facts.proofs.fact_tables.FactTables.filled.Goals as goal

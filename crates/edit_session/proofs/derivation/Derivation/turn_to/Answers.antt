@@ -2,7 +2,7 @@ use Rattle.std.proofs.Common.{◌≡◌, ◌==◌, ℕ, Bool, true, List, length
 use Rattle.std.specs.Prelude.{IfOk, OnOk}
 use Rattle.code_facts.specs.FactTables.{tables_facts, tables_next}
 use Rattle.dependency_map.specs.Maps.{asked_at}
-use Rattle.point_store.specs.Kept.{values}
+use Rattle.point_store.specs.SlotStore.{values}
 use Rattle.paged_table.specs.Paged.{values_now}
 use Rattle.record_table.specs.Records.{record_now}
 use Rattle.record_turns.specs.Turned.{CountsWithin}

@@ -1,7 +1,7 @@
 use Rattle.std.proofs.Common.{sym, ◌∙◌}
 use Rattle.code_facts.specs.FactTables.{tables_facts}
 use Rattle.dependency_map.specs.Maps.{asked_at}
-use Rattle.point_store.specs.Kept.{values}
+use Rattle.point_store.specs.SlotStore.{values}
 use Rattle.paged_table.specs.Paged.{values_now}
 use Rattle.record_table.specs.Records.{record_now}
 use Rattle.edit_session.proofs.DerivationLemmas.{moved}

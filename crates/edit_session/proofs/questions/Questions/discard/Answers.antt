@@ -1,5 +1,5 @@
 use Rattle.dependency_map.specs.Maps.{asked_at}
-use Rattle.point_store.specs.Kept.{values}
+use Rattle.point_store.specs.SlotStore.{values}
 use Rattle.paged_table.specs.Paged.{values_now}
 use Rattle.edit_session.proofs.QuestionLemmas.{keeps_same}
 use Rattle.edit_session.proofs.questions.Questions.discard.Goals as goal

@@ -7,7 +7,7 @@ ghost use Rattle.edit_session.specs.declared.accepted.Accepted.{Accepted};
 ghost use Rattle.release_rows.specs.FileItems.{FileItem};
 ghost use Rattle.release_rows.specs.Releases.{ReleaseItems};
 ghost use Rattle.set_answers.specs.KeptPieces.{AreKept, HasPieces};
-ghost use Rattle.set_questions.specs.Kept.{IsFilled, IsKept};
+ghost use Rattle.set_questions.specs.QuestionCache.{IsFilled, IsKept};
 
 use edit_session::Bench;
 use release_rows::Op;
@@ -21,7 +21,7 @@ pub type Asking<'b> = set_answers::Asking<'b, Bench>;
 /// What questions need of a bench, as it was last made, and what changed since: only that is made again. It is what names mean, the
 /// sets of rows, and the pieces of equal records.
 #[derive(Drop)]
-pub struct Kept {
+pub struct QuestionCache {
     names: KeptNames,
     pieces: KeptPieces,
 }
@@ -41,12 +41,12 @@ fn fill_pieces(alloc: Global, kept: &mut KeptPieces, bench: &Bench) -> Result<()
     kept.make(alloc, bench, spans.as_slice())
 }
 
-impl Kept {
+impl QuestionCache {
     /// Nothing yet. It takes no memory.
-    pub fn nothing(alloc: Global) -> Kept
+    pub fn nothing(alloc: Global) -> QuestionCache
         ensures { (files : List (List FileItem)) → IsKept result files }
     {
-        Kept {
+        QuestionCache {
             names: KeptNames::nothing(),
             pieces: KeptPieces::nothing(alloc),
         }

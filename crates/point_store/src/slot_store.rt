@@ -15,9 +15,9 @@ use ucd_points::{Copied, Memory, Point, Span};
 /// A store that keeps its values one after another, and the place of each code point's value in a table of type `T`.
 ///
 /// Looking a value up takes one look-up in the table. Values that no code point has any more, even those that were
-/// prepared and discarded, stay until [`Kept::sweep`] lets them go.
+/// prepared and discarded, stay until [`SlotStore::sweep`] lets them go.
 #[derive(Drop)]
-pub struct Kept<T: Table<u64>, V: Drop> {
+pub struct SlotStore<T: Table<u64>, V: Drop> {
     // the place of each code point's value
     places: T,
     // the values at their places
@@ -26,8 +26,8 @@ pub struct Kept<T: Table<u64>, V: Drop> {
     ghost next_held: { AreHeld slots (T.next places) },
 }
 
-impl<T: Table<u64>, V: Drop> Store<V> for Kept<T, V> {
-    ghost use Rattle.point_store.specs.Kept.{values, held, places};
+impl<T: Table<u64>, V: Drop> Store<V> for SlotStore<T, V> {
+    ghost use Rattle.point_store.specs.SlotStore.{values, held, places};
 
     ghost now = { values T.now };
 
@@ -39,8 +39,8 @@ impl<T: Table<u64>, V: Drop> Store<V> for Kept<T, V> {
 
     ghost next_at = { places T.next };
 
-    fn filled(alloc: Global, value: V) -> Result<Kept<T, V>, Memory> {
-        Ok(Kept {
+    fn filled(alloc: Global, value: V) -> Result<SlotStore<T, V>, Memory> {
+        Ok(SlotStore {
             places: T::filled(alloc, 0)?,
             slots: Slots::new(alloc, value),
         })
@@ -98,8 +98,8 @@ impl<T: Table<u64>, V: Drop> Store<V> for Kept<T, V> {
     }
 }
 
-impl<T: Table<u64>, V: Drop> Kept<T, V> {
-    ghost use Rattle.point_store.specs.Kept.{held_count};
+impl<T: Table<u64>, V: Drop> SlotStore<T, V> {
+    ghost use Rattle.point_store.specs.SlotStore.{held_count};
 
     /// How many values are held beside the one that was given at first. It takes time in proportion to the places.
     pub fn count(&self) -> usize
@@ -109,7 +109,7 @@ impl<T: Table<u64>, V: Drop> Kept<T, V> {
     }
 }
 
-impl<T: Table<u64> + Copied, V: Drop> Kept<T, V> {
+impl<T: Table<u64> + Copied, V: Drop> SlotStore<T, V> {
     /// The same values at the same places, now and next, each of them as `copy` makes it.
     ///
     /// - `Memory`: memory ran out.
@@ -117,42 +117,42 @@ impl<T: Table<u64> + Copied, V: Drop> Kept<T, V> {
         &self,
         alloc: Global,
         copy: F,
-    ) -> Result<Kept<T, V>, Memory>
+    ) -> Result<SlotStore<T, V>, Memory>
         requires callable { F.IsAlwaysCallable copy }
         requires copies { Copies (F.post copy) }
         ensures now { IfOk result
-            (λ kept. ⟦<Kept<T, V> as Store<V>>⟧.now kept
-            ≡ ⟦<Kept<T, V> as Store<V>>⟧.now self.now) }
+            (λ kept. ⟦<SlotStore<T, V> as Store<V>>⟧.now kept
+            ≡ ⟦<SlotStore<T, V> as Store<V>>⟧.now self.now) }
         ensures next { IfOk result
-            (λ kept. ⟦<Kept<T, V> as Store<V>>⟧.next kept
-            ≡ ⟦<Kept<T, V> as Store<V>>⟧.next self.now) }
+            (λ kept. ⟦<SlotStore<T, V> as Store<V>>⟧.next kept
+            ≡ ⟦<SlotStore<T, V> as Store<V>>⟧.next self.now) }
         ensures now_at { IfOk result
-            (λ kept. ⟦<Kept<T, V> as Store<V>>⟧.now_at kept
-            ≡ ⟦<Kept<T, V> as Store<V>>⟧.now_at self.now) }
+            (λ kept. ⟦<SlotStore<T, V> as Store<V>>⟧.now_at kept
+            ≡ ⟦<SlotStore<T, V> as Store<V>>⟧.now_at self.now) }
         ensures next_at { IfOk result
-            (λ kept. ⟦<Kept<T, V> as Store<V>>⟧.next_at kept
-            ≡ ⟦<Kept<T, V> as Store<V>>⟧.next_at self.now) }
+            (λ kept. ⟦<SlotStore<T, V> as Store<V>>⟧.next_at kept
+            ≡ ⟦<SlotStore<T, V> as Store<V>>⟧.next_at self.now) }
         ensures held { IfOk result
-            (λ kept. ⟦<Kept<T, V> as Store<V>>⟧.held kept
-            ≡ ⟦<Kept<T, V> as Store<V>>⟧.held self.now) }
+            (λ kept. ⟦<SlotStore<T, V> as Store<V>>⟧.held kept
+            ≡ ⟦<SlotStore<T, V> as Store<V>>⟧.held self.now) }
     {
-        Ok(Kept {
+        Ok(SlotStore {
             places: self.places.copied(alloc)?,
             slots: self.slots.copied(alloc, copy)?,
         })
     }
 }
 
-impl<T: Stretches<u64>, V: Drop> Kept<T, V> {
+impl<T: Stretches<u64>, V: Drop> SlotStore<T, V> {
     /// If many values were held since this was done last, lets go of those that no code point has, now or next, as far
     /// as there is memory to look for them. It takes steps in proportion to the stretches of the table and to the
     /// values. What is now and next stays.
     #[tactic(auto, using(crate::proofs::SlotSteps::held_same, crate::proofs::SlotSteps::values_same))]
     pub fn sweep(&mut self)
-        ensures now { SameValues (⟦<Kept<T, V> as Store<V>>⟧.now self.new)
-            (⟦<Kept<T, V> as Store<V>>⟧.now self.old) }
-        ensures next { SameValues (⟦<Kept<T, V> as Store<V>>⟧.next self.new)
-            (⟦<Kept<T, V> as Store<V>>⟧.next self.old) }
+        ensures now { SameValues (⟦<SlotStore<T, V> as Store<V>>⟧.now self.new)
+            (⟦<SlotStore<T, V> as Store<V>>⟧.now self.old) }
+        ensures next { SameValues (⟦<SlotStore<T, V> as Store<V>>⟧.next self.new)
+            (⟦<SlotStore<T, V> as Store<V>>⟧.next self.old) }
     {
         if self.slots.are_few() {
             return;
@@ -170,11 +170,11 @@ impl<T: Stretches<u64>, V: Drop> Kept<T, V> {
     pub fn last_of_stretch(&self, c: Point) -> Point
         ensures from { c ≤ result }
         ensures same { (k : ℕ) → c ≤ k → k ≤ result
-            → ⟦<Kept<T, V> as Store<V>>⟧.now self.now k
-            ≡ ⟦<Kept<T, V> as Store<V>>⟧.now self.now c }
+            → ⟦<SlotStore<T, V> as Store<V>>⟧.now self.now k
+            ≡ ⟦<SlotStore<T, V> as Store<V>>⟧.now self.now c }
         ensures ends { result + 1 < 1114112 → (result + 1) % 256 ≢ 0
-            → ⟦<Kept<T, V> as Store<V>>⟧.now_at self.now (result + 1)
-            ≢ ⟦<Kept<T, V> as Store<V>>⟧.now_at self.now c }
+            → ⟦<SlotStore<T, V> as Store<V>>⟧.now_at self.now (result + 1)
+            ≢ ⟦<SlotStore<T, V> as Store<V>>⟧.now_at self.now c }
     {
         self.places.last_of_stretch(c)
     }
@@ -183,11 +183,11 @@ impl<T: Stretches<u64>, V: Drop> Kept<T, V> {
     pub fn last_of_stretch_next(&self, c: Point) -> Point
         ensures from { c ≤ result }
         ensures same { (k : ℕ) → c ≤ k → k ≤ result
-            → ⟦<Kept<T, V> as Store<V>>⟧.next self.now k
-            ≡ ⟦<Kept<T, V> as Store<V>>⟧.next self.now c }
+            → ⟦<SlotStore<T, V> as Store<V>>⟧.next self.now k
+            ≡ ⟦<SlotStore<T, V> as Store<V>>⟧.next self.now c }
         ensures ends { result + 1 < 1114112 → (result + 1) % 256 ≢ 0
-            → ⟦<Kept<T, V> as Store<V>>⟧.next_at self.now (result + 1)
-            ≢ ⟦<Kept<T, V> as Store<V>>⟧.next_at self.now c }
+            → ⟦<SlotStore<T, V> as Store<V>>⟧.next_at self.now (result + 1)
+            ≢ ⟦<SlotStore<T, V> as Store<V>>⟧.next_at self.now c }
     {
         self.places.last_of_stretch_next(c)
     }

@@ -7,16 +7,16 @@
 use Rattle.std.specs.Prelude.{ℕ, Option}
 use Rattle.range_table.specs.declared.table.Table.{Ghosts}
 use Rattle.point_store.specs.Slots.{value_at, held_at, held_behind}
-use Rattle.point_store.specs.declared.kept.Kept.{Kept}
+use Rattle.point_store.specs.declared.slot_store.SlotStore.{SlotStore}
 
-abbrev pub places : {T V : Type 0} {d : Ghosts T ℕ} → (T → ℕ → ℕ) → Kept T V d → ℕ → ℕ
+abbrev pub places : {T V : Type 0} {d : Ghosts T ℕ} → (T → ℕ → ℕ) → SlotStore T V d → ℕ → ℕ
 places now k c = now k.places c
 
-abbrev pub values : {T V : Type 0} {d : Ghosts T ℕ} → (T → ℕ → ℕ) → Kept T V d → ℕ → V
+abbrev pub values : {T V : Type 0} {d : Ghosts T ℕ} → (T → ℕ → ℕ) → SlotStore T V d → ℕ → V
 values now k c = value_at k.slots (places now k c)
 
-abbrev pub held : {T V : Type 0} {d : Ghosts T ℕ} → Kept T V d → ℕ → Option V
+abbrev pub held : {T V : Type 0} {d : Ghosts T ℕ} → SlotStore T V d → ℕ → Option V
 held k p = held_at k.slots p
 
-abbrev pub held_count : {T V : Type 0} {d : Ghosts T ℕ} → Kept T V d → ℕ
+abbrev pub held_count : {T V : Type 0} {d : Ghosts T ℕ} → SlotStore T V d → ℕ
 held_count k = held_behind k.slots

@@ -1,5 +1,5 @@
 use Rattle.point_store.proofs.SlotSteps.{held_same, values_same}
-use Rattle.point_store.proofs.kept.Kept.sweep.Goals as goal
+use Rattle.point_store.proofs.slot_store.SlotStore.sweep.Goals as goal
 
 pub invariant_of-self-clause-now_held : goal.invariant_of-self-clause-now_held
 invariant_of-self-clause-now_held g c =

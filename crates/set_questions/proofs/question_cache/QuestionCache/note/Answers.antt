@@ -3,7 +3,7 @@ use Rattle.edit_session.specs.Groups.{group_answer}
 use Rattle.set_answers.specs.Questions.{files_record}
 use Rattle.set_questions.specs.KeptProofs.{others_stay}
 use Rattle.set_questions.specs.UneditedProofs.{unedited_stay}
-use Rattle.set_questions.proofs.kept.Kept.note.Goals as goal
+use Rattle.set_questions.proofs.question_cache.QuestionCache.note.Goals as goal
 
 pub returns : goal.returns
 returns c = λ old new applied kept.

@@ -35,7 +35,8 @@ impl RowRevisions {
         self.last.get(key).copied().unwrap_or(0)
     }
 
-    /// The same for a row by its file and its key. It takes no memory, and time in proportion to the number of rows.
+    /// The last revision that touched the row of a file with this key; 0 if none did. It takes no memory, and time in
+    /// proportion to the number of rows.
     pub fn last_of(&self, file: SourceFile, key: &Key) -> u32
         ensures { result ≡ last_in self.now (row_parts (record { file = file; key = key.now })) }
     {

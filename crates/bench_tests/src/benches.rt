@@ -62,13 +62,14 @@ fn has_word(bench: &Bench, block: u8, place: u8, word: u64) -> bool {
     }
 }
 
-/// The same, and whether it gives their text back.
+/// Whether a bench over the letters gives their text back, shows what their rows give, and has its packed words in pages.
 fn shows_letters(alloc: Global, bench: &Bench) -> Result<bool, Memory> {
     let text = bench.release().text(alloc, SourceFile::UnicodeData)?;
     Ok(text.as_slice() == LETTERS && shows_facts(bench) && shows_pages(bench))
 }
 
-/// The same for a bench that is opened for it. A call lets the bench go, so that this function stays small.
+/// Whether a bench opens over the letters, gives their text back, shows what their rows give, and has its packed words in
+/// pages. A call lets the bench go, so that this function stays small.
 fn are_shown(alloc: Global) -> Result<bool, Fail> {
     let opened = bench_over(alloc, LETTERS)?;
     let shown = match &opened {

@@ -16,7 +16,7 @@ use ucd_model::{FactView, FormStop, Point, Query, SourceFile, Steps, same_facts}
 const DATA: &[u8] =
     b"0061;LATIN SMALL LETTER A;Ll;0;L;;;;;N;;;;;\n0300;COMBINING GRAVE ACCENT;Mn;230;NSM;;;;;N;;;;;\nFB00;X;Lo;0;L;<compat> 0061 0300;;;;N;;;;;\n";
 
-/// The same, and their composite.
+/// A letter, a mark, their composite, and a ligature that has the letter and the mark in its compatibility mapping.
 const WITH_COMPOSITE: &[u8] =
     b"0061;LATIN SMALL LETTER A;Ll;0;L;;;;;N;;;;;\n00E0;LATIN SMALL LETTER A WITH GRAVE;Ll;0;L;0061 0300;;;;N;;;;;\n0300;COMBINING GRAVE ACCENT;Mn;230;NSM;;;;;N;;;;;\nFB00;X;Lo;0;L;<compat> 0061 0300;;;;N;;;;;\n";
 

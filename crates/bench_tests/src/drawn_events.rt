@@ -303,7 +303,8 @@ fn answers_alike<L: Ledger>(
     desk_answers_alike(alloc, &mut desk, count, steps)
 }
 
-/// The same of a new desk.
+/// Whether a new desk answers so many drawn events as the model does, both are alike behind each, and the model then has
+/// more than a twentieth as many revisions.
 fn desk_answers_alike<L: Ledger>(
     alloc: Global,
     desk: &mut Desk,
@@ -341,7 +342,7 @@ fn event_is_alike<L: Ledger>(
     are_touched_alike(alloc, desk, plain)
 }
 
-/// The same of a desk over a release with no row.
+/// Whether a desk over a release with no row answers so many drawn events as the model does.
 fn all_alike<L: Ledger>(alloc: Global, count: u32, blank: Blank) -> Result<bool, Fail>
     requires name { blank.name ≡ L.name }
     requires parts { blank.parts ≡ L.parts }
@@ -354,7 +355,7 @@ fn all_alike<L: Ledger>(alloc: Global, count: u32, blank: Blank) -> Result<bool,
     answers_alike(alloc, bench, count, &mut steps)
 }
 
-/// The same on a ledger of its own.
+/// Whether a desk over a release with no row answers so many drawn events as the model does, on a ledger of its own.
 fn are_alike(alloc: Global, count: u32) -> Result<bool, Fail> {
     all_alike::<Brand>(alloc, count, Blank::new(1))
 }

@@ -139,7 +139,7 @@ fn are_told(replies: &[Reply], expected: &[Told]) -> bool {
     replies.iter().map(in_words).eq(expected.iter().copied())
 }
 
-/// The same of a desk over these lines of UnicodeData.txt, with all other files empty.
+/// Whether a desk answers the events so, all at once. It stands over the lines [`GRAVE`] of UnicodeData.txt, with all other files empty.
 fn all_answered<L: Ledger>(
     alloc: Global,
     acts: &[(Act, &[Edit])],

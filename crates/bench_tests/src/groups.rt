@@ -100,7 +100,8 @@ fn each_answered<L: Ledger>(
     Ok(true)
 }
 
-/// The same for a bench over a release. A call lets the bench go, so that this function stays small.
+/// Whether a bench over a release carries the groups out, one after the other, and just the records of the code points that
+/// stand beside each group differ. A call lets the bench go, so that this function stays small.
 fn all_answered<L: Ledger>(
     alloc: Global,
     release: Release,
@@ -126,7 +127,7 @@ fn answers(alloc: Global, lines: &[u8], groups: &[(&[Edit], &[u32])]) -> Result<
     answers_over(alloc, lines, b"", groups)
 }
 
-/// The same with these lines of CaseFolding.txt.
+/// Whether a bench over these lines of UnicodeData.txt and CaseFolding.txt, with all other files empty, answers the groups so.
 fn answers_over(
     alloc: Global,
     lines: &[u8],

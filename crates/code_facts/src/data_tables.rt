@@ -63,7 +63,7 @@ impl DataTables {
     }
 }
 
-/// The same, while rows are added.
+/// The part of the word that the row of a code point gives, and its mappings, while rows are added.
 #[derive(Drop)]
 pub struct DataRuns {
     /// The parts of the packed words.

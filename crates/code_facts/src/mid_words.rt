@@ -36,7 +36,10 @@ pub fn mid_words_of(alloc: Global, rows: &[RowText<'_>]) -> Result<Vec<Span>, Me
     }
 }
 
-/// The same from the rows that are no missing rows; `None` if a missing row has such a value.
+/// The code points that stand in the middle of a word by these rows of WordBreakProperty.txt, from the rows that are no
+/// missing rows; `None` if a missing row has a value in the middle of a word. UAX #29, section 4.1; UAX #44, section 4.2.10.
+///
+/// - `Memory`: memory ran out.
 fn plain_mid_words(alloc: Global, rows: &[RowText<'_>]) -> Result<Option<Vec<Span>>, Memory>
     requires { AreValuesApart rows.now }
     ensures { IfOk result (λ given. IfSome given (λ spans. (c : ℕ)
@@ -73,7 +76,10 @@ fn mid_word_span(row: &RowRef<'_>) -> Option<Span>
     }
 }
 
-/// The same from all rows, whatever their values are.
+/// The code points that stand in the middle of a word by these rows of WordBreakProperty.txt, from all rows, whatever their
+/// values are. UAX #29, section 4.1; UAX #44, section 4.2.10.
+///
+/// - `Memory`: memory ran out.
 fn layered_mid_words(alloc: Global, rows: &[RowText<'_>]) -> Result<Vec<Span>, Memory>
     ensures { IfOk result (λ spans. (c : ℕ) → c < 1114112
         → list_any (within c) spans.items ≡ mid_word_at rows.now c) }

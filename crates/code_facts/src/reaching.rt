@@ -89,7 +89,8 @@ impl<T: Stretches<u64>> FactTables<T> {
         Some(last)
     }
 
-    /// The same for the words.
+    /// A code point up to which the words of all from `c` on are the same now and next; `None` if the word of `c` is not. It
+    /// is found by a few look-ups, and need not be the last such code point.
     fn last_same_word(&self, c: Point) -> Option<Point>
         ensures { IfSome result (HoldsTo
             (λ d. words_at Version.Now self.now d ≡ words_at Version.Next self.now d) c) }
@@ -104,7 +105,8 @@ impl<T: Stretches<u64>> FactTables<T> {
         Some(lesser(now, next))
     }
 
-    /// The same for what is kept beside the words.
+    /// A code point up to which what is kept beside the words is the same now and next for all from `c` on; `None` if that
+    /// of `c` is not. It is found by a few look-ups, and need not be the last such code point.
     fn last_same_rest(&self, c: Point) -> Option<Point>
         ensures { IfSome result (HoldsTo
             (λ d. rests_at Version.Now self.now d ≡ rests_at Version.Next self.now d) c) }

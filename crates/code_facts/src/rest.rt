@@ -306,7 +306,7 @@ fn copied_mappings(alloc: Global, all: &Mappings) -> Result<Rest, Memory>
     )
 }
 
-/// The same images, if there are any.
+/// A copy of the images that CaseFolding.txt and SpecialCasing.txt give to a code point, if there are any.
 ///
 /// - `Memory`: memory ran out.
 fn copied_cases(alloc: Global, cases: Option<&Cases>) -> Result<Option<Box<Cases>>, Memory>

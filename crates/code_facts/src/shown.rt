@@ -22,7 +22,8 @@ pub fn shown(c: Point, word: u64, rest: &Rest) -> FactsRef<'_>
     }
 }
 
-/// The same of a code point that has no more than this decomposition mapping, as most have: nothing is looked up.
+/// The facts of a code point by its word and its decomposition mapping, if it has no more than that mapping. So it is for
+/// most code points. Nothing is looked up.
 #[tactic(auto, using(crate::proofs::PlainLemmas::itself))]
 fn shown_bare(c: Point, word: u64, mapping: &[Point]) -> FactsRef<'_>
     ensures { shown_facts result ≡ kept_at c word (bare_rest mapping.now) }
@@ -47,7 +48,7 @@ fn shown_bare(c: Point, word: u64, mapping: &[Point]) -> FactsRef<'_>
     }
 }
 
-/// The same, whatever mappings it has.
+/// The facts of a code point by its word and its rest, whatever mappings it has.
 fn shown_all(c: Point, word: u64, rest: &Rest) -> FactsRef<'_>
     ensures { shown_facts result ≡ kept_at c word rest.now }
 {

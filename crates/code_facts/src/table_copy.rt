@@ -9,7 +9,7 @@ use std::alloc::Global;
 use ucd_facts::{Copied, Memory, Spans};
 
 impl<T: Table<u64> + Copied> FactTables<T> {
-    /// The same facts, now and next.
+    /// A copy of the tables, with the same facts, now and next.
     ///
     /// - `Memory`: memory ran out.
     pub fn copied(&self, alloc: Global) -> Result<FactTables<T>, Memory>

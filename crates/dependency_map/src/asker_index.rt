@@ -19,7 +19,7 @@ use ucd_facts::{Memory, Point, Queries, Query};
 /// Stands in the keys of rows, in the place of a pair's first code point.
 const ROW: u64 = 0x11_0000;
 
-/// The same for second members.
+/// Stands in the keys of second members, in the place of a pair's first code point.
 const SECOND: u64 = 0x11_0001;
 
 /// Lists a code point under each of the questions that are not its own ones.

@@ -16,7 +16,7 @@ const BEFORE: [FoldedRow<'static>; 3] = [
     (0xFB00, Category::Lo, 0, COMPAT, &[0x0061, 0x0300], &[]),
 ];
 
-/// The same with the composite of the letter and the mark, which is folded to the letter.
+/// A letter, a mark, a compatibility character of the two, and their composite, which is folded to the letter.
 const AFTER: [FoldedRow<'static>; 4] = [
     (0x0061, Category::Ll, 0, PLAIN, &[], &[]),
     (0x0300, Category::Mn, 230, PLAIN, &[], &[]),

@@ -242,7 +242,7 @@ fn are_changed<W: FactView>(alloc: Global, view: &W, cases: &[ChangeCase]) -> bo
     true
 }
 
-/// The same over a list of rows.
+/// Whether just what is wanted changes of each list, by the facts of these rows.
 fn rows_are_changed(alloc: Global, rows: &[CaseRow], cases: &[ChangeCase]) -> bool {
     match listed_cased(alloc, rows) {
         Ok(list) => are_changed(alloc, &list, cases),

@@ -64,7 +64,7 @@ fn are_checked<W: FactView>(alloc: Global, view: &W, cases: &[Case]) -> bool {
     true
 }
 
-/// The same over a list of rows.
+/// Whether the quick checks of each code point are the wanted ones, by the facts of these rows.
 fn rows_are_checked(alloc: Global, rows: &[Row<'_>], cases: &[Case]) -> bool {
     match listed(alloc, rows) {
         Ok(list) => are_checked(alloc, &list, cases),

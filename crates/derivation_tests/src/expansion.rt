@@ -67,7 +67,7 @@ fn are_answered<W: FactView>(alloc: Global, view: &W, cases: &[Case]) -> bool {
     true
 }
 
-/// The same over a list of rows.
+/// Whether each expansion, or the rule that it breaks, is the wanted one, by the facts of these rows.
 fn rows_are_answered(alloc: Global, rows: &[Row<'_>], cases: &[Case]) -> bool {
     match listed(alloc, rows) {
         Ok(list) => are_answered(alloc, &list, cases),
@@ -181,7 +181,7 @@ fn long(alloc: Global) -> Result<FactList, Memory> {
     Ok(list)
 }
 
-/// The same in which a member of the mapping has an endless one.
+/// A list in which 3000 has a mapping that is too long, and a member of that mapping has an endless one.
 fn endless(alloc: Global) -> Result<FactList, Memory> {
     let mut list = long(alloc)?;
     put(alloc, &mut list, (0x3001, 0, COMPAT, &[0x3001]))?;

@@ -45,7 +45,7 @@ fn are_answered<W: FactView>(alloc: Global, view: &W, cases: &[Case]) -> bool {
     true
 }
 
-/// The same over a list of rows.
+/// Whether each NFKC_Casefold, or the rule that stands in its place, is the wanted one, by the facts of these rows.
 fn rows_are_answered(alloc: Global, rows: &[FoldedRow<'_>], cases: &[Case]) -> bool {
     match listed_folded(alloc, rows) {
         Ok(list) => are_answered(alloc, &list, cases),

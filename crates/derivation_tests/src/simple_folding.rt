@@ -149,7 +149,7 @@ fn have_both<W: FactView>(alloc: Global, view: &W, cases: &[BothCase]) -> bool {
     true
 }
 
-/// The same over the facts of all letters.
+/// Whether the records of these letters have the wanted foldings, by the facts of all letters.
 fn are_folded(alloc: Global, cases: &[BothCase]) -> bool {
     match letters(alloc) {
         Ok(list) => have_both(alloc, &list, cases),

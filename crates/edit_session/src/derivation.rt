@@ -72,7 +72,7 @@ impl Derivation {
         }
     }
 
-    /// The same facts and records, now and next. What code points ask is listed anew once a group needs it.
+    /// A copy with the same facts and records, now and next. What code points ask is listed anew once a group needs it.
     ///
     /// - `Memory`: memory ran out.
     pub fn copied(&self, alloc: Global) -> Result<Box<Derivation>, Memory>
@@ -84,7 +84,9 @@ impl Derivation {
         Ok(Box::new(alloc, copy)?)
     }
 
-    /// The same, not in a box.
+    /// A copy with the same facts and records, now and next, not in a box. What code points ask is listed anew once a group needs it.
+    ///
+    /// - `Memory`: memory ran out.
     fn unboxed_copy(&self, alloc: Global) -> Result<Derivation, Memory>
         ensures now { IfOk result (λ copy. (F : ℕ → Facts) → IsNow F self.now → IsNow F copy) }
         ensures still { IfOk result (λ copy. IsStill self.now → IsStill copy) }
@@ -136,7 +138,15 @@ impl Derivation {
         self.turn_prepared(alloc, &queries, steps)
     }
 
-    /// The same, once the facts next are prepared, for the questions that they answer differently.
+    /// Makes what is next follow from the facts next, which are prepared, and answers the code points whose records differ,
+    /// ascending. The queries are the questions that the facts next answer differently. Only the code points that depend on
+    /// the change are derived, and counted. What code points ask is listed as far as one of the questions leads to them.
+    ///
+    /// - `Refused(Valid { rule, point })`: the facts next are not valid. The least code point that breaks a rule is named,
+    ///   with its first rule.
+    /// - `Memory`: memory ran out.
+    ///
+    /// After either, some of what is next may be prepared.
     fn turn_prepared<L: Ledger>(
         &mut self,
         alloc: Global,

@@ -157,7 +157,10 @@ fn walk(
     })
 }
 
-/// The same, in their places.
+/// Goes on from the code points that questions are about, and lists what each of those asks that one newly comes to. The map
+/// and the mentions are changed in their places.
+///
+/// - `Memory`: memory ran out.
 fn go_on(
     alloc: Global,
     tables: &FactTables<PagedTable>,

@@ -71,7 +71,7 @@ fn plan_words<S: Shelf, L: Ledger>(
     }
 }
 
-/// The same for a folder, and a path that is written.
+/// Does all that comes before the write, for a folder that is read and a path that is written.
 fn prepare<S: Shelf, L: Ledger>(
     alloc: Global,
     folder: &[u8],

@@ -23,7 +23,7 @@ pub fn is_default_ignorable(c: Point, facts: &FactsRef<'_>) -> bool
     is_ignorable_by(c, facts.category, facts.flags)
 }
 
-/// The same of a code point with this category and these properties.
+/// Whether a code point with this category and these properties is a Default_Ignorable_Code_Point. UAX #44, section 5.3, table 9.
 fn is_ignorable_by(c: Point, category: Category, flags: Flags) -> bool
     ensures { (G : Facts) → G.category ≡ category → G.flag ≡ has_flag flags
         → result ≡ default_ignorable c G }

@@ -31,8 +31,8 @@ pub struct Found {
 }
 
 impl Found {
-    /// The same list behind another one: it is known that both foldings give it only if `alike` says so of the other
-    /// one too.
+    /// This list, as it stands behind another one. It is known that both foldings give it only if that was known of it, and
+    /// `alike` says so of the other one too.
     fn behind(self, alike: bool) -> Found
         ensures list { result.list ≡ self.list }
         ensures alike { result.alike ≡ (alike && self.alike) }
@@ -74,8 +74,11 @@ pub(crate) fn fixed<W: FactView>(
     }
 }
 
-/// The same from a settled form. If no member has a canonical mapping, it is its own Normalisation Form KC, which is not
-/// made again.
+/// The first list, after 0 to 7 rounds from a code point whose Normalisation Form KC is settled, that one more round leaves
+/// as it is; `None` if there is none. If no member of the form has a canonical mapping, the form is its own Normalisation
+/// Form KC, which is not made again. The Unicode Standard, section 3.13, toNFKC_Casefold.
+///
+/// - `Memory`: memory ran out.
 fn fixed_settled<W: FactView>(
     alloc: Global,
     view: &W,
@@ -95,9 +98,12 @@ fn fixed_settled<W: FactView>(
     Ok(Some(Found { list, alike: true }))
 }
 
-/// The same from the folded list of the first round. `alike` says whether it is known that both foldings give it, and
-/// `settled` whether it is settled. If it is settled, and its own Normalisation Form KC, one more round leaves it as it
-/// is, and is not made.
+/// The first list, after 0 to 7 rounds from a code point, that one more round leaves as it is; `None` if there is none.
+/// `folded` is the folded list of the first round. `alike` says whether it is known that both foldings give it, and
+/// `settled` whether it is settled. If it is settled, and its own Normalisation Form KC, one more round leaves it as it is,
+/// and is not made. The Unicode Standard, section 3.13, toNFKC_Casefold.
+///
+/// - `Memory`: memory ran out.
 fn fixed_by<W: FactView>(
     alloc: Global,
     view: &W,
@@ -122,7 +128,10 @@ fn fixed_by<W: FactView>(
     fixed_behind(alloc, view, folding, c, found)
 }
 
-/// The same from the list after the first round.
+/// The first list, after 0 to 7 rounds from a code point, that one more round leaves as it is; `None` if there is none.
+/// `first` is the list after the first round. The Unicode Standard, section 3.13, toNFKC_Casefold.
+///
+/// - `Memory`: memory ran out.
 fn fixed_behind<W: FactView>(
     alloc: Global,
     view: &W,

@@ -55,7 +55,7 @@ pub fn casefolds_of<W: FactView>(
     }
 }
 
-/// The same image again. It takes no memory if that is the code point itself, or no code points.
+/// A copy of an image. It takes no memory if the image is the code point itself, or no code points.
 fn copied(alloc: Global, image: &Image) -> Result<Image, Memory>
     ensures { IfOk result (λ copy. copy ≡ image.now) }
 {

@@ -24,7 +24,7 @@ pub struct Forms {
     pub nfkc: Option<Points>,
 }
 
-/// The same forms, as slices.
+/// Normalisation Forms C and KC of a code point alone, as slices, and what its Normalisation Form D tells. UAX #15, section 1.2.
 #[derive(Clone, Copy)]
 pub struct FormsRef<'a> {
     /// Which mappings change Normalisation Form D.

@@ -82,7 +82,7 @@ pub fn is_id_start(facts: &FactsRef<'_>) -> bool
     starts_by(facts.category, facts.flags)
 }
 
-/// The same of a code point with this category and these properties.
+/// Whether a code point with this category and these properties has ID_Start. UAX #31, section 2, table 2.
 pub fn starts_by(category: Category, flags: Flags) -> bool
     ensures { (G : Facts) → G.category ≡ category → G.flag ≡ has_flag flags → result ≡ id_start G }
 {
@@ -106,7 +106,7 @@ pub fn is_id_continue(facts: &FactsRef<'_>) -> bool
     continues_by(facts.category, facts.flags)
 }
 
-/// The same of a code point with this category and these properties.
+/// Whether a code point with this category and these properties has ID_Continue. UAX #31, section 2, table 2.
 pub fn continues_by(category: Category, flags: Flags) -> bool
     ensures { (G : Facts) → G.category ≡ category → G.flag ≡ has_flag flags
         → result ≡ id_continue G }

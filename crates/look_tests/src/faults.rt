@@ -131,7 +131,7 @@ fn tells_read(alloc: Global, words: &[&[u8]], nth: u32, path: &[u8]) -> Result<b
     ends(alloc, words, &mut shelf, 1000, expected)
 }
 
-/// The same by a file of the folder `d`.
+/// Whether a run of these words is told that a read failed, counted from 1, by the path of this file of the folder `d`.
 ///
 /// - `Memory`: memory ran out.
 fn tells_file(alloc: Global, words: &[&[u8]], nth: u32, name: &[u8]) -> Result<bool, Memory> {

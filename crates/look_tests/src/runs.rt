@@ -12,7 +12,7 @@ pub const LETTERS: &[u8] = b"0041;LATIN CAPITAL LETTER A;Lu;0;L;;;;;N;;;;;\n\
       0300;COMBINING GRAVE ACCENT;Mn;230;NSM;;;;;N;;;;;\n\
       0301;COMBINING ACUTE ACCENT;Mn;230;NSM;;;;;N;;;;;\n";
 
-/// The same without a letter, and with another class of a mark.
+/// A letter and two marks: [`LETTERS`] without 0041, and with another class of 0300.
 const EARLIER: &[u8] = b"0061;LATIN SMALL LETTER A;Ll;0;L;;;;;N;;;;;\n\
       0300;COMBINING GRAVE ACCENT;Mn;220;NSM;;;;;N;;;;;\n\
       0301;COMBINING ACUTE ACCENT;Mn;230;NSM;;;;;N;;;;;\n";

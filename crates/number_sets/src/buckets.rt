@@ -40,7 +40,7 @@ impl Buckets {
         buckets
     }
 
-    /// The same buckets.
+    /// A copy of the buckets.
     ///
     /// - `Memory`: memory ran out.
     pub fn copied(&self, alloc: Global) -> Result<Buckets, Memory> {

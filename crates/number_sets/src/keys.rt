@@ -40,7 +40,7 @@ impl KeySet {
         }
     }
 
-    /// The same set.
+    /// A copy of the set, with the same keys.
     ///
     /// - `Memory`: memory ran out.
     #[tactic(auto, unfolding(crate::specs::Keys::has))]

@@ -34,8 +34,8 @@ pub struct Round {
 }
 
 impl Round {
-    /// The same round behind others: both foldings are known to give and to ask the same only if `alike` says so of the
-    /// others too.
+    /// This round, as it stands behind others. Both foldings are known to give and to ask the same only if that was known of
+    /// it, and `alike` says so of the others too.
     fn behind(self, alike: bool) -> Round
         ensures after { result.after ≡ self.after }
         ensures alike { result.alike ≡ (alike && self.alike) }

@@ -27,7 +27,9 @@ pub fn put_trees<W: FactView>(
     Ok(())
 }
 
-/// The same for one code point.
+/// Appends the questions for the facts of the code points that the expansion of this one looks at. UAX #15, section 1.3.
+///
+/// - `Memory`: memory ran out.
 #[tactic(auto, unfolding(query_laws::specs::Questions::whole_tree))]
 fn put_whole_tree<W: FactView>(
     view: &W,
@@ -42,7 +44,10 @@ fn put_whole_tree<W: FactView>(
     Ok(())
 }
 
-/// The same with some levels left.
+/// Appends the questions for the facts of the code points that the expansion of this one looks at, with so many levels left.
+/// UAX #15, section 1.3.
+///
+/// - `Memory`: memory ran out.
 fn put_tree<W: FactView>(
     view: &W,
     compat: bool,
@@ -71,7 +76,8 @@ pub fn has_compat<W: FactView>(view: &W, c: Point) -> bool
     has_compat_within(view, LEVELS, c)
 }
 
-/// The same with some levels left.
+/// Whether a code point that the expansions of this one look at, with so many levels left, has a compatibility mapping.
+/// UAX #15, section 1.3.
 fn has_compat_within<W: FactView>(view: &W, levels: u8, c: Point) -> bool
     ensures { result ≡ has_compat (W.facts_of view.now) levels c }
 {

@@ -110,7 +110,7 @@ impl<T: Table<u64>, V: Drop> SlotStore<T, V> {
 }
 
 impl<T: Table<u64> + Copied, V: Drop> SlotStore<T, V> {
-    /// The same values at the same places, now and next, each of them as `copy` makes it.
+    /// A copy with the same values at the same places, now and next, each of them as `copy` makes it.
     ///
     /// - `Memory`: memory ran out.
     pub fn copied<F: Fn(&V) -> Result<V, Memory>>(
@@ -179,7 +179,8 @@ impl<T: Stretches<u64>, V: Drop> SlotStore<T, V> {
         self.places.last_of_stretch(c)
     }
 
-    /// The same for the values next.
+    /// The last code point of a stretch from a code point on in which all values next stand at one place. It ends at the end
+    /// of a block of 256 code points, or where the place changes.
     pub fn last_of_stretch_next(&self, c: Point) -> Point
         ensures from { c ≤ result }
         ensures same { (k : ℕ) → c ≤ k → k ≤ result

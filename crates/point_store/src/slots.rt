@@ -38,7 +38,7 @@ impl<V: Drop> Slots<V> {
         }
     }
 
-    /// The same values at the same places, each of them as `copy` makes it.
+    /// A copy with the same values at the same places, each of them as `copy` makes it.
     ///
     /// - `Memory`: memory ran out.
     pub fn copied<F: Fn(&V) -> Result<V, Memory>>(

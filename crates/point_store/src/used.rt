@@ -16,7 +16,7 @@ pub fn spare_now<T: Stretches<u64>>(places: &T, unused: &mut [bool])
     spare_all(|c| places.last_of_stretch(c), |c| places.get(c), unused);
 }
 
-/// The same for the places that they have next.
+/// Takes the places that code points have next off the unused ones.
 pub fn spare_next<T: Stretches<u64>>(places: &T, unused: &mut [bool])
     ensures used { AreUsed unused.new (T.next places.now) }
     ensures others { (p : ℕ) → is_unused unused.old p ≡ false → is_unused unused.new p ≡ false }

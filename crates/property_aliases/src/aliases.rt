@@ -41,7 +41,9 @@ impl Aliases {
         Aliases::with_numbers(alloc, release, numbers)
     }
 
-    /// The same by the numbers of the values that the rows give.
+    /// What names mean by the rows of a release now, and by the numbers of the values that the rows give. UAX #44, section 5.8.
+    ///
+    /// - `Memory`: memory ran out.
     fn with_numbers(
         alloc: Global,
         release: &Release,

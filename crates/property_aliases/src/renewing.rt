@@ -69,7 +69,8 @@ pub(crate) fn renew_values(
     Ok(put_values(kept, values))
 }
 
-/// The same of a file whose values are numbered behind a default.
+/// Makes the values of a file those of its rows now, numbered behind a default, unless it was not edited. It answers whether
+/// they have the names that they had.
 ///
 /// - `Memory`: memory ran out. They stay.
 pub(crate) fn renew_behind(

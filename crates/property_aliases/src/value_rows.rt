@@ -99,7 +99,8 @@ fn add_value_row(
     }
 }
 
-/// The same of a row of any file: only rows of alias files give names a place.
+/// Gives the later names of a row of any file the least place to which one of them leads, in the map of the property that
+/// the first name names. Only rows of alias files give names a place.
 ///
 /// - `Memory`: memory ran out.
 fn add_row_read(
@@ -122,7 +123,8 @@ fn add_row_read(
     }
 }
 
-/// The same of a row that is read from its bytes, and let go of.
+/// Gives the later names of a row of any file the least place to which one of them leads, in the map of the property that
+/// the first name names. Only rows of alias files give names a place. The row is read from its bytes, and let go of.
 ///
 /// - `Memory`: memory ran out.
 fn add_row_of(
@@ -168,7 +170,8 @@ fn numbers_of(
     Ok(maps)
 }
 
-/// The same by the rows of PropertyValueAliases.txt of a release now.
+/// For each property, the least place to which the rows of PropertyValueAliases.txt of a release now that speak of it tie
+/// each of their later names. A row is let go of before the next one is read.
 ///
 /// - `Memory`: memory ran out.
 pub(crate) fn rows_by_property(

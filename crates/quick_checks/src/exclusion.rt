@@ -14,7 +14,8 @@ pub fn full_exclusion<W: FactView>(view: &W, c: Point) -> bool
     is_fully_excluded(view, c, &view.facts(c))
 }
 
-/// The same for a code point whose facts are at hand.
+/// Full_Composition_Exclusion of a code point whose facts are at hand: it is excluded, or composition never gives back its
+/// canonical mapping. UAX #15, section 5; UAX #44, section 5.7.5.
 pub fn is_fully_excluded<W: FactView>(view: &W, c: Point, facts: &FactsRef<'_>) -> bool
     requires { shown_facts facts.now ≡ W.facts_of view.now c }
     ensures { result ≡ full_exclusion (W.facts_of view.now) c }

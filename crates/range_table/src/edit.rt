@@ -56,7 +56,9 @@ pub fn splice<V: Copy>(changes: &mut Vec<Change<V>>, edit: &Edit<V>) -> Result<(
     Ok(())
 }
 
-/// The same for an edit behind which no change stays.
+/// Edits the changes, if no change stays behind the edit. All memory is taken first.
+///
+/// - `Memory`: memory ran out. The changes stay as they were.
 fn replace_last<V: Copy>(changes: &mut Vec<Change<V>>, edit: &Edit<V>) -> Result<(), Memory>
     requires ordered { edit.now.from ≤ edit.now.behind }
     requires within { edit.now.behind ≡ vec_len changes.old }

@@ -42,7 +42,7 @@ impl<V: Copy + Eq> Layout<V> {
         }
     }
 
-    /// The same layout again.
+    /// A copy of the layout.
     ///
     /// - `Memory`: memory ran out.
     pub fn copy(&self) -> Result<Layout<V>, Memory>
@@ -176,7 +176,7 @@ impl<V: Copy + Eq> Layout<V> {
         self.end_at(c, self.count_before(c.number() + 1))
     }
 
-    /// The same, given how many changes come up to the code point.
+    /// One past the last code point of the run that a code point lies in, given how many changes come up to the code point.
     fn end_at(&self, c: Point, run: usize) -> u32
         requires { run ≡ count_before (c + 1) self.now.changes }
         ensures { IsEnd V.eq (values self.now) c result }

@@ -5,7 +5,7 @@ ghost use Rattle.std.specs.Prelude.{◌≡◌, IfOk};
 use std::alloc::Global;
 use ucd_model::{Image, Memory, Points, Record};
 
-/// The same record.
+/// A copy of a record.
 ///
 /// - `Memory`: memory ran out.
 pub fn copied_record(alloc: Global, shown: &Record) -> Result<Record, Memory>
@@ -29,7 +29,7 @@ pub fn copied_record(alloc: Global, shown: &Record) -> Result<Record, Memory>
     })
 }
 
-/// The same image.
+/// A copy of an image.
 ///
 /// - `Memory`: memory ran out.
 fn copied_image(alloc: Global, image: &Image) -> Result<Image, Memory>

@@ -43,8 +43,9 @@ impl RecordTable {
         })
     }
 
-    /// The same, with room for about so many records more, and for so many blocks of 256 code points whose records are not
-    /// all equal, as far as there is memory for it: a table that grows by and by leaves holes in the heap.
+    /// The table in which all code points have a record, now and next. It has room for about so many records more, and for
+    /// so many blocks of 256 code points whose records are not all equal, as far as there is memory for it: a table that
+    /// grows by and by leaves holes in the heap.
     ///
     /// - `Memory`: memory ran out.
     pub fn with_room(
@@ -71,7 +72,7 @@ impl RecordTable {
         self.records.shrink_to_fit();
     }
 
-    /// The same records, now and next. A record that is held once is held once in the copy.
+    /// A copy with the same records, now and next. A record that is held once is held once in the copy.
     ///
     /// - `Memory`: memory ran out.
     pub fn copied(&self, alloc: Global) -> Result<RecordTable, Memory>

@@ -30,7 +30,7 @@ impl From<Memory> for AgainStop {
     }
 }
 
-/// The same for a call that hands back what it could not put; that is dropped.
+/// Running out of memory in a call that hands back what it could not put is `AgainStop::Memory`. What it hands back is dropped.
 impl<T: Drop> From<AllocFailed<T>> for AgainStop {
     ghost use Rattle.record_turns.specs.declared.again_stop.AgainStop.TheVariants.{Memory};
 

@@ -50,7 +50,7 @@ impl From<Memory> for LoadStop {
     }
 }
 
-/// The same for a call that hands back what it could not put; that is dropped.
+/// Running out of memory in a call that hands back what it could not put is `LoadStop::Memory`. What it hands back is dropped.
 impl<T: Drop> From<AllocFailed<T>> for LoadStop {
     ghost use Rattle.release_rows.specs.declared.load_stop.LoadStop.TheVariants.{Memory};
 

@@ -33,7 +33,7 @@ pub fn no_items(alloc: Global) -> NineFiles
     ]
 }
 
-/// The same items in each file, now and next.
+/// A copy of each file, with the same items, now and next.
 ///
 /// - `Memory`: memory ran out.
 pub fn copied_files(alloc: Global, files: &NineFiles) -> Result<NineFiles, Memory>

@@ -83,7 +83,7 @@ impl From<Memory> for OpStop {
     }
 }
 
-/// The same for a call that hands back what it could not put; that is dropped.
+/// Running out of memory in a call that hands back what it could not put is `OpStop::Memory`. What it hands back is dropped.
 impl<T: Drop> From<AllocFailed<T>> for OpStop {
     ghost use Rattle.release_rows.specs.declared.operation.OpStop.TheVariants.{Memory};
 

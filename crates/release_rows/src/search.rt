@@ -82,7 +82,7 @@ impl<'a> Model for Search<'a> {
 }
 
 impl<'a> Search<'a> {
-    /// The same with another test.
+    /// This search with another test.
     pub fn with(&self, test: Test) -> Search<'a>
         ensures { result ≡ with_test self.now test }
     {

@@ -94,7 +94,7 @@ impl SpanOrder {
         }
     }
 
-    /// The same of any number of spans.
+    /// Whether the code points from one to another, as numbers, share one with some of the spans, however many spans there are.
     fn some_meet(&self, lo: u32, hi: u32) -> bool
         ensures { result ≡ list_any (spans_meet (record { lo = lo; hi = hi })) self.now }
     {

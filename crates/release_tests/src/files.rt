@@ -33,7 +33,7 @@ fn bytes_are_answered(
     Ok(answered && release.text(alloc, file)?.as_slice() == kept)
 }
 
-/// The same for a text of these bytes that is moved into the release.
+/// Whether a text of these bytes that is moved into a release is answered so, and the file has the bytes `kept` then.
 fn text_is_answered(
     alloc: Global,
     file: SourceFile,

@@ -38,7 +38,7 @@ const VALUES: &[u8] = b"sc ; Latn ; Latin\ngc ; Lu ; Uppercase_Letter\n";
 
 const MOVED: &[u8] = b"scx ; sc ; Latn ; Latin\ngc ; Lu ; Uppercase_Letter\n";
 
-/// The same on the heap.
+/// A bench over a release with these lines, on the heap.
 pub fn boxed(alloc: Global, lines: &Lines) -> Result<Box<Bench>, Fail> {
     let bench = bench_over(alloc, lines)?;
     Ok(Box::new(alloc, bench)?)

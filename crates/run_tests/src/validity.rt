@@ -58,7 +58,8 @@ fn is_judged(alloc: Global, data: &[u8], line: &[u8]) -> Result<bool, Memory> {
     ends(alloc, &[b"derive", b"d", b"o"], &mut shelf, 1000, expected)
 }
 
-/// The same for the rows behind those of a letter and its composite.
+/// Whether a release with the rows of a letter and its composite, and with a mark and more rows behind them, is refused by
+/// this line; by none if it is empty.
 fn are_judged(alloc: Global, mark: &[u8], more: &[u8], line: &[u8]) -> Result<bool, Memory> {
     let mut data = Text::new(alloc);
     put_all(&mut data, &[GRAVE, mark, more])?;

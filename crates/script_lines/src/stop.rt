@@ -53,7 +53,7 @@ impl From<Memory> for ScriptStop {
     }
 }
 
-/// The same, as an allocator answers it.
+/// Running out of memory, as an allocator answers it, is `ScriptStop::Memory`.
 impl From<AllocError> for ScriptStop {
     ghost use Rattle.script_lines.specs.declared.stop.ScriptStop.TheVariants.{Memory};
 
@@ -64,7 +64,7 @@ impl From<AllocError> for ScriptStop {
     }
 }
 
-/// The same for a call that hands back what it could not put; that is dropped.
+/// Running out of memory in a call that hands back what it could not put is `ScriptStop::Memory`. What it hands back is dropped.
 impl<T: Drop> From<AllocFailed<T>> for ScriptStop {
     ghost use Rattle.script_lines.specs.declared.stop.ScriptStop.TheVariants.{Memory};
 

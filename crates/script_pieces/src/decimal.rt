@@ -14,7 +14,8 @@ pub fn decimal_u32(word: &[u8]) -> Option<u32>
     written_number(word)
 }
 
-/// The same number, by what writes it.
+/// The number below 2^32 that a word writes in decimal digits with no zero to spare; `None` exactly if it writes none. The
+/// contract tells the number only by the word that writes it.
 fn written_number(word: &[u8]) -> Option<u32>
     ensures small { MatchOption result ⊤ (λ n. n < 2 ^ 32) }
     ensures written { MatchOption result ((n : ℕ) → n < 2 ^ 32 → word.now ≢ decimal n)

@@ -153,7 +153,10 @@ fn tell_writes(alloc: Global, from: u32, to: u32) -> Result<bool, Memory> {
     tell_writes_beside(alloc, &mut whole, from, to)
 }
 
-/// The same beside a shelf on which no write fails.
+/// Whether the writes from one to before another, counted from 1, are told if they fail, beside a run on `whole`, a shelf on
+/// which no write fails.
+///
+/// - `Memory`: memory ran out.
 fn tell_writes_beside(
     alloc: Global,
     whole: &mut MemoryShelf,
@@ -193,7 +196,8 @@ fn tells_in_part(alloc: Global, whole: &MemoryShelf, room: usize) -> Result<bool
     )
 }
 
-/// The same for three sinks, beside a shelf whose run is told whole.
+/// Whether runs into three sinks that are too small write each file as the run on `whole` does, and tell as much of their
+/// summary as there is room for. The run on the shelf `whole` is told whole.
 ///
 /// - `Memory`: memory ran out.
 fn tell_in_part(alloc: Global, whole: &mut MemoryShelf) -> Result<bool, Memory> {

@@ -11,7 +11,7 @@ use ucdshop_core::Status;
 pub const EARLIER: &[u8] =
     b"0041;LATIN CAPITAL LETTER A;Lu;0;L;;;;;N;;;;;\n0061;LATIN SMALL LETTER A;Ll;0;L;;;;;N;;;;;\n0300;COMBINING GRAVE ACCENT;Mn;230;NSM;;;;;N;;;;;\n0301;COMBINING ACUTE ACCENT;Mn;230;NSM;;;;;N;;;;;\n";
 
-/// The same without a letter, with another class of a mark, and with a composite of both.
+/// Letters and marks: [`EARLIER`] without 0041, with another class of 0300, and with 00E0, the composite of 0061 and 0300.
 pub const LATER: &[u8] =
     b"0061;LATIN SMALL LETTER A;Ll;0;L;;;;;N;;;;;\n00E0;LATIN SMALL LETTER A WITH GRAVE;Ll;0;L;0061 0300;;;;N;;;;;\n0300;COMBINING GRAVE ACCENT;Mn;220;NSM;;;;;N;;;;;\n0301;COMBINING ACUTE ACCENT;Mn;230;NSM;;;;;N;;;;;\n";
 

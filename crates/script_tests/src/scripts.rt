@@ -244,7 +244,7 @@ fn writes_long(alloc: Global, shelf: &mut MemoryShelf, long: &[u8]) -> Result<bo
     Ok(status == Status::Clean && holds(shelf, &[(b"o/Scripts.txt", long), (b"o/bench.log", b"")]))
 }
 
-/// The same for a shelf that was made for it.
+/// Whether a run on a new shelf writes a long file as it is. The script of the run is a file of the folder.
 fn writes_a_long_file(alloc: Global, long: &[u8]) -> Result<bool, Memory> {
     let mut shelf = shelf_of(alloc, LETTERS, b"# head\n")?;
     writes_long(alloc, &mut shelf, long)

@@ -34,7 +34,10 @@ impl RowNames {
         RowNames::with_aliases(alloc, release, aliases)
     }
 
-    /// The same with the meaning of names.
+    /// What names mean, and the code points to which rows give values, by the rows of a release now. `aliases` is the
+    /// meaning of names by these rows.
+    ///
+    /// - `Memory`: memory ran out.
     fn with_aliases(alloc: Global, release: &Release, aliases: Aliases) -> Result<RowNames, Memory>
         requires aliases { AreAliasesOf aliases (sources_of release.now) }
         requires numbers { AreNumbersOf aliases.numbers (rows_now release.now) }
@@ -62,7 +65,10 @@ impl RowNames {
         RowNames::with_sets(alloc, release, edited, aliases, sets)
     }
 
-    /// The same with the meaning of names now, and the sets that are kept.
+    /// What names mean, and the code points to which rows give values, by the rows of a release now. `aliases` is the
+    /// meaning of names by these rows. `sets` are those of rows of which only the edited files have others.
+    ///
+    /// - `Memory`: memory ran out.
     fn with_sets(
         alloc: Global,
         release: &Release,

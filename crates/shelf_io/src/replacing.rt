@@ -64,8 +64,8 @@ fn create_beside<R: Files>(files: &R, path: &str, beside: &str) -> io::Result<Op
     }
 }
 
-/// The same, or `None` if the name is one of a link or a device, its folder takes no new file, or a new file cannot
-/// have the owner of the old one.
+/// Creates an empty file beside a name, in place of what an earlier run left there. `None` if the name is one of a link or a
+/// device, its folder takes no new file, or a new file cannot have the owner of the old one.
 pub fn created_beside<R: Files>(
     files: &R,
     path: &str,

@@ -96,7 +96,7 @@ impl<'a> Mapping<'a> {
         self.count
     }
 
-    /// The same code points again.
+    /// A copy of the mapping: it has the same code points, and stands on the same text.
     pub fn again(&self) -> Mapping<'a>
         ensures { result ≡ self.now }
     {
@@ -163,7 +163,8 @@ pub fn mapping_of(text: &[u8]) -> Option<Mapping<'_>>
     Some(Mapping { text, count })
 }
 
-/// The same, for a mapping of one code point or more: it is also `None` if there are none.
+/// The mapping of one code point or more that the words of a text spell. `None` if a word is no code point, if there are no
+/// words, or if there are more than 64 words.
 pub fn some_mapping_of(text: &[u8]) -> Option<Mapping<'_>>
     ensures { result ≡ at_least_one (mapping_of text.now) }
 {

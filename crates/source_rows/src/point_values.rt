@@ -90,7 +90,13 @@ pub fn read_below<'a>(
     pair_values(front, last)
 }
 
-/// The same as [`read_below`] of a line by itself.
+/// What a row gives to its code points, as it stands in a line of UnicodeData.txt, or in the two lines of a range: the row
+/// that [`read_row`](crate::read_row) reads from them. The fields that give nothing are passed over, and no memory is taken.
+/// Unlike [`read_below`], it keeps nothing of a line for the next one.
+///
+/// A fault says that the bytes are no row, and is the first rule that they break.
+///
+/// UAX #44, sections 4.2.3 and 5.3, table 9.
 pub fn read_point_values(bytes: &[u8]) -> Result<PointValues<'_>, RowFault>
     ensures { PointValuesAs result (row_or_fault SourceFile.UnicodeData bytes.now) }
 {

@@ -56,7 +56,12 @@ pub fn has_values(file: SourceFile) -> bool
     )
 }
 
-/// The same as [`read_row_ref`] of PropList.txt, Scripts.txt and WordBreakProperty.txt alone, whose rows take less room.
+/// The row that a line of PropList.txt, Scripts.txt or WordBreakProperty.txt stands for, as it stands there. It takes no
+/// memory. These rows take less room than those of all files that [`read_row_ref`] gives. UAX #44, sections 4.2 and 5.3.
+///
+/// The bytes are the content of the line, without what ends it; all bytes that hold a LF are `G03`.
+///
+/// A fault says that the bytes are no row, and is the first rule that they break.
 #[tactic(auto, unfolding(crate::specs::Faults::row_or_fault, ucd_points::specs::Fields::fields, ucd_points::specs::MissingLines::missing_rest))]
 pub fn read_valued(file: SourceFile, bytes: &[u8]) -> Result<Valued<'_>, RowFault>
     requires { has_values file ≡ true }
@@ -75,7 +80,11 @@ pub fn read_valued(file: SourceFile, bytes: &[u8]) -> Result<Valued<'_>, RowFaul
     }
 }
 
-/// The same as [`read_row_ref`], with copies.
+/// The row that a line of a source file stands for, or the two lines of a range of UnicodeData.txt, with copies of what
+/// stands there; [`read_row_ref`] makes none. UAX #44, sections 4.2 and 5.3.
+///
+/// The bytes are the content of the line, without what ends it. For a range they are both lines, with LF or CR LF between
+/// them; all other bytes that hold a LF are `G03`.
 ///
 /// - `Fault(fault)`: the bytes are no row, and `fault` is the first rule that they break.
 /// - `Memory`: memory ran out.

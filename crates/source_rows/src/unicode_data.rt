@@ -161,7 +161,8 @@ fn read_data(bytes: &[u8]) -> Result<DataText<'_>, RowFault>
     read_pair(front, last)
 }
 
-/// The same, as a row of any file.
+/// The row of a line of UnicodeData.txt, or of the two lines of a range, as a row of any file. `read_data` tells in which
+/// order the rules are tested. UAX #44, sections 4.2.3 and 5.3, table 9.
 pub fn read_unit(bytes: &[u8]) -> Result<RowRef<'_>, RowFault>
     ensures { RefAs result (row_or_fault SourceFile.UnicodeData bytes.now) }
 {

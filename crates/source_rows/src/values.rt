@@ -95,7 +95,12 @@ pub fn read_value_or_missing(file: SourceFile, content: &[u8]) -> Result<Valued<
     }
 }
 
-/// The same as a row of any file.
+/// The row of a line of a file whose rows give values, as a row of any file. It is a missing row if the line begins with the
+/// mark of one, as lines of Scripts.txt and WordBreakProperty.txt may.
+///
+/// - `G03`: there are not two fields.
+/// - `G04`: the first is no code point and no span.
+/// - `G11`: the second is no name.
 pub fn read_value_ref(file: SourceFile, content: &[u8]) -> Result<RowRef<'_>, RowFault>
     ensures { RefAs result (and_then (value_or_fault (row_fields file content.now))
         (λ row. Ok (value_line file content.now row))) }

@@ -34,7 +34,7 @@ pub fn data_rows(alloc: Global, release: &Release) -> Result<Vec<RowText<'_>>, M
     Ok(rows)
 }
 
-/// The same, as they follow from the rows one by one.
+/// The rows of UnicodeData.txt of a release now, as they stand in the file, put into a list one by one.
 ///
 /// - `Memory`: memory ran out.
 fn all_rows(alloc: Global, release: &Release) -> Result<Vec<RowText<'_>>, Memory>

@@ -102,7 +102,7 @@ fn moves(alloc: Global, shelf: &mut PerfectShelf) -> Result<bool, Memory> {
     Ok(moved == Found::Found && are_bytes(shelf.held(b"d/b"), b"front"))
 }
 
-/// The same for a shelf that was made for it.
+/// Whether a file is moved on a new shelf that never fails.
 fn is_moved(alloc: Global) -> Result<bool, Memory> {
     moves(alloc, &mut PerfectShelf::new(alloc))
 }
@@ -121,7 +121,7 @@ fn read_placed(alloc: Global, shelf: &mut MemoryShelf) -> Result<Found, Memory>
     read_planned(shelf, b"a", &mut Vec::new(alloc))
 }
 
-/// The same for a shelf that was made for it.
+/// What a read of a new file on a new shelf answers.
 fn read_of_a_new_shelf(alloc: Global) -> Result<Found, Memory> {
     read_placed(alloc, &mut MemoryShelf::new(alloc))
 }
@@ -151,7 +151,7 @@ fn first_wrong_of_failing(alloc: Global, shelf: &mut MemoryShelf) -> Result<Opti
     Ok(first_wrong_read(alloc, shelf, &FAILING))
 }
 
-/// The same for a shelf that was made for it.
+/// The first wrong one of the reads [`FAILING`] on a new shelf, of a file that was replaced. The second and the fifth read fail.
 fn first_wrong_in_memory(alloc: Global) -> Result<Option<usize>, Memory> {
     first_wrong_of_failing(alloc, &mut MemoryShelf::new(alloc))
 }
@@ -183,7 +183,7 @@ fn fails_second(alloc: Global, shelf: &mut MemoryShelf) -> Result<bool, Memory> 
     )
 }
 
-/// The same for a shelf that was made for it.
+/// Whether the second of three writes on a new shelf fails, and leaves the other two.
 fn fails_second_in_memory(alloc: Global) -> Result<bool, Memory> {
     fails_second(alloc, &mut MemoryShelf::new(alloc))
 }
@@ -202,7 +202,7 @@ fn takes_five(sink: &mut MemorySink) -> bool {
         && sink.written() == b"abcde".as_slice()
 }
 
-/// The same for a sink that was made for it.
+/// Whether a new sink with room for five bytes takes five of six.
 fn takes_what_fits(alloc: Global) -> Result<bool, Memory> {
     Ok(takes_five(&mut MemorySink::new(alloc, 5)?))
 }

@@ -444,7 +444,7 @@ fn first_wrong_of_one(
     Ok(first_wrong_read(alloc, shelf, &found))
 }
 
-/// The same for a system that was made for it.
+/// The first wrong read before and after a write, on a new system that tells what is there.
 fn first_wrong_of_a_system(alloc: Global) -> Result<Option<usize>, Memory> {
     let system = OneFile {
         alloc,

@@ -18,7 +18,7 @@ pub fn same_points(a: &[Point], b: &[Point]) -> bool
 
 /// A value that can be copied if memory suffices.
 pub trait Copied: Sized {
-    /// The same value.
+    /// A copy of the value.
     ///
     /// - `Memory`: memory ran out.
     fn copied(&self, alloc: Global) -> Result<Self, Memory>
@@ -143,7 +143,7 @@ impl<T> ListOf<T> {
         Ok(())
     }
 
-    /// The same list again, on this allocator.
+    /// A copy of the list, on this allocator.
     ///
     /// - `Memory`: memory ran out.
     pub fn copy(&self, alloc: Global) -> Result<ListOf<T>, Memory>

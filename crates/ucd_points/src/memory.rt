@@ -26,7 +26,7 @@ impl From<AllocError> for Memory {
     }
 }
 
-/// The same for a call that hands back what it could not put; that is dropped.
+/// Running out of memory, as a call reports it that hands back what it could not put. What it hands back is dropped.
 impl<T: Drop> From<AllocFailed<T>> for Memory {
     fn from(_e: AllocFailed<T>) -> Memory {
         Memory

@@ -45,7 +45,10 @@ pub fn answer_run<'c>(
     answer_first(alloc, &asking, line, text, behind, carried)
 }
 
-/// The same by what answers questions on the bench.
+/// Answers the question of this text, and the questions at the front of the commands behind it, and returns the commands
+/// that are left. `asking` answers questions on the bench.
+///
+/// - `Memory`: memory ran out.
 fn answer_first<'c>(
     alloc: Global,
     asking: &Asking<'_>,

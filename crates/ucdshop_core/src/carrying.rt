@@ -41,7 +41,11 @@ pub fn carry_out<L: Ledger>(
     carried
 }
 
-/// The same with what is kept for questions.
+/// Carries out the commands of a script, in order, on the release of a bench. A question is answered on the rows as the
+/// commands before it leave them. `kept` is what is kept for questions. The counter of steps rises by at most the number of
+/// code points that depend on each group.
+///
+/// - `Memory`: memory ran out.
 fn carry_all<L: Ledger>(
     alloc: Global,
     bench: &mut Bench,

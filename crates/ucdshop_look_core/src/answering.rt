@@ -39,7 +39,8 @@ fn plan_over(alloc: Global, recorded: &Recorded, questions: &[Text]) -> Result<P
     plan
 }
 
-/// The same with what is kept of names. It owns the pieces. The spans by which these are made are let go of before names are read.
+/// What `ask` tells of these questions, by the records and what is kept of names. It owns the pieces of equal records. The
+/// spans by which these are made are let go of before names are read.
 fn plan_beside(
     alloc: Global,
     recorded: &Recorded,
@@ -53,7 +54,7 @@ fn plan_beside(
     plan_by(alloc, recorded, &pieces, kept, questions)
 }
 
-/// The same by the pieces of equal records. It owns nothing.
+/// What `ask` tells of these questions, by the records, the pieces of equal records and what is kept of names. It owns nothing.
 fn plan_by(
     alloc: Global,
     recorded: &Recorded,
@@ -79,7 +80,7 @@ fn record_pieces(alloc: Global, recorded: &Recorded) -> Result<RecordPieces, Mem
     RecordPieces::of(alloc, recorded, spans.as_slice())
 }
 
-/// The same by the names of the rows too.
+/// What `ask` tells of these questions, by the records, the pieces of equal records and the names of the rows.
 fn plan_named(
     alloc: Global,
     recorded: &Recorded,
@@ -95,7 +96,7 @@ fn plan_named(
     plan_from(alloc, &asking, questions)
 }
 
-/// The same by what answers questions. The text of the answers is made once, and moves into the plan.
+/// What `ask` tells of these questions, by what answers them. The text of the answers is made once, and moves into the plan.
 fn plan_from(alloc: Global, asking: &Asking<'_>, questions: &[Text]) -> Result<Plan, Memory>
     ensures { IfOk result (HasPlan (ask_ending questions.now asking.now)) }
 {

@@ -49,7 +49,10 @@ pub fn changes_plan<L: Ledger>(
     plan_over(alloc, bench, commands, steps)
 }
 
-/// The same of the bench and the commands, which are let go.
+/// Carries out the groups among the commands on a bench, and makes what `changes` tells of them. Questions are not answered.
+/// The bench and the commands are let go.
+///
+/// - `Memory`: memory ran out.
 fn plan_over<L: Ledger>(
     alloc: Global,
     bench: Bench,
@@ -64,7 +67,10 @@ fn plan_over<L: Ledger>(
     plan_from(alloc, &mut bench, earlier, commands.as_slice(), steps)
 }
 
-/// The same of a bench and its records, which are let go.
+/// Carries out the groups among the commands on a bench, and makes what `changes` tells of them. Questions are not answered.
+/// The earlier records are those of the bench, and are let go.
+///
+/// - `Memory`: memory ran out.
 fn plan_from<L: Ledger>(
     alloc: Global,
     bench: &mut Bench,
@@ -80,7 +86,10 @@ fn plan_from<L: Ledger>(
     plan_beside(alloc, bench, &mut earlier, commands, steps)
 }
 
-/// The same of a bench and its records, which follow it. The text is made once, and moves into the plan.
+/// Carries out the groups among the commands on a bench, and makes what `changes` tells of them. Questions are not answered.
+/// The earlier records are those of the bench, and follow it. The text is made once, and moves into the plan.
+///
+/// - `Memory`: memory ran out.
 fn plan_beside<L: Ledger>(
     alloc: Global,
     bench: &mut Bench,
@@ -128,7 +137,10 @@ fn tell_all<L: Ledger>(
     Ok(refused)
 }
 
-/// The same of one command.
+/// Carries out a command that is a group, and tells it. It answers whether the group was refused. A question is passed over.
+/// The earlier records are those of the bench, and follow it.
+///
+/// - `Memory`: memory ran out.
 fn tell_command<L: Ledger>(
     alloc: Global,
     bench: &mut Bench,
@@ -162,7 +174,10 @@ fn tell_command<L: Ledger>(
     }
 }
 
-/// The same of a group on this line.
+/// Carries out the group on this line, and tells it. It answers whether the group was refused. The earlier records are those
+/// of the bench, and follow it.
+///
+/// - `Memory`: memory ran out.
 fn tell_group<L: Ledger>(
     alloc: Global,
     bench: &mut Bench,
@@ -264,7 +279,9 @@ fn put_points(
     Ok(())
 }
 
-/// The same of one code point.
+/// Puts what differs between the earlier record of a code point and that of the bench.
+///
+/// - `Memory`: memory ran out. A part of it may stand at the end of the text then.
 fn put_point(
     alloc: Global,
     bench: &Bench,

@@ -108,7 +108,10 @@ fn held_plan<L: Ledger>(
     }
 }
 
-/// The same of `ask`.
+/// What `ask` tells of these questions, by what is held at the paths that it needs.
+///
+/// - `Refused(line)`: what is held is refused.
+/// - `Memory`: memory ran out.
 fn plan_ask<L: Ledger>(
     alloc: Global,
     folder: &[u8],
@@ -125,7 +128,10 @@ fn plan_ask<L: Ledger>(
     }
 }
 
-/// The same of `show`.
+/// What `show` tells of these code points, by what is held at the paths that it needs.
+///
+/// - `Refused(line)`: what is held is refused.
+/// - `Memory`: memory ran out.
 fn plan_show<L: Ledger>(
     alloc: Global,
     folder: &[u8],
@@ -142,7 +148,10 @@ fn plan_show<L: Ledger>(
     }
 }
 
-/// The same of `check`.
+/// What `check` tells, by what is held at the paths that it needs.
+///
+/// - `Refused(line)`: what is held is refused.
+/// - `Memory`: memory ran out.
 fn plan_check<L: Ledger>(
     alloc: Global,
     job: Job<'_>,
@@ -158,7 +167,10 @@ fn plan_check<L: Ledger>(
     }
 }
 
-/// The same of `changes`.
+/// What `changes` tells, by what is held at the paths that it needs.
+///
+/// - `Refused(line)`: what is held is refused.
+/// - `Memory`: memory ran out.
 fn plan_changes<L: Ledger>(
     alloc: Global,
     job: Job<'_>,

@@ -39,7 +39,9 @@ pub fn desk_plan<L: Ledger>(
     plan_at(alloc, output, &mut desk, requests.as_slice(), steps)
 }
 
-/// The same of requests at this desk.
+/// The files that `desk` writes below a folder, and its summary, for these requests at this desk.
+///
+/// - `Memory`: memory ran out.
 fn plan_at<L: Ledger>(
     alloc: Global,
     output: &[u8],
@@ -56,7 +58,9 @@ fn plan_at<L: Ledger>(
     plan_after(alloc, output, desk.bench(), &log)
 }
 
-/// The same of the bench as the requests leave it, and the log.
+/// The files that `desk` writes below a folder, and its summary, by the bench as the requests leave it, and the log.
+///
+/// - `Memory`: memory ran out.
 fn plan_after(alloc: Global, output: &[u8], bench: &Bench, log: &DeskLog) -> Result<Plan, Memory>
     ensures { IfOk result (HasPlan
         (desk_ending_by output.now bench.now.current log.now.text log.now.accepted

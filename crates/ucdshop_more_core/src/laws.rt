@@ -7,7 +7,7 @@ pub fn desk_files_hold_their_bytes()
     ensures { DeskFilesHoldTheirBytes }
 {}
 
-/// The same of the files of `undo`.
+/// Once the files of `undo` are put, the path of each holds its bytes: none takes the place of another.
 pub fn undo_files_hold_their_bytes()
     ensures { UndoFilesHoldTheirBytes }
 {}

@@ -55,7 +55,11 @@ pub fn prepare<S: Shelf, L: Ledger>(
     Ok(plan)
 }
 
-/// The same without room for the files.
+/// Does all of a command that comes before the first write, but makes no room for the files.
+///
+/// - `Refused(line)`: a file is absent, too long, or breaks a rule, or a code point breaks a rule of a valid release.
+/// - `ReadFailed(line)`: a file could not be read.
+/// - `Memory`: memory ran out.
 fn plan_of<S: Shelf, L: Ledger>(
     alloc: Global,
     command: Command<'_>,
@@ -97,7 +101,11 @@ fn plan_of<S: Shelf, L: Ledger>(
     }
 }
 
-/// The same for `desk`.
+/// Does all of `desk` that comes before the first write, but makes no room for the files.
+///
+/// - `Refused(line)`: a file is absent, too long, or breaks a rule, or a code point breaks a rule of a valid release.
+/// - `ReadFailed(line)`: a file could not be read.
+/// - `Memory`: memory ran out.
 fn plan_desk<S: Shelf, L: Ledger>(
     alloc: Global,
     input: &[u8],
@@ -127,7 +135,11 @@ fn plan_desk<S: Shelf, L: Ledger>(
     }
 }
 
-/// The same for `undo`.
+/// Does all of `undo` that comes before the first write, but makes no room for the files.
+///
+/// - `Refused(line)`: a file is absent, too long, or breaks a rule, or a code point breaks a rule of a valid release.
+/// - `ReadFailed(line)`: a file could not be read.
+/// - `Memory`: memory ran out.
 fn plan_undo<S: Shelf, L: Ledger>(
     alloc: Global,
     input: &[u8],
@@ -162,7 +174,11 @@ fn plan_undo<S: Shelf, L: Ledger>(
     }
 }
 
-/// The same for `conform`.
+/// Does all of `conform` that comes before the first write, but makes no room for the files.
+///
+/// - `Refused(line)`: a file is absent, too long, or breaks a rule, or a code point breaks a rule of a valid release.
+/// - `ReadFailed(line)`: a file could not be read.
+/// - `Memory`: memory ran out.
 fn plan_conform<S: Shelf, L: Ledger>(
     alloc: Global,
     input: &[u8],
@@ -192,7 +208,11 @@ fn plan_conform<S: Shelf, L: Ledger>(
     }
 }
 
-/// The same for `ages`.
+/// Does all of `ages` that comes before the first write, but makes no room for the files.
+///
+/// - `Refused(line)`: a file is absent, too long, or breaks a rule, or a code point breaks a rule of a valid release.
+/// - `ReadFailed(line)`: a file could not be read.
+/// - `Memory`: memory ran out.
 fn plan_ages<S: Shelf, L: Ledger>(
     alloc: Global,
     output: &[u8],
@@ -218,7 +238,11 @@ fn plan_ages<S: Shelf, L: Ledger>(
     plan_chained(alloc, output, folders, shelf, steps, &mut chained)
 }
 
-/// The same. The releases are chained here.
+/// Does all of `ages` that comes before the first write, but makes no room for the files. The releases are chained in `chained`.
+///
+/// - `Refused(line)`: a file is absent, too long, or breaks a rule, or a code point breaks a rule of a valid release.
+/// - `ReadFailed(line)`: a file could not be read.
+/// - `Memory`: memory ran out.
 fn plan_chained<S: Shelf, L: Ledger>(
     alloc: Global,
     output: &[u8],

@@ -40,7 +40,9 @@ pub fn undo_plan<L: Ledger>(
     plan_with(alloc, output, &mut history, sections.as_slice(), steps)
 }
 
-/// The same of sections on this history.
+/// The files that `undo` writes below a folder, and its summary, for these sections on this history.
+///
+/// - `Memory`: memory ran out.
 fn plan_with<L: Ledger>(
     alloc: Global,
     output: &[u8],
@@ -59,7 +61,9 @@ fn plan_with<L: Ledger>(
     plan_after(alloc, output, history, &log)
 }
 
-/// The same of a history as the sections leave it, and the log.
+/// The files that `undo` writes below a folder, and its summary, by the history as the sections leave it, and the log.
+///
+/// - `Memory`: memory ran out.
 fn plan_after(
     alloc: Global,
     output: &[u8],

@@ -30,7 +30,8 @@ impl RecordPieces {
     }
 }
 
-/// The same of a list of pieces.
+/// The pieces of a bench, made from those of records that differ from its records at the `changed` code points alone. Only
+/// the records of these are looked up; each is a piece of its own then, and cuts the one that it stands in.
 ///
 /// - `Memory`: memory ran out.
 fn pieces_again<B: Records>(

@@ -49,8 +49,12 @@ pub fn eval<B: Records>(
     eval_numbered(alloc, bench, release, &numbers, aliases, expr)
 }
 
-/// The same by the numbers of the values that the rows give. Each of these functions owns few values: one that owned all would be
-/// slow to prove.
+/// The members of a UnicodeSet as maximal ascending spans, by the rows of a release now, the numbers of the values that the
+/// rows give, and what is derived from them. UTS #35, "Unicode Sets". Each of the functions of this file owns few values:
+/// one that owned all would be slow to prove.
+///
+/// - `Fault`: the first name without meaning, in the order of the text, as [`eval`] tells it.
+/// - `Memory`: memory ran out.
 fn eval_numbered<B: Records>(
     alloc: Global,
     bench: &B,
@@ -72,7 +76,11 @@ fn eval_numbered<B: Records>(
     eval_by(alloc, bench, release, &rows, aliases, expr)
 }
 
-/// The same by the sets that the rows give.
+/// The members of a UnicodeSet as maximal ascending spans, by the rows of a release now, the sets that the rows give, and
+/// what is derived from them. UTS #35, "Unicode Sets".
+///
+/// - `Fault`: the first name without meaning, in the order of the text, as [`eval`] tells it.
+/// - `Memory`: memory ran out.
 fn eval_by<B: Records>(
     alloc: Global,
     bench: &B,

@@ -39,7 +39,7 @@ impl From<Memory> for EvalStop {
     }
 }
 
-/// The same, as an allocator answers it.
+/// Running out of memory, as an allocator answers it, is `EvalStop::Memory`.
 impl From<AllocError> for EvalStop {
     ghost use Rattle.unicodeset_eval.specs.declared.stop.EvalStop.TheVariants.{Memory};
 
@@ -50,7 +50,7 @@ impl From<AllocError> for EvalStop {
     }
 }
 
-/// The same for a call that hands back what it could not put; that is dropped.
+/// Running out of memory in a call that hands back what it could not put is `EvalStop::Memory`. What it hands back is dropped.
 impl<T: Drop> From<AllocFailed<T>> for EvalStop {
     ghost use Rattle.unicodeset_eval.specs.declared.stop.EvalStop.TheVariants.{Memory};
 

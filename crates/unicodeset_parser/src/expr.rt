@@ -110,8 +110,8 @@ impl Parts {
         self.items.is_empty()
     }
 
-    /// The same parts in no more room than they need. A few are moved to a block of their own, since what is cut off a small block can
-    /// seldom be used again.
+    /// These parts, in no more room than they need. A few are moved to a block of their own, since what is cut off a small
+    /// block can seldom be used again.
     ///
     /// - `Memory`: memory ran out.
     pub(crate) fn fitted(self, alloc: Global) -> Result<Parts, Memory>

@@ -34,7 +34,7 @@ pub(crate) enum Mode {
     BehindSet,
     /// An element.
     Elsewhere,
-    /// The same, or a `-` that makes a range of the character, which stands before.
+    /// An element, or a `-` that makes a range of the character, which stands before.
     Pending(Point),
     /// The last character of a range that begins with this one.
     Lacking(Point),

@@ -54,7 +54,7 @@ impl From<Memory> for SetStop {
     }
 }
 
-/// The same, as an allocator answers it.
+/// Running out of memory, as an allocator answers it, is `SetStop::Memory`.
 impl From<AllocError> for SetStop {
     ghost use Rattle.unicodeset_parser.specs.declared.stop.SetStop.TheVariants.{Memory};
 
@@ -65,7 +65,7 @@ impl From<AllocError> for SetStop {
     }
 }
 
-/// The same for a call that hands back what it could not put; that is dropped.
+/// Running out of memory in a call that hands back what it could not put is `SetStop::Memory`. What it hands back is dropped.
 impl<T: Drop> From<AllocFailed<T>> for SetStop {
     ghost use Rattle.unicodeset_parser.specs.declared.stop.SetStop.TheVariants.{Memory};
 

@@ -14,7 +14,7 @@ pub use steps::Steps;
 pub use ucd_facts::{
     AliasRow, Bad, Broken, CATEGORIES, CORE_PROPERTIES, CasingRow, Category, Core, CoreSet,
     DERIVED_FILES, DataRow, DerivedFile, ExclusionRow, FLAGS, FOLDINGS, FactList, FactView, Facts,
-    FactsRef, Flag, Flags, FoldRow, FoldStatus, Folding, Form, FormStop, Image, Kept, Kind,
+    FactsRef, Flag, Flags, FoldRow, FoldStatus, Folding, Form, FormStop, Image, Kind, OtherFields,
     Queries, Query, Quick, Row, TAGS, Tag, ValueRow, composite_laws, enumeration_laws, facts_laws,
     same_facts,
 };

@@ -10,7 +10,7 @@ ghost use Rattle.ucdshop_look_core.specs.Points.{names_point};
 
 use crate::points::named_point;
 use ucd_model::Text;
-use ucdshop_core::{Job, Place};
+use ucdshop_core::{Job, ScriptPlace};
 
 /// The greatest number of questions of `ask`, and of code points of `show`.
 const ASKED_LIMIT: usize = 64;
@@ -98,12 +98,12 @@ fn check_of(arguments: &[Text]) -> Option<Command<'_>>
         [folder] => Some(Command::Check(check_job(folder.as_slice(), None, None))),
         [folder, script] => Some(Command::Check(check_job(
             folder.as_slice(),
-            Some(Place::Named(script.as_slice())),
+            Some(ScriptPlace::Named(script.as_slice())),
             None,
         ))),
         [folder, script, previous] => Some(Command::Check(check_job(
             folder.as_slice(),
-            Some(Place::Named(script.as_slice())),
+            Some(ScriptPlace::Named(script.as_slice())),
             Some(previous.as_slice()),
         ))),
         _ => None,
@@ -117,7 +117,7 @@ fn changes_of(arguments: &[Text]) -> Option<Command<'_>>
     match arguments {
         [folder, script] => Some(Command::Changes(check_job(
             folder.as_slice(),
-            Some(Place::Named(script.as_slice())),
+            Some(ScriptPlace::Named(script.as_slice())),
             None,
         ))),
         _ => None,
@@ -125,7 +125,11 @@ fn changes_of(arguments: &[Text]) -> Option<Command<'_>>
 }
 
 /// The run that `check` stands for, which writes nothing.
-fn check_job<'a>(folder: &'a [u8], script: Option<Place<'a>>, previous: Option<&'a [u8]>) -> Job<'a>
+fn check_job<'a>(
+    folder: &'a [u8],
+    script: Option<ScriptPlace<'a>>,
+    previous: Option<&'a [u8]>,
+) -> Job<'a>
     ensures { job_of result ≡ check_job folder.now (option_map path_at script.entry)
         (option_map (λ folder. folder.now) previous.entry) }
 {

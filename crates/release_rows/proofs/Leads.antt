@@ -18,10 +18,9 @@ use Rattle.std.proofs.lemmas.List.Elements.{All-append, All-cons, All-drop, All-
 use Rattle.std.proofs.lemmas.List.Sums.{fails_before_first}
 use Rattle.std.proofs.lemmas.Slice.Eq.{bytes_eq-Decides}
 use Rattle.ucd_points.specs.declared.files.SourceFile.{SourceFile}
-use Rattle.ucd_points.specs.declared.files.SourceFile.TheVariants.{UnicodeData, PropList, Scripts, WordBreakProperty, CompositionExclusions, CaseFolding, SpecialCasing, PropertyAliases, PropertyValueAliases}
 use Rattle.ucd_facts.specs.declared.row.Row.{Row}
 use Rattle.source_rows.specs.Faults.{row_or_fault}
-use Rattle.source_rows.specs.KeyNames.{ContentsHaveKeys, content_group, content_names, group_of, has_code, names_cmp}
+use Rattle.source_rows.specs.KeyNames.{ContentsHaveKeys, content_group, content_names, group_of, names_cmp}
 use Rattle.source_rows.specs.Keys.{code_number, is_before, key_cmp, key_of, row_span}
 use Rattle.source_rows.specs.declared.key.Key.{Key}
 use Rattle.part_list.specs.Parts.{PartLists, flat, next_in}
@@ -252,19 +251,6 @@ moved_more P xs at k new d lt less before one =
 pub leads_with : (P : Lead → Type 0) (leads : List Lead) (at : ℕ) (lead : Lead) (put : Bool) → All P leads → P lead → All P (if put then insert leads at lead else leads)
 leads_with P leads at lead false all one = all
 leads_with P leads at lead true all one = All-append P (take at leads) (lead ∷ drop at leads) (All-take P at leads all) (All-cons P lead (drop at leads) one (All-drop P at leads all))
-
--- ---- files whose keys are names alone
-
-pub plain_names : (file : SourceFile) (row : Row) → has_code file ≡ false → is_missing_in file row ≡ false
-plain_names UnicodeData row h = absurd cc
-plain_names PropList row h = absurd cc
-plain_names Scripts row h = absurd cc
-plain_names WordBreakProperty row h = absurd cc
-plain_names CompositionExclusions row h = absurd cc
-plain_names CaseFolding row h = absurd cc
-plain_names SpecialCasing row h = absurd cc
-plain_names PropertyAliases row h = refl
-plain_names PropertyValueAliases row h = refl
 
 -- ---- the leads of a file after an addition
 

@@ -33,6 +33,7 @@ pub mod Reload
 pub mod Sound
 pub mod Chains
 pub mod ConditionTags
+pub mod ConditionMarks
 pub mod Gathered
 mod StoredRows
 mod FoundRows

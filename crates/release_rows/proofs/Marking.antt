@@ -8,7 +8,7 @@ use Rattle.ucd_points.specs.declared.files.SourceFile.{SourceFile}
 use Rattle.ucd_facts.specs.declared.row.Row.{Row}
 use Rattle.source_rows.specs.Faults.{row_or_fault}
 use Rattle.source_rows.specs.KeyNames.{group_of}
-use Rattle.source_rows.specs.Keys.{key_names}
+use Rattle.source_rows.specs.Keys.{key_names, row_span}
 use Rattle.part_list.specs.Parts.{PartLists, now_in, next_in}
 use Rattle.part_list.specs.Tags.{Grows, may_have}
 use Rattle.part_list.specs.declared.spanned.Spanned.{Spanned}
@@ -16,7 +16,7 @@ use Rattle.part_list.specs.declared.tags.Tags.{Tags}
 use Rattle.release_rows.specs.FileItems.{FileItem}
 use Rattle.release_rows.specs.Groups.{AreMarked, HasMark, IsMarked, KeepMarks, RowMarked, group_mark, key_mark}
 use Rattle.release_rows.specs.Operations.{ended, follows, put_in, row_passes, same_group, with_end}
-use Rattle.release_rows.specs.StoredItems.{IsKeptFile, IsStored, content_at, stored_at}
+use Rattle.release_rows.specs.StoredItems.{HasSpan, IsKeptFile, IsStored, content_at, stored_at}
 use Rattle.release_rows.specs.declared.stretch.Stretch.{Stretch}
 use Rattle.release_rows.proofs.Arena.{items_kept}
 use Rattle.release_rows.proofs.Edited.{map_remove}
@@ -27,7 +27,7 @@ use Rattle.release_rows.proofs.Walks.{first_of}
 
 has_more : (file : SourceFile) (old new : Tags) (row : Option Row) → Grows old new → HasMark file old row → HasMark file new row
 has_more file old new None grows h = h
-has_more file old new (Some row) grows h = record { group = grows (group_mark (group_of file row)) h.group; key = grows (key_mark file (key_names file row)) h.key }
+has_more file old new (Some row) grows h = record { group = grows (group_mark (group_of file row)) h.group; key = grows (key_mark file (row_span row).lo (key_names file row)) h.key }
 
 pub marked_more : (file : SourceFile) (old new : Tags) (items : List FileItem) → Grows old new → AreMarked file old items → AreMarked file new items
 marked_more file old new items grows all = All-weaker (IsMarked file old) (IsMarked file new) (λ item h. has_more file old new item.row grows h) items all
@@ -67,22 +67,22 @@ marked_put file groups items n item all one =
 
 -- ---- the mark of an item
 
--- what is noted of each row that its content is read as
-abbrev pub IsNoted : SourceFile → Tags → List ℕ → Type 0
-IsNoted file groups content = (row : Row) → row_or_fault file content ≡ Ok row → RowMarked file groups row
+-- what is noted of each row that its content is read as, if it begins with this code point
+abbrev pub IsNoted : SourceFile → Tags → ℕ → List ℕ → Type 0
+IsNoted file groups code content = (row : Row) → row_or_fault file content ≡ Ok row → code ≡ (row_span row).lo → RowMarked file groups row
 
-noted_by : (file : SourceFile) (groups : Tags) (content : List ℕ) (row : Option Row) → StoredAs file content row → IsNoted file groups content → HasMark file groups row
-noted_by file groups content None st noted = tt
-noted_by file groups content (Some row) st noted = noted row st.1
+noted_by : (file : SourceFile) (groups : Tags) (code last : ℕ) (content : List ℕ) (row : Option Row) → StoredAs file content row → HasSpan row code last → IsNoted file groups code content → HasMark file groups row
+noted_by file groups code last content None st span noted = tt
+noted_by file groups code last content (Some row) st span noted = noted row st.1 span.0
 
-pub marked_stored : (file : SourceFile) (groups : Tags) (text : List ℕ) (e : Spanned Stretch) → IsStored file text e → IsNoted file groups (content_at text e.item) → IsMarked file groups (stored_at file text e)
-marked_stored file groups text e stored noted = noted_by file groups (content_at text e.item) _ (stored_as file text e stored) noted
+pub marked_stored : (file : SourceFile) (groups : Tags) (text : List ℕ) (e : Spanned Stretch) → IsStored file text e → IsNoted file groups e.code (content_at text e.item) → IsMarked file groups (stored_at file text e)
+marked_stored file groups text e stored noted = noted_by file groups e.code e.last (content_at text e.item) _ (stored_as file text e stored) stored.span noted
 
 -- one more of the entries that are left is marked
-pub marked_next : (file : SourceFile) (text : List ℕ) (old new : Tags) (entries : List (Spanned Stretch)) (e : Spanned Stretch) (rest : List (Spanned Stretch)) (whole : List FileItem) → entries ≡ e ∷ rest → All (IsStored file text) entries → IsNoted file new (content_at text e.item) → Grows old new → ((later : Tags) → Grows old later → AreMarked file later (map (stored_at file text) entries) → AreMarked file later whole) → (later : Tags) → Grows new later → AreMarked file later (map (stored_at file text) rest) → AreMarked file later whole
+pub marked_next : (file : SourceFile) (text : List ℕ) (old new : Tags) (entries : List (Spanned Stretch)) (e : Spanned Stretch) (rest : List (Spanned Stretch)) (whole : List FileItem) → entries ≡ e ∷ rest → All (IsStored file text) entries → IsNoted file new e.code (content_at text e.item) → Grows old new → ((later : Tags) → Grows old later → AreMarked file later (map (stored_at file text) entries) → AreMarked file later whole) → (later : Tags) → Grows new later → AreMarked file later (map (stored_at file text) rest) → AreMarked file later whole
 marked_next file text old new entries e rest whole split stored noted grows so_far later more left =
     let st = stored_at file text in
-    let one = marked_stored file later text e (first_of (IsStored file text) entries e rest split stored) (λ row is. record { group = more _ (noted row is).group; key = more _ (noted row is).key }) in
+    let one = marked_stored file later text e (first_of (IsStored file text) entries e rest split stored) (λ row is code. record { group = more _ (noted row is code).group; key = more _ (noted row is code).key }) in
     so_far later (λ t h. more t (grows t h)) (subst (λ (es : List (Spanned Stretch)). AreMarked file later (map st es)) (sym split) (All-cons (IsMarked file later) (st e) (map st rest) one left))
 
 -- ---- the marks of a file that is edited

@@ -13,9 +13,8 @@ ghost use Rattle.release_rows.specs.Operations.{place_in, put_in, with_end};
 ghost use Rattle.release_rows.specs.Searches.{IsSoughtRow};
 ghost use Rattle.release_rows.specs.StoredItems.{stored_at, IsStored};
 
-use crate::lead::Leads;
+use crate::lead::{Leads, has_leads};
 use crate::mark::group_mark;
-use crate::op_spans::has_code;
 use crate::search::{Search, Test};
 use crate::stretch::Stretch;
 use part_list::{PartList, Spanned, Spot, Tags};
@@ -132,7 +131,7 @@ pub fn lead_count(file: SourceFile, items: &PartList<Stretch>, gap: Gap) -> Opti
     ensures { (n : ℕ) → IsGapAt gap n items.now.next
         → IfSome result (λ count. count ≡ n) }
 {
-    if has_code(file) {
+    if !has_leads(file) {
         return None;
     }
     Some(gap_place(items, gap))

@@ -68,7 +68,12 @@ impl FileText {
         };
         self.whole = false;
         self.leads.clear();
-        note_group(&mut self.groups, self.file, content_in(from, entry.item));
+        note_group(
+            &mut self.groups,
+            self.file,
+            entry.code,
+            content_in(from, entry.item),
+        );
         let copy = copy_entry(self.file, from, entry, &mut self.text)?;
         put_at(&mut self.items, at, copy)?;
         self.added = added;

@@ -82,7 +82,7 @@ pub fn added_gap(
         → FindsGap result search.now.file search.now.text row items.now.next }
 {
     contents_have_keys();
-    if are_new_names(groups, search) {
+    if is_new_key(groups, search) {
         return Ok(gap_for(items, groups, leads, search));
     }
     if items.first(&search.with(Test::SameKey)).is_some() {
@@ -94,12 +94,12 @@ pub fn added_gap(
     Ok(gap_for(items, groups, leads, search))
 }
 
-/// Whether no row has the names of the key that is looked for, as far as keys are noted. So none has the key, and none overlaps the row.
-fn are_new_names(groups: &Tags, search: &Search<'_>) -> bool
-    ensures { result ≡ true
-        → may_have groups.now (key_mark search.now.file search.now.names) ≡ false }
+/// Whether no row has the mark of the key that is looked for, as far as keys are noted. So none has the key, and none overlaps the row.
+fn is_new_key(groups: &Tags, search: &Search<'_>) -> bool
+    ensures { result ≡ true → may_have groups.now
+        (key_mark search.now.file search.now.code search.now.names) ≡ false }
 {
-    !groups.may_have(key_mark(search.file, search.names))
+    !groups.may_have(key_mark(search.file, search.code, search.names))
 }
 
 /// Where the row stands that a change replaces.

@@ -5,6 +5,7 @@ ghost use Rattle.std.specs.List.{All};
 ghost use Rattle.part_list.specs.Parts.{next_in, now_in};
 ghost use Rattle.part_list.specs.Tags.{Grows};
 ghost use Rattle.source_rows.specs.Faults.{row_or_fault};
+ghost use Rattle.source_rows.specs.Keys.{row_span};
 ghost use Rattle.ucd_facts.specs.declared.row.Row.{Row as RowValue};
 ghost use Rattle.release_rows.specs.Groups.{AreMarked, RowMarked};
 ghost use Rattle.release_rows.specs.StoredItems.{IsStored, stored_at};
@@ -16,24 +17,28 @@ use source_rows::{content_group, contents_have_keys};
 use std::alloc::Global;
 use ucd_facts::SourceFile;
 
-/// Whether groups and keys of the file's rows are noted: those of PropList.txt, and of the files whose keys are names alone.
+/// Whether groups and keys of the file's rows are noted: those of PropList.txt, of SpecialCasing.txt, and of the files whose keys are names
+/// alone.
 pub fn has_marks(file: SourceFile) -> bool {
     matches!(
         file,
-        SourceFile::PropList | SourceFile::PropertyAliases | SourceFile::PropertyValueAliases
+        SourceFile::PropList
+            | SourceFile::SpecialCasing
+            | SourceFile::PropertyAliases
+            | SourceFile::PropertyValueAliases
     )
 }
 
-/// Notes the group and the key of a row that stands in this content, if they are noted at all.
-pub fn note_group(groups: &mut Tags, file: SourceFile, content: &[u8])
+/// Notes the group and the key of a row that begins with this code point and stands in this content, if they are noted at all.
+pub fn note_group(groups: &mut Tags, file: SourceFile, code: u32, content: &[u8])
     ensures noted { (row : RowValue) → row_or_fault file content.now ≡ Ok row
-        → RowMarked file groups.new row }
+        → code ≡ (row_span row).lo → RowMarked file groups.new row }
     ensures grows { Grows groups.old groups.new }
 {
     contents_have_keys();
     if !groups.are_unknown() {
         groups.put(group_mark(content_group(file, content)));
-        groups.put(content_mark(file, content));
+        groups.put(content_mark(file, code, content));
     }
 }
 
@@ -44,7 +49,7 @@ fn note_all(groups: &mut Tags, file: SourceFile, text: &[u8], mut entries: Entri
     ensures grows { Grows groups.old groups.new }
 {
     'entries: while let Some(entry) = entries.next() {
-        note_group(groups, file, content_in(text, entry.item));
+        note_group(groups, file, entry.code, content_in(text, entry.item));
     }
 }
 

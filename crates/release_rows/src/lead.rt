@@ -4,21 +4,22 @@
 ghost use Rattle.std.specs.Prelude.{◌≡◌, ℕ, ◌≤◌, ◌&&◌, List, None, Some, IfSome, false, length, take, true};
 ghost use Rattle.std.specs.Ordering.{is_gt, is_lt, nat_cmp, ordering_then};
 ghost use Rattle.std.specs.Str.{bytes_eq};
+ghost use Rattle.ucd_points.specs.MissingLines.{takes_missing};
 ghost use Rattle.ucd_points.specs.declared.files.SourceFile.{SourceFile as FileValue};
 ghost use Rattle.ucd_facts.specs.declared.row.Row.{Row as RowValue};
-ghost use Rattle.source_rows.specs.KeyNames.{content_group, content_names, has_code, names_cmp};
+ghost use Rattle.source_rows.specs.KeyNames.{content_group, content_names, names_cmp};
 ghost use Rattle.release_rows.specs.FileItems.{FileItem};
 ghost use Rattle.release_rows.specs.Leads.{AreLeads, GivesRow, IsLead, KeepLeads, NoneFollows};
 ghost use Rattle.release_rows.specs.Operations.{place_in, put_in};
 ghost use Rattle.release_rows.specs.Searches.{IsSoughtRow};
 ghost use Rattle.release_rows.specs.StoredItems.{content_at};
 
-use crate::op_spans::has_code;
 use crate::search::Search;
 use crate::stretch::{Stretch, content_in};
 use source_rows::{compare_names, content_group, contents_have_keys};
 use std::alloc::Global;
 use std::cmp::Ordering;
+use ucd_facts::SourceFile;
 
 /// How many items are looked at before a lead is put behind them.
 const FEW: usize = 128;
@@ -34,25 +35,39 @@ pub struct Lead {
     pub item: Stretch,
 }
 
-/// Leads of a file, if keys of its rows are names alone. They are rows that were added while nothing else was edited.
+/// Leads of a file, if it has any. They are rows that were added while nothing else was edited.
 #[derive(Debug, Drop)]
 pub struct Leads {
     /// They ascend by their keys; `None` if no row was added.
     list: Option<Vec<Lead>>,
 }
 
-/// How the key that is looked for compares with that of a lead.
+/// Whether a file has leads: SpecialCasing.txt, and the files whose keys are names alone. They have no missing rows.
+pub fn has_leads(file: SourceFile) -> bool
+    ensures { result ≡ true → takes_missing file ≡ false }
+{
+    matches!(
+        file,
+        SourceFile::SpecialCasing | SourceFile::PropertyAliases | SourceFile::PropertyValueAliases
+    )
+}
+
+/// How the key that is looked for compares with that of a lead. The names of a lead at another code point are not read.
 fn compare(lead: Lead, search: &Search<'_>) -> Ordering
     ensures { result ≡ ordering_then (nat_cmp search.now.code lead.code)
         (names_cmp search.now.names
         (content_names search.now.file (content_at search.now.text lead.item))) }
 {
-    let names = compare_names(
-        search.file,
-        search.names,
-        content_in(search.text, lead.item),
-    );
-    search.code.cmp(&lead.code).then(names)
+    match search.code.cmp(&lead.code) {
+        Ordering::Equal => {
+            compare_names(
+                search.file,
+                search.names,
+                content_in(search.text, lead.item),
+            )
+        }
+        order => order,
+    }
 }
 
 /// Whether the group that is looked for is that of a lead.
@@ -186,7 +201,7 @@ fn put_lead(leads: &mut Vec<Lead>, search: &Search<'_>, lead: Lead)
 /// Moves leads for the row that is looked for, which stands there in the text and is put in at its place, behind so many items. It has a
 /// lead of its own if many items behind those that leads passed were looked at.
 fn note_row(leads: &mut Vec<Lead>, search: &Search<'_>, count: usize, item: Stretch)
-    requires { has_code search.now.file ≡ false }
+    requires { takes_missing search.now.file ≡ false }
     ensures { (row : RowValue) (items : List FileItem) (added : FileItem)
         → IsSoughtRow search.now.file row search.now.text search.now
         → GivesRow search.now.file search.now.text item row
@@ -252,7 +267,7 @@ impl Leads {
     }
 
     /// Notes that the row that is looked for, which stands there in the text, is put in at its place, behind so many items. There are no
-    /// leads if keys have code points, or if there is no memory for the first.
+    /// leads if the file has none, or if there is no memory for the first.
     fn note_behind(&mut self, alloc: Global, search: &Search<'_>, count: usize, item: Stretch)
         ensures { (row : RowValue) (items : List FileItem) (added : FileItem)
             → IsSoughtRow search.now.file row search.now.text search.now
@@ -263,7 +278,7 @@ impl Leads {
             → KeepLeads search.now.file search.now.text items self.old
             → KeepLeads search.now.file search.now.text (put_in items count added) self.new }
     {
-        if has_code(search.file) {
+        if !has_leads(search.file) {
             self.list = None;
             return;
         }

@@ -1,12 +1,15 @@
-//! Marks: numbers for the name of a group and for the names of a key, by which one that no row has is told at once.
+//! Marks: numbers for the name of a group and for a key, by which one that no row has is told at once.
 
 ghost use Rattle.std.specs.Prelude.{◌≡◌, ℕ, ◌+◌, ◌*◌, ◌%◌, ◌∷◌, List, take};
+ghost use Rattle.ucd_facts.specs.Mappings.{spaced_words};
 ghost use Rattle.source_rows.specs.KeyNames.{content_names};
+ghost use Rattle.source_rows.specs.Keys.{condition_names};
 ghost use Rattle.release_rows.specs.Groups.{group_mark, key_mark, mark_on, names_mark};
 
+use crate::tag::field_at;
 use source_rows::content_group;
 use ucd_facts::{SourceFile, Text};
-use ucd_lines::{Fields, fields};
+use ucd_lines::{Fields, fields, is_blank};
 
 /// The mark with one more byte.
 fn with_byte(mark: u32, byte: u8) -> u32
@@ -42,13 +45,38 @@ pub fn group_mark(group: &[u8]) -> u32
     with_bytes(0, group)
 }
 
-/// The mark of names.
-fn names_mark(names: &[Text]) -> u32
-    ensures { result ≡ names_mark 0 names.now }
+/// The mark with more names.
+fn with_names(mark: u32, names: &[Text]) -> u32
+    ensures { result ≡ names_mark mark names.now }
 {
-    let mut mark = 0;
+    let mut mark = mark;
     'names: for name in names {
         mark = with_name(mark, name.as_slice());
+    }
+    mark
+}
+
+/// The mark with conditions as one more name: the words of a text, with one space between them. It stays as it is if there are no words.
+fn with_conditions(mark: u32, text: &[u8]) -> u32
+    ensures { result ≡ names_mark mark (condition_names (spaced_words text.now)) }
+{
+    let mut mark = mark;
+    let mut begun = false;
+    let mut gap = false;
+    'bytes: for byte in text {
+        if is_blank(*byte) {
+            gap = begun;
+        } else {
+            if gap {
+                mark = with_byte(mark, b' ');
+            }
+            mark = with_byte(mark, *byte);
+            begun = true;
+            gap = false;
+        }
+    }
+    if begun {
+        return with_byte(mark, b';');
     }
     mark
 }
@@ -69,24 +97,27 @@ fn fields_mark(mut names: Fields<'_>, count: usize) -> u32
     mark
 }
 
-/// The mark of the names of a key in PropList.txt, and in the files whose keys are names alone; else 0.
-pub fn key_mark(file: SourceFile, names: &[Text]) -> u32
-    ensures { result ≡ key_mark file names.now }
+/// The mark of the names of a key in PropList.txt, and in the files whose keys are names alone; in SpecialCasing.txt that of its names behind
+/// its code point; else 0.
+pub fn key_mark(file: SourceFile, code: u32, names: &[Text]) -> u32
+    ensures { result ≡ key_mark file code names.now }
 {
     match file {
         SourceFile::PropList | SourceFile::PropertyAliases | SourceFile::PropertyValueAliases => {
-            names_mark(names)
+            with_names(0, names)
         }
+        SourceFile::SpecialCasing => with_names(code, names),
         _ => 0,
     }
 }
 
-/// The mark of the key of a row that stands in this content of the file.
-pub fn content_mark(file: SourceFile, content: &[u8]) -> u32
-    ensures { result ≡ key_mark file (content_names file content.now) }
+/// The mark of the key of a row that begins with this code point and stands in this content of the file.
+pub fn content_mark(file: SourceFile, code: u32, content: &[u8]) -> u32
+    ensures { result ≡ key_mark file code (content_names file content.now) }
 {
     match file {
         SourceFile::PropList => with_name(0, content_group(file, content)),
+        SourceFile::SpecialCasing => with_conditions(code, field_at(fields(file, content), 4)),
         SourceFile::PropertyAliases => fields_mark(fields(file, content), 2),
         SourceFile::PropertyValueAliases => fields_mark(fields(file, content), 3),
         _ => 0,

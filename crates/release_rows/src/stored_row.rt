@@ -63,7 +63,7 @@ pub fn store_row(
 {
     rows_are_read();
     rows_are_no_trivia();
-    note_group(groups, file, bytes);
+    note_group(groups, file, row_start(row), bytes);
     let (start, len) = stretch_behind(text.as_slice(), bytes)?;
     text.append(bytes)?;
     let item = Stretch {

@@ -86,7 +86,7 @@ fn second_text(names: &[Text]) -> &[u8]
 }
 
 /// The field with this number, counted from 0; nothing if there is none.
-fn field_at(mut fields: Fields<'_>, number: usize) -> &[u8]
+pub fn field_at(mut fields: Fields<'_>, number: usize) -> &[u8]
     ensures { result.now ≡ field fields.entry number }
 {
     let mut left = number;

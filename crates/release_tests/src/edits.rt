@@ -4,7 +4,7 @@ ghost use Rattle.std.specs.Prelude.{◌≡◌, IfOk};
 ghost use Rattle.release_rows.specs.Operations.{IsOp};
 
 use crate::files::release_of;
-use release_rows::{Op, OpStop, Release};
+use release_rows::{KeyRule, Op, OpStop, Release};
 use source_rows::{RowStop, read_key, read_row};
 use std::alloc::Global;
 use std::test::Fail;
@@ -126,6 +126,24 @@ const PROPERTIES: [Case<'static>; 4] = [
     (Edit::Add(b"WB ; EX ; ExtendNumLet"), Ok(())),
 ];
 
+/// Conditions are one key if their words are, at one code point.
+const CONDITIONS: [Case<'static>; 5] = [
+    (
+        Edit::Add(b"0069; 0069; 0049; 0049;  lt Soft_Dotted ;"),
+        Err(OpStop::Key(KeyRule::K1)),
+    ),
+    (
+        Edit::Add(b"0049; 0069; 0049; 0049; lt Soft_Dotted;"),
+        Ok(()),
+    ),
+    (Edit::Add(b"0069; 0069; 0049; 0049; lt;"), Ok(())),
+    (
+        Edit::Add(b"0069; 0069; 0049; 0049;\tlt ;"),
+        Err(OpStop::Key(KeyRule::K1)),
+    ),
+    (Edit::Add(b"0069; 0069; 0049; 0049;"), Ok(())),
+];
+
 /// A file, its bytes, edits of it, and the bytes then.
 type Edited = (
     SourceFile,
@@ -134,7 +152,7 @@ type Edited = (
     &'static [u8],
 );
 
-const EDITED: [Edited; 2] = [
+const EDITED: [Edited; 3] = [
     (
         SourceFile::Scripts,
         b"0041 ; Latin\n0061 ; Latin\n\n0020 ; Common\n0031 ; Common\n",
@@ -146,6 +164,12 @@ const EDITED: [Edited; 2] = [
         b"gc ; Lu ; Uppercase_Letter\nsc ; Latn ; Latin\n# end\n",
         &PROPERTIES,
         b"gc ; Ll ; Lowercase_Letter\ngc ; Lu ; Uppercase_Letter\nsc ; Grek ; Greek\nsc ; Latn ; Latin\n# end\nWB ; EX ; ExtendNumLet\nWB ; LE ; ALetter\n",
+    ),
+    (
+        SourceFile::SpecialCasing,
+        b"0069; 0069; 0049; 0049; lt\t Soft_Dotted;\n",
+        &CONDITIONS,
+        b"0049; 0069; 0049; 0049; lt Soft_Dotted;\n0069; 0069; 0049; 0049;\n0069; 0069; 0049; 0049; lt;\n0069; 0069; 0049; 0049; lt\t Soft_Dotted;\n",
     ),
 ];
 

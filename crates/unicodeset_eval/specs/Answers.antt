@@ -5,7 +5,7 @@
 -- Gives view result wanted   the result shows what is wanted: the value, or the fault with its rule and place. If memory ran out, nothing is claimed
 -- names_in a                 what names mean by a table of aliases
 -- names_are                  those are what they mean by the rows of which the table is
-use Rattle.std.specs.Prelude.{Result, Option, Some, None}
+use Rattle.std.specs.Prelude.{◌≡◌, Result, Option, Some, None}
 use Rattle.ucd_points.specs.Answers.{AnswersBy, IsToldBy}
 use Rattle.property_aliases.specs.Found.{AreAliasesOf, property_in, value_in, lone_in}
 use Rattle.property_aliases.specs.Sources.{Sources}

@@ -87,10 +87,14 @@ pair_candidate F s y q is = primary_candidate F q (first_so (primary F q) (is_pa
 pub second_candidate : (F : ℕ → Facts) (y q : ℕ) → ends_with F y q ≡ true → is_candidate (F q) ≡ true
 second_candidate F y q is = primary_candidate F q (first_so (primary F q) (is_second y (F q).mapping) is)
 
+-- the key of a candidate is in the index
+pub key_listed : (F : ℕ → Facts) (index : PairIndex) (s y q : ℕ) → Lists index F → is_candidate (F q) ≡ true → (F q).mapping ≡ s ∷ y ∷ [] → has index.pairs (pair_key s y + q) ≡ true
+key_listed F index s y q lists kind is = first_so (has index.pairs (pair_key s y + q)) _ (second_so (nat_lt y 2097152) _ (lists s y q kind is))
+
 pub pair_listed : (F : ℕ → Facts) (index : PairIndex) (s y q : ℕ) → Lists index F → composes F s y q ≡ true → has index.pairs (pair_key s y + q) ≡ true
 pair_listed F index s y q lists is =
-    let members = pair_members s y (F q).mapping (second_so (primary F q) (is_pair s y (F q).mapping) is) in
-    first_so (has index.pairs (pair_key s y + q)) _ (second_so (nat_lt y 2097152) _ (lists s y q (primary_candidate F q (first_so (primary F q) (is_pair s y (F q).mapping) is)) members))
+    key_listed F index s y q lists (primary_candidate F q (first_so (primary F q) (is_pair s y (F q).mapping) is))
+    (pair_members s y (F q).mapping (second_so (primary F q) (is_pair s y (F q).mapping) is))
 
 second_members : (F : ℕ → Facts) (index : PairIndex) (y q : ℕ) (m : List ℕ) → m ≡ (F q).mapping → is_second y m ≡ true → is_candidate (F q) ≡ true → Lists index F → has index.seconds (second_key y + q) ≡ true
 second_members F index y q [] e is kind lists = absurd cc
@@ -116,7 +120,7 @@ second_unlisted F index y q lists absent = false_from_ne_true (ends_with F y q) 
 pub none_more : (p : ℕ → Bool) (n q : ℕ) → NoneBelow p n → ((k : ℕ) → n ≤ k → k < q → p k ≡ false) → NoneBelow p q
 none_more p n q below more k lt = elim (cases_lt k n) [ inl before ↦ below k before | inr from ↦ more k from lt ]
 
-at_end : (k q : ℕ) → q ≤ k → k < q + 1 → q ≡ k
+pub at_end : (k q : ℕ) → q ≤ k → k < q + 1 → q ≡ k
 at_end k q from lt = omega arith
 
 pub none_next : (p : ℕ → Bool) (q n : ℕ) → n ≡ q → NoneBelow p q → p q ≡ false → NoneBelow p (n + 1)

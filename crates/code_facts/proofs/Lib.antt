@@ -12,6 +12,7 @@ mod AlikeLemmas
 mod PlainLemmas
 pub mod TableLemmas
 pub mod ChangeLemmas
+mod SweepLemmas
 mod RestLemmas
 mod JoinedLemmas
 mod MidWordLemmas

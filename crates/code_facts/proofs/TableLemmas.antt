@@ -137,18 +137,18 @@ sound_made index t words rests word rest made packs = record {
   packs = λ c lt. word c lt ∙ packs c lt ∙ sym (ap packed (made_point t words rests word rest c lt));
 }
 
--- a composite is a code point
-pub pair_inside : (words : ℕ → ℕ) (rests : ℕ → RestOf) (s y q : ℕ) → composes (all_kept words rests) s y q ≡ true → q < 1114112
-pair_inside words rests s y q is = elim (cases_lt q point_count) [
+-- a candidate and a composite are code points
+pub candidate_inside : (words : ℕ → ℕ) (rests : ℕ → RestOf) (q : ℕ) → is_candidate (all_kept words rests q) ≡ true → q < 1114112
+candidate_inside words rests q is = elim (cases_lt q point_count) [
   | inl lt ↦ below_point q lt
-  | inr le ↦ absurd (none_outside (all_kept words rests q) q (kept_outside words rests q le) (pair_candidate (all_kept words rests) s y q is))
+  | inr le ↦ absurd (none_outside (all_kept words rests q) q (kept_outside words rests q le) is)
 ]
 
+pub pair_inside : (words : ℕ → ℕ) (rests : ℕ → RestOf) (s y q : ℕ) → composes (all_kept words rests) s y q ≡ true → q < 1114112
+pair_inside words rests s y q is = candidate_inside words rests q (pair_candidate (all_kept words rests) s y q is)
+
 pub second_inside : (words : ℕ → ℕ) (rests : ℕ → RestOf) (y q : ℕ) → ends_with (all_kept words rests) y q ≡ true → q < 1114112
-second_inside words rests y q is = elim (cases_lt q point_count) [
-  | inl lt ↦ below_point q lt
-  | inr le ↦ absurd (none_outside (all_kept words rests q) q (kept_outside words rests q le) (second_candidate (all_kept words rests) y q is))
-]
+second_inside words rests y q is = candidate_inside words rests q (second_candidate (all_kept words rests) y q is)
 
 -- what tables keep, now and next
 pub listed_at : {T : Type 0} {d : Ghosts T ℕ} (version : Version) (t : FactTables T d) → Lists t.index (facts_at version t)

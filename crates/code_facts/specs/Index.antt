@@ -6,10 +6,12 @@
 -- is_gathered keys s y q   q is among the keys of the pair s, y, and of the second member y, and y has no more than 21 bits
 -- is_listed index s y q  q is listed under the pair s, y, and under the second member y, and y has no more than 21 bits
 -- Lists index F          each candidate whose mapping has two members is listed; other code points may be too
+-- GathersAll keys F      each candidate whose mapping has two members has its keys among these
 -- is_that s y pair       the pair, where there is one, is s and y; ends_that y pair: its second member is y
 -- two_of m               the two members of a mapping; None where it has not two
 -- is_candidate facts     a code point with these facts may be a primary composite: by its kind, its class and its exclusion
 -- is_candidate_word word   the same, by its word
+-- candidate_of facts     the two members of the mapping of a candidate with these facts; None for every other code point
 -- may_compose F q s      q may be a primary composite whose mapping begins with s: by its kind, its class and its exclusion, and the
 --                        class of s
 -- picked F q two         the two, where there are two and q may compose them
@@ -43,6 +45,9 @@ is_candidate facts = is_canonical facts.kind && ((facts.class == 0) && not facts
 abbrev pub Lists : PairIndex → (ℕ → Facts) → Type 0
 Lists index F = (s y q : ℕ) → is_candidate (F q) ≡ true → (F q).mapping ≡ s ∷ y ∷ [] → is_listed index s y q ≡ true
 
+abbrev pub GathersAll : PairKeys → (ℕ → Facts) → Type 0
+GathersAll keys F = (s y q : ℕ) → is_candidate (F q) ≡ true → (F q).mapping ≡ s ∷ y ∷ [] → is_gathered keys s y q ≡ true
+
 abbrev pub is_that : ℕ → ℕ → Option (ℕ × ℕ) → Bool
 is_that s y (Some pair) = (pair.0 == s) && (pair.1 == y)
 is_that s y None = false
@@ -60,6 +65,9 @@ NoneFrom p m n = (k : ℕ) → m ≤ k → k < n → p k ≡ false
 abbrev pub two_of : List ℕ → Option (ℕ × ℕ)
 two_of (a ∷ b ∷ []) = Some (a, b)
 two_of _ = None
+
+abbrev pub candidate_of : Facts → Option (ℕ × ℕ)
+candidate_of facts = if is_candidate facts then two_of facts.mapping else None
 
 abbrev pub is_candidate_word : ℕ → Bool
 is_candidate_word word = is_canonical (kind_of_word word) && ((class_of_word word == 0) && not (excluded_of_word word))

@@ -3,7 +3,7 @@
 ghost use Rattle.std.specs.Prelude.{◌≡◌, ℕ};
 ghost use Rattle.ucd_facts.specs.Composites.{composes, ends_with, is_canonical, pair_of, second_of};
 ghost use Rattle.code_facts.specs.FactTables.{facts_at};
-ghost use Rattle.code_facts.specs.Index.{is_that, ends_that, is_candidate, is_candidate_word, may_compose, picked, two_of};
+ghost use Rattle.code_facts.specs.Index.{candidate_of, is_that, ends_that, is_candidate, is_candidate_word, may_compose, picked, two_of};
 
 use crate::fact_tables::FactTables;
 use crate::version::Version;
@@ -83,6 +83,18 @@ impl<T: Table<u64>> FactTables<T> {
         let candidate = self.is_candidate(version, q);
         let starts = self.class_in(version, s) == 0;
         candidate && starts
+    }
+
+    /// The two members of the mapping of a code point that may be a primary composite by its kind, its class and its
+    /// exclusion; `None` for every other code point.
+    pub(crate) fn candidate(&self, version: Version, q: Point) -> Option<(Point, Point)>
+        ensures { result ≡ candidate_of (facts_at version self.now q) }
+    {
+        if self.is_candidate(version, q) {
+            two_of(self.mapping_in(version, q))
+        } else {
+            None
+        }
     }
 
     /// Whether a code point may be a primary composite by its kind, its class and its exclusion.

@@ -1,6 +1,6 @@
 //! The index of the code points that may compose the two members of their mapping.
 
-ghost use Rattle.std.specs.Prelude.{◌≡◌, ℕ, ◌+◌, ◌%◌, ◌<◌, ◌≤◌, true, false, IfOk, OnOk, MatchOption};
+ghost use Rattle.std.specs.Prelude.{◌≡◌, ℕ, ◌+◌, ◌%◌, ◌<◌, ◌≤◌, ◌==◌, true, false, IfOk, OnOk, MatchOption};
 ghost use Rattle.number_sets.specs.Keys.{has, is_in};
 ghost use Rattle.code_facts.specs.Index.{pair_key, first_key, second_key, is_listed, is_gathered, NoneFrom};
 
@@ -10,14 +10,22 @@ use number_sets::KeySet;
 use std::alloc::Global;
 use ucd_facts::{Memory, Point};
 
+/// How many keys may be put in beside very few others before all are gathered anew.
+const FEW: usize = 32;
+
 /// Code points under the two members of their mappings, and under the second ones. The index does not tell whether one
-/// of them is a primary composite: that may change while the index stays.
+/// of them is a primary composite: that may change while the index stays. Keys are put in and never taken out, so it
+/// counts them: after as many as the square root of those that it was made of, and some more, it is due to be made anew.
 #[derive(Drop)]
 pub struct PairIndex {
     /// The keys of the pairs.
     pub pairs: KeySet,
     /// The keys of the second members.
     pub seconds: KeySet,
+    /// Where the memory for keys comes from.
+    pub alloc: Global,
+    /// How many keys of pairs may still be put in before all are gathered anew.
+    pub left: usize,
 }
 
 impl PairIndex {
@@ -26,9 +34,12 @@ impl PairIndex {
         ensures { (a b r : ℕ) → is_listed result a b r ≡ is_gathered keys a b r }
     {
         let PairKeys { pairs, seconds } = keys;
+        let left = pairs.len().isqrt().saturating_add(FEW);
         PairIndex {
             pairs: KeySet::of(alloc, pairs),
             seconds: KeySet::of(alloc, seconds),
+            alloc,
+            left,
         }
     }
 
@@ -42,6 +53,8 @@ impl PairIndex {
         Ok(PairIndex {
             pairs: self.pairs.copied(alloc)?,
             seconds: self.seconds.copied(alloc)?,
+            alloc,
+            left: self.left,
         })
     }
 
@@ -54,8 +67,38 @@ impl PairIndex {
         ensures listed { OnOk result ((a b r : ℕ) → is_gathered keys.now a b r ≡ true
             → is_listed self.new a b r ≡ true) }
     {
+        self.left = self.left.saturating_sub(keys.pairs.len());
         insert_all(&mut self.pairs, &keys.pairs)?;
         insert_all(&mut self.seconds, &keys.seconds)
+    }
+
+    /// Whether so many keys were put in that all are to be gathered anew.
+    pub fn is_due(&self) -> bool
+        ensures { result ≡ (self.now.left == 0) }
+    {
+        self.left == 0
+    }
+
+    /// Lets a few more keys be put in before all are gathered anew.
+    pub fn put_off(&mut self)
+        ensures { (a b r : ℕ) → is_listed self.new a b r ≡ is_listed self.old a b r }
+    {
+        self.left = FEW;
+    }
+
+    /// Where the memory for keys comes from.
+    pub fn allocator(&self) -> Global
+        ensures { result ≡ self.now.alloc }
+    {
+        self.alloc
+    }
+
+    /// The least key at or above `from` of a pair; `None` if there is none.
+    pub fn next_pair(&self, from: u64) -> Option<u64>
+        ensures { MatchOption result ((k : ℕ) → from ≤ k → has self.now.pairs k ≡ false)
+            (λ key. (from ≤ key) × ((k : ℕ) → from ≤ k → k < key → has self.now.pairs k ≡ false)) }
+    {
+        next_key(&self.pairs, from)
     }
 
     /// The least code point at or above `from` that is listed under a pair; `None` if there is none.

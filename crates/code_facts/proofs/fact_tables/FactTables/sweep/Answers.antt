@@ -24,7 +24,11 @@ invariant_of-self g c =
     }
 
 pub returns-clause-now : goal.returns-clause-now
-returns-clause-now g c = same_kept (words_at Now c.args.self.now) (words_at Now c.args.self.now) (values g.T.Table.now c.sweep.new.self) (rests_at Now c.args.self.now) (λ k lt. refl) c.sweep.ensures.now
+returns-clause-now g c =
+    c.list_anew.ensures.now
+    ∙ same_kept (words_at Now c.args.self.now) (words_at Now c.args.self.now) (values g.T.Table.now c.sweep.new.self) (rests_at Now c.args.self.now) (λ k lt. refl) c.sweep.ensures.now
 
 pub returns-clause-next : goal.returns-clause-next
-returns-clause-next g c = same_kept (words_at Next c.args.self.now) (words_at Next c.args.self.now) (values g.T.Table.next c.sweep.new.self) (rests_at Next c.args.self.now) (λ k lt. refl) c.sweep.ensures.next
+returns-clause-next g c =
+    c.list_anew.ensures.next
+    ∙ same_kept (words_at Next c.args.self.now) (words_at Next c.args.self.now) (values g.T.Table.next c.sweep.new.self) (rests_at Next c.args.self.now) (λ k lt. refl) c.sweep.ensures.next

@@ -106,7 +106,7 @@ impl<T: Table<u64>> FactTables<T> {
     }
 }
 
-/// The same, by the packed word of the code point.
+/// Whether a code point with this packed word may be a primary composite: by its kind, its class and its exclusion.
 pub fn is_candidate_word(word: u64) -> bool
     ensures { result ≡ is_candidate_word word }
 {

@@ -128,7 +128,7 @@ pub fn put_rests<S: Store<Rest>>(
     put_rests_with(alloc, into, from, span, none)
 }
 
-/// The same, with the place of the rest of code points that have none.
+/// Makes what is kept next beside the words of a span the same as in the tables, given the place of the rest of code points that have none.
 fn put_rests_with<S: Store<Rest>>(
     alloc: Global,
     into: &mut S,

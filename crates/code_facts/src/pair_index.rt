@@ -43,7 +43,7 @@ impl PairIndex {
         }
     }
 
-    /// The same index.
+    /// A copy of the index: it lists the same code points under the same pairs.
     ///
     /// - `Memory`: memory ran out.
     pub fn copied(&self, alloc: Global) -> Result<PairIndex, Memory>
@@ -110,7 +110,7 @@ impl PairIndex {
         next_listed(&self.pairs, pair_key(s, y), from)
     }
 
-    /// The same for a second member.
+    /// The least code point at or above `from` that is listed under a second member; `None` if there is none.
     pub fn next_of_second(&self, y: Point, from: u32) -> Option<Point>
         ensures { MatchOption result
             (NoneFrom (λ k. has self.now.seconds (second_key y + k)) from 1114112)

@@ -9,7 +9,7 @@ use Rattle.release_rows.specs.declared.operation.Op.{Op}
 use Rattle.edit_session.specs.Groups.{group_answer}
 use Rattle.edit_session.specs.declared.apply_stop.Refused.{Refused as Why}
 use Rattle.bench_editors.specs.Desks.{Answer, DeskState, after_events, answer, carried, early_reply, entered, is_present, is_stale, left, proposed, replies, revision_of, stale_at, without}
-use Rattle.bench_editors.specs.Laws.{AcceptsEach, GroupsReplay, LoneEditorsGetTheSame, Replays, accepted_points, alone, is_early, without_revision}
+use Rattle.bench_editors.specs.Laws.{AcceptsEach, GroupsReplay, RepliesAreThoseOfALoneEditor, Replays, accepted_points, alone, is_early, without_revision}
 use Rattle.bench_editors.specs.declared.event.Event.{Event}
 use Rattle.bench_editors.specs.declared.event.Event.TheVariants.{Enter, Propose, Leave}
 use Rattle.bench_editors.specs.declared.reply.Reply.{Reply}
@@ -104,7 +104,7 @@ lone_by : (s : DeskState) (editor : ℕ) (ops : List Op) (early : Option Reply) 
 lone_by s editor ops (Some reply) is late = absurd (let e = is.early in cc)
 lone_by s editor ops None is late = same_alone s editor ops (group_answer s.files ops)
 
-pub lone_editors_get_the_same : LoneEditorsGetTheSame
-lone_editors_get_the_same s editor base ops late =
+pub replies_are_those_of_a_lone_editor : RepliesAreThoseOfALoneEditor
+replies_are_those_of_a_lone_editor s editor base ops late =
     lone_by s editor ops (early_reply s editor base ops) (early_is s editor base ops) late
     ∙ ap (λ (early : Option Reply). without_revision (proposed (alone s.files editor) ops early).reply) (sym (never_early s.files editor ops))

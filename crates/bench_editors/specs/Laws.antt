@@ -8,7 +8,7 @@
 -- is_early reply            the reply is Absent, Ahead or Stale
 -- without_revision reply    the reply, with revision 0 where it is Accepted
 -- alone files editor        the state of one editor at a new desk
--- LoneEditorsGetTheSame     a reply to a proposal that is neither Absent nor Ahead nor Stale is, its revision aside, the one that a
+-- RepliesAreThoseOfALoneEditor     a reply to a proposal that is neither Absent nor Ahead nor Stale is, its revision aside, the one that a
 --                           lone editor gets on the rows at that point
 use Rattle.std.specs.Prelude.{◌≡◌, ℕ, Bool, true, false, List, [], ◌∷◌, ◌++◌, Ok}
 use Rattle.release_rows.specs.FileItems.{FileItem}
@@ -76,6 +76,6 @@ without_revision (Refused why) = Refused why
 abbrev pub alone : List (List FileItem) → ℕ → DeskState
 alone files editor = record { files = files; editors = editor ∷ []; groups = [] }
 
-abbrev pub LoneEditorsGetTheSame : Type 0
-LoneEditorsGetTheSame = (s : DeskState) (editor base : ℕ) (ops : List Op) → is_early (answer s (Propose editor base ops)).reply ≡ false
+abbrev pub RepliesAreThoseOfALoneEditor : Type 0
+RepliesAreThoseOfALoneEditor = (s : DeskState) (editor base : ℕ) (ops : List Op) → is_early (answer s (Propose editor base ops)).reply ≡ false
     → without_revision (answer s (Propose editor base ops)).reply ≡ without_revision (answer (alone s.files editor) (Propose editor 0 ops)).reply

@@ -11,5 +11,5 @@ mod row_revisions;
 
 pub use desk::Desk;
 pub use event::Event;
-pub use laws::{groups_replay, lone_editors_get_the_same};
+pub use laws::{groups_replay, replies_are_those_of_a_lone_editor};
 pub use reply::{Replies, Reply};

@@ -9,7 +9,7 @@ use Rattle.ucd_facts.specs.Values.{default_word_break, gives_some, is_mid_word, 
 use Rattle.ucd_facts.specs.declared.row.Row.{Row}
 use Rattle.ucd_facts.specs.declared.row.Row.TheVariants.{Unit as DataLine, Value as ValueLine, Exclusion as ExclusionLine, Fold as FoldLine, Casing as CasingLine, Alias as AliasLine, Missing as MissingLine}
 use Rattle.release_rows.specs.ValuesApart.{AreApart}
-use Rattle.code_facts.specs.MidWords.{gives_mid_word, is_missing_mid_word, layer_over, missing_layer}
+use Rattle.code_facts.specs.MidWords.{gives_mid_word, is_missing_row_of_mid_word, layer_over, missing_layer}
 use Rattle.code_facts.specs.Word.{one_if}
 
 -- ---- where no missing row has such a value
@@ -55,7 +55,7 @@ module _ (c : ℕ) where
   given_is default plain (AliasLine row ∷ rows) apart = given_is default plain rows apart.1
   given_is default plain (MissingLine row ∷ rows) apart = given_is default plain rows apart.1
 
-  taken_plain : (default : List ℕ) (row : Row) → is_mid_word default ≡ false → is_missing_mid_word row ≡ false → is_mid_word (taken_missing c default row) ≡ false
+  taken_plain : (default : List ℕ) (row : Row) → is_mid_word default ≡ false → is_missing_row_of_mid_word row ≡ false → is_mid_word (taken_missing c default row) ≡ false
   taken_plain default (MissingLine row) plain none = by (within c row.span)
     where
       by : (covers : Bool) → is_mid_word (cond covers row.value default) ≡ false
@@ -68,13 +68,13 @@ module _ (c : ℕ) where
   taken_plain default (CasingLine row) plain none = plain
   taken_plain default (AliasLine row) plain none = plain
 
-  missing_plain : (rows : List Row) (default : List ℕ) → is_mid_word default ≡ false → list_any is_missing_mid_word rows ≡ false → is_mid_word (missing_value rows default c) ≡ false
+  missing_plain : (rows : List Row) (default : List ℕ) → is_mid_word default ≡ false → list_any is_missing_row_of_mid_word rows ≡ false → is_mid_word (missing_value rows default c) ≡ false
   missing_plain [] default plain none = plain
   missing_plain (row ∷ rows) default plain none =
-      let p = or_parts (is_missing_mid_word row) (list_any is_missing_mid_word rows) none in
+      let p = or_parts (is_missing_row_of_mid_word row) (list_any is_missing_row_of_mid_word rows) none in
       missing_plain rows (taken_missing c default row) (taken_plain default row plain p.0) p.1
 
-  pub plain_is : (rows : List Row) → AreApart (gives_some c) rows → list_any is_missing_mid_word rows ≡ false → list_any (gives_mid_word c) rows ≡ mid_word_at rows c
+  pub plain_is : (rows : List Row) → AreApart (gives_some c) rows → list_any is_missing_row_of_mid_word rows ≡ false → list_any (gives_mid_word c) rows ≡ mid_word_at rows c
   plain_is rows apart none = given_is (missing_value rows default_word_break c) (missing_plain rows default_word_break refl none) rows apart
 
   -- ---- layers

@@ -5,17 +5,17 @@
 -- LiesIn len place      the place lies in a pool of this length
 -- Lie len places        all places do
 use Rattle.std.specs.Prelude.{ℕ, ◌<◌, ◌≤◌, List, slice_range}
-use Rattle.code_facts.specs.declared.place.Place.{Place}
+use Rattle.code_facts.specs.declared.pool_range.PoolRange.{PoolRange}
 
-abbrev pub slice_at : List ℕ → Place → List ℕ
+abbrev pub slice_at : List ℕ → PoolRange → List ℕ
 slice_at pool place = slice_range pool place.start place.end
 
-abbrev pub lists_at : List ℕ → (ℕ → Place) → ℕ → List ℕ
+abbrev pub lists_at : List ℕ → (ℕ → PoolRange) → ℕ → List ℕ
 lists_at pool places c = slice_at pool (places c)
 
-pub record LiesIn (len : ℕ) (place : Place) : Type 0 where
+pub record LiesIn (len : ℕ) (place : PoolRange) : Type 0 where
   pub ordered : place.start ≤ place.end
   pub within : place.end ≤ len
 
-abbrev pub Lie : ℕ → (ℕ → Place) → Type 0
+abbrev pub Lie : ℕ → (ℕ → PoolRange) → Type 0
 Lie len places = (c : ℕ) → c < 1114112 → LiesIn len (places c)

@@ -1,7 +1,7 @@
 -- The code points that stand in the middle of a word, as they are found. UAX #29, section 4.1; UAX #44, section 4.2.10.
 --
 -- gives_mid_word c row        a row with such a value that covers c; no missing row does
--- is_missing_mid_word row     a missing row with such a value
+-- is_missing_row_of_mid_word row     a missing row with such a value
 -- layer_of row                the layer with the row's code points, and 1 for such a value, else 0
 -- missing_layer row           that of a missing row; given_layer row: that of another row with a value
 -- layer_over c layer word     the word of a layer that covers c; else the word that is there
@@ -19,9 +19,9 @@ abbrev pub gives_mid_word : ℕ → Row → Bool
 gives_mid_word c (ValueLine row) = is_mid_word row.value && within c row.span
 gives_mid_word c _ = false
 
-abbrev pub is_missing_mid_word : Row → Bool
-is_missing_mid_word (MissingLine row) = is_mid_word row.value
-is_missing_mid_word _ = false
+abbrev pub is_missing_row_of_mid_word : Row → Bool
+is_missing_row_of_mid_word (MissingLine row) = is_mid_word row.value
+is_missing_row_of_mid_word _ = false
 
 abbrev pub layer_of : ValueRow → Layer
 layer_of row = record { word = one_if (is_mid_word row.value); span = row.span }

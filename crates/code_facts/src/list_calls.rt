@@ -7,8 +7,8 @@ ghost use Rattle.ucd_points.specs.Stretches.{HoldsTo};
 ghost use Rattle.code_facts.specs.PointLists.{lists_now, lists_next};
 
 use crate::list_run::ListRun;
-use crate::place::Place;
 use crate::point_lists::PointLists;
+use crate::pool_range::PoolRange;
 use range_table::{RunTable, Table};
 use std::alloc::Global;
 use ucd_facts::{Memory, Point, Span};
@@ -22,7 +22,7 @@ impl PointLists {
         ensures prepared { IfOk result (λ lists. (c : ℕ) → c < 1114112 → lists_next lists c ≡ []) }
     {
         let pool = Vec::new(alloc);
-        let places = RunTable::filled(alloc, Place { start: 0, end: 0 })?;
+        let places = RunTable::filled(alloc, PoolRange { start: 0, end: 0 })?;
         Ok(PointLists { places, pool })
     }
 
@@ -83,20 +83,20 @@ impl PointLists {
 /// Puts points at the end of a pool, and answers their place. No points have a place of their own.
 ///
 /// - `Memory`: memory ran out, or the pool would have 2^32 points or more.
-fn put(pool: &mut Vec<Point>, points: &[Point]) -> Result<Place, Memory>
+fn put(pool: &mut Vec<Point>, points: &[Point]) -> Result<PoolRange, Memory>
     ensures longer { vec_len pool.old ≤ vec_len pool.new }
-    ensures others { (place : Place) → LiesIn (vec_len pool.old) place
+    ensures others { (place : PoolRange) → LiesIn (vec_len pool.old) place
         → slice_at pool.new.items place ≡ slice_at pool.old.items place }
     ensures place { IfOk result (λ place. LiesIn (vec_len pool.new) place) }
     ensures points { IfOk result (λ place. slice_at pool.new.items place ≡ points.now) }
 {
     if points.is_empty() {
-        return Ok(Place { start: 0, end: 0 });
+        return Ok(PoolRange { start: 0, end: 0 });
     }
     let start = pool.len();
     pool.extend_from_slice(points)?;
     match (u32::try_from(start), u32::try_from(pool.len())) {
-        (Ok(start), Ok(end)) => Ok(Place { start, end }),
+        (Ok(start), Ok(end)) => Ok(PoolRange { start, end }),
         _ => Err(Memory),
     }
 }

@@ -8,7 +8,7 @@ ghost use Rattle.source_rows.specs.RowRefs.{row_in};
 ghost use Rattle.ucd_facts.specs.Facts.{within};
 ghost use Rattle.ucd_facts.specs.Values.{default_word_break, is_mid_word, missing_value, mid_word_at};
 ghost use Rattle.code_facts.specs.Marks.{covers};
-ghost use Rattle.code_facts.specs.MidWords.{gives_mid_word, given_layer as given_layer_of, is_missing_mid_word as is_missing, layer_of, layer_over, missing_layer as missing_layer_of};
+ghost use Rattle.code_facts.specs.MidWords.{gives_mid_word, given_layer as given_layer_of, is_missing_row_of_mid_word as is_missing, layer_of, layer_over, missing_layer as missing_layer_of};
 ghost use Rattle.code_facts.specs.Word.{one_if};
 
 use crate::mark::is_mid_word_value;
@@ -48,7 +48,7 @@ fn plain_mid_words(alloc: Global, rows: &[RowText<'_>]) -> Result<Option<Vec<Spa
     let mut spans = Vec::new(alloc);
     'rows: for text in rows {
         let row = text.row();
-        if is_missing_mid_word(&row) {
+        if is_missing_row_of_mid_word(&row) {
             return Ok(None);
         }
         push_some(&mut spans, mid_word_span(&row))?;
@@ -57,7 +57,7 @@ fn plain_mid_words(alloc: Global, rows: &[RowText<'_>]) -> Result<Option<Vec<Spa
 }
 
 /// Whether a row is a missing row with a value in the middle of a word.
-fn is_missing_mid_word(row: &RowRef<'_>) -> bool
+fn is_missing_row_of_mid_word(row: &RowRef<'_>) -> bool
     ensures { result ≡ is_missing (row_in row.now) }
 {
     match row {

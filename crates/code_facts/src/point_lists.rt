@@ -4,7 +4,7 @@ ghost use Rattle.std.specs.Prelude.{vec_len};
 ghost use Rattle.range_table.specs.RunTable.{values_now, values_next};
 ghost use Rattle.code_facts.specs.Lists.{Lie};
 
-use crate::place::Place;
+use crate::pool_range::PoolRange;
 use range_table::RunTable;
 use ucd_facts::Point;
 
@@ -14,7 +14,7 @@ use ucd_facts::Point;
 #[derive(Drop)]
 pub struct PointLists {
     /// The place of each code point's list in the pool.
-    pub places: RunTable<Place>,
+    pub places: RunTable<PoolRange>,
     /// The lists, one after another.
     pub pool: Vec<Point>,
     ghost now_lie: { Lie (vec_len pool) (values_now places) },

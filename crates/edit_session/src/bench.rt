@@ -23,7 +23,7 @@ use crate::group::apply_group;
 use crate::kept_group::apply_kept;
 use crate::open_stop::OpenStop;
 use crate::pieces::pieces_of;
-use crate::recorded::Recorded;
+use crate::release_records::ReleaseRecords;
 use crate::revert::revert;
 use code_facts::FactTables;
 use page_pool::PagePool;
@@ -172,7 +172,7 @@ impl Bench {
     /// be. Records are compared only where a stretch ends that is held as one.
     ///
     /// - `Memory`: memory ran out.
-    pub fn pieces(&self, alloc: Global) -> Result<Spans, Memory>
+    pub fn equal_record_spans(&self, alloc: Global) -> Result<Spans, Memory>
         ensures cut { IfOk result
             (λ pieces. IsCut (bench_record self.now) 0 point_count pieces) }
         ensures ends { IfOk result (λ pieces. All (EndsAlike (bench_record self.now)) pieces) }
@@ -181,14 +181,14 @@ impl Bench {
     }
 
     /// The release with its records alone: the tables of its facts are let go, and what was listed for groups.
-    pub fn into_recorded(self) -> Recorded
+    pub fn into_release_records(self) -> ReleaseRecords
         ensures { result ≡ self }
     {
         let Bench {
             release,
             derivation,
         } = self;
-        Recorded::of(release, Box::into_inner(derivation).into_records())
+        ReleaseRecords::of(release, Box::into_inner(derivation).into_records())
     }
 
     /// The release, which is valid.

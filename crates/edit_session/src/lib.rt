@@ -13,11 +13,11 @@ mod mentions;
 mod open_stop;
 mod pieces;
 mod questions;
-mod recorded;
+mod release_records;
 mod revert;
 
 pub use accepted::Accepted;
 pub use apply_stop::{ApplyStop, Refused};
 pub use bench::Bench;
 pub use open_stop::OpenStop;
-pub use recorded::Recorded;
+pub use release_records::ReleaseRecords;

@@ -6,7 +6,7 @@ ghost use Rattle.norm_conformance.specs.Misses.{column_miss, line_misses, missed
 ghost use Rattle.norm_conformance.specs.ValidFacts.{AreOfValidRows};
 
 use crate::case::Case;
-use crate::form_check::{Expected, FormCheck, check_forms, put_unless};
+use crate::form_check::{Expected, FormCheck, check_forms_of_list, put_unless};
 use crate::miss::{Miss, Misses};
 use std::alloc::Global;
 use ucd_model::{FactView, Form, Memory};
@@ -41,11 +41,11 @@ fn check_case<W: FactView>(alloc: Global, view: &W, case: &Case) -> Result<CaseC
         nfkc: case.c4.as_slice(),
     };
     Ok(CaseCheck {
-        c1: check_forms(alloc, view, case.c1.as_slice(), canonical)?,
-        c2: check_forms(alloc, view, case.c2.as_slice(), canonical)?,
-        c3: check_forms(alloc, view, case.c3.as_slice(), canonical)?,
-        c4: check_forms(alloc, view, case.c4.as_slice(), compatible)?,
-        c5: check_forms(alloc, view, case.c5.as_slice(), compatible)?,
+        c1: check_forms_of_list(alloc, view, case.c1.as_slice(), canonical)?,
+        c2: check_forms_of_list(alloc, view, case.c2.as_slice(), canonical)?,
+        c3: check_forms_of_list(alloc, view, case.c3.as_slice(), canonical)?,
+        c4: check_forms_of_list(alloc, view, case.c4.as_slice(), compatible)?,
+        c5: check_forms_of_list(alloc, view, case.c5.as_slice(), compatible)?,
     })
 }
 

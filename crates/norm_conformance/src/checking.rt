@@ -8,7 +8,7 @@ ghost use Rattle.norm_conformance.specs.ValidFacts.{AreOfValidRows};
 
 use crate::case::{Case, Cases};
 use crate::case_check::put_case;
-use crate::form_check::{Expected, check_forms, put_unless};
+use crate::form_check::{Expected, check_forms_of_list, put_unless};
 use crate::listed::{is_among, listed_points};
 use crate::miss::{Miss, Misses};
 use number_sets::KeySet;
@@ -112,7 +112,7 @@ fn put_forms<W: FactView>(
         nfkd: &itself,
         nfkc: &itself,
     };
-    let check = check_forms(alloc, view, &itself, expected)?;
+    let check = check_forms_of_list(alloc, view, &itself, expected)?;
     put_unless(check.keeps(Form::Nfd), point_miss(c, Form::Nfd), found)?;
     put_unless(check.keeps(Form::Nfc), point_miss(c, Form::Nfc), found)?;
     put_unless(check.keeps(Form::Nfkd), point_miss(c, Form::Nfkd), found)?;

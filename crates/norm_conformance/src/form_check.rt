@@ -45,7 +45,7 @@ impl FormCheck {
 /// Which forms of a list are as expected. The list is expanded once for the forms D and C, and once for KD and KC.
 ///
 /// - `Memory`: memory ran out.
-pub fn check_forms<W: FactView>(
+pub fn check_forms_of_list<W: FactView>(
     alloc: Global,
     view: &W,
     s: &[Point],

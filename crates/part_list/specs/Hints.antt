@@ -2,7 +2,7 @@
 --
 -- IsHinted hints entry      the entry's tag may be one of the tags, and the entry is covered
 use Rattle.part_list.specs.Covers.{IsCovered}
-use Rattle.part_list.specs.Tags.{IsKnown}
+use Rattle.part_list.specs.SeenNumbers.{IsKnown}
 use Rattle.part_list.specs.declared.hints.Hints.{Hints}
 use Rattle.part_list.specs.declared.spanned.Spanned.{Spanned}
 

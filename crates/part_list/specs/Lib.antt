@@ -5,7 +5,7 @@ pub mod Guides
 pub mod PartValues
 pub mod Puts
 pub mod SpotLaws
-pub mod Tags
+pub mod SeenNumbers
 pub mod Orders
 pub mod Covers
 pub mod Hints

@@ -12,14 +12,14 @@ use crate::cover::Cover;
 use crate::part::Part;
 use crate::put::Put;
 use crate::seek::Seek;
-use crate::tags::Tags;
+use crate::seen_numbers::SeenNumbers;
 use std::alloc::Global;
 
 /// Tags that entries may have, and code points of which they may speak.
 #[derive(Debug, Drop)]
 pub struct Hints<T: Copy> {
     /// The tags.
-    pub(crate) tags: Tags,
+    pub(crate) tags: SeenNumbers,
     /// The code points.
     pub(crate) cover: Cover<T>,
 }
@@ -30,7 +30,7 @@ impl<T: Copy> Hints<T> {
         ensures { (entry : Entry T) → IsHinted result entry }
     {
         Hints {
-            tags: Tags::unknown(),
+            tags: SeenNumbers::unknown(),
             cover: Cover::unknown(),
         }
     }

@@ -18,9 +18,9 @@ mod reach;
 mod read;
 mod search;
 mod seek;
+mod seen_numbers;
 mod spanned;
 mod spot;
-mod tags;
 mod version;
 
 pub use entries::Entries;
@@ -28,6 +28,6 @@ pub use part_list::PartList;
 pub use passing::Passing;
 pub use reach::Reach;
 pub use seek::Seek;
+pub use seen_numbers::SeenNumbers;
 pub use spanned::Spanned;
 pub use spot::Spot;
-pub use tags::Tags;

@@ -13,7 +13,7 @@ use Rattle.std.proofs.lemmas.Map.Keys.{IsDistinct-IsPermutation}
 use Rattle.source_rows.specs.Keys.{same_texts}
 use Rattle.release_rows.specs.Chains.{IsChain, IsOrderedPlace, end_place, ends_before, places_meet}
 use Rattle.release_rows.specs.Places.{names_in, place_cmp}
-use Rattle.release_rows.specs.declared.placed.Placed.{Placed}
+use Rattle.release_rows.specs.declared.keyed_extent.KeyedExtent.{KeyedExtent}
 use Rattle.release_rows.proofs.PlaceOrder.{place_total, is_before}
 use Rattle.release_rows.proofs.RowsApart.{spans_swap, texts_swap}
 use Rattle.release_rows.proofs.Texts.{texts_same}
@@ -29,7 +29,7 @@ le_is Equal h = refl
 le_is Greater h = absurd cc
 
 -- what ends before a row ends before what that row ends before
-before_both : (a b c : Placed) → IsOrderedPlace b → ends_before a b ≡ true → ends_before b c ≡ true → ends_before a c ≡ true
+before_both : (a b c : KeyedExtent) → IsOrderedPlace b → ends_before a b ≡ true → ends_before b c ≡ true → ends_before a c ≡ true
 before_both a b c ordered h k =
     let first = lt_is (place_cmp (end_place a) b.place) h in
     let second = lt_is (place_cmp (end_place b) c.place) k in
@@ -38,7 +38,7 @@ before_both a b c ordered h k =
     rw (place_total.trans (end_place a) b.place c.place first later) refl
 
 -- a row does not meet one that it ends before
-no_meeting : (a b : Placed) → ends_before a b ≡ true → places_meet a b ≡ false
+no_meeting : (a b : KeyedExtent) → ends_before a b ≡ true → places_meet a b ≡ false
 no_meeting a b h = false_from_ne_true (places_meet a b) (λ met.
     let parts = and_parts (same_texts (names_in a.place) (names_in b.place)) (leb a.place.code b.last && leb b.place.code a.last) met in
     let spans = and_parts (leb a.place.code b.last) (leb b.place.code a.last) parts.1 in
@@ -49,26 +49,26 @@ no_meeting a b h = false_from_ne_true (places_meet a b) (λ met.
 
 -- ---- chains
 
-tail : (a : Placed) (rows : List Placed) → IsChain (a ∷ rows) → IsChain rows
+tail : (a : KeyedExtent) (rows : List KeyedExtent) → IsChain (a ∷ rows) → IsChain rows
 tail a rows h = λ i d lt.
     let next : suc i + 1 ≡ suc (i + 1) = omega arith in
     rw next at (h (suc i) d (omega arith))
 
-weaker : (a b : Placed) (rows : List Placed) → IsOrderedPlace b → ends_before a b ≡ true → AllByRecursion (λ y. ends_before b y ≡ true) rows → AllByRecursion (λ y. ends_before a y ≡ true) rows
+weaker : (a b : KeyedExtent) (rows : List KeyedExtent) → IsOrderedPlace b → ends_before a b ≡ true → AllByRecursion (λ y. ends_before b y ≡ true) rows → AllByRecursion (λ y. ends_before a y ≡ true) rows
 weaker a b [] ordered h all = tt
 weaker a b (c ∷ rows) ordered h all = (before_both a b c ordered h all.0, weaker a b rows ordered h all.1)
 
-behind : (a : Placed) (rows : List Placed) → All IsOrderedPlace rows → IsChain (a ∷ rows) → AllByRecursion (λ y. ends_before a y ≡ true) rows
+behind : (a : KeyedExtent) (rows : List KeyedExtent) → All IsOrderedPlace rows → IsChain (a ∷ rows) → AllByRecursion (λ y. ends_before a y ≡ true) rows
 behind a [] ordered h = tt
 behind a (b ∷ rows) ordered h =
     let here : ends_before a b ≡ true = h 0 a (omega arith) in
     (here, weaker a b rows (All-head IsOrderedPlace b rows ordered) here (behind b rows (All-tail IsOrderedPlace b rows ordered) (tail a (b ∷ rows) h)))
 
-none_met : (a : Placed) (rows : List Placed) → AllByRecursion (λ y. ends_before a y ≡ true) rows → AllByRecursion (λ y. places_meet a y ≡ false) rows
+none_met : (a : KeyedExtent) (rows : List KeyedExtent) → AllByRecursion (λ y. ends_before a y ≡ true) rows → AllByRecursion (λ y. places_meet a y ≡ false) rows
 none_met a [] all = tt
 none_met a (b ∷ rows) all = (no_meeting a b all.0, none_met a rows all.1)
 
-chain_apart : (rows : List Placed) → All IsOrderedPlace rows → IsChain rows → IsDistinct places_meet rows
+chain_apart : (rows : List KeyedExtent) → All IsOrderedPlace rows → IsChain rows → IsDistinct places_meet rows
 unfolding IsDistinct
 chain_apart [] ordered h = tt
 chain_apart (a ∷ rows) ordered h =
@@ -77,9 +77,9 @@ chain_apart (a ∷ rows) ordered h =
 
 -- ---- in another order
 
-meet_swap : (a b : Placed) → places_meet a b ≡ places_meet b a
+meet_swap : (a b : KeyedExtent) → places_meet a b ≡ places_meet b a
 meet_swap a b = rw (texts_swap (names_in a.place) (names_in b.place), spans_swap a.place.code a.last b.place.code b.last) refl
 
-pub sorted_apart : (rows sorted : List Placed) → All IsOrderedPlace rows → IsPermutation rows sorted → IsChain sorted → IsDistinct places_meet rows
+pub sorted_apart : (rows sorted : List KeyedExtent) → All IsOrderedPlace rows → IsPermutation rows sorted → IsChain sorted → IsDistinct places_meet rows
 sorted_apart rows sorted ordered moved chain =
     IsDistinct-IsPermutation places_meet meet_swap sorted rows (IsPermutation-sym rows sorted moved) (chain_apart sorted (All-permutation IsOrderedPlace rows sorted moved ordered) chain)

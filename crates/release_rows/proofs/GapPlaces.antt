@@ -15,9 +15,9 @@ use Rattle.part_list.specs.Finds.{FirstAt, IsBefore, LastAt}
 use Rattle.part_list.specs.SpotLaws.{place-lt, first_some, first_none, last_passes}
 use Rattle.release_rows.specs.Gaps.{IsGapAt}
 use Rattle.source_rows.specs.KeyNames.{ContentsHaveKeys, group_of}
-use Rattle.part_list.specs.Tags.{may_have}
-use Rattle.part_list.specs.declared.tags.Tags.{Tags}
-use Rattle.release_rows.specs.Groups.{AreMarked, group_mark}
+use Rattle.part_list.specs.SeenNumbers.{may_have}
+use Rattle.part_list.specs.declared.seen_numbers.SeenNumbers.{SeenNumbers}
+use Rattle.release_rows.specs.Noted.{AreNoted, group_hash}
 use Rattle.release_rows.specs.Keys.{is_missing_in}
 use Rattle.release_rows.specs.Operations.{follows, place_in, row_passes, same_group}
 use Rattle.release_rows.specs.Searches.{Sought, IsSoughtRow, comes_behind, is_alike}
@@ -25,7 +25,7 @@ use Rattle.release_rows.specs.StoredItems.{IsStored, stored_at}
 use Rattle.release_rows.specs.declared.edits.Gap.TheVariants.{Front, Behind, Only}
 use Rattle.release_rows.specs.Briefs.{no_brief}
 use Rattle.release_rows.specs.declared.stretch.Stretch.{Stretch}
-use Rattle.release_rows.proofs.Marking.{alike_nowhere, follows_nowhere}
+use Rattle.release_rows.proofs.Noting.{alike_nowhere, follows_nowhere}
 use Rattle.release_rows.proofs.Moved.{any_moved, first_moved, last_moved}
 use Rattle.release_rows.proofs.Seeking.{alike_found, behind_found}
 
@@ -102,12 +102,12 @@ module _ (s : Sought) (row : Row) (parts : List (List (Spanned Stretch))) (law :
       rw (plain, no, apart) (length-map (flat parts) (stored_at s.file s.text))
 
   -- a group that has no row
-  pub place_new : (groups : Tags) → is_missing_in s.file row ≡ false → may_have groups (group_mark s.group) ≡ false → AreMarked s.file groups (map (stored_at s.file s.text) (flat parts)) → place_in s.file row (map (stored_at s.file s.text) (flat parts)) ≡ length (flat parts)
-  place_new groups plain lacks marked =
+  pub place_new : (seen_hashes : SeenNumbers) → is_missing_in s.file row ≡ false → may_have seen_hashes (group_hash s.group) ≡ false → AreNoted s.file seen_hashes (map (stored_at s.file s.text) (flat parts)) → place_in s.file row (map (stored_at s.file s.text) (flat parts)) ≡ length (flat parts)
+  place_new seen_hashes plain lacks noted =
       let items = map (stored_at s.file s.text) (flat parts) in
-      let none : may_have groups (group_mark (group_of s.file row)) ≡ false = rw (← is.group) lacks in
-      let no = follows_nowhere s.file groups row items none marked in
-      let apart = alike_nowhere s.file groups row items none marked in
+      let none : may_have seen_hashes (group_hash (group_of s.file row)) ≡ false = rw (← is.group) lacks in
+      let no = follows_nowhere s.file seen_hashes row items none noted in
+      let apart = alike_nowhere s.file seen_hashes row items none noted in
       rw (plain, no, apart) (length-map (flat parts) (stored_at s.file s.text))
 
   -- ---- a missing row

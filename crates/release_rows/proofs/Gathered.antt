@@ -24,7 +24,7 @@ use Rattle.release_rows.specs.Pieces.{Lines, pieces}
 use Rattle.release_rows.specs.Releases.{AreKeptBelow}
 use Rattle.release_rows.specs.StoredItems.{stored_at, IsStored}
 use Rattle.release_rows.specs.declared.entry.Entry.{Entry}
-use Rattle.release_rows.specs.declared.placed.Placed.{Placed}
+use Rattle.release_rows.specs.declared.keyed_extent.KeyedExtent.{KeyedExtent}
 use Rattle.release_rows.specs.declared.stretch.Stretch.{Stretch}
 use Rattle.release_rows.proofs.Kept.{items_join}
 use Rattle.release_rows.proofs.Loads.{no_faults}
@@ -34,13 +34,13 @@ use Rattle.release_rows.proofs.RowsApart.{clashes, all_apart}
 
 -- ---- one more row
 
-pub gathers : (file : SourceFile) (rows : List Row) (row : Option Row) (placed new : List Placed) (entry : Option Entry) → AreGathered file rows placed → new ≡ placed ++ placed_of entry → EntersSome file entry row → AreGathered file (rows ++ onto_rows row []) new
+pub gathers : (file : SourceFile) (rows : List Row) (row : Option Row) (placed new : List KeyedExtent) (entry : Option Entry) → AreGathered file rows placed → new ≡ placed ++ placed_of entry → EntersSome file entry row → AreGathered file (rows ++ onto_rows row []) new
 gathers file rows None placed new None h put enters = record {
   same = rw (put, append-nil placed, append-nil rows) h.same;
   ordered = rw (put, append-nil placed) h.ordered;
 }
 gathers file rows (Some row) placed new (Some e) h put enters =
-    let one : Placed = record { place = e.place; last = e.last } in
+    let one : KeyedExtent = record { place = e.place; last = e.last } in
     record {
       same = rw put (map-append placed_extent placed (one ∷ []) ∙ rw (h.same, extent_is file row e.place e.last enters.names enters.code enters.last) (sym (map-append (extent_in file) rows (row ∷ []))));
       ordered = rw put (All-append IsOrderedPlace placed (one ∷ []) h.ordered (All-cons IsOrderedPlace one [] enters.ordered (All-nil IsOrderedPlace)));
@@ -78,15 +78,15 @@ apart_from file (r ∷ rows) all apart =
     let rest = All-tail IsOrderedExtent (extent_in file r) (map (extent_in file) rows) all in
     rw (none_clash file r rows first rest apart.0, apart_from file rows rest apart.1) refl
 
-extents_ordered : (rows : List Placed) → All IsOrderedPlace rows → All IsOrderedExtent (map placed_extent rows)
+extents_ordered : (rows : List KeyedExtent) → All IsOrderedPlace rows → All IsOrderedExtent (map placed_extent rows)
 extents_ordered [] all = All-nil IsOrderedExtent
 extents_ordered (r ∷ rows) all = All-cons IsOrderedExtent (placed_extent r) (map placed_extent rows) (All-head IsOrderedPlace r rows all) (extents_ordered rows (All-tail IsOrderedPlace r rows all))
 
-none_of : (row : Placed) (rows : List Placed) → AllByRecursion (λ r. places_meet row r ≡ false) rows → AllByRecursion (λ x. meets (placed_extent row) x ≡ false) (map placed_extent rows)
+none_of : (row : KeyedExtent) (rows : List KeyedExtent) → AllByRecursion (λ r. places_meet row r ≡ false) rows → AllByRecursion (λ x. meets (placed_extent row) x ≡ false) (map placed_extent rows)
 none_of row [] none = tt
 none_of row (r ∷ rows) none = (none.0, none_of row rows none.1)
 
-extents_apart : (rows : List Placed) → IsDistinct places_meet rows → IsDistinct meets (map placed_extent rows)
+extents_apart : (rows : List KeyedExtent) → IsDistinct places_meet rows → IsDistinct meets (map placed_extent rows)
 unfolding IsDistinct
 extents_apart [] apart = tt
 extents_apart (r ∷ rows) apart = (none_of r rows apart.0, extents_apart rows apart.1)
@@ -109,7 +109,7 @@ no_order PropertyAliases rows other = tt
 no_order PropertyValueAliases rows other = tt
 
 -- the items of all pieces, whose rows do not meet
-all_gathered : (file : SourceFile) (text : List ℕ) (es : List (Spanned Stretch)) (rows : List Placed) → file ≢ UnicodeData → All (IsStored file text) es → AreGathered file (rows_in (map (stored_at file text) es)) rows → IsDistinct places_meet rows → map (stored_at file text) es ≡ map (file_item file) (pieces file (items_of text)) → file_or_fault file text ≡ Ok (map (stored_at file text) es)
+all_gathered : (file : SourceFile) (text : List ℕ) (es : List (Spanned Stretch)) (rows : List KeyedExtent) → file ≢ UnicodeData → All (IsStored file text) es → AreGathered file (rows_in (map (stored_at file text) es)) rows → IsDistinct places_meet rows → map (stored_at file text) es ≡ map (file_item file) (pieces file (items_of text)) → file_or_fault file text ≡ Ok (map (stored_at file text) es)
 unfolding file_or_fault
 all_gathered file text es rows other all gathered apart whole =
     let is = map (stored_at file text) es in
@@ -120,7 +120,7 @@ all_gathered file text es rows other all gathered apart whole =
     rw none (ap (λ (items : List FileItem). Ok items) (sym whole))
 
 -- the items that are kept once no piece is left
-pub are_loaded : (file : SourceFile) (text : List ℕ) (above : List FileItem) (items : PartLists (Spanned Stretch)) (rows : List Placed) (left : List Lines) → file ≢ UnicodeData → map (stored_at file text) (now_in items) ≡ above → next_in items ≡ now_in items → All (IsStored file text) (now_in items) → length (now_in items) < 2 ^ 32 → AreGathered file (rows_in above) rows → IsDistinct places_meet rows → above ++ map (file_item file) left ≡ map (file_item file) (pieces file (items_of text)) → left ≡ [] → joined (items_of text) ≡ text → IsLoaded file text items
+pub are_loaded : (file : SourceFile) (text : List ℕ) (above : List FileItem) (items : PartLists (Spanned Stretch)) (rows : List KeyedExtent) (left : List Lines) → file ≢ UnicodeData → map (stored_at file text) (now_in items) ≡ above → next_in items ≡ now_in items → All (IsStored file text) (now_in items) → length (now_in items) < 2 ^ 32 → AreGathered file (rows_in above) rows → IsDistinct places_meet rows → above ++ map (file_item file) left ≡ map (file_item file) (pieces file (items_of text)) → left ≡ [] → joined (items_of text) ≡ text → IsLoaded file text items
 are_loaded file text above items rows left other is same each few gathered apart whole none lines =
     let all : above ≡ map (file_item file) (pieces file (items_of text)) = sym (append-nil above) ∙ ap (λ (ps : List Lines). above ++ map (file_item file) ps) (sym none) ∙ whole in
     let answer = all_gathered file text (now_in items) rows other each (subst (λ (items : List FileItem). AreGathered file (rows_in items) rows) (sym is) gathered) apart (is ∙ all) in

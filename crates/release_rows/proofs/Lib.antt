@@ -4,7 +4,7 @@ pub mod PlaceOrder
 pub mod Found
 pub mod Apart
 pub mod RowRules
-pub mod RunConflicts
+pub mod NamelessConflicts
 pub mod Growing
 pub mod Standing
 pub mod Kept
@@ -22,7 +22,7 @@ pub mod Tagging
 pub mod SharedSpans
 pub mod Seeking
 pub mod Moved
-pub mod Marking
+pub mod Noting
 pub mod GapPlaces
 pub mod Puts
 pub mod Files
@@ -33,7 +33,7 @@ pub mod Reload
 pub mod Sound
 pub mod Chains
 pub mod ConditionTags
-pub mod ConditionMarks
+pub mod ConditionHashes
 pub mod Gathered
 mod StoredRows
 mod FoundRows

@@ -9,11 +9,11 @@ use Rattle.release_rows.specs.Places.{names_in, extent_at}
 use Rattle.source_rows.specs.Keys.{row_span, key_names}
 use Rattle.release_rows.specs.Keys.{row_end, has_spans, same_key, overlaps, key_rule, extent_in, is_back, last_start, falls_back}
 use Rattle.release_rows.specs.Loading.{row_rule, rule_by, load_rule}
-use Rattle.release_rows.specs.declared.place.Place.{Place}
+use Rattle.release_rows.specs.declared.sort_key.SortKey.{SortKey}
 use Rattle.release_rows.specs.declared.conflict.Conflict.{Conflict}
 use Rattle.release_rows.specs.declared.conflict.Conflict.TheVariants.{K1, K4}
 
-pub extent_is : (file : SourceFile) (row : Row) (place : Place) (last : ℕ) → names_in place ≡ key_names file row → place.code ≡ (row_span row).lo → last ≡ row_end file row → extent_at place last ≡ extent_in file row
+pub extent_is : (file : SourceFile) (row : Row) (place : SortKey) (last : ℕ) → names_in place ≡ key_names file row → place.code ≡ (row_span row).lo → last ≡ row_end file row → extent_at place last ≡ extent_in file row
 extent_is file row place last names code end = rw (names, code, end) refl
 
 pub same_conflicts : (kept above : List Extent) (x : Extent) → ((p : Extent → Bool) → list_any p kept ≡ list_any p above) → conflict_with kept x ≡ conflict_with above x
@@ -69,6 +69,6 @@ no_conflict None back h = refl
 no_conflict (Some rule) back h = absurd (let e : Some (load_rule rule) ≡ None = h in cc)
 
 -- what is kept of the rows above tells the rule of keys and spans
-pub rule_told : (file : SourceFile) (row : Row) (above : List Row) (kept : List Extent) (place : Place) (last : ℕ) → ((p : Extent → Bool) → list_any p kept ≡ list_any p (map (extent_in file) above)) → names_in place ≡ key_names file row → place.code ≡ (row_span row).lo → last ≡ row_end file row → conflict_with kept (extent_at place last) ≡ key_rule file above row
+pub rule_told : (file : SourceFile) (row : Row) (above : List Row) (kept : List Extent) (place : SortKey) (last : ℕ) → ((p : Extent → Bool) → list_any p kept ≡ list_any p (map (extent_in file) above)) → names_in place ≡ key_names file row → place.code ≡ (row_span row).lo → last ≡ row_end file row → conflict_with kept (extent_at place last) ≡ key_rule file above row
 rule_told file row above kept place last same names code end =
     ap (conflict_with kept) (extent_is file row place last names code end) ∙ same_conflicts kept (map (extent_in file) above) (extent_in file row) same ∙ by_extents file row above

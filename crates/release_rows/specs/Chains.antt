@@ -9,23 +9,23 @@ use Rattle.std.specs.Prelude.{◌≡◌, ℕ, ◌+◌, ◌<◌, ◌≤◌, Bool,
 use Rattle.std.specs.Ordering.{is_lt}
 use Rattle.release_rows.specs.Extents.{Extent, meets}
 use Rattle.release_rows.specs.Places.{extent_at, place_cmp}
-use Rattle.release_rows.specs.declared.place.Place.{Place}
-use Rattle.release_rows.specs.declared.placed.Placed.{Placed}
+use Rattle.release_rows.specs.declared.sort_key.SortKey.{SortKey}
+use Rattle.release_rows.specs.declared.keyed_extent.KeyedExtent.{KeyedExtent}
 
-abbrev pub placed_extent : Placed → Extent
+abbrev pub placed_extent : KeyedExtent → Extent
 placed_extent row = extent_at row.place row.last
 
-abbrev pub IsOrderedPlace : Placed → Type 0
+abbrev pub IsOrderedPlace : KeyedExtent → Type 0
 IsOrderedPlace row = row.place.code ≤ row.last
 
-abbrev pub places_meet : Placed → Placed → Bool
+abbrev pub places_meet : KeyedExtent → KeyedExtent → Bool
 places_meet a b = meets (placed_extent a) (placed_extent b)
 
-abbrev pub end_place : Placed → Place
+abbrev pub end_place : KeyedExtent → SortKey
 end_place row = record { names = row.place.names; code = row.last }
 
-abbrev pub ends_before : Placed → Placed → Bool
+abbrev pub ends_before : KeyedExtent → KeyedExtent → Bool
 ends_before a b = is_lt (place_cmp (end_place a) b.place)
 
-abbrev pub IsChain : List Placed → Type 0
-IsChain rows = (i : ℕ) (d : Placed) → i + 1 < length rows → ends_before (slice_index_or rows i d) (slice_index_or rows (i + 1) d) ≡ true
+abbrev pub IsChain : List KeyedExtent → Type 0
+IsChain rows = (i : ℕ) (d : KeyedExtent) → i + 1 < length rows → ends_before (slice_index_or rows i d) (slice_index_or rows (i + 1) d) ≡ true

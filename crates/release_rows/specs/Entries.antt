@@ -18,9 +18,9 @@ use Rattle.release_rows.specs.Keys.{row_end}
 use Rattle.release_rows.specs.Places.{names_in}
 use Rattle.release_rows.specs.declared.entry.Entry.{Entry}
 use Rattle.release_rows.specs.declared.conflict.Conflict.{Conflict}
-use Rattle.release_rows.specs.declared.place.Place.{Place}
+use Rattle.release_rows.specs.declared.sort_key.SortKey.{SortKey}
 
-abbrev pub IsFree : Result Place Conflict → Place → Option Conflict → Type 0
+abbrev pub IsFree : Result SortKey Conflict → SortKey → Option Conflict → Type 0
 IsFree (Ok free) place rule = (free ≡ place) × (rule ≡ None)
 IsFree (Err broken) place rule = rule ≡ Some broken
 

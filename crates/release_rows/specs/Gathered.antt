@@ -9,12 +9,12 @@ use Rattle.ucd_facts.specs.declared.row.Row.{Row}
 use Rattle.release_rows.specs.Chains.{IsOrderedPlace, placed_extent}
 use Rattle.release_rows.specs.Keys.{extent_in}
 use Rattle.release_rows.specs.declared.entry.Entry.{Entry}
-use Rattle.release_rows.specs.declared.placed.Placed.{Placed}
+use Rattle.release_rows.specs.declared.keyed_extent.KeyedExtent.{KeyedExtent}
 
-abbrev pub placed_of : Option Entry → List Placed
+abbrev pub placed_of : Option Entry → List KeyedExtent
 placed_of None = []
 placed_of (Some e) = record { place = e.place; last = e.last } ∷ []
 
-pub record AreGathered (file : SourceFile) (rows : List Row) (placed : List Placed) : Type 0 where
+pub record AreGathered (file : SourceFile) (rows : List Row) (placed : List KeyedExtent) : Type 0 where
   pub same : map placed_extent placed ≡ map (extent_in file) rows
   pub ordered : All IsOrderedPlace placed

@@ -2,7 +2,7 @@ pub mod Extents
 pub mod Briefs
 pub mod Places
 pub mod Chains
-pub mod Runs
+pub mod NamelessSpans
 pub mod Names
 pub mod Keys
 pub mod Entries
@@ -12,7 +12,7 @@ pub mod Cuts
 pub mod Loading
 pub mod Tags
 pub mod StoredItems
-pub mod Groups
+pub mod Noted
 pub mod Given
 pub mod Progress
 pub mod Loaders

@@ -14,24 +14,24 @@ use Rattle.std.specs.Cmp.Lexicographic.{slice_cmp}
 use Rattle.std.specs.BTreeMap.{BTreeMap, get}
 use Rattle.ucd_points.specs.Fields.{is_semicolon}
 use Rattle.release_rows.specs.Extents.{Extent}
-use Rattle.release_rows.specs.declared.place.Place.{Place}
+use Rattle.release_rows.specs.declared.sort_key.SortKey.{SortKey}
 
 abbrev pub names_of : List ℕ → List (List ℕ)
 names_of [] = []
 names_of (b ∷ bs) = slice_split is_semicolon (b ∷ bs)
 
-abbrev pub names_in : Place → List (List ℕ)
+abbrev pub names_in : SortKey → List (List ℕ)
 names_in p = names_of p.names.items
 
-abbrev pub place_cmp : Place → Place → Ordering
+abbrev pub place_cmp : SortKey → SortKey → Ordering
 place_cmp a b = ordering_then (slice_cmp nat_cmp a.names.items b.names.items) (nat_cmp a.code b.code)
 
-abbrev pub extent_at : Place → ℕ → Extent
+abbrev pub extent_at : SortKey → ℕ → Extent
 extent_at p last = record { names = names_in p; first = p.code; last = last }
 
-abbrev pub extent_of : Place × ℕ → Extent
+abbrev pub extent_of : SortKey × ℕ → Extent
 extent_of e = extent_at e.0 e.1
 
-pub record AreApart (m : BTreeMap Place ℕ) : Type 0 where
-  pub ordered : (a : Place) (x : ℕ) → get place_cmp m a ≡ Some x → a.code ≤ x
-  pub apart : (a b : Place) (x y : ℕ) → get place_cmp m a ≡ Some x → get place_cmp m b ≡ Some y → names_in a ≡ names_in b → a.code < b.code → x < b.code
+pub record AreApart (m : BTreeMap SortKey ℕ) : Type 0 where
+  pub ordered : (a : SortKey) (x : ℕ) → get place_cmp m a ≡ Some x → a.code ≤ x
+  pub apart : (a b : SortKey) (x y : ℕ) → get place_cmp m a ≡ Some x → get place_cmp m b ≡ Some y → names_in a ≡ names_in b → a.code < b.code → x < b.code

@@ -6,18 +6,18 @@ ghost use Rattle.ucd_points.specs.declared.files.SourceFile.{SourceFile as FileV
 ghost use Rattle.ucd_facts.specs.declared.row.Row.{Row as RowValue};
 ghost use Rattle.part_list.specs.Parts.{next_in, now_in};
 ghost use Rattle.release_rows.specs.Gaps.{IsGapAt};
-ghost use Rattle.release_rows.specs.Groups.{AreMarked};
+ghost use Rattle.release_rows.specs.Noted.{AreNoted};
 ghost use Rattle.release_rows.specs.Keys.{is_missing_in};
 ghost use Rattle.release_rows.specs.Leads.{KeepLeads};
 ghost use Rattle.release_rows.specs.Operations.{place_in, put_in, with_end};
 ghost use Rattle.release_rows.specs.Searches.{IsSoughtRow};
 ghost use Rattle.release_rows.specs.StoredItems.{stored_at, IsStored};
 
+use crate::hash::group_hash;
 use crate::lead::{Leads, has_leads};
-use crate::mark::group_mark;
 use crate::search::{Search, Test};
 use crate::stretch::Stretch;
-use part_list::{PartList, Spanned, Spot, Tags};
+use part_list::{PartList, SeenNumbers, Spanned, Spot};
 use source_rows::contents_have_keys;
 use ucd_facts::{Memory, SourceFile};
 use ucd_lines::Ending;
@@ -45,12 +45,17 @@ fn end_gap(items: &PartList<Stretch>, search: &Search<'_>) -> Gap
 
 /// Where a row other than a missing row has its place: before the first one of its group that has a greater key; if none
 /// has, behind the last one of its group; if there is none, behind all. If it is known that no row has its group, nothing is looked for.
-fn ordinary_gap(items: &PartList<Stretch>, groups: &Tags, leads: &Leads, search: &Search<'_>) -> Gap
+fn ordinary_gap(
+    items: &PartList<Stretch>,
+    seen_hashes: &SeenNumbers,
+    leads: &Leads,
+    search: &Search<'_>,
+) -> Gap
     requires sought { (row : RowValue)
         × IsSoughtRow search.now.file row search.now.text search.now }
     requires leads { KeepLeads search.now.file search.now.text
         (map (stored_at search.now.file search.now.text) (next_in items.now)) leads.now }
-    requires marked { AreMarked search.now.file groups.now
+    requires noted { AreNoted search.now.file seen_hashes.now
         (map (stored_at search.now.file search.now.text) (next_in items.now)) }
     requires each { All (IsStored search.now.file search.now.text) (next_in items.now) }
     ensures { (row : RowValue) → IsSoughtRow search.now.file row search.now.text search.now
@@ -59,7 +64,7 @@ fn ordinary_gap(items: &PartList<Stretch>, groups: &Tags, leads: &Leads, search:
         (map (stored_at search.now.file search.now.text) (next_in items.now))) items.now.next }
 {
     contents_have_keys();
-    if !groups.may_have(group_mark(search.group)) {
+    if !seen_hashes.may_have(group_hash(search.group)) {
         return end_gap(items, search);
     }
     if let Some(spot) = items.first_behind(leads.passed(search), &search.with(Test::Follows)) {
@@ -93,12 +98,17 @@ fn missing_gap(items: &PartList<Stretch>, search: &Search<'_>) -> Gap
 }
 
 /// Where a row that is added has its place.
-pub fn gap_for(items: &PartList<Stretch>, groups: &Tags, leads: &Leads, search: &Search<'_>) -> Gap
+pub fn gap_for(
+    items: &PartList<Stretch>,
+    seen_hashes: &SeenNumbers,
+    leads: &Leads,
+    search: &Search<'_>,
+) -> Gap
     requires sought { (row : RowValue)
         × IsSoughtRow search.now.file row search.now.text search.now }
     requires leads { KeepLeads search.now.file search.now.text
         (map (stored_at search.now.file search.now.text) (next_in items.now)) leads.now }
-    requires marked { AreMarked search.now.file groups.now
+    requires noted { AreNoted search.now.file seen_hashes.now
         (map (stored_at search.now.file search.now.text) (next_in items.now)) }
     requires each { All (IsStored search.now.file search.now.text) (next_in items.now) }
     ensures { (row : RowValue) → IsSoughtRow search.now.file row search.now.text search.now
@@ -108,7 +118,7 @@ pub fn gap_for(items: &PartList<Stretch>, groups: &Tags, leads: &Leads, search: 
     if search.is_missing() {
         missing_gap(items, search)
     } else {
-        ordinary_gap(items, groups, leads, search)
+        ordinary_gap(items, seen_hashes, leads, search)
     }
 }
 

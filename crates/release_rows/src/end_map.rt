@@ -7,7 +7,7 @@ ghost use Rattle.release_rows.specs.Places.{extent_at};
 ghost use Rattle.release_rows.specs.Entries.{IsFree};
 
 use crate::conflict::Conflict;
-use crate::place::Place;
+use crate::sort_key::SortKey;
 use std::alloc::Global;
 use std::collections::BTreeMap;
 use std::marker::Model;
@@ -17,7 +17,7 @@ use ucd_facts::Memory;
 /// of the row. Contracts see the extents in some order.
 #[derive(Drop)]
 pub struct EndMap {
-    ends: BTreeMap<Place, u32>,
+    ends: BTreeMap<SortKey, u32>,
 }
 
 impl Model for EndMap {
@@ -44,32 +44,32 @@ impl EndMap {
 
     /// Answers the place of a row if the row, up to its last code point, breaks no rule against these extents;
     /// otherwise the rule. It takes no memory.
-    pub fn checked_place(&self, place: Place, last: u32) -> Result<Place, Conflict>
+    pub fn checked_place(&self, place: SortKey, last: u32) -> Result<SortKey, Conflict>
         requires { place.code ≤ last }
         ensures { IsFree result place (conflict_with self.now (extent_at place last)) }
     {
         // extents of the same names lie apart: of those that begin no later than this one ends, only the last one can
         // reach it, and it does if one has the key
-        let Place { names, code } = place;
-        let end = Place { names, code: last };
+        let SortKey { names, code } = place;
+        let end = SortKey { names, code: last };
         let Some((before, reached)) = self.ends.range(..=&end).next_back() else {
-            return Ok(Place {
+            return Ok(SortKey {
                 names: end.names,
                 code,
             });
         };
         if before.names == end.names && code <= *reached {
             let names = end.names;
-            return Err(self.rule_at(&Place { names, code }));
+            return Err(self.rule_at(&SortKey { names, code }));
         }
-        Ok(Place {
+        Ok(SortKey {
             names: end.names,
             code,
         })
     }
 
     /// The rule that a row breaks if it shares a code point with one of these extents.
-    fn rule_at(&self, place: &Place) -> Conflict
+    fn rule_at(&self, place: &SortKey) -> Conflict
         ensures { (last : ℕ) → list_any (meets (extent_at place.now last)) self.now ≡ true
             → conflict_with self.now (extent_at place.now last) ≡ Some result }
     {
@@ -83,7 +83,7 @@ impl EndMap {
     /// Takes up the extent of a row that breaks no rule.
     ///
     /// - `Memory`: memory ran out. The map stays as it was.
-    pub fn insert(&mut self, place: Place, last: u32) -> Result<(), Memory>
+    pub fn insert(&mut self, place: SortKey, last: u32) -> Result<(), Memory>
         requires ordered { place.code ≤ last }
         requires apart { conflict_with self.old (extent_at place last) ≡ None }
         ensures ok { OnOk result ((p : Extent → Bool)

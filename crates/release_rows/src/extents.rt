@@ -8,8 +8,8 @@ ghost use Rattle.release_rows.specs.Entries.{IsFree};
 
 use crate::conflict::Conflict;
 use crate::end_map::EndMap;
-use crate::place::Place;
-use crate::run::{Run, run_conflict};
+use crate::nameless_span::{NamelessSpan, nameless_conflict};
+use crate::sort_key::SortKey;
 use std::alloc::Global;
 use std::marker::Model;
 use ucd_facts::{Memory, SourceFile};
@@ -23,7 +23,7 @@ pub struct Extents {
     /// Whether rows without names are kept as runs.
     keeps_runs: bool,
     /// The rows that are kept as runs.
-    runs: Vec<Run>,
+    runs: Vec<NamelessSpan>,
     /// The other rows, in the order of their keys.
     ends: EndMap,
     /// No extent begins or ends at this number or behind it.
@@ -33,13 +33,13 @@ pub struct Extents {
 impl Model for Extents {
     ghost use Rattle.std.specs.Prelude.{◌++◌, List, map};
     ghost use Rattle.release_rows.specs.Extents.{Extent};
-    ghost use Rattle.release_rows.specs.Runs.{run_extent, AllBefore};
+    ghost use Rattle.release_rows.specs.NamelessSpans.{nameless_extent, AllBefore};
 
     ghost Value = { List Extent };
 
-    ghost view = { λ s. map run_extent s.runs.items ++ s.ends };
+    ghost view = { λ s. map nameless_extent s.runs.items ++ s.ends };
 
-    ghost invariant = { λ s. AllBefore s.end (map run_extent s.runs.items ++ s.ends) };
+    ghost invariant = { λ s. AllBefore s.end (map nameless_extent s.runs.items ++ s.ends) };
 }
 
 impl Extents {
@@ -57,14 +57,14 @@ impl Extents {
 
     /// Answers the place of a row if the row, up to its last code point, breaks no rule against these extents;
     /// otherwise the rule. It takes no memory.
-    fn checked_place(&self, place: Place, last: u32) -> Result<Place, Conflict>
+    fn checked_place(&self, place: SortKey, last: u32) -> Result<SortKey, Conflict>
         requires { place.code ≤ last }
         ensures { IsFree result place (conflict_with self.now (extent_at place last)) }
     {
         if self.end <= u64::from(place.code) {
             return Ok(place);
         }
-        match run_conflict(&self.runs, &place, last) {
+        match nameless_conflict(&self.runs, &place, last) {
             None => self.ends.checked_place(place, last),
             Some(Conflict::K1) => Err(Conflict::K1),
             Some(Conflict::K4) => match self.ends.checked_place(place, last) {
@@ -77,7 +77,7 @@ impl Extents {
     /// Takes up the extent of a row that breaks no rule.
     ///
     /// - `Memory`: memory ran out. The set stays as it was.
-    fn insert(&mut self, place: Place, last: u32) -> Result<(), Memory>
+    fn insert(&mut self, place: SortKey, last: u32) -> Result<(), Memory>
         requires ordered { place.code ≤ last }
         requires apart { conflict_with self.old (extent_at place last) ≡ None }
         ensures ok { OnOk result ((p : Extent → Bool)
@@ -86,7 +86,7 @@ impl Extents {
     {
         let end = self.end.max(u64::from(last) + 1);
         if self.keeps_runs && place.names.is_empty() {
-            self.runs.push(Run {
+            self.runs.push(NamelessSpan {
                 first: place.code,
                 last,
             })?;
@@ -101,7 +101,7 @@ impl Extents {
     /// Takes up the extent of a row; or answers the rule that the row breaks, and stays as it was.
     ///
     /// - `Memory`: memory ran out. The set stays as it was.
-    pub fn take(&mut self, place: Place, last: u32) -> Result<Option<Conflict>, Memory>
+    pub fn take(&mut self, place: SortKey, last: u32) -> Result<Option<Conflict>, Memory>
         requires { place.code ≤ last }
         ensures rule { IfOk result (λ rule. rule ≡ conflict_with self.old (extent_at place last)) }
         ensures keys { OnOk result (conflict_with self.old (extent_at place last) ≡ None

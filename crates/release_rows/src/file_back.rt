@@ -8,7 +8,7 @@ ghost use Rattle.release_rows.specs.StoredItems.{stored_at, IsStored};
 use crate::copy::copy_entry;
 use crate::edits::put_at;
 use crate::file_text::FileText;
-use crate::groups::note_group;
+use crate::noted::note_hashes;
 use crate::patch::Patch;
 use crate::stretch::{Stretch, content_in};
 use crate::way_back::put_way_back;
@@ -68,8 +68,8 @@ impl FileText {
         };
         self.whole = false;
         self.leads.clear();
-        note_group(
-            &mut self.groups,
+        note_hashes(
+            &mut self.seen_hashes,
             self.file,
             entry.code,
             content_in(from, entry.item),

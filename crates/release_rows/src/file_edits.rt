@@ -11,7 +11,7 @@ ghost use Rattle.release_rows.specs.declared.operation.Op.TheVariants.{Add, Chan
 use crate::edits::{lead_count, put_in};
 use crate::file_text::FileText;
 use crate::finds::{added_gap, changed_spot, search_row, withdrawn_spot};
-use crate::groups::{groups_of, has_marks};
+use crate::noted::{has_hashes, hashes_of};
 use crate::op_spans::{both_spans, entry_spans, row_spans};
 use crate::operation::{Op, OpStop};
 use crate::stored_row::store_row;
@@ -23,11 +23,11 @@ use ucd_lines::Ending;
 /// Edits. What is now stays.
 impl FileText {
     /// Gathers the groups and the keys of the rows, if those of the file are noted and were not gathered yet.
-    fn gather_groups(&mut self, alloc: Global)
+    fn gather_hashes(&mut self, alloc: Global)
         ensures { self.new ≡ self.old }
     {
-        if has_marks(self.file) && self.groups.are_unknown() {
-            self.groups = groups_of(alloc, self.file, self.text.as_slice(), &self.items);
+        if has_hashes(self.file) && self.seen_hashes.are_unknown() {
+            self.seen_hashes = hashes_of(alloc, self.file, self.text.as_slice(), &self.items);
         }
     }
 
@@ -70,13 +70,13 @@ impl FileText {
         };
         let gap = {
             let search = search_row(self.file, self.text.as_slice(), row, key, bytes);
-            added_gap(&self.items, &self.groups, &self.leads, &search)?
+            added_gap(&self.items, &self.seen_hashes, &self.leads, &search)?
         };
         let count = lead_count(self.file, &self.items, gap);
         self.whole = false;
         let entry = store_row(
             &mut self.text,
-            &mut self.groups,
+            &mut self.seen_hashes,
             self.file,
             row,
             bytes,
@@ -138,7 +138,7 @@ impl FileText {
         self.leads.clear();
         let entry = store_row(
             &mut self.text,
-            &mut self.groups,
+            &mut self.seen_hashes,
             self.file,
             row,
             bytes,
@@ -186,7 +186,7 @@ impl FileText {
     {
         match op {
             Op::Add { row, bytes, .. } => {
-                self.gather_groups(alloc);
+                self.gather_hashes(alloc);
                 self.add(alloc, row, bytes.as_slice())
             }
             Op::Change { row, bytes, .. } => self.change(alloc, row, bytes.as_slice()),

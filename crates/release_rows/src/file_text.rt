@@ -15,7 +15,7 @@ use crate::row_iter::Rows;
 use crate::row_text::RowText;
 use crate::stretch::Stretch;
 use crate::touching::touching_rows;
-use part_list::{PartList, Tags};
+use part_list::{PartList, SeenNumbers};
 use std::alloc::Global;
 use std::marker::Model;
 use ucd_facts::{Copied, Memory, SourceFile, Span, Text};
@@ -31,8 +31,8 @@ pub struct FileText {
     pub(crate) whole: bool,
     /// How many items were added since the file was loaded.
     pub(crate) added: u32,
-    /// Marks of the groups and the keys of the rows, now and next, if those of the file are noted: from the first addition on.
-    pub(crate) groups: Tags,
+    /// Hashes of the groups and the keys of the rows, now and next, if those of the file are noted: from the first addition on.
+    pub(crate) seen_hashes: SeenNumbers,
     /// Rows by which the place of an added row is found, if keys are names alone.
     pub(crate) leads: Leads,
 }
@@ -41,7 +41,7 @@ impl Model for FileText {
     ghost use Rattle.std.specs.Prelude.{◌≡◌, true, map};
     ghost use Rattle.part_list.specs.Parts.{now_in, next_in};
     ghost use Rattle.release_rows.specs.FileItems.{FileLists};
-    ghost use Rattle.release_rows.specs.Groups.{KeepMarks};
+    ghost use Rattle.release_rows.specs.Noted.{KeepNotes};
     ghost use Rattle.release_rows.specs.Leads.{KeepLeads};
     ghost use Rattle.release_rows.specs.StoredItems.{stored_at, AreWhole, IsKeptFile};
 
@@ -49,7 +49,7 @@ impl Model for FileText {
 
     ghost view = { λ f. record { file = f.file; now = map (stored_at f.file f.text) (now_in f.items); next = map (stored_at f.file f.text) (next_in f.items) } };
 
-    ghost invariant = { λ f. IsKeptFile f.file f.text f.added f.items × (f.whole ≡ true → AreWhole f.file f.text f.items) × KeepMarks f.file f.text f.groups f.items × KeepLeads f.file f.text (map (stored_at f.file f.text) (next_in f.items)) f.leads };
+    ghost invariant = { λ f. IsKeptFile f.file f.text f.added f.items × (f.whole ≡ true → AreWhole f.file f.text f.items) × KeepNotes f.file f.text f.seen_hashes f.items × KeepLeads f.file f.text (map (stored_at f.file f.text) (next_in f.items)) f.leads };
 }
 
 impl FileText {
@@ -63,7 +63,7 @@ impl FileText {
             items: PartList::new(alloc),
             whole: true,
             added: 0,
-            groups: Tags::unknown(),
+            seen_hashes: SeenNumbers::unknown(),
             leads: Leads::none(),
         }
     }
@@ -84,7 +84,7 @@ impl FileText {
             items,
             whole: true,
             added: 0,
-            groups: Tags::unknown(),
+            seen_hashes: SeenNumbers::unknown(),
             leads: Leads::none(),
         }
     }
@@ -150,7 +150,7 @@ impl Copied for FileText {
             items,
             whole: self.whole,
             added: self.added,
-            groups: Tags::unknown(),
+            seen_hashes: SeenNumbers::unknown(),
             leads: Leads::none(),
         })
     }

@@ -7,8 +7,8 @@ ghost use Rattle.source_rows.specs.Faults.{row_or_fault};
 ghost use Rattle.source_rows.specs.Keys.{key_of};
 ghost use Rattle.part_list.specs.Parts.{next_in};
 ghost use Rattle.release_rows.specs.Finding.{FindsGap, FindsRow, FindsSpot, items_of};
-ghost use Rattle.part_list.specs.Tags.{may_have};
-ghost use Rattle.release_rows.specs.Groups.{AreMarked, key_mark};
+ghost use Rattle.part_list.specs.SeenNumbers.{may_have};
+ghost use Rattle.release_rows.specs.Noted.{AreNoted, key_hash};
 ghost use Rattle.release_rows.specs.Keys.{is_missing_row};
 ghost use Rattle.release_rows.specs.Leads.{KeepLeads};
 ghost use Rattle.release_rows.specs.Operations.{has_key};
@@ -16,15 +16,15 @@ ghost use Rattle.release_rows.specs.Searches.{IsSoughtRow};
 ghost use Rattle.release_rows.specs.StoredItems.{IsStored, stored_at};
 
 use crate::edits::{Gap, gap_for};
+use crate::hash::key_hash;
 use crate::key_rule::KeyRule;
 use crate::lead::Leads;
-use crate::mark::key_mark;
 use crate::op_spans::{code_of, has_code};
 use crate::row_key::row_end;
 use crate::search::{Search, Test};
 use crate::stretch::Stretch;
 use crate::tag::{content_tag, key_tag};
-use part_list::{PartList, Spot, Tags};
+use part_list::{PartList, SeenNumbers, Spot};
 use source_rows::{Key, content_group, contents_have_keys};
 use ucd_facts::{Row, SourceFile};
 
@@ -67,7 +67,7 @@ pub fn search_row<'a>(
 /// - `K4`: it overlaps a row.
 pub fn added_gap(
     items: &PartList<Stretch>,
-    groups: &Tags,
+    seen_hashes: &SeenNumbers,
     leads: &Leads,
     search: &Search<'_>,
 ) -> Result<Gap, KeyRule>
@@ -76,14 +76,14 @@ pub fn added_gap(
     requires leads { KeepLeads search.now.file search.now.text
         (map (stored_at search.now.file search.now.text) (next_in items.now)) leads.now }
     requires each { All (IsStored search.now.file search.now.text) (next_in items.now) }
-    requires marked { AreMarked search.now.file groups.now
+    requires noted { AreNoted search.now.file seen_hashes.now
         (map (stored_at search.now.file search.now.text) (next_in items.now)) }
     ensures { (row : RowValue) → IsSoughtRow search.now.file row search.now.text search.now
         → FindsGap result search.now.file search.now.text row items.now.next }
 {
     contents_have_keys();
-    if is_new_key(groups, search) {
-        return Ok(gap_for(items, groups, leads, search));
+    if is_new_key(seen_hashes, search) {
+        return Ok(gap_for(items, seen_hashes, leads, search));
     }
     if items.first(&search.with(Test::SameKey)).is_some() {
         return Err(KeyRule::K1);
@@ -91,15 +91,15 @@ pub fn added_gap(
     if items.first(&search.with(Test::OverlapsAnother)).is_some() {
         return Err(KeyRule::K4);
     }
-    Ok(gap_for(items, groups, leads, search))
+    Ok(gap_for(items, seen_hashes, leads, search))
 }
 
-/// Whether no row has the mark of the key that is looked for, as far as keys are noted. So none has the key, and none overlaps the row.
-fn is_new_key(groups: &Tags, search: &Search<'_>) -> bool
-    ensures { result ≡ true → may_have groups.now
-        (key_mark search.now.file search.now.code search.now.names) ≡ false }
+/// Whether no row has the hash of the key that is looked for, as far as keys are noted. So none has the key, and none overlaps the row.
+fn is_new_key(seen_hashes: &SeenNumbers, search: &Search<'_>) -> bool
+    ensures { result ≡ true → may_have seen_hashes.now
+        (key_hash search.now.file search.now.code search.now.names) ≡ false }
 {
-    !groups.may_have(key_mark(search.file, search.code, search.names))
+    !seen_hashes.may_have(key_hash(search.file, search.code, search.names))
 }
 
 /// Where the row stands that a change replaces.

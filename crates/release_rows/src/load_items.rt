@@ -14,11 +14,11 @@ ghost use Rattle.release_rows.specs.Releases.{AreSound};
 
 use crate::extents::Extents;
 use crate::file_text::FileText;
+use crate::keyed_extent::{KeyedExtent, are_apart};
 use crate::laws::loaded_files_are_sound;
 use crate::load_stop::LoadStop;
 use crate::loading::Loading;
 use crate::piece::next_piece;
-use crate::placed::{Placed, are_apart};
 use crate::stretch::Stretch;
 use part_list::PartList;
 use std::alloc::Global;
@@ -29,7 +29,7 @@ use ucd_lines::items;
 #[derive(Drop)]
 struct Gathered {
     items: PartList<Stretch>,
-    rows: Vec<Placed>,
+    rows: Vec<KeyedExtent>,
 }
 
 /// The items of a file and the keys of its rows, if no line breaks a rule by itself.

@@ -17,15 +17,15 @@ ghost use Rattle.release_rows.specs.StoredItems.{piece_of, item_at, stored_at, I
 
 use crate::entry::Entry;
 use crate::extents::Extents;
+use crate::keyed_extent::{KeyedExtent, put_placed};
 use crate::load_stop::LoadStop;
 use crate::piece::{Piece, content_of, ending_len, stretch_of};
-use crate::placed::{Placed, put_placed};
 use crate::read_piece::read_piece;
 use crate::row_rule::take_row;
 use crate::stretch::{Stretch, content_in};
 use crate::tag::content_tag;
 use part_list::{PartList, Spanned};
-use source_rows::LastTail;
+use source_rows::FieldsCache;
 use std::alloc::Global;
 use ucd_facts::{Memory, SourceFile};
 
@@ -43,7 +43,7 @@ pub struct Loading<'a> {
     /// How many lines the items have.
     lines: u32,
     /// What the last row of UnicodeData.txt without a mapping gave.
-    tail: LastTail<'a>,
+    tail: FieldsCache<'a>,
 }
 
 /// The first code point of the last row, with one more row, if there is one.
@@ -113,7 +113,7 @@ impl<'a> Loading<'a> {
             end: 0,
             before: None,
             lines: 0,
-            tail: LastTail::usual(),
+            tail: FieldsCache::of_letter(),
         }
     }
 
@@ -186,7 +186,7 @@ impl<'a> Loading<'a> {
     pub fn gather(
         &mut self,
         alloc: Global,
-        rows: &mut Vec<Placed>,
+        rows: &mut Vec<KeyedExtent>,
         piece: Piece<'a>,
     ) -> Result<(), LoadStop>
         requires sound { IsSound self.old }

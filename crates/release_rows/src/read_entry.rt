@@ -10,10 +10,10 @@ ghost use Rattle.release_rows.specs.Keys.{row_end};
 
 use crate::brief::Brief;
 use crate::entry::Entry;
-use crate::place::Place;
 use crate::row_key::{has_spans, key_text};
+use crate::sort_key::SortKey;
 use source_rows::{
-    LastTail, RowRef, RowStop, read_below, read_row_ref, rows_are_ok, rows_are_read,
+    FieldsCache, RowRef, RowStop, read_below, read_row_ref, rows_are_ok, rows_are_read,
 };
 use std::alloc::Global;
 use ucd_facts::SourceFile;
@@ -59,7 +59,7 @@ fn entry_of(alloc: Global, file: SourceFile, row: RowRef<'_>) -> Result<Entry, R
     let brief = Brief::of_row_ref(&row);
     let names = key_text(alloc, file, row)?;
     Ok(Entry {
-        place: Place { names, code },
+        place: SortKey { names, code },
         last,
         reach,
         brief,
@@ -82,14 +82,14 @@ fn row_entry(alloc: Global, file: SourceFile, content: &[u8]) -> Result<Entry, R
 fn data_entry<'a>(
     alloc: Global,
     content: &'a [u8],
-    above: &mut LastTail<'a>,
+    above: &mut FieldsCache<'a>,
 ) -> Result<Entry, RowStop>
     ensures { EntersAs SourceFile.UnicodeData result
         (row_or_fault SourceFile.UnicodeData content.now) }
 {
     let given = read_below(content, above)?;
     Ok(Entry {
-        place: Place {
+        place: SortKey {
             names: Vec::new(alloc),
             code: given.span.first(),
         },
@@ -107,7 +107,7 @@ pub fn read_entry<'a>(
     alloc: Global,
     file: SourceFile,
     content: &'a [u8],
-    above: &mut LastTail<'a>,
+    above: &mut FieldsCache<'a>,
 ) -> Result<Entry, RowStop>
     ensures { EntersAs file result (row_or_fault file content.now) }
 {

@@ -10,7 +10,7 @@ use crate::entry::Entry;
 use crate::load_stop::{LoadRule, LoadStop};
 use crate::piece::Piece;
 use crate::read_entry::read_entry;
-use source_rows::{LastTail, RowFault, RowStop, read_row_ref};
+use source_rows::{FieldsCache, RowFault, RowStop, read_row_ref};
 use std::alloc::Global;
 use ucd_facts::SourceFile;
 use ucd_lines::is_trivia;
@@ -56,7 +56,7 @@ pub fn read_piece<'a>(
     line: u32,
     piece: Piece<'a>,
     content: &'a [u8],
-    above: &mut LastTail<'a>,
+    above: &mut FieldsCache<'a>,
 ) -> Result<Option<Entry>, LoadStop>
     requires fits { line + 1 < 2 ^ 32 }
     requires content { content.now ≡ piece_content (piece_of piece) }

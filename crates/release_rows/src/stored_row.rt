@@ -4,17 +4,17 @@ ghost use Rattle.std.specs.Prelude.{◌≡◌, ◌++◌, Ok, length, IfOk, OnOk,
 ghost use Rattle.ucd_points.specs.Lines.{holds_line_feed};
 ghost use Rattle.ucd_lines.specs.Items.{ending_of};
 ghost use Rattle.source_rows.specs.Faults.{row_or_fault};
-ghost use Rattle.part_list.specs.Tags.{Grows};
-ghost use Rattle.release_rows.specs.Groups.{RowMarked};
+ghost use Rattle.part_list.specs.SeenNumbers.{Grows};
+ghost use Rattle.release_rows.specs.Noted.{RowNoted};
 ghost use Rattle.release_rows.specs.Operations.{item_of_row};
 ghost use Rattle.release_rows.specs.StoredItems.{stored_at, IsStored};
 
 use crate::brief::Brief;
-use crate::groups::note_group;
+use crate::noted::note_hashes;
 use crate::row_key::{row_last, row_start};
 use crate::stretch::Stretch;
 use crate::tag::content_tag;
-use part_list::{Spanned, Tags};
+use part_list::{SeenNumbers, Spanned};
 use source_rows::{rows_are_no_trivia, rows_are_read};
 use ucd_facts::{Memory, Row, SourceFile, Text};
 use ucd_lines::Ending;
@@ -46,7 +46,7 @@ pub fn stretch_behind(text: &[u8], bytes: &[u8]) -> Result<(u32, u32), Memory>
 /// - `Memory`: memory ran out, or the text would have 2^32 bytes or more. The text stays as it was; what is noted stays.
 pub fn store_row(
     text: &mut Text,
-    groups: &mut Tags,
+    seen_hashes: &mut SeenNumbers,
     file: SourceFile,
     row: &Row,
     bytes: &[u8],
@@ -58,12 +58,12 @@ pub fn store_row(
     ensures item { IfOk result (λ entry. stored_at file text.new entry
         ≡ item_of_row row.now bytes.now (ending_of ending)) }
     ensures err { OnErr result (text.new ≡ text.old) }
-    ensures noted { RowMarked file groups.new row.now }
-    ensures grows { Grows groups.old groups.new }
+    ensures noted { RowNoted file seen_hashes.new row.now }
+    ensures grows { Grows seen_hashes.old seen_hashes.new }
 {
     rows_are_read();
     rows_are_no_trivia();
-    note_group(groups, file, row_start(row), bytes);
+    note_hashes(seen_hashes, file, row_start(row), bytes);
     let (start, len) = stretch_behind(text.as_slice(), bytes)?;
     text.append(bytes)?;
     let item = Stretch {

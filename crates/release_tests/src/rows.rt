@@ -415,7 +415,7 @@ const IN_TURN: [(&[u8], Result<(u8, usize), RowFault>); 9] = [
 
 #[test]
 fn lines_in_turn(rt: HostRuntime) {
-    let mut above = LastTail::usual();
+    let mut above = FieldsCache::of_letter();
     for (line, expected) in &IN_TURN {
         let given = match read_below(line, &mut above) {
             Ok(PointValues { values, .. }) => {

@@ -14,7 +14,7 @@ use Rattle.release_rows.specs.declared.key_rule.KeyRule.{KeyRule}
 use Rattle.release_rows.specs.declared.key_rule.KeyRule.TheVariants.{K1, K2, K4}
 use Rattle.edit_session.specs.declared.apply_stop.Refused.{Refused}
 use Rattle.edit_session.specs.declared.apply_stop.Refused.TheVariants.{Key, Valid}
-use Rattle.run_inputs.specs.Printed.{bad_code}
+use Rattle.run_inputs.specs.RefusalLines.{bad_code}
 
 abbrev pub log_line : ℕ → List ℕ → List ℕ
 log_line line said = decimal line ++ codes " " ++ said ++ line_end

@@ -1,6 +1,6 @@
 pub mod Paths
 pub mod Files
-pub mod Printed
+pub mod RefusalLines
 pub mod GroupLines
 pub mod Held
 pub mod Verdict

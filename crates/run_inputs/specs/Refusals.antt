@@ -15,7 +15,7 @@ use Rattle.script_lines.specs.declared.command.Command.{Command}
 use Rattle.script_lines.specs.declared.stop.ScriptRule.{ScriptRule}
 use Rattle.script_lines.specs.declared.stop.ScriptRule.TheVariants.{E1, E2, E3, E4, E5, E6}
 use Rattle.run_inputs.specs.Paths.{source_in}
-use Rattle.run_inputs.specs.Printed.{file_rule_code, load_rule_code, refused, refused_point, row_rule_code}
+use Rattle.run_inputs.specs.RefusalLines.{file_rule_code, load_rule_code, refused, refused_point, row_rule_code}
 use Rattle.run_inputs.specs.Verdict.{release_verdict, script_verdict}
 use Rattle.run_inputs.specs.declared.refusal.FolderRefusal.{FolderRefusal}
 use Rattle.run_inputs.specs.declared.refusal.FolderRefusal.TheVariants.{NoFile, FileLine, Point}

@@ -3,7 +3,7 @@
 ghost use Rattle.std.specs.Prelude.{◌≡◌, ◌++◌, OnOk};
 ghost use Rattle.run_inputs.specs.GroupLines.{accepted_line, key_rule_code, refusal_text, refused_line};
 
-use crate::printed::bad_code;
+use crate::refusal_lines::bad_code;
 use edit_session::Refused;
 use release_rows::KeyRule;
 use std::alloc::Global;

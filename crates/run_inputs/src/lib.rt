@@ -7,8 +7,8 @@ mod held;
 mod judging;
 mod outputs;
 mod paths;
-mod printed;
 mod refusal;
+mod refusal_lines;
 mod refusing;
 mod script;
 mod second;
@@ -19,10 +19,10 @@ pub use held::held_at;
 pub use judging::{judge_folder, open_folder};
 pub use outputs::{put_derived, put_sources};
 pub use paths::{put_source_paths, source_paths};
-pub use printed::{
+pub use refusal::{FileRule, FolderRefusal, FolderStop, ScriptRefusal};
+pub use refusal_lines::{
     bad_code, file_rule_code, load_rule_code, refused, refused_point, row_rule_code,
 };
-pub use refusal::{FileRule, FolderRefusal, FolderStop, ScriptRefusal};
 pub use refusing::{folder_line, script_line};
 pub use script::read_script;
 pub use second::second_file;

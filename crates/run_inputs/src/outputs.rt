@@ -48,7 +48,7 @@ pub fn put_derived(
     ensures { OnOk result (Puts (map (derived_file folder.now bench.now.current) derived_files)
         outputs.old.items outputs.new.items) }
 {
-    let pieces = bench.pieces(alloc)?;
+    let pieces = bench.equal_record_spans(alloc)?;
     'files: for file in &DERIVED_FILES {
         let output = derived_output(alloc, folder, *file, bench, pieces.as_slice())?;
         outputs.push(output)?;

@@ -2,11 +2,11 @@
 
 ghost use Rattle.std.specs.Prelude.{◌≡◌, ◌++◌, IfOk};
 ghost use Rattle.run_inputs.specs.Paths.{source_in};
-ghost use Rattle.run_inputs.specs.Printed.{refused};
+ghost use Rattle.run_inputs.specs.RefusalLines.{refused};
 ghost use Rattle.run_inputs.specs.Refusals.{folder_line, script_line, script_rule_code};
 
-use crate::printed::{file_rule_code, load_rule_code, refused, refused_point, row_rule_code};
 use crate::refusal::{FolderRefusal, ScriptRefusal};
+use crate::refusal_lines::{file_rule_code, load_rule_code, refused, refused_point, row_rule_code};
 use run_endings::path_in;
 use script_lines::ScriptRule;
 use std::alloc::Global;

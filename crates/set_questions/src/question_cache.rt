@@ -37,7 +37,7 @@ fn fill_pieces(alloc: Global, kept: &mut KeptPieces, bench: &Bench) -> Result<()
     if kept.renew(alloc, bench)? {
         return Ok(());
     }
-    let spans = bench.pieces(alloc)?;
+    let spans = bench.equal_record_spans(alloc)?;
     kept.make(alloc, bench, spans.as_slice())
 }
 

@@ -32,7 +32,7 @@ fn names_in(content: &[u8]) -> Fields<'_>
 }
 
 /// Whether each field of a line is a name or empty.
-fn are_names_or_empty(content: &[u8]) -> bool
+fn are_fields_names_or_empty(content: &[u8]) -> bool
     ensures { result ≡ list_all is_name_or_empty (fields_of (before_first is_hash content.now)) }
 {
     names_in(content).all(|field| is_name_or_empty(field))
@@ -50,7 +50,7 @@ pub fn names_or_fault(least: usize, content: &[u8]) -> Result<Fields<'_>, RowFau
     if field_count(text) < least {
         return Err(RowFault::G03);
     }
-    if !is_name(first_field(text).0) || !are_names_or_empty(content) {
+    if !is_name(first_field(text).0) || !are_fields_names_or_empty(content) {
         return Err(RowFault::G11);
     }
     Ok(names_in(content))

@@ -12,11 +12,11 @@ mod data_values;
 mod decomposition;
 mod fault;
 mod fields;
+mod fields_cache;
 mod fifteen;
 mod key;
 mod key_names;
 mod keys;
-mod last_tail;
 mod laws;
 mod lines;
 mod mapping;
@@ -39,11 +39,11 @@ pub use data_text::DataText;
 pub use data_values::Values;
 pub use decomposition::Decomposition;
 pub use fault::{RowFault, RowStop};
+pub use fields_cache::FieldsCache;
 pub use fifteen::DataFields;
 pub use key::Key;
 pub use key_names::{compare_names, content_group};
 pub use keys::read_key;
-pub use last_tail::LastTail;
 pub use laws::{
     categories_are_named, contents_have_keys, first_lines_begin, key_texts_read_back,
     keys_are_read, rows_are_no_trivia, rows_are_ok, rows_are_read, rows_have_lines,

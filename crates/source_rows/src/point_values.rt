@@ -12,7 +12,7 @@ use crate::data_text::DataText;
 use crate::data_values::Values;
 use crate::fault::RowFault;
 use crate::fields::{first_field, first_short_field};
-use crate::last_tail::LastTail;
+use crate::fields_cache::FieldsCache;
 use crate::lines::holds_line_feed;
 use crate::unicode_data::{read_pair, single_end};
 use ucd_facts::{SourceFile, Span};
@@ -42,7 +42,7 @@ fn given_or_fault<'a>(
 /// What the row of one line gives, or its first fault.
 fn single_values<'a>(
     content: &'a [u8],
-    above: &mut LastTail<'a>,
+    above: &mut FieldsCache<'a>,
 ) -> Result<PointValues<'a>, RowFault>
     ensures { PointValuesAs result (single_or_fault (fields SourceFile.UnicodeData content.now)) }
 {
@@ -79,7 +79,7 @@ fn pair_values<'a>(front: &'a [u8], last: &[u8]) -> Result<PointValues<'a>, RowF
 #[tactic(auto, unfolding(crate::specs::Faults::row_or_fault))]
 pub fn read_below<'a>(
     bytes: &'a [u8],
-    above: &mut LastTail<'a>,
+    above: &mut FieldsCache<'a>,
 ) -> Result<PointValues<'a>, RowFault>
     ensures { PointValuesAs result (row_or_fault SourceFile.UnicodeData bytes.now) }
 {
@@ -100,5 +100,5 @@ pub fn read_below<'a>(
 pub fn read_point_values(bytes: &[u8]) -> Result<PointValues<'_>, RowFault>
     ensures { PointValuesAs result (row_or_fault SourceFile.UnicodeData bytes.now) }
 {
-    read_below(bytes, &mut LastTail::usual())
+    read_below(bytes, &mut FieldsCache::of_letter())
 }

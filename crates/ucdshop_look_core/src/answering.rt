@@ -8,7 +8,7 @@ ghost use Rattle.ucd_model.specs.DerivedText.{line_end};
 ghost use Rattle.unicodeset_eval.specs.RecordPieces.{ArePiecesOf};
 ghost use Rattle.ucdshop_look_core.specs.Answers.{any_refused, ask_ending, is_refused, section, sections};
 
-use edit_session::{Bench, Recorded};
+use edit_session::{Bench, ReleaseRecords};
 use run_endings::Plan;
 use set_answers::{AskStop, KeptNames, RowNames, put_members, put_refusal};
 use std::alloc::Global;
@@ -16,7 +16,7 @@ use ucd_model::{Memory, Text};
 use unicodeset_eval::RecordPieces;
 
 /// What answers questions on a release and its records.
-type Asking<'b> = set_answers::Asking<'b, Recorded>;
+type Asking<'b> = set_answers::Asking<'b, ReleaseRecords>;
 
 /// What `ask` tells of these questions on the release of a bench. Answers need its records alone, so the tables of its facts are let go
 /// of first: what the questions need takes their place.
@@ -25,12 +25,12 @@ type Asking<'b> = set_answers::Asking<'b, Recorded>;
 pub fn answers_plan(alloc: Global, bench: Bench, questions: &[Text]) -> Result<Plan, Memory>
     ensures { IfOk result (HasPlan (ask_ending questions.now bench.current)) }
 {
-    let recorded = bench.into_recorded();
+    let recorded = bench.into_release_records();
     plan_over(alloc, &recorded, questions)
 }
 
 /// What `answers_plan` makes, by the records. It owns the names, and a call lets them go: their many parts would else fill its proof.
-fn plan_over(alloc: Global, recorded: &Recorded, questions: &[Text]) -> Result<Plan, Memory>
+fn plan_over(alloc: Global, recorded: &ReleaseRecords, questions: &[Text]) -> Result<Plan, Memory>
     ensures { IfOk result (HasPlan (ask_ending questions.now recorded.now.current)) }
 {
     let mut names = KeptNames::nothing();
@@ -43,7 +43,7 @@ fn plan_over(alloc: Global, recorded: &Recorded, questions: &[Text]) -> Result<P
 /// spans by which these are made are let go of before names are read.
 fn plan_beside(
     alloc: Global,
-    recorded: &Recorded,
+    recorded: &ReleaseRecords,
     kept: &mut KeptNames,
     questions: &[Text],
 ) -> Result<Plan, Memory>
@@ -57,7 +57,7 @@ fn plan_beside(
 /// What `ask` tells of these questions, by the records, the pieces of equal records and what is kept of names. It owns nothing.
 fn plan_by(
     alloc: Global,
-    recorded: &Recorded,
+    recorded: &ReleaseRecords,
     pieces: &RecordPieces,
     kept: &mut KeptNames,
     questions: &[Text],
@@ -73,17 +73,17 @@ fn plan_by(
 /// The pieces of equal records.
 ///
 /// - `Memory`: memory ran out.
-fn record_pieces(alloc: Global, recorded: &Recorded) -> Result<RecordPieces, Memory>
+fn record_pieces(alloc: Global, recorded: &ReleaseRecords) -> Result<RecordPieces, Memory>
     ensures { IfOk result (λ pieces. ArePiecesOf pieces (files_record recorded.now.current)) }
 {
-    let spans = recorded.pieces(alloc)?;
+    let spans = recorded.equal_record_spans(alloc)?;
     RecordPieces::of(alloc, recorded, spans.as_slice())
 }
 
 /// What `ask` tells of these questions, by the records, the pieces of equal records and the names of the rows.
 fn plan_named(
     alloc: Global,
-    recorded: &Recorded,
+    recorded: &ReleaseRecords,
     pieces: &RecordPieces,
     names: &RowNames,
     questions: &[Text],

@@ -32,7 +32,7 @@ use Rattle.std.specs.Option.{option_map}
 use Rattle.std.specs.Str.{bytes_eq}
 use Rattle.ucd_points.specs.Answers.{AnswersBy}
 use Rattle.release_rows.specs.declared.operation.Op.{Op}
-use Rattle.run_inputs.specs.Printed.{file_rule_code, refused}
+use Rattle.run_inputs.specs.RefusalLines.{file_rule_code, refused}
 use Rattle.run_inputs.specs.Verdict.{and_then, second_verdict}
 use Rattle.run_inputs.specs.declared.refusal.FileRule.{FileRule}
 use Rattle.script_lines.specs.declared.command.Command.{Command}

@@ -19,7 +19,7 @@ use Rattle.run_endings.specs.Endings.{Seen}
 use Rattle.run_endings.specs.declared.stop.Stop.{Stop}
 use Rattle.run_endings.specs.declared.stop.Stop.TheVariants.{Refused, Memory}
 use Rattle.run_inputs.specs.Held.{held_at, source_held}
-use Rattle.run_inputs.specs.Printed.{file_rule_code, refused}
+use Rattle.run_inputs.specs.RefusalLines.{file_rule_code, refused}
 use Rattle.run_inputs.specs.Refusals.{folder_verdict}
 use Rattle.run_inputs.specs.Verdict.{and_then, release_items, second_verdict}
 use Rattle.run_inputs.specs.declared.refusal.FileRule.{FileRule}

@@ -25,7 +25,7 @@ use Rattle.std.specs.Prelude.{◌≡◌, ℕ, List, [], ◌∷◌, ◌++◌, map
 use Rattle.std.specs.Option.{option_map}
 use Rattle.ucd_points.specs.Answers.{AnswersBy}
 use Rattle.bench_editors.specs.declared.event.Event.{Event}
-use Rattle.run_inputs.specs.Printed.{file_rule_code, refused}
+use Rattle.run_inputs.specs.RefusalLines.{file_rule_code, refused}
 use Rattle.run_inputs.specs.Refusals.{script_rule_code}
 use Rattle.run_inputs.specs.Verdict.{and_then, second_verdict}
 use Rattle.run_inputs.specs.declared.refusal.FileRule.{FileRule}

@@ -2,7 +2,7 @@
 
 ghost use Rattle.std.specs.Prelude.{◌≡◌, ◌∷◌, [], ◌++◌, IfOk};
 ghost use Rattle.run_inputs.specs.Paths.{sources_in};
-ghost use Rattle.run_inputs.specs.Printed.{refused};
+ghost use Rattle.run_inputs.specs.RefusalLines.{refused};
 ghost use Rattle.run_inputs.specs.Refusals.{script_line};
 ghost use Rattle.ucdshop_more_core.specs.Trials.{TellsLine};
 ghost use Rattle.ucdshop_more_core.specs.Turns.{piece_rule_code};

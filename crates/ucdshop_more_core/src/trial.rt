@@ -8,7 +8,7 @@ ghost use Rattle.run_endings.specs.Promises.{shelf_seen};
 ghost use Rattle.run_inputs.specs.Judging.{ToldAs};
 ghost use Rattle.run_inputs.specs.Held.{held_at};
 ghost use Rattle.run_inputs.specs.Paths.{sources_in};
-ghost use Rattle.run_inputs.specs.Printed.{refused};
+ghost use Rattle.run_inputs.specs.RefusalLines.{refused};
 ghost use Rattle.ucdshop_more_core.specs.Trials.{TellsLine, case_rule_code, cases_told, trial_verdict, with_cases};
 
 use crate::beside::{paths_with, refusal};

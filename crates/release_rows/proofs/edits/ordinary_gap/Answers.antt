@@ -3,8 +3,8 @@ use Rattle.std.proofs.lemmas.List.{take-map}
 use Rattle.std.proofs.lemmas.List.Elements.{All-take}
 use Rattle.part_list.specs.Parts.{next_in}
 use Rattle.part_list.specs.Finds.{FirstAt, LastAt}
-use Rattle.part_list.specs.Tags.{may_have}
-use Rattle.release_rows.specs.Groups.{group_mark}
+use Rattle.part_list.specs.SeenNumbers.{may_have}
+use Rattle.release_rows.specs.Noted.{group_hash}
 use Rattle.release_rows.specs.Searches.{Sought, entry_passes}
 use Rattle.release_rows.specs.Leads.{NoneFollows}
 use Rattle.release_rows.specs.StoredItems.{IsStored, stored_at}
@@ -30,8 +30,8 @@ returns-in-Some-last c row is plain =
 
 pub returns-then-not-may_have : goal.returns-then-not-may_have
 returns-then-not-may_have c row is plain =
-    let lacks : may_have c.args.groups.now (group_mark c.args.search.now.group) ≡ false = rw (← c.search.view_is) (ap (may_have c.args.groups.now) (sym c.group_mark.ensures) ∙ sym c.may_have.ensures ∙ c.if-not-may_have.true) in
-    rw (place_new c.args.search.now row c.args.items.now.next c.contents_have_keys.ensures is c.requires.each c.args.groups.now plain lacks c.requires.marked) c.end_gap.ensures
+    let lacks : may_have c.args.seen_hashes.now (group_hash c.args.search.now.group) ≡ false = rw (← c.search.view_is) (ap (may_have c.args.seen_hashes.now) (sym c.group_hash.ensures) ∙ sym c.may_have.ensures ∙ c.if-not-may_have.true) in
+    rw (place_new c.args.search.now row c.args.items.now.next c.contents_have_keys.ensures is c.requires.each c.args.seen_hashes.now plain lacks c.requires.noted) c.end_gap.ensures
 
 pub returns : goal.returns
 returns c row is plain =

@@ -1,8 +1,8 @@
 use Rattle.std.proofs.Common.{◌≡◌, false, sym, ◌∙◌}
 use Rattle.source_rows.specs.Keys.{key_names, row_span}
-use Rattle.part_list.specs.Tags.{may_have}
+use Rattle.part_list.specs.SeenNumbers.{may_have}
 use Rattle.release_rows.specs.Finding.{items_of}
-use Rattle.release_rows.specs.Groups.{key_mark}
+use Rattle.release_rows.specs.Noted.{key_hash}
 use Rattle.release_rows.proofs.FirstOfKey.{no_key, no_overlap}
 use Rattle.release_rows.proofs.FoundRows.{key_any, overlap_any}
 use Rattle.release_rows.proofs.finds.added_gap.Goals as goal
@@ -11,8 +11,8 @@ pub returns-then-is_new_key : goal.returns-then-is_new_key
 returns-then-is_new_key c row is =
     let sought = c.args.search.now in
     let items = items_of sought.file sought.text c.args.items.now.next in
-    let lacks : may_have c.args.groups.now (key_mark sought.file (row_span row).lo (key_names sought.file row)) ≡ false = rw (← is.code, ← is.names) (c.is_new_key.ensures c.if-is_new_key.true) in
-    (no_key sought.file c.args.groups.now row items lacks c.requires.marked, no_overlap sought.file c.args.groups.now row items lacks c.requires.marked, c.gap_for.ensures row is)
+    let lacks : may_have c.args.seen_hashes.now (key_hash sought.file (row_span row).lo (key_names sought.file row)) ≡ false = rw (← is.code, ← is.names) (c.is_new_key.ensures c.if-is_new_key.true) in
+    (no_key sought.file c.args.seen_hashes.now row items lacks c.requires.noted, no_overlap sought.file c.args.seen_hashes.now row items lacks c.requires.noted, c.gap_for.ensures row is)
 
 pub returns-then-is_some : goal.returns-then-is_some
 returns-then-is_some c row is =

@@ -1,5 +1,5 @@
 use Rattle.std.proofs.Common.{refl, arith}
-use Rattle.release_rows.proofs.RunConflicts.{breaks_none}
+use Rattle.release_rows.proofs.NamelessConflicts.{breaks_none}
 use Rattle.release_rows.proofs.extents.Extents.checked_place.Goals as goal
 
 pub returns-then-self-from : goal.returns-then-self-from

@@ -5,7 +5,7 @@ use Rattle.part_list.specs.Parts.{now_in, next_in}
 use Rattle.source_rows.specs.Faults.{row_or_fault}
 use Rattle.release_rows.specs.FileItems.{FileItem, FileLists}
 use Rattle.release_rows.specs.Finding.{items_of}
-use Rattle.release_rows.specs.Groups.{AreMarked}
+use Rattle.release_rows.specs.Noted.{AreNoted}
 use Rattle.release_rows.specs.Leads.{GivesRow, KeepLeads}
 use Rattle.release_rows.specs.Operations.{added_item, edited, place_in, put_in}
 use Rattle.release_rows.specs.Searches.{IsSoughtRow}
@@ -14,7 +14,7 @@ use Rattle.release_rows.specs.declared.operation.Op.TheVariants.{Add}
 use Rattle.release_rows.proofs.Arena.{all_still_stored, items_kept}
 use Rattle.release_rows.proofs.Edited.{sought_own, finds_gap, items_of_addition, kept_edited, kept_grown, rule_of_addition}
 use Rattle.release_rows.proofs.Leads.{gap_within, leads_grown, leads_kept, leads_of}
-use Rattle.release_rows.proofs.Marking.{marked_more, marked_put, marks_edited, marks_grown, marks_more}
+use Rattle.release_rows.proofs.Noting.{noted_more, noted_put, notes_edited, notes_grown, notes_more}
 use Rattle.release_rows.proofs.file_text.FileText.put_row.Goals as goal
 
 pub returns-in_err-gap-clause-answer : goal.returns-in_err-gap-clause-answer
@@ -51,12 +51,12 @@ lead_count-count-requires-clause-few c =
 pub invariant_of-self : goal.invariant_of-self
 invariant_of-self c =
     let inside = c.self.inside in
-    (rw c.in_err-entry.ensures.err c.self.invariant.0, λ e. absurd cc, rw c.in_err-entry.ensures.err (marks_more inside.file inside.text inside.groups c.store_row.new.groups inside.items c.store_row.ensures.grows c.self.invariant.2), rw c.in_err-entry.ensures.err c.self.invariant.3)
+    (rw c.in_err-entry.ensures.err c.self.invariant.0, λ e. absurd cc, rw c.in_err-entry.ensures.err (notes_more inside.file inside.text inside.seen_hashes c.store_row.new.seen_hashes inside.items c.store_row.ensures.grows c.self.invariant.2), rw c.in_err-entry.ensures.err c.self.invariant.3)
 
 pub invariant_of-self-in_err-put_in : goal.invariant_of-self-in_err-put_in
 invariant_of-self-in_err-put_in c =
     let inside = c.self.inside in
-    (rw (c.in_err-put_in.ensures.err, c.in_ok-entry.ensures.ok) (kept_grown inside.file inside.text c.args.bytes.now inside.added inside.items c.self.invariant.0), λ e. absurd cc, rw (c.in_err-put_in.ensures.err, c.in_ok-entry.ensures.ok) (marks_grown inside.file inside.text c.args.bytes.now inside.added inside.groups c.store_row.new.groups inside.items c.self.invariant.0 c.self.invariant.2 c.store_row.ensures.grows), rw (c.in_err-put_in.ensures.err, c.in_ok-entry.ensures.ok) (leads_grown inside.file inside.text c.args.bytes.now inside.added inside.items inside.leads c.self.invariant.0 c.self.invariant.3))
+    (rw (c.in_err-put_in.ensures.err, c.in_ok-entry.ensures.ok) (kept_grown inside.file inside.text c.args.bytes.now inside.added inside.items c.self.invariant.0), λ e. absurd cc, rw (c.in_err-put_in.ensures.err, c.in_ok-entry.ensures.ok) (notes_grown inside.file inside.text c.args.bytes.now inside.added inside.seen_hashes c.store_row.new.seen_hashes inside.items c.self.invariant.0 c.self.invariant.2 c.store_row.ensures.grows), rw (c.in_err-put_in.ensures.err, c.in_ok-entry.ensures.ok) (leads_grown inside.file inside.text c.args.bytes.now inside.added inside.items inside.leads c.self.invariant.0 c.self.invariant.3))
 
 pub returns-in_err-put_in-clause-now : goal.returns-in_err-put_in-clause-now
 returns-in_err-put_in-clause-now c =
@@ -84,8 +84,8 @@ invariant_of-self-2 c =
     let put = c.in_ok-put_in.ensures.ok inside.file c.store_row.new.text (place_in inside.file row items) found.2 in
     let kept : map (stored_at inside.file c.store_row.new.text) (next_in inside.items) ≡ items = rw c.in_ok-entry.ensures.ok (items_kept inside.file inside.text bytes (next_in inside.items) c.self.invariant.0.next) in
     let new : map (stored_at inside.file c.store_row.new.text) (next_in c.put_in.new.items) ≡ put_in items (place_in inside.file row items) (added_item row bytes) = put ∙ rw (kept, c.in_ok-entry.ensures.item) refl in
-    let marked = marked_put inside.file c.store_row.new.groups items (place_in inside.file row items) (added_item row bytes) (marked_more inside.file inside.groups c.store_row.new.groups items c.store_row.ensures.grows c.self.invariant.2.next) c.store_row.ensures.noted in
-    let all = subst (λ (t : List ℕ). AreMarked inside.file c.store_row.new.groups (map (stored_at inside.file t) (next_in c.put_in.new.items))) c.in_ok-entry.ensures.ok (rw new marked) in
+    let noted = noted_put inside.file c.store_row.new.seen_hashes items (place_in inside.file row items) (added_item row bytes) (noted_more inside.file inside.seen_hashes c.store_row.new.seen_hashes items c.store_row.ensures.grows c.self.invariant.2.next) c.store_row.ensures.noted in
+    let all = subst (λ (t : List ℕ). AreNoted inside.file c.store_row.new.seen_hashes (map (stored_at inside.file t) (next_in c.put_in.new.items))) c.in_ok-entry.ensures.ok (rw new noted) in
     let second : IsSoughtRow inside.file row c.store_row.new.text c.search_row-search-2.result = rw (← c.as_slice-2.ensures) c.search_row-search-2.ensures in
     let old : KeepLeads inside.file c.store_row.new.text items inside.leads = rw c.in_ok-entry.ensures.ok (leads_kept inside.file inside.text bytes items inside.leads c.self.invariant.3) in
     let content : content_at c.store_row.new.text c.in_ok-entry.entry.item ≡ bytes = ap (λ (item : FileItem). item.content) c.in_ok-entry.ensures.item in
@@ -94,8 +94,8 @@ invariant_of-self-2 c =
     let within = gap_within c.in_ok-gap.gap (place_in inside.file row items) inside.items.next found.2 in
     let long = length-map (next_in inside.items) (stored_at inside.file inside.text) in
     let leads = leads_of inside.file row c.store_row.new.text c.search_row-search-2.result items (map (stored_at inside.file c.store_row.new.text) (next_in c.put_in.new.items)) (added_item row bytes) c.lead_count-count.result c.in_ok-entry.entry.item inside.leads c.note.new.self second gives place (omega arith) old new refl c.note.ensures in
-    let marks = marks_edited inside.file inside.text bytes inside.added inside.groups c.store_row.new.groups inside.items c.put_in.new.items c.self.invariant.0 c.self.invariant.2 c.store_row.ensures.grows c.in_ok-put_in.ensures.now all in
-    (rw c.in_ok-entry.ensures.ok (kept_edited inside.file inside.text c.args.bytes.now inside.added c.in-Some.added inside.items c.put_in.new.items c.self.invariant.0 c.in_ok-put_in.ensures.now (subst (λ (t : List ℕ). All (IsStored inside.file t) (next_in c.put_in.new.items)) c.in_ok-entry.ensures.ok next) (omega arith) (omega arith) (omega arith)), λ e. absurd cc, rw c.in_ok-entry.ensures.ok marks, leads)
+    let hashes = notes_edited inside.file inside.text bytes inside.added inside.seen_hashes c.store_row.new.seen_hashes inside.items c.put_in.new.items c.self.invariant.0 c.self.invariant.2 c.store_row.ensures.grows c.in_ok-put_in.ensures.now all in
+    (rw c.in_ok-entry.ensures.ok (kept_edited inside.file inside.text c.args.bytes.now inside.added c.in-Some.added inside.items c.put_in.new.items c.self.invariant.0 c.in_ok-put_in.ensures.now (subst (λ (t : List ℕ). All (IsStored inside.file t) (next_in c.put_in.new.items)) c.in_ok-entry.ensures.ok next) (omega arith) (omega arith) (omega arith)), λ e. absurd cc, rw c.in_ok-entry.ensures.ok hashes, leads)
 
 pub returns-clause-now : goal.returns-clause-now
 returns-clause-now c =

@@ -5,7 +5,7 @@ use Rattle.part_list.specs.Parts.{now_in, next_in, place}
 use Rattle.part_list.specs.SpotLaws.{place-lt}
 use Rattle.release_rows.specs.FileItems.{FileLists}
 use Rattle.release_rows.specs.Finding.{items_of}
-use Rattle.release_rows.specs.Groups.{AreMarked, IsMarked}
+use Rattle.release_rows.specs.Noted.{AreNoted, ItemNoted}
 use Rattle.release_rows.specs.Keys.{same_key}
 use Rattle.release_rows.specs.Operations.{edited, item_of_row, row_spans, spans_of, spans_with}
 use Rattle.release_rows.specs.Releases.{AreKept}
@@ -15,7 +15,7 @@ use Rattle.release_rows.proofs.Arena.{items_kept}
 use Rattle.release_rows.proofs.Edited.{kept_grown, kept_replaced}
 use Rattle.release_rows.proofs.EntrySpans.{has_row}
 use Rattle.release_rows.proofs.FirstRows.{finds_spot, first_passes, first_spans, items_of_change, rule_of_change}
-use Rattle.release_rows.proofs.Marking.{marked_more, marked_set, marks_edited, marks_grown, marks_more}
+use Rattle.release_rows.proofs.Noting.{noted_more, noted_set, notes_edited, notes_grown, notes_more}
 use Rattle.release_rows.proofs.OneRow.{same_key_once}
 use Rattle.release_rows.proofs.file_text.FileText.replace_row.Goals as goal
 
@@ -29,12 +29,12 @@ returns-in_err-spot-clause-answer c =
 pub invariant_of-self : goal.invariant_of-self
 invariant_of-self c =
     let inside = c.self.inside in
-    (rw c.in_err-entry.ensures.err c.self.invariant.0, λ e. absurd cc, rw c.in_err-entry.ensures.err (marks_more inside.file inside.text inside.groups c.store_row.new.groups inside.items c.store_row.ensures.grows c.self.invariant.2), c.clear.ensures inside.file _ _)
+    (rw c.in_err-entry.ensures.err c.self.invariant.0, λ e. absurd cc, rw c.in_err-entry.ensures.err (notes_more inside.file inside.text inside.seen_hashes c.store_row.new.seen_hashes inside.items c.store_row.ensures.grows c.self.invariant.2), c.clear.ensures inside.file _ _)
 
 pub invariant_of-self-in_err-replace : goal.invariant_of-self-in_err-replace
 invariant_of-self-in_err-replace c =
     let inside = c.self.inside in
-    (rw (c.in_err-replace.ensures.err, c.in_ok-entry.ensures.ok) (kept_grown inside.file inside.text c.args.bytes.now inside.added inside.items c.self.invariant.0), λ e. absurd cc, rw (c.in_err-replace.ensures.err, c.in_ok-entry.ensures.ok) (marks_grown inside.file inside.text c.args.bytes.now inside.added inside.groups c.store_row.new.groups inside.items c.self.invariant.0 c.self.invariant.2 c.store_row.ensures.grows), c.clear.ensures inside.file _ _)
+    (rw (c.in_err-replace.ensures.err, c.in_ok-entry.ensures.ok) (kept_grown inside.file inside.text c.args.bytes.now inside.added inside.items c.self.invariant.0), λ e. absurd cc, rw (c.in_err-replace.ensures.err, c.in_ok-entry.ensures.ok) (notes_grown inside.file inside.text c.args.bytes.now inside.added inside.seen_hashes c.store_row.new.seen_hashes inside.items c.self.invariant.0 c.self.invariant.2 c.store_row.ensures.grows), c.clear.ensures inside.file _ _)
 
 pub returns-in_err-replace-clause-now : goal.returns-in_err-replace-clause-now
 returns-in_err-replace-clause-now c =
@@ -51,17 +51,17 @@ pub invariant_of-self-2 : goal.invariant_of-self-2
 invariant_of-self-2 c =
     let inside = c.self.inside in
     let stored : IsStored inside.file (inside.text ++ c.args.bytes.now) c.in_ok-entry.entry = subst (λ (t : List ℕ). IsStored inside.file t c.in_ok-entry.entry) c.in_ok-entry.ensures.ok c.in_ok-entry.ensures.stored in
-    let later = c.store_row.new.groups in
+    let later = c.store_row.new.seen_hashes in
     let old = c.get-old.result in
     let at = place inside.items.next c.in_ok-spot.spot in
     let st = stored_at inside.file c.store_row.new.text in
     let same : map st (next_in inside.items) ≡ items_of inside.file inside.text inside.items.next = rw c.in_ok-entry.ensures.ok (items_kept inside.file inside.text c.args.bytes.now (next_in inside.items) c.self.invariant.0.next) in
-    let before : AreMarked inside.file later (map st (next_in inside.items)) = rw same (marked_more inside.file inside.groups later _ c.store_row.ensures.grows c.self.invariant.2.next) in
-    let one : IsMarked inside.file later (st c.in_ok-entry.entry) = subst (IsMarked inside.file later) (sym c.in_ok-entry.ensures.item) c.store_row.ensures.noted in
+    let before : AreNoted inside.file later (map st (next_in inside.items)) = rw same (noted_more inside.file inside.seen_hashes later _ c.store_row.ensures.grows c.self.invariant.2.next) in
+    let one : ItemNoted inside.file later (st c.in_ok-entry.entry) = subst (ItemNoted inside.file later) (sym c.in_ok-entry.ensures.item) c.store_row.ensures.noted in
     let new : map st (next_in c.replace.new.self) ≡ set (map st (next_in inside.items)) at (st c.in_ok-entry.entry) = ap (map st) c.in_ok-replace.ensures.ok ∙ map-set st (next_in inside.items) at c.in_ok-entry.entry in
-    let all = subst (λ (t : List ℕ). AreMarked inside.file later (map (stored_at inside.file t) (next_in c.replace.new.self))) c.in_ok-entry.ensures.ok (rw new (marked_set inside.file later (map st (next_in inside.items)) at (st c.in_ok-entry.entry) before one)) in
-    let marks = marks_edited inside.file inside.text c.args.bytes.now inside.added inside.groups later inside.items c.replace.new.self c.self.invariant.0 c.self.invariant.2 c.store_row.ensures.grows c.in_ok-replace.ensures.now all in
-    (rw c.in_ok-entry.ensures.ok (kept_replaced inside.file inside.text c.args.bytes.now inside.added (place inside.items.next c.in_ok-spot.spot) c.in_ok-entry.entry inside.items c.replace.new.self c.self.invariant.0 c.in_ok-replace.ensures.now c.in_ok-replace.ensures.ok stored), λ e. absurd cc, rw c.in_ok-entry.ensures.ok marks, c.clear.ensures inside.file _ _)
+    let all = subst (λ (t : List ℕ). AreNoted inside.file later (map (stored_at inside.file t) (next_in c.replace.new.self))) c.in_ok-entry.ensures.ok (rw new (noted_set inside.file later (map st (next_in inside.items)) at (st c.in_ok-entry.entry) before one)) in
+    let hashes = notes_edited inside.file inside.text c.args.bytes.now inside.added inside.seen_hashes later inside.items c.replace.new.self c.self.invariant.0 c.self.invariant.2 c.store_row.ensures.grows c.in_ok-replace.ensures.now all in
+    (rw c.in_ok-entry.ensures.ok (kept_replaced inside.file inside.text c.args.bytes.now inside.added (place inside.items.next c.in_ok-spot.spot) c.in_ok-entry.entry inside.items c.replace.new.self c.self.invariant.0 c.in_ok-replace.ensures.now c.in_ok-replace.ensures.ok stored), λ e. absurd cc, rw c.in_ok-entry.ensures.ok hashes, c.clear.ensures inside.file _ _)
 
 pub returns-clause-now : goal.returns-clause-now
 returns-clause-now c =

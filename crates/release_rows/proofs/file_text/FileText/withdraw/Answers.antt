@@ -12,7 +12,7 @@ use Rattle.release_rows.specs.declared.operation.Op.TheVariants.{Withdraw}
 use Rattle.release_rows.proofs.Edited.{kept_without, map_remove}
 use Rattle.release_rows.proofs.EntrySpans.{has_row}
 use Rattle.release_rows.proofs.FirstRows.{first_passes, first_spans, items_of_withdrawal, rule_of_withdrawal}
-use Rattle.release_rows.proofs.Marking.{marks_without}
+use Rattle.release_rows.proofs.Noting.{notes_without}
 use Rattle.release_rows.proofs.OneRow.{has_key_once}
 use Rattle.release_rows.proofs.file_text.FileText.withdraw.Goals as goal
 
@@ -28,7 +28,7 @@ invariant_of-self-2 c =
     let inside = c.self.inside in (
       kept_without inside.file inside.text inside.added (place inside.items.next c.in_ok-spot.spot) inside.items c.remove.new.self c.self.invariant.0 c.in_ok-remove.ensures.now c.in_ok-remove.ensures.ok,
       λ e. absurd cc,
-      marks_without inside.file inside.text inside.groups (place inside.items.next c.in_ok-spot.spot) inside.items c.remove.new.self c.self.invariant.2 c.in_ok-remove.ensures.now c.in_ok-remove.ensures.ok,
+      notes_without inside.file inside.text inside.seen_hashes (place inside.items.next c.in_ok-spot.spot) inside.items c.remove.new.self c.self.invariant.2 c.in_ok-remove.ensures.now c.in_ok-remove.ensures.ok,
       c.clear.ensures inside.file _ _,
     )
 

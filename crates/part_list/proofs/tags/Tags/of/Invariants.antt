@@ -1,7 +1,0 @@
-use Rattle.part_list.specs.Tags.{IsKnown}
-use Rattle.part_list.proofs.GatherLemmas.{AllShown}
-use Rattle.part_list.proofs.tags.Tags.of.Given as goal
-
--- the tags of the entries of the parts so far are known
-abbrev pub invariant-parts : goal.invariant-parts
-invariant-parts g l = AllShown (IsKnown l.tags) l.parts l.part-index

@@ -1,9 +1,0 @@
-use Rattle.release_rows.proofs.groups.note_group.Goals as goal
-
-pub returns-then-not-are_unknown-clause-noted : goal.returns-then-not-are_unknown-clause-noted
-returns-then-not-are_unknown-clause-noted c row is code =
-    let law = c.contents_have_keys.ensures c.args.file c.args.content.now row is in
-    record {
-      group = c.put-then-not-are_unknown.ensures.grows _ (rw (law.group, ← c.content_group.ensures, ← c.group_mark.ensures) c.put.ensures.put);
-      key = rw (← code, law.names, ← c.content_mark.ensures) c.put-then-not-are_unknown.ensures.put;
-    }

@@ -1,5 +1,0 @@
-use Rattle.std.proofs.Common.{[], refl, ◌∙◌}
-use Rattle.release_rows.proofs.mark.content_mark.Goals as goal
-
-pub returns-in-PropList : goal.returns-in-PropList
-returns-in-PropList c = c.with_name.ensures [] ∙ rw (c.content_group.ensures, c.in-PropList.is) refl

@@ -1,6 +1,7 @@
 use Rattle.std.proofs.Common.{ap, ◌∙◌}
-use Rattle.code_facts.specs.CaseImages.{cases_at, with_image}
-use Rattle.code_facts.specs.declared.cases.Cases.{Cases}
+use Rattle.fact_tables.specs.CaseImages.{cases_at}
+use Rattle.code_facts.specs.CaseImages.{with_image}
+use Rattle.fact_tables.specs.declared.cases.Cases.{Cases}
 use Rattle.code_facts.proofs.CaseLemmas.{one_more}
 use Rattle.code_facts.proofs.case_rows.put_image.Goals as goal
 

@@ -21,7 +21,7 @@ use crate::apply_stop::ApplyStop;
 use crate::first_points::derive_all;
 use crate::open_stop::OpenStop;
 use crate::questions::Questions;
-use code_facts::FactTables;
+use code_facts::{FactTables, FromRelease};
 use paged_table::PagedTable;
 use record_table::RecordTable;
 use record_turns::turn;

@@ -6,7 +6,7 @@ ghost use Rattle.ucd_facts.specs.Facts.{within};
 ghost use Rattle.range_table.specs.RunTable.{values_now};
 ghost use Rattle.fact_tables.specs.FactTables.{tables_facts, tables_next};
 
-use code_facts::FactTables;
+use code_facts::{FactTables, FromRelease};
 use range_table::RunTable;
 use release_rows::Release;
 use std::alloc::Global;

@@ -177,14 +177,3 @@ fn next_listed(keys: &KeySet, base: u64, from: u32) -> Option<Point>
         None
     }
 }
-
-/// The least second member at or above a code point; `None` if there is none.
-pub fn next_second(keys: &KeySet, c: Point) -> Option<u64>
-    ensures { MatchOption result ((y k : ℕ) → c ≤ y → k < 1114112
-        → has keys.now (second_key y + k) ≡ false)
-        (λ next. (c ≤ next) × ((y k : ℕ) → c ≤ y → y < next → k < 1114112
-        → has keys.now (second_key y + k) ≡ false)) }
-{
-    let key = keys.next(second_key(c))?;
-    Some(key / 2_097_152)
-}

@@ -7,7 +7,7 @@ ghost use Rattle.fact_tables.specs.FactTables.{tables_facts};
 ghost use Rattle.ucd_points.specs.Stretches.{HoldsTo};
 
 use crate::fact_tables::FactTables;
-use crate::pair_index::next_second;
+use crate::pair_keys::second_key;
 use crate::points::{lesser, point};
 use range_table::Stretches;
 use ucd_facts::{FactView, Point};
@@ -49,9 +49,11 @@ impl<T: Stretches<u64>> FactTables<T> {
             ≡ second_of (tables_facts T.now self.now) c) c result }
     {
         let first = u64::from(c.number());
-        let Some(next) = next_second(&self.index.seconds, c) else {
+        let Some(key) = self.index.seconds.next(second_key(c)) else {
             return point(Point::COUNT - 1);
         };
+        // the bits of the second member
+        let next = key / 2_097_152;
         if first < next && next < 1_114_112 {
             point(next as u32 - 1)
         } else {

@@ -1,4 +1,4 @@
-use Rattle.std.proofs.Common.{◌≡◌, ap, sym, ◌∙◌, arith}
+use Rattle.std.proofs.Common.{ap, sym, ◌∙◌, arith}
 use Rattle.ucd_facts.specs.Unmapped.{is_unmapped}
 use Rattle.fact_tables.specs.FactTables.{words_at, rests_at}
 use Rattle.fact_tables.proofs.PlainLemmas.{bare_unmapped}

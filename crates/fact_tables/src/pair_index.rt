@@ -1,6 +1,6 @@
 //! The index of the code points that may compose the two members of their mapping.
 
-ghost use Rattle.std.specs.Prelude.{◌≡◌, ℕ, ◌+◌, ◌%◌, ◌<◌, ◌≤◌, ◌==◌, true, false, IfOk, OnOk, MatchOption};
+ghost use Rattle.std.specs.Prelude.{◌≡◌, ℕ, ◌+◌, ◌%◌, ◌<◌, ◌≤◌, ◌==◌, true, IfOk, OnOk, MatchOption};
 ghost use Rattle.number_sets.specs.Keys.{has, is_in, IsNext};
 ghost use Rattle.fact_tables.specs.Index.{pair_key, first_key, second_key, is_listed, is_gathered, IsNextBelow};
 

@@ -2,7 +2,7 @@
 
 ghost use Rattle.std.specs.Prelude.{◌≡◌};
 
-use code_facts::FactTables;
+use code_facts::{FactTables, FromRelease};
 use point_queries::{Derived, derive_point};
 use range_table::RunTable;
 use release_rows::Release;

@@ -11,7 +11,7 @@ use Rattle.code_facts.specs.Found.{first_some, passes, image_in, image_by, image
 use Rattle.code_facts.specs.CaseImages.{all_images, with_casings, with_foldings, with_image}
 use Rattle.code_facts.specs.declared.case.Case.{Case}
 use Rattle.code_facts.specs.declared.case.Case.TheVariants.{Fold, Lower, Title, Upper}
-use Rattle.code_facts.specs.declared.cases.Cases.{Cases}
+use Rattle.fact_tables.specs.declared.cases.Cases.{Cases}
 use Rattle.ucd_facts.specs.declared.row.FoldStatus.TheVariants as status
 
 some_first : (a b : Option (List ℕ)) → is_some a ≡ true → first_some a b ≡ a

@@ -1,78 +1,28 @@
 -- What words and rests keep is what the definition gives.
-use Rattle.std.proofs.Common.{◌≡◌, ℕ, ◌+◌, ◌<◌, ◌≤◌, [], ◌∷◌, Option, Some, None, is_some, unwrap_or, refl, sym, ap, ap₂, subst, ◌∙◌, arith, inl, inr}
+use Rattle.std.proofs.Common.{◌≡◌, ℕ, ◌+◌, ◌<◌, [], ◌∷◌, Option, Some, None, is_some, unwrap_or, refl, sym, ap, ◌∙◌, arith}
 use mathlib.Core.Path.{fun_ext}
 use Rattle.std.specs.Option.{option_map, option_to_list}
-use Rattle.std.proofs.lemmas.Bool.{cases_lt, lt-ltb, le-ltb}
-use Rattle.ucd_points.specs.Limits.{point_count}
 use Rattle.ucd_facts.specs.Sets.{has_flag}
-use Rattle.ucd_facts.specs.Facts.{Sources, Facts, facts, given, unassigned, data_row, class_in, category_in, kind_in, upper_in, lower_in, title_in, only_or, image, casing_row, full_upper, full_lower, full_title, full_folding, simple_folding, folding}
+use Rattle.ucd_facts.specs.Facts.{Sources, facts, given, data_row, class_in, category_in, kind_in, upper_in, lower_in, title_in, only_or, image, casing_row, full_upper, full_lower, full_title, full_folding, simple_folding, folding}
 use Rattle.ucd_facts.specs.FactsLemmas.{facts_outside}
 use Rattle.ucd_facts.specs.declared.row.DataRow.{DataRow}
 use Rattle.ucd_facts.specs.declared.row.CasingRow.{CasingRow}
 use Rattle.ucd_facts.specs.declared.row.FoldStatus.TheVariants as status
 use Rattle.ucd_points.specs.declared.files.SourceFile.TheVariants.{UnicodeData, CaseFolding, SpecialCasing, PropList, WordBreakProperty, CompositionExclusions}
-use Rattle.range_table.specs.Values.{SameValues}
-use Rattle.code_facts.specs.Word.{packed, assigned_of_word, excluded_of_word, mid_word_of_word, category_of_word, class_of_word, kind_of_word, flags_of_word, ReadsBack}
+use Rattle.fact_tables.specs.Word.{packed, assigned_of_word, excluded_of_word, mid_word_of_word, category_of_word, class_of_word, kind_of_word, flags_of_word, ReadsBack}
 use Rattle.code_facts.specs.Rows.{PointData, row_data, upper_list, lower_list, title_list}
 use Rattle.code_facts.specs.Marks.{marks_at}
-use Rattle.code_facts.specs.PointLists.{lists_now}
+use Rattle.fact_tables.specs.PointLists.{lists_now}
 use Rattle.code_facts.specs.CaseImages.{KeepsImages}
-use Rattle.code_facts.specs.declared.cases.Cases.{Cases}
-use Rattle.code_facts.specs.Rest.{RestOf}
-use Rattle.code_facts.specs.RowTables.{word_in, rest_in, first_alone, ShowsRows}
-use Rattle.code_facts.specs.KeptFacts.{full_image, kept_at, all_kept}
-use Rattle.code_facts.specs.declared.row_tables.RowTables.{RowTables}
-use Rattle.code_facts.proofs.WordLemmas.{reads_back, one_small, category_small, kind_small}
+use Rattle.fact_tables.specs.declared.cases.Cases.{Cases}
+use Rattle.fact_tables.specs.Rest.{RestOf}
+use Rattle.fact_tables.specs.RowTables.{word_in, rest_in, first_alone}
+use Rattle.code_facts.specs.RowTables.{ShowsRows}
+use Rattle.fact_tables.specs.KeptFacts.{full_image, kept_at, all_kept}
+use Rattle.fact_tables.specs.KeptFactsLemmas.{kept_from_points, kept_point}
+use Rattle.fact_tables.specs.declared.row_tables.RowTables.{RowTables}
+use Rattle.fact_tables.specs.WordLemmas.{reads_back, one_small, category_small, kind_small}
 use Rattle.code_facts.proofs.MarkLemmas.{marks_are}
-
-pub kept_inside : (words : ℕ → ℕ) (rests : ℕ → RestOf) (c : ℕ) → c < point_count → all_kept words rests c ≡ kept_at c (words c) (rests c)
-unfolding all_kept
-kept_inside words rests c lt = rw (lt-ltb c point_count lt) refl
-
-pub kept_outside : (words : ℕ → ℕ) (rests : ℕ → RestOf) (c : ℕ) → point_count ≤ c → all_kept words rests c ≡ unassigned c
-unfolding all_kept
-kept_outside words rests c le = rw (le-ltb c point_count le) refl
-
-pub point_below : (c : ℕ) → c < 1114112 → c < point_count
-unfolding point_count
-point_below c lt = lt
-
-pub below_point : (c : ℕ) → c < point_count → c < 1114112
-unfolding point_count
-below_point c lt = lt
-
-pub kept_point : (words : ℕ → ℕ) (rests : ℕ → RestOf) (c : ℕ) → c < 1114112 → all_kept words rests c ≡ kept_at c (words c) (rests c)
-kept_point words rests c lt = kept_inside words rests c (point_below c lt)
-
--- what a word says is what is kept
-word_back : (c word : ℕ) (rest : RestOf) → ReadsBack word (kept_at c word rest)
-word_back c word rest = record {
-  assigned = refl;
-  excluded = refl;
-  mid_word = refl;
-  category = refl;
-  class = refl;
-  kind = refl;
-  flag = λ f. refl;
-}
-
-pub word_reads : (words : ℕ → ℕ) (rests : ℕ → RestOf) (c : ℕ) → c < 1114112 → ReadsBack (words c) (all_kept words rests c)
-word_reads words rests c lt = subst (ReadsBack (words c)) (sym (kept_point words rests c lt)) (word_back c (words c) (rests c))
-
--- facts that are kept are those of a function that agrees at each code point
-pub kept_from_points : (words : ℕ → ℕ) (rests : ℕ → RestOf) (F : ℕ → Facts) → ((c : ℕ) → c < 1114112 → kept_at c (words c) (rests c) ≡ F c) → ((c : ℕ) → point_count ≤ c → F c ≡ unassigned c) → all_kept words rests ≡ F
-kept_from_points words rests F inside outside =
-    fun_ext (λ c. elim (cases_lt c point_count) [
-      | inl lt ↦ kept_inside words rests c lt ∙ inside c (below_point c lt)
-      | inr le ↦ kept_outside words rests c le ∙ sym (outside c le)
-    ])
-
--- the same words and rests keep the same facts
-pub same_kept : (words words' : ℕ → ℕ) (rests rests' : ℕ → RestOf) → SameValues words words' → SameValues rests rests' → all_kept words rests ≡ all_kept words' rests'
-same_kept words words' rests rests' same alike =
-    kept_from_points words rests (all_kept words' rests')
-    (λ c lt. ap₂ (kept_at c) (same c lt) (alike c lt) ∙ sym (kept_point words' rests' c lt))
-    (kept_outside words' rests')
 
 -- facts that are kept agree with those of rows where they do at each code point
 pub facts_from_points : (words : ℕ → ℕ) (rests : ℕ → RestOf) (rows : Sources) → ((c : ℕ) → c < 1114112 → all_kept words rests c ≡ facts rows c) → all_kept words rests ≡ facts rows

@@ -14,7 +14,7 @@ use Rattle.ucd_facts.specs.declared.property.Flag.TheVariants.{WhiteSpace}
 use Rattle.ucd_points.specs.declared.files.SourceFile.TheVariants.{PropList, WordBreakProperty, CompositionExclusions}
 use Rattle.ucd_points.specs.Bounds.{Bounds}
 use Rattle.code_facts.specs.MarkRows.{IsMarked}
-use Rattle.code_facts.specs.Word.{one_if, mark_part}
+use Rattle.fact_tables.specs.Word.{one_if, mark_part}
 use Rattle.code_facts.specs.Marks.{word_of, mark_bit, marks_before, marks_at, all_marks, holds, file_of}
 use Rattle.code_facts.specs.declared.mark.Mark.{Mark}
 use Rattle.code_facts.specs.declared.mark.Mark.TheVariants.{Excluded, MidWord, Flagged}

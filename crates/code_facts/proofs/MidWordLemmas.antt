@@ -10,7 +10,7 @@ use Rattle.ucd_facts.specs.declared.row.Row.{Row}
 use Rattle.ucd_facts.specs.declared.row.Row.TheVariants.{Unit as DataLine, Value as ValueLine, Exclusion as ExclusionLine, Fold as FoldLine, Casing as CasingLine, Alias as AliasLine, Missing as MissingLine}
 use Rattle.release_rows.specs.ValuesApart.{AreApart}
 use Rattle.code_facts.specs.MidWords.{gives_mid_word, is_missing_row_of_mid_word, layer_over, missing_layer}
-use Rattle.code_facts.specs.Word.{one_if}
+use Rattle.fact_tables.specs.Word.{one_if}
 
 -- ---- where no missing row has such a value
 

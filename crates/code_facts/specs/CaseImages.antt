@@ -1,40 +1,20 @@
 -- The images of all cases that rows give.
 --
--- cases_at images c           the images of c; none where nothing is kept of c
--- cases_from foldings casings   the foldings of the one, and the casings of the other
 -- with_image case cases image   the cases with this image of the case, unless they have one; of status T nothing is kept
 -- with_foldings c row cases   the cases with the foldings besides that a row gives c; with_casings: with the casings
 -- all_images foldings casings c   the foldings of c by these rows, and its casings by those
 -- KeepsImages images rows     the images are those that the rows give
 use Rattle.std.specs.Prelude.{◌≡◌, ℕ, List, Option}
-use Rattle.std.specs.BTreeMap.{BTreeMap, get}
-use Rattle.std.specs.Box.{box_value}
-use Rattle.std.specs.Global.{Box}
-use Rattle.std.specs.Option.{option_map}
-use Rattle.std.specs.Ordering.{nat_cmp}
 use Rattle.ucd_facts.specs.Facts.{Sources}
 use Rattle.ucd_points.specs.declared.files.SourceFile.TheVariants.{CaseFolding, SpecialCasing}
 use Rattle.ucd_facts.specs.declared.row.FoldStatus.TheVariants as status
 use Rattle.ucd_facts.specs.declared.row.Row.{Row}
+use Rattle.fact_tables.specs.CaseImages.{cases_at}
+use Rattle.fact_tables.specs.declared.case_images.CaseImages.{CaseImages}
+use Rattle.fact_tables.specs.declared.cases.Cases.{Cases}
 use Rattle.code_facts.specs.Found.{first_some, image_by, image_of_row}
-use Rattle.code_facts.specs.Rest.{cases_of}
 use Rattle.code_facts.specs.declared.case.Case.{Case}
 use Rattle.code_facts.specs.declared.case.Case.TheVariants.{Fold, Lower, Title, Upper}
-use Rattle.code_facts.specs.declared.case_images.CaseImages.{CaseImages}
-use Rattle.code_facts.specs.declared.cases.Cases.{Cases}
-
-abbrev pub cases_at : BTreeMap ℕ (Box Cases) → ℕ → Cases
-cases_at images c = cases_of (option_map box_value (get nat_cmp images c))
-
-abbrev pub cases_from : Cases → Cases → Cases
-cases_from foldings casings = record {
-  common = foldings.common;
-  full = foldings.full;
-  simple = foldings.simple;
-  lower = casings.lower;
-  title = casings.title;
-  upper = casings.upper;
-}
 
 abbrev pub with_image : Case → Cases → Option (List ℕ) → Cases
 with_image (Fold status.C) cases image = record { common = first_some cases.common image; full = cases.full; simple = cases.simple; lower = cases.lower; title = cases.title; upper = cases.upper }

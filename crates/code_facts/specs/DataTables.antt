@@ -2,7 +2,6 @@
 --
 -- data_now t c             what the tables keep for c
 -- data_next given c        what was given to c so far
--- HasNoneNext l c               each list of c is empty next
 -- AreEmpty lists span           the lists of the points of the span are empty
 -- given_row given          a row with the code points and the values that are given, and nothing else
 -- IsFresh row old               the points of a row of UnicodeData.txt were given nothing; so it is of a row of another file
@@ -17,10 +16,9 @@ use Rattle.ucd_facts.specs.declared.row.Row.{Row}
 use Rattle.ucd_facts.specs.declared.row.Row.TheVariants.{Unit as DataLine}
 use Rattle.source_rows.specs.declared.point_values.PointValues.{PointValues}
 use Rattle.range_table.specs.RunTable.{values_now}
-use Rattle.code_facts.specs.WordRuns.{words_next}
+use Rattle.fact_tables.specs.WordRuns.{words_next}
 use Rattle.code_facts.specs.Rows.{PointData, row_data}
-use Rattle.code_facts.specs.PointLists.{lists_now, lists_next}
-use Rattle.code_facts.specs.declared.data_lists.DataLists.{DataLists}
+use Rattle.fact_tables.specs.PointLists.{lists_now, lists_next}
 use Rattle.code_facts.specs.declared.data_tables.DataRuns.{DataRuns}
 use Rattle.code_facts.specs.declared.data_tables.DataTables.{DataTables}
 
@@ -41,12 +39,6 @@ data_next given c = record {
   lower = lists_next given.lists.value.lowers c;
   title = lists_next given.lists.value.titles c;
 }
-
-pub record HasNoneNext (l : DataLists) (c : ℕ) : Type 0 where
-  pub mapping : lists_next l.mappings c ≡ []
-  pub upper : lists_next l.uppers c ≡ []
-  pub lower : lists_next l.lowers c ≡ []
-  pub title : lists_next l.titles c ≡ []
 
 abbrev pub AreEmpty : (ℕ → List ℕ) → Bounds → Type 0
 AreEmpty lists span = (c : ℕ) → c < 1114112 → within c span ≡ true → lists c ≡ []

@@ -1,7 +1,3 @@
-pub mod Word
-pub mod WordRuns
-pub mod Lists
-pub mod PointLists
 pub mod Rows
 pub mod RowLists
 pub mod Locality
@@ -12,16 +8,4 @@ pub mod Marks
 pub mod MarkRows
 pub mod Found
 pub mod CaseImages
-pub mod GivenPoints
-pub mod Rest
-pub mod RestForm
-pub mod KeptFacts
 pub mod RowTables
-pub mod Index
-pub mod Copying
-pub mod Changes
-pub mod FactTables
-pub mod NowView
-pub mod NextView
-pub mod Plain
-pub mod JoinedSpans

@@ -17,7 +17,7 @@ use Rattle.ucd_facts.specs.Values.{mid_word_at}
 use Rattle.ucd_points.specs.declared.files.SourceFile.{SourceFile}
 use Rattle.ucd_points.specs.declared.files.SourceFile.TheVariants.{PropList, WordBreakProperty, CompositionExclusions}
 use Rattle.ucd_facts.specs.declared.row.Row.{Row}
-use Rattle.code_facts.specs.Word.{one_if}
+use Rattle.fact_tables.specs.Word.{one_if}
 use Rattle.code_facts.specs.declared.mark.Mark.{Mark}
 use Rattle.code_facts.specs.declared.mark.Mark.TheVariants.{Excluded, MidWord, Flagged}
 

@@ -13,7 +13,7 @@ use Rattle.ucd_facts.specs.declared.row.ValueRow.{ValueRow}
 use Rattle.ucd_facts.specs.declared.row.Row.TheVariants.{Value as ValueLine, Missing as MissingLine}
 use Rattle.layered_table.specs.Layers.{covered}
 use Rattle.layered_table.specs.declared.painting.Layer.{Layer}
-use Rattle.code_facts.specs.Word.{one_if}
+use Rattle.fact_tables.specs.Word.{one_if}
 
 abbrev pub gives_mid_word : ℕ → Row → Bool
 gives_mid_word c (ValueLine row) = is_mid_word row.value && within c row.span

@@ -12,7 +12,7 @@ use Rattle.std.specs.Option.{option_to_list}
 use Rattle.ucd_facts.specs.Facts.{is_data_of, category_in, class_in, kind_in, mapping_in}
 use Rattle.ucd_facts.specs.declared.row.Row.{Row}
 use Rattle.ucd_facts.specs.declared.row.DataRow.{DataRow}
-use Rattle.code_facts.specs.Word.{data_part}
+use Rattle.fact_tables.specs.Word.{data_part}
 
 abbrev pub Apart : List Row → Type 0
 Apart rows = (i c : ℕ) (other : Row) → i < length rows → is_data_of c (slice_index_or rows i other) ≡ true → find (is_data_of c) (take i rows) ≡ None

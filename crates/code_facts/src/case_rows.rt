@@ -3,27 +3,37 @@
 ghost use Rattle.std.specs.Prelude.{◌≡◌, ℕ, ◌==◌, None, Some, List, [], false, IfOk, OnOk, if◌then◌else◌};
 ghost use Rattle.std.specs.Box.{box_value};
 ghost use Rattle.source_rows.specs.RowRefs.{row_in};
-ghost use Rattle.code_facts.specs.CaseImages.{all_images, cases_at, with_casings, with_foldings, with_image};
-ghost use Rattle.code_facts.specs.Found.{image_of_row};
+ghost use Rattle.fact_tables.specs.CaseImages.{cases_at};
+ghost use Rattle.code_facts.specs.CaseImages.{KeepsImages, all_images, with_casings, with_foldings, with_image};
+ghost use Rattle.code_facts.specs.Found.{first_some, image_of_row};
+ghost use Rattle.code_facts.specs.RowLists.{sources_of};
 ghost use Rattle.ucd_facts.specs.declared.row.Row.{Row};
 
 use crate::case::Case;
-use crate::cases::Cases;
-use crate::given_points::GivenPoints;
+use crate::row_lists::RowLists;
+use fact_tables::{CaseImages, Cases, GivenPoints};
 use release_rows::RowText;
 use source_rows::{Mapping, RowRef};
 use std::alloc::Global;
 use std::collections::BTreeMap;
 use ucd_facts::{FoldStatus, Memory, Point};
 
+/// The images that these rows give. The Unicode Standard, section 5.18.
+///
+/// - `Memory`: memory ran out.
+pub fn case_images(alloc: Global, rows: &RowLists<'_>) -> Result<CaseImages, Memory>
+    ensures { IfOk result (λ images. KeepsImages images (sources_of rows.now)) }
+{
+    let foldings = foldings_of(alloc, &rows.case_folding)?;
+    let images = casings_over(alloc, foldings, &rows.special_casing)?;
+    Ok(CaseImages { images })
+}
+
 /// The foldings of the statuses C, F and S that rows give. If several rows give a code point one, the first counts. Each
 /// row is read once.
 ///
 /// - `Memory`: memory ran out.
-pub fn foldings_of(
-    alloc: Global,
-    rows: &[RowText<'_>],
-) -> Result<BTreeMap<Point, Box<Cases>>, Memory>
+fn foldings_of(alloc: Global, rows: &[RowText<'_>]) -> Result<BTreeMap<Point, Box<Cases>>, Memory>
     ensures { IfOk result (λ images. (c : ℕ) → cases_at images c ≡ all_images rows.now [] c) }
 {
     let mut images = BTreeMap::new(alloc);
@@ -36,7 +46,7 @@ pub fn foldings_of(
 /// These foldings, and beside them the casings without conditions that rows give, likewise.
 ///
 /// - `Memory`: memory ran out.
-pub fn casings_over(
+fn casings_over(
     alloc: Global,
     foldings: BTreeMap<Point, Box<Cases>>,
     rows: &[RowText<'_>],
@@ -110,8 +120,18 @@ fn put_copy(
         ≡ with_image case (cases_at images.old c)
         (if code == c then Some mapping.entry else None)) }
 {
-    let image = GivenPoints::of_mapping(alloc, mapping)?;
+    let image = points_of(alloc, mapping)?;
     put_image(alloc, images, code, case, image)
+}
+
+/// Copies of the points of a mapping.
+///
+/// - `Memory`: memory ran out.
+fn points_of(alloc: Global, mapping: Mapping<'_>) -> Result<GivenPoints, Memory>
+    ensures { IfOk result (λ given. given ≡ Some mapping.entry) }
+{
+    let points = mapping.copied(alloc)?;
+    GivenPoints::of(alloc, points.as_slice())
 }
 
 /// Gives a code point an image, unless it has one of this case.
@@ -127,9 +147,33 @@ fn put_image(
         ≡ with_image case (cases_at images.old c) (if code == c then image else None)) }
 {
     let mut cases = taken(alloc, images, code)?;
-    cases.put(case, image);
+    put(&mut cases, case, image);
     set(images, code, cases)?;
     Ok(())
+}
+
+/// Puts an image in the place of its case, unless there is one. The foldings of status T have no place.
+fn put(cases: &mut Cases, case: Case, image: GivenPoints)
+    ensures { cases.new ≡ with_image case cases.old image }
+{
+    match case {
+        Case::Fold(FoldStatus::C) => put_points(&mut cases.common, image),
+        Case::Fold(FoldStatus::F) => put_points(&mut cases.full, image),
+        Case::Fold(FoldStatus::S) => put_points(&mut cases.simple, image),
+        Case::Fold(FoldStatus::T) => {}
+        Case::Lower => put_points(&mut cases.lower, image),
+        Case::Title => put_points(&mut cases.title, image),
+        Case::Upper => put_points(&mut cases.upper, image),
+    }
+}
+
+/// Puts points in a place, unless some are given there.
+fn put_points(place: &mut GivenPoints, points: GivenPoints)
+    ensures { place.new ≡ first_some place.old points }
+{
+    if place.points().is_none() {
+        *place = points;
+    }
 }
 
 /// Takes the images of a code point out.

@@ -3,25 +3,22 @@
 ghost use Rattle.std.specs.Prelude.{◌≡◌, ℕ, ◌<◌, true, Some, None, IfOk, OnOk, if◌then◌else◌};
 ghost use Rattle.std.specs.Option.{option_to_list};
 ghost use Rattle.range_table.specs.Values.{SameValues, with_span};
-ghost use Rattle.code_facts.specs.WordRuns.{words_next};
+ghost use Rattle.fact_tables.specs.Word.{data_part};
+ghost use Rattle.fact_tables.specs.WordRuns.{words_next};
 ghost use Rattle.ucd_facts.specs.Facts.{within, mapping_in, data_row, class_in, is_hangul_syllable, hangul_mapping};
 ghost use Rattle.ucd_points.specs.declared.files.SourceFile.TheVariants.{UnicodeData};
 ghost use Rattle.ucd_facts.specs.declared.row.Row.TheVariants.{Unit as DataLine};
 ghost use Rattle.code_facts.specs.RowLists.{sources_of};
 ghost use Rattle.code_facts.specs.Rows.{row_data, Apart};
 ghost use Rattle.code_facts.specs.DataTables.{Adds, AreEmpty, IsFresh, data_now, data_next, given_row};
-ghost use Rattle.code_facts.specs.PointLists.{lists_now, lists_next};
+ghost use Rattle.fact_tables.specs.PointLists.{lists_now, lists_next};
 
-use crate::data_lists::DataLists;
 use crate::hangul::{hangul_mapping, syllables};
-use crate::point_lists::PointLists;
-use crate::points::point;
 use crate::row_lists::RowLists;
-use crate::word::{NO_ROW, data_word};
-use crate::word_runs::WordRuns;
+use fact_tables::{DataLists, NO_ROW, PointLists, WordRuns, point};
 use range_table::RunTable;
 use release_rows::RowText;
-use source_rows::{Mapping, PointValues};
+use source_rows::{Mapping, PointValues, Values};
 use std::alloc::Global;
 use ucd_facts::{Kind, Memory, Point, Span};
 
@@ -161,6 +158,15 @@ fn add_word(words: &mut WordRuns, row: &PointValues<'_>) -> Result<(), Memory>
         words.put(part, data_word(&row.values, Kind::Canonical))?;
     }
     Ok(())
+}
+
+/// The part of the word that a row of UnicodeData.txt gives with these values and a mapping of this kind.
+fn data_word(values: &Values<'_>, kind: Kind) -> u64
+    ensures value { result ≡ data_part true values.now.category values.now.class kind }
+    ensures class { values.now.class < 256 }
+{
+    let class = values.class;
+    1 + 8 * values.category.place() as u64 + 256 * u64::from(class) + 65_536 * kind.place() as u64
 }
 
 /// Gives the points of a row its mapping, or that of a Hangul syllable. They have none yet.

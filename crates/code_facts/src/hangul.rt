@@ -3,7 +3,7 @@
 ghost use Rattle.std.specs.Prelude.{◌≡◌, ◌<◌, ◌≤◌, ℕ, true, false, ◌&&◌, MatchOption};
 ghost use Rattle.ucd_facts.specs.Facts.{within, is_hangul_syllable, hangul_mapping};
 
-use crate::points::point;
+use fact_tables::point;
 use ucd_facts::{Point, Span};
 
 const S_BASE: u32 = 0xAC00;

@@ -1,54 +1,20 @@
-//! The facts of all code points, packed into tables that are looked up.
+//! The facts of all code points that the rows of a release give, in tables that are looked up.
 #![tactic(auto)]
 
 mod case;
-mod case_images;
 mod case_rows;
-mod cases;
-mod changes;
-mod composing;
-mod copying;
-mod data_lists;
 mod data_tables;
-mod fact_tables;
-mod given_points;
+mod from_release;
 mod giving_files;
 mod hangul;
-mod images;
-mod joined_spans;
 pub mod laws;
-mod list_calls;
-mod list_run;
-mod mappings;
 mod mark;
 mod mark_rows;
 mod marks;
 mod mid_words;
-mod next_view;
-mod painting;
-mod pair_index;
-mod pair_keys;
-mod plain;
-mod point_lists;
-mod points;
-mod pool_range;
-mod preparing;
-mod reached;
-mod reaching;
-mod reading;
-mod rest;
 mod row_lists;
 mod row_tables;
-mod shown;
-mod sweeping;
-mod table_copy;
-mod uniform;
-mod version;
-mod view;
-mod word;
-mod word_runs;
 
-pub use fact_tables::FactTables;
+pub use fact_tables::{FactTables, NextView, NowView};
+pub use from_release::FromRelease;
 pub use giving_files::gives_facts;
-pub use next_view::NextView;
-pub use view::NowView;

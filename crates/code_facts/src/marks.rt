@@ -12,8 +12,8 @@ ghost use Rattle.code_facts.specs.MarkRows.{IsMarked, KeepsMarkRows, is_flagged}
 
 use crate::mark::{MARKS, Mark};
 use crate::mark_rows::{Flagged, MarkRows};
-use crate::painting::{painted, summed};
 use crate::row_lists::RowLists;
+use fact_tables::{painted, summed};
 use range_table::{RunTable, Table};
 use std::alloc::Global;
 use ucd_facts::{Flag, Memory, Span};

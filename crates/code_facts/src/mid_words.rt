@@ -9,7 +9,7 @@ ghost use Rattle.ucd_facts.specs.Facts.{within};
 ghost use Rattle.ucd_facts.specs.Values.{default_word_break, is_mid_word, missing_value, mid_word_at};
 ghost use Rattle.code_facts.specs.Marks.{covers};
 ghost use Rattle.code_facts.specs.MidWords.{gives_mid_word, given_layer as given_layer_of, is_missing_row_of_mid_word as is_missing, layer_of, layer_over, missing_layer as missing_layer_of};
-ghost use Rattle.code_facts.specs.Word.{one_if};
+ghost use Rattle.fact_tables.specs.Word.{one_if};
 
 use crate::mark::is_mid_word_value;
 use crate::mark_rows::push_some;

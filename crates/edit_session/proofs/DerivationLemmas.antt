@@ -20,7 +20,7 @@ use Rattle.record_turns.specs.Turned.{CountsWithin, IsReady, IsTurned, StopsTurn
 use Rattle.record_turns.specs.declared.again_stop.AgainStop.{AgainStop}
 use Rattle.record_turns.specs.declared.again_stop.AgainStop.TheVariants.{Broken as Breaks, Memory as Lacking}
 use Rattle.release_rows.specs.FileItems.{FileItem}
-use Rattle.code_facts.specs.FactTables.{tables_facts, tables_next}
+use Rattle.fact_tables.specs.FactTables.{tables_facts, tables_next}
 use Rattle.dependency_map.specs.Maps.{asked_at}
 use Rattle.point_store.specs.SlotStore.{values}
 use Rattle.mention_index.specs.declared.mentions.Mentions.{Mentions}

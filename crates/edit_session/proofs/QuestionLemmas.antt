@@ -23,8 +23,8 @@ use Rattle.mention_index.specs.Reached.{about}
 use Rattle.query_laws.specs.PlainProofs.{plain_ask_own}
 use Rattle.query_laws.specs.Questions.{asked}
 use Rattle.query_laws.specs.Turns.{SameQueries, asks_one}
-use Rattle.code_facts.specs.KeptFacts.{all_kept, kept_at}
-use Rattle.code_facts.specs.Rest.{RestOf}
+use Rattle.fact_tables.specs.KeptFacts.{all_kept, kept_at}
+use Rattle.fact_tables.specs.Rest.{RestOf}
 use Rattle.dependency_map.specs.Askers.{own_queries}
 use Rattle.mention_index.specs.Laws.{IsCut}
 use Rattle.mention_index.specs.Mentions.{is_walked, leads}

@@ -15,7 +15,7 @@ use Rattle.ucd_facts.specs.Facts.{Facts, facts}
 use Rattle.ucd_model.specs.Records.{Record, record_at}
 use Rattle.ucd_model.specs.Validity.{first_broken}
 use Rattle.release_rows.specs.Releases.{ReleaseItems, rows_now}
-use Rattle.code_facts.specs.Word.{packed}
+use Rattle.fact_tables.specs.Word.{packed}
 use Rattle.edit_session.specs.declared.open_stop.OpenStop.{OpenStop}
 use Rattle.edit_session.specs.declared.open_stop.OpenStop.TheVariants.{Invalid, Memory}
 

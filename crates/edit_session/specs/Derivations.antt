@@ -10,7 +10,7 @@ use Rattle.ucd_facts.specs.Facts.{Facts}
 use Rattle.ucd_model.specs.Records.{Record, record_at}
 use Rattle.ucd_model.specs.ValidityLaws.{IsValid}
 use Rattle.ucd_facts.specs.declared.query.Query.{Query}
-use Rattle.code_facts.specs.FactTables.{tables_facts, tables_next}
+use Rattle.fact_tables.specs.FactTables.{tables_facts, tables_next}
 use Rattle.dependency_map.specs.Maps.{asked_at}
 use Rattle.point_store.specs.SlotStore.{values}
 use Rattle.mention_index.specs.declared.mentions.Mentions.{Mentions}

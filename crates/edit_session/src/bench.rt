@@ -4,7 +4,7 @@ ghost use Rattle.std.specs.Prelude.{◌≡◌, ◌≢◌, ℕ, ◌+◌, ◌/◌,
 ghost use Rattle.std.specs.List.{All};
 ghost use Rattle.std.specs.Option.{MatchOption};
 ghost use Rattle.std.specs.Result.{IsErr};
-ghost use Rattle.code_facts.specs.FactTables.{tables_facts, tables_next};
+ghost use Rattle.fact_tables.specs.FactTables.{tables_facts, tables_next};
 ghost use Rattle.paged_table.specs.Paged.{values_now};
 ghost use Rattle.paged_table.specs.Pages.{IsEvenBlock, IsPageOf};
 ghost use Rattle.record_turns.specs.Turned.{CountsWithin};

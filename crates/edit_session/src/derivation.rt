@@ -3,7 +3,7 @@
 ghost use Rattle.std.specs.Prelude.{◌≡◌, ℕ, ◌+◌, ◌≤◌, false, List, Ok, IfOk, IfErr, OnOk};
 ghost use Rattle.std.specs.List.{list_any};
 ghost use Rattle.ucd_facts.specs.Answers.{TellsChanges};
-ghost use Rattle.code_facts.specs.FactTables.{tables_facts, tables_next};
+ghost use Rattle.fact_tables.specs.FactTables.{tables_facts, tables_next};
 ghost use Rattle.paged_table.specs.Paged.{values_now};
 ghost use Rattle.range_table.specs.Values.{SameValues};
 ghost use Rattle.record_table.specs.Records.{record_next, record_now};
@@ -21,7 +21,7 @@ use crate::apply_stop::ApplyStop;
 use crate::first_points::derive_all;
 use crate::open_stop::OpenStop;
 use crate::questions::Questions;
-use code_facts::FactTables;
+use code_facts::{FactTables, FromRelease};
 use paged_table::PagedTable;
 use record_table::RecordTable;
 use record_turns::turn;

@@ -1,7 +1,7 @@
 //! The derivation of all code points, from the first one on.
 
 ghost use Rattle.std.specs.Prelude.{◌≡◌, ℕ, ◌+◌, ◌-◌, ◌<◌, ◌≤◌, Ok, IfOk, IfErr, IsTrue, OnOk};
-ghost use Rattle.code_facts.specs.FactTables.{tables_facts};
+ghost use Rattle.fact_tables.specs.FactTables.{tables_facts};
 ghost use Rattle.paged_table.specs.Paged.{values_now};
 ghost use Rattle.range_table.specs.Values.{SameValues};
 ghost use Rattle.record_table.specs.Records.{record_next, record_now};

@@ -1,7 +1,7 @@
 //! What some code points ask.
 
 ghost use Rattle.std.specs.Prelude.{◌≡◌, ◌<◌, OnOk};
-ghost use Rattle.code_facts.specs.FactTables.{tables_facts};
+ghost use Rattle.fact_tables.specs.FactTables.{tables_facts};
 ghost use Rattle.dependency_map.specs.Maps.{asked_at};
 ghost use Rattle.point_store.specs.SlotStore.{values};
 ghost use Rattle.paged_table.specs.Paged.{values_now, values_next};

@@ -1,7 +1,7 @@
 //! Which code points mention which, over the facts of a release.
 
 ghost use Rattle.std.specs.Prelude.{◌≡◌, ◌+◌, ◌<◌, ◌≤◌, ℕ, false, IfOk, OnOk};
-ghost use Rattle.code_facts.specs.FactTables.{tables_facts};
+ghost use Rattle.fact_tables.specs.FactTables.{tables_facts};
 ghost use Rattle.mention_index.specs.Mentions.{is_walked, leads, puts};
 ghost use Rattle.mention_index.specs.Steps.{HasSteps};
 ghost use Rattle.paged_table.specs.Paged.{values_now};

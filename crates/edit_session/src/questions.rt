@@ -2,7 +2,7 @@
 
 ghost use Rattle.std.specs.Prelude.{◌≡◌, ℕ, [], true, Some, IfOk, OnOk};
 ghost use Rattle.ucd_facts.specs.Answers.{is_asked};
-ghost use Rattle.code_facts.specs.FactTables.{tables_facts};
+ghost use Rattle.fact_tables.specs.FactTables.{tables_facts};
 ghost use Rattle.dependency_map.specs.Maps.{asked_at};
 ghost use Rattle.point_store.specs.SlotStore.{values};
 ghost use Rattle.mention_index.specs.Mentions.{is_walked, leads};

@@ -4,9 +4,9 @@ ghost use Rattle.std.specs.Prelude.{◌≡◌, ℕ, ◌<◌, true, IfOk};
 ghost use Rattle.std.specs.List.{list_any};
 ghost use Rattle.ucd_facts.specs.Facts.{within};
 ghost use Rattle.range_table.specs.RunTable.{values_now};
-ghost use Rattle.code_facts.specs.FactTables.{tables_facts, tables_next};
+ghost use Rattle.fact_tables.specs.FactTables.{tables_facts, tables_next};
 
-use code_facts::FactTables;
+use code_facts::{FactTables, FromRelease};
 use range_table::RunTable;
 use release_rows::Release;
 use std::alloc::Global;

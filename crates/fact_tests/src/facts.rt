@@ -4,7 +4,7 @@ ghost use Rattle.std.specs.Prelude.{◌≡◌, [], IfOk};
 ghost use Rattle.ucd_points.specs.declared.files.SourceFile.TheVariants.{SpecialCasing, WordBreakProperty, CompositionExclusions};
 ghost use Rattle.release_rows.specs.Releases.{items_now};
 
-use code_facts::FactTables;
+use code_facts::{FactTables, FromRelease};
 use range_table::RunTable;
 use release_rows::Release;
 use std::alloc::Global;

@@ -1,6 +1,6 @@
 //! The names of properties and of their values that are looked at, as the real files spell them.
 
-use code_facts::FactTables;
+use code_facts::{FactTables, FromRelease};
 use range_table::RunTable;
 use release_rows::Release;
 use std::alloc::Global;

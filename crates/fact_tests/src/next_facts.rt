@@ -2,7 +2,7 @@
 
 ghost use Rattle.std.specs.Prelude.{◌≡◌};
 ghost use Rattle.range_table.specs.RunTable.{values_now};
-ghost use Rattle.code_facts.specs.FactTables.{tables_facts, tables_next};
+ghost use Rattle.fact_tables.specs.FactTables.{tables_facts, tables_next};
 
 use crate::changes::{Tables, empty_tables, point, prepare};
 use release_rows::Release;

@@ -1,6 +1,6 @@
 //! Missing rows of WordBreakProperty.txt: they give a value to the code points that no other row covers.
 
-use code_facts::FactTables;
+use code_facts::{FactTables, FromRelease};
 use range_table::RunTable;
 use release_rows::Release;
 use std::alloc::Global;

@@ -1,6 +1,7 @@
 use Rattle.std.proofs.Common.{◌≡◌, ℕ, List, [], take}
 use Rattle.ucd_facts.specs.declared.row.Row.{Row}
-use Rattle.code_facts.specs.CaseImages.{all_images, cases_at}
+use Rattle.fact_tables.specs.CaseImages.{cases_at}
+use Rattle.code_facts.specs.CaseImages.{all_images}
 use Rattle.code_facts.proofs.case_rows.casings_over.Given as goal
 
 -- the casings that the rows before this one give, beside the foldings

@@ -1,5 +1,5 @@
 use Rattle.std.proofs.Common.{◌<◌, length, ◌∙◌, arith}
-use Rattle.code_facts.specs.CaseImages.{cases_at}
+use Rattle.fact_tables.specs.CaseImages.{cases_at}
 use Rattle.code_facts.proofs.CaseLemmas.{foldings_put}
 use Rattle.code_facts.proofs.case_rows.foldings_of.Goals as goal
 

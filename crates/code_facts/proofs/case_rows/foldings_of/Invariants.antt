@@ -1,5 +1,6 @@
 use Rattle.std.proofs.Common.{◌≡◌, ℕ, [], take}
-use Rattle.code_facts.specs.CaseImages.{all_images, cases_at}
+use Rattle.fact_tables.specs.CaseImages.{cases_at}
+use Rattle.code_facts.specs.CaseImages.{all_images}
 use Rattle.code_facts.proofs.case_rows.foldings_of.Given as goal
 
 -- the foldings that the rows before this one give

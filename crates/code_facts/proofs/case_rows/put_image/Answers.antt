@@ -1,11 +1,12 @@
 use Rattle.std.proofs.Common.{ap, ◌∙◌}
-use Rattle.code_facts.specs.CaseImages.{cases_at, with_image}
-use Rattle.code_facts.specs.declared.cases.Cases.{Cases}
+use Rattle.fact_tables.specs.CaseImages.{cases_at}
+use Rattle.code_facts.specs.CaseImages.{with_image}
+use Rattle.fact_tables.specs.declared.cases.Cases.{Cases}
 use Rattle.code_facts.proofs.CaseLemmas.{one_more}
 use Rattle.code_facts.proofs.case_rows.put_image.Goals as goal
 
 pub returns : goal.returns
 returns c =
     let with = c.put.ensures ∙ ap (λ (k : Cases). with_image c.args.case k c.args.image) c.deref_mut.ensures.value in
-    one_more (cases_at c.args.images.now) (cases_at c.taken.new.images) (cases_at c.set.new.images) c.args.case c.args.code c.in_ok-cases.cases.value c.put.new.self c.args.image
+    one_more (cases_at c.args.images.now) (cases_at c.taken.new.images) (cases_at c.set.new.images) c.args.case c.args.code c.in_ok-cases.cases.value c.put.new.cases c.args.image
     c.in_ok-cases.ensures.taken with c.taken.ensures.others c.in_ok-set.ensures

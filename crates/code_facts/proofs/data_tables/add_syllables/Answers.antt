@@ -1,7 +1,7 @@
 use Rattle.std.proofs.Common.{◌≡◌, ◌+◌, ◌∙◌, arith}
 use Rattle.ucd_facts.specs.Facts.{hangul_mapping}
-use Rattle.code_facts.specs.PointLists.{lists_next}
-use Rattle.code_facts.proofs.PaintLemmas.{one_more, all_painted}
+use Rattle.fact_tables.specs.PointLists.{lists_next}
+use Rattle.fact_tables.specs.PaintLemmas.{one_more, all_painted}
 use Rattle.code_facts.proofs.data_tables.add_syllables.Goals as goal
 
 pub syllables-preserved : goal.syllables-preserved

@@ -1,6 +1,6 @@
 use Rattle.std.proofs.Common.{◌≡◌, ℕ, ◌<◌, ◌&&◌, cond, leb, ltb}
 use Rattle.ucd_facts.specs.Facts.{hangul_mapping}
-use Rattle.code_facts.specs.PointLists.{lists_next}
+use Rattle.fact_tables.specs.PointLists.{lists_next}
 use Rattle.code_facts.proofs.data_tables.add_syllables.Given as goal
 
 -- the syllables before this one have their mappings

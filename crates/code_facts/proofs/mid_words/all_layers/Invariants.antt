@@ -1,7 +1,7 @@
 use Rattle.std.proofs.Common.{◌≡◌, ◌≤◌, ℕ, drop, find, length}
 use Rattle.layered_table.specs.Layers.{word_at}
 use Rattle.ucd_facts.specs.Values.{default_word_break, gives_some, is_mid_word, missing_value, value_in}
-use Rattle.code_facts.specs.Word.{one_if}
+use Rattle.fact_tables.specs.Word.{one_if}
 use Rattle.code_facts.proofs.mid_words.all_layers.Given as goal
 
 -- the layers of the missing rows, and of the other rows from this one on

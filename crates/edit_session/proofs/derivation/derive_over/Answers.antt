@@ -1,5 +1,5 @@
 use Rattle.std.proofs.Common.{refl}
-use Rattle.code_facts.specs.FactTables.{tables_facts}
+use Rattle.fact_tables.specs.FactTables.{tables_facts}
 use Rattle.paged_table.specs.Paged.{values_now}
 use Rattle.edit_session.proofs.derivation.derive_over.Goals as goal
 

@@ -1,5 +1,5 @@
 use Rattle.std.proofs.Common.{◌≡◌, ℕ, ◌+◌, ◌≤◌, refl, ap, arith}
-use Rattle.code_facts.specs.FactTables.{tables_facts}
+use Rattle.fact_tables.specs.FactTables.{tables_facts}
 use Rattle.paged_table.specs.Paged.{values_now}
 use Rattle.ucd_facts.specs.Facts.{Facts}
 use Rattle.ucd_model.specs.Records.{derived}

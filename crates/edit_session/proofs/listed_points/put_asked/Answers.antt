@@ -1,4 +1,4 @@
-use Rattle.code_facts.specs.FactTables.{tables_facts}
+use Rattle.fact_tables.specs.FactTables.{tables_facts}
 use Rattle.dependency_map.specs.Maps.{asked_at}
 use Rattle.point_store.specs.SlotStore.{values}
 use Rattle.paged_table.specs.Paged.{values_now, values_next}

@@ -1,5 +1,5 @@
 use Rattle.std.proofs.Common.{◌≤◌, arith}
-use Rattle.code_facts.specs.FactTables.{tables_facts}
+use Rattle.fact_tables.specs.FactTables.{tables_facts}
 use Rattle.mention_index.specs.Mentions.{leads, puts}
 use Rattle.paged_table.specs.Paged.{values_now}
 use Rattle.range_table.specs.Values.{point_count-is}

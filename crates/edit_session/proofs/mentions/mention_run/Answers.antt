@@ -1,5 +1,5 @@
 use Rattle.std.proofs.Common.{ℕ, ◌+◌, sym, subst}
-use Rattle.code_facts.specs.FactTables.{tables_facts}
+use Rattle.fact_tables.specs.FactTables.{tables_facts}
 use Rattle.mention_index.specs.Mentions.{puts}
 use Rattle.paged_table.specs.Paged.{values_now}
 use Rattle.ucd_facts.specs.Facts.{Facts}

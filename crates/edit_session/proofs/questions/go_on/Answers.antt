@@ -1,5 +1,5 @@
 use Rattle.std.proofs.Common.{ℕ, Bool, List, sym, subst}
-use Rattle.code_facts.specs.FactTables.{tables_facts}
+use Rattle.fact_tables.specs.FactTables.{tables_facts}
 use Rattle.dependency_map.specs.Maps.{asked_at}
 use Rattle.point_store.specs.SlotStore.{values}
 use Rattle.mention_index.specs.Mentions.{is_walked, leads}

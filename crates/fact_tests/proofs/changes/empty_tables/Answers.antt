@@ -1,6 +1,6 @@
 use Rattle.std.proofs.Common.{◌≡◌, sym, subst, ◌∙◌}
 use Rattle.range_table.specs.RunTable.{values_now}
-use Rattle.code_facts.specs.FactTables.{tables_facts, tables_next}
+use Rattle.fact_tables.specs.FactTables.{tables_facts, tables_next}
 use Rattle.fact_tests.proofs.changes.empty_tables.Goals as goal
 
 pub returns : goal.returns

@@ -1,6 +1,6 @@
 use Rattle.std.proofs.Common.{◌≡◌, ◌==◌, ℕ, Bool, true, List, length, refl, sym, ap, subst, ◌∙◌}
 use Rattle.std.specs.Prelude.{IfOk, OnOk}
-use Rattle.code_facts.specs.FactTables.{tables_facts, tables_next}
+use Rattle.fact_tables.specs.FactTables.{tables_facts, tables_next}
 use Rattle.dependency_map.specs.Maps.{asked_at}
 use Rattle.point_store.specs.SlotStore.{values}
 use Rattle.paged_table.specs.Paged.{values_now}

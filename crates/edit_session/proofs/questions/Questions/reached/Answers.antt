@@ -1,6 +1,6 @@
 use Rattle.std.proofs.Common.{ℕ, List, Option, subst}
-use Rattle.code_facts.specs.FactTables.{rests_at, tables_facts, words_at}
-use Rattle.code_facts.specs.declared.version.Version.TheVariants.{Now}
+use Rattle.fact_tables.specs.FactTables.{rests_at, tables_facts, words_at}
+use Rattle.fact_tables.specs.declared.version.Version.TheVariants.{Now}
 use Rattle.dependency_map.specs.Maps.{asked_at}
 use Rattle.point_store.specs.SlotStore.{values}
 use Rattle.mention_index.specs.declared.mentions.Mentions.{Mentions}

@@ -1,7 +1,0 @@
-use Rattle.std.proofs.Common.{◌≡◌, ℕ, true, take}
-use Rattle.code_facts.specs.Changes.{is_among, is_reached}
-use Rattle.code_facts.proofs.changes.seconds_of.Given as goal
-
--- the second members of the pairs before this one are put
-abbrev pub invariant-pairs : goal.invariant-pairs
-invariant-pairs l = (s y : ℕ) → is_reached (take l.pair-index l.pairs) s y ≡ true → is_among l.seconds.items y ≡ true

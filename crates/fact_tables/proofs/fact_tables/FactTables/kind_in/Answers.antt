@@ -1,0 +1,10 @@
+use Rattle.std.proofs.Common.{ap, ◌∙◌, arith}
+use Rattle.fact_tables.specs.FactTables.{words_at, rests_at}
+use Rattle.fact_tables.specs.Word.{kind_of_word}
+use Rattle.fact_tables.specs.KeptFactsLemmas.{word_reads}
+use Rattle.fact_tables.proofs.fact_tables.FactTables.kind_in.Goals as goal
+
+pub returns : goal.returns
+returns g c =
+    let back = word_reads (words_at c.args.version c.args.self.now) (rests_at c.args.version c.args.self.now) c.args.c (omega arith) in
+    c.kind_of.ensures ∙ ap kind_of_word c.word.ensures ∙ back.kind

@@ -1,0 +1,54 @@
+//! The facts of all code points, packed into tables that are looked up; what rows give is copied into them from tables of
+//! rows.
+#![tactic(auto)]
+
+mod case_images;
+mod cases;
+mod changes;
+mod composing;
+mod copying;
+mod data_lists;
+mod fact_tables;
+mod given_points;
+mod images;
+mod joined_spans;
+mod list_calls;
+mod list_run;
+mod mappings;
+mod next_view;
+mod painting;
+mod pair_index;
+mod pair_keys;
+mod plain;
+mod point_lists;
+mod points;
+mod pool_range;
+mod preparing;
+mod reached;
+mod reaching;
+mod reading;
+mod rest;
+mod row_tables;
+mod shown;
+mod sweeping;
+mod table_copy;
+mod uniform;
+mod version;
+mod view;
+mod word;
+mod word_runs;
+
+pub use case_images::CaseImages;
+pub use cases::Cases;
+pub use data_lists::DataLists;
+pub use fact_tables::FactTables;
+pub use given_points::GivenPoints;
+pub use joined_spans::joined;
+pub use next_view::NextView;
+pub use painting::{painted, summed};
+pub use point_lists::PointLists;
+pub use points::point;
+pub use row_tables::RowTables;
+pub use view::NowView;
+pub use word::NO_ROW;
+pub use word_runs::WordRuns;

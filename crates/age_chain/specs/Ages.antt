@@ -14,9 +14,7 @@
 -- ages_in chain c           the age of c
 -- SameChain a b             the same count, last release and ages
 -- StandsFor chain releases  these are the releases of the chain
-use Rattle.std.specs.Prelude.{◌≡◌, ℕ, ◌+◌, Bool, List, [], ◌∷◌, length, map, ◌==◌, nat_lt, Option, Some, None, if◌then◌else◌, codes}
-use Rattle.std.specs.Fmt.{decimal}
-use Rattle.std.specs.Option.{option_map}
+use Rattle.std.specs.Prelude.{◌≡◌, ℕ, ◌+◌, Bool, List, [], ◌∷◌, length, map, ◌==◌, nat_lt, Option, Some, None, if◌then◌else◌, codes, decimal, option_map}
 use Rattle.range_table.specs.RunTable.{values_now}
 use Rattle.range_table.specs.declared.run_table.RunTable.{RunTable}
 use Rattle.release_rows.specs.Releases.{ReleaseItems, rows_now}

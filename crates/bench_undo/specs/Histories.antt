@@ -15,8 +15,7 @@
 --                            state, and not where there is none
 -- IsSound files              a release keeps these files, and their rows are valid
 -- AreSound h                 so it is of each earlier state
-use Rattle.std.specs.Prelude.{◌≡◌, ℕ, List, [], ◌∷◌, None, take, Result, Ok, Err}
-use Rattle.std.specs.List.{All}
+use Rattle.std.specs.Prelude.{◌≡◌, ℕ, List, [], ◌∷◌, None, take, Result, Ok, Err, All}
 use Rattle.ucd_points.specs.declared.memory.Memory.{Memory as Lacking}
 use Rattle.ucd_model.specs.Validity.{first_broken}
 use Rattle.release_rows.specs.FileItems.{FileItem}

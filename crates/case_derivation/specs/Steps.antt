@@ -5,8 +5,7 @@
 -- title_image begun F    the image in a title of a point with the facts F; the title has begun where a Cased point stands
 --                        before it
 -- titled F begun s       the title of what is left, where the title has begun or not
-use Rattle.std.specs.Prelude.{ℕ, Bool, true, false, List, if◌then◌else◌}
-use Rattle.std.specs.List.{flat_map}
+use Rattle.std.specs.Prelude.{ℕ, Bool, true, false, List, if◌then◌else◌, flat_map}
 use Rattle.ucd_model.specs.Casing.{lower, title}
 use Rattle.ucd_facts.specs.Facts.{Facts, image_points}
 use Rattle.ucd_facts.specs.Predicates.{cased}

@@ -2,10 +2,9 @@
 --
 -- listed_one         it is listed by its list
 -- listed_none, listed_more, listed_all   of no code points, of one more, and of all
-use Rattle.std.proofs.Common.{◌≡◌, ◌≢◌, ◌∙◌, ℕ, ◌+◌, ◌<◌, ◌≤◌, Bool, true, false, ◌==◌, ◌||◌, ◌⊎◌, List, [], length, take, get_or, refl, sym, ap, subst, arith, inl, inr}
+use Rattle.std.proofs.Common.{◌≡◌, ◌≢◌, ◌∙◌, ℕ, ◌+◌, ◌<◌, ◌≤◌, Bool, true, false, ◌==◌, ◌||◌, ◌⊎◌, List, [], length, take, get_or, refl, sym, ap, subst, arith, inl, inr, take_all}
 use Rattle.std.proofs.lemmas.Bool.{true≢false, cases_eq, or_cases, or_parts}
 use Rattle.std.proofs.lemmas.Bool.Decides.{nat_tests}
-use Rattle.std.proofs.lemmas.List.{take_all}
 use Rattle.std.proofs.lemmas.List.Folds.{list_any_more}
 use Rattle.range_table.specs.Values.{SameValues, with_span}
 use Rattle.ucd_facts.specs.Facts.{Facts}

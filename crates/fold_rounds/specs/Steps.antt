@@ -13,10 +13,8 @@
 -- FoundBy folding lists r      r is the list that `lists` has for each folding that r covers; None if it has none for `folding`
 -- FoldsAs folding F c r        r is the image of c by each folding that r covers, or V5 in its place, if there is none by
 --                              `folding`; no claim if memory ran out
-use Rattle.std.specs.Prelude.{◌≡◌, ℕ, Bool, true, ◌&&◌, ◌==◌, not, List, [], ◌∷◌, Option, Some, None, Result, Ok, Err, ◌⊎◌}
+use Rattle.std.specs.Prelude.{◌≡◌, ℕ, Bool, true, ◌&&◌, ◌==◌, not, List, [], ◌∷◌, Option, Some, None, Result, Ok, Err, ◌⊎◌, option_and_then, bytes_eq}
 use Rattle.std.specs.List.{list_all, list_any}
-use Rattle.std.specs.Option.{option_and_then}
-use Rattle.std.specs.Str.{bytes_eq}
 use Rattle.ucd_facts.specs.Composites.{is_canonical}
 use Rattle.ucd_facts.specs.Facts.{Facts}
 use Rattle.ucd_facts.specs.Expansion.{FormAnswers}

@@ -7,8 +7,7 @@
 --                    a primary composite's mapping to the composite
 --
 -- AskedAreReached    a derivation asks about code points alone that are reached from its own
-use Rattle.std.specs.Prelude.{◌≡◌, ℕ, true, List}
-use Rattle.std.specs.List.{flat_map}
+use Rattle.std.specs.Prelude.{◌≡◌, ℕ, true, List, flat_map}
 use Rattle.ucd_facts.specs.CompositeLaws.{Composes}
 use Rattle.ucd_facts.specs.Facts.{Facts}
 use Rattle.ucd_model.specs.Sameness.{is_in}

@@ -12,9 +12,8 @@
 -- marked part              a line of this part; N3 where there is none
 -- tested columns           a case with these columns, or the rule in their place
 -- said content             what the line says, or the first rule that it breaks
-use Rattle.std.specs.Prelude.{ℕ, ◌-◌, Bool, true, false, List, [], ◌∷◌, take, drop, Option, Some, None, Result, Ok, Err, ◌==◌, codes, if◌then◌else◌}
+use Rattle.std.specs.Prelude.{ℕ, ◌-◌, Bool, true, false, List, [], ◌∷◌, take, drop, Option, Some, None, Result, Ok, Err, ◌==◌, codes, if◌then◌else◌, bytes_eq}
 use Rattle.std.specs.List.{before_first}
-use Rattle.std.specs.Str.{bytes_eq}
 use Rattle.ucd_points.specs.Fields.{fields, is_digit, is_hash, trim}
 use Rattle.ucd_points.specs.Lines.{is_comment}
 use Rattle.ucd_points.specs.declared.files.SourceFile.TheVariants.{PropList}

@@ -13,8 +13,7 @@
 -- MarksMove               a point of another class is moved before the points directly before it that have a greater class, and
 --                         no further
 -- EqualsKeepOrder         the points of one class keep their order
-use Rattle.std.specs.Prelude.{◌≡◌, ℕ, ◌<◌, ◌≤◌, List, [], ◌∷◌, ◌++◌, ◌==◌, filter}
-use Rattle.std.specs.List.{All}
+use Rattle.std.specs.Prelude.{◌≡◌, ℕ, ◌<◌, ◌≤◌, List, [], ◌∷◌, ◌++◌, ◌==◌, filter, All}
 use Rattle.ucd_model.specs.CanonicalOrder.{order}
 
 abbrev pub Reorderable : (ℕ → ℕ) → ℕ → ℕ → Type 0

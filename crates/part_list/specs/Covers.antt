@@ -9,8 +9,7 @@
 -- HoldsMore old new         what is held stays so
 -- IsCovered cover entry     the entry is held; each is if nothing is known
 -- CoversMore old new        what is covered stays so
-use Rattle.std.specs.Prelude.{◌≡◌, ◌⊎◌, ℕ, ◌<◌, ◌≤◌, Bool, true, false, List, length, max, Option, Some, None, slice_index_or}
-use Rattle.std.specs.Box.{box_value}
+use Rattle.std.specs.Prelude.{◌≡◌, ◌⊎◌, ℕ, ◌<◌, ◌≤◌, Bool, true, false, List, length, max, Option, Some, None, slice_index_or, box_value}
 use Rattle.std.specs.Global.{Box}
 use Rattle.number_sets.specs.Bits.{has_number}
 use Rattle.number_sets.specs.declared.bit_set.BitSet.{BitSet}

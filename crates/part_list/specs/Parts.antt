@@ -9,8 +9,7 @@
 -- spliced xs at n ys    xs with ys in the place of the n entries from place at on
 -- PartLists A           the parts now, and the parts next
 -- now_in l, next_in l   the list now, and the list next
-use Rattle.std.specs.Prelude.{ℕ, ◌+◌, ◌<◌, ◌≤◌, List, [], ◌++◌, length, take, drop, slice_index_or}
-use Rattle.std.specs.List.{flat_map}
+use Rattle.std.specs.Prelude.{ℕ, ◌+◌, ◌<◌, ◌≤◌, List, [], ◌++◌, length, take, drop, slice_index_or, flat_map}
 use Rattle.part_list.specs.declared.spot.Spot.{Spot}
 
 abbrev pub flat : {A : Type 0} → List (List A) → List A

@@ -4,8 +4,7 @@
 -- composing_at F form   what the composition of the decomposed list asks; of None nothing
 -- composed_at F form    the decomposed list composed; None where there is none
 -- composing_in, composed_in   these are what the definitions of the forms say
-use Rattle.std.specs.Prelude.{ℕ, List, [], Option, Some, None, Result, Ok, Err}
-use Rattle.std.proofs.Common.{◌≡◌, refl}
+use Rattle.std.proofs.Common.{◌≡◌, refl, ℕ, List, [], Option, Some, None, Result, Ok, Err}
 use Rattle.ucd_model.specs.CanonicalOrder.{class_of}
 use Rattle.ucd_facts.specs.Composites.{pair_of}
 use Rattle.ucd_model.specs.Composition.{compose}

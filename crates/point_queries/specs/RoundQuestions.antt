@@ -1,10 +1,8 @@
 -- The rounds of a code point that reaches a last one, step by step.
 --
 -- rounds_are     what is put round by round are the questions that all rounds up to the last one ask
-use Rattle.std.proofs.Common.{◌≡◌, ℕ, zero, suc, ◌+◌, ◌-◌, ◌<◌, ◌≤◌, true, false, cond, ◌||◌, List, [], ◌∷◌, ◌++◌, add-one, Option, Some, None, is_some, refl, sym, ap, ◌∙◌, subst, arith}
+use Rattle.std.proofs.Common.{◌≡◌, ℕ, zero, suc, ◌+◌, ◌-◌, ◌<◌, ◌≤◌, true, false, cond, ◌||◌, List, [], ◌∷◌, ◌++◌, add-one, Option, Some, None, is_some, refl, sym, ap, ◌∙◌, subst, arith, option_and_then, true≢false}
 use Rattle.std.specs.List.{flat_map, range_with_len}
-use Rattle.std.specs.Option.{option_and_then}
-use Rattle.std.proofs.lemmas.Bool.{true≢false}
 use Rattle.std.proofs.lemmas.List.Folds.{list_any-append}
 use Rattle.ucd_facts.specs.CompositeProofs.{Least, find_least}
 use Rattle.ucd_facts.specs.Facts.{Facts}

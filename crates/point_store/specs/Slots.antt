@@ -6,8 +6,7 @@
 -- AreHeld s places     a value is held at the place of each code point
 -- is_unused unused p   place p is one of the unused ones
 -- AreUsed unused places   the place of no code point is one of them
-use Rattle.std.specs.Prelude.{◌≡◌, ℕ, ◌<◌, Bool, true, false, List, ◌∷◌, Option, None, Some, is_some, slice_index_or, count_by}
-use Rattle.std.specs.Option.{unwrap_or}
+use Rattle.std.specs.Prelude.{◌≡◌, ℕ, ◌<◌, Bool, true, false, List, ◌∷◌, Option, None, Some, is_some, slice_index_or, count_by, unwrap_or}
 use Rattle.point_store.specs.declared.slots.Slots.{Slots}
 
 abbrev pub held_at : {V : Type 0} → Slots V → ℕ → Option V

@@ -11,8 +11,7 @@
 --                         the rounds ask
 -- AskedIsLocal            the record of a point that has one, and what its derivation asks
 -- PlainAskOwn             a point without a mapping asks its own row, and whether it is a second member, and nothing else
-use Rattle.std.specs.Prelude.{◌≡◌, ℕ, suc, ◌≤◌, Bool, true, List, [], ◌∷◌, Some, Ok, ◌↔◌}
-use Rattle.std.specs.Option.{option_and_then}
+use Rattle.std.specs.Prelude.{◌≡◌, ℕ, suc, ◌≤◌, Bool, true, List, [], ◌∷◌, Some, Ok, ◌↔◌, option_and_then}
 use Rattle.ucd_facts.specs.Expansion.{counted, expand, full}
 use Rattle.ucd_facts.specs.Facts.{Facts}
 use Rattle.ucd_model.specs.FoldRounds.{short_nfkc, short_fold, round, rounds}

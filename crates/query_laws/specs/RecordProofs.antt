@@ -2,10 +2,8 @@
 --
 -- has_last         the rounds of a point whose foldings have values have a last one, by each folding
 -- asked_is_local   the law of the same name
-use Rattle.std.proofs.Common.{◌≡◌, ℕ, Bool, true, false, cond, ◌&&◌, ◌||◌, not, ◌==◌, List, [], ◌∷◌, ◌++◌, Option, Some, None, Ok, if◌then◌else◌, refl, sym, ap, ◌∙◌, subst, arith}
+use Rattle.std.proofs.Common.{◌≡◌, ℕ, Bool, true, false, cond, ◌&&◌, ◌||◌, not, ◌==◌, List, [], ◌∷◌, ◌++◌, Option, Some, None, Ok, if◌then◌else◌, refl, sym, ap, ◌∙◌, subst, arith, option_and_then, bytes_eq}
 use Rattle.std.specs.List.{flat_map, list_any}
-use Rattle.std.specs.Option.{option_and_then}
-use Rattle.std.specs.Str.{bytes_eq}
 use Rattle.std.proofs.lemmas.Bool.{or_parts}
 use Rattle.ucd_model.specs.Casing.{lower, upper, fold, title, lowers, uppers, titles, folds, casemaps, where_form, changes_when}
 use Rattle.ucd_facts.specs.Composites.{is_canonical, first_has_class_zero, primary, second_of}

@@ -5,9 +5,8 @@
 -- zero_class_same, excludes_same, composite_same, hidden_same   what is asked of a composite's mapping
 -- lower_same, upper_same, title_same, changed_same, casemaps_same   case mappings, and whether they change the list
 -- continues_same, starts_same   whether the list continues or starts an identifier
-use Rattle.std.proofs.Common.{◌≡◌, ℕ, Bool, true, false, cond, ◌&&◌, not, ◌==◌, List, [], ◌∷◌, ◌++◌, Result, Ok, Err, refl, sym, ap, ◌∙◌}
+use Rattle.std.proofs.Common.{◌≡◌, ℕ, Bool, true, false, cond, ◌&&◌, not, ◌==◌, List, [], ◌∷◌, ◌++◌, Result, Ok, Err, refl, sym, ap, ◌∙◌, bytes_eq}
 use Rattle.std.specs.List.{flat_map, list_any}
-use Rattle.std.specs.Str.{bytes_eq}
 use Rattle.ucd_model.specs.Casing.{lower_of, upper_of, title_of, lower, upper, title, changes, casemaps, where_form}
 use Rattle.ucd_facts.specs.Composites.{first_has_class_zero}
 use Rattle.ucd_facts.specs.Facts.{Facts, image_points}

@@ -7,9 +7,8 @@
 -- check_expanded          where c has an expansion, decomposed_check is told by the kind of c
 -- composed_check_alone    where the mapping of c does not count, composed_check is quick_composed of c alone
 -- kinds_tell, unchanged_is_yes, no_is_other, others_are_same   the laws of the same names
-use Rattle.std.proofs.Common.{◌≡◌, ℕ, Bool, true, false, cond, ◌==◌, List, [], ◌∷◌, Result, Ok, Err, refl, sym, ap, ◌∙◌, subst}
+use Rattle.std.proofs.Common.{◌≡◌, ℕ, Bool, true, false, cond, ◌==◌, List, [], ◌∷◌, Result, Ok, Err, refl, sym, ap, ◌∙◌, subst, bytes_eq}
 use Rattle.std.specs.List.{AllByRecursion as Each}
-use Rattle.std.specs.Str.{bytes_eq}
 use Rattle.std.proofs.lemmas.Slice.Eq.{bytes_eq-Decides}
 use Rattle.ucd_facts.specs.Facts.{Facts, is_plain}
 use Rattle.ucd_model.specs.CanonicalOrder.{class_of, order}

@@ -8,9 +8,7 @@
 -- change_line c R S l     the code point, ` ; ` and that step, where the two values differ; else nothing
 -- file_changes c R S file   these lines for the properties of a derived file, in order
 -- change_text c R S       these lines for all properties; nothing where the records R and S have equal values
-use Rattle.std.specs.Prelude.{ℕ, List, [], ◌++◌, if◌then◌else◌, codes}
-use Rattle.std.specs.List.{flat_map}
-use Rattle.std.specs.Str.{bytes_eq}
+use Rattle.std.specs.Prelude.{ℕ, List, [], ◌++◌, if◌then◌else◌, codes, flat_map, bytes_eq}
 use Rattle.ucd_points.specs.HexText.{hex_text}
 use Rattle.ucd_facts.specs.Enumerations.{derived_files}
 use Rattle.ucd_model.specs.DerivedText.{line_end}

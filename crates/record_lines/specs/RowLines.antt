@@ -8,8 +8,7 @@
 -- if_speaks row text c         a text, if a row speaks of the code point; else nothing
 -- file_rows_text items file c  the lines of the rows of these items that speak of the code point, in the order of the file
 -- rows_text files c            those of all source files, file by file
-use Rattle.std.specs.Prelude.{ℕ, Bool, false, List, [], filter, map, if◌then◌else◌}
-use Rattle.std.specs.List.{flat_map}
+use Rattle.std.specs.Prelude.{ℕ, Bool, false, List, [], filter, map, if◌then◌else◌, flat_map}
 use Rattle.ucd_points.specs.Lines.{contents}
 use Rattle.ucd_points.specs.SourceFiles.{source_files}
 use Rattle.ucd_points.specs.declared.files.SourceFile.{SourceFile}

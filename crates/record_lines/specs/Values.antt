@@ -7,8 +7,7 @@
 -- image_value i      the code points; `<code point>` for Same, the code point itself alone
 -- value_text l R     the value in the record R of the property that l stands for: a category by its two letters, Cn among them, and
 --                    a class in decimal, 0 among them. The default value has its text too
-use Rattle.std.specs.Prelude.{ℕ, Bool, true, false, List, [], ◌∷◌, codes}
-use Rattle.std.specs.Fmt.{decimal}
+use Rattle.std.specs.Prelude.{ℕ, Bool, true, false, List, [], ◌∷◌, codes, decimal}
 use Rattle.ucd_facts.specs.Names.{category_code, tag_name}
 use Rattle.ucd_model.specs.Records.{Record}
 use Rattle.ucd_facts.specs.RowTexts.{mapping_text}

@@ -1,11 +1,8 @@
 -- Rows each of which ends before the next one do not meet, in whatever order they come.
-use Rattle.std.proofs.Common.{◌≡◌, suc, ◌+◌, true, false, ◌&&◌, leb, IsTrue, List, [], ◌∷◌, refl, sym, ap, ◌∙◌, arith}
+use Rattle.std.proofs.Common.{◌≡◌, suc, ◌+◌, true, false, ◌&&◌, leb, IsTrue, List, [], ◌∷◌, refl, sym, ap, ◌∙◌, arith, IsPermutation, Ordering, Less, Equal, Greater}
 use Rattle.std.specs.List.{All, AllByRecursion, IsDistinct}
-use Rattle.std.specs.List.Sorted.{IsPermutation}
 use Rattle.std.specs.Ordering.{is_le, is_lt, is_gt, ordering_reverse}
 use Rattle.std.specs.BTreeMap.Comparable.{le_lt_trans}
-use Rattle.std.specs.declared.cmp.Ordering.{Ordering}
-use Rattle.std.specs.declared.cmp.Ordering.TheVariants.{Less, Equal, Greater}
 use Rattle.std.proofs.lemmas.Bool.{and_parts, leb-true, false_from_ne_true}
 use Rattle.std.proofs.lemmas.List.Elements.{All-head, All-tail}
 use Rattle.std.proofs.lemmas.List.Sorted.{IsPermutation-sym, All-permutation}

@@ -1,6 +1,5 @@
 -- What is next once an operation has put, changed or taken out an entry.
-use Rattle.std.proofs.Common.{◌≡◌, ℕ, suc, ◌+◌, ◌<◌, ◌≤◌, ◌^◌, List, ◌++◌, length, map, set, take, drop, Result, Ok, Err, refl, sym, subst, arith}
-use Rattle.std.specs.List.{All, remove}
+use Rattle.std.proofs.Common.{◌≡◌, ℕ, suc, ◌+◌, ◌<◌, ◌≤◌, ◌^◌, List, ◌++◌, length, map, set, take, drop, Result, Ok, Err, refl, sym, subst, arith, All, remove}
 use Rattle.std.proofs.lemmas.List.{drop-map, length-append, length-drop, length-set, length-take, map-append, take-map}
 use Rattle.std.proofs.lemmas.List.Elements.{All-append, All-drop, All-set, All-take}
 use Rattle.ucd_points.specs.declared.files.SourceFile.{SourceFile}

@@ -1,7 +1,6 @@
 -- Patches lead back, in all files.
-use Rattle.std.proofs.Common.{◌≡◌, ℕ, ◌+◌, ◌<◌, List, [], ◌++◌, ◌∷◌, length, map, take, drop, set, get_or, true, Result, Ok, Err, sym, ap, subst, ◌∙◌, arith}
+use Rattle.std.proofs.Common.{◌≡◌, ℕ, ◌+◌, ◌<◌, List, [], ◌++◌, ◌∷◌, length, map, take, drop, set, get_or, true, Result, Ok, Err, sym, ap, subst, ◌∙◌, arith, is_err}
 use Rattle.std.proofs.lemmas.List.{append_assoc, drop_more, get_or-map, get_or_at, length-append, length-drop, length-map, length-take-le, set_at, take_more}
-use Rattle.std.specs.Result.{is_err}
 use Rattle.ucd_points.specs.Bounds.{Bounds}
 use Rattle.ucd_points.specs.declared.memory.Memory.{Memory}
 use Rattle.ucd_points.specs.SourceFiles.{file_at, file_place, file_place-at, source_files}

@@ -1,10 +1,8 @@
 -- The rows of UnicodeData.txt ascend.
-use Rattle.std.proofs.Common.{◌≡◌, ℕ, ◌+◌, ◌-◌, ◌<◌, ◌≤◌, Bool, true, false, cond, not, eqb, leb, List, [], ◌∷◌, ◌++◌, length, map, filter, reverse, get_or, take, drop, Option, Some, None, refl, sym, ap, subst, ◌∙◌, arith, one-add}
+use Rattle.std.proofs.Common.{◌≡◌, ℕ, ◌+◌, ◌-◌, ◌<◌, ◌≤◌, Bool, true, false, cond, not, eqb, leb, List, [], ◌∷◌, ◌++◌, length, map, filter, reverse, get_or, take, drop, Option, Some, None, refl, sym, ap, subst, ◌∙◌, arith, one-add, Ordering, Less, Greater}
 use Rattle.std.specs.Cmp.{nat_cmp_is}
 use Rattle.std.specs.List.{All, list_any, position_or_len, suffix_len}
 use Rattle.std.specs.Ordering.{nat_cmp, is_lt, ordering_then}
-use Rattle.std.specs.declared.cmp.Ordering.{Ordering}
-use Rattle.std.specs.declared.cmp.Ordering.TheVariants.{Less, Greater}
 use Rattle.std.proofs.lemmas.Bool.{and_parts, or_parts, eqb-true, leb-true, leb-false}
 use Rattle.std.proofs.lemmas.List.{drop_all, get_or-drop, get_or-reverse, length-drop, length-reverse, take-append-drop}
 use Rattle.std.proofs.lemmas.List.Folds.{list_any-append}

@@ -1,9 +1,6 @@
 -- Missing rows share their spans: they stand against no row of another key.
-use Rattle.std.proofs.Common.{◌≡◌, ◌⊎◌, ℕ, Bool, true, false, not, eqb, leb, ◌&&◌, List, [], ◌∷◌, refl, ◌∙◌, inl, inr}
-use Rattle.std.specs.Prelude.{codes}
-use Rattle.std.specs.Str.{bytes_eq}
+use Rattle.std.proofs.Common.{◌≡◌, ◌⊎◌, ℕ, Bool, true, false, not, eqb, leb, ◌&&◌, List, [], ◌∷◌, refl, ◌∙◌, inl, inr, arith, codes, bytes_eq}
 use Rattle.std.proofs.lemmas.Bool.Decides.{nat_tests}
-use Rattle.std.proofs.Common.{arith}
 use Rattle.std.proofs.Math.Bool.{and-false}
 use Rattle.ucd_facts.specs.Names.{status_code}
 use Rattle.ucd_points.specs.declared.files.SourceFile.{SourceFile}

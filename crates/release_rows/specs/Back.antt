@@ -5,8 +5,7 @@
 -- LeadsOn old new file next now   wherever the old patch leads to nine files of which this one has the items next, the new patch leads to
 --                            the same files with the items now in it
 -- turned items slot          the list that has the entries now of the parts before the slot, and the entries next of the others
-use Rattle.std.specs.Prelude.{◌≡◌, ℕ, List, ◌++◌, length, map, take, drop}
-use Rattle.std.specs.List.{All}
+use Rattle.std.specs.Prelude.{◌≡◌, ℕ, List, ◌++◌, length, map, take, drop, All}
 use Rattle.ucd_points.specs.declared.files.SourceFile.{SourceFile}
 use Rattle.part_list.specs.Parts.{PartLists, flat}
 use Rattle.part_list.specs.declared.spanned.Spanned.{Spanned}

@@ -7,8 +7,7 @@
 --                        one, and not empty
 -- AreCut items           each item is, with those behind it
 -- IsToldApart item       an item that LF alone ends does not end in CR: read again, that CR would be part of the line end
-use Rattle.std.specs.Prelude.{◌≡◌, ◌≢◌, ℕ, ◌+◌, ◌≤◌, false, List, [], ◌∷◌, None, count_by}
-use Rattle.std.specs.List.{All}
+use Rattle.std.specs.Prelude.{◌≡◌, ◌≢◌, ℕ, ◌+◌, ◌≤◌, false, List, [], ◌∷◌, None, count_by, All}
 use Rattle.ucd_points.specs.Lines.{unended, lf, is_lf, holds_line_feed, ends_in_return}
 use Rattle.ucd_points.specs.declared.files.SourceFile.{SourceFile}
 use Rattle.ucd_points.specs.declared.files.SourceFile.TheVariants.{UnicodeData}

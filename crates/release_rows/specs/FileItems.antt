@@ -8,8 +8,7 @@
 -- file_item_bytes item   the content and the bytes of the ending
 -- bytes_of items         contents and endings put together; no bytes for no items
 -- lines_of items         how many lines they have
-use Rattle.std.specs.Prelude.{ℕ, List, [], ◌∷◌, ◌++◌, Option, Some, None}
-use Rattle.std.specs.List.{flat_map, sum_by}
+use Rattle.std.specs.Prelude.{ℕ, List, [], ◌∷◌, ◌++◌, Option, Some, None, flat_map, sum_by}
 use Rattle.ucd_points.specs.Lines.{LineEnding, ending_bytes}
 use Rattle.ucd_points.specs.declared.files.SourceFile.{SourceFile}
 use Rattle.ucd_facts.specs.declared.row.Row.{Row}

@@ -2,8 +2,7 @@
 --
 -- placed_of entry           what is put behind them: the key of a row, and nothing of trivia
 -- AreGathered file rows ps  they are those of the rows, in their order
-use Rattle.std.specs.Prelude.{◌≡◌, List, [], ◌∷◌, map, Option, Some, None}
-use Rattle.std.specs.List.{All}
+use Rattle.std.specs.Prelude.{◌≡◌, List, [], ◌∷◌, map, Option, Some, None, All}
 use Rattle.ucd_points.specs.declared.files.SourceFile.{SourceFile}
 use Rattle.ucd_facts.specs.declared.row.Row.{Row}
 use Rattle.release_rows.specs.Chains.{IsOrderedPlace, placed_extent}

@@ -12,8 +12,7 @@
 -- Reloads file items                the bytes of the items are loaded as these items, if they are within the limit and no item that LF
 --                                   alone ends ends in CR
 -- ReloadsTheSame                    so it is of sound items
-use Rattle.std.specs.Prelude.{◌≡◌, ◌↔◌, ℕ, ◌≤◌, List, [], ◌∷◌, ◌++◌, map, length, Some, None, Ok, Err}
-use Rattle.std.specs.List.{All}
+use Rattle.std.specs.Prelude.{◌≡◌, ◌↔◌, ℕ, ◌≤◌, List, [], ◌∷◌, ◌++◌, map, length, Some, None, Ok, Err, All}
 use Rattle.ucd_points.specs.Limits.{file_limit}
 use Rattle.ucd_points.specs.Lines.{items_of}
 use Rattle.ucd_points.specs.declared.files.SourceFile.{SourceFile}

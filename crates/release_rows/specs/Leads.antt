@@ -5,9 +5,7 @@
 -- IsLead file text items lead   the lead's stretch gives a row of its code point, which none of its count of items follows
 -- AreLeads file text items leads   so it is of each lead
 -- KeepLeads file text items leads   so it is of each lead that is kept
-use Rattle.std.specs.Prelude.{◌≡◌, ℕ, ◌+◌, ◌≤◌, false, List, length, take, Ok}
-use Rattle.std.specs.List.{All}
-use Rattle.std.specs.Option.{IfSome}
+use Rattle.std.specs.Prelude.{◌≡◌, ℕ, ◌+◌, ◌≤◌, false, List, length, take, Ok, All, IfSome}
 use Rattle.ucd_points.specs.declared.files.SourceFile.{SourceFile}
 use Rattle.ucd_facts.specs.declared.row.Row.{Row}
 use Rattle.source_rows.specs.Faults.{row_or_fault}

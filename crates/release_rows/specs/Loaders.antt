@@ -5,8 +5,7 @@
 -- IsSound l       its fields are IsLoading: so they are but after an error
 -- IsLoaded file text items   these entries are the file's items, which put together are its text
 -- LoadsList file text r      the result is that of the file: its entries, or its first fault
-use Rattle.std.specs.Prelude.{◌≡◌, ℕ, ◌<◌, ◌^◌, List, map, length, Result, Ok, Err}
-use Rattle.std.specs.List.{All}
+use Rattle.std.specs.Prelude.{◌≡◌, ℕ, ◌<◌, ◌^◌, List, map, length, Result, Ok, Err, All}
 use Rattle.ucd_points.specs.declared.files.SourceFile.{SourceFile}
 use Rattle.part_list.specs.Parts.{PartLists, now_in, next_in}
 use Rattle.part_list.specs.declared.spanned.Spanned.{Spanned}

@@ -29,10 +29,8 @@
 -- AnswersOp result expected spans old new   what an operation answers and what is next then: these spans and what is expected; the
 --                              rule that is expected and what was next; what was next if memory ran out
 -- touched items op             those of the rows with the operation's key that are taken out, and then those of its row
-use Rattle.std.specs.Prelude.{◌≡◌, ℕ, ◌+◌, ◌-◌, Bool, false, ◌&&◌, not, List, [], ◌∷◌, ◌++◌, map, take, drop, length, filter, Option, Some, None, Result, Ok, Err, count_by, if◌then◌else◌}
+use Rattle.std.specs.Prelude.{◌≡◌, ℕ, ◌+◌, ◌-◌, Bool, false, ◌&&◌, not, List, [], ◌∷◌, ◌++◌, map, take, drop, length, filter, Option, Some, None, Result, Ok, Err, count_by, if◌then◌else◌, option_to_list, bytes_eq}
 use Rattle.std.specs.List.{list_any, position_or_len, suffix_len, flat_map}
-use Rattle.std.specs.Option.{option_to_list}
-use Rattle.std.specs.Str.{bytes_eq}
 use Rattle.ucd_points.specs.Bounds.{Bounds}
 use Rattle.ucd_points.specs.Lines.{LineEnding, unended, lf, cr_lf, is_lf}
 use Rattle.ucd_facts.specs.RowSpans.{span_in}

@@ -14,9 +14,8 @@
 -- entry_passes sought e                  the entry passes the test
 -- row_test test file row                 the test of rows that the test of entries stands for; none passes where each entry does
 -- IsSoughtRow file row text s            what is looked for are the code points, the key and the group of this row, and a tag of theirs
-use Rattle.std.specs.Prelude.{◌≡◌, ℕ, Bool, true, false, ◌&&◌, not, List, ◌==◌, nat_le}
+use Rattle.std.specs.Prelude.{◌≡◌, ℕ, Bool, true, false, ◌&&◌, not, List, ◌==◌, nat_le, bytes_eq}
 use Rattle.std.specs.Ordering.{ordering_then, nat_cmp, is_eq, is_lt}
-use Rattle.std.specs.Str.{bytes_eq}
 use Rattle.ucd_points.specs.MissingLines.{is_trivia}
 use Rattle.ucd_points.specs.declared.files.SourceFile.{SourceFile}
 use Rattle.ucd_facts.specs.declared.row.Row.{Row}

@@ -4,8 +4,7 @@
 -- IsOrder bs                   both go up
 -- reach_with bs hi             how far spans reach that go on with one up to hi
 -- NoneBeginsBehind lo spans    no span begins behind lo
-use Rattle.std.specs.Prelude.{ℕ, ◌≤◌, ◌-◌, max, List, length, Option, Some, None}
-use Rattle.std.specs.List.{All, slice_get}
+use Rattle.std.specs.Prelude.{ℕ, ◌≤◌, ◌-◌, max, List, length, Option, Some, None, All, slice_get}
 use Rattle.std.specs.List.Sorted.{IsNonDecreasingBy}
 use Rattle.ucd_points.specs.Bounds.{Bounds}
 use Rattle.release_rows.specs.declared.span_order.Begun.{Begun}

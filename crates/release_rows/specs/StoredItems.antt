@@ -22,9 +22,7 @@
 -- ShowsValued value row     the value is the row, which is one of a file that gives values; None of other rows
 -- ShowsValue value row      the value is that of a row of a span and a value; None of other rows, missing rows among them
 -- ShowsMissing value row    the value is that of a missing row; None of other rows
-use Rattle.std.specs.Prelude.{◌≡◌, ◌≢◌, ℕ, ◌+◌, ◌<◌, ◌≤◌, ◌^◌, List, map, length, take, drop, Option, Some, None, Result, Ok, Err}
-use Rattle.std.specs.List.{All}
-use Rattle.std.specs.Option.{option_map}
+use Rattle.std.specs.Prelude.{◌≡◌, ◌≢◌, ℕ, ◌+◌, ◌<◌, ◌≤◌, ◌^◌, List, map, length, take, drop, Option, Some, None, Result, Ok, Err, All, option_map}
 use Rattle.ucd_points.specs.declared.files.SourceFile.{SourceFile}
 use Rattle.ucd_facts.specs.declared.row.Row.{Row}
 use Rattle.ucd_facts.specs.declared.row.Row.TheVariants.{Value as ValueLine, Exclusion as ExclusionLine, Missing as MissingLine}

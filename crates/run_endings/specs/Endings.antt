@@ -25,8 +25,7 @@
 -- Sees tells holds paths P   P of what was seen at the paths
 -- EndsAs p words seen P   by what was seen the run is not refused, and P of its ending
 -- IsFine p words seen     by what was seen the run is not refused
-use Rattle.std.specs.Prelude.{◌≡◌, ℕ, Bool, IsTrue, List, [], ◌∷◌, length, map, Option, Some, None, if◌then◌else◌}
-use Rattle.std.specs.Str.{bytes_eq}
+use Rattle.std.specs.Prelude.{◌≡◌, ℕ, Bool, IsTrue, List, [], ◌∷◌, length, map, Option, Some, None, if◌then◌else◌, bytes_eq}
 
 abbrev pub Contents : Type 0
 Contents = List ℕ → Option (List ℕ)

@@ -6,8 +6,7 @@
 -- refusal_text why          of a group that was refused: the rule that an operation breaks, and the number of that operation,
 --                           counted from 1; or the rule of a valid release, and the code point that breaks it
 -- refused_line line why     the line that says it
-use Rattle.std.specs.Prelude.{ℕ, List, ◌++◌, codes}
-use Rattle.std.specs.Fmt.{decimal}
+use Rattle.std.specs.Prelude.{ℕ, List, ◌++◌, codes, decimal}
 use Rattle.ucd_model.specs.DerivedText.{line_end}
 use Rattle.ucd_points.specs.HexText.{hex_text}
 use Rattle.release_rows.specs.declared.key_rule.KeyRule.{KeyRule}

@@ -1,9 +1,7 @@
 -- Cutting a text line by line: what stands before the first mark, and what is left behind it.
 --
 -- before text rest        what of the text stands before its rest
-use Rattle.std.proofs.Common.{◌≡◌, ◌≢◌, ◌≤◌, ◌<◌, ℕ, ◌+◌, ◌-◌, Bool, true, false, List, [], ◌∷◌, ◌++◌, length, map, take, drop, Option, Some, refl, sym, ap, ◌∙◌, arith, append_assoc, length-append, length-drop, append-nil}
-use Rattle.std.proofs.lemmas.List.{take_all}
-use Rattle.std.specs.Prelude.{if◌then◌else◌}
+use Rattle.std.proofs.Common.{◌≡◌, ◌≢◌, ◌≤◌, ◌<◌, ℕ, ◌+◌, ◌-◌, Bool, true, false, List, [], ◌∷◌, ◌++◌, length, map, take, drop, Option, Some, refl, sym, ap, ◌∙◌, arith, append_assoc, length-append, length-drop, append-nil, take_all, if◌then◌else◌}
 use Rattle.std.proofs.Math.Seq.{take-append_seam, drop-append_seam}
 use Rattle.ucd_points.specs.Lines.{LineEnding, LineItem, cr_lf, ending_bytes, item_bytes, items_of, joined, lf, unended}
 use Rattle.ucd_lines.specs.Laws.{AreLines, EndingsAreToldApart, IsLine, LinesAreUnique, NoLineFeedInside, OnlyTheLastIsUnended}

@@ -16,8 +16,7 @@
 -- FitsBelow n piece       the number of its first line and its bytes are together at most n
 -- PiecesFit               so it is of each piece of a file, with one more than the bytes of the file
 -- PiecesAreFew            a file has at most one piece more than bytes
-use Rattle.std.specs.Prelude.{◌≡◌, ◌≤◌, ℕ, ◌+◌, Bool, false, List, [], ◌∷◌, ◌++◌, length, map, Option, Some, None, ◌==◌, if◌then◌else◌}
-use Rattle.std.specs.List.{All, flat_map}
+use Rattle.std.specs.Prelude.{◌≡◌, ◌≤◌, ℕ, ◌+◌, Bool, false, List, [], ◌∷◌, ◌++◌, length, map, Option, Some, None, ◌==◌, if◌then◌else◌, All, flat_map}
 use Rattle.ucd_points.specs.Lines.{LineItem, items_of, joined}
 
 abbrev pub begins_mark : List ℕ → Bool

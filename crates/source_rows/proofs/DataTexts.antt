@@ -1,7 +1,5 @@
 -- The text of a row of UnicodeData.txt is read as that row.
-use Rattle.std.proofs.Common.{◌≡◌, ℕ, ◌+◌, ◌-◌, ◌<◌, Bool, true, false, cond, eqb, List, [], ◌∷◌, ◌++◌, length, map, get_or, Option, Some, refl, sym, ap, subst, ◌∙◌, append_assoc, arith, inl, inr, length-append}
-use Rattle.std.specs.Prelude.{codes, nat_eq, slice_get}
-use Rattle.std.specs.Fmt.{decimal}
+use Rattle.std.proofs.Common.{◌≡◌, ℕ, ◌+◌, ◌-◌, ◌<◌, Bool, true, false, cond, eqb, List, [], ◌∷◌, ◌++◌, length, map, get_or, Option, Some, refl, sym, ap, subst, ◌∙◌, append_assoc, arith, inl, inr, length-append, codes, nat_eq, slice_get, decimal}
 use Rattle.std.specs.Option.{option_eq}
 use Rattle.std.specs.List.{All, join_with_byte}
 use Rattle.std.proofs.lemmas.Option.{slice_get-get_or}

@@ -8,8 +8,7 @@
 --                         or the conditions of a casing where there are any; of an alias row its names with ` ; ` between them; of a missing row
 --                         its span behind `# @missing: `
 -- KeyTextsReadBack        the text of the key of a row that the file can have is read as that key
-use Rattle.std.specs.Prelude.{◌≡◌, ℕ, List, [], ◌∷◌, ◌++◌, Option, Ok, if◌then◌else◌, codes}
-use Rattle.std.specs.Str.{bytes_eq}
+use Rattle.std.specs.Prelude.{◌≡◌, ℕ, List, [], ◌∷◌, ◌++◌, Option, Ok, if◌then◌else◌, codes, bytes_eq}
 use Rattle.ucd_facts.specs.RowTexts.{case_text, names_text}
 use Rattle.ucd_facts.specs.RowValues.{RowOk}
 use Rattle.ucd_points.specs.declared.files.SourceFile.{SourceFile}

@@ -1,6 +1,5 @@
 -- A code point of which a new release says what the old one says breaks no policy but P20, and P10 maybe.
-use Rattle.std.proofs.Common.{◌≡◌, ◌≢◌, ◌<◌, ℕ, Bool, true, false, ◌&&◌, ◌||◌, ◌==◌, not, List, [], refl, ap, ap₂, sym, subst, ◌∙◌, arith, inl, inr}
-use Rattle.std.specs.Str.{bytes_eq}
+use Rattle.std.proofs.Common.{◌≡◌, ◌≢◌, ◌<◌, ℕ, Bool, true, false, ◌&&◌, ◌||◌, ◌==◌, not, List, [], refl, ap, ap₂, sym, subst, ◌∙◌, arith, inl, inr, bytes_eq}
 use Rattle.std.proofs.lemmas.Bool.{cases_lt, eq-eqb, and_right}
 use Rattle.std.proofs.Math.Bool.{and-not_self}
 use Rattle.ucd_model.specs.CanonicalOrder.{class_of, order}

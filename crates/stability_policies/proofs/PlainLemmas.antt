@@ -1,8 +1,6 @@
 -- Code points without a mapping: their NFKC and their folding under it.
-use Rattle.std.proofs.Common.{◌≡◌, ℕ, Bool, true, false, ◌&&◌, not, ◌==◌, List, [], ◌∷◌, ◌++◌, Ok, if◌then◌else◌, refl, sym, ap, ◌∙◌}
-use Rattle.std.specs.Str.{bytes_eq}
+use Rattle.std.proofs.Common.{◌≡◌, ℕ, Bool, true, false, ◌&&◌, not, ◌==◌, List, [], ◌∷◌, ◌++◌, Ok, if◌then◌else◌, refl, sym, ap, ◌∙◌, bytes_eq, append-nil}
 use Rattle.std.proofs.lemmas.Slice.Eq.{bytes_eq-Decides}
-use Rattle.std.proofs.lemmas.List.{append-nil}
 use Rattle.ucd_facts.specs.Composites.{first_has_class_zero, is_canonical, primary}
 use Rattle.ucd_facts.specs.Expansion.{counts, counted}
 use Rattle.ucd_facts.specs.Facts.{Facts, image_points, is_plain}

@@ -1,7 +1,6 @@
 -- A report, policy after policy and row after row.
-use Rattle.std.proofs.Common.{◌≡◌, ◌≢◌, ℕ, ◌+◌, ◌<◌, ◌≤◌, Bool, true, false, cond, not, ◌||◌, List, [], ◌∷◌, ◌++◌, length, take, map, filter, refl, sym, ap, subst, ◌∙◌}
+use Rattle.std.proofs.Common.{◌≡◌, ◌≢◌, ℕ, ◌+◌, ◌<◌, ◌≤◌, Bool, true, false, cond, not, ◌||◌, List, [], ◌∷◌, ◌++◌, length, take, map, filter, refl, sym, ap, subst, ◌∙◌, append_assoc, take_all}
 use Rattle.std.specs.List.{flat_map, list_any}
-use Rattle.std.proofs.lemmas.List.{append_assoc, take_all}
 use Rattle.release_rows.specs.Releases.{ReleaseItems, rows_now}
 use Rattle.ucd_facts.specs.Facts.{Facts, facts}
 use Rattle.ucd_points.specs.Limits.{point_count}

@@ -1,6 +1,5 @@
 -- Code points without a mapping whose other facts are the same break the same policies.
-use Rattle.std.proofs.Common.{◌≡◌, ℕ, Bool, true, false, ◌&&◌, ◌||◌, not, ◌==◌, ◌<◌, ◌≤◌, [], ◌∷◌, Ok, refl, sym, ap, ◌∙◌, arith, inl, inr}
-use Rattle.std.specs.Str.{bytes_eq}
+use Rattle.std.proofs.Common.{◌≡◌, ℕ, Bool, true, false, ◌&&◌, ◌||◌, not, ◌==◌, ◌<◌, ◌≤◌, [], ◌∷◌, Ok, refl, sym, ap, ◌∙◌, arith, inl, inr, bytes_eq}
 use Rattle.std.proofs.lemmas.Bool.{cases_lt, eq-eqb}
 use Rattle.std.proofs.Math.Bool.{and-false, or-true}
 use Rattle.ucd_model.specs.Casing.{where_form}

@@ -1,8 +1,7 @@
 -- A code point that breaks each policy, and one that keeps it.
 --
 -- The facts are those of code points of real releases where the policy is kept; where it is broken, one of them is changed.
-use Rattle.std.proofs.Common.{◌≡◌, ℕ, true, false, ◌==◌, [], ◌∷◌, if◌then◌else◌, codes, refl}
-use Rattle.std.specs.Prelude.{Some, None}
+use Rattle.std.proofs.Common.{◌≡◌, ℕ, true, false, ◌==◌, [], ◌∷◌, if◌then◌else◌, codes, refl, Some, None}
 use Rattle.ucd_facts.specs.Expansion.{full}
 use Rattle.ucd_facts.specs.Facts.{Facts, unassigned}
 use Rattle.ucd_facts.specs.declared.category.Category.{Category}

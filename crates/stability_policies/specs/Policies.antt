@@ -21,10 +21,9 @@
 -- is_renamed old new       there are both rows, and their names differ
 -- is_broken P old new c    c breaks the policy P, where old and new are the rows of the two releases; never for P17, which is of rows
 --                          of alias files
-use Rattle.std.specs.Prelude.{ℕ, Bool, true, false, ◌&&◌, ◌||◌, not, List, [], ◌∷◌, ◌==◌, Option, Some, None, Result, Ok, Err}
+use Rattle.std.specs.Prelude.{ℕ, Bool, true, false, ◌&&◌, ◌||◌, not, List, [], ◌∷◌, ◌==◌, Option, Some, None, Result, Ok, Err, bytes_eq}
 use Rattle.std.specs.Bool.{beq}
 use Rattle.std.specs.List.{list_all}
-use Rattle.std.specs.Str.{bytes_eq}
 use Rattle.ucd_model.specs.CanonicalOrder.{class_of, order}
 use Rattle.ucd_model.specs.Casing.{fold}
 use Rattle.ucd_facts.specs.Composites.{is_canonical, primary}

@@ -58,9 +58,8 @@
 -- flag_at rows f c                 whether some row of PropList.txt with exactly the name of f covers c
 -- excludes c row                   a row of CompositionExclusions.txt that covers c
 -- excluded_at rows c               whether some row of CompositionExclusions.txt covers c
-use Rattle.std.specs.Prelude.{ℕ, ◌+◌, ◌-◌, ◌/◌, ◌%◌, Bool, true, false, ◌&&◌, List, [], ◌∷◌, Option, Some, None, is_some, unwrap_or, nat_lt, nat_le, ◌==◌, if◌then◌else◌, find}
+use Rattle.std.specs.Prelude.{ℕ, ◌+◌, ◌-◌, ◌/◌, ◌%◌, Bool, true, false, ◌&&◌, List, [], ◌∷◌, Option, Some, None, is_some, unwrap_or, nat_lt, nat_le, ◌==◌, if◌then◌else◌, find, bytes_eq}
 use Rattle.std.specs.List.{list_any}
-use Rattle.std.specs.Str.{bytes_eq}
 pub use Rattle.ucd_points.specs.Bounds.{within}
 use Rattle.ucd_points.specs.Bounds.{Bounds}
 use Rattle.ucd_points.specs.Limits.{point_count}

@@ -1,19 +1,17 @@
 -- Proofs of the laws of names. No word but those of the laws is defined here for others.
 --
 -- categories_are_spelled, statuses_are_spelled, tag_texts_are_names, names_tell_values   the laws of the same names
-use Rattle.std.proofs.Common.{◌≡◌, ◌≢◌, ℕ, ◌≤◌, Bool, true, false, ◌&&◌, ◌||◌, not, ◌==◌, if◌then◌else◌, List, [], ◌∷◌, ◌++◌, Option, Some, None, refl, sym, ap, ◌∙◌, ◌⊎◌, inl, inr, codes}
+use Rattle.std.proofs.Common.{◌≡◌, ◌≢◌, ℕ, ◌≤◌, Bool, true, false, ◌&&◌, ◌||◌, not, ◌==◌, if◌then◌else◌, List, [], ◌∷◌, ◌++◌, Option, Some, None, refl, sym, ap, ◌∙◌, ◌⊎◌, inl, inr, codes, bytes_eq}
 use Rattle.std.specs.List.{list_all}
-use Rattle.std.specs.Str.{bytes_eq}
 use Rattle.std.proofs.lemmas.Bool.{true≢false, and_parts, or_cases, eqb-true, not-true}
 use Rattle.std.proofs.lemmas.Slice.Eq.{bytes_eq-Decides}
 use Rattle.std.proofs.lemmas.Option.{same_Some}
 use Rattle.ucd_facts.specs.Names.{category_of, category_code, status_of, status_code, tag_text, tag_name, flag_name, core_name, derived_path}
-use Rattle.ucd_points.specs.SourceFiles.{source_path}
+use Rattle.ucd_points.specs.SourceFiles.{source_path, source_files, file_place}
 use Rattle.ucd_facts.specs.Enumerations.{derived_files, categories, statuses, tags, place_of_tag, flags, place_of_derived}
 use Rattle.ucd_facts.specs.Facts.{status_place}
 use Rattle.ucd_facts.specs.Predicates.{category_place, core_properties}
 use Rattle.ucd_facts.specs.Sets.{flag_place, core_place}
-use Rattle.ucd_points.specs.SourceFiles.{source_files, file_place}
 use Rattle.ucd_facts.specs.EnumerationProofs.{enumerates_categories, enumerates_statuses, enumerates_tags, enumerates_flags, enumerates_core_properties, enumerates_source_files, enumerates_derived_files, true_of_each, place-injective, text-injective}
 use Rattle.ucd_facts.specs.NameLaws.{CategoriesAreSpelled, StatusesAreSpelled, TagTextsAreNames, NamesTellValues}
 use Rattle.ucd_facts.specs.declared.category.Category.{Category}

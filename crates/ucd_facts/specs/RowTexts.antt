@@ -24,8 +24,7 @@
 -- names_text ns                the names with ` ; ` between them; nothing for no names
 -- alias_text row               a row of PropertyAliases.txt or PropertyValueAliases.txt: its names
 -- row_text file row            the text of a row, by its kind alone: the file plays no part
-use Rattle.std.specs.Prelude.{ℕ, List, [], ◌∷◌, ◌++◌, map, Option, Some, None, codes, if◌then◌else◌}
-use Rattle.std.specs.Fmt.{decimal}
+use Rattle.std.specs.Prelude.{ℕ, List, [], ◌∷◌, ◌++◌, map, Option, Some, None, codes, if◌then◌else◌, decimal}
 use Rattle.std.specs.List.{flat_map, join_with_byte}
 use Rattle.ucd_facts.specs.Names.{category_code, status_code, tag_text}
 use Rattle.ucd_points.specs.HexText.{hex_text, span_text}

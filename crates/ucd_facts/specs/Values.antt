@@ -14,9 +14,8 @@
 -- mid_word_values           the values of Word_Break in the middle of a word: MidLetter, MidNumLet and Single_Quote
 -- is_mid_word value         the value of Word_Break is one of them
 -- mid_word_at rows c        whether the Word_Break value of c is one of them
-use Rattle.std.specs.Prelude.{ℕ, Bool, false, List, [], ◌∷◌, Option, Some, find, fold, codes, if◌then◌else◌}
+use Rattle.std.specs.Prelude.{ℕ, Bool, false, List, [], ◌∷◌, Option, Some, find, fold, codes, if◌then◌else◌, bytes_eq}
 use Rattle.std.specs.List.{list_any}
-use Rattle.std.specs.Str.{bytes_eq}
 use Rattle.ucd_points.specs.Bounds.{within}
 use Rattle.ucd_facts.specs.declared.row.Row.{Row}
 use Rattle.ucd_facts.specs.declared.row.Row.TheVariants.{Value as ValueLine, Missing as MissingLine}

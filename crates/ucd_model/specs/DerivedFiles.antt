@@ -24,9 +24,7 @@
 -- file_sections file         the sections of a file, in order
 -- section_of n R s           the text of a section, over the records R of the points below n
 -- derived_text n file R      the text of a file
-use Rattle.std.specs.Prelude.{ℕ, Bool, List, [], ◌∷◌, ◌++◌, Some, None, map, ◌==◌, if◌then◌else◌, codes}
-use Rattle.std.specs.List.{flat_map}
-use Rattle.std.specs.Fmt.{decimal}
+use Rattle.std.specs.Prelude.{ℕ, Bool, List, [], ◌∷◌, ◌++◌, Some, None, map, ◌==◌, if◌then◌else◌, codes, flat_map, decimal}
 use Rattle.ucd_facts.specs.Names.{core_name, category_code, tag_name}
 use Rattle.ucd_facts.specs.Predicates.{is_one_of, core_properties}
 use Rattle.ucd_model.specs.Records.{Record}

@@ -8,8 +8,7 @@
 --                      facts. What needs a form or a folding of c that is not there is absent, Yes, or c itself
 -- record_or_rule R b    R where there is no rule, else the rule
 -- derived F c          the record of c, or in its place the first rule of a valid release that c breaks
-use Rattle.std.specs.Prelude.{ℕ, Bool, not, [], ◌∷◌, Option, Some, None, Result, Ok, Err}
-use Rattle.std.specs.Str.{bytes_eq}
+use Rattle.std.specs.Prelude.{ℕ, Bool, not, [], ◌∷◌, Option, Some, None, Result, Ok, Err, bytes_eq}
 use Rattle.ucd_model.specs.Casing.{lowers, uppers, titles, folds, casemaps, changes_when}
 use Rattle.ucd_facts.specs.Facts.{Facts, image_points}
 use Rattle.ucd_model.specs.FoldRounds.{casefold_image, image_or_same}

@@ -17,10 +17,9 @@
 -- FactsAreTold            `same_facts` tells whether the facts of two code points are equal
 -- SetsAreTold             two kept sets with the same properties are one
 -- KeptRecordsAreTold      two kept records that keep one record are one
-use Rattle.std.specs.Prelude.{◌≡◌, ℕ, ◌<◌, ◌^◌, Bool, true, false, ◌&&◌, ◌==◌, List}
+use Rattle.std.specs.Prelude.{◌≡◌, ℕ, ◌<◌, ◌^◌, Bool, true, false, ◌&&◌, ◌==◌, List, bytes_eq}
 use Rattle.std.specs.Bool.{Decides, beq}
 use Rattle.std.specs.List.{Contains, list_any, list_all}
-use Rattle.std.specs.Str.{bytes_eq}
 use Rattle.ucd_facts.specs.Enumerations.{flags, place_of_kind, place_of_quick}
 use Rattle.ucd_facts.specs.Facts.{Facts}
 use Rattle.ucd_facts.specs.Predicates.{category_place, core_properties}

@@ -14,8 +14,7 @@
 -- EndlessHasChain    a code point has no expansion exactly where a chain of eight mappings begins at it
 -- HiddenHasLesser    a code point is a hidden composite exactly where it has a lesser one with its mapping
 -- ValidPairIsSingle  in a valid release two primary composites with one mapping are one
-use Rattle.std.specs.Prelude.{◌≡◌, ℕ, ◌<◌, Bool, true, List, [], ◌∷◌, length, Some, None, Ok, Err, ◌↔◌, ⊤}
-use Rattle.std.specs.List.{Contains}
+use Rattle.std.specs.Prelude.{◌≡◌, ℕ, ◌<◌, Bool, true, List, [], ◌∷◌, length, Some, None, Ok, Err, ◌↔◌, ⊤, Contains}
 use Rattle.ucd_points.specs.Limits.{point_count}
 use Rattle.ucd_facts.specs.Facts.{Facts}
 use Rattle.ucd_facts.specs.Expansion.{counted, full, expansion}

@@ -8,8 +8,7 @@
 -- HexTextSpellsItsNumber      read as hexadecimal digits, the text of a number is that number
 -- HexTextSpellsItsPoint       read as a code point, the text of a code point is that point
 -- SpanTextSpellsItsSpan       read as a span, the text of a span is that span
-use Rattle.std.specs.Prelude.{◌≡◌, ◌≢◌, ◌≤◌, ◌<◌, ◌^◌, ◌⊎◌, ℕ, Some, length, slice_get}
-use Rattle.std.specs.List.{All}
+use Rattle.std.specs.Prelude.{◌≡◌, ◌≢◌, ◌≤◌, ◌<◌, ◌^◌, ◌⊎◌, ℕ, Some, length, slice_get, All}
 use Rattle.ucd_points.specs.Bounds.{Bounds}
 use Rattle.ucd_points.specs.Fields.{hex_number, point_of, span_of}
 use Rattle.ucd_points.specs.HexText.{hex_text, span_text}

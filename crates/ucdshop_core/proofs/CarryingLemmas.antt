@@ -1,8 +1,5 @@
 -- The first of the commands that are left, and those behind it.
-use Rattle.std.proofs.Common.{◌≡◌, ℕ, List, [], ◌∷◌, Result, Ok, Err, fold, refl, sym, ap, subst, ◌∙◌}
-use Rattle.std.specs.Borrow.{Bor}
-use Rattle.std.specs.Prelude.{IfOk, IfErr}
-use Rattle.std.specs.List.{All}
+use Rattle.std.proofs.Common.{◌≡◌, ℕ, List, [], ◌∷◌, Result, Ok, Err, fold, refl, sym, ap, subst, ◌∙◌, Bor, IfOk, IfErr, All}
 use Rattle.std.proofs.lemmas.List.Elements.{All-head, All-tail}
 use Rattle.release_rows.specs.FileItems.{FileItem}
 use Rattle.script_lines.specs.Groups.{IsWellFormed}

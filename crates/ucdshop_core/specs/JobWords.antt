@@ -4,8 +4,7 @@
 -- job_of job              the job that stands there
 -- AsksFor job form        the job is there exactly where the form is, and stands for it
 -- IsListed job            a release is made of a number from 1 to 50, if at all
-use Rattle.std.specs.Prelude.{◌≡◌, ℕ, List, Option, Some, None}
-use Rattle.std.specs.Option.{option_map}
+use Rattle.std.specs.Prelude.{◌≡◌, ℕ, List, Option, Some, None, option_map}
 use Rattle.run_endings.specs.Paths.{path_in}
 use Rattle.ucdshop_core.specs.Jobs.{Job}
 use Rattle.ucdshop_core.specs.Making.{IsInRange}

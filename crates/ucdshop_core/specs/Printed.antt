@@ -9,8 +9,7 @@
 --                          NFKC_Casefold of their own afterwards
 -- made_release number rows what it says of the release: the number, and how many rows UnicodeData.txt has
 -- made_summary counts      the line that says them
-use Rattle.std.specs.Prelude.{ℕ, List, ◌++◌, codes}
-use Rattle.std.specs.Fmt.{decimal}
+use Rattle.std.specs.Prelude.{ℕ, List, ◌++◌, codes, decimal}
 use Rattle.ucd_model.specs.DerivedText.{line_end}
 
 abbrev pub usage : List ℕ

@@ -13,9 +13,7 @@
 --                           and is counted, and the members that are answered are a section of the answers
 -- step s command            the session after one more command, which is answered on the files as they are then
 -- session files commands    the session after all commands
-use Rattle.std.specs.Prelude.{ℕ, ◌+◌, List, [], ◌++◌, length, Result, Ok, Err, codes}
-use Rattle.std.specs.Fmt.{decimal}
-use Rattle.std.specs.List.{fold}
+use Rattle.std.specs.Prelude.{ℕ, ◌+◌, List, [], ◌++◌, length, Result, Ok, Err, codes, decimal, fold}
 use Rattle.ucd_points.specs.Bounds.{Bounds}
 use Rattle.release_rows.specs.FileItems.{FileItem}
 use Rattle.script_lines.specs.declared.command.Command.{Command}

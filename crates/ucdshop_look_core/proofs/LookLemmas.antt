@@ -1,7 +1,6 @@
 -- What is judged is what was seen, and what is then to be told.
-use Rattle.std.proofs.Common.{◌≡◌, ◌≤◌, ℕ, Bool, List, length, map, Result, Ok, Err, sym, ap, subst, ◌∙◌, arith}
+use Rattle.std.proofs.Common.{◌≡◌, ◌≤◌, ℕ, Bool, List, length, map, Result, Ok, Err, sym, ap, subst, ◌∙◌, arith, IfOk}
 use Rattle.std.proofs.lemmas.List.{length-map}
-use Rattle.std.specs.Prelude.{IfOk}
 use Rattle.run_endings.specs.Endings.{Contents, Ending, NewFile, Refuses, Seen, Sees}
 use Rattle.run_endings.specs.Outcome.{LastFailedStays, ShelfSeen}
 use Rattle.run_endings.specs.Planning.{IsPlanOf, OnRefused, PlansAs, UnreadAs}

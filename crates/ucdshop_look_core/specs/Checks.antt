@@ -10,8 +10,7 @@
 -- session_ending earlier s     the ending after a session: no file, that text with the breaks against the earlier release, and whether a
 --                              command was refused or a policy is broken
 -- check_ending inputs          the ending on these inputs: after the session of their commands
-use Rattle.std.specs.Prelude.{ℕ, Bool, ◌||◌, ◌==◌, eqb, List, [], ◌++◌, length, count_by, Option, nat_lt, if◌then◌else◌, codes}
-use Rattle.std.specs.Fmt.{decimal}
+use Rattle.std.specs.Prelude.{ℕ, Bool, ◌||◌, ◌==◌, eqb, List, [], ◌++◌, length, count_by, Option, nat_lt, if◌then◌else◌, codes, decimal}
 use Rattle.std.specs.List.{after_first, flat_map, starts_with}
 use Rattle.ucd_points.specs.Lines.{LineItem, items_of}
 use Rattle.ucd_model.specs.DerivedText.{line_end}

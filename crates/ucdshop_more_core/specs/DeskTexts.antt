@@ -6,8 +6,7 @@
 -- desk_log lines replies  the line of each reply, whose marks have these lines
 -- is_accepted reply       a group was carried out
 -- is_turned_away reply    no editor came or left, and no group was carried out
-use Rattle.std.specs.Prelude.{ℕ, Bool, true, false, List, [], ◌∷◌, ◌++◌, length, codes}
-use Rattle.std.specs.Fmt.{decimal}
+use Rattle.std.specs.Prelude.{ℕ, Bool, true, false, List, [], ◌∷◌, ◌++◌, length, codes, decimal}
 use Rattle.bench_editors.specs.declared.reply.Reply.{Reply}
 use Rattle.bench_editors.specs.declared.reply.Reply.TheVariants.{Entered, Accepted, Left, Present, Absent, Ahead, Stale, Refused}
 use Rattle.run_inputs.specs.GroupLines.{log_line, refusal_text}

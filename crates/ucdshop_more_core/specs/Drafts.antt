@@ -6,8 +6,7 @@
 --                         that refuses the first of these: a file of the folder, a code point, the script
 -- draft_of drafted        what the code holds
 -- AreWellFormed sections       the groups can be carried out
-use Rattle.std.specs.Prelude.{ℕ, List, Result, Ok, Err}
-use Rattle.std.specs.List.{All}
+use Rattle.std.specs.Prelude.{ℕ, List, Result, Ok, Err, All}
 use Rattle.release_rows.specs.FileItems.{FileItem}
 use Rattle.run_endings.specs.Endings.{Seen}
 use Rattle.run_inputs.specs.Held.{held_at, source_held}

@@ -5,9 +5,7 @@
 --                       the form
 -- misses_text misses    a line for each miss, and `# total N`
 -- misses_of trial       what the release misses of the cases
-use Rattle.std.specs.Prelude.{ℕ, List, ◌++◌, length, codes}
-use Rattle.std.specs.Fmt.{decimal}
-use Rattle.std.specs.List.{flat_map}
+use Rattle.std.specs.Prelude.{ℕ, List, ◌++◌, length, codes, decimal, flat_map}
 use Rattle.ucd_points.specs.HexText.{hex_text}
 use Rattle.ucd_model.specs.DerivedText.{line_end}
 use Rattle.ucd_facts.specs.declared.form.Form.{Form}

@@ -9,8 +9,7 @@
 -- AgeCounts                how many releases there are, how many code points have an age, and how many breaks of policies all steps
 --                          have
 -- ages_summary counts      the line that says them
-use Rattle.std.specs.Prelude.{ℕ, List, [], ◌∷◌, ◌++◌, codes}
-use Rattle.std.specs.Fmt.{decimal}
+use Rattle.std.specs.Prelude.{ℕ, List, [], ◌∷◌, ◌++◌, codes, decimal}
 use Rattle.ucd_model.specs.DerivedText.{line_end}
 
 abbrev pub forms : List (List ℕ)

@@ -47,10 +47,7 @@
 -- finished ending verdict          Finishes with the ending on what was judged; or Refuses with the line that refuses it
 -- expected_of job seen             what is expected of a job, by what was seen at the paths that it needs
 -- ucdshop_more                     this program
-use Rattle.std.specs.Prelude.{ℕ, ◌&&◌, List, [], ◌∷◌, ◌++◌, length, map, drop, Option, Some, None, Result, Ok, Err, nat_le, nat_lt, if◌then◌else◌, codes}
-use Rattle.std.specs.List.{count_by, flat_map}
-use Rattle.std.specs.Option.{option_map}
-use Rattle.std.specs.Str.{bytes_eq}
+use Rattle.std.specs.Prelude.{ℕ, ◌&&◌, List, [], ◌∷◌, ◌++◌, length, map, drop, Option, Some, None, Result, Ok, Err, nat_le, nat_lt, if◌then◌else◌, codes, count_by, flat_map, option_map, bytes_eq}
 use Rattle.release_rows.specs.FileItems.{FileItem}
 use Rattle.release_rows.specs.Releases.{ReleaseItems}
 use Rattle.ucd_points.specs.Limits.{point_count}

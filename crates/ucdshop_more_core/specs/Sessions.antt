@@ -7,8 +7,7 @@
 -- session_of sitting      what the code holds
 -- AreWellFormed requests       the groups behind the marks can be carried out
 -- AreFew requests         there are fewer than revisions are counted
-use Rattle.std.specs.Prelude.{◌<◌, ℕ, List, length, Result, Ok, Err}
-use Rattle.std.specs.List.{All}
+use Rattle.std.specs.Prelude.{◌<◌, ℕ, List, length, Result, Ok, Err, All}
 use Rattle.release_rows.specs.FileItems.{FileItem}
 use Rattle.run_endings.specs.Endings.{Seen}
 use Rattle.run_inputs.specs.Held.{held_at, source_held}

@@ -21,8 +21,7 @@
 -- PutAs result old new turn   what a piece has was put behind the turns before it, or the fault is that of the piece; no claim if
 --                         memory ran out
 -- TurnsAs result expected    the same of all requests
-use Rattle.std.specs.Prelude.{◌≡◌, ℕ, List, [], ◌∷◌, ◌++◌, map, Option, Some, None, Result, Ok, Err, if◌then◌else◌, codes, ⊤}
-use Rattle.std.specs.Option.{option_map}
+use Rattle.std.specs.Prelude.{◌≡◌, ℕ, List, [], ◌∷◌, ◌++◌, map, Option, Some, None, Result, Ok, Err, if◌then◌else◌, codes, ⊤, option_map}
 use Rattle.ucd_points.specs.Answers.{AnswersBy}
 use Rattle.bench_editors.specs.declared.event.Event.{Event}
 use Rattle.run_inputs.specs.RefusalLines.{file_rule_code, refused}

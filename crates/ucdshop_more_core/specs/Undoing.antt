@@ -13,9 +13,7 @@
 -- after_move s move         the course after one more move, which is made on the history as it is then
 -- course depth files moves  the course after all moves
 -- course_of history log     the course that stands so: this history, and the log with its counts
-use Rattle.std.specs.Prelude.{ℕ, ◌+◌, List, [], ◌∷◌, ◌++◌, length, Result, Ok, Err, codes}
-use Rattle.std.specs.Fmt.{decimal}
-use Rattle.std.specs.List.{fold}
+use Rattle.std.specs.Prelude.{ℕ, ◌+◌, List, [], ◌∷◌, ◌++◌, length, Result, Ok, Err, codes, decimal, fold}
 use Rattle.bench_undo.specs.Histories.{HistoryState, accepted, gone_back}
 use Rattle.release_rows.specs.FileItems.{FileItem}
 use Rattle.edit_session.specs.Groups.{changed, files_facts, group_answer}

@@ -2,10 +2,7 @@
 --
 -- AssignedHaveCategories rows   a row of UnicodeData.txt covers c exactly where the category of c is not Cn
 -- assigned_have_categories      so it is of rows that are kept
-use Rattle.std.proofs.Common.{◌≡◌, ◌≢◌, ℕ, ◌<◌, Bool, true, false, not, ◌==◌, List, [], ◌∷◌, ◌++◌, Option, Some, None, Result, Ok, Err, is_some, find, cond, refl, sym, ap, ◌∙◌}
-use Rattle.std.specs.Prelude.{slice_get}
-use Rattle.std.specs.List.{All}
-use Rattle.std.proofs.lemmas.Bool.{eqb-true}
+use Rattle.std.proofs.Common.{◌≡◌, ◌≢◌, ℕ, ◌<◌, Bool, true, false, not, ◌==◌, List, [], ◌∷◌, ◌++◌, Option, Some, None, Result, Ok, Err, is_some, find, cond, refl, sym, ap, ◌∙◌, slice_get, All, eqb-true}
 use Rattle.std.proofs.lemmas.List.Elements.{All-cons, All-head, All-nil, All-tail}
 use Rattle.ucd_facts.specs.EnumerationProofs.{enumerates_categories}
 use Rattle.ucd_facts.specs.Enumerations.{categories}

@@ -8,10 +8,9 @@
 -- is_listed rows k c        a row of PropList.txt with the name of number k covers c; never where the number is not used
 -- passes test R             what a test of derived properties says of a code point with the record R; false for the other tests
 -- test_holds R rows test c  what the test says of the code point c, where R gives the record of each code point
-use Rattle.std.specs.Prelude.{ℕ, Bool, true, false, not, nat_lt, ◌==◌, List, [], ◌∷◌, is_some, slice_get}
+use Rattle.std.specs.Prelude.{ℕ, Bool, true, false, not, nat_lt, ◌==◌, List, [], ◌∷◌, is_some, slice_get, bytes_eq}
 use Rattle.std.specs.List.{list_any}
 use Rattle.std.specs.Option.{option_map_or}
-use Rattle.std.specs.Str.{bytes_eq}
 use Rattle.ucd_facts.specs.Enumerations.{place_of_kind, place_of_quick}
 use Rattle.ucd_facts.specs.Facts.{Sources, data_row, gives_value}
 use Rattle.ucd_facts.specs.Predicates.{category_place, is_one_of}

@@ -23,9 +23,7 @@
 -- ReadTreesCanBeWritten        each tree that a text is read as can be written
 -- ReadTreesAreText             the text of such a tree is UTF-8
 -- ReadTreesReadBack            so the text of such a tree is read as that tree again, the places of its properties aside
-use Rattle.std.specs.Prelude.{◌≡◌, ℕ, suc, ◌<◌, ◌≤◌, Bool, true, false, List, [], ◌∷◌, ◌++◌, length, Some, Ok, if◌then◌else◌}
-use Rattle.std.specs.Option.{is_some}
-use Rattle.std.specs.Str.{IsUtf8}
+use Rattle.std.specs.Prelude.{◌≡◌, ℕ, suc, ◌<◌, ◌≤◌, Bool, true, false, List, [], ◌∷◌, ◌++◌, length, Some, Ok, if◌then◌else◌, is_some, IsUtf8}
 use Rattle.ucd_points.specs.Bounds.{Bounds}
 use Rattle.ucd_points.specs.HexText.{hex_text}
 use Rattle.unicodeset_parser.specs.Bytes.{begins_with, found_at}

@@ -12,8 +12,7 @@
 -- tree_view x     the tree of an expression
 -- part_view p     the steps of a part
 -- parts_view ps   the steps of parts, in order
-use Rattle.std.specs.Prelude.{Bool, true, false, List, [], ◌∷◌, map}
-use Rattle.std.specs.List.{flat_map}
+use Rattle.std.specs.Prelude.{Bool, true, false, List, [], ◌∷◌, map, flat_map}
 use Rattle.ucd_points.specs.Bounds.{Bounds}
 use Rattle.unicodeset_parser.specs.Trees.{Tree, chars, named, valued, complement, bracket, Step, steps_of}
 use Rattle.unicodeset_parser.specs.declared.expr.Expr.{Expr}

@@ -1,5 +1,4 @@
-use Rattle.std.proofs.Common.{◌≡◌, List, length, map, sym, ap, subst, ◌∙◌, refl}
-use Rattle.std.specs.List.{flat_map}
+use Rattle.std.proofs.Common.{◌≡◌, List, length, map, sym, ap, subst, ◌∙◌, refl, flat_map}
 use Rattle.release_rows.specs.FileItems.{FileItem}
 use Rattle.release_rows.specs.Releases.{ReleaseItems}
 use Rattle.record_lines.specs.PointTexts.{with_more}

@@ -1,5 +1,4 @@
-use Rattle.std.proofs.Common.{◌≡◌, ℕ, Bool, true, false, not, List, ◌++◌, refl, sym, ap, subst, ◌∙◌}
-use Rattle.std.specs.Option.{option_map}
+use Rattle.std.proofs.Common.{◌≡◌, ℕ, Bool, true, false, not, List, ◌++◌, refl, sym, ap, subst, ◌∙◌, option_map}
 use Rattle.property_aliases.specs.Edits.{HasSameNames, told_by}
 use Rattle.property_aliases.specs.Found.{AreAliasesOf, index_in}
 use Rattle.property_aliases.specs.Properties.{index_at, index_named}

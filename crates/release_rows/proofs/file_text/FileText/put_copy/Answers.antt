@@ -1,6 +1,5 @@
-use Rattle.std.proofs.Common.{◌≡◌, ℕ, List, map, length, sym, ap, subst, ◌∙◌, arith}
+use Rattle.std.proofs.Common.{◌≡◌, ℕ, List, map, length, sym, ap, subst, ◌∙◌, arith, insert}
 use Rattle.std.proofs.lemmas.List.{length-map}
-use Rattle.std.specs.List.{insert}
 use Rattle.part_list.specs.Parts.{now_in, next_in}
 use Rattle.release_rows.specs.FileItems.{FileItem, FileLists}
 use Rattle.release_rows.specs.Noted.{AreNoted, ItemNoted, KeepNotes}

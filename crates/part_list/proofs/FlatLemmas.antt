@@ -1,7 +1,7 @@
 -- Edits of one part, seen on the whole list.
 use Rattle.std.proofs.Common.{◌≡◌, ℕ, zero, suc, ◌+◌, ◌<◌, ◌≤◌, Bool, true, List, [], ◌∷◌, ◌++◌, length, take, drop, map, set, get_or, cond, nat_lt, zero-add, refl, sym, ap, subst, ◌∙◌, arith, insert, filter}
 use Rattle.std.proofs.Math.Seq.{take-append-add, drop-append-add}
-use Rattle.std.proofs.lemmas.List.{append-nil, append_assoc, length-append, length-map, take-append-drop, take-append-le, drop-append-le, set_split, map-set, map-append, take-map, drop-map, get_or-map, length-take-le, length-drop, take_more, take_more_set, drop-set-lt, drop_more}
+use Rattle.std.proofs.lemmas.List.{append-nil, append_assoc, length-append, length-map, take-append-le, drop-append-le, set_split, map-set, map-append, take-map, drop-map, get_or-map, length-take-le, length-drop, take_more, take_more_set, drop-set-lt}
 use Rattle.std.proofs.lemmas.Bool.Decides.{nat_tests}
 use Rattle.std.proofs.lemmas.List.Edits.{map_over_more, get_or-insert_below}
 use Rattle.std.proofs.lemmas.List.Concat.{flat_map-append, get_or-flat_map}

@@ -1,11 +1,11 @@
 -- Cutting a text line by line: what stands before the first mark, and what is left behind it.
 --
 -- before text rest        what of the text stands before its rest
-use Rattle.std.proofs.Common.{◌≡◌, ◌≢◌, ◌≤◌, ◌<◌, ℕ, ◌+◌, ◌-◌, Bool, true, false, List, [], ◌∷◌, ◌++◌, length, map, take, drop, Option, Some, refl, sym, ap, ◌∙◌, arith, append_assoc, length-append, length-drop, append-nil, take_all, if◌then◌else◌}
+use Rattle.std.proofs.Common.{◌≡◌, ◌≢◌, ◌≤◌, ◌<◌, ℕ, ◌+◌, ◌-◌, Bool, true, false, List, [], ◌∷◌, ◌++◌, length, take, drop, refl, sym, ap, ◌∙◌, arith, append_assoc, length-append, length-drop, take_all, if◌then◌else◌}
 use Rattle.std.proofs.Math.Seq.{take-append_seam, drop-append_seam}
 use Rattle.ucd_points.specs.Lines.{LineEnding, LineItem, cr_lf, ending_bytes, item_bytes, items_of, joined, lf, unended}
 use Rattle.ucd_lines.specs.Laws.{AreLines, EndingsAreToldApart, IsLine, LinesAreUnique, NoLineFeedInside, OnlyTheLastIsUnended}
-use Rattle.script_pieces.specs.Pieces.{Cut, Mark, cut, is_mark, marked_piece, pieces_from}
+use Rattle.script_pieces.specs.Pieces.{Cut, cut, is_mark}
 
 -- ---- the text behind a line
 

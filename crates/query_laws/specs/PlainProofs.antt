@@ -4,6 +4,7 @@
 use Rattle.std.proofs.Common.{◌≡◌, ℕ, zero, suc, Bool, true, false, cond, ◌||◌, not, ◌==◌, List, [], ◌∷◌, ◌++◌, Option, Some, None, Ok, if◌then◌else◌, refl, sym, ap, ◌∙◌, subst, ◌⊎◌, inl, inr, option_and_then}
 use Rattle.std.specs.List.{flat_map, range_with_len}
 use Rattle.std.proofs.lemmas.Bool.{true≢false, or_cases, or_left, or_right}
+use Rattle.ucd_points.specs.PlainProofs.{either}
 use Rattle.ucd_model.specs.CanonicalOrder.{class_of, order}
 use Rattle.ucd_model.specs.Casing.{folded}
 use Rattle.ucd_facts.specs.Composites.{primary}
@@ -46,10 +47,6 @@ absorbed false false true e = sym (e refl)
 absorbed false false false e = refl
 
 -- ---- the forms of a point alone
-
-either : {A : Type 0} (b : Bool) (x : A) → cond b x x ≡ x
-either true x = refl
-either false x = refl
 
 module _ (F : ℕ → Facts) (c : ℕ) (p : IsPlain c (F c)) where
   unmapped : (compat : Bool) → counted F compat c ≡ []

@@ -13,6 +13,7 @@ use Rattle.std.proofs.lemmas.Grind.{get_or-set_at}
 use Rattle.std.proofs.lemmas.List.Elements.{All-append, All-cons, All-drop, All-head, All-tail, All-take, All-weaker}
 use Rattle.std.proofs.lemmas.List.Sums.{fails_before_first}
 use Rattle.std.proofs.lemmas.Slice.Eq.{bytes_eq-Decides}
+use Rattle.ucd_points.specs.PlainProofs.{lt_is}
 use Rattle.ucd_points.specs.declared.files.SourceFile.{SourceFile}
 use Rattle.ucd_facts.specs.declared.row.Row.{Row}
 use Rattle.source_rows.specs.Faults.{row_or_fault}
@@ -42,11 +43,6 @@ use Rattle.release_rows.proofs.Seeking.{behind_found, code_is}
 
 key_total : IsTotalOrder key_cmp
 key_total = then_total (on_total (λ (k : Key). code_number k.code) nat_cmp_total) (on_total (λ (k : Key). k.names) (lists_total nat_list_cmp_total))
-
-lt_is : (o : Ordering) → is_lt o ≡ true → o ≡ Less
-lt_is Less h = refl
-lt_is Equal h = absurd cc
-lt_is Greater h = absurd cc
 
 below_by : (f r x : Key) (o : Ordering) → key_cmp r f ≡ o → is_lt o ≡ false → key_cmp r x ≡ Less → key_cmp f x ≡ Less
 below_by f r x Less is order less = absurd cc

@@ -6,11 +6,12 @@ use Rattle.std.proofs.lemmas.Bool.{and_parts, eqb-true}
 use Rattle.std.proofs.lemmas.Bool.Decides.{nat_tests}
 use Rattle.std.proofs.lemmas.Cmp.{then_total, on_total, nat_list_cmp_total, nat_cmp_total, tied_itself, alike_right}
 use Rattle.std.proofs.lemmas.Map.Text.{is_eq-slice_cmp}
+use Rattle.ucd_points.specs.PlainProofs.{equal_is}
 use Rattle.source_rows.specs.Keys.{same_texts}
 use Rattle.release_rows.specs.Extents.{same_start}
 use Rattle.release_rows.specs.Places.{names_in, place_cmp, extent_at}
 use Rattle.release_rows.specs.declared.sort_key.SortKey.{SortKey}
-use Rattle.release_rows.proofs.Texts.{is_eq-then, equal_is, texts_same, texts_tell_names}
+use Rattle.release_rows.proofs.Texts.{is_eq-then, texts_same, texts_tell_names}
 
 pub place_total : IsTotalOrder place_cmp
 place_total = then_total (on_total (λ (p : SortKey). p.names.items) nat_list_cmp_total) (on_total (λ (p : SortKey). p.code) nat_cmp_total)

@@ -15,11 +15,6 @@ is_eq-then Less b = refl
 is_eq-then Equal b = refl
 is_eq-then Greater b = refl
 
-pub equal_is : (o : Ordering) → is_eq o ≡ true → o ≡ Equal
-equal_is Less h = absurd cc
-equal_is Equal h = refl
-equal_is Greater h = absurd cc
-
 pub texts_same : (a b : List (List ℕ)) → same_texts a b ≡ true → a ≡ b
 texts_same [] [] h = refl
 texts_same [] (y ∷ b) h = absurd cc

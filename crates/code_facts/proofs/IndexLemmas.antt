@@ -5,7 +5,7 @@ use Rattle.number_sets.specs.declared.key_set.KeySet.{KeySet}
 use Rattle.std.proofs.lemmas.Bool.{cases_lt, eqb-true, true≢false, false_from_ne_true}
 use Rattle.std.proofs.lemmas.Bool.Decides.{nat_tests}
 use Rattle.ucd_points.specs.Limits.{point_count}
-use Rattle.ucd_facts.specs.Facts.{Facts, within}
+use Rattle.ucd_facts.specs.Facts.{Facts}
 use Rattle.ucd_facts.specs.Composites.{is_canonical, first_has_class_zero, primary, is_pair, is_second, composes, ends_with, pair_of, second_of}
 use Rattle.ucd_facts.specs.CompositeProofs.{pair_of_first, pair_of_none, second_of_some, second_of_none}
 use Rattle.code_facts.specs.Index.{Lists, is_gathered, pair_key, second_key, NoneBelow, is_candidate, is_that, ends_that, two_of, may_compose, picked}
@@ -13,6 +13,7 @@ use Rattle.std.specs.List.{list_any}
 use Rattle.std.proofs.lemmas.List.Folds.{list_any_more}
 use Rattle.std.specs.Cmp.{first_so, second_so}
 use Rattle.ucd_points.specs.Bounds.{Bounds}
+use Rattle.ucd_facts.specs.Facts.{within}
 use Rattle.code_facts.specs.Copying.{IsListed}
 use Rattle.code_facts.specs.declared.pair_index.PairIndex.{PairIndex}
 use Rattle.code_facts.specs.declared.pair_keys.PairKeys.{PairKeys}

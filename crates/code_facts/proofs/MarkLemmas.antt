@@ -1,7 +1,9 @@
 -- Sums of marks.
-use Rattle.std.proofs.Common.{◌≡◌, ℕ, zero, suc, ◌+◌, ◌-◌, ◌*◌, ◌<◌, ◌≤◌, Bool, true, false, cond, List, [], ◌∷◌, map, length, take, get_or, refl, sym, ap, ◌∙◌, arith, sum_by, nat_lt, length-take, ltb-true}
+use Rattle.std.proofs.Common.{◌≡◌, ℕ, zero, suc, ◌+◌, ◌-◌, ◌*◌, ◌<◌, ◌≤◌, Bool, true, false, cond, List, [], ◌∷◌, map, length, take, get_or, refl, sym, ap, ◌∙◌, arith, sum_by, nat_lt}
 use Rattle.std.specs.List.{list_any}
+use Rattle.std.proofs.lemmas.List.{length-take}
 use Rattle.std.proofs.lemmas.List.Sums.{sum_by_more, sum_by-cons}
+use Rattle.std.proofs.lemmas.Bool.{ltb-true}
 use Rattle.ucd_facts.specs.Enumerations.{flags}
 use Rattle.ucd_facts.specs.EnumerationProofs.{true_of_each, enumerates_flags}
 use Rattle.ucd_facts.specs.Facts.{Sources, within, flag_at, excluded_at}

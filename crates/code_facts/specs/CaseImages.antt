@@ -6,9 +6,11 @@
 -- with_foldings c row cases   the cases with the foldings besides that a row gives c; with_casings: with the casings
 -- all_images foldings casings c   the foldings of c by these rows, and its casings by those
 -- KeepsImages images rows     the images are those that the rows give
-use Rattle.std.specs.Prelude.{◌≡◌, ℕ, List, Option, box_value, option_map}
+use Rattle.std.specs.Prelude.{◌≡◌, ℕ, List, Option}
 use Rattle.std.specs.BTreeMap.{BTreeMap, get}
+use Rattle.std.specs.Box.{box_value}
 use Rattle.std.specs.Global.{Box}
+use Rattle.std.specs.Option.{option_map}
 use Rattle.std.specs.Ordering.{nat_cmp}
 use Rattle.ucd_facts.specs.Facts.{Sources}
 use Rattle.ucd_points.specs.declared.files.SourceFile.TheVariants.{CaseFolding, SpecialCasing}

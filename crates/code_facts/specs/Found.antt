@@ -7,7 +7,8 @@
 -- image_of_row case c row   the image that this row gives c; None where it does not pass
 -- given_to c pair           what a pair of a code point and its image gives to c; None where it is of another point, or no pair
 --                           is there
-use Rattle.std.specs.Prelude.{ℕ, Bool, List, Option, Some, None, ◌==◌, find, if◌then◌else◌, option_map}
+use Rattle.std.specs.Prelude.{ℕ, Bool, List, Option, Some, None, ◌==◌, find, if◌then◌else◌}
+use Rattle.std.specs.Option.{option_map}
 use Rattle.ucd_facts.specs.Facts.{is_folding_of, folding_in, is_casing_of, casing_in}
 use Rattle.ucd_facts.specs.declared.row.Row.{Row}
 use Rattle.code_facts.specs.declared.case.Case.{Case}

@@ -1,9 +1,10 @@
 -- Proofs that the facts of a code point are those of the rows that speak of it.
 --
 -- facts_are_local, facts_stay, others_give_none   the laws of the same names
-use Rattle.std.proofs.Common.{◌≡◌, ℕ, Bool, true, false, cond, ◌&&◌, ◌==◌, List, [], ◌∷◌, Option, Some, find, filter, fold, is_some, refl, sym, ap, subst, ◌∙◌, nat_lt, nat_le, arith, bytes_eq}
+use Rattle.std.proofs.Common.{◌≡◌, ℕ, Bool, true, false, cond, ◌&&◌, ◌==◌, List, [], ◌∷◌, Option, Some, find, filter, fold, is_some, refl, sym, ap, subst, ◌∙◌, nat_lt, nat_le, arith}
 use mathlib.Core.Path.{fun_ext}
 use Rattle.std.specs.List.{list_any}
+use Rattle.std.specs.Str.{bytes_eq}
 use Rattle.std.proofs.lemmas.Bool.{true≢false, and_parts, or_left, or_parts, eqb-true}
 use Rattle.std.proofs.lemmas.Bool.Decides.{nat_tests}
 use Rattle.std.proofs.lemmas.Map.Views.{any-filter_same}

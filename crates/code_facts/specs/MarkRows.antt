@@ -5,8 +5,9 @@
 -- IsMarked mark spans sources   the spans cover just the code points on which the rows of the mark's file put it
 -- AreFlagged flagged sources    of each flag they are just the code points on which rows of PropList.txt put it
 -- KeepsMarkRows rows sources    what is kept is of the rows of the three files
-use Rattle.std.specs.Prelude.{◌≡◌, ℕ, ◌<◌, Bool, ◌&&◌, ◌==◌, List, bytes_eq}
+use Rattle.std.specs.Prelude.{◌≡◌, ℕ, ◌<◌, Bool, ◌&&◌, ◌==◌, List}
 use Rattle.std.specs.List.{list_any}
+use Rattle.std.specs.Str.{bytes_eq}
 use Rattle.ucd_facts.specs.Names.{flag_name}
 use Rattle.ucd_points.specs.Bounds.{Bounds}
 use Rattle.ucd_facts.specs.Facts.{Sources, within, flag_at}

@@ -7,7 +7,9 @@
 -- no_rest          a code point without mappings of any kind
 -- bare_rest m      one with the decomposition mapping m, and no other
 -- rest_of_all all  one with all these mappings
-use Rattle.std.specs.Prelude.{ℕ, List, [], Option, Some, None, box_value, option_map, option_to_list}
+use Rattle.std.specs.Prelude.{ℕ, List, [], Option, Some, None}
+use Rattle.std.specs.Box.{box_value}
+use Rattle.std.specs.Option.{option_map, option_to_list}
 use Rattle.code_facts.specs.declared.cases.Cases.{Cases}
 use Rattle.code_facts.specs.declared.mappings.Mappings.{Mappings}
 

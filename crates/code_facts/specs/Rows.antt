@@ -7,7 +7,8 @@
 -- lower_list row             the same of the lower mapping
 -- title_list row             the same of the title mapping
 -- row_data c row             what the row that covers c gives; without a row category Cn and nothing else
-use Rattle.std.specs.Prelude.{◌≡◌, ℕ, ◌<◌, true, List, [], length, take, find, Option, Some, None, is_some, slice_index_or, option_to_list}
+use Rattle.std.specs.Prelude.{◌≡◌, ℕ, ◌<◌, true, List, [], length, take, find, Option, Some, None, is_some, slice_index_or}
+use Rattle.std.specs.Option.{option_to_list}
 use Rattle.ucd_facts.specs.Facts.{is_data_of, category_in, class_in, kind_in, mapping_in}
 use Rattle.ucd_facts.specs.declared.row.Row.{Row}
 use Rattle.ucd_facts.specs.declared.row.DataRow.{DataRow}

@@ -3,7 +3,7 @@
 -- list_in r            the list r; None where r is a rule
 -- composing_at F form   what the composition of the decomposed list asks; of None nothing
 -- composed_at F form    the decomposed list composed; None where there is none
-use Rattle.std.proofs.Common.{◌≡◌, ℕ, List, [], Option, Some, None, Result, Ok, Err}
+use Rattle.std.proofs.Common.{ℕ, List, [], Option, Some, None, Result, Ok, Err}
 use Rattle.ucd_model.specs.CanonicalOrder.{class_of}
 use Rattle.ucd_facts.specs.Composites.{pair_of}
 use Rattle.ucd_model.specs.Composition.{compose}

@@ -1,5 +1,5 @@
 -- What names mean by numbers and by places that rows give.
-use Rattle.std.proofs.Common.{◌≡◌, ℕ, List, Option, None, ◌++◌, refl, ap, ◌∙◌, flat_map}
+use Rattle.std.proofs.Common.{◌≡◌, ℕ, List, Option, None, refl, ap, ◌∙◌, flat_map}
 use Rattle.std.specs.Option.{option_map, option_map_or}
 use Rattle.property_aliases.specs.Found.{breaks_in, index_in, listed_in, lone_in, lone_key_in, place_in, property_in, property_key_in, scripts_in, value_in, value_key_in, AreAliasesOf}
 use Rattle.property_aliases.specs.Kinds.{kind_names, kind_of}

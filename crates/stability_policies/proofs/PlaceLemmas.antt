@@ -1,5 +1,5 @@
 -- The names of rows in order, and which row has a name next.
-use Rattle.std.proofs.Common.{◌≡◌, ℕ, ◌+◌, ◌<◌, ◌≤◌, Bool, true, false, List, [], ◌∷◌, ◌++◌, length, get_or, take, Some, None, Result, Ok, Err, nat_lt, refl, sym, ap, subst, ◌∙◌, arith, inl, inr, append_assoc, ◌&&◌, ◌||◌, ◌==◌, ◌⊎◌, Bor, Ordering, Less, Equal, Greater, bytes_eq}
+use Rattle.std.proofs.Common.{◌≡◌, ℕ, ◌<◌, ◌≤◌, Bool, true, false, List, [], ◌∷◌, ◌++◌, length, get_or, take, Some, None, Result, Ok, Err, nat_lt, refl, sym, ap, subst, ◌∙◌, arith, inl, inr, append_assoc, ◌&&◌, ◌||◌, ◌==◌, ◌⊎◌, Bor, Ordering, Less, Equal, Greater, bytes_eq}
 use Rattle.std.specs.Cmp.{ranks, nat_cmp_is, IsTotalOrder, then_total, on_total, nat_cmp_total}
 use Rattle.std.specs.Cmp.Lexicographic.{slice_cmp, on_texts, nat_list_cmp_total}
 use Rattle.std.specs.FinMap.{slice_cmp-IsAntisymmetric, nat_cmp-IsAntisymmetric}

@@ -1,5 +1,5 @@
 -- A report, policy after policy and row after row.
-use Rattle.std.proofs.Common.{◌≡◌, ◌≢◌, ℕ, ◌+◌, ◌<◌, ◌≤◌, Bool, true, false, cond, not, ◌||◌, List, [], ◌∷◌, ◌++◌, length, take, map, filter, refl, sym, ap, subst, ◌∙◌, append_assoc, take_all}
+use Rattle.std.proofs.Common.{◌≡◌, ◌≢◌, ℕ, ◌≤◌, Bool, true, false, cond, not, List, [], ◌∷◌, ◌++◌, length, take, map, filter, refl, sym, ap, subst, ◌∙◌, append_assoc, take_all}
 use Rattle.std.specs.List.{flat_map, list_any}
 use Rattle.ucd_points.specs.PlainProofs.{any_map}
 use Rattle.release_rows.specs.Releases.{ReleaseItems, rows_now}

@@ -1,4 +1,5 @@
-use Rattle.std.proofs.Common.{◌≡◌, ◌<◌, length, take, sym, ◌∙◌, arith, take_all}
+use Rattle.std.proofs.Common.{◌≡◌, ◌<◌, length, take, sym, ◌∙◌, arith}
+use Rattle.std.proofs.lemmas.List.{take_all}
 use Rattle.code_facts.specs.RowTables.{word_in, rest_in}
 use Rattle.code_facts.proofs.PaintLemmas.{span_more}
 use Rattle.code_facts.proofs.IndexLemmas.{gathered_more}

@@ -1,5 +1,6 @@
-use Rattle.std.proofs.Common.{◌≡◌, ◌||◌, List, take, ap, ◌∙◌, arith, take_all}
+use Rattle.std.proofs.Common.{◌≡◌, ◌||◌, List, take, ap, ◌∙◌, arith}
 use Rattle.std.specs.List.{list_any}
+use Rattle.std.proofs.lemmas.List.{take_all}
 use Rattle.ucd_facts.specs.declared.property.Flag.{Flag}
 use Rattle.code_facts.specs.MarkRows.{is_flagged, names_flag}
 use Rattle.ucd_facts.specs.Enumerations.{flags}

@@ -1,5 +1,6 @@
-use Rattle.std.proofs.Common.{◌≡◌, take, sym, ap, ◌∙◌, arith, take_all}
+use Rattle.std.proofs.Common.{◌≡◌, take, sym, ap, ◌∙◌, arith}
 use Rattle.std.specs.List.{list_any}
+use Rattle.std.proofs.lemmas.List.{take_all}
 use Rattle.code_facts.specs.MidWords.{gives_mid_word, is_missing_row_of_mid_word}
 use Rattle.code_facts.proofs.MidWordLemmas.{plain_is}
 use Rattle.code_facts.proofs.mid_words.plain_mid_words.Goals as goal

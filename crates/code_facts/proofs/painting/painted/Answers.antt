@@ -1,5 +1,6 @@
-use Rattle.std.proofs.Common.{◌≡◌, cond, take, sym, ap, ◌∙◌, arith, take_all}
+use Rattle.std.proofs.Common.{◌≡◌, cond, take, sym, ap, ◌∙◌, arith}
 use Rattle.std.specs.List.{list_any}
+use Rattle.std.proofs.lemmas.List.{take_all}
 use Rattle.std.proofs.lemmas.List.Sorted.{list_any-IsPermutation}
 use Rattle.ucd_facts.specs.Facts.{within}
 use Rattle.code_facts.proofs.painting.painted.Goals as goal

@@ -1,4 +1,5 @@
-use Rattle.std.proofs.Common.{◌≡◌, ◌<◌, length, take, arith, take_all}
+use Rattle.std.proofs.Common.{◌≡◌, ◌<◌, length, take, arith}
+use Rattle.std.proofs.lemmas.List.{take_all}
 use Rattle.code_facts.proofs.IndexLemmas.{key_more}
 use Rattle.code_facts.proofs.pair_index.insert_all.Goals as goal
 

@@ -1,4 +1,5 @@
-use Rattle.std.proofs.Common.{◌/◌, ◌%◌, ap, ◌∙◌, unwrap_or}
+use Rattle.std.proofs.Common.{◌/◌, ◌%◌, ap, ◌∙◌}
+use Rattle.std.specs.Option.{unwrap_or}
 use Rattle.std.proofs.lemmas.Option.{unwrap_or-slice_get}
 use Rattle.ucd_facts.specs.Enumerations.{kinds}
 use Rattle.ucd_facts.specs.declared.decomposition.Kind.TheVariants.{Plain}

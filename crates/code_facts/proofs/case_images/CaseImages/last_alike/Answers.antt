@@ -1,5 +1,9 @@
-use Rattle.std.proofs.Common.{◌≡◌, ℕ, ◌≤◌, ◌<◌, Option, None, List, sym, subst, ap, ◌∙◌, arith, box_value, IfSome, option_map, nat_cmp, slice_get}
+use Rattle.std.proofs.Common.{◌≡◌, ℕ, ◌≤◌, ◌<◌, Option, None, List, sym, subst, ap, ◌∙◌, arith}
+use Rattle.std.specs.Box.{box_value}
 use Rattle.std.specs.Global.{Box}
+use Rattle.std.specs.Option.{IfSome, option_map}
+use Rattle.std.specs.Ordering.{nat_cmp}
+use Rattle.std.specs.List.{slice_get}
 use Rattle.std.specs.BTreeMap.{get}
 use Rattle.std.specs.BTreeMap.Range.{IsLeBy}
 use Rattle.code_facts.specs.Rest.{cases_of}

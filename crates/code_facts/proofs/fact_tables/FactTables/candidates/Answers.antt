@@ -1,4 +1,5 @@
-use Rattle.std.proofs.Common.{◌≡◌, ℕ, true, Result, Ok, Err, OnOk, is_ok, sym, subst, true≢false}
+use Rattle.std.proofs.Common.{◌≡◌, ℕ, true, Result, Ok, Err, OnOk, is_ok, sym, subst}
+use Rattle.std.proofs.lemmas.Bool.{true≢false}
 use Rattle.code_facts.specs.FactTables.{facts_at}
 use Rattle.code_facts.specs.declared.version.Version.TheVariants.{Now}
 use Rattle.code_facts.proofs.SweepLemmas.{GathersBelow, gathers_more, gathers_all}

@@ -1,4 +1,6 @@
-use Rattle.std.proofs.Common.{◌≡◌, ◌<◌, length, take, sym, arith, true≢false, take_all}
+use Rattle.std.proofs.Common.{◌≡◌, ◌<◌, length, take, sym, arith}
+use Rattle.std.proofs.lemmas.Bool.{true≢false}
+use Rattle.std.proofs.lemmas.List.{take_all}
 use Rattle.code_facts.specs.FactTables.{facts_at}
 use Rattle.code_facts.specs.declared.version.Version.TheVariants.{Now, Next}
 use Rattle.code_facts.proofs.ChangeLemmas.{gathers_same, gathers_more, pair_more}

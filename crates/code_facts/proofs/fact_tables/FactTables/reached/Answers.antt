@@ -1,4 +1,6 @@
-use Rattle.std.proofs.Common.{◌≡◌, ◌<◌, List, ap, length, take, sym, ◌∙◌, arith, true≢false, take_all}
+use Rattle.std.proofs.Common.{◌≡◌, ◌<◌, List, ap, length, take, sym, ◌∙◌, arith}
+use Rattle.std.proofs.lemmas.Bool.{true≢false}
+use Rattle.std.proofs.lemmas.List.{take_all}
 use Rattle.ucd_facts.specs.Answers.{is_asked}
 use Rattle.ucd_facts.specs.declared.query.Query.{Query}
 use Rattle.code_facts.specs.FactTables.{facts_at}

@@ -7,6 +7,7 @@
 -- continues_same, starts_same   whether the list continues or starts an identifier
 use Rattle.std.proofs.Common.{◌≡◌, ℕ, Bool, true, false, cond, ◌&&◌, not, ◌==◌, List, [], ◌∷◌, ◌++◌, Result, Ok, Err, refl, sym, ap, ◌∙◌, bytes_eq}
 use Rattle.std.specs.List.{flat_map, list_any}
+use Rattle.ucd_model.specs.MemberProofs.{list_all-same}
 use Rattle.ucd_model.specs.Casing.{lower_of, upper_of, title_of, lower, upper, title, changes, casemaps, where_form}
 use Rattle.ucd_facts.specs.Composites.{first_has_class_zero}
 use Rattle.ucd_facts.specs.Facts.{Facts, image_points}
@@ -17,7 +18,7 @@ use Rattle.ucd_model.specs.Validity.{lacks_row, composite_of, is_other}
 use Rattle.ucd_facts.specs.declared.form.Bad.{Bad as Rule}
 use Rattle.ucd_facts.specs.Answers.{SameAnswer, Each}
 use Rattle.query_laws.specs.ExpansionProofs.{SameRows}
-use Rattle.query_laws.specs.ListProofs.{Each-left, Each-right, Each-to, list_all-same, flat_map-same}
+use Rattle.query_laws.specs.ListProofs.{Each-left, Each-right, Each-to, flat_map-same}
 use Rattle.query_laws.specs.Questions.{pair_queries}
 
 pub list_any-same : {X : Type 0} (p q : X → Bool) (xs : List X) → Each (λ x. p x ≡ q x) xs → list_any p xs ≡ list_any q xs

@@ -13,6 +13,7 @@ use Rattle.std.proofs.lemmas.Grind.{get_or-set_at}
 use Rattle.std.proofs.lemmas.List.Elements.{All-append, All-cons, All-drop, All-head, All-tail, All-take, All-weaker}
 use Rattle.std.proofs.lemmas.List.Sums.{fails_before_first}
 use Rattle.std.proofs.lemmas.Slice.Eq.{bytes_eq-Decides}
+use Rattle.release_rows.proofs.Unchanged.{length-ended}
 use Rattle.ucd_points.specs.PlainProofs.{lt_is}
 use Rattle.ucd_points.specs.declared.files.SourceFile.{SourceFile}
 use Rattle.ucd_facts.specs.declared.row.Row.{Row}
@@ -94,11 +95,6 @@ lead_passes s r items lead law is h group order =
 
 -- ---- a row that is put in
 
-length_ended : (items : List FileItem) → length (ended items) ≡ length items
-length_ended [] = refl
-length_ended (x ∷ []) = refl
-length_ended (x ∷ y ∷ items) = ap suc (length_ended (y ∷ items))
-
 module _ (p : Row → Bool) where
   abbrev Lacks : FileItem → Type 0
   Lacks item = row_passes p item ≡ false
@@ -118,14 +114,14 @@ module _ (p : Row → Bool) where
 
   put_before : (n at : ℕ) (items : List FileItem) (added : FileItem) → n ≤ at → at ≤ length items → All Lacks (take n items) → All Lacks (take n (put_in items at added))
   put_before n at items added le within h =
-      let front = length_ended (take at items) in
+      let front = length-ended (take at items) in
       let long = length-take-le at items within in
       rw (take-append-le n (ended (take at items)) (added ∷ drop at items) (omega arith))
       (take_ended n (take at items) (subst (All Lacks) (sym (take-take n at items le)) h))
 
   put_behind : (n at : ℕ) (items : List FileItem) (added : FileItem) → at ≤ n → at ≤ length items → All Lacks (take n items) → Lacks added → All Lacks (take (n + 1) (put_in items at added))
   put_behind n at items added le within h one =
-      let front = length_ended (take at items) in
+      let front = length-ended (take at items) in
       let long = length-take-le at items within in
       let count : n + 1 ≡ length (ended (take at items)) + suc (n - at) = omega arith in
       let whole : at + (n - at) ≡ n = omega arith in

@@ -1,6 +1,7 @@
 -- What the items of a file keep, they keep after an operation.
 use Rattle.std.proofs.Common.{◌≡◌, ℕ, Bool, true, false, cond, not, ◌||◌, List, [], ◌∷◌, ◌++◌, map, filter, take, drop, Option, Some, None, Result, Ok, Err, refl, sym, ap, subst, ◌∙◌, append_assoc, append-nil, take-append-drop}
 use Rattle.std.specs.List.{list_any}
+use Rattle.release_rows.specs.ValuesApartProofs.{onto_append}
 use Rattle.ucd_points.specs.declared.files.SourceFile.{SourceFile}
 use Rattle.ucd_facts.specs.declared.row.Row.{Row}
 use Rattle.source_rows.specs.Faults.{row_or_fault}
@@ -24,10 +25,6 @@ is_read file item = content_row file item.content ≡ Ok item.row
 abbrev pub AllRead : SourceFile → List FileItem → Type 0
 AllRead file [] = Unit {0}
 AllRead file (item ∷ items) = is_read file item × AllRead file items
-
-onto_append : (o : Option Row) (xs ys : List Row) → onto_rows o (xs ++ ys) ≡ onto_rows o xs ++ ys
-onto_append None xs ys = refl
-onto_append (Some x) xs ys = refl
 
 pub rows-append : (xs ys : List FileItem) → rows_in (xs ++ ys) ≡ rows_in xs ++ rows_in ys
 rows-append [] ys = refl

@@ -1,7 +1,7 @@
 -- The items of a loaded file are sound, and so are those after an operation.
-use Rattle.std.proofs.Common.{◌≡◌, ℕ, Bool, true, false, cond, List, [], ◌∷◌, ◌++◌, map, refl, sym, subst, ◌∙◌, append_assoc, All}
+use Rattle.std.proofs.Common.{◌≡◌, ℕ, Bool, true, false, cond, List, [], ◌∷◌, ◌++◌, map, refl, subst, ◌∙◌, append_assoc, All}
 use Rattle.std.proofs.lemmas.List.Elements.{All-nil, All-cons}
-use Rattle.ucd_lines.specs.Laws.{AreLines, NoLineFeedInside, OnlyTheLastIsUnended, EndingsAreToldApart}
+use Rattle.ucd_lines.specs.Laws.{AreLines, NoLineFeedInside, OnlyTheLastIsUnended, EndingsAreToldApart, lines_behind}
 use Rattle.ucd_points.specs.Lines.{LineItem, LineEnding, unended, lf, cr_lf, ends_in_return, item_bytes, items_of}
 use Rattle.ucd_points.specs.declared.files.SourceFile.{SourceFile}
 use Rattle.release_rows.specs.Cuts.{IsToldApart}
@@ -17,10 +17,6 @@ use Rattle.release_rows.proofs.Operations.{all_read}
 use Rattle.release_rows.proofs.Reload.{ends_behind}
 
 -- ---- the lines of a text
-
-lines_behind : (bytes : List ℕ) (front lines : List LineItem) → NoLineFeedInside → OnlyTheLastIsUnended → EndingsAreToldApart → items_of bytes ≡ front ++ lines → AreLines lines
-lines_behind bytes front [] feeds ends told e = tt
-lines_behind bytes front (line ∷ lines) feeds ends told e = (record { no_line_feed = feeds bytes front line lines e; last = ends bytes front line lines e; no_return = told bytes front line lines e }, lines_behind bytes (front ++ line ∷ []) lines feeds ends told (e ∙ sym (append_assoc front (line ∷ []) lines)))
 
 -- ---- what LF alone ends
 

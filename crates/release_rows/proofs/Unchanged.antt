@@ -31,7 +31,7 @@ contents_ended [] = refl
 contents_ended (item ∷ []) = refl
 contents_ended (item ∷ next ∷ items) = ap (λ (cs : List (List ℕ)). item.content ∷ cs) (contents_ended (next ∷ items))
 
-length-ended : (items : List FileItem) → length (ended items) ≡ length items
+pub length-ended : (items : List FileItem) → length (ended items) ≡ length items
 length-ended [] = refl
 length-ended (item ∷ []) = refl
 length-ended (item ∷ next ∷ items) = ap suc (length-ended (next ∷ items))

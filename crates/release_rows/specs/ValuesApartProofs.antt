@@ -2,6 +2,9 @@
 --
 -- values_apart           the law ValuesAreApart
 -- values_apart_within    where rows are apart, those of them that pass a test are
+-- onto_append            a row that may be there, put before rows and others
+-- rows_append            the rows of items and one more
+-- no_overlap             where neither K1 nor K4 is broken, no other row overlaps
 use Rattle.std.proofs.Common.{◌≡◌, ℕ, Bool, true, false, cond, List, [], ◌∷◌, ◌++◌, filter, Option, Some, None, refl, sym, ap, subst, ◌∙◌, arith, nat_le, append-nil}
 use Rattle.std.specs.List.{list_any}
 use Rattle.std.proofs.lemmas.Bool.{true≢false, and_parts, and_from, or_parts, or_from}
@@ -22,15 +25,15 @@ use Rattle.release_rows.specs.declared.conflict.Conflict.TheVariants.{K1, K4}
 
 -- ---- rows that pass a test, where two that pass it overlap
 
-rows_append : (above : List FileItem) (item : FileItem) → rows_in (above ++ item ∷ []) ≡ rows_in above ++ onto_rows item.row []
-rows_append [] item = refl
-rows_append (a ∷ above) item = by a.row (rows_append above item)
-  where
-    by : (row : Option Row) → rows_in (above ++ item ∷ []) ≡ rows_in above ++ onto_rows item.row [] → onto_rows row (rows_in (above ++ item ∷ [])) ≡ onto_rows row (rows_in above) ++ onto_rows item.row []
-    by None e = e
-    by (Some r) e = ap (λ rows. r ∷ rows) e
+pub onto_append : (o : Option Row) (xs ys : List Row) → onto_rows o (xs ++ ys) ≡ onto_rows o xs ++ ys
+onto_append None xs ys = refl
+onto_append (Some x) xs ys = refl
 
-no_overlap : (k o : Bool) → cond k (Some K1) (cond o (Some K4) None) ≡ None → o ≡ false
+pub rows_append : (above : List FileItem) (item : FileItem) → rows_in (above ++ item ∷ []) ≡ rows_in above ++ onto_rows item.row []
+rows_append [] item = refl
+rows_append (a ∷ above) item = ap (onto_rows a.row) (rows_append above item) ∙ onto_append a.row (rows_in above) (onto_rows item.row [])
+
+pub no_overlap : (k o : Bool) → cond k (Some K1) (cond o (Some K4) None) ≡ None → o ≡ false
 no_overlap true o h = absurd cc
 no_overlap false true h = absurd cc
 no_overlap false false h = refl

@@ -4,6 +4,7 @@ use Rattle.std.proofs.lemmas.Bool.{cases_eq, eq-eqb, ne_eqb, false_from_ne_true}
 use Rattle.std.proofs.lemmas.Option.{same_Some}
 use Rattle.std.proofs.lemmas.Slice.Eq.{bytes_eq-Decides}
 use Rattle.std.proofs.lemmas.List.Elements.{All-nil, All-cons, All-take}
+use Rattle.ucd_facts.specs.NameProofs.{code_is_status}
 use Rattle.ucd_points.specs.Lines.{holds_line_feed}
 use Rattle.ucd_facts.specs.Names.{status_code}
 use Rattle.ucd_points.specs.Bounds.{Bounds}
@@ -30,7 +31,7 @@ use Rattle.source_rows.proofs.KeyGrammar.{keys_are_read}
 use Rattle.source_rows.proofs.MissingLines.{no_rest, written}
 use Rattle.source_rows.proofs.OtherTexts.{Piece, IsLine, line_is, hex_piece, span_piece, span_trimmed, piece, piece_both, none, spaced, spaced_trimmed, value_piece, alias_line, all_names, cut_fields}
 use Rattle.source_rows.proofs.Seams.{before_no_seam}
-use Rattle.source_rows.proofs.TextValues.{hex_firm, span_spelled, status_reads, status_lacks}
+use Rattle.source_rows.proofs.TextValues.{hex_firm, span_spelled, status_lacks}
 use Rattle.source_rows.proofs.Trims.{trim_firm, space_behind}
 use Rattle.source_rows.proofs.WordTexts.{spaced_trimmed as words_trimmed, conditions_are, conditions_no_feed, no_conditions}
 
@@ -103,7 +104,7 @@ missing_key_reads file s takes ok = rw (joined_is s ok) (marked_span file s take
 -- ---- a code point and a name
 
 fold_key_reads : (c : ℕ) (s : FoldStatus) (fs : List (List ℕ)) → c < 1114112 → fs ≡ hex_text c ∷ (status_code s ∷ []) ∷ [] → ReadsFoldKey fs (record { code = Some c; names = (status_code s ∷ []) ∷ [] })
-fold_key_reads c s fs small e = subst (λ (gs : List (List ℕ)). ReadsFoldKey gs (record { code = Some c; names = (status_code s ∷ []) ∷ [] })) (sym e) (record { count = refl; point = c; spelled = hex_text_spells_its_point c small; code = refl; status = s; lettered = status_reads s; names = refl })
+fold_key_reads c s fs small e = subst (λ (gs : List (List ℕ)). ReadsFoldKey gs (record { code = Some c; names = (status_code s ∷ []) ∷ [] })) (sym e) (record { count = refl; point = c; spelled = hex_text_spells_its_point c small; code = refl; status = s; lettered = code_is_status s; names = refl })
 
 status_line : (c : ℕ) (s : FoldStatus) → IsLine (hex_text c ++ 59 ∷ 32 ∷ status_code s ∷ []) (hex_text c ∷ (status_code s ∷ []) ∷ [])
 status_line c s = two_line c (status_code s ∷ []) (piece (status_code s ∷ []) (λ p separates. status_lacks p (λ b low high. separates.high b (omega arith) high) s)) (status_is_trimmed s)

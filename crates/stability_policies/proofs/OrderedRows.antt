@@ -1,9 +1,10 @@
 -- The rows of UnicodeData.txt follow one another.
-use Rattle.std.proofs.Common.{◌≡◌, ℕ, ◌+◌, ◌≤◌, Bool, true, false, cond, ◌&&◌, ◌||◌, leb, List, [], ◌∷◌, ◌++◌, Option, Some, None, Result, Ok, Err, refl, sym, ap, subst, ◌∙◌, arith, append-nil}
+use Rattle.std.proofs.Common.{◌≡◌, ℕ, ◌+◌, ◌≤◌, Bool, true, false, ◌&&◌, leb, List, [], ◌∷◌, ◌++◌, Option, Some, None, Result, Ok, Err, refl, sym, ap, subst, ◌∙◌, arith, append-nil}
 use Rattle.std.specs.List.{All, list_any}
 use Rattle.std.proofs.lemmas.Bool.Decides.{nat_tests}
 use Rattle.std.proofs.lemmas.List.Elements.{All-cons, All-head, All-nil}
 use Rattle.std.proofs.lemmas.Bool.{or_parts}
+use Rattle.release_rows.specs.ValuesApartProofs.{no_overlap, rows_append}
 use Rattle.ucd_points.specs.MissingLines.{is_trivia}
 use Rattle.ucd_facts.specs.RowValues.{RowOk}
 use Rattle.ucd_points.specs.declared.files.SourceFile.TheVariants.{UnicodeData}
@@ -18,7 +19,6 @@ use Rattle.release_rows.specs.FileItems.{FileItem, onto_rows, rows_in}
 use Rattle.release_rows.specs.Keys.{key_rule, overlaps, same_key}
 use Rattle.release_rows.specs.Loading.{content_row}
 use Rattle.release_rows.specs.Releases.{AreKept, AreKeptBelow}
-use Rattle.release_rows.specs.declared.conflict.Conflict.TheVariants.{K1, K4}
 use Rattle.stability_policies.specs.NamedRows.{AreAbove, named}
 
 -- ---- a row that is kept is one of UnicodeData.txt, with a span
@@ -40,11 +40,6 @@ module _ (read : RowsAreRead) (ok : RowsAreOk) where
 
 -- ---- a row against the one before it
 
-no_second_rule : (any overlap : Bool) → cond any (Some K1) (cond overlap (Some K4) None) ≡ None → overlap ≡ false
-no_second_rule true overlap e = absurd cc
-no_second_rule false true e = absurd cc
-no_second_rule false false e = refl
-
 any_last : {X : Type 0} (p : X → Bool) (xs : List X) (x : X) → list_any p (xs ++ x ∷ []) ≡ false → p x ≡ false
 any_last p [] x e = (or_parts (p x) false e).0
 any_last p (y ∷ xs) x e = any_last p xs x (or_parts (p y) (list_any p (xs ++ x ∷ [])) e).1
@@ -59,19 +54,11 @@ Leaves above m n = (r : DataRow) → key_rule UnicodeData above (DataLine r) ≡
 leaves_last : (above : List Row) (x : DataRow) → Leaves (above ++ DataLine x ∷ []) x.span.lo (x.span.hi + 1)
 leaves_last above x r free from ordered =
     let rows : List Row = above ++ DataLine x ∷ [] in
-    let none : list_any (overlaps UnicodeData (DataLine r)) rows ≡ false = no_second_rule (list_any (same_key UnicodeData (DataLine r)) rows) (list_any (overlaps UnicodeData (DataLine r)) rows) free in
+    let none : list_any (overlaps UnicodeData (DataLine r)) rows ≡ false = no_overlap (list_any (same_key UnicodeData (DataLine r)) rows) (list_any (overlaps UnicodeData (DataLine r)) rows) free in
     let apart : overlaps UnicodeData (DataLine r) (DataLine x) ≡ false = any_last (overlaps UnicodeData (DataLine r)) above (DataLine x) none in
     apart_spans r.span.lo r.span.hi x.span.lo x.span.hi from ordered apart
 
 -- ---- all rows
-
-onto_append : (p : Option Row) (xs ys : List Row) → onto_rows p (xs ++ ys) ≡ onto_rows p xs ++ ys
-onto_append None xs ys = refl
-onto_append (Some x) xs ys = refl
-
-rows_push : (above : List FileItem) (item : FileItem) → rows_in (above ++ item ∷ []) ≡ rows_in above ++ onto_rows item.row []
-rows_push [] item = refl
-rows_push (a ∷ above) item = ap (onto_rows a.row) (rows_push above item) ∙ onto_append a.row (rows_in above) (onto_rows item.row [])
 
 module _ (read : RowsAreRead) (ok : RowsAreOk) where
   above_by : (item : FileItem) (rest : List Row) (above next : List Row) (m n : ℕ) (o : Option Row) → next ≡ above ++ onto_rows o [] → content_row UnicodeData item.content ≡ Ok o
@@ -93,7 +80,7 @@ module _ (read : RowsAreRead) (ok : RowsAreOk) where
   rows_above : (above items : List FileItem) (m n : ℕ) → AreKeptBelow UnicodeData above items → All (begins_from m) (rows_in items) → Rises (rows_in items) → Leaves (rows_in above) m n → AreAbove n (named (rows_in items))
   rows_above above [] m n kept from rise leaves = tt
   rows_above above (item ∷ items) m n kept from rise leaves =
-      above_by item (rows_in items) (rows_in above) (rows_in (above ++ item ∷ [])) m n item.row (rows_push above item) kept.0.is_read (λ row e. rw e at kept.0.stands) from rise leaves
+      above_by item (rows_in items) (rows_in above) (rows_in (above ++ item ∷ [])) m n item.row (rows_append above item) kept.0.is_read (λ row e. rw e at kept.0.stands) from rise leaves
       (λ k l. rows_above (above ++ item ∷ []) items k l kept.1)
 
   all_from_zero : (rows : List Row) → All (begins_from 0) rows

@@ -61,7 +61,7 @@ Least_only p a b (Some q) (Some q') l m =
 
 -- ---- tests on mappings
 
-pair_mapping : (s y : ℕ) (m : List ℕ) → is_pair s y m ≡ true → m ≡ s ∷ y ∷ []
+pub pair_mapping : (s y : ℕ) (m : List ℕ) → is_pair s y m ≡ true → m ≡ s ∷ y ∷ []
 pair_mapping s y (a ∷ b ∷ []) e =
     let t = and_parts (a == s) (b == y) e in
     let first : a ≡ s = eqb-true a s t.0 in

@@ -1,5 +1,4 @@
 -- What the definitions give at small examples, worked out by hand.
---
 -- sample   the code points of three releases: 1 and 2; then 2 and 3; then 1, 3 and 5
 use Rattle.std.proofs.Common.{◌≡◌, ℕ, Bool, ◌==◌, List, [], ◌∷◌, Some, None, refl, codes, ◌||◌}
 use Rattle.std.specs.Fmt.{digits}

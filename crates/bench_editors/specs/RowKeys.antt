@@ -1,5 +1,4 @@
 -- Rows by numbers and texts, and the revisions that are kept under them.
---
 -- KeyParts             the place of a file among the source files; one more than a first code point, or 0; and names
 -- start_of code        one more than the code point; 0 if there is none
 -- row_parts row        of a file and a key

@@ -1,5 +1,4 @@
 -- The rows that groups of operations touch. Groups are numbered from 1 in their list.
---
 -- Touched                    a row, by its file and its key
 -- row_of op                  the row that an operation touches
 -- same_row a b               the same file, and equal keys

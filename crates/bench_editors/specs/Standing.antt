@@ -1,5 +1,4 @@
 -- Which states a desk stands for.
---
 -- desk_bench desk         the release of its bench
 -- desk_revision desk      the last revision
 -- desk_has desk editor    the editor is present

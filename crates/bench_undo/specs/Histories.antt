@@ -1,5 +1,4 @@
 -- The states of a history.
---
 -- HistoryState               how many earlier states are kept at most, the items of the files, and those of the earlier states, the latest
 --                            first
 -- accepted h files           the state after an accepted group that leaves these files: the ones before it are the latest earlier state,

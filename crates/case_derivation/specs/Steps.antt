@@ -1,5 +1,4 @@
 -- Mappings of lists, one member after the other. The Unicode Standard, section 3.13, toUppercase to toCasefold.
---
 -- image_of casing F      the image of a point with the facts F by a mapping that each point takes by itself
 -- mapped_by F casing s   the points of the images of the members, joined in order
 -- title_image begun F    the image in a title of a point with the facts F; the title has begun where a Cased point stands

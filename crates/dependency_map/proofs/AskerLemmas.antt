@@ -1,5 +1,4 @@
 -- A code point that the index does not give asks nothing.
---
 -- unasked       who is not listed under a question, and whose own one it is not, does not ask it
 -- none_more     one more that does not pass
 -- none_between  where none of a stretch passes, and none behind it may pass, none of both does

@@ -1,5 +1,4 @@
 -- The code points that pass a test, from one of them to the next.
---
 -- points_none p from        where none passes, there are none
 -- points_next p from c      where c passes and none before it does, c is the first of them
 -- points_same p r           tests that answer each code point alike have the same ones

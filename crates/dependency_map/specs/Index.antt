@@ -1,5 +1,4 @@
 -- The index of the code points that ask a question.
---
 -- query_key q         where the keys of the question begin: bits 21 to 41 are its last code point, and bits 42 to 62 the first one
 --                     of a pair, 110000 (hexadecimal) for a row and 110001 for a second member
 -- is_listed has q c   c is listed under the question: its key there is one that the index has

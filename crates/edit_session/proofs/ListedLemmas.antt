@@ -1,5 +1,4 @@
 -- What some code points ask, and one more of them.
---
 -- listed_one         it is listed by its list
 -- listed_none, listed_more, listed_all   of no code points, of one more, and of all
 use Rattle.std.proofs.Common.{◌≡◌, ◌≢◌, ◌∙◌, ℕ, ◌+◌, ◌<◌, ◌≤◌, Bool, true, false, ◌==◌, ◌||◌, ◌⊎◌, List, [], length, take, get_or, refl, sym, ap, subst, arith, inl, inr, take_all}

@@ -1,5 +1,4 @@
 -- What is kept of the questions of all code points, from state to state.
---
 -- keeps_same    the same questions, kept elsewhere
 -- alike         each code point is kept to ask one of the questions where each code point that they are about was walked exactly where it asks
 --               one

@@ -1,5 +1,4 @@
 -- A group that has raised the counter of steps by nothing so far.
---
 -- none_counted    nothing is at most the number of code points that depend on a change
 -- counts_none     a counter that stays is what any group may leave
 use Rattle.std.proofs.Common.{ℕ, List, [], Result, Ok, Err, refl, sym, arith, true≢false}

@@ -1,5 +1,4 @@
 -- Groups with a way back, and ways that are gone back.
---
 -- IsValidWayBack patch files   the patch is a way back from the files, and the rows to which it leads are valid
 -- Keeps patch after before     the patch leads from the files after a group back to those before it, and is such a way
 -- first_of result              the first of two answers; or why there is none

@@ -1,5 +1,4 @@
 -- Code points without a mapping.
---
 -- Unmapped F c         c has no mapping that counts, whether compatibility mappings count or not
 -- kind_forms           where the kind of c is Plain, its NFD, NFC and NFKC are c alone
 -- kind_rule            where it is, the expansions of c break no rule

@@ -1,5 +1,4 @@
 -- Proof that uniform code points have the same record.
---
 -- uniform_derived   the law of the same name
 use Rattle.std.proofs.Common.{◌≡◌, ℕ, Bool, [], Ok, if◌then◌else◌, refl, sym, ap, ◌∙◌}
 use Rattle.ucd_facts.specs.Composites.{is_canonical, second_of}

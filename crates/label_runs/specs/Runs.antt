@@ -1,5 +1,4 @@
 -- A section as far as it is written: the lines of the spans that have ended, and the run of one label that is open.
---
 -- lines_before n f m        the lines of the spans that begin before m
 -- run_line first end label  the line of a run from `first` to before `end`; none where it has no label
 -- run_length first end label   how many code points it lists

@@ -1,5 +1,4 @@
 -- The code points that questions are about.
---
 -- asked_about   of each question there is the one that it is about
 -- about_asked   and each of them is the one that some question is about
 use Rattle.std.proofs.Common.{◌≡◌, ℕ, true, ◌==◌, List, [], ◌∷◌, map, refl, sym, ap, inl, inr}

@@ -1,5 +1,4 @@
 -- Lists of code points from which there is a step to a code point.
---
 -- lead_grows   there is, where there are more keys
 -- lead_none, lead_both   of none, and of two lists
 use Rattle.std.proofs.Common.{◌≡◌, ◌≢◌, ℕ, ◌+◌, ◌<◌, Bool, true, ◌==◌, List, [], ◌∷◌, ◌++◌, sym, ◌∙◌, inl, inr}

@@ -1,5 +1,4 @@
 -- The law of the steps.
---
 -- IsCut F     a number past the code points has no mapping
 -- AskedLead   where there are steps to each code point from those that it mentions, one comes to a code point from each that its
 --             derivation asks about

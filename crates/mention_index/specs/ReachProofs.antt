@@ -1,5 +1,4 @@
 -- A derivation asks about code points alone that are reached from its own.
---
 -- asked_are_reached   the law of the same name
 use Rattle.std.proofs.Common.{◌≡◌, ap, ℕ, zero, suc, Bool, true, false, cond, not, nat_le, ◌==◌, length, map, List, [], ◌∷◌, ◌++◌, Option, Some, None, Result, Ok, Err, refl, sym, subst, inl, inr, option_and_then}
 use Rattle.std.specs.List.{flat_map, range_with_len}

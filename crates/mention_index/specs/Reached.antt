@@ -5,7 +5,6 @@
 -- about q            the code point that q is about: x of Row(x) and Second(x), and s of Pair(s, y)
 -- Reached F c x      from c one comes to x by steps from a code point to a member of one of its mappings, and from the first member of
 --                    a primary composite's mapping to the composite
---
 -- AskedAreReached    a derivation asks about code points alone that are reached from its own
 use Rattle.std.specs.Prelude.{◌≡◌, ℕ, true, List, flat_map}
 use Rattle.ucd_facts.specs.CompositeLaws.{Composes}

@@ -1,5 +1,4 @@
 -- From each code point that is reached from a code point one comes to it by the steps.
---
 -- reached_lead        where there are steps to each code point from those that it mentions, one comes to a code point from each that is
 --                     reached from it
 -- asked_lead          the law of the same name

@@ -1,5 +1,4 @@
 -- What is missed of code points.
---
 -- passed_over      of a code point that is not assigned or is listed nothing is missed
 -- plain_missed     of a code point without a mapping nothing is missed
 -- points_more      one more code point

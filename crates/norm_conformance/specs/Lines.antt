@@ -1,5 +1,4 @@
 -- What a line of NormalizationTest.txt says by itself. The head of that file; UAX #44, section 4.2.
---
 -- is_passed content        the line is blank, or a comment
 -- text_of content          what stands before the first `#`, without white space around it
 -- is_mark text             the text begins with `@`

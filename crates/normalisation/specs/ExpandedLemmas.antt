@@ -1,5 +1,4 @@
 -- What is expanded, and what expands to it.
---
 -- Unmapped F compat x     x has no mapping that counts
 -- ok_same                 two lists in Ok that are the same are the same list
 -- appended_ok             where two results appended are a list, both are lists, and that list is the two joined

@@ -1,8 +1,6 @@
 -- The laws of the normalisation forms. UAX #15, section 1.2; The Unicode Standard, section 3.11.
---
 -- HasExpansion F compat c       c breaks neither V2 nor V3 for that kind of mapping
 -- HaveExpansions F compat       no code point breaks them; in a valid release this holds for both kinds
---
 -- NfdTwice, NfkdTwice           NFD of NFD, and NFKD of NFKD, is that list
 -- NfcTwice, NfkcTwice           so is NFC of NFC, and NFKC of NFKC, where each code point has its expansion
 -- NfdOfNfc, NfkdOfNfkc          the NFD of the NFC of a list is its NFD, and the NFKD of its NFKC is its NFKD, where each code

@@ -1,5 +1,4 @@
 -- Proofs on the four forms together.
---
 -- forms_are_together, plain_forms   the laws of the same names
 -- four_have_forms                   where each form is there, the four of them are together
 -- forms_given                       where each member has its expansions, each form is there

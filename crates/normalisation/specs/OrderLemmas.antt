@@ -1,5 +1,4 @@
 -- Lists in canonical order.
---
 -- last_class class k xs         the class of the last point; k where there is none
 -- Ordered class k xs            behind a point of class k, no point of non-zero class has a class less than the point before it
 -- with_next_starter             one more point of class 0 stays at the end

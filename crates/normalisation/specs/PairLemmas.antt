@@ -1,5 +1,4 @@
 -- What the pair of two points is.
---
 -- Joins F s y q   q is a code point with a canonical mapping, s y; q and s have class 0
 -- pair_joins      the pair of two points, where there is one, joins them so
 use Rattle.std.proofs.Common.{◌≡◌, ℕ, ◌<◌, true, ◌&&◌, ◌==◌, [], ◌∷◌, Option, Some, None, ap, ◌∙◌, sym, subst}

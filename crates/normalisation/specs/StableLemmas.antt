@@ -1,5 +1,4 @@
 -- What composition keeps, point by point: what is composed so far decomposes to what was read.
---
 -- Alone F compat x                   x has an expansion, which is in order and composes to x alone
 -- StarterBelow F compat cut n        the expansion of the last starter ends with a class that is at most n
 -- Stable F compat done read          done decomposes to read; its marks are unmapped; each of its points is Alone; and the

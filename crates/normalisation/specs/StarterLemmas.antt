@@ -1,5 +1,4 @@
 -- The last starter of a list that grows.
---
 -- CutsAt class xs cut   xs is what stands before a starter, the starter, and what stands after it, where no starter is; of None
 --                       it says nothing
 -- push_after y cut      the cut of a list with one more point at its end

@@ -1,5 +1,4 @@
 -- Sets of small numbers, a bit for each. The bits of a word m say which numbers of the word at a place pass q.
---
 -- one_bit     the bits of a word with one bit set
 -- mask_bit    those of a mask
 -- none_shared, some_shared   whether a number passes that is in, if a word shares no bit with m, or some

@@ -1,5 +1,4 @@
 -- The next key of a list.
---
 -- kept_by_dedup   a list that is freed of repeats has the same numbers
 -- listed_next     the first number of an ascending list that is not below start is the next one
 use Rattle.std.proofs.Common.{◌≡◌, ℕ, ◌+◌, ◌<◌, ◌≤◌, true, false, List, length, get_or, sym, subst, arith, inl, inr, eqb, ltb}

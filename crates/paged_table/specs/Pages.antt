@@ -1,5 +1,4 @@
 -- Blocks of 256 code points, and whether their values are equal, as functions of the code point.
---
 -- block_count          there are 4352 blocks
 -- block_width          of 256 code points each
 -- in_block f b         the 256 values of block b: those from code point 256 b on

@@ -1,5 +1,4 @@
 -- The code points of which entries of a list may speak.
---
 -- AllSet, NoneSet points first last   the code points from one to another are in; none of them is
 -- end_of entry              the greater one of an entry's first and last code points
 -- Meets entry first last    an entry has one of the code points from one to another, which do not descend

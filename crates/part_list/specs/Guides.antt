@@ -1,5 +1,4 @@
 -- Bounds of blocks of parts.
---
 -- width                     how many parts a block has
 -- Covers guides parts       the first blocks have bounds, and the entries of their parts are within them
 -- CoversBut slot guides parts   the same of all blocks but the one of this part

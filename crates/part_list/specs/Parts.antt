@@ -1,5 +1,4 @@
 -- A list in parts.
---
 -- flat parts            the parts put together, one behind the other: the list
 -- part_at parts k       part k, counted from 0; no entries if there is no such part
 -- before parts k        how many entries the first k parts have

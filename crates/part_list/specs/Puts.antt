@@ -1,5 +1,4 @@
 -- What an edit puts into a list.
---
 -- put_entries put    the entries, in order
 use Rattle.std.specs.Prelude.{List, ◌++◌, option_to_list}
 use Rattle.part_list.specs.declared.put.Put.{Put}

@@ -1,5 +1,4 @@
 -- What is known of the spots that searches answer.
---
 -- around          a list is cut round a part
 -- place-lt        the place of an entry lies in the list
 -- first_passes    the first entry that passes does pass

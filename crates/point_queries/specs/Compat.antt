@@ -1,5 +1,4 @@
 -- Trees without a compatibility mapping.
---
 -- has_compat F n c     a point of the tree of c with n levels has a compatibility mapping
 -- canonical_asks F c   what Form C of c asks, if a point of its tree has such a mapping; else nothing: Form KC asks the same
 -- compat_here, compat_there, compat_nowhere   with a level left: of c itself, of a member of its mapping, and of none of these

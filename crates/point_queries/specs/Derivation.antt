@@ -1,5 +1,4 @@
 -- The derivation of a code point with its questions.
---
 -- DerivesAs r value        r is the record, or in its place the rule; no claim if memory ran out
 -- plain_shown c G          the point c with the facts G has no mapping
 -- composite_shown F G      the pair of the mapping of a point with the facts G, where it is a primary composite

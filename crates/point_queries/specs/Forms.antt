@@ -1,5 +1,4 @@
 -- Forms that may not be there.
---
 -- list_in r            the list r; None where r is a rule
 -- composing_at F form   what the composition of the decomposed list asks; of None nothing
 -- composed_at F form    the decomposed list composed; None where there is none

@@ -1,5 +1,4 @@
 -- The members of a code point's mappings, part by part.
---
 -- simple_members G     the simple case mappings and the simple folding, of a point with the facts G
 -- image_members c G    the members of the full case mappings and the full folding of the point c with the facts G
 -- members_joined       the rows of the decomposition mapping, of the simple and of the full mappings, one behind the other, are

@@ -1,5 +1,4 @@
 -- Lists of questions as sets.
---
 -- set_has     a list of questions that is sorted by some order and freed of repeats has the same questions
 -- set_rises   and each of its questions is below those behind it
 use Rattle.std.proofs.Common.{◌≡◌, Bool, true, List, sym, subst, Ordering}

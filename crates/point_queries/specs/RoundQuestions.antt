@@ -1,5 +1,4 @@
 -- The rounds of a code point that reaches a last one, step by step.
---
 -- rounds_are     what is put round by round are the questions that all rounds up to the last one ask
 use Rattle.std.proofs.Common.{◌≡◌, ℕ, zero, suc, ◌+◌, ◌-◌, ◌<◌, ◌≤◌, true, false, cond, ◌||◌, List, [], ◌∷◌, ◌++◌, add-one, Option, Some, None, is_some, refl, sym, ap, ◌∙◌, subst, arith, option_and_then, true≢false}
 use Rattle.std.specs.List.{flat_map, range_with_len}

@@ -1,5 +1,4 @@
 -- Values at places, of which some may have been let go.
---
 -- held_at s p          the value at place p; None where it was let go, and past the last place
 -- value_at s p         the same; where there is none, the value at place 0, which is never let go
 -- held_behind s        how many places behind place 0 hold a value

@@ -1,5 +1,4 @@
 -- What is known of the stretches that an iterator gives.
---
 -- stretches_cover   they follow one another without a gap, from where it stands up to the last code point, and each is told
 -- holds_of_all      what holds throughout each of them holds of all code points
 -- few_stretches     there are at most as many as code points

@@ -1,5 +1,4 @@
 -- All code points, stretch by stretch.
---
 -- Told post lo hi           a call at lo may tell hi; if it tells a code point before lo, hi is lo
 -- IsNext post s x t         a turn: the stretch x begins where those before it ended, and is told
 -- GivesStretch post s r t   the same; none is left exactly behind the last code point

@@ -1,5 +1,4 @@
 -- Look-ups by bytes.
---
 -- lookup_insert    what is found after an insertion
 -- add_name_is      a name put last, unless it is there
 -- placed_at        the name at a place of a set

@@ -1,5 +1,4 @@
 -- What counts of names.
---
 -- loose_again    all counts of what counts of a name
 use Rattle.std.proofs.Common.{◌≡◌, ℕ, Bool, true, false, if◌then◌else◌, List, [], ◌∷◌, map, refl, arith, filter}
 use Rattle.std.proofs.lemmas.Bool.Decides.{nat_tests}

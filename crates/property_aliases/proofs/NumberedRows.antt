@@ -1,5 +1,4 @@
 -- Rows by the numbers of their values.
---
 -- known            a name that has a number is there
 -- numbered_more    one row more, with a name that is there or goes last
 -- numbered_still   no row more, but such a name

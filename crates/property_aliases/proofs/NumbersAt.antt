@@ -1,5 +1,4 @@
 -- Numbers in a list of maps.
---
 -- number_at_push        a map at the end: those before it stay
 -- number_at_last        the map at the end
 -- number_at_set         a map put in the place of another

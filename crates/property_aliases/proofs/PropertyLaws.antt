@@ -1,5 +1,4 @@
 -- Properties and their places.
---
 -- property_by_index    the property at the place of a property is it
 -- kind_below           the kinds of properties are below 7
 -- kind_names_are       the names of a property's values are those of its kind

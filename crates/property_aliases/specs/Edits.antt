@@ -1,5 +1,4 @@
 -- What stays of the rows that names are resolved by while files are edited.
---
 -- AreSameBut edited old next   the rows of each file that tells names or values are the same of both, but of the files that were edited
 -- told_by rows                 what names are resolved by, of these rows
 -- HasSameNames a b             the values of both have the same names by the same numbers

@@ -1,5 +1,4 @@
 -- Loose matching of names. UAX #44, section 5.9.3, rule UAX44-LM3.
---
 -- is_kept b        a byte that counts: all but white space (09 to 0D, 20), `_` and `-`
 -- to_lower b       the small letter of an ASCII capital letter; every other byte itself
 -- loose n          what counts of a name: its bytes but white space, `_` and `-`, in lower case

@@ -1,5 +1,4 @@
 -- Numbers by what counts of names.
---
 -- number_in m key             the number of the names of which this is what counts; None where they have none
 -- found_in direct rows key    the less of the numbers of a key in two maps
 -- index_in_names n key        which property a key names, by a table of the names of properties

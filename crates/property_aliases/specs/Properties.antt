@@ -1,5 +1,4 @@
 -- Properties by their names. UAX #44, sections 5.1 and 5.8.
---
 -- built_in              the properties that are built in, in order
 -- property_names s      the names of properties in order: two of each that is built in, then those of PropList.txt
 -- index_at place        which property the name at a place of that list is of, counted from 0

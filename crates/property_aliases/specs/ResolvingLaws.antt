@@ -1,5 +1,4 @@
 -- Names are resolved by least numbers.
---
 -- least a b                  the less of two numbers, of which each may be missing
 -- direct table key           the place of the first name of the table that the key matches
 -- row_number f row           the least place to which a name of the row leads, where f leads from a name

@@ -1,5 +1,4 @@
 -- What names are resolved by: the rows of a release.
---
 -- add_name names n      the names with one more behind them, unless it is there
 -- in_order names        the names in order of first appearance, each once; a name is told by its bytes
 -- alias_of row          the names of a row of an alias file, as the one item of a list; no item for other rows

@@ -1,5 +1,4 @@
 -- Values of properties by their names, and names that stand alone. UAX #44, sections 5.7 and 5.8; UTS #35, "Unicode Sets".
---
 -- index_of p             the place of a property among those that are built in and those that are listed behind them
 -- class_names            0 to 254 in decimal
 -- names_for s p          the names of the values of a property in order

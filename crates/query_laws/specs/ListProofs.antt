@@ -1,5 +1,4 @@
 -- What holds of each member of a list.
---
 -- Each-left, Each-right    of both parts of a joined list
 -- Each-both                of the joined list, where it holds of both parts
 -- Each-if                  of either of two lists

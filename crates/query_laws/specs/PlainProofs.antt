@@ -1,5 +1,4 @@
 -- What a code point without a mapping asks.
---
 -- plain_ask_own   the law of the same name
 use Rattle.std.proofs.Common.{◌≡◌, ℕ, zero, suc, Bool, true, false, cond, ◌||◌, not, ◌==◌, List, [], ◌∷◌, ◌++◌, Option, Some, None, Ok, if◌then◌else◌, refl, sym, ap, ◌∙◌, subst, ◌⊎◌, inl, inr, option_and_then}
 use Rattle.std.specs.List.{flat_map, range_with_len}

@@ -1,5 +1,4 @@
 -- Locality of the derivation: facts that answer what it asks alike derive the same record, and ask the same.
---
 -- has_last         the rounds of a point whose foldings have values have a last one, by each folding
 -- asked_is_local   the law of the same name
 use Rattle.std.proofs.Common.{◌≡◌, ℕ, Bool, true, false, cond, ◌&&◌, ◌||◌, not, ◌==◌, List, [], ◌∷◌, ◌++◌, Option, Some, None, Ok, if◌then◌else◌, refl, sym, ap, ◌∙◌, subst, arith, option_and_then, bytes_eq}

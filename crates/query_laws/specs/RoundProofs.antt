@@ -1,5 +1,4 @@
 -- Locality of the folding rounds.
---
 -- same_rounds, same_foldings   the laws of the same names
 -- fold_same, folded_same       the folded list, by the full folding and by either
 -- Each-range, Each-places      what holds of the lists of a range of numbers holds of the list of each, and of each what holds

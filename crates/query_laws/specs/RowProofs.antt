@@ -1,5 +1,4 @@
 -- What is made of the facts of the members of a list is the same where these are.
---
 -- list_any-same, where_same   a test of some member, and of a list that is there
 -- lacks_same                  whether a mapping has a member without a row
 -- zero_class_same, excludes_same, composite_same, hidden_same   what is asked of a composite's mapping

@@ -1,5 +1,4 @@
 -- The tree of an expansion is the least set of points that holds the point and, with each point, the members of its mapping.
---
 -- tree_is_least   the law of the same name
 use Rattle.std.proofs.Common.{◌≡◌, ℕ, zero, suc, Bool, true, ◌==◌, List, [], ◌∷◌, Option, Some, refl, sym, ap, ◌∙◌, subst, inl, inr, flat_map}
 use Rattle.std.proofs.lemmas.Bool.{true≢false, eqb-true, eq-eqb, or_cases, or_left, or_right}

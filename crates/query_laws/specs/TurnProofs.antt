@@ -1,5 +1,4 @@
 -- Proofs of the laws of turns.
---
 -- others_stay, collected_are_dependants, collected_are_counted, next_is_valid, next_is_broken, next_keeps_asked   the laws of the
 --   same names
 use Rattle.std.proofs.Common.{◌≡◌, ℕ, ◌<◌, Bool, true, false, nat_lt, List, [], ◌∷◌, Err, refl, sym, ap, ◌∙◌, arith, inl, inr}

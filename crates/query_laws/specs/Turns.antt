@@ -10,7 +10,6 @@
 -- IsWithinDependants F G n   n is at most the number of dependants
 -- IsTurn F G A Q points    before, all code points have their records, and what they ask is kept; Q are the questions whose
 --                          answers change, and the points are those that ask one of them
---
 -- OthersStay               in a turn each other code point has the same record, and asks the same
 -- CollectedAreDependants   the points are just the dependants
 -- CollectedAreCounted      and their number is at most that of the dependants

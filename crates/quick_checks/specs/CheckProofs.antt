@@ -1,5 +1,4 @@
 -- Proofs of the laws of the quick checks.
---
 -- decomposed_alone        where the mapping of c does not count, the decomposition of c alone is c alone
 -- composed_alone          where it does not, what is composed of that decomposition is c alone
 -- quick_nfd, quick_nfkd   the quick checks of NFD and NFKD are decomposed_check, for canonical mappings and for all

@@ -1,6 +1,5 @@
 -- Lines of a file with where they stand. Lines are counted from 1 over all lines of a file, comments and empty lines among them.
 -- UAX #44, section 4.2.
---
 -- line_text file n found       where the file lies, ` line `, the number, `: `, the content that was found, and LF; nothing for None
 -- numbered_line file lines n   these of the line with this number, where these are the contents of the file's lines; nothing if there
 --                              is no such line

@@ -1,6 +1,5 @@
 -- The text of a record, and of what differs between two records of one code point. Properties come in the order of the derived
 -- files and of their sections, each by the name that its section has there. UAX #44, section 5.3.
---
 -- value_line R l          the line of a property: its name, ` ; `, its value in the record R, and LF
 -- file_values R file      the lines of the properties of a derived file, in order
 -- record_text c R         `# ` and the code point, and then the lines of all properties

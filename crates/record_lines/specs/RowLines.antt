@@ -1,5 +1,4 @@
 -- The rows of a release that speak of a code point, as they stand in the lines of their files. UAX #44, section 4.2.
---
 -- is_range row                 the row stands in two lines: a range of UnicodeData.txt. Every other row stands in one
 -- place_of numbered            where a row stands, given with the number of its first line
 -- speaking c rows              of rows with the numbers of their first lines, those that speak of the code point, in order: it is one

@@ -1,5 +1,4 @@
 -- The value of each property in a record, in the words of the derived files. UAX #44, sections 4.2.10, 5.3 and 5.7.
---
 -- binary_value b     `Y` where the property holds, else `N`
 -- quick_value q      `Y`, `N` or `M`, for Yes, No and Maybe
 -- kind_value kind    `canonical`, or the tag without its brackets; `none` for Plain

@@ -1,5 +1,4 @@
 -- The lines of a series, one more at a time.
---
 -- range_more n         the numbers below n + 1 are those below n, and n behind them
 -- series_none line     no number has no line
 -- series_more line n   one number more has one line more

@@ -1,5 +1,4 @@
 -- How a patch is made.
---
 -- Grew old new               the new text is the old one with more behind it
 -- AreCopies file from entries text copies   the copies stand in the text, and are the items that the entries are in the text `from`
 -- LeadsOn old new file next now   wherever the old patch leads to nine files of which this one has the items next, the new patch leads to

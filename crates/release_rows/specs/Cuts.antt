@@ -1,5 +1,4 @@
 -- What the items of a file keep so that they are the items of their bytes.
---
 -- begins_from c row      the row begins at c or behind it
 -- Rises rows             no row begins below a row above it
 -- Ascends file rows      the rows of UnicodeData.txt rise; those of other files need not

@@ -1,6 +1,5 @@
 -- What is kept of a row while its file is loaded: its key, the last code point that no other row may have, and what is kept of what
 -- the row gives.
---
 -- IsFree result place rule     the place is handed back where there is no rule, else the result is the rule
 -- IsEntry file row e           e has the names of the row's key, its first code point, the last one that may not be shared, the last one
 --                              of all, and what is kept of what the row gives

@@ -1,5 +1,4 @@
 -- The items of a file: trivia, and rows with the bytes that they stand in.
---
 -- FileItem               the content of a row or of a line of trivia, what ends it, how many lines it has, and the row; None for
 --                        trivia
 -- FileLists              a file with its items now, and those that are to be the next ones

@@ -1,5 +1,4 @@
 -- Lemmas of files and their items.
---
 -- each_with_items             what holds of each file's items, and of the new ones of a file, holds of each file's once they are
 --                             there
 -- items_at-with_items_same    the file in which the items were put has them

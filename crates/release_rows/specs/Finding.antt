@@ -1,5 +1,4 @@
 -- What the searches of an operation answer.
---
 -- items_of file text parts             the items of the entries of the parts
 -- FindsGap result file text row parts  the gap of an added row, where none has its key and none overlaps it; or the rule
 -- IsFirst spot p items parts           the entry at the spot has the first row that passes

@@ -1,5 +1,4 @@
 -- The keys of rows that are compared once all of them are there.
---
 -- placed_of entry           what is put behind them: the key of a row, and nothing of trivia
 -- AreGathered file rows ps  they are those of the rows, in their order
 use Rattle.std.specs.Prelude.{◌≡◌, List, [], ◌∷◌, map, Option, Some, None, All}

@@ -1,5 +1,4 @@
 -- The keys of rows, and which rows of one file may not stand together.
---
 -- same_key file a b           the rows have one key: K1
 -- has_spans file              the rows of the file have spans that may not overlap
 -- spans_meet a b              the spans share a code point

@@ -1,5 +1,4 @@
 -- Laws of loaded files.
---
 -- NoFaultBelow file above ps        no piece has a fault below the items above them all and those of the pieces above it
 -- NoFault file ps                   no piece has a fault below the items of the pieces above it
 -- FirstFaultBelow file above ps f   f is the fault of one of the pieces, and no piece above that one has a fault, below those

@@ -1,5 +1,4 @@
 -- Leads: rows with counts of items among which no row of their group has a greater key.
---
 -- NoneFollows file row items   none of the items has a row that follows this one
 -- GivesRow file text item row   the stretch lies within the text, and its content reads as the row
 -- IsLead file text items lead   the lead's stretch gives a row of its code point, which none of its count of items follows

@@ -1,5 +1,4 @@
 -- The loader of the code, as the definitions name it.
---
 -- items_above l   the items so far
 -- progress_of l   the file, its text and the items so far
 -- IsSound l       its fields are IsLoading: so they are but after an error

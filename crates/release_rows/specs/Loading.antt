@@ -1,5 +1,4 @@
 -- The items of a file, or the first line that breaks a rule.
---
 -- LoadFault                          the number of a line, and the rule that is broken there
 -- some_row result                    the same result, with the row as one that is there
 -- content_row file content           nothing of trivia; else the row that the content stands for, or its first fault

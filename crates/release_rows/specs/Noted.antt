@@ -1,5 +1,4 @@
 -- The groups and the keys of the rows of a file, as numbers.
---
 -- hash_on hash bytes          the hash with more bytes: each is one more digit of base 2654435761, and no digit is 0; what is left of that
 --                             number when it is divided by 4294967291, a prime
 -- names_hash hash names       the hash with more names, each with a `;` behind it

@@ -1,5 +1,4 @@
 -- Laws of operations.
---
 -- OperationsKeepRows    where the items of a file are kept, they are so after an operation on the file: each item is read from its
 --                       content, keys differ, and rows do not overlap where the file forbids it
 -- OperationsKeepOrder   where the rows of UnicodeData.txt ascend, they do so after an operation

@@ -1,5 +1,4 @@
 -- One operation on the rows of a file: which rule it breaks, and what the items are after it.
---
 -- row_passes p item            the item has a row, and that passes the test; never so of trivia
 -- holds_row p items            some row passes
 -- has_key file key row         the row has this key

@@ -1,5 +1,4 @@
 -- Patches: the way from later items of files back to earlier ones.
---
 -- SpliceItems                a file, a place among its items, counted from 0, the items that stand there, and those that stood
 --                            there before
 -- Stands s items             the later items of the splice stand at its place among these

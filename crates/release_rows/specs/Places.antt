@@ -1,5 +1,4 @@
 -- Places in their order, and the extents that a map from places to last code points holds.
---
 -- names_of bs         the names that stand between the `;` of a text; no names for no bytes
 -- names_in p          the names of a place
 -- place_cmp           by the text of the names, and then by the code point

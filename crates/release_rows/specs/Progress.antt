@@ -1,5 +1,4 @@
 -- How far a file is loaded.
---
 -- Progress                      the file, its text, and its items so far
 -- IsLoading file text items start count end   the items stand in the text, now and next, each with the code points of its row;
 --                               beside them are kept the first code point of the last row, the number of lines, and where they

@@ -1,5 +1,4 @@
 -- What a release keeps.
---
 -- items_at files file             those of one file, which stands at its place in the list of the files
 -- with_items files file items     the same with other items in one file
 -- no_items                        no file has an item

@@ -1,5 +1,4 @@
 -- What is looked for among the entries of a file, by the code points of an entry and the content in which its item stands.
---
 -- is_row file content                    the content is no trivia
 -- has_names file names content           it is that of a row, in whose key are these names
 -- is_of_group file group content         it is that of a row of the group of this name

@@ -1,5 +1,4 @@
 -- Spans by their first code points, each of which reaches as far as all before it.
---
 -- bounds_of b                  such a span, from its first code point to the last one that it reaches
 -- IsOrder bs                   both go up
 -- reach_with bs hi             how far spans reach that go on with one up to hi

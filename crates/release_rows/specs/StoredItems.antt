@@ -1,5 +1,4 @@
 -- The pieces and items of the code, as the definitions name them.
---
 -- piece_of p                the lines of a piece: its first one, and the second where it has one
 -- content_at text s         the content that stands at a stretch of the text
 -- item_at file text s       the item that stands there: the row is read from the content

@@ -1,5 +1,4 @@
 -- The rows that speak of code points in spans.
---
 -- meets spans row     the row speaks of a code point in some of the spans; never so of a row of names
 -- RowsMeet            each row that speaks of a code point in one of the spans meets them
 use Rattle.std.specs.Prelude.{◌≡◌, ℕ, Bool, true, List}

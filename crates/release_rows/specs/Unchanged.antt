@@ -1,5 +1,4 @@
 -- What an operation leaves as it was: everything but its row keeps its bytes and its order.
---
 -- has_row op row          the row has the operation's key: that of the row which is added or changed, or the one that is withdrawn
 -- others op items         the items but for those with such a row, in order; comments and empty lines are among them
 -- in_front op next        how many items stand in front of the row that was added; none if no row is added

@@ -1,5 +1,4 @@
 -- Rows that share no code point.
---
 -- AreApart test rows     no two of the rows pass the test
 -- AreValuesApart rows    no code point is covered by two rows with a value; two missing rows may cover it
 -- ValuesAreApart         the rows that are kept of a file that has missing rows are so

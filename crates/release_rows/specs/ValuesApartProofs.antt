@@ -1,5 +1,4 @@
 -- Proof that rows that are kept are apart.
---
 -- values_apart           the law ValuesAreApart
 -- values_apart_within    where rows are apart, those of them that pass a test are
 -- onto_append            a row that may be there, put before rows and others

@@ -1,5 +1,4 @@
 -- The rows of a file, one after the other.
---
 -- IsWalk file text items line   the items that are left stand in the text, the first on this line, and with two lines each their line
 --                               numbers stay below 2^64
 use Rattle.std.specs.Prelude.{ℕ, ◌+◌, ◌*◌, ◌<◌, ◌^◌, List, length, All}

@@ -1,5 +1,4 @@
 -- How a run of a program is to end, by its words and by what the shelf holds.
---
 -- Contents                what a shelf holds at each path: the bytes of a file, or None
 -- NewFile                 a path, and the bytes that are written there
 -- Ending                  how a run ends that is not refused: the files that are written, in order, each path with its bytes; the

@@ -1,5 +1,4 @@
 -- Files whose paths differ do not take the place of one another.
---
 -- others_of path paths    none of the paths is this one
 -- all_apart paths         no two of the paths are the same
 -- paths_of files          the paths of files, in order

@@ -1,5 +1,4 @@
 -- Reading the files that a run needs.
---
 -- cut held               the bytes that are held, up to one more than a file may have
 -- IsRead tells holds paths read   what was read is what was seen at the paths, each of them cut
 -- text_at texts at       the text at a place, no bytes past the last

@@ -1,5 +1,4 @@
 -- What is written of a release below a folder.
---
 -- source_file folder files file    a source file as it is among these files: its path below the folder, with its bytes
 -- derived_file folder files file   a derived file of these files: its path below the folder, with its bytes
 use Rattle.std.specs.Prelude.{ℕ, List}

@@ -1,5 +1,4 @@
 -- The lines of a log that tell of groups.
---
 -- log_line line said        a line of the log: the number of the command's line, a space, what is said of it, and LF
 -- accepted_line line count  of a group that was accepted: how many code points have another record
 -- key_rule_code rule        the code of a rule that an operation breaks: K1, K2 or K4

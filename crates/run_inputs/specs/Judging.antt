@@ -1,5 +1,4 @@
 -- Judging what was read.
---
 -- refusal_of stop                 the refusal that the stop tells; None if memory ran out
 -- JudgedAs view result expected   a result, seen by view, is what was expected; no claim if memory ran out
 -- ToldAs view result expected     the same of a result whose refusal is a line; no read failed

@@ -1,5 +1,4 @@
 -- The lines that refuse what was read, each ended by LF, and the codes of the rules.
---
 -- refused path line rule   a file is refused: the number of the line, 0 for the file as a whole, and the rule's code
 -- refused_point folder b   a code point of the release in a folder breaks a rule: the point, and the rule's code
 -- bad_code rule            the code of a rule of a valid release: V1 to V5

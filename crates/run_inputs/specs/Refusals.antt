@@ -1,5 +1,4 @@
 -- The lines that refuse what was read.
---
 -- folder_line folder why        the line of a refusal of a folder: the path of the file, the number of the line, 0 for the file as a
 --                               whole, and the rule's code; or the folder, the code point, and the rule's code. An absent file is G01
 -- script_rule_code rule         the code of a rule that a script breaks; with E6 the rule that the row or the key breaks

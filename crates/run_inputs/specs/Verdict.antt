@@ -1,5 +1,4 @@
 -- What was read gives, or why it is refused.
---
 -- and_then result more        what more makes of the value; a refusal stays
 -- file_verdict file held      the items of what is held of a source file; an absent file is refused, and one with a fault
 -- all_items verdict_on files  the items of each file, in order, or the refusal of the first file that has one

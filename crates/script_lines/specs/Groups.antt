@@ -1,5 +1,4 @@
 -- The groups of a script can be carried out: each operation is one, and a group has at most 4,096.
---
 -- AreWellFormed ops         each of the operations has a row that its file can have, and bytes that are read as it; and there are at
 --                           most 4,096
 -- IsWellFormed command      so are those of its group, if it is one; nothing is said of a question

@@ -1,5 +1,4 @@
 -- What a line of a script says by itself.
---
 -- Said                         nothing, of a blank line and a comment; `begin`; `end`; the text of a question; a row that is put
 --                              into a file; a key of a row that is taken out of one; or no command
 -- is_space b                   the byte is a space

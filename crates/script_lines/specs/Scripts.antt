@@ -1,5 +1,4 @@
 -- The commands of a script, or the first fault.
---
 -- ScriptFault                  the number of a line, and the rule that is broken there
 -- ScriptPiece                  a line, and the one behind it where the first begins a range
 -- opens_range said             a row of UnicodeData.txt is put, by the first line of a range

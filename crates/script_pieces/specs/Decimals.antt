@@ -1,5 +1,4 @@
 -- The numbers of marks.
---
 -- is_plain word           no `+` stands first, and a first 0 stands alone
 -- number_of word          the number below 2^32 that the word writes in decimal digits with no zero to spare, which is the value of its
 --                         digits; None where it writes none

@@ -1,5 +1,4 @@
 -- A file of scripts between marks. A mark is a line that begins with `@`.
---
 -- is_mark line            the line begins with `@`; an empty one does not
 -- Marked                  a mark, the number of its line, and the lines behind it up to the next mark
 -- Cut                     the lines before the first mark, and the marks with the lines behind them

@@ -1,5 +1,4 @@
 -- The script of a piece, or its first fault.
---
 -- PieceFault                  the number of a line of the file, and the rule that is broken there
 -- piece_script piece          the commands of the piece, whose lines are counted in the file; or its first fault
 -- first_line_of commands n    the line of the first of these commands; n where there are none

@@ -1,5 +1,4 @@
 -- The pieces of the code, as the definitions name them.
---
 -- mark_of mark            the mark: the number of its line, and its content
 -- piece_of piece          the piece: its mark, the number of its first line, and its bytes
 -- left head               the pieces that are left behind a head: its mark, the number of the line behind it, and the text from there

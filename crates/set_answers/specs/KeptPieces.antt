@@ -1,5 +1,4 @@
 -- The pieces of equal records that are kept, and when they stay.
---
 -- AreKeptOf pieces p R      the pieces, if there are some, are those of records that are R but where p says that they changed
 -- AreKept kept R            what is kept is so
 -- HasPieces kept R          pieces are kept, and they are those of the records R

@@ -1,5 +1,4 @@
 -- What a question is answered on the files of a release. UTS #35, "Unicode Sets".
---
 -- files_sources files             what names are resolved by in these files
 -- files_record files              the record of each code point that is derived of the rows of these files
 -- files_hold files test c         what a test says of the code point c, by the rows of these files and by what is derived of them;

@@ -1,5 +1,4 @@
 -- What is said of a question that is refused.
---
 -- set_rule_code rule    the code of a rule that the text of a question breaks: S1 to S7
 -- name_rule_code rule   the code of a rule that a name breaks: S8 or S9
 -- ask_rule_code rule    the code of either

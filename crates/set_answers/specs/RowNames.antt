@@ -1,5 +1,4 @@
 -- What questions need of the rows alone, and when it stays.
---
 -- AreRowNames names files     the names mean what the rows of these files say, and the sets have the code points that they give
 -- AreNamesBut names edited files   the names and the sets are those of files of which only the edited ones have other rows than these
 -- AreNamesKept kept files           what is kept is that of the edited files, if anything is

@@ -1,5 +1,4 @@
 -- The text of the answers to questions.
---
 -- span_entry s             the line of a span: one code point, or the first and the last joined by `..`, and LF
 -- members_in spans         how many code points lie in the spans together
 -- members_text spans       the members that a question is answered with: a line for each span, and `# total N` with their number

@@ -1,5 +1,4 @@
 -- What is kept for questions stays after a group.
---
 -- others_stay   after a group that was accepted, each code point that it is not answered with has the record that it had
 use Rattle.std.proofs.Common.{◌≡◌, ℕ, ◌<◌, false, List, Result, Ok, Err, sym, ap, ◌∙◌}
 use Rattle.edit_session.specs.Groups.{AppliesAs, files_facts}

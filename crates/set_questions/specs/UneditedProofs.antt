@@ -1,5 +1,4 @@
 -- The files that a group does not edit have the items that they had.
---
 -- unedited_stay   after a group that was accepted, each file that no operation of it is on has the same items
 use Rattle.std.proofs.Common.{◌≡◌, ◌≢◌, ℕ, ◌+◌, Bool, true, false, List, [], ◌∷◌, Option, Some, None, Result, Ok, Err, refl, sym, ap, subst, ◌∙◌}
 use Rattle.std.proofs.lemmas.Bool.{or_parts}

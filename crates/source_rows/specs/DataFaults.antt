@@ -1,5 +1,4 @@
 -- The row of a line of UnicodeData.txt, or the first rule that it breaks. UAX #44, section 5.7.
---
 -- at_least_one mapping              the mapping where it has a member, else None
 -- is_gt b                           the byte is `>`
 -- canonical_or_fault bs             field 5 without a tag: a bad mapping (G07), more than two code points (G10)

@@ -1,5 +1,4 @@
 -- The row that bytes stand for, or the first rule that they break. UAX #44, sections 4.2 and 5.3.
---
 -- value_line file content row      the row of a line with these values: a missing row where the line is one, else an ordinary row
 -- line_or_fault file content       of one line, by its file
 -- lines_or_fault file front last   of the bytes before and behind the first LF: two lines of UnicodeData.txt; G03 where a LF is

@@ -1,5 +1,4 @@
 -- Which texts stand for which keys, and the first rule that a text breaks.
---
 -- ReadsCodeKey fs key           a code point
 -- ReadsPropertyKey fs key       a code point, and a name
 -- ReadsFoldKey fs key           a code point, and a status; the key has its letter

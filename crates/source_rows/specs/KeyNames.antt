@@ -1,5 +1,4 @@
 -- The names of a row's key and the name of its group, as they stand in the content of the row.
---
 -- content_names file content   field 1 in PropList.txt and CaseFolding.txt; in SpecialCasing.txt the conditions of field 4, with one
 --                              space between them, and no name where there are none; the first two fields in PropertyAliases.txt,
 --                              the first three in PropertyValueAliases.txt; of a missing line those of its span; no names of the

@@ -1,5 +1,4 @@
 -- The text of a key.
---
 -- behind_name sep names   the first name with what stands between it and the code point; nothing for no names
 -- joined_span lo hi       one code point's digits, or those of the first and the last one joined by `..`
 -- value_key_text code names   the code point; of the names of a missing row `# @missing: ` and the span up to the code point that the

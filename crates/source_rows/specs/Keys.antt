@@ -1,5 +1,4 @@
 -- What a row is found by, and the order of what it is found by.
---
 -- row_span row              the code points that the row speaks of; the one of a folding or a casing. A row of names has 0
 -- one_point c               the code points from c to c
 -- condition_names bs        the conditions as one name; no name where there are none

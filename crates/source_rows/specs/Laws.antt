@@ -1,5 +1,4 @@
 -- Laws over the definitions.
---
 -- RowsAreRead          a row is given exactly where the bytes are read as that row
 -- RowsAreOk            the row values that a file can have are those that some bytes are read as
 -- TextsReadBack        the text of a row that the file can have is read as that row

@@ -1,5 +1,4 @@
 -- Mappings as they stand in their line.
---
 -- points_in text            the code points that the words of the text spell; none where a word is no code point
 -- HasPoints text len        the text has so many words, and each of them is a code point
 use Rattle.std.specs.Prelude.{◌≡◌, ℕ, List, [], length, Some, unwrap_or}

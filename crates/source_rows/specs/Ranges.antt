@@ -1,5 +1,4 @@
 -- What a first line of a range says of the fault of two lines. UAX #44, section 4.2.3.
---
 -- OwnFieldsRead fs                code, name and values of the first line are read
 -- NoEnd lo hi                     the last line's code is no code point, or below the first one's
 -- PairFaults fs last given        of two lines whose first one is read: G09 exactly where the last one is not that of the label,

@@ -1,5 +1,4 @@
 -- How many lines a row has. UAX #44, section 4.2.3.
---
 -- TwoLines file bytes   a line of UnicodeData.txt that is no trivia and begins a range, with or without a CR at its end, a LF, and a
 --                       line that is not empty
 -- HasLines file bytes   bytes with a LF are two such lines; a line without one begins no range

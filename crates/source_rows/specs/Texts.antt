@@ -1,5 +1,4 @@
 -- Parts of the text of a row.
---
 -- ended fs    the fields, each with a `;` behind it
 -- named ns    names, each with ` ; ` before it
 use Rattle.std.specs.Prelude.{ℕ, List, [], ◌∷◌, ◌++◌, codes, flat_map}

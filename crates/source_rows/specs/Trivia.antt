@@ -1,5 +1,4 @@
 -- Rows and trivia.
---
 -- RowsAreNoTrivia   bytes that are read as a row are no trivia: neither blank nor a comment, but for a missing line
 use Rattle.std.specs.Prelude.{◌≡◌, ℕ, false, List, Ok}
 use Rattle.ucd_points.specs.MissingLines.{is_trivia}

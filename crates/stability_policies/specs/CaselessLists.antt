@@ -1,5 +1,4 @@
 -- Lists folded under NFKC, as they are answered.
---
 -- where_list r      the list; None where a rule stands in its place
 -- same_where r s    both are there, and the same ones, or neither is
 -- folding_of c F    the full folding of the code point c, which has the facts F

@@ -1,5 +1,4 @@
 -- Where the names of rows stand.
---
 -- has_name rows name p            the name is among those of the row at p; false past the last row
 -- has_names rows names p          all of these names are
 -- IsNext p start found            `found` is the least number at or above start that passes p; None if none passes

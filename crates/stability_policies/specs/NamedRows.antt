@@ -1,5 +1,4 @@
 -- The names of rows of UnicodeData.txt, in the order of the file.
---
 -- named_in row          the code points and the name of a row of UnicodeData.txt, as the one item of a list; no item for other rows
 -- named rows            those of all rows
 -- name_at list c        the name of the first row that covers c; None where none does

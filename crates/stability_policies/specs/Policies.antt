@@ -15,7 +15,6 @@
 -- second_maps F m          the mapping m has two members, and the second has a canonical mapping
 -- is_mark F                a category of marks: Mn, Mc or Me
 -- breaks P O N c           c breaks the policy P; never for P02 and P17, which are of rows
---
 -- name_of row              the name of a row of UnicodeData.txt, or the label of a range; None where there is no row
 -- differ a b               both are there, and they differ
 -- is_renamed old new       there are both rows, and their names differ

@@ -1,5 +1,4 @@
 -- The list of the policies.
---
 -- PoliciesAreWhole   the list has all policies, each once and at its place
 -- place_below        there are twenty places
 use Rattle.std.proofs.Common.{◌≡◌, ◌<◌, Some, refl, arith, slice_get}

@@ -1,5 +1,4 @@
 -- The text of a report.
---
 -- policy_code P        the code of a policy: P01 to P20
 -- break_line b         the line of a break: the code of the policy, and the code point; of a break of P17 the path of the file below
 --                      the folder of a release, and the number of the line in the old file

@@ -1,5 +1,4 @@
 -- The report of all breaks of the stability policies.
---
 -- names_in row             the names of a row of an alias file; none of another row
 -- keeps_first file a b     in PropertyValueAliases.txt the first names of the two rows, which name the property, are the same; in
 --                          another file nothing is asked of them

@@ -1,5 +1,4 @@
 -- Proofs about the tests of questions.
---
 -- queries_are_told         the law of the same name
 -- same_query-equivalence   the test is an equivalence
 use Rattle.std.proofs.Common.{◌≡◌, ℕ, true, false, ◌==◌, refl, sym, ap, Decides, true≢false, eqb-true, eq-eqb}

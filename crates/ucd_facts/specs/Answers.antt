@@ -8,7 +8,6 @@
 --                       mapping
 -- Each P xs             P holds of each of the xs
 -- TellsChanges F G Q    the questions Q are just those that F and G do not answer alike
---
 -- QueriesAreTold        `same_query` tells whether two questions are the same
 use Rattle.std.specs.Prelude.{◌≡◌, ℕ, Bool, true, false, ◌&&◌, ◌==◌, List, [], ◌∷◌, ⊤, Decides}
 use Rattle.std.specs.List.{list_any}

@@ -1,5 +1,4 @@
 -- Each list of Enumerations.antt is whole, and what is true of the list is true of each value.
---
 -- enumerations_are_whole   the law of the same name
 -- enumerates_categories .. enumerates_rules   its parts
 -- kinds_behind             behind Plain and Canonical stand the kinds with a tag, in the order of the tags

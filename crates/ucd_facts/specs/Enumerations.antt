@@ -1,5 +1,4 @@
 -- The values of each enumeration, in order, and the place of each value in its list, counted from 0. Names.antt has their names.
---
 -- IsEnumeration values place   each value stands in the list at its place, and the list has each of them once, in order of
 --                      their places
 -- categories           the categories, in the order of UAX #44, section 5.7.1, table 12, with Cn last
@@ -16,7 +15,6 @@
 --
 -- Elsewhere: category_place and core_properties (Predicates), status_place (Facts), flag_place and core_place (Sets),
 -- source_files and file_place (SourceFiles).
---
 -- EnumerationsAreWhole   each list has all values of its enumeration, each at its place
 use Rattle.std.specs.Prelude.{◌≡◌, ℕ, ◌+◌, List, [], ◌∷◌, Some, map, length, slice_get}
 use Rattle.std.specs.List.{range_with_len}

@@ -1,6 +1,5 @@
 -- The facts of a code point, found by looking through the plain list of rows. UAX #44, sections 5.3, 5.6 and 5.7;
 -- The Unicode Standard, sections 3.12 (Hangul) and 5.18 (case mappings).
---
 -- Sources                          the rows of a release, file by file
 -- Facts                            what is known of one code point: its category, class and mapping, its images, its properties
 --                                  of PropList.txt, and whether it is assigned, a mid-word point, and excluded from composition

@@ -1,5 +1,4 @@
 -- The facts of a code point and those of a number past them, and proofs of the laws of facts.
---
 -- facts_inside    the facts of a code point are those that the rows give
 -- facts_outside   those of a number past them are those of no row: the law FactsAreCut
 -- judged_some     a list that breaks no rule is the list that is there

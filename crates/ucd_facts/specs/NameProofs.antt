@@ -1,5 +1,4 @@
 -- Proofs of the laws of names. No word but those of the laws is defined here for others.
---
 -- categories_are_spelled, statuses_are_spelled, tag_texts_are_names, names_tell_values   the laws of the same names
 use Rattle.std.proofs.Common.{◌≡◌, ◌≢◌, ℕ, Bool, true, false, ◌&&◌, not, ◌==◌, if◌then◌else◌, List, [], ◌∷◌, ◌++◌, Option, Some, None, refl, sym, ap, ◌∙◌, ◌⊎◌, inl, inr, codes, bytes_eq}
 use Rattle.std.specs.List.{list_all}

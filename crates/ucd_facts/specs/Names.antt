@@ -1,5 +1,4 @@
 -- The names by which the files of the database speak of values, properties and files.
---
 -- category_of bs         the General_Category that two bytes name; None for all other bytes, `Cn` among them. UAX #44,
 --                        section 5.7.1, table 12
 -- letter_of b            the one whose second byte is b, behind `L`: u l t m o are Lu Ll Lt Lm Lo; None for all other bytes, and

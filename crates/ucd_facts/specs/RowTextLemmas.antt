@@ -1,5 +1,4 @@
 -- Lemmas of the texts of rows.
---
 -- mapping_text-is c cs         the text of a mapping is its first code point, and the others, each with a space before it
 use Rattle.std.proofs.Common.{◌≡◌, ℕ, List, [], ◌∷◌, ◌++◌, map, sym, ap, append-nil}
 use Rattle.std.specs.List.{join_with_byte}

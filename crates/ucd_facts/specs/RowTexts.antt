@@ -1,5 +1,4 @@
 -- The text that a row is written as.
---
 -- mapping_text cs              code points with one space between them
 -- spaced cs                    code points, each with a space before it
 -- decomposition_text kind cs   field 5 of UnicodeData.txt: nothing, the mapping, or a tag, a space and the mapping

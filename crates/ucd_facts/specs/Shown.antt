@@ -1,5 +1,4 @@
 -- What a view shows of the facts of a code point.
---
 -- image_shown shown   the image that is shown: Same where no points are
 -- shown_facts r       the facts that r shows, field by field
 use Rattle.std.specs.Prelude.{ℕ, List, Option, Some, None}

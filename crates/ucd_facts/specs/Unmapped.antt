@@ -1,5 +1,4 @@
 -- Code points that are their own images.
---
 -- is_same i       the image is Same
 -- is_unmapped F   a point with the facts F is its own image by each of the three case mappings, and by the folding
 use Rattle.std.specs.Prelude.{ℕ, Bool, true, false, ◌&&◌}

@@ -1,6 +1,5 @@
 -- The value of Script and of Word_Break of a code point, found by looking through the plain list of rows of their file. UAX #44,
 -- sections 4.2.10 and 5.3; UAX #24, section 2; UAX #29, section 4.1.
---
 -- gives_some c row          a row with a value that covers c: of PropList.txt, Scripts.txt or WordBreakProperty.txt, no missing row
 -- value_in d row            the value of the row that was found; d where there is none, and for a row of another file
 -- taken_missing c d row     the value of a missing row that covers c; d for every other row

@@ -1,5 +1,4 @@
 -- Casing, quick checks, folding rounds and identifiers at some code points of Unicode 15.0.0.
---
 -- letters     LATIN CAPITAL LETTER S and SMALL LETTER S, LATIN SMALL LETTER SHARP S, SOFT HYPHEN, LATIN CAPITAL LETTER A WITH
 --             GRAVE, COMBINING GRAVE TONE MARK with its canonical mapping of one member, and LATIN CAPITAL LETTER SHARP S; all
 --             others have no row

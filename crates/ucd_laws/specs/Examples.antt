@@ -1,6 +1,5 @@
 -- What the definitions give at small examples. The lines and properties are those of the Unicode Character Database,
 -- the others are worked out by hand.
---
 -- between lo hi      the span from lo to hi
 -- properties k flag  the first four core properties of a point with the category k and these flags
 -- none               no flag; is_other_math and so on: that flag alone

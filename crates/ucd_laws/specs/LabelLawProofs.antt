@@ -1,5 +1,4 @@
 -- Proofs of the laws of maximal spans.
---
 -- starts n f        the numbers below n at which a span begins
 -- IsStart n f i c   the span at place i begins at c
 --

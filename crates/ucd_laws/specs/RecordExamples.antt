@@ -1,6 +1,5 @@
 -- The derived properties of some code points, with the values of DerivedCoreProperties.txt of Unicode 15.0.0, and the
 -- derived files over a few records.
---
 -- point k class         the facts of a point of category k and of that combining class, with no flag
 -- with_flag f F         the facts F with the flag f as well
 -- in_word F             the facts F of a point with a Word_Break value of mid_word_values

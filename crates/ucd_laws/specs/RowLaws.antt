@@ -1,5 +1,4 @@
 -- The laws of the facts of rows that files can have.
---
 -- KindsAreMapped     where each row of UnicodeData.txt is one that the file can have, a code point with a kind of mapping has a
 --                    mapping: its mapping is not empty
 use Rattle.std.specs.Prelude.{◌≡◌, ◌≢◌, ℕ, false, [], All}

@@ -1,5 +1,4 @@
 -- The rules of a valid release over a few points.
---
 -- mapped k points c   the facts of c, which has a row, the kind k and this decomposition mapping
 -- sample              1 maps to 2, which has no row; 3 maps to 4 and 4 to 3; 5 maps by a compatibility mapping to 64 times 6,
 --                     and 7 to 64 times 6 and to 6 once more; 6 has no mapping; 8 folds to 6 and 2, of which 2 has no row, and its

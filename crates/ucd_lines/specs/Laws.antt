@@ -1,5 +1,4 @@
 -- Laws of lines and code points.
---
 -- HasItem bytes front item rest   the text has this line, behind the lines of front and before those of rest
 -- ItemsJoin                       contents and endings put together give the text, for every text
 -- EmptyTextHasNoLine              the empty text has no line

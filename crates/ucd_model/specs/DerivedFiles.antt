@@ -1,6 +1,5 @@
 -- The derived files, over the records of the code points. The files, properties and values are those of UAX #44,
 -- section 5.3; their text is this project's own.
---
 -- Section                    a name, and the label of a record in it: None for the default value, which is not listed
 -- listed value               the label ` ; VALUE`
 -- binary_label name b        the label of a point that has the property of that name, where b holds

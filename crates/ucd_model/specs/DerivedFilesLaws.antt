@@ -1,5 +1,4 @@
 -- The text of a derived file depends on the records of the code points alone.
---
 -- derived_text_same   records that are the same below n give the same text
 use Rattle.std.proofs.Common.{◌≡◌, ℕ, zero, suc, ◌+◌, ◌-◌, ◌<◌, ◌≤◌, Bool, true, false, cond, List, ◌∷◌, length, map, filter, is_some, count_by, refl, sym, ap, ◌∙◌, arith, map-id}
 use mathlib.Core.Path.{fun_ext}

@@ -1,5 +1,4 @@
 -- The text of the derived files. The files are those of UAX #44, section 5.3; their text is this project's own.
---
 -- line_end                LF
 -- span_line s             the line of a span: its text, its label, LF
 -- section_text name n f   `# NAME`, a line for each span with its label behind it, `# total N`, and an empty line

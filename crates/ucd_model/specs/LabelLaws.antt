@@ -1,7 +1,5 @@
 -- The laws of the labels under which the derived files list values.
---
 -- HasPoints i          the points of an image are code points
---
 -- LabelsTellValues     two values with one label are one: categories, classes, kinds, quick checks, images, and whether a point has
 --                      a property
 use Rattle.std.specs.Prelude.{◌≡◌, ℕ, ◌≤◌, Bool, List, ⊤, All}

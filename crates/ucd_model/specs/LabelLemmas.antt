@@ -1,6 +1,5 @@
 -- How the maximal spans grow, run by run. A run is a stretch of numbers with one label, before which another label
 -- stands or none.
---
 -- same_label-true       a label is the same as itself
 -- IsRun n f at end      the numbers from `at` to before `end`, one or more and all below n, have the label of `at`; the one
 --                       before `at` has not, and where `end` is below n, `end` has not

@@ -1,5 +1,4 @@
 -- Maximal spans of equal value, over the numbers below n.
---
 -- Label             the text that stands behind a span; None where the value is the default, which is not listed
 -- same_label a b    the same text, or none on both sides
 -- begins f c        a span begins at c: c has a label, and c - 1 has another one or none; at 0, c has a label

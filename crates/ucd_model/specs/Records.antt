@@ -1,5 +1,4 @@
 -- What is derived of a code point: one record for each, from which the derived files are written. UAX #44, section 5.3.
---
 -- Record               the values of a code point's derived properties
 -- kept_record k        the record that a value keeps
 -- core_at F c p        whether c has the core property p

@@ -1,6 +1,5 @@
 -- Equality as a test, of lists of code points, images, records and facts. Sameness is told by places, since the values of an
 -- enumeration stand each at its own.
---
 -- is_in xs c              c is one of the numbers xs
 -- same_image i j          the images are equal
 -- same_cores f g          f and g have the same core properties
@@ -11,7 +10,6 @@
 -- same_simple F G         equal in the simple case mappings and folding
 -- same_images F G         equal in the full case mappings and folding
 -- same_marks F G          equal in what the other files say
---
 -- MembersAreTold          `is_in` tells the members of a list
 -- RecordsAreTold          `same_record` tells whether two records are equal
 -- FactsAreTold            `same_facts` tells whether the facts of two code points are equal

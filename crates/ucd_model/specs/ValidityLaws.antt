@@ -7,7 +7,6 @@
 -- IsChain F compat c ds   the code points ds are a chain of mappings from c on: the first is a member of the mapping of c that
 --                    counts, and each other one a member of the mapping of the one before it
 -- HasLesser F c      c is a primary composite, and a lesser code point is one with the same mapping
---
 -- ValidIsUnbroken    a release is valid exactly where `first_broken` finds no code point
 -- BrokenIsLeast      it finds b exactly where b is the least code point that has no record, with its first rule
 -- ValidExpands       in a valid release each code point has its expansion of both kinds

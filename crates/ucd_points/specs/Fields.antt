@@ -1,5 +1,4 @@
 -- What the fields of a line spell. UAX #44, section 4.2.
---
 -- trim_start bs               the bytes without the white space, space and tab, at their beginning
 -- trim_end bs                 the bytes without the white space at their end
 -- trim bs                     the bytes without white space at either end

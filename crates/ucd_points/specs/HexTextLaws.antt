@@ -1,7 +1,5 @@
 -- What the text of a code point is: the fewest hexadecimal digits that spell it, but no fewer than four.
---
 -- IsUpperHex b                b is a byte from `0` to `9` or from `A` to `F`
---
 -- HexTextHasFourToSixDigits   the text has four, five or six bytes
 -- HexTextHasNoSpareDigit      where it has more than four, the first is not the digit 0, for numbers below 16 ^ 6
 -- HexTextIsUpperCase          each byte is a digit in upper case

@@ -1,5 +1,4 @@
 -- Lemmas on tests, orders and lists of numbers that several crates cite.
---
 -- either         if a test gives the same both ways, it gives that
 -- none_of        a conjunction with `false` in it is false
 -- and_self       b, b again, and true together are b

@@ -1,5 +1,4 @@
 -- Answering the questions at the front of commands.
---
 -- AnswersFront files from count commands carried rest   the questions at the front of the commands are answered on these files, and
 --                             the rest is left: the session that then stands, and the rest, give what the session `from` and all
 --                             the commands give, and may raise the counter of steps as far; where `count` were counted before,

@@ -1,5 +1,4 @@
 -- Carrying out the commands of a script on a bench.
---
 -- session_on files carried    the session that stands so: these files, the log, the answers and the counts
 -- question_command line text  the command that asks a question
 -- session_of bench carried    the session that stands so: the files of the bench, the log, the answers and the counts

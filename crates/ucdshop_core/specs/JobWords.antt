@@ -1,5 +1,4 @@
 -- What the words of a run ask for, as the code has it.
---
 -- path_at place           the path of a place: as it is named, or of a name below a folder
 -- job_of job              the job that stands there
 -- AsksFor job form        the job is there exactly where the form is, and stands for it

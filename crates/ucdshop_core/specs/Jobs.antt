@@ -1,5 +1,4 @@
 -- What is asked for, by the words.
---
 -- Job                              what is asked for: made, the number of which the release and its script are made, None where they
 --                                  are read; folder, that of the release; script, the path of the script, where there is one;
 --                                  previous, the folder of an earlier release, where there is one; output, the folder that is

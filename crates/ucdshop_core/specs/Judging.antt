@@ -1,5 +1,4 @@
 -- Judging the texts that a run works on.
---
 -- IsMadeForJob given job          what was made is the release of the job's number; nothing where it has none
 -- given_verdict job given   what is held of what is given gives, or the line that refuses it
 -- behind_verdict job held files   what is held gives behind the release, whose files are these: with the commands and the earlier release

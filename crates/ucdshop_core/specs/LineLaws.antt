@@ -1,5 +1,4 @@
 -- The line of a refusal is the one that an editor shows.
---
 -- line_feeds pieces    how many LFs are among the bytes of the pieces
 -- LinesAreCounted      the pieces above a piece of a file have as many lines as LFs are among their bytes, so that the number of its
 --                      first line is one more than the LFs before it

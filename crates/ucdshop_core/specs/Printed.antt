@@ -1,5 +1,4 @@
 -- The lines that a run prints, each ended by LF.
---
 -- usage                    of words that have no listed form
 -- Counts                   how many groups were accepted, commands refused and sets answered, and how many breaks of policies there
 --                          are

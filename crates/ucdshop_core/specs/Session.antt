@@ -1,5 +1,4 @@
 -- The commands of a script, carried out one after the other on the files of a release.
---
 -- set_line line count       of a question that was answered: how many code points are members
 -- unasked_line line fault   the line that says it
 -- Session                   the files as the commands so far leave them, the log, the answers to the questions, how many groups were

@@ -1,5 +1,4 @@
 -- What `changes` tells: which records each group of a script changes, and how.
---
 -- what_differs R S c           the properties that differ between the records R and S of the code point c
 -- points_section line R S points   of code points that a group on this line changes: its line; the code points as maximal ascending
 --                              spans, with their total; and of each the properties that differ between its records R and S

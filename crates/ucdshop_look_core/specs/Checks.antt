@@ -1,5 +1,4 @@
 -- What `check` tells: what a run of the first program comes to.
---
 -- tells_refusal line           the line of a log tells of a refused command: behind the number of the command's line stands `refused`
 -- refusal_line line            such a line, with its LF; nothing for another
 -- refusals log                 the lines of the log that tell of refused commands, in order

@@ -1,5 +1,4 @@
 -- What is asked for, by the words.
---
 -- Job                        what is asked for: Ask folder questions, to answer questions on the release of a folder; Show folder points,
 --                            to tell the records of code points of it; Check run, to tell how this run of the first program would end;
 --                            Changes run, to tell which records the groups of its script change

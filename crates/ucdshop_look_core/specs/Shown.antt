@@ -1,5 +1,4 @@
 -- What `show` tells: the records of code points, and the rows that give their facts.
---
 -- shown files c             of a code point of these files: its record, and the rows that speak of it, as they stand in the files
 -- record_told files c       the code point with its record
 -- show_ending points files  the ending: no file, and that of each code point, in order; nothing is refused

@@ -1,5 +1,4 @@
 -- Folders that are read one after another.
---
 -- behind releases verdict  these releases, and behind them those of the verdict; or its refusal
 -- ReadSoFar tells holds before releases   what was seen of the folders before, none of which is refused, gives these releases, whatever
 --                          folders follow and whatever is seen of them

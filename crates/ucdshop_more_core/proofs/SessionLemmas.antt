@@ -1,5 +1,4 @@
 -- A session at a desk, request by request.
---
 -- IsLogged s all rest log desk   the log so far, and behind it what is replied to the turns that are left, is what is replied to all
 use Rattle.std.proofs.Common.{◌≡◌, ◌≤◌, ℕ, ◌+◌, cond, List, [], ◌∷◌, ◌++◌, refl, sym, ap, subst, ◌∙◌, arith, append_assoc, append-nil, count_by}
 use Rattle.std.proofs.lemmas.List.Sums.{sum_by-cons}

@@ -1,5 +1,4 @@
 -- The releases of folders, put into a chain one after the other.
---
 -- Follows chained releases        it is the chain of these releases, the text of their steps, and how many breaks these have
 -- folders_paths folders           the paths of the source files of the folders, folder after folder
 -- AreFine tells holds folders     by what was seen none of the folders is refused

@@ -1,5 +1,4 @@
 -- The log of a desk, and what its summary counts.
---
 -- reply_text reply        what the log says of a reply: `opened R`, `accepted R N` with the number of code points whose records
 --                         differ, `left`, `present`, `absent`, `ahead R`, `stale R operation I`, or why the group is refused
 -- reply_line line reply   the line of the log that says it: the number of the mark's line, and what is said

@@ -1,5 +1,4 @@
 -- What `undo` is given: a release, and what is asked of a history of it; or why it is refused.
---
 -- Draft                   the files of a release, and the moves
 -- with_moves files moves  the files with the moves; or the line that refuses these
 -- draft_verdict input script seen   the release in a folder and the moves of the script behind it, of which this was seen; or the line

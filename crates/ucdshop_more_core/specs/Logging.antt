@@ -1,5 +1,4 @@
 -- The log that is kept at a desk.
---
 -- LogsAll s turns log desk   the log has the replies that the turns get from this state on, and the count of those that the summary
 --                          counts; and the desk stands for the state that the turns leave
 use Rattle.std.specs.Prelude.{◌≡◌, List, count_by}

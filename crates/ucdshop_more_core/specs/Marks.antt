@@ -1,5 +1,4 @@
 -- Marks of a file of events: what an editor does at a desk.
---
 -- is_space b              the byte is a space
 -- proposal editor base    the mark of a proposal with these numbers; None where either is none
 -- proposal_of text        the mark of a proposal, by the two numbers around the first space

@@ -1,5 +1,4 @@
 -- The text of what a release misses of NormalizationTest.txt.
---
 -- form_code form        the name of a form: NFD, NFC, NFKD or NFKC
 -- miss_line miss        the line of a miss: of a case its line, the form, and the column; of a code point `point`, the code point, and
 --                       the form

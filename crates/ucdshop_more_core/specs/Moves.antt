@@ -1,5 +1,4 @@
 -- What a script asks of a history, or the first fault of the script. A line `@ undo` is a mark: it takes the latest group back.
---
 -- Move                    Apply line ops, to carry a group out whose command begins on this line; or TakeBack line, to take the latest
 --                         group back, by the mark on this line
 -- at_line line            the fault E7 on this line

@@ -1,5 +1,4 @@
 -- The lines that a run prints, each ended by LF.
---
 -- forms                    the forms of the words, in order
 -- barred texts             the texts, with a space, a bar and a space between two of them
 -- usage                    of words that have no listed form: it names the forms

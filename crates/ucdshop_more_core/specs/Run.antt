@@ -1,5 +1,4 @@
 -- What a run is to do, by its words and by what the shelf holds.
---
 -- Job                              what is asked for: Desk input events output, to let editors work on the release of a folder as a file of
 --                                  events says, and to write what its files are then, and what was replied, into another folder;
 --                                  Undo input script output depth, to carry out on the release of a folder what a script asks of a history that

@@ -1,5 +1,4 @@
 -- What `desk` is given: a release, and the turns of editors at a desk over it; or why it is refused.
---
 -- Session                 the files of a release, and the turns
 -- with_turns files turns  the files with the turns; or the line that refuses these
 -- session_verdict input events seen   the release in a folder and the turns of the file behind it, of which this was seen; or the line

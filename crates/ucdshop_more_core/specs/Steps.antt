@@ -1,5 +1,4 @@
 -- The text of the steps from release to release.
---
 -- steps_of releases        the breaks of each step from a release to the one behind it, in order
 -- step_text k breaks       `# step K`, and the policy report of these breaks
 -- steps_from k steps       the text of each of these steps, the first of which leads to the release with the number k

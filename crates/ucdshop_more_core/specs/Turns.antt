@@ -1,5 +1,4 @@
 -- The turns of editors at a desk, by a file of events, or the first fault of the file.
---
 -- Turn                    an event, and the number of the line of its mark
 -- at_line line            the fault E7 on this line
 -- turn_of mark is commands   the turn of a mark with these commands behind it; E7 on its line where they do not fit

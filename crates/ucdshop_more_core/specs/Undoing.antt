@@ -1,5 +1,4 @@
 -- The moves of a script, made one after the other on a history.
---
 -- undone_line line count    the line of the log for a group that was taken back: how many code points have another record
 -- nothing_line line         the line for a mark where there was nothing to take back
 -- Course                    the history as the moves so far leave it, the log, how many groups were accepted, how many were taken back,

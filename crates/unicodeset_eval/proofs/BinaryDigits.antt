@@ -1,5 +1,4 @@
 -- How many binary digits of a number are 1.
---
 -- odd_ones     an odd number has one more than its half, and the next number as many as that half's next one
 -- even_ones    the number behind an even one has one more
 use Rattle.std.proofs.Common.{◌≡◌, ℕ, ◌+◌, ◌/◌, ◌%◌, ap, ◌∙◌, arith, count_ones}

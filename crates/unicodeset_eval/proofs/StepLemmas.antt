@@ -1,5 +1,4 @@
 -- Steps of a bracket set, one by one.
---
 -- united_after     a step for each of some spans puts their code points in union with the members so far
 -- several_are      the members of a bracket set of such steps
 -- seen_more        the steps of an expression do what one step with its set does

@@ -1,5 +1,4 @@
 -- Which code points are assigned.
---
 -- AssignedHaveCategories rows   a row of UnicodeData.txt covers c exactly where the category of c is not Cn
 -- assigned_have_categories      so it is of rows that are kept
 use Rattle.std.proofs.Common.{◌≡◌, ◌≢◌, ℕ, ◌<◌, Bool, true, false, not, ◌==◌, List, [], ◌∷◌, ◌++◌, Option, Some, None, Result, Ok, Err, is_some, find, cond, refl, sym, ap, ◌∙◌, slice_get, All, eqb-true}

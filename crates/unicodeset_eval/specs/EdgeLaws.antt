@@ -1,5 +1,4 @@
 -- What edges say.
---
 -- inside_early        before the first edge nothing turns
 -- Rises-from          edges that rise from a number on do so from a lesser one on
 -- Turns x p a after b   the membership a is p before x, and from x on it is that of b, which is `after` before x

@@ -1,5 +1,4 @@
 -- The names of a tree that mean nothing.
---
 -- unless_some f x          no fault where there is something; else this one
 -- value_faults .. p        the fault of a value of property p, if any
 -- name_faults names n      the fault of a name, if any

@@ -1,5 +1,4 @@
 -- What rows give to a code point, by the numbers of values.
---
 -- given names rows i c                   a row with the name of number i covers c; never where the number is not used
 -- given_or_default d names rows i c      the same, or no row covers c and the name is d
 -- buckets_are                            the spans of number i are those of its name

@@ -1,5 +1,4 @@
 -- What an index says is what the definition says.
---
 -- says_is   of the code points, where the records have the categories of the rows
 use Rattle.std.proofs.Common.{◌≡◌, ℕ, ◌<◌, Bool, not, ◌&&◌, ◌==◌, refl, sym, ap, ◌∙◌, arith, inl, inr, nat_lt}
 use Rattle.std.proofs.lemmas.Bool.{cases_lt, le-ltb}

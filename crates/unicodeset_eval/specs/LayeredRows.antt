@@ -1,5 +1,4 @@
 -- The rows of a file as layers of numbers.
---
 -- layer_of row         a row as a layer: its number, for its span
 -- layers_of values     the missing rows of a file as layers, and over them the other rows
 -- is_other row         the row has another number than 0, that of the default

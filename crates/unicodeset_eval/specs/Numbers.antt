@@ -1,5 +1,4 @@
 -- Numbers of names, and the spans of each number.
---
 -- bucket buckets i       list i, counted from 0
 -- is_of i c row          the row has number i, and covers c
 -- same_number            where names differ, two numbers are one where their names are

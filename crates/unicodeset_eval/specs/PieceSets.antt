@@ -1,5 +1,4 @@
 -- The set of a test that says the same throughout each piece of a cut.
---
 -- piece_edges n q b pieces   the numbers at which q turns, over pieces throughout each of which it is the same; b is what it is
 --                            before them, and from n on it is false
 -- piece_edges_rise           they rise

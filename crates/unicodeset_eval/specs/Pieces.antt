@@ -1,5 +1,4 @@
 -- The spans between the edges of a set, cut at n.
---
 -- piece b from end         the numbers from `from` to before `end` as a span, where b says that they are in; else none
 -- pieces n b from edges    the spans from `from` on
 -- pieces_are               of a set they are the maximal spans of its members below n

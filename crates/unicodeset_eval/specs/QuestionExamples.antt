@@ -1,5 +1,4 @@
 -- Answers of UnicodeSets. The letters a to z are 1 to 26 here, so that lists stay short.
---
 -- letters cs              the bracket set of these characters
 -- within lo hi            the characters from lo to hi
 -- known                   a property `gc` with the value `Lu`, which stands alone too

@@ -1,5 +1,4 @@
 -- The sets of values are those of the definition.
---
 -- numbered_is   of a file where no two rows cover a code point: the rows that give a name, and what no row covers for the name that the
 --               missing rows give
 -- listed_is     of PropList.txt: the rows that give a name

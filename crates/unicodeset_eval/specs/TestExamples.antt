@@ -1,5 +1,4 @@
 -- What tests say of some code points of Unicode 15.0.0, by lines of its files.
---
 -- line lo hi value   a line of a span and a value
 -- letter_a           the line of LATIN CAPITAL LETTER A
 -- sample             UnicodeData.txt: that line. Scripts.txt: 0041..005A and 0061..007A are Latin, 0370..0373 is Greek.

@@ -1,6 +1,5 @@
 -- What a test says of a code point, by the rows of a release and by what is derived of each code point. UAX #44, section 5;
 -- UTS #35, "Unicode Sets".
---
 -- group_categories g        the categories of a group. UAX #44, section 5.7.1, table 12
 -- check_of form R           the value of the quick check of a form
 -- same_truth a b            both hold, or neither

@@ -1,5 +1,4 @@
 -- What rows of a span and a value say.
---
 -- gives v c row        the row has this value and covers c
 -- covers c row         the row covers c
 -- gives_is, covers_is  of all rows the same is said

@@ -1,5 +1,4 @@
 -- Properties in a text. UTS #35, "Unicode Sets".
---
 -- not_equal                      the bytes of 2260, the not-equal sign
 -- parted negated name at         the property of a name: its first `=` parts property and value; refused where the value begins with `/`
 -- property_sign negated name at  the property of a name, or its complement; refused where the name has a not-equal sign

@@ -1,5 +1,4 @@
 -- The trees that the code holds, as the definitions name them.
---
 -- united b        the step that puts the characters of a span in union with what stands before it
 -- Seen            what an expression stands for
 --   one t           one tree

@@ -9,8 +9,7 @@
 use Rattle.std.specs.Prelude.{ℕ, ◌-◌, Bool, ◌&&◌, not, ◌==◌, List, length}
 use Rattle.std.specs.List.{list_any, suffix_len}
 use Rattle.ucd_points.specs.SourceFiles.{file_place}
-use Rattle.ucd_points.specs.declared.files.SourceFile.{SourceFile}
-use Rattle.source_rows.specs.Keys.{key_of, equal_keys}
+use Rattle.source_rows.specs.Keys.{key_of, equal_keys, SourceFile}
 use Rattle.source_rows.specs.declared.key.Key.{Key}
 use Rattle.release_rows.specs.declared.operation.Op.{Op}
 use Rattle.release_rows.specs.declared.operation.Op.TheVariants.{Add, Change, Withdraw}

@@ -17,8 +17,7 @@
 use Rattle.std.specs.Prelude.{◌≡◌, ℕ, List, [], ◌∷◌, None, take, Result, Ok, Err, All}
 use Rattle.ucd_points.specs.declared.memory.Memory.{Memory as Lacking}
 use Rattle.ucd_model.specs.Validity.{first_broken}
-use Rattle.release_rows.specs.FileItems.{FileItem}
-use Rattle.release_rows.specs.Releases.{AllAreKept}
+use Rattle.release_rows.specs.Releases.{AllAreKept, FileItem}
 use Rattle.edit_session.specs.Groups.{CountsAs, changed, files_facts}
 use Rattle.edit_session.specs.declared.accepted.Accepted.{Accepted}
 use Rattle.edit_session.specs.declared.apply_stop.ApplyStop.{ApplyStop}

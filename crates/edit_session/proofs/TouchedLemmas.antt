@@ -7,8 +7,7 @@ use Rattle.std.proofs.lemmas.List.Folds.{list_any-append}
 use Rattle.ucd_points.specs.Bounds.{Bounds}
 use Rattle.ucd_facts.specs.Facts.{Facts, within}
 use Rattle.ucd_points.specs.SourceFiles.{file_at, file_at-place, file_place}
-use Rattle.ucd_points.specs.declared.files.SourceFile.{SourceFile}
-use Rattle.release_rows.specs.FileItems.{FileItem, rows_in}
+use Rattle.release_rows.specs.FileItems.{FileItem, rows_in, SourceFile}
 use Rattle.release_rows.specs.OperationLaws.{RowsStay, speaks_of}
 use Rattle.release_rows.specs.Operations.{AnswersOp, edited, op_file, op_or_rule, touched, with_edited}
 use Rattle.release_rows.specs.Releases.{items_at, with_items}

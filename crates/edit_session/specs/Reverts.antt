@@ -7,9 +7,8 @@
 use Rattle.std.specs.Prelude.{◌≡◌, List, None, Result, Ok, Err}
 use Rattle.ucd_points.specs.declared.memory.Memory.{Memory}
 use Rattle.ucd_model.specs.Validity.{first_broken}
-use Rattle.release_rows.specs.FileItems.{FileItem}
 use Rattle.release_rows.specs.Patches.{IsWayBack, LeadsBack, SpliceItems, back}
-use Rattle.release_rows.specs.Releases.{ReleaseItems}
+use Rattle.release_rows.specs.Releases.{ReleaseItems, FileItem}
 use Rattle.edit_session.specs.Groups.{changed, files_facts}
 use Rattle.edit_session.specs.declared.accepted.Accepted.{Accepted}
 

@@ -22,7 +22,7 @@ use Rattle.std.proofs.lemmas.Slice.Eq.{bytes_eq-Decides}
 use Rattle.std.proofs.lemmas.Option.{same_Some}
 use Rattle.ucd_facts.specs.CompositeProofs.{find_first, find_none_below}
 use Rattle.ucd_model.specs.Casing.{fold, folded}
-use Rattle.ucd_facts.specs.Facts.{Facts, image_points}
+use Rattle.ucd_facts.specs.Facts.{Facts, image_points, Image, Same, To}
 use Rattle.ucd_model.specs.FoldRounds.{drop_ignorable, short, short_form, short_nfkc, short_fold, round, rounds, is_list, is_fixed, is_last, casefold, image_or_rule, casefold_image}
 use Rattle.ucd_model.specs.Forms.{nfkc}
 use Rattle.ucd_facts.specs.Predicates.{default_ignorable}
@@ -30,8 +30,6 @@ use Rattle.ucd_facts.specs.Shown.{shown_facts}
 use Rattle.ucd_facts.specs.declared.folding.Folding.{Folding}
 use Rattle.ucd_facts.specs.declared.folding.Folding.TheVariants.{Full, Simple}
 use Rattle.ucd_facts.specs.declared.form.Bad.{Bad as Rule}
-use Rattle.ucd_facts.specs.declared.image.Image.{Image}
-use Rattle.ucd_facts.specs.declared.image.Image.TheVariants.{Same, To}
 use Rattle.ucd_facts.specs.declared.view.FactsRef.{FactsRef}
 use Rattle.ucd_facts.specs.Unmapped.{is_same}
 use Rattle.fold_rounds.specs.ComposedProofs.{form_twice}

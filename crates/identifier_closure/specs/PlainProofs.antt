@@ -14,7 +14,7 @@ use Rattle.ucd_model.specs.CanonicalOrder.{class_of, order}
 use Rattle.ucd_model.specs.Casing.{folded, lowers, uppers, titles, folds, casemaps, changes_when, where_form}
 use Rattle.ucd_facts.specs.Composites.{primary, is_canonical, first_has_class_zero, second_of}
 use Rattle.ucd_facts.specs.Expansion.{counts, counted, alone_or_joined, expand, full}
-use Rattle.ucd_facts.specs.Facts.{Facts, image_points, is_plain}
+use Rattle.ucd_facts.specs.Facts.{Facts, image_points, is_plain, Plain, Image, Same, To}
 use Rattle.ucd_model.specs.FoldRounds.{casefold, casefold_image, image_or_rule, image_or_same}
 use Rattle.ucd_model.specs.Forms.{nfd, nfkc, composed, decomposed}
 use Rattle.ucd_model.specs.Identifiers.{starts, continues}
@@ -23,13 +23,10 @@ use Rattle.ucd_model.specs.QuickChecks.{excludes_mapping, full_exclusion, quick_
 use Rattle.ucd_model.specs.Records.{Record, core_at, changes_image, record_at, derived}
 use Rattle.ucd_facts.specs.Uniform.{IsPlain}
 use Rattle.ucd_model.specs.Validity.{lacks_row, lacks_a_row, mappings, is_none, is_unfolded, is_hidden, is_other, composite_of}
-use Rattle.ucd_facts.specs.declared.decomposition.Kind.TheVariants.{Plain}
 use Rattle.ucd_facts.specs.declared.folding.Folding.{Folding}
 use Rattle.ucd_facts.specs.declared.folding.Folding.TheVariants.{Full, Simple}
 use Rattle.ucd_facts.specs.declared.form.Form.TheVariants.{Nfd, Nfc, Nfkd, Nfkc}
 use Rattle.ucd_facts.specs.declared.form.Quick.TheVariants.{Yes, No, Maybe}
-use Rattle.ucd_facts.specs.declared.image.Image.{Image}
-use Rattle.ucd_facts.specs.declared.image.Image.TheVariants.{Same, To}
 use Rattle.ucd_facts.specs.declared.property.Core.{Core}
 use Rattle.ucd_facts.specs.declared.property.Core.TheVariants.{ChangesWhenLowercased, ChangesWhenUppercased, ChangesWhenTitlecased, ChangesWhenCasefolded, ChangesWhenCasemapped, XidStart, XidContinue}
 use Rattle.fold_rounds.specs.RoundProofs.{alone_image}

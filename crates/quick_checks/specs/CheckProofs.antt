@@ -9,14 +9,12 @@
 use Rattle.std.proofs.Common.{◌≡◌, ℕ, Bool, true, false, cond, ◌==◌, List, [], ◌∷◌, Result, Ok, Err, refl, sym, ap, ◌∙◌, subst, bytes_eq}
 use Rattle.std.specs.List.{AllByRecursion as Each}
 use Rattle.std.proofs.lemmas.Slice.Eq.{bytes_eq-Decides}
-use Rattle.ucd_facts.specs.Facts.{Facts, is_plain}
+use Rattle.ucd_facts.specs.Facts.{Facts, is_plain, Kind, Plain}
 use Rattle.ucd_model.specs.CanonicalOrder.{class_of, order}
 use Rattle.ucd_facts.specs.Composites.{is_canonical, second_of}
 use Rattle.ucd_facts.specs.Expansion.{counts, counted, expansion}
 use Rattle.ucd_model.specs.Forms.{appended, expansions, in_order, decomposed, composed}
 use Rattle.ucd_model.specs.QuickChecks.{form_of, quick_composed, quick_given, quick_where, quick}
-use Rattle.ucd_facts.specs.declared.decomposition.Kind.{Kind}
-use Rattle.ucd_facts.specs.declared.decomposition.Kind.TheVariants.{Plain}
 use Rattle.ucd_facts.specs.declared.form.Bad.{Bad as Rule}
 use Rattle.ucd_facts.specs.declared.form.Form.TheVariants.{Nfd, Nfc, Nfkd, Nfkc}
 use Rattle.ucd_facts.specs.declared.form.Quick.{Quick}

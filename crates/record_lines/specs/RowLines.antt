@@ -10,10 +10,8 @@
 use Rattle.std.specs.Prelude.{ℕ, Bool, false, List, [], filter, map, if◌then◌else◌, flat_map}
 use Rattle.ucd_points.specs.Lines.{contents}
 use Rattle.ucd_points.specs.SourceFiles.{source_files}
-use Rattle.ucd_points.specs.declared.files.SourceFile.{SourceFile}
-use Rattle.ucd_facts.specs.declared.row.Row.{Row}
 use Rattle.ucd_facts.specs.declared.row.Row.TheVariants.{Unit as DataLine}
-use Rattle.release_rows.specs.FileItems.{FileItem, bytes_of}
+use Rattle.release_rows.specs.FileItems.{FileItem, bytes_of, SourceFile, Row}
 use Rattle.release_rows.specs.OperationLaws.{speaks_of}
 use Rattle.release_rows.specs.Releases.{items_at, rows_at}
 use Rattle.record_lines.specs.FileLines.{place_lines}

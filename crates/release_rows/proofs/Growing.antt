@@ -5,12 +5,10 @@ use Rattle.std.proofs.lemmas.List.{append-nil, map-append}
 use Rattle.std.proofs.lemmas.List.Sums.{sum_by-append}
 use Rattle.std.proofs.lemmas.List.Folds.{list_any-append}
 use Rattle.release_rows.specs.ValuesApartProofs.{rows_append}
-use Rattle.ucd_points.specs.declared.files.SourceFile.{SourceFile}
-use Rattle.ucd_facts.specs.declared.row.Row.{Row}
 use Rattle.release_rows.specs.Extents.{Extent, conflict_with}
 use Rattle.source_rows.specs.Keys.{row_span}
 use Rattle.release_rows.specs.Keys.{extent_in, falls_back, is_back, key_rule, last_start}
-use Rattle.release_rows.specs.FileItems.{FileItem, onto_rows, rows_in, lines_of}
+use Rattle.release_rows.specs.FileItems.{FileItem, onto_rows, rows_in, lines_of, SourceFile, Row}
 use Rattle.release_rows.specs.Entries.{EntersSome}
 use Rattle.release_rows.specs.Loading.{rule_by}
 use Rattle.release_rows.specs.Places.{extent_at}

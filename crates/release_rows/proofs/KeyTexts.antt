@@ -10,12 +10,11 @@ use Rattle.ucd_points.specs.HexTextLaws.{IsUpperHex}
 use Rattle.ucd_points.specs.HexTextProofs.{hex_text_is_upper_case}
 use Rattle.ucd_facts.specs.OtherLines.{is_name_or_empty}
 use Rattle.ucd_facts.specs.RowValues.{IsAliasName, AliasOk, RowOk}
-use Rattle.ucd_points.specs.declared.files.SourceFile.{SourceFile}
 use Rattle.ucd_points.specs.declared.files.SourceFile.TheVariants.{UnicodeData, PropList, Scripts, WordBreakProperty, CompositionExclusions, CaseFolding, SpecialCasing, PropertyAliases, PropertyValueAliases}
 use Rattle.ucd_facts.specs.declared.row.AliasRow.{AliasRow}
 use Rattle.ucd_facts.specs.declared.row.CasingRow.{CasingRow}
 use Rattle.ucd_facts.specs.declared.row.Row.TheVariants.{Casing as CasingLine, Alias as AliasLine}
-use Rattle.source_rows.specs.Keys.{condition_names, alias_count, missing_names, key_names}
+use Rattle.source_rows.specs.Keys.{condition_names, alias_count, missing_names, key_names, SourceFile}
 use Rattle.release_rows.specs.Names.{first_names}
 use Rattle.release_rows.specs.Places.{names_of}
 

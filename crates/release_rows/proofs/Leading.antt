@@ -5,14 +5,12 @@ use Rattle.std.proofs.lemmas.List.{append-nil, append_assoc, drop-map, drop_all,
 use Rattle.std.proofs.lemmas.List.Concat.{flat_map-append}
 use Rattle.std.proofs.lemmas.List.Elements.{All-drop, All-take}
 use Rattle.ucd_points.specs.SourceFiles.{file_place}
-use Rattle.ucd_points.specs.declared.files.SourceFile.{SourceFile}
 use Rattle.part_list.specs.Parts.{PartLists, flat, now_in, part_at, spliced}
 use Rattle.part_list.specs.declared.spanned.Spanned.{Spanned}
 use Rattle.release_rows.specs.Back.{LeadsOn, turned}
-use Rattle.release_rows.specs.FileItems.{FileItem}
 use Rattle.release_rows.specs.FileLemmas.{items_at-with_items_same}
 use Rattle.release_rows.specs.Patches.{IsDefined, LeadsBack, SpliceItems, Stands, back, undone}
-use Rattle.release_rows.specs.Releases.{items_at, with_items}
+use Rattle.release_rows.specs.Releases.{items_at, with_items, FileItem, SourceFile}
 use Rattle.release_rows.specs.declared.stretch.Stretch.{Stretch}
 
 abbrev Files : Type 0

@@ -15,8 +15,6 @@ use Rattle.std.proofs.lemmas.List.Sums.{fails_before_first}
 use Rattle.std.proofs.lemmas.Slice.Eq.{bytes_eq-Decides}
 use Rattle.release_rows.proofs.Unchanged.{length-ended}
 use Rattle.ucd_points.specs.PlainProofs.{lt_is}
-use Rattle.ucd_points.specs.declared.files.SourceFile.{SourceFile}
-use Rattle.ucd_facts.specs.declared.row.Row.{Row}
 use Rattle.source_rows.specs.Faults.{row_or_fault}
 use Rattle.source_rows.specs.KeyNames.{ContentsHaveKeys, content_group, content_names, group_of, names_cmp}
 use Rattle.source_rows.specs.Keys.{code_number, is_before, key_cmp, key_of, row_span}
@@ -24,7 +22,7 @@ use Rattle.source_rows.specs.declared.key.Key.{Key}
 use Rattle.part_list.specs.Parts.{PartLists, flat, next_in}
 use Rattle.part_list.specs.SpotLaws.{place-lt}
 use Rattle.part_list.specs.declared.spanned.Spanned.{Spanned}
-use Rattle.release_rows.specs.FileItems.{FileItem}
+use Rattle.release_rows.specs.FileItems.{FileItem, SourceFile, Row}
 use Rattle.release_rows.specs.Gaps.{IsGapAt}
 use Rattle.release_rows.specs.Keys.{is_missing_in}
 use Rattle.release_rows.specs.Leads.{AreLeads, GivesRow, IsLead, KeepLeads, NoneFollows}

@@ -8,13 +8,11 @@ use Rattle.std.proofs.lemmas.List.{drop_all, get_or-drop, get_or-reverse, length
 use Rattle.std.proofs.lemmas.List.Folds.{list_any-append}
 use Rattle.std.proofs.lemmas.List.Sums.{prefix_len_passes, suffix_len-le-length}
 use Rattle.std.proofs.lemmas.List.Elements.{All-nil, All-cons, All-head, All-tail, All-weaker}
-use Rattle.ucd_points.specs.declared.files.SourceFile.{SourceFile}
 use Rattle.ucd_points.specs.declared.files.SourceFile.TheVariants.{UnicodeData, PropList, Scripts, WordBreakProperty, CompositionExclusions, CaseFolding, SpecialCasing, PropertyAliases, PropertyValueAliases}
-use Rattle.ucd_facts.specs.declared.row.Row.{Row}
 use Rattle.source_rows.specs.Keys.{row_span, key_names}
 use Rattle.source_rows.specs.KeyNames.{names_cmp}
 use Rattle.release_rows.specs.Cuts.{begins_from, Rises, Ascends}
-use Rattle.release_rows.specs.FileItems.{FileItem, rows_in, onto_rows}
+use Rattle.release_rows.specs.FileItems.{FileItem, rows_in, onto_rows, SourceFile, Row}
 use Rattle.release_rows.specs.Keys.{overlaps, same_key}
 use Rattle.release_rows.specs.OperationLaws.{OperationsKeepOrder}
 use Rattle.release_rows.specs.Operations.{added_item, changed_item, edited, ended, follows, has_key, holds_row, overlaps_another, place_in, put_in, row_passes, same_group}

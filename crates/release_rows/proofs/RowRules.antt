@@ -3,12 +3,10 @@ use Rattle.std.proofs.Common.{◌≡◌, ℕ, Bool, true, false, cond, ◌&&◌,
 use Rattle.std.specs.List.{list_any}
 use Rattle.std.proofs.lemmas.Bool.Decides.{nat_tests}
 use Rattle.ucd_points.specs.PlainProofs.{any_map}
-use Rattle.ucd_points.specs.declared.files.SourceFile.{SourceFile}
-use Rattle.ucd_facts.specs.declared.row.Row.{Row}
 use Rattle.release_rows.specs.Extents.{Extent, same_start, meets, conflict_with}
 use Rattle.release_rows.specs.Places.{names_in, extent_at}
 use Rattle.source_rows.specs.Keys.{row_span, key_names}
-use Rattle.release_rows.specs.Keys.{row_end, has_spans, same_key, overlaps, key_rule, extent_in, is_back, last_start, falls_back}
+use Rattle.release_rows.specs.Keys.{row_end, has_spans, same_key, overlaps, key_rule, extent_in, is_back, last_start, falls_back, SourceFile, Row}
 use Rattle.release_rows.specs.Loading.{row_rule, rule_by, load_rule}
 use Rattle.release_rows.specs.declared.sort_key.SortKey.{SortKey}
 use Rattle.release_rows.specs.declared.conflict.Conflict.{Conflict}

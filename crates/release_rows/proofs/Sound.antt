@@ -3,13 +3,11 @@ use Rattle.std.proofs.Common.{◌≡◌, ℕ, Bool, true, false, cond, List, [],
 use Rattle.std.proofs.lemmas.List.Elements.{All-nil, All-cons}
 use Rattle.ucd_lines.specs.Laws.{AreLines, NoLineFeedInside, OnlyTheLastIsUnended, EndingsAreToldApart, lines_behind}
 use Rattle.ucd_points.specs.Lines.{LineItem, LineEnding, unended, lf, cr_lf, ends_in_return, item_bytes, items_of}
-use Rattle.ucd_points.specs.declared.files.SourceFile.{SourceFile}
 use Rattle.release_rows.specs.Cuts.{IsToldApart}
-use Rattle.release_rows.specs.FileItems.{FileItem}
 use Rattle.release_rows.specs.Laws.{LoadedFilesAreSound}
 use Rattle.release_rows.specs.Loading.{file_item, file_or_fault, first_fault}
 use Rattle.release_rows.specs.Pieces.{one_line, opens_range, pieces, two_lines}
-use Rattle.release_rows.specs.Releases.{AreSound}
+use Rattle.release_rows.specs.Releases.{AreSound, FileItem, SourceFile}
 use Rattle.release_rows.proofs.Cuts.{pieces_cut}
 use Rattle.release_rows.proofs.Kept.{kept_below, ok_by}
 use Rattle.release_rows.proofs.Loads.{pieces_ascend}

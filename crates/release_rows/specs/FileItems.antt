@@ -9,8 +9,8 @@
 -- lines_of items         how many lines they have
 use Rattle.std.specs.Prelude.{ℕ, List, [], ◌∷◌, ◌++◌, Option, Some, None, flat_map, sum_by}
 use Rattle.ucd_points.specs.Lines.{LineEnding, ending_bytes}
-use Rattle.ucd_points.specs.declared.files.SourceFile.{SourceFile}
-use Rattle.ucd_facts.specs.declared.row.Row.{Row}
+pub use Rattle.ucd_points.specs.declared.files.SourceFile.{SourceFile}
+pub use Rattle.ucd_facts.specs.declared.row.Row.{Row}
 
 pub record FileItem : Type 0 where
   pub content : List ℕ

@@ -6,9 +6,7 @@
 -- rows_of_numbered            without their lines, numbered rows are the rows
 -- numbered_one                the same of one item before others of which it holds
 use Rattle.std.proofs.Common.{◌≡◌, ◌≢◌, ℕ, ◌+◌, List, [], ◌∷◌, map, Option, Some, None, length, refl, sym, ap, subst, ◌∙◌, inl, inr, arith, get_or-set_same, get_or-set_other}
-use Rattle.ucd_points.specs.declared.files.SourceFile.{SourceFile}
-use Rattle.ucd_facts.specs.declared.row.Row.{Row}
-use Rattle.release_rows.specs.FileItems.{FileItem, rows_in, onto_rows}
+use Rattle.release_rows.specs.FileItems.{FileItem, rows_in, onto_rows, SourceFile, Row}
 use Rattle.release_rows.specs.Releases.{items_at, with_items, numbered_rows, onto_numbered}
 use Rattle.ucd_points.specs.SourceFiles.{file_at, file_at-place, file_place, file_place_small}
 use Rattle.std.proofs.lemmas.Bool.{cases_eq}

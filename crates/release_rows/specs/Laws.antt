@@ -14,10 +14,9 @@
 use Rattle.std.specs.Prelude.{◌≡◌, ◌↔◌, ℕ, ◌≤◌, List, [], ◌∷◌, ◌++◌, map, length, Some, None, Ok, Err, All}
 use Rattle.ucd_points.specs.Limits.{file_limit}
 use Rattle.ucd_points.specs.Lines.{items_of}
-use Rattle.ucd_points.specs.declared.files.SourceFile.{SourceFile}
 use Rattle.release_rows.specs.Cuts.{IsToldApart}
 use Rattle.release_rows.specs.Pieces.{Lines, pieces}
-use Rattle.release_rows.specs.FileItems.{FileItem, bytes_of}
+use Rattle.release_rows.specs.FileItems.{FileItem, bytes_of, SourceFile}
 use Rattle.release_rows.specs.Loading.{LoadFault, file_item, piece_fault, file_or_fault, load_or_fault}
 use Rattle.release_rows.specs.Releases.{AreSound}
 

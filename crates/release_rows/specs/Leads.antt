@@ -5,11 +5,9 @@
 -- AreLeads file text items leads   so it is of each lead
 -- KeepLeads file text items leads   so it is of each lead that is kept
 use Rattle.std.specs.Prelude.{◌≡◌, ℕ, ◌+◌, ◌≤◌, false, List, length, take, Ok, All, IfSome}
-use Rattle.ucd_points.specs.declared.files.SourceFile.{SourceFile}
-use Rattle.ucd_facts.specs.declared.row.Row.{Row}
 use Rattle.source_rows.specs.Faults.{row_or_fault}
 use Rattle.source_rows.specs.Keys.{row_span}
-use Rattle.release_rows.specs.FileItems.{FileItem}
+use Rattle.release_rows.specs.FileItems.{FileItem, SourceFile, Row}
 use Rattle.release_rows.specs.Operations.{follows, row_passes}
 use Rattle.release_rows.specs.StoredItems.{content_at}
 use Rattle.release_rows.specs.declared.lead.Lead.{Lead}

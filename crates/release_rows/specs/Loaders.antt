@@ -5,10 +5,9 @@
 -- IsLoaded file text items   these entries are the file's items, which put together are its text
 -- LoadsList file text r      the result is that of the file: its entries, or its first fault
 use Rattle.std.specs.Prelude.{◌≡◌, ℕ, ◌<◌, ◌^◌, List, map, length, Result, Ok, Err, All}
-use Rattle.ucd_points.specs.declared.files.SourceFile.{SourceFile}
 use Rattle.part_list.specs.Parts.{PartLists, now_in, next_in}
 use Rattle.part_list.specs.declared.spanned.Spanned.{Spanned}
-use Rattle.release_rows.specs.FileItems.{FileItem}
+use Rattle.release_rows.specs.FileItems.{FileItem, SourceFile}
 use Rattle.release_rows.specs.Progress.{Progress, IsLoading}
 use Rattle.release_rows.specs.Loading.{file_or_fault}
 use Rattle.release_rows.specs.StoredItems.{stored_at, IsStored, IsWhole}

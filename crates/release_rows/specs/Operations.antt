@@ -34,15 +34,12 @@ use Rattle.ucd_points.specs.Bounds.{Bounds}
 use Rattle.ucd_points.specs.Lines.{LineEnding, unended, lf, cr_lf, is_lf}
 use Rattle.ucd_facts.specs.RowSpans.{span_in}
 use Rattle.ucd_facts.specs.RowValues.{RowOk}
-use Rattle.ucd_points.specs.declared.files.SourceFile.{SourceFile}
-use Rattle.ucd_facts.specs.declared.row.Row.{Row}
 use Rattle.source_rows.specs.Faults.{row_or_fault}
 use Rattle.source_rows.specs.Keys.{key_of, equal_keys, is_before}
 use Rattle.source_rows.specs.KeyNames.{group_of}
 use Rattle.source_rows.specs.declared.key.Key.{Key}
-use Rattle.release_rows.specs.FileItems.{FileItem}
 use Rattle.release_rows.specs.Keys.{is_missing_in, same_key, overlaps}
-use Rattle.release_rows.specs.Releases.{items_at, with_items}
+use Rattle.release_rows.specs.Releases.{items_at, with_items, FileItem, SourceFile, Row}
 use Rattle.release_rows.specs.declared.key_rule.KeyRule.{KeyRule}
 use Rattle.release_rows.specs.declared.key_rule.KeyRule.TheVariants.{K1, K2, K4}
 use Rattle.release_rows.specs.declared.operation.Op.{Op}

@@ -15,12 +15,10 @@
 use Rattle.std.specs.Prelude.{◌≡◌, ℕ, Bool, true, ◌&&◌, not, List, ◌==◌, nat_le, bytes_eq}
 use Rattle.std.specs.Ordering.{ordering_then, nat_cmp, is_eq, is_lt}
 use Rattle.ucd_points.specs.MissingLines.{is_trivia}
-use Rattle.ucd_points.specs.declared.files.SourceFile.{SourceFile}
-use Rattle.ucd_facts.specs.declared.row.Row.{Row}
 use Rattle.source_rows.specs.Keys.{row_span, key_names}
 use Rattle.source_rows.specs.KeyNames.{content_group, content_names, group_of, names_cmp}
 use Rattle.part_list.specs.declared.spanned.Spanned.{Spanned}
-use Rattle.release_rows.specs.Keys.{has_spans, is_missing_row, row_end}
+use Rattle.release_rows.specs.Keys.{has_spans, is_missing_row, row_end, SourceFile, Row}
 use Rattle.release_rows.specs.StoredItems.{content_at}
 use Rattle.release_rows.specs.Tags.{HasTag, tag_fits, tag_rises, tells_group, tells_key, tells_order}
 use Rattle.release_rows.specs.declared.search.Test.{Test}

@@ -22,8 +22,6 @@
 -- ShowsValue value row      the value is that of a row of a span and a value; None of other rows, missing rows among them
 -- ShowsMissing value row    the value is that of a missing row; None of other rows
 use Rattle.std.specs.Prelude.{◌≡◌, ◌≢◌, ℕ, ◌+◌, ◌<◌, ◌≤◌, ◌^◌, List, map, length, take, drop, Option, Some, None, Result, Ok, Err, All, option_map}
-use Rattle.ucd_points.specs.declared.files.SourceFile.{SourceFile}
-use Rattle.ucd_facts.specs.declared.row.Row.{Row}
 use Rattle.ucd_facts.specs.declared.row.Row.TheVariants.{Value as ValueLine, Exclusion as ExclusionLine, Missing as MissingLine}
 use Rattle.ucd_lines.specs.Items.{item_of, ending_of}
 use Rattle.source_rows.specs.Faults.{row_or_fault}
@@ -36,7 +34,7 @@ use Rattle.part_list.specs.declared.spanned.Spanned.{Spanned}
 use Rattle.source_rows.specs.Keys.{row_span}
 use Rattle.release_rows.specs.Briefs.{brief_of, no_brief}
 use Rattle.release_rows.specs.Pieces.{Lines}
-use Rattle.release_rows.specs.FileItems.{FileItem, bytes_of}
+use Rattle.release_rows.specs.FileItems.{FileItem, bytes_of, SourceFile, Row}
 use Rattle.release_rows.specs.Loading.{content_row, row_read}
 use Rattle.release_rows.specs.Tags.{content_tag}
 use Rattle.release_rows.specs.declared.brief.Brief.{Brief}

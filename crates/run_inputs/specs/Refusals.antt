@@ -8,8 +8,7 @@
 -- folder_verdict folder held    the items of the source files of this folder, of which this is held; or the line that refuses it
 -- script_told path held         the commands of what is held of the script at this path; or the line that refuses it
 use Rattle.std.specs.Prelude.{ℕ, List, ◌++◌, Option, Result, Ok, Err, codes}
-use Rattle.ucd_points.specs.declared.files.SourceFile.{SourceFile}
-use Rattle.release_rows.specs.FileItems.{FileItem}
+use Rattle.release_rows.specs.FileItems.{FileItem, SourceFile}
 use Rattle.script_lines.specs.declared.command.Command.{Command}
 use Rattle.script_lines.specs.declared.stop.ScriptRule.{ScriptRule}
 use Rattle.script_lines.specs.declared.stop.ScriptRule.TheVariants.{E1, E2, E3, E4, E5, E6}

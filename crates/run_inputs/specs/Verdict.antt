@@ -14,11 +14,9 @@ use Rattle.std.specs.Prelude.{ℕ, List, [], ◌∷◌, length, Option, Some, No
 use Rattle.ucd_points.specs.Limits.{file_limit}
 use Rattle.ucd_points.specs.SourceFiles.{source_files}
 use Rattle.ucd_model.specs.Validity.{first_broken}
-use Rattle.ucd_points.specs.declared.files.SourceFile.{SourceFile}
 use Rattle.ucd_facts.specs.declared.form.Broken.{Broken}
-use Rattle.release_rows.specs.FileItems.{FileItem}
 use Rattle.release_rows.specs.Loading.{LoadFault, load_or_fault}
-use Rattle.release_rows.specs.Releases.{ReleaseItems}
+use Rattle.release_rows.specs.Releases.{ReleaseItems, FileItem, SourceFile}
 use Rattle.script_lines.specs.Scripts.{ScriptFault, script_or_fault}
 use Rattle.script_lines.specs.declared.command.Command.{Command}
 use Rattle.edit_session.specs.Groups.{files_facts}

@@ -17,8 +17,7 @@ use Rattle.ucd_points.specs.Bounds.{Bounds}
 use Rattle.ucd_points.specs.Limits.{point_count}
 use Rattle.ucd_facts.specs.Facts.{facts}
 use Rattle.ucd_model.specs.Records.{Record, record_at}
-use Rattle.release_rows.specs.FileItems.{FileItem}
-use Rattle.release_rows.specs.Releases.{rows_of_items}
+use Rattle.release_rows.specs.Releases.{rows_of_items, FileItem}
 use Rattle.property_aliases.specs.Sources.{Sources, sources_of}
 use Rattle.property_aliases.specs.declared.property.Test.{Test}
 use Rattle.unicodeset_parser.specs.Machine.{Fault as TextFault}

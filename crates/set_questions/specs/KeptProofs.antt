@@ -5,8 +5,7 @@ use Rattle.edit_session.specs.Groups.{AppliesAs, files_facts}
 use Rattle.edit_session.specs.Unchanged.{unchanged_same}
 use Rattle.edit_session.specs.declared.accepted.Accepted.{Accepted}
 use Rattle.edit_session.specs.declared.apply_stop.Refused.{Refused}
-use Rattle.release_rows.specs.FileItems.{FileItem}
-use Rattle.release_rows.specs.Releases.{ReleaseItems}
+use Rattle.release_rows.specs.Releases.{ReleaseItems, FileItem}
 use Rattle.ucd_model.specs.Sameness.{is_in}
 use Rattle.ucd_points.specs.Limits.{point_count}
 use Rattle.set_answers.specs.Questions.{files_record}

@@ -15,15 +15,13 @@ use Rattle.ucd_points.specs.HexText.{hex_text, span_text}
 use Rattle.ucd_facts.specs.RowTexts.{names_text}
 use Rattle.ucd_facts.specs.RowValues.{RowOk, IsSpan, IsTrimmed, IsAliasName, AliasOk}
 use Rattle.ucd_points.specs.HexTextProofs.{hex_text_spells_its_point}
-use Rattle.ucd_points.specs.declared.files.SourceFile.{SourceFile}
 use Rattle.ucd_points.specs.declared.files.SourceFile.TheVariants.{UnicodeData, PropList, Scripts, WordBreakProperty, CompositionExclusions, CaseFolding, SpecialCasing, PropertyAliases, PropertyValueAliases}
 use Rattle.ucd_facts.specs.declared.row.AliasRow.{AliasRow}
 use Rattle.ucd_facts.specs.declared.row.FoldStatus.{FoldStatus}
 use Rattle.ucd_facts.specs.declared.row.FoldStatus.TheVariants.{C}
-use Rattle.ucd_facts.specs.declared.row.Row.{Row}
 use Rattle.ucd_facts.specs.declared.row.Row.TheVariants.{Unit as DataLine, Value as ValueLine, Exclusion as ExclusionLine, Fold as FoldLine, Casing as CasingLine, Alias as AliasLine, Missing as MissingLine}
 use Rattle.source_rows.specs.Fields.{fields_of, row_fields}
-use Rattle.source_rows.specs.Keys.{key_of, condition_names, missing_names}
+use Rattle.source_rows.specs.Keys.{key_of, condition_names, missing_names, SourceFile, Row}
 use Rattle.source_rows.specs.KeyGrammar.{ReadsKey, ReadsCodeKey, ReadsMissingKey, ReadsValueKey, ReadsPropertyKey, ReadsFoldKey, ReadsCasingKey, ReadsAliasKey}
 use Rattle.source_rows.specs.KeyTexts.{behind_name, joined_span, key_text, KeyTextsReadBack}
 use Rattle.source_rows.specs.declared.key.Key.{Key}

@@ -13,10 +13,10 @@ use Rattle.ucd_points.specs.Answers.{AnswersBy}
 use Rattle.ucd_points.specs.Lines.{is_lf, holds_line_feed, without_return}
 use Rattle.ucd_points.specs.Fields.{fields}
 use Rattle.ucd_points.specs.MissingLines.{is_missing}
-use Rattle.ucd_points.specs.declared.files.SourceFile.{SourceFile}
+pub use Rattle.ucd_points.specs.declared.files.SourceFile.{SourceFile}
 use Rattle.ucd_points.specs.declared.files.SourceFile.TheVariants.{UnicodeData, PropList, Scripts, WordBreakProperty, CompositionExclusions, CaseFolding, SpecialCasing, PropertyAliases, PropertyValueAliases}
 use Rattle.ucd_facts.specs.declared.row.ValueRow.{ValueRow}
-use Rattle.ucd_facts.specs.declared.row.Row.{Row}
+pub use Rattle.ucd_facts.specs.declared.row.Row.{Row}
 use Rattle.ucd_facts.specs.declared.row.Row.TheVariants.{Value as ValueLine, Missing as MissingLine}
 use Rattle.source_rows.specs.DataFaults.{single_or_fault, pair_or_fault}
 use Rattle.source_rows.specs.OtherFaults.{value_or_fault, exclusion_or_fault, fold_or_fault, casing_or_fault, alias_or_fault}

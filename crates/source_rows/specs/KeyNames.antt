@@ -22,12 +22,10 @@ use Rattle.ucd_points.specs.Bounds.{Bounds}
 use Rattle.ucd_points.specs.Fields.{fields, field, span_of}
 use Rattle.ucd_points.specs.MissingLines.{is_missing}
 use Rattle.ucd_facts.specs.Mappings.{spaced_words}
-use Rattle.ucd_points.specs.declared.files.SourceFile.{SourceFile}
 use Rattle.ucd_points.specs.declared.files.SourceFile.TheVariants.{PropList, Scripts, WordBreakProperty, CaseFolding, SpecialCasing, PropertyAliases, PropertyValueAliases}
-use Rattle.ucd_facts.specs.declared.row.Row.{Row}
 use Rattle.ucd_facts.specs.declared.row.Row.TheVariants.{Value as ValueLine, Alias as AliasLine, Missing as MissingLine}
 use Rattle.source_rows.specs.Faults.{row_or_fault}
-use Rattle.source_rows.specs.Keys.{condition_names, missing_names, key_code, key_names}
+use Rattle.source_rows.specs.Keys.{condition_names, missing_names, key_code, key_names, SourceFile, Row}
 
 abbrev pub span_names : Option Bounds → List (List ℕ)
 span_names (Some s) = missing_names s.hi

@@ -10,10 +10,8 @@
 use Rattle.std.specs.Prelude.{◌≡◌, ℕ, List, [], ◌∷◌, ◌++◌, Option, Ok, if◌then◌else◌, codes, bytes_eq}
 use Rattle.ucd_facts.specs.RowTexts.{case_text, names_text}
 use Rattle.ucd_facts.specs.RowValues.{RowOk}
-use Rattle.ucd_points.specs.declared.files.SourceFile.{SourceFile}
 use Rattle.ucd_points.specs.declared.files.SourceFile.TheVariants.{PropList, Scripts, WordBreakProperty, CaseFolding, SpecialCasing, PropertyAliases, PropertyValueAliases}
-use Rattle.ucd_facts.specs.declared.row.Row.{Row}
-use Rattle.source_rows.specs.Keys.{key_of}
+use Rattle.source_rows.specs.Keys.{key_of, SourceFile, Row}
 use Rattle.source_rows.specs.KeyGrammar.{key_or_fault}
 use Rattle.source_rows.specs.declared.key.Key.{Key}
 

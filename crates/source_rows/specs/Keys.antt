@@ -24,9 +24,9 @@ use Rattle.std.specs.Ordering.{ordering_then, nat_cmp, is_lt, Ordering}
 use Rattle.ucd_points.specs.Bounds.{Bounds}
 use Rattle.ucd_points.specs.HexText.{hex_text}
 use Rattle.ucd_facts.specs.Names.{status_code}
-use Rattle.ucd_points.specs.declared.files.SourceFile.{SourceFile}
+pub use Rattle.ucd_points.specs.declared.files.SourceFile.{SourceFile}
 use Rattle.ucd_points.specs.declared.files.SourceFile.TheVariants.{PropList, PropertyAliases}
-use Rattle.ucd_facts.specs.declared.row.Row.{Row}
+pub use Rattle.ucd_facts.specs.declared.row.Row.{Row}
 use Rattle.ucd_facts.specs.declared.row.Row.TheVariants.{Unit as DataLine, Value as ValueLine, Exclusion as ExclusionLine, Fold as FoldLine, Casing as CasingLine, Alias as AliasLine, Missing as MissingLine}
 use Rattle.source_rows.specs.declared.key.Key.{Key}
 

@@ -14,9 +14,7 @@ use Rattle.ucd_facts.specs.RowTexts.{row_text}
 use Rattle.ucd_facts.specs.RowValues.{RowOk}
 use Rattle.ucd_facts.specs.declared.category.Category.{Category}
 use Rattle.ucd_facts.specs.declared.category.Category.TheVariants.{Cn}
-use Rattle.ucd_points.specs.declared.files.SourceFile.{SourceFile}
-use Rattle.ucd_facts.specs.declared.row.Row.{Row}
-use Rattle.source_rows.specs.Faults.{row_or_fault}
+use Rattle.source_rows.specs.Faults.{row_or_fault, SourceFile, Row}
 
 abbrev pub RowsAreRead : Type 0
 RowsAreRead = (file : SourceFile) (bytes : List ℕ) (row : Row) → (row_or_fault file bytes ≡ Ok row) ↔ Reads file bytes row

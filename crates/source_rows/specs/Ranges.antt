@@ -13,10 +13,9 @@ use Rattle.std.specs.Prelude.{◌≡◌, ◌≢◌, ◌⊎◌, ◌↔◌, ℕ, �
 use Rattle.ucd_points.specs.Lines.{holds_line_feed, without_return}
 use Rattle.ucd_points.specs.Fields.{fields, field, point_of, is_name}
 use Rattle.ucd_points.specs.declared.files.SourceFile.TheVariants.{UnicodeData}
-use Rattle.ucd_facts.specs.declared.row.Row.{Row}
 use Rattle.source_rows.specs.Lines.{is_first_line}
 use Rattle.source_rows.specs.DataFaults.{values_or_fault, first_label, are_last_fields}
-use Rattle.source_rows.specs.Faults.{row_or_fault}
+use Rattle.source_rows.specs.Faults.{row_or_fault, Row}
 use Rattle.source_rows.specs.declared.fault.RowFault.{RowFault}
 use Rattle.source_rows.specs.declared.fault.RowFault.TheVariants.{G04, G09}
 

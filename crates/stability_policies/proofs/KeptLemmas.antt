@@ -5,13 +5,12 @@ use Rattle.std.proofs.Math.Bool.{and-not_self}
 use Rattle.ucd_model.specs.CanonicalOrder.{class_of, order}
 use Rattle.ucd_facts.specs.Composites.{is_canonical}
 use Rattle.ucd_facts.specs.EnumerationProofs.{place-injective}
-use Rattle.ucd_facts.specs.Facts.{Facts}
+use Rattle.ucd_facts.specs.Facts.{Facts, Kind}
 use Rattle.ucd_facts.specs.Predicates.{category_place}
 use Rattle.ucd_model.specs.Records.{Record, core_at, kept_record, record_at}
 use Rattle.ucd_facts.specs.Sets.{has_core}
 use Rattle.ucd_facts.specs.declared.category.Category.{Category}
 use Rattle.ucd_facts.specs.declared.category.Category.TheVariants.{Cc, Cs, Co}
-use Rattle.ucd_facts.specs.declared.decomposition.Kind.{Kind}
 use Rattle.ucd_facts.specs.declared.property.Core.{Core}
 use Rattle.ucd_facts.specs.declared.property.Core.TheVariants.{IdStart, IdContinue, XidStart, XidContinue}
 use Rattle.ucd_facts.specs.declared.property.Flag.TheVariants.{NoncharacterCodePoint, PatternSyntax, PatternWhiteSpace}

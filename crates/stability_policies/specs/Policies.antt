@@ -26,14 +26,12 @@ use Rattle.std.specs.List.{list_all}
 use Rattle.ucd_model.specs.CanonicalOrder.{class_of, order}
 use Rattle.ucd_model.specs.Casing.{fold}
 use Rattle.ucd_facts.specs.Composites.{is_canonical, primary}
-use Rattle.ucd_facts.specs.Facts.{Facts, Sources, data_row, facts}
+use Rattle.ucd_facts.specs.Facts.{Facts, Sources, data_row, facts, Kind, Plain, Canonical, Compat}
 use Rattle.ucd_model.specs.Forms.{nfkc}
 use Rattle.ucd_facts.specs.Predicates.{category_place, is_one_of}
 use Rattle.ucd_model.specs.Records.{core_at}
 use Rattle.ucd_facts.specs.declared.category.Category.{Category}
 use Rattle.ucd_facts.specs.declared.category.Category.TheVariants.{Cc, Cs, Co, Mn, Mc, Me}
-use Rattle.ucd_facts.specs.declared.decomposition.Kind.{Kind}
-use Rattle.ucd_facts.specs.declared.decomposition.Kind.TheVariants.{Plain, Canonical, Compat}
 use Rattle.ucd_points.specs.declared.files.SourceFile.TheVariants.{UnicodeData}
 use Rattle.ucd_facts.specs.declared.form.Bad.{Bad as Rule}
 use Rattle.ucd_facts.specs.declared.property.Core.TheVariants.{IdStart, IdContinue, XidStart, XidContinue}

@@ -4,9 +4,8 @@
 use Rattle.std.proofs.Common.{◌≡◌, ℕ, true, false, ◌==◌, refl, sym, ap, Decides, true≢false, eqb-true, eq-eqb}
 use Rattle.std.specs.Cmp.{IsEquivalence, both_ways}
 use Rattle.std.proofs.lemmas.Bool.Decides.{Decides-and, Decides-eqb}
-use Rattle.ucd_facts.specs.declared.query.Query.{Query}
 use Rattle.ucd_facts.specs.declared.query.Query.TheVariants.{Row, Pair, Second}
-use Rattle.ucd_facts.specs.Answers.{same_query, QueriesAreTold}
+use Rattle.ucd_facts.specs.Answers.{same_query, QueriesAreTold, Query}
 
 differ : {q r : Query} → (q ≡ r → ⊥) → Decides false (q ≡ r)
 differ never = (λ t. absurd (true≢false (sym t)), λ e. absurd (never e))

@@ -13,7 +13,7 @@ use Rattle.std.specs.Prelude.{◌≡◌, ℕ, Bool, true, false, ◌&&◌, ◌==
 use Rattle.std.specs.List.{list_any}
 use Rattle.ucd_facts.specs.Composites.{pair_of, second_of}
 use Rattle.ucd_facts.specs.Facts.{Facts}
-use Rattle.ucd_facts.specs.declared.query.Query.{Query}
+pub use Rattle.ucd_facts.specs.declared.query.Query.{Query}
 use Rattle.ucd_facts.specs.declared.query.Query.TheVariants.{Row, Pair, Second}
 
 abbrev pub same_query : Query → Query → Bool

@@ -17,13 +17,12 @@ use Rattle.std.proofs.lemmas.List.FromFn.{get_or-range_with_len}
 use Rattle.std.proofs.Math.ListN.{get_or-map}
 use Rattle.std.proofs.lemmas.Option.{get_or_from_slice_get, slice_get-get_or, slice_get-map, same_Some}
 use Rattle.ucd_facts.specs.Enumerations.{derived_files, IsEnumeration, EnumerationsAreWhole, categories, statuses, tags, place_of_tag, kinds, place_of_kind, flags, place_of_derived, foldings, place_of_folding, forms, place_of_form, quick_values, place_of_quick, rules, place_of_rule}
-use Rattle.ucd_facts.specs.Facts.{status_place}
+use Rattle.ucd_facts.specs.Facts.{status_place, Kind}
 use Rattle.ucd_facts.specs.Predicates.{category_place, core_properties}
 use Rattle.ucd_facts.specs.Sets.{flag_place, core_place}
 use Rattle.ucd_points.specs.SourceFiles.{source_files, file_place, file_place_small, file_at-place}
 use Rattle.ucd_facts.specs.declared.category.Category.{Category}
 use Rattle.ucd_facts.specs.declared.category.Category.TheVariants.{Lu}
-use Rattle.ucd_facts.specs.declared.decomposition.Kind.{Kind}
 use Rattle.ucd_facts.specs.declared.decomposition.Kind.TheVariants as kind
 use Rattle.ucd_facts.specs.declared.decomposition.Tag.{Tag}
 use Rattle.ucd_facts.specs.declared.decomposition.Tag.TheVariants.{Font, Compat}

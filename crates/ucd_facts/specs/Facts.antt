@@ -66,11 +66,11 @@ use Rattle.ucd_facts.specs.Names.{flag_name}
 use Rattle.ucd_facts.specs.Values.{mid_word_at}
 use Rattle.ucd_facts.specs.declared.category.Category.{Category}
 use Rattle.ucd_facts.specs.declared.category.Category.TheVariants.{Cn}
-use Rattle.ucd_facts.specs.declared.decomposition.Kind.{Kind}
-use Rattle.ucd_facts.specs.declared.decomposition.Kind.TheVariants.{Plain, Canonical}
+pub use Rattle.ucd_facts.specs.declared.decomposition.Kind.{Kind}
+pub use Rattle.ucd_facts.specs.declared.decomposition.Kind.TheVariants.{Plain, Canonical, Compat}
 use Rattle.ucd_facts.specs.declared.property.Flag.{Flag}
-use Rattle.ucd_facts.specs.declared.image.Image.{Image}
-use Rattle.ucd_facts.specs.declared.image.Image.TheVariants.{Same, To}
+pub use Rattle.ucd_facts.specs.declared.image.Image.{Image}
+pub use Rattle.ucd_facts.specs.declared.image.Image.TheVariants.{Same, To}
 use Rattle.ucd_points.specs.declared.files.SourceFile.{SourceFile}
 use Rattle.ucd_points.specs.declared.files.SourceFile.TheVariants.{UnicodeData, PropList, WordBreakProperty, CompositionExclusions, CaseFolding, SpecialCasing}
 use Rattle.ucd_facts.specs.declared.row.DataRow.{DataRow}

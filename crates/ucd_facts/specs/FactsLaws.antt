@@ -8,8 +8,7 @@
 -- FactsAreCut          a number past the code points has the facts of a code point without a row
 use Rattle.std.specs.Prelude.{◌≡◌, ℕ, ◌+◌, ◌-◌, ◌*◌, ◌%◌, ◌<◌, ◌≤◌, List, [], ◌∷◌, ◌↔◌, ◌⊎◌, true}
 use Rattle.ucd_points.specs.Limits.{point_count}
-use Rattle.ucd_facts.specs.Facts.{Sources, facts, unassigned, image, is_hangul_syllable, hangul_mapping}
-use Rattle.ucd_facts.specs.declared.image.Image.TheVariants.{Same, To}
+use Rattle.ucd_facts.specs.Facts.{Sources, facts, unassigned, image, is_hangul_syllable, hangul_mapping, Same, To}
 
 abbrev pub ImageIsSame : Type 0
 ImageIsSame = (c : ℕ) (points : List ℕ) → (image c points ≡ Same) ↔ (points ≡ c ∷ [])

@@ -9,9 +9,8 @@ use Rattle.std.proofs.lemmas.Bool.Decides.{nat_tests}
 use Rattle.ucd_facts.specs.declared.form.Bad.TheVariants.{V3}
 use Rattle.ucd_facts.specs.Expansion.{judged}
 use Rattle.ucd_points.specs.Limits.{point_count}
-use Rattle.ucd_facts.specs.Facts.{Sources, facts, given, is_hangul_syllable, hangul_mapping}
+use Rattle.ucd_facts.specs.Facts.{Sources, facts, given, is_hangul_syllable, hangul_mapping, Same, To}
 use Rattle.ucd_facts.specs.FactsLaws.{ImageIsSame, ImageIsOther, IsLV, IsLVT, HangulComposesBack, FactsAreCut}
-use Rattle.ucd_facts.specs.declared.image.Image.TheVariants.{Same, To}
 
 pub facts_inside : (rows : Sources) (c : ℕ) → c < point_count → facts rows c ≡ given rows c
 unfolding facts

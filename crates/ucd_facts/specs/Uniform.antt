@@ -4,9 +4,8 @@
 -- Uniform F c d      d has no mapping, its other facts are those of c, and it is the second member of a primary composite's
 --                    mapping exactly where c is
 use Rattle.std.specs.Prelude.{◌≡◌, ℕ, []}
-use Rattle.ucd_facts.specs.Facts.{Facts}
+use Rattle.ucd_facts.specs.Facts.{Facts, Same}
 use Rattle.ucd_facts.specs.Composites.{second_of}
-use Rattle.ucd_facts.specs.declared.image.Image.TheVariants.{Same}
 
 pub record IsPlain (c : ℕ) (G : Facts) : Type 0 where
   pub mapping : G.mapping ≡ []

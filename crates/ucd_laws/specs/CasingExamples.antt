@@ -6,18 +6,16 @@
 use Rattle.std.proofs.Common.{◌≡◌, ℕ, true, false, [], ◌∷◌, Some, None, Ok, Err, ◌==◌, if◌then◌else◌, get_or, refl}
 use Rattle.ucd_model.specs.Casing.{lower, upper, title, fold, folded, lowers, uppers, titles, folds, casemaps, changes_when}
 use Rattle.ucd_facts.specs.Expansion.{full}
-use Rattle.ucd_facts.specs.Facts.{Facts, unassigned}
+use Rattle.ucd_facts.specs.Facts.{Facts, unassigned, Canonical, Same, To}
 use Rattle.ucd_model.specs.FoldRounds.{rounds, is_last, casefold, casefold_image}
 use Rattle.ucd_model.specs.Identifiers.{starts, continues}
 use Rattle.ucd_model.specs.QuickChecks.{excludes_mapping, full_exclusion, quick_given, quick}
 use Rattle.ucd_facts.specs.declared.category.Category.{Category}
 use Rattle.ucd_facts.specs.declared.category.Category.TheVariants.{Lu, Ll, Lo, Mn, Cf}
-use Rattle.ucd_facts.specs.declared.decomposition.Kind.TheVariants.{Canonical}
 use Rattle.ucd_facts.specs.declared.folding.Folding.TheVariants.{Full, Simple}
 use Rattle.ucd_facts.specs.declared.form.Bad.TheVariants.{V5}
 use Rattle.ucd_facts.specs.declared.form.Form.TheVariants.{Nfd, Nfc, Nfkd, Nfkc}
 use Rattle.ucd_facts.specs.declared.form.Quick.TheVariants.{Yes, No}
-use Rattle.ucd_facts.specs.declared.image.Image.TheVariants.{Same, To}
 
 abbrev one : Category → Facts
 one category = record (unassigned 0) { assigned = true; category = category }

@@ -19,14 +19,12 @@
 use Rattle.std.specs.Prelude.{ℕ, zero, suc, Bool, false, not, List, [], ◌∷◌, length, nat_le, Option, Some, None, Result, Ok, Err, filter, find, if◌then◌else◌, option_and_then, bytes_eq}
 use Rattle.std.specs.List.{range_with_len}
 use Rattle.ucd_model.specs.Casing.{folded}
-use Rattle.ucd_facts.specs.Facts.{Facts, image}
+use Rattle.ucd_facts.specs.Facts.{Facts, image, Image, Same}
 use Rattle.ucd_model.specs.Forms.{nfkc}
 use Rattle.ucd_facts.specs.Predicates.{default_ignorable}
 use Rattle.ucd_facts.specs.declared.folding.Folding.{Folding}
 use Rattle.ucd_facts.specs.declared.form.Bad.{Bad as Rule}
 use Rattle.ucd_facts.specs.declared.form.Bad.TheVariants.{V5}
-use Rattle.ucd_facts.specs.declared.image.Image.{Image}
-use Rattle.ucd_facts.specs.declared.image.Image.TheVariants.{Same}
 
 abbrev pub drop_ignorable : (ℕ → Facts) → List ℕ → List ℕ
 drop_ignorable F s = filter (λ x. not (default_ignorable x (F x))) s

@@ -5,8 +5,7 @@ use Rattle.std.proofs.lemmas.List.Concat.{flat_map-cons}
 use Rattle.std.proofs.lemmas.List.Sums.{sum_by-append, sum_by-cons}
 use Rattle.ucd_lines.specs.Laws.{AreLines, NoLineFeedInside, OnlyTheLastIsUnended, EndingsAreToldApart, lines_behind}
 use Rattle.ucd_points.specs.Lines.{LineItem, LineEnding, unended, lf, cr_lf, ending_bytes, item_bytes, items_of, is_lf, holds_line_feed}
-use Rattle.ucd_points.specs.declared.files.SourceFile.{SourceFile}
-use Rattle.release_rows.specs.FileItems.{FileItem, lines_of}
+use Rattle.release_rows.specs.FileItems.{FileItem, lines_of, SourceFile}
 use Rattle.release_rows.specs.Loading.{file_item}
 use Rattle.release_rows.specs.Pieces.{Lines, one_line, opens_range, pieces, piece_bytes, piece_lines, two_lines}
 use Rattle.ucdshop_core.specs.LineLaws.{line_feeds, LinesAreCounted}

@@ -4,8 +4,7 @@
 --                      first line is one more than the LFs before it
 use Rattle.std.specs.Prelude.{◌≡◌, ℕ, List, ◌∷◌, ◌++◌, map, count_by, flat_map}
 use Rattle.ucd_points.specs.Lines.{is_lf, items_of}
-use Rattle.ucd_points.specs.declared.files.SourceFile.{SourceFile}
-use Rattle.release_rows.specs.FileItems.{lines_of}
+use Rattle.release_rows.specs.FileItems.{lines_of, SourceFile}
 use Rattle.release_rows.specs.Loading.{file_item}
 use Rattle.release_rows.specs.Pieces.{Lines, pieces, piece_bytes}
 

@@ -49,9 +49,8 @@
 -- ucdshop                          this program
 use Rattle.std.specs.Prelude.{ℕ, ◌+◌, ◌||◌, List, [], ◌∷◌, ◌++◌, length, map, Option, Some, None, Result, Ok, Err, nat_lt, option_to_list, flat_map}
 use Rattle.ucd_facts.specs.Enumerations.{derived_files}
-use Rattle.ucd_points.specs.declared.files.SourceFile.{SourceFile}
 use Rattle.ucd_points.specs.SourceFiles.{source_files}
-use Rattle.release_rows.specs.FileItems.{FileItem}
+use Rattle.release_rows.specs.FileItems.{FileItem, SourceFile}
 use Rattle.script_lines.specs.declared.command.Command.{Command}
 use Rattle.release_maker.specs.MadeTexts.{source_text, script_text}
 use Rattle.stability_policies.specs.ReportTexts.{report_text}

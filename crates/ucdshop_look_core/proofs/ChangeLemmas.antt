@@ -14,8 +14,7 @@ use Rattle.edit_session.specs.Groups.{AppliesAs, differing, files_facts, group_a
 use Rattle.edit_session.specs.declared.accepted.Accepted.{Accepted}
 use Rattle.edit_session.specs.declared.apply_stop.ApplyStop.TheVariants.{Refused as Refuses}
 use Rattle.edit_session.specs.declared.apply_stop.Refused.{Refused}
-use Rattle.release_rows.specs.FileItems.{FileItem}
-use Rattle.release_rows.specs.Releases.{ReleaseItems}
+use Rattle.release_rows.specs.Releases.{ReleaseItems, FileItem}
 use Rattle.record_lines.specs.Earlier.{FollowingCatchesUp, updated}
 use Rattle.record_lines.specs.RecordTexts.{change_text}
 use Rattle.script_lines.specs.declared.command.Command.{Command}

@@ -8,9 +8,7 @@ use Rattle.std.proofs.Math.Seq.{drop-append_seam}
 use Rattle.std.proofs.lemmas.Grind.{flat_map-append}
 use Rattle.std.proofs.lemmas.List.{append-nil, drop_more, get_or_append_left, length-append, length-map, map-append, take-append-drop}
 use Rattle.ucd_points.specs.SourceFiles.{file_place, file_place_small}
-use Rattle.ucd_points.specs.declared.files.SourceFile.{SourceFile}
-use Rattle.release_rows.specs.FileItems.{FileItem}
-use Rattle.release_rows.specs.Releases.{ReleaseItems}
+use Rattle.release_rows.specs.Releases.{ReleaseItems, FileItem, SourceFile}
 use Rattle.edit_session.specs.Benches.{HasNothingPrepared}
 use Rattle.shelf_io.specs.Contents.{SameContents}
 use Rattle.run_endings.specs.Endings.{Contents, IsSeen, Seen, Sees}

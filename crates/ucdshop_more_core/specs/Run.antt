@@ -47,8 +47,7 @@
 -- expected_of job seen             what is expected of a job, by what was seen at the paths that it needs
 -- ucdshop_more                     this program
 use Rattle.std.specs.Prelude.{ℕ, ◌&&◌, List, [], ◌∷◌, ◌++◌, length, map, drop, Option, Some, None, Result, Ok, Err, nat_le, nat_lt, if◌then◌else◌, codes, count_by, flat_map, option_map, bytes_eq}
-use Rattle.release_rows.specs.FileItems.{FileItem}
-use Rattle.release_rows.specs.Releases.{ReleaseItems}
+use Rattle.release_rows.specs.Releases.{ReleaseItems, FileItem}
 use Rattle.ucd_points.specs.Limits.{point_count}
 use Rattle.ucd_points.specs.SourceFiles.{source_files}
 use Rattle.ucd_facts.specs.Enumerations.{derived_files}

@@ -6,16 +6,14 @@
 --                    White_Space, and 0020 is Pattern_White_Space too
 -- values k           a record of category k, class 230 and kind Canonical, with Alphabetic alone, of which NFC's check is Maybe
 use Rattle.std.proofs.Common.{◌≡◌, ℕ, Bool, true, false, ◌==◌, List, [], ◌∷◌, Some, None, map, refl, codes}
-use Rattle.ucd_facts.specs.Facts.{Sources}
+use Rattle.ucd_facts.specs.Facts.{Sources, Plain, Canonical, Same}
 use Rattle.ucd_model.specs.Records.{Record}
 use Rattle.ucd_facts.specs.Sets.{core_place}
 use Rattle.ucd_facts.specs.declared.category.Category.{Category}
 use Rattle.ucd_facts.specs.declared.category.Category.TheVariants.{Lu, Lt, Lm, Mn, Mc, Nl, Pi, Sk, Zl, Cn}
-use Rattle.ucd_facts.specs.declared.decomposition.Kind.TheVariants.{Plain, Canonical}
 use Rattle.ucd_points.specs.declared.files.SourceFile.TheVariants.{UnicodeData, PropList, Scripts, WordBreakProperty}
 use Rattle.ucd_facts.specs.declared.form.Form.TheVariants.{Nfd, Nfc}
 use Rattle.ucd_facts.specs.declared.form.Quick.TheVariants.{Yes, No, Maybe}
-use Rattle.ucd_facts.specs.declared.image.Image.TheVariants.{Same}
 use Rattle.ucd_facts.specs.declared.property.Core.TheVariants.{Math, Alphabetic}
 use Rattle.ucd_facts.specs.declared.row.DataRow.{DataRow}
 use Rattle.ucd_facts.specs.declared.row.Row.{Row}

@@ -2,7 +2,7 @@
 -- unasked       who is not listed under a question, and whose own one it is not, does not ask it
 -- none_more     one more that does not pass
 -- none_between  where none of a stretch passes, and none behind it may pass, none of both does
-use Rattle.std.proofs.Common.{◌≡◌, ◌∙◌, ℕ, ◌+◌, ◌<◌, ◌≤◌, Bool, true, false, ◌||◌, List, Option, Some, None, refl, sym, ap, arith, inl, inr}
+use Rattle.std.proofs.Common.{◌≡◌, ◌∙◌, ℕ, ◌+◌, ◌<◌, ◌≤◌, Bool, true, false, List, Option, Some, None, refl, sym, ap, arith, inl, inr}
 use Rattle.std.proofs.lemmas.Bool.{cases_lt, true≢false, or_parts}
 use Rattle.ucd_facts.specs.declared.query.Query.TheVariants.{Pair}
 use Rattle.ucd_facts.specs.Answers.{is_asked, Query}

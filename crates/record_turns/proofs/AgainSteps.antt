@@ -1,5 +1,5 @@
 -- What is derived again, point by point.
-use Rattle.std.proofs.Common.{◌≡◌, ◌≢◌, ℕ, suc, ◌+◌, ◌<◌, ◌≤◌, Bool, true, false, not, cond, ◌||◌, List, [], ◌∷◌, ◌++◌, length, take, drop, get_or, filter, Option, Some, None, Ok, Err, inl, inr, ◌==◌, refl, sym, ap, subst, ◌∙◌, arith, Decides, append-nil, take-append-drop}
+use Rattle.std.proofs.Common.{◌≡◌, ◌≢◌, ℕ, suc, ◌+◌, ◌<◌, Bool, true, false, not, cond, ◌||◌, List, [], ◌∷◌, ◌++◌, length, take, drop, get_or, filter, Option, Some, None, Ok, Err, inl, inr, ◌==◌, refl, sym, ap, subst, ◌∙◌, arith, Decides, append-nil, take-append-drop}
 use Rattle.std.proofs.Math.Seq.{drop-cons, take-suc}
 use Rattle.std.proofs.lemmas.Bool.{cases_eq, or_cases, true≢false, or_parts}
 use Rattle.std.proofs.lemmas.Bool.Decides.{nat_tests, same_from_decides}

@@ -1,5 +1,5 @@
 -- The texts of the names of keys.
-use Rattle.std.proofs.Common.{◌≡◌, ℕ, zero, suc, ◌-◌, ◌<◌, ◌≤◌, true, false, not, ◌&&◌, ◌||◌, leb, eqb, List, [], ◌∷◌, ◌++◌, take, refl, ap, ◌∙◌, arith, append_assoc, lit≤, sym, inl, inr, codes, append-nil}
+use Rattle.std.proofs.Common.{◌≡◌, ℕ, zero, suc, ◌-◌, ◌<◌, ◌≤◌, true, false, not, ◌&&◌, leb, eqb, List, [], ◌∷◌, ◌++◌, take, refl, ap, ◌∙◌, arith, append_assoc, lit≤, sym, inl, inr, codes, append-nil}
 use Rattle.std.specs.List.{All, list_all, list_any, slice_split, flat_map, join_with_byte}
 use Rattle.std.proofs.lemmas.Bool.{and_parts, ne_eqb, or_parts, not-true}
 use Rattle.std.proofs.lemmas.List.Elements.{All-nil, All-cons, All-head, All-tail, All-take, All-weaker}

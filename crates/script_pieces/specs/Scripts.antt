@@ -6,7 +6,7 @@
 --                             of its first command
 -- stop_fault stop             the fault that the stop tells; None if memory ran out
 -- PieceCommandsAs result expected   the commands, or the fault, are what was expected; no claim if memory ran out
-use Rattle.std.specs.Prelude.{◌≡◌, ℕ, List, [], ◌∷◌, Option, Some, None, Result, Ok, Err, ⊤}
+use Rattle.std.specs.Prelude.{ℕ, List, [], ◌∷◌, Option, Some, None, Result, Ok, Err, ⊤}
 use Rattle.ucd_points.specs.Answers.{AnswersBy}
 use Rattle.script_lines.specs.Scripts.{ScriptFault, script_from}
 use Rattle.script_lines.specs.declared.command.Command.{Command}

@@ -11,7 +11,7 @@
 --                                 spans; or the fault of the text, and if it has none, the first name without meaning
 -- stop_fault stop                 the fault that the stop tells; None if memory ran out
 -- AskedAs result expected         the spans, or the rule and the place, are those that were expected; no claim if memory ran out
-use Rattle.std.specs.Prelude.{◌≡◌, ℕ, Bool, ◌&&◌, nat_lt, List, Result, Ok, Err, Option, Some, None}
+use Rattle.std.specs.Prelude.{ℕ, Bool, ◌&&◌, nat_lt, List, Result, Ok, Err, Option, Some, None}
 use Rattle.ucd_points.specs.Answers.{AnswersBy}
 use Rattle.ucd_points.specs.Bounds.{Bounds}
 use Rattle.ucd_points.specs.Limits.{point_count}

@@ -19,7 +19,7 @@
 -- pair_end label lo last            the span of a range: G09 where the last line is not that of the label, then G04
 -- pair_or_fault first last          two lines: G03 where the first one is not that of a range, G04, fields 2 to 14, `pair_end`
 -- DataTextAs result expected        the text is that of the row that was expected, or the result is its fault
-use Rattle.std.specs.Prelude.{◌≡◌, ℕ, Bool, true, false, ◌&&◌, List, [], ◌∷◌, length, ◌++◌, Option, Some, None, Result, Ok, Err, ◌==◌, nat_le, if◌then◌else◌, codes, bytes_eq}
+use Rattle.std.specs.Prelude.{ℕ, Bool, true, false, ◌&&◌, List, [], ◌∷◌, length, ◌++◌, Option, Some, None, Result, Ok, Err, ◌==◌, nat_le, if◌then◌else◌, codes, bytes_eq}
 use Rattle.std.specs.List.{before_first, after_first}
 use Rattle.ucd_points.specs.Answers.{AnswersBy}
 use Rattle.ucd_points.specs.Bounds.{Bounds}

@@ -1,41 +1,21 @@
 -- The rows of UnicodeData.txt follow one another.
-use Rattle.std.proofs.Common.{◌≡◌, ℕ, ◌+◌, ◌≤◌, Bool, true, false, ◌&&◌, leb, List, [], ◌∷◌, ◌++◌, Option, Some, None, Result, Ok, Err, refl, sym, ap, subst, ◌∙◌, arith, append-nil}
+use Rattle.std.proofs.Common.{◌≡◌, ℕ, ◌+◌, ◌≤◌, Bool, false, ◌&&◌, leb, List, [], ◌∷◌, ◌++◌, Option, Some, None, Ok, refl, sym, subst, ◌∙◌, arith, append-nil}
 use Rattle.std.specs.List.{All, list_any}
 use Rattle.std.proofs.lemmas.Bool.Decides.{nat_tests}
 use Rattle.std.proofs.lemmas.List.Elements.{All-cons, All-head, All-nil}
 use Rattle.std.proofs.lemmas.Bool.{or_parts}
+use Rattle.release_rows.specs.FileLemmas.{row_ok}
 use Rattle.release_rows.specs.ValuesApartProofs.{no_overlap, rows_append}
-use Rattle.ucd_points.specs.MissingLines.{is_trivia}
-use Rattle.ucd_facts.specs.RowValues.{RowOk}
 use Rattle.ucd_points.specs.declared.files.SourceFile.TheVariants.{UnicodeData}
 use Rattle.ucd_facts.specs.declared.row.DataRow.{DataRow}
 use Rattle.ucd_facts.specs.declared.row.Row.TheVariants.{Unit as DataLine, Value as ValueLine, Exclusion as ExclusionLine, Fold as FoldLine, Casing as CasingLine, Alias as AliasLine, Missing as MissingLine}
-use Rattle.source_rows.specs.Faults.{row_or_fault}
 use Rattle.source_rows.specs.Laws.{RowsAreOk, RowsAreRead}
-use Rattle.source_rows.specs.declared.fault.RowFault.{RowFault}
 use Rattle.release_rows.specs.Cuts.{Rises, begins_from}
 use Rattle.release_rows.specs.FileItems.{FileItem, onto_rows, rows_in, Row}
 use Rattle.release_rows.specs.Keys.{key_rule, overlaps, same_key}
 use Rattle.release_rows.specs.Loading.{content_row}
 use Rattle.release_rows.specs.Releases.{AreKept, AreKeptBelow}
 use Rattle.stability_policies.specs.NamedRows.{AreAbove, named}
-
--- ---- a row that is kept is one of UnicodeData.txt, with a span
-
-module _ (read : RowsAreRead) (ok : RowsAreOk) where
-  read_row : (content : List ℕ) (row : Row) → content_row UnicodeData content ≡ Ok (Some row) → row_or_fault UnicodeData content ≡ Ok row
-  read_row content row h = by (is_trivia UnicodeData content) (row_or_fault UnicodeData content) refl refl
-    where
-      same_row : (a b : Row) → (let x : Result (Option Row) RowFault = Ok (Some a) in x ≡ Ok (Some b)) → a ≡ b
-      same_row a b e = cc
-
-      by : (b : Bool) (r : Result Row RowFault) → is_trivia UnicodeData content ≡ b → row_or_fault UnicodeData content ≡ r → row_or_fault UnicodeData content ≡ Ok row
-      by true r e f = absurd (let k = (rw e at h) in cc)
-      by false (Ok other) e f = f ∙ ap Ok (same_row other row (rw (e, f) at h))
-      by false (Err fault) e f = absurd (let k = (rw (e, f) at h) in cc)
-
-  pub row_ok : (content : List ℕ) (row : Row) → content_row UnicodeData content ≡ Ok (Some row) → RowOk UnicodeData row
-  row_ok content row h = (ok UnicodeData row).1 (content, (read UnicodeData content row).0 (read_row content row h))
 
 -- ---- a row against the one before it
 
@@ -65,16 +45,16 @@ module _ (read : RowsAreRead) (ok : RowsAreOk) where
       → ((k l : ℕ) → All (begins_from k) rest → Rises rest → Leaves next k l → AreAbove l (named rest)) → AreAbove n (named (onto_rows o rest))
   above_by item rest above next m n None is content free from rise leaves more = more m n from rise (subst (λ xs. Leaves xs m n) (sym (is ∙ append-nil above)) leaves)
   above_by item rest above next m n (Some (DataLine x)) is content free from rise leaves more =
-      let span = (row_ok read ok item.content (DataLine x) content).span in
+      let span = (row_ok read ok UnicodeData item.content (DataLine x) content).span in
       let ordered : x.span.lo ≤ x.span.hi = span.0 in
       let begins : m ≤ x.span.lo = All-head (begins_from m) (DataLine x) rest from in
       (leaves x (free (DataLine x) refl) begins ordered, ordered, more x.span.lo (x.span.hi + 1) rise.0 rise.1 (subst (λ xs. Leaves xs x.span.lo (x.span.hi + 1)) (sym is) (leaves_last above x)))
-  above_by item rest above next m n (Some (ValueLine x)) is content free from rise leaves more = absurd (row_ok read ok item.content (ValueLine x) content)
-  above_by item rest above next m n (Some (ExclusionLine x)) is content free from rise leaves more = absurd (row_ok read ok item.content (ExclusionLine x) content)
-  above_by item rest above next m n (Some (FoldLine x)) is content free from rise leaves more = absurd (row_ok read ok item.content (FoldLine x) content)
-  above_by item rest above next m n (Some (CasingLine x)) is content free from rise leaves more = absurd (row_ok read ok item.content (CasingLine x) content)
-  above_by item rest above next m n (Some (AliasLine x)) is content free from rise leaves more = absurd (row_ok read ok item.content (AliasLine x) content)
-  above_by item rest above next m n (Some (MissingLine x)) is content free from rise leaves more = absurd (row_ok read ok item.content (MissingLine x) content)
+  above_by item rest above next m n (Some (ValueLine x)) is content free from rise leaves more = absurd (row_ok read ok UnicodeData item.content (ValueLine x) content)
+  above_by item rest above next m n (Some (ExclusionLine x)) is content free from rise leaves more = absurd (row_ok read ok UnicodeData item.content (ExclusionLine x) content)
+  above_by item rest above next m n (Some (FoldLine x)) is content free from rise leaves more = absurd (row_ok read ok UnicodeData item.content (FoldLine x) content)
+  above_by item rest above next m n (Some (CasingLine x)) is content free from rise leaves more = absurd (row_ok read ok UnicodeData item.content (CasingLine x) content)
+  above_by item rest above next m n (Some (AliasLine x)) is content free from rise leaves more = absurd (row_ok read ok UnicodeData item.content (AliasLine x) content)
+  above_by item rest above next m n (Some (MissingLine x)) is content free from rise leaves more = absurd (row_ok read ok UnicodeData item.content (MissingLine x) content)
 
   rows_above : (above items : List FileItem) (m n : ℕ) → AreKeptBelow UnicodeData above items → All (begins_from m) (rows_in items) → Rises (rows_in items) → Leaves (rows_in above) m n → AreAbove n (named (rows_in items))
   rows_above above [] m n kept from rise leaves = tt

@@ -12,7 +12,7 @@
 --                                 others
 -- ContentsAreItems                the contents of the lines are `contents`
 -- HexReadsPutHex                  what a code point is written in spells that code point
-use Rattle.std.specs.Prelude.{◌≡◌, ◌≢◌, ℕ, ◌<◌, false, List, [], ◌∷◌, ◌++◌, map, Some}
+use Rattle.std.proofs.Common.{◌≡◌, ◌≢◌, ℕ, ◌<◌, false, List, [], ◌∷◌, ◌++◌, map, Some, sym, ◌∙◌, append_assoc}
 use Rattle.std.specs.List.{list_any}
 use Rattle.ucd_points.specs.Lines.{LineItem, unended, lf, is_lf, ends_in_return, contents, items_of, joined}
 use Rattle.ucd_points.specs.Fields.{point_of}

@@ -2,7 +2,7 @@
 -- line_end                LF
 -- span_line s             the line of a span: its text, its label, LF
 -- section_text name n f   `# NAME`, a line for each span with its label behind it, `# total N`, and an empty line
-use Rattle.std.specs.Prelude.{ℕ, ◌+◌, ◌/◌, ◌%◌, List, [], ◌∷◌, ◌++◌, ◌==◌, if◌then◌else◌, codes, flat_map, decimal}
+use Rattle.std.specs.Prelude.{ℕ, List, [], ◌∷◌, ◌++◌, codes, flat_map, decimal}
 use Rattle.ucd_points.specs.HexText.{span_text}
 use Rattle.ucd_model.specs.Labels.{Label, LabelSpan, label_spans, labelled}
 

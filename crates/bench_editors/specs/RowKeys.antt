@@ -10,7 +10,8 @@
 use Rattle.std.specs.Prelude.{ℕ, ◌+◌, Bool, ◌&&◌, ◌==◌, List, map, Option, Some, None, unwrap_or}
 use Rattle.std.specs.Cmp.Lexicographic.{slice_cmp}
 use Rattle.std.specs.Map.{lookup}
-use Rattle.std.specs.Ordering.{ordering_then, nat_cmp, Ordering}
+use Rattle.std.specs.Ordering.{ordering_then, nat_cmp}
+use Rattle.std.specs.declared.cmp.Ordering.{Ordering}
 use Rattle.ucd_points.specs.SourceFiles.{file_place}
 use Rattle.source_rows.specs.Keys.{same_texts}
 use Rattle.bench_editors.specs.Rows.{Touched}

@@ -7,7 +7,8 @@
 -- AreApart m          no two extents of the same names share a code point, and none ends before it begins
 use Rattle.std.specs.Prelude.{◌≡◌, ℕ, ◌<◌, ◌≤◌, List, [], ◌∷◌, Some}
 use Rattle.std.specs.List.{slice_split}
-use Rattle.std.specs.Ordering.{ordering_then, nat_cmp, Ordering}
+use Rattle.std.specs.Ordering.{ordering_then, nat_cmp}
+use Rattle.std.specs.declared.cmp.Ordering.{Ordering}
 use Rattle.std.specs.Cmp.Lexicographic.{slice_cmp}
 use Rattle.std.specs.BTreeMap.{BTreeMap, get}
 use Rattle.ucd_points.specs.Fields.{is_semicolon}

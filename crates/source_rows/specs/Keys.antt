@@ -20,7 +20,8 @@
 -- is_before a b             a comes before b in this order
 use Rattle.std.specs.Prelude.{ℕ, Bool, true, false, ◌&&◌, List, [], ◌∷◌, take, Option, Some, None, ◌==◌, codes, bytes_eq}
 use Rattle.std.specs.Cmp.Lexicographic.{pointwise, slice_cmp}
-use Rattle.std.specs.Ordering.{ordering_then, nat_cmp, is_lt, Ordering}
+use Rattle.std.specs.Ordering.{ordering_then, nat_cmp, is_lt}
+use Rattle.std.specs.declared.cmp.Ordering.{Ordering}
 use Rattle.ucd_points.specs.Bounds.{Bounds}
 use Rattle.ucd_points.specs.HexText.{hex_text}
 use Rattle.ucd_facts.specs.Names.{status_code}

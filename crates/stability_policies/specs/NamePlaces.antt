@@ -13,7 +13,8 @@ use Rattle.std.specs.Prelude.{◌≡◌, ◌⊎◌, ℕ, ◌<◌, ◌≤◌, Boo
 use Rattle.std.specs.Borrow.{Bor}
 use Rattle.std.specs.Cmp.Lexicographic.{slice_cmp}
 use Rattle.std.specs.List.{list_all, list_any, slice_index_or}
-use Rattle.std.specs.Ordering.{nat_cmp, ordering_then, Ordering}
+use Rattle.std.specs.Ordering.{nat_cmp, ordering_then}
+use Rattle.std.specs.declared.cmp.Ordering.{Ordering}
 
 abbrev pub has_name : List (List (List ℕ)) → List ℕ → ℕ → Bool
 has_name rows name p = list_any (bytes_eq name) (slice_index_or rows p [])

@@ -6,7 +6,9 @@ use Rattle.std.proofs.lemmas.List.{at_drop_more}
 use Rattle.std.proofs.lemmas.List.Folds.{list_any_more}
 use Rattle.std.proofs.lemmas.Bool.{and_parts, eq-eqb}
 use Rattle.ucd_model.specs.Casing.{lower, title, title_of}
-use Rattle.ucd_facts.specs.Facts.{Facts, image_points, Image, Same, To}
+use Rattle.ucd_facts.specs.Facts.{Facts, image_points}
+use Rattle.ucd_facts.specs.declared.image.Image.{Image}
+use Rattle.ucd_facts.specs.declared.image.Image.TheVariants.{Same, To}
 use Rattle.ucd_facts.specs.Predicates.{cased}
 use Rattle.ucd_facts.specs.Unmapped.{is_same, is_unmapped}
 use Rattle.case_derivation.specs.Matching.{matches}

@@ -6,7 +6,9 @@
 -- titled F begun s       the title of what is left, where the title has begun or not
 use Rattle.std.specs.Prelude.{ℕ, Bool, true, false, List, if◌then◌else◌, flat_map}
 use Rattle.ucd_model.specs.Casing.{lower, title}
-use Rattle.ucd_facts.specs.Facts.{Facts, image_points, Image, Same}
+use Rattle.ucd_facts.specs.Facts.{Facts, image_points}
+use Rattle.ucd_facts.specs.declared.image.Image.{Image}
+use Rattle.ucd_facts.specs.declared.image.Image.TheVariants.{Same}
 use Rattle.ucd_facts.specs.Predicates.{cased}
 use Rattle.case_derivation.specs.declared.mapping.Casing.{Casing}
 use Rattle.case_derivation.specs.declared.mapping.Casing.TheVariants.{Lower, Upper, Fold}

@@ -13,7 +13,8 @@
 -- ListsFrom has kept m n   so is each from m up to n (n does not count)
 use Rattle.std.specs.Prelude.{◌≡◌, ℕ, ◌+◌, ◌*◌, ◌<◌, ◌≤◌, Bool, true, false, ◌==◌, ◌||◌, nat_le, if◌then◌else◌, List, Option, Some, None}
 use Rattle.ucd_facts.specs.declared.query.Query.TheVariants.{Row, Pair, Second}
-use Rattle.ucd_facts.specs.Answers.{is_asked, Query}
+use Rattle.ucd_facts.specs.Answers.{is_asked}
+use Rattle.ucd_facts.specs.declared.query.Query.{Query}
 
 abbrev key : ℕ → ℕ → ℕ
 key s y = (s * 2097152 + y) * 2097152

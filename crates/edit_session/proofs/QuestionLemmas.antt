@@ -16,7 +16,8 @@ use Rattle.ucd_model.specs.Sameness.{is_in}
 use Rattle.ucd_facts.specs.Uniform.{IsPlain}
 use Rattle.ucd_facts.specs.declared.query.Query.TheVariants.{Row, Second}
 use Rattle.ucd_facts.specs.AnswerProofs.{queries_are_told}
-use Rattle.ucd_facts.specs.Answers.{is_asked, same_query, Query}
+use Rattle.ucd_facts.specs.Answers.{is_asked, same_query}
+use Rattle.ucd_facts.specs.declared.query.Query.{Query}
 use Rattle.mention_index.specs.Reached.{about}
 use Rattle.query_laws.specs.PlainProofs.{plain_ask_own}
 use Rattle.query_laws.specs.Questions.{asked}

@@ -22,7 +22,9 @@ use Rattle.std.proofs.lemmas.Slice.Eq.{bytes_eq-Decides}
 use Rattle.std.proofs.lemmas.Option.{same_Some}
 use Rattle.ucd_facts.specs.CompositeProofs.{find_first, find_none_below}
 use Rattle.ucd_model.specs.Casing.{fold, folded}
-use Rattle.ucd_facts.specs.Facts.{Facts, image_points, Image, Same, To}
+use Rattle.ucd_facts.specs.Facts.{Facts, image_points}
+use Rattle.ucd_facts.specs.declared.image.Image.{Image}
+use Rattle.ucd_facts.specs.declared.image.Image.TheVariants.{Same, To}
 use Rattle.ucd_model.specs.FoldRounds.{drop_ignorable, short, short_form, short_nfkc, short_fold, round, rounds, is_list, is_fixed, is_last, casefold, image_or_rule, casefold_image}
 use Rattle.ucd_model.specs.Forms.{nfkc}
 use Rattle.ucd_facts.specs.Predicates.{default_ignorable}

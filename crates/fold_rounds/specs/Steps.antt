@@ -16,7 +16,9 @@
 use Rattle.std.specs.Prelude.{◌≡◌, ℕ, Bool, true, ◌&&◌, ◌==◌, not, List, [], ◌∷◌, Option, Some, None, Result, Ok, Err, ◌⊎◌, option_and_then, bytes_eq}
 use Rattle.std.specs.List.{list_all, list_any}
 use Rattle.ucd_facts.specs.Composites.{is_canonical}
-use Rattle.ucd_facts.specs.Facts.{Facts, Image, Same, To}
+use Rattle.ucd_facts.specs.Facts.{Facts}
+use Rattle.ucd_facts.specs.declared.image.Image.{Image}
+use Rattle.ucd_facts.specs.declared.image.Image.TheVariants.{Same, To}
 use Rattle.ucd_facts.specs.Expansion.{FormAnswers}
 use Rattle.ucd_model.specs.FoldRounds.{short_nfkc, short_fold, casefold_image}
 use Rattle.ucd_facts.specs.Predicates.{default_ignorable}

@@ -5,7 +5,9 @@ use Rattle.std.proofs.lemmas.Option.{same_Some, none-some}
 use Rattle.std.proofs.lemmas.Bool.{or_parts}
 use Rattle.ucd_facts.specs.FactsLemmas.{judged_some}
 use Rattle.ucd_facts.specs.Expansion.{counts, counted, joined, alone_or_joined, expand, full, judged, expansion, is_compat}
-use Rattle.ucd_facts.specs.Facts.{Facts, Kind, Compat}
+use Rattle.ucd_facts.specs.Facts.{Facts}
+use Rattle.ucd_facts.specs.declared.decomposition.Kind.{Kind}
+use Rattle.ucd_facts.specs.declared.decomposition.Kind.TheVariants.{Compat}
 use Rattle.decomposition.specs.ExpansionProofs.{both_some}
 use Rattle.normalisation.specs.ExpandedLemmas.{Each-front, Each-back}
 use Rattle.identifier_closure.specs.PointForms.{ExpandTo}

@@ -14,7 +14,10 @@ use Rattle.ucd_model.specs.CanonicalOrder.{class_of, order}
 use Rattle.ucd_model.specs.Casing.{folded, lowers, uppers, titles, folds, casemaps, changes_when, where_form}
 use Rattle.ucd_facts.specs.Composites.{primary, is_canonical, first_has_class_zero, second_of}
 use Rattle.ucd_facts.specs.Expansion.{counts, counted, alone_or_joined, expand, full}
-use Rattle.ucd_facts.specs.Facts.{Facts, image_points, is_plain, Plain, Image, Same, To}
+use Rattle.ucd_facts.specs.Facts.{Facts, image_points, is_plain}
+use Rattle.ucd_facts.specs.declared.decomposition.Kind.TheVariants.{Plain}
+use Rattle.ucd_facts.specs.declared.image.Image.{Image}
+use Rattle.ucd_facts.specs.declared.image.Image.TheVariants.{Same, To}
 use Rattle.ucd_model.specs.FoldRounds.{casefold, casefold_image, image_or_rule, image_or_same}
 use Rattle.ucd_model.specs.Forms.{nfd, nfkc, composed, decomposed}
 use Rattle.ucd_model.specs.Identifiers.{starts, continues}

@@ -2,7 +2,8 @@
 -- uniform_derived   the law of the same name
 use Rattle.std.proofs.Common.{◌≡◌, ℕ, Bool, [], Ok, if◌then◌else◌, refl, sym, ap, ◌∙◌}
 use Rattle.ucd_facts.specs.Composites.{is_canonical, second_of}
-use Rattle.ucd_facts.specs.Facts.{Facts, is_plain, Same, To}
+use Rattle.ucd_facts.specs.Facts.{Facts, is_plain}
+use Rattle.ucd_facts.specs.declared.image.Image.TheVariants.{Same, To}
 use Rattle.ucd_facts.specs.Predicates.{default_ignorable, is_visible_format}
 use Rattle.ucd_model.specs.Records.{Record}
 use Rattle.ucd_facts.specs.Uniform.{Alike}

@@ -5,7 +5,8 @@ use Rattle.std.proofs.Common.{◌≡◌, ℕ, true, ◌==◌, List, [], ◌∷�
 use Rattle.std.proofs.lemmas.Bool.{true≢false, eq-eqb, eqb-true, or_cases, or_left, or_right}
 use Rattle.ucd_model.specs.Sameness.{is_in}
 use Rattle.ucd_facts.specs.AnswerProofs.{queries_are_told}
-use Rattle.ucd_facts.specs.Answers.{is_asked, same_query, Query}
+use Rattle.ucd_facts.specs.Answers.{is_asked, same_query}
+use Rattle.ucd_facts.specs.declared.query.Query.{Query}
 use Rattle.mention_index.specs.Reached.{about}
 
 pub asked_about : (Q : List Query) (q : Query) → is_asked Q q ≡ true → is_in (map about Q) (about q) ≡ true

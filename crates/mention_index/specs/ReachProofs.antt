@@ -20,7 +20,8 @@ use Rattle.ucd_facts.specs.declared.folding.Folding.{Folding}
 use Rattle.ucd_facts.specs.declared.folding.Folding.TheVariants.{Full, Simple}
 use Rattle.ucd_facts.specs.declared.form.Bad.{Bad as Rule}
 use Rattle.ucd_facts.specs.AnswerProofs.{queries_are_told}
-use Rattle.ucd_facts.specs.Answers.{is_asked, same_query, Each, Query}
+use Rattle.ucd_facts.specs.Answers.{is_asked, same_query, Each}
+use Rattle.ucd_facts.specs.declared.query.Query.{Query}
 use Rattle.query_laws.specs.ExpansionProofs.{expansions_leaves}
 use Rattle.query_laws.specs.FormProofs.{Each-order}
 use Rattle.query_laws.specs.ListProofs.{Each-both, Each-filter, Each-if, Each-left, Each-right, every}

@@ -12,7 +12,8 @@ use Rattle.ucd_facts.specs.Facts.{Facts}
 use Rattle.ucd_model.specs.Sameness.{is_in}
 use Rattle.ucd_model.specs.Validity.{mappings}
 use Rattle.ucd_facts.specs.declared.query.Query.TheVariants.{Row, Pair, Second}
-use Rattle.ucd_facts.specs.Answers.{is_asked, Query}
+use Rattle.ucd_facts.specs.Answers.{is_asked}
+use Rattle.ucd_facts.specs.declared.query.Query.{Query}
 use Rattle.query_laws.specs.Questions.{asked}
 
 abbrev pub members_of : ℕ → Facts → List ℕ

@@ -15,7 +15,8 @@ use Rattle.std.specs.Prelude.{◌≡◌, ◌≢◌, ℕ, ◌+◌, ◌*◌, ◌<�
 use Rattle.ucd_facts.specs.CompositeLaws.{Composes}
 use Rattle.ucd_facts.specs.Facts.{Facts, image_points}
 use Rattle.ucd_model.specs.Sameness.{is_in}
-use Rattle.ucd_facts.specs.Answers.{is_asked, Query}
+use Rattle.ucd_facts.specs.Answers.{is_asked}
+use Rattle.ucd_facts.specs.declared.query.Query.{Query}
 use Rattle.mention_index.specs.Reached.{about, members_of}
 
 abbrev pub key : ℕ → ℕ → ℕ

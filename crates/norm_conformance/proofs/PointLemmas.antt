@@ -13,7 +13,8 @@ use Rattle.std.proofs.Math.Bool.{and-false}
 use Rattle.std.proofs.lemmas.Slice.Eq.{bytes_eq-Decides}
 use Rattle.ucd_points.specs.PlainProofs.{range_more}
 use Rattle.ucd_points.specs.Limits.{point_count}
-use Rattle.ucd_facts.specs.Facts.{Facts, Plain}
+use Rattle.ucd_facts.specs.Facts.{Facts}
+use Rattle.ucd_facts.specs.declared.decomposition.Kind.TheVariants.{Plain}
 use Rattle.ucd_facts.specs.declared.form.Form.{Form}
 use Rattle.ucd_facts.specs.declared.form.Form.TheVariants.{Nfd, Nfc, Nfkd, Nfkc}
 use Rattle.normalisation.specs.FormValueProofs.{plain_forms}

@@ -13,7 +13,9 @@ use Rattle.std.proofs.lemmas.List.Elements.{recursion_from_All}
 use Rattle.std.proofs.lemmas.Option.{same_Some}
 use Rattle.ucd_facts.specs.FactsLemmas.{judged_some}
 use Rattle.ucd_facts.specs.declared.form.Bad.{Bad as Rule}
-use Rattle.ucd_facts.specs.Facts.{Facts, Kind, Canonical}
+use Rattle.ucd_facts.specs.Facts.{Facts}
+use Rattle.ucd_facts.specs.declared.decomposition.Kind.{Kind}
+use Rattle.ucd_facts.specs.declared.decomposition.Kind.TheVariants.{Canonical}
 use Rattle.ucd_facts.specs.Composites.{is_canonical}
 use Rattle.ucd_facts.specs.Expansion.{counts, counted, both, alone_or_joined, expand, full, expansion}
 use Rattle.ucd_model.specs.Forms.{appended, expansions}

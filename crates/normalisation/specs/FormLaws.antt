@@ -11,7 +11,8 @@
 -- PlainForms                    each form of a code point without a mapping is that code point
 use Rattle.std.specs.Prelude.{◌≡◌, ℕ, ◌<◌, Bool, true, false, List, [], ◌∷◌, Ok, ◌↔◌, All}
 use Rattle.ucd_points.specs.Limits.{point_count}
-use Rattle.ucd_facts.specs.Facts.{Facts, Plain}
+use Rattle.ucd_facts.specs.Facts.{Facts}
+use Rattle.ucd_facts.specs.declared.decomposition.Kind.TheVariants.{Plain}
 use Rattle.ucd_facts.specs.Expansion.{expansion}
 use Rattle.ucd_model.specs.Forms.{nfd, nfc, nfkd, nfkc}
 use Rattle.ucd_facts.specs.declared.form.Form.{Form}

@@ -5,7 +5,8 @@
 use Rattle.std.proofs.Common.{◌≡◌, ℕ, Bool, true, false, List, [], ◌∷◌, ◌++◌, Result, Ok, Err, refl, ap, ◌∙◌, arith}
 use Rattle.std.specs.List.{AllByRecursion as Each}
 use Rattle.ucd_model.specs.CanonicalOrder.{class_of}
-use Rattle.ucd_facts.specs.Facts.{Facts, Plain}
+use Rattle.ucd_facts.specs.Facts.{Facts}
+use Rattle.ucd_facts.specs.declared.decomposition.Kind.TheVariants.{Plain}
 use Rattle.ucd_model.specs.Forms.{appended, composed, decomposed, expansions, in_order, nfd, nfc, nfkd, nfkc}
 use Rattle.ucd_facts.specs.declared.form.Bad.{Bad as Rule}
 use Rattle.ucd_facts.specs.declared.form.Form.{Form}

@@ -8,7 +8,9 @@ use Rattle.std.specs.List.{flat_map, list_any}
 use Rattle.std.proofs.lemmas.Bool.{or_parts}
 use Rattle.std.proofs.Math.Bool.{or-true}
 use Rattle.ucd_facts.specs.Expansion.{counts, counted, joined, alone_or_joined, expand, full, is_compat}
-use Rattle.ucd_facts.specs.Facts.{Facts, Kind, Compat}
+use Rattle.ucd_facts.specs.Facts.{Facts}
+use Rattle.ucd_facts.specs.declared.decomposition.Kind.{Kind}
+use Rattle.ucd_facts.specs.declared.decomposition.Kind.TheVariants.{Compat}
 use Rattle.ucd_facts.specs.declared.query.Query.{Query}
 use Rattle.query_laws.specs.Questions.{tree, whole_tree, asks}
 

@@ -12,7 +12,9 @@ use Rattle.std.specs.Prelude.{⊤}
 use Rattle.std.specs.List.{flat_map, range_with_len}
 use Rattle.ucd_facts.specs.Composites.{is_canonical, first_has_class_zero}
 use Rattle.ucd_facts.specs.Expansion.{rule_of}
-use Rattle.ucd_facts.specs.Facts.{Facts, Image, Same, To}
+use Rattle.ucd_facts.specs.Facts.{Facts}
+use Rattle.ucd_facts.specs.declared.image.Image.{Image}
+use Rattle.ucd_facts.specs.declared.image.Image.TheVariants.{Same, To}
 use Rattle.ucd_model.specs.FoldRounds.{rounds}
 use Rattle.ucd_model.specs.Records.{Record, kept_record}
 use Rattle.ucd_facts.specs.Uniform.{IsPlain}
@@ -29,7 +31,8 @@ use Rattle.std.proofs.lemmas.List.{nil_from_length}
 use Rattle.std.proofs.lemmas.List.Folds.{list_any-append}
 use Rattle.ucd_points.specs.Answers.{AnswersBy}
 use Rattle.ucd_model.specs.Forms.{nfkc}
-use Rattle.ucd_facts.specs.Answers.{same_query, is_asked, Query}
+use Rattle.ucd_facts.specs.Answers.{same_query, is_asked}
+use Rattle.ucd_facts.specs.declared.query.Query.{Query}
 use Rattle.ucd_facts.specs.Shown.{shown_facts}
 use Rattle.ucd_facts.specs.declared.view.FactsRef.{FactsRef}
 use Rattle.query_laws.specs.PlainProofs.{plain_ask_own}

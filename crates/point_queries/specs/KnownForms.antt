@@ -24,7 +24,8 @@ use Rattle.ucd_facts.specs.Facts.{Facts}
 use Rattle.ucd_model.specs.FoldRounds.{drop_ignorable, short, round}
 use Rattle.ucd_model.specs.Forms.{nfkc}
 use Rattle.ucd_facts.specs.declared.folding.Folding.{Folding}
-use Rattle.ucd_facts.specs.Answers.{same_query, is_asked, Query}
+use Rattle.ucd_facts.specs.Answers.{same_query, is_asked}
+use Rattle.ucd_facts.specs.declared.query.Query.{Query}
 use Rattle.query_laws.specs.Turns.{SameQueries}
 use Rattle.query_laws.specs.Questions.{asks, last_round, rounds_ask, row_queries}
 use Rattle.fold_rounds.specs.AlikeProofs.{covered_both, folded_covered}

@@ -7,7 +7,8 @@ use Rattle.ucd_facts.specs.CompositeProofs.{Least, find_least}
 use Rattle.ucd_facts.specs.Facts.{Facts}
 use Rattle.ucd_model.specs.FoldRounds.{round, rounds, is_list, is_fixed, is_last}
 use Rattle.ucd_facts.specs.declared.folding.Folding.{Folding}
-use Rattle.ucd_facts.specs.Answers.{same_query, is_asked, Query}
+use Rattle.ucd_facts.specs.Answers.{same_query, is_asked}
+use Rattle.ucd_facts.specs.declared.query.Query.{Query}
 use Rattle.query_laws.specs.Turns.{SameQueries}
 use Rattle.query_laws.specs.Questions.{round_asks, round_asks_at, last_round, rounds_ask}
 use Rattle.point_queries.specs.Rounds.{next_at, asks_at, asks_from, asks_step, round_puts, round_same}

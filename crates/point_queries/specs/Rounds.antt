@@ -25,7 +25,8 @@ use Rattle.ucd_model.specs.FoldRounds.{drop_ignorable, short, short_form, short_
 use Rattle.ucd_model.specs.Forms.{nfkc}
 use Rattle.ucd_facts.specs.declared.folding.Folding.{Folding}
 use Rattle.ucd_facts.specs.declared.form.Bad.{Bad as Rule}
-use Rattle.ucd_facts.specs.Answers.{same_query, is_asked, Query}
+use Rattle.ucd_facts.specs.Answers.{same_query, is_asked}
+use Rattle.ucd_facts.specs.declared.query.Query.{Query}
 use Rattle.query_laws.specs.Questions.{asks, folding_asks, round_asks, row_queries}
 use Rattle.query_laws.specs.Turns.{SameQueries}
 use Rattle.point_queries.specs.Forms.{list_in}

@@ -21,7 +21,8 @@ use Rattle.ucd_model.specs.Sameness.{is_in}
 use Rattle.ucd_facts.specs.Uniform.{IsPlain}
 use Rattle.ucd_facts.specs.declared.folding.Folding.{Folding}
 use Rattle.ucd_facts.specs.declared.query.Query.TheVariants.{Row, Second}
-use Rattle.ucd_facts.specs.Answers.{is_asked, SameAnswer, Each, Query}
+use Rattle.ucd_facts.specs.Answers.{is_asked, SameAnswer, Each}
+use Rattle.ucd_facts.specs.declared.query.Query.{Query}
 use Rattle.query_laws.specs.Questions.{tree, whole_tree, row_queries, asks, round_asks, last_round, rounds_ask, asked}
 
 pub data InTree (F : ℕ → Facts) (compat : Bool) (x : ℕ) : ℕ → Type 0 where

@@ -17,7 +17,8 @@ use Rattle.ucd_model.specs.Validity.{mappings}
 use Rattle.ucd_facts.specs.declared.folding.Folding.{Folding}
 use Rattle.ucd_facts.specs.declared.folding.Folding.TheVariants.{Full, Simple}
 use Rattle.ucd_facts.specs.declared.query.Query.TheVariants.{Row, Second}
-use Rattle.ucd_facts.specs.Answers.{same_query, is_asked, Each, Query}
+use Rattle.ucd_facts.specs.Answers.{same_query, is_asked, Each}
+use Rattle.ucd_facts.specs.declared.query.Query.{Query}
 use Rattle.query_laws.specs.Laws.{PlainAskOwn}
 use Rattle.query_laws.specs.ListProofs.{Each-both}
 use Rattle.query_laws.specs.Questions.{tree, whole_tree, row_queries, asks, folding_asks, round_asks_at, last_round, rounds_ask, foldings_ask, pair_queries, composite_asks, asked}

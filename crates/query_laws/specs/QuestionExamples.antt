@@ -7,7 +7,8 @@
 use Rattle.std.proofs.Common.{◌≡◌, ℕ, true, false, [], ◌∷◌, Option, Some, None, ◌==◌, ◌&&◌, if◌then◌else◌, refl}
 use Rattle.ucd_model.specs.CanonicalOrder.{class_of}
 use Rattle.ucd_facts.specs.Composites.{pair_of}
-use Rattle.ucd_facts.specs.Facts.{Facts, unassigned, Compat}
+use Rattle.ucd_facts.specs.Facts.{Facts, unassigned}
+use Rattle.ucd_facts.specs.declared.decomposition.Kind.TheVariants.{Compat}
 use Rattle.ucd_facts.specs.declared.category.Category.TheVariants.{Ll, Lo, Mn}
 use Rattle.ucd_facts.specs.declared.decomposition.Tag.TheVariants.{Compat as CompatTag}
 use Rattle.ucd_facts.specs.declared.query.Query.TheVariants.{Row, Pair, Second}

@@ -25,7 +25,8 @@ use Rattle.ucd_facts.specs.declared.form.Quick.TheVariants.{Yes, No, Maybe}
 use Rattle.ucd_facts.specs.declared.property.Core.{Core}
 use Rattle.ucd_facts.specs.declared.property.Core.TheVariants.{Math, Alphabetic, Lowercase, Uppercase, Cased, CaseIgnorable, ChangesWhenLowercased, ChangesWhenUppercased, ChangesWhenTitlecased, ChangesWhenCasefolded, ChangesWhenCasemapped, IdStart, IdContinue, XidStart, XidContinue, DefaultIgnorableCodePoint, GraphemeExtend, GraphemeBase, GraphemeLink}
 use Rattle.ucd_facts.specs.declared.query.Query.TheVariants.{Row, Second}
-use Rattle.ucd_facts.specs.Answers.{SameAnswer, Each, Query}
+use Rattle.ucd_facts.specs.Answers.{SameAnswer, Each}
+use Rattle.ucd_facts.specs.declared.query.Query.{Query}
 use Rattle.query_laws.specs.ExpansionProofs.{SameRows, rows_same, full_same}
 use Rattle.query_laws.specs.FormProofs.{form_same, tree_rows, decomposed_rows, composed_rows}
 use Rattle.query_laws.specs.Laws.{SameForm, SameFolding, AskedIsLocal}

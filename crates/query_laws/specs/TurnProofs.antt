@@ -12,7 +12,8 @@ use Rattle.ucd_model.specs.Sameness.{is_in}
 use Rattle.ucd_model.specs.ValidityLaws.{HasRecord, IsLeastBroken}
 use Rattle.ucd_model.specs.ValidityProofs.{broken_is_least}
 use Rattle.ucd_facts.specs.declared.form.Broken.{Broken}
-use Rattle.ucd_facts.specs.Answers.{same_query, is_asked, SameAnswer, Each, Query}
+use Rattle.ucd_facts.specs.Answers.{same_query, is_asked, SameAnswer, Each}
+use Rattle.ucd_facts.specs.declared.query.Query.{Query}
 use Rattle.ucd_facts.specs.AnswerProofs.{queries_are_told}
 use Rattle.query_laws.specs.Questions.{asked}
 use Rattle.query_laws.specs.RecordProofs.{asked_is_local}

@@ -26,7 +26,8 @@ use Rattle.ucd_model.specs.Sameness.{is_in}
 use Rattle.ucd_model.specs.Validity.{first_broken}
 use Rattle.ucd_model.specs.ValidityLaws.{HasRecord, IsValid}
 use Rattle.ucd_facts.specs.declared.form.Broken.{Broken}
-use Rattle.ucd_facts.specs.Answers.{is_asked, SameAnswer, TellsChanges, Query}
+use Rattle.ucd_facts.specs.Answers.{is_asked, SameAnswer, TellsChanges}
+use Rattle.ucd_facts.specs.declared.query.Query.{Query}
 use Rattle.query_laws.specs.Questions.{asked}
 
 abbrev pub SameQueries : (P Q : List Query) → Type 0

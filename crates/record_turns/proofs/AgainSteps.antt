@@ -15,7 +15,8 @@ use Rattle.ucd_model.specs.ValidityLaws.{HasRecord}
 use Rattle.ucd_facts.specs.declared.form.Bad.{Bad as Rule}
 use Rattle.ucd_model.specs.declared.records.Record.{Record as KeptRecord}
 use Rattle.range_table.specs.Values.{SameValues, with_span}
-use Rattle.ucd_facts.specs.Answers.{is_asked, Query}
+use Rattle.ucd_facts.specs.Answers.{is_asked}
+use Rattle.ucd_facts.specs.declared.query.Query.{Query}
 use Rattle.query_laws.specs.Questions.{asked}
 use Rattle.query_laws.specs.Turns.{SameQueries}
 use Rattle.point_queries.specs.declared.derivation.Derived.{Derived}

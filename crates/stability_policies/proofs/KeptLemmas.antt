@@ -5,7 +5,8 @@ use Rattle.std.proofs.Math.Bool.{and-not_self}
 use Rattle.ucd_model.specs.CanonicalOrder.{class_of, order}
 use Rattle.ucd_facts.specs.Composites.{is_canonical}
 use Rattle.ucd_facts.specs.EnumerationProofs.{place-injective}
-use Rattle.ucd_facts.specs.Facts.{Facts, Kind}
+use Rattle.ucd_facts.specs.Facts.{Facts}
+use Rattle.ucd_facts.specs.declared.decomposition.Kind.{Kind}
 use Rattle.ucd_facts.specs.Predicates.{category_place}
 use Rattle.ucd_model.specs.Records.{Record, core_at, kept_record, record_at}
 use Rattle.ucd_facts.specs.Sets.{has_core}

@@ -4,7 +4,9 @@ use Rattle.std.proofs.lemmas.Slice.Eq.{bytes_eq-Decides}
 use Rattle.ucd_points.specs.PlainProofs.{either, none_of}
 use Rattle.ucd_facts.specs.Composites.{first_has_class_zero, is_canonical, primary}
 use Rattle.ucd_facts.specs.Expansion.{counts, counted}
-use Rattle.ucd_facts.specs.Facts.{Facts, image_points, is_plain, Kind, Plain, Canonical, Compat}
+use Rattle.ucd_facts.specs.Facts.{Facts, image_points, is_plain}
+use Rattle.ucd_facts.specs.declared.decomposition.Kind.{Kind}
+use Rattle.ucd_facts.specs.declared.decomposition.Kind.TheVariants.{Plain, Canonical, Compat}
 use Rattle.ucd_model.specs.Forms.{appended, composed, in_order, nfkc}
 use Rattle.ucd_facts.specs.Uniform.{IsPlain}
 use Rattle.normalisation.specs.FormLemmas.{expansion_alone}

@@ -13,7 +13,9 @@ use Rattle.ucd_model.specs.Casing.{fold, fold_of}
 use Rattle.ucd_facts.specs.Composites.{composes, is_pair, pair_of, primary}
 use Rattle.ucd_model.specs.Composition.{Split, compose, compose_onto, composed_with, reached, with_composite, with_point}
 use Rattle.ucd_facts.specs.Expansion.{alone_or_joined, both, counted, counts, expand, expansion, full, joined, judged}
-use Rattle.ucd_facts.specs.Facts.{Facts, Kind, Plain, Canonical, Compat}
+use Rattle.ucd_facts.specs.Facts.{Facts}
+use Rattle.ucd_facts.specs.declared.decomposition.Kind.{Kind}
+use Rattle.ucd_facts.specs.declared.decomposition.Kind.TheVariants.{Plain, Canonical, Compat}
 use Rattle.ucd_model.specs.Forms.{appended, composed, decomposed, expansions, in_order, nfkc}
 use Rattle.ucd_model.specs.MemberProofs.{Cut, Each-append, Each-if, Each-order, Each-to, order_same, point_each, reached_parts, reached_same}
 use Rattle.ucd_points.specs.Limits.{point_count}

@@ -3,7 +3,10 @@
 -- The facts are those of code points of real releases where the policy is kept; where it is broken, one of them is changed.
 use Rattle.std.proofs.Common.{◌≡◌, ℕ, true, false, ◌==◌, [], ◌∷◌, if◌then◌else◌, codes, refl, Some, None}
 use Rattle.ucd_facts.specs.Expansion.{full}
-use Rattle.ucd_facts.specs.Facts.{Facts, unassigned, Kind, Canonical, Compat, To}
+use Rattle.ucd_facts.specs.Facts.{Facts, unassigned}
+use Rattle.ucd_facts.specs.declared.decomposition.Kind.{Kind}
+use Rattle.ucd_facts.specs.declared.decomposition.Kind.TheVariants.{Canonical, Compat}
+use Rattle.ucd_facts.specs.declared.image.Image.TheVariants.{To}
 use Rattle.ucd_facts.specs.declared.category.Category.{Category}
 use Rattle.ucd_facts.specs.declared.category.Category.TheVariants.{Lu, Ll, Lo, Mn, Mc, Cc, Cs, Co, Po, Zs}
 use Rattle.ucd_facts.specs.declared.decomposition.Tag.TheVariants as tag

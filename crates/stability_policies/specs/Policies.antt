@@ -26,7 +26,9 @@ use Rattle.std.specs.List.{list_all}
 use Rattle.ucd_model.specs.CanonicalOrder.{class_of, order}
 use Rattle.ucd_model.specs.Casing.{fold}
 use Rattle.ucd_facts.specs.Composites.{is_canonical, primary}
-use Rattle.ucd_facts.specs.Facts.{Facts, Sources, data_row, facts, Kind, Plain, Canonical, Compat}
+use Rattle.ucd_facts.specs.Facts.{Facts, Sources, data_row, facts}
+use Rattle.ucd_facts.specs.declared.decomposition.Kind.{Kind}
+use Rattle.ucd_facts.specs.declared.decomposition.Kind.TheVariants.{Plain, Canonical, Compat}
 use Rattle.ucd_model.specs.Forms.{nfkc}
 use Rattle.ucd_facts.specs.Predicates.{category_place, is_one_of}
 use Rattle.ucd_model.specs.Records.{core_at}

@@ -6,7 +6,9 @@
 use Rattle.std.proofs.Common.{◌≡◌, ℕ, true, false, [], ◌∷◌, Some, None, Ok, Err, ◌==◌, if◌then◌else◌, get_or, refl}
 use Rattle.ucd_model.specs.Casing.{lower, upper, title, fold, folded, lowers, uppers, titles, folds, casemaps, changes_when}
 use Rattle.ucd_facts.specs.Expansion.{full}
-use Rattle.ucd_facts.specs.Facts.{Facts, unassigned, Canonical, Same, To}
+use Rattle.ucd_facts.specs.Facts.{Facts, unassigned}
+use Rattle.ucd_facts.specs.declared.decomposition.Kind.TheVariants.{Canonical}
+use Rattle.ucd_facts.specs.declared.image.Image.TheVariants.{Same, To}
 use Rattle.ucd_model.specs.FoldRounds.{rounds, is_last, casefold, casefold_image}
 use Rattle.ucd_model.specs.Identifiers.{starts, continues}
 use Rattle.ucd_model.specs.QuickChecks.{excludes_mapping, full_exclusion, quick_given, quick}

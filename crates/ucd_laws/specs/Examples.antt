@@ -17,7 +17,8 @@ use Rattle.ucd_points.specs.Lines.{contents}
 use Rattle.ucd_points.specs.MissingLines.{missing_rest, is_trivia}
 use Rattle.ucd_points.specs.Fields.{fields, digit_of, point_of, span_of, is_name, is_label_closed_by, is_range_name}
 use Rattle.ucd_facts.specs.declared.row.DataRow.{DataRow}
-use Rattle.ucd_facts.specs.Facts.{Sources, facts, unassigned, Plain}
+use Rattle.ucd_facts.specs.Facts.{Sources, facts, unassigned}
+use Rattle.ucd_facts.specs.declared.decomposition.Kind.TheVariants.{Plain}
 use Rattle.ucd_facts.specs.Predicates.{category_place, holds}
 use Rattle.ucd_model.specs.Labels.{Label, LabelSpan, label_spans, labelled}
 use Rattle.ucd_model.specs.DerivedText.{section_text}

@@ -7,7 +7,9 @@
 use Rattle.std.proofs.Common.{◌≡◌, ℕ, true, false, [], ◌∷◌, Some, None, refl, codes}
 use Rattle.ucd_points.specs.Bounds.{Bounds}
 use Rattle.ucd_points.specs.Limits.{point_count}
-use Rattle.ucd_facts.specs.Facts.{Sources, Facts, facts, unassigned, Plain, Canonical, Compat, Same, To}
+use Rattle.ucd_facts.specs.Facts.{Sources, Facts, facts, unassigned}
+use Rattle.ucd_facts.specs.declared.decomposition.Kind.TheVariants.{Plain, Canonical, Compat}
+use Rattle.ucd_facts.specs.declared.image.Image.TheVariants.{Same, To}
 use Rattle.ucd_facts.specs.Composites.{pair_below, second_below}
 use Rattle.ucd_facts.specs.Expansion.{expand, full}
 use Rattle.ucd_facts.specs.declared.category.Category.{Category}

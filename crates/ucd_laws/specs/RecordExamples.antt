@@ -9,7 +9,9 @@
 use Rattle.std.proofs.Common.{◌≡◌, ℕ, true, false, List, [], ◌∷◌, ◌++◌, None, ◌||◌, ◌==◌, get_or, filter, map, refl, codes}
 use Rattle.std.specs.Fmt.{digits}
 use Rattle.ucd_facts.specs.Expansion.{full}
-use Rattle.ucd_facts.specs.Facts.{Facts, unassigned, Plain, Canonical, Compat, Same, To}
+use Rattle.ucd_facts.specs.Facts.{Facts, unassigned}
+use Rattle.ucd_facts.specs.declared.decomposition.Kind.TheVariants.{Plain, Canonical, Compat}
+use Rattle.ucd_facts.specs.declared.image.Image.TheVariants.{Same, To}
 use Rattle.ucd_facts.specs.Names.{tag_text, tag_name}
 use Rattle.ucd_facts.specs.Predicates.{holds, core_properties}
 use Rattle.ucd_model.specs.Records.{Record, record_at}

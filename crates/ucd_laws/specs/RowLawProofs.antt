@@ -4,7 +4,9 @@ use Rattle.std.proofs.Common.{◌≡◌, ◌≢◌, ℕ, ◌+◌, ◌-◌, ◌/�
 use Rattle.std.proofs.lemmas.Bool.{true≢false, cases_lt}
 use Rattle.std.proofs.lemmas.List.Elements.{All-head, All-tail}
 use Rattle.ucd_points.specs.Limits.{point_count}
-use Rattle.ucd_facts.specs.Facts.{is_data_of, data_in, data_row, maps_by_rule, kind_in, mapping_in, hangul_mapping, is_plain, Kind, Plain, Canonical}
+use Rattle.ucd_facts.specs.Facts.{is_data_of, data_in, data_row, maps_by_rule, kind_in, mapping_in, hangul_mapping, is_plain}
+use Rattle.ucd_facts.specs.declared.decomposition.Kind.{Kind}
+use Rattle.ucd_facts.specs.declared.decomposition.Kind.TheVariants.{Plain, Canonical}
 use Rattle.ucd_facts.specs.FactsLemmas.{facts_inside, facts_outside}
 use Rattle.ucd_facts.specs.RowValues.{RowOk, DataOk, DecompositionOk}
 use Rattle.ucd_laws.specs.RowLaws.{KindsAreMapped}

@@ -5,7 +5,10 @@
 --                     other case mappings are 8 itself
 use Rattle.std.proofs.Common.{◌≡◌, ℕ, true, false, List, [], ◌∷◌, get_or, refl, replicate}
 use Rattle.ucd_facts.specs.Expansion.{full}
-use Rattle.ucd_facts.specs.Facts.{Facts, unassigned, Kind, Plain, Canonical, Compat, To}
+use Rattle.ucd_facts.specs.Facts.{Facts, unassigned}
+use Rattle.ucd_facts.specs.declared.decomposition.Kind.{Kind}
+use Rattle.ucd_facts.specs.declared.decomposition.Kind.TheVariants.{Plain, Canonical, Compat}
+use Rattle.ucd_facts.specs.declared.image.Image.TheVariants.{To}
 use Rattle.ucd_model.specs.Validity.{lacks_row, lacks_a_row, is_endless, is_too_long}
 use Rattle.ucd_facts.specs.declared.decomposition.Tag.TheVariants.{Compat as CompatTag}
 

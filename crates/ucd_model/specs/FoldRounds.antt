@@ -19,7 +19,9 @@
 use Rattle.std.specs.Prelude.{ℕ, zero, suc, Bool, false, not, List, [], ◌∷◌, length, nat_le, Option, Some, None, Result, Ok, Err, filter, find, if◌then◌else◌, option_and_then, bytes_eq}
 use Rattle.std.specs.List.{range_with_len}
 use Rattle.ucd_model.specs.Casing.{folded}
-use Rattle.ucd_facts.specs.Facts.{Facts, image, Image, Same}
+use Rattle.ucd_facts.specs.Facts.{Facts, image}
+use Rattle.ucd_facts.specs.declared.image.Image.{Image}
+use Rattle.ucd_facts.specs.declared.image.Image.TheVariants.{Same}
 use Rattle.ucd_model.specs.Forms.{nfkc}
 use Rattle.ucd_facts.specs.Predicates.{default_ignorable}
 use Rattle.ucd_facts.specs.declared.folding.Folding.{Folding}

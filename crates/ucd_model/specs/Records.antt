@@ -9,7 +9,9 @@
 -- derived F c          the record of c, or in its place the first rule of a valid release that c breaks
 use Rattle.std.specs.Prelude.{ℕ, Bool, not, [], ◌∷◌, Option, Some, None, Result, Ok, Err, bytes_eq}
 use Rattle.ucd_model.specs.Casing.{lowers, uppers, titles, folds, casemaps, changes_when}
-use Rattle.ucd_facts.specs.Facts.{Facts, image_points, Kind, Image}
+use Rattle.ucd_facts.specs.Facts.{Facts, image_points}
+use Rattle.ucd_facts.specs.declared.decomposition.Kind.{Kind}
+use Rattle.ucd_facts.specs.declared.image.Image.{Image}
 use Rattle.ucd_model.specs.FoldRounds.{casefold_image, image_or_same}
 use Rattle.ucd_model.specs.Identifiers.{xid_start, xid_continue}
 use Rattle.ucd_facts.specs.Predicates.{holds}

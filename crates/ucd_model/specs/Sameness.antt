@@ -19,7 +19,9 @@ use Rattle.std.specs.Prelude.{◌≡◌, ℕ, ◌<◌, ◌^◌, Bool, true, fals
 use Rattle.std.specs.Bool.{Decides, beq}
 use Rattle.std.specs.List.{Contains, list_any, list_all}
 use Rattle.ucd_facts.specs.Enumerations.{flags, place_of_kind, place_of_quick}
-use Rattle.ucd_facts.specs.Facts.{Facts, Image, Same, To}
+use Rattle.ucd_facts.specs.Facts.{Facts}
+use Rattle.ucd_facts.specs.declared.image.Image.{Image}
+use Rattle.ucd_facts.specs.declared.image.Image.TheVariants.{Same, To}
 use Rattle.ucd_facts.specs.Predicates.{category_place, core_properties}
 use Rattle.ucd_model.specs.Records.{Record, kept_record}
 use Rattle.ucd_facts.specs.Sets.{has_flag, has_core}

@@ -12,7 +12,10 @@ use Rattle.std.proofs.lemmas.Slice.Eq.{bytes_eq-Decides}
 use Rattle.std.proofs.lemmas.List.Folds.{Any-from_list_any}
 use Rattle.ucd_facts.specs.Enumerations.{categories, kinds, place_of_kind, flags, quick_values, place_of_quick}
 use Rattle.ucd_facts.specs.EnumerationProofs.{enumerates_categories, enumerates_kinds, enumerates_flags, enumerates_core_properties, enumerates_quick_values, true_of_each, place-decides}
-use Rattle.ucd_facts.specs.Facts.{Facts, Kind, Image, Same, To}
+use Rattle.ucd_facts.specs.Facts.{Facts}
+use Rattle.ucd_facts.specs.declared.decomposition.Kind.{Kind}
+use Rattle.ucd_facts.specs.declared.image.Image.{Image}
+use Rattle.ucd_facts.specs.declared.image.Image.TheVariants.{Same, To}
 use Rattle.ucd_facts.specs.Predicates.{category_place, core_properties}
 use Rattle.ucd_model.specs.Records.{Record}
 use Rattle.ucd_facts.specs.SetProofs.{core_sets_are_told, flag_sets_are_told}

@@ -6,7 +6,9 @@
 --                    White_Space, and 0020 is Pattern_White_Space too
 -- values k           a record of category k, class 230 and kind Canonical, with Alphabetic alone, of which NFC's check is Maybe
 use Rattle.std.proofs.Common.{◌≡◌, ℕ, Bool, true, false, ◌==◌, List, [], ◌∷◌, Some, None, map, refl, codes}
-use Rattle.ucd_facts.specs.Facts.{Sources, Plain, Canonical, Same}
+use Rattle.ucd_facts.specs.Facts.{Sources}
+use Rattle.ucd_facts.specs.declared.decomposition.Kind.TheVariants.{Plain, Canonical}
+use Rattle.ucd_facts.specs.declared.image.Image.TheVariants.{Same}
 use Rattle.ucd_model.specs.Records.{Record}
 use Rattle.ucd_facts.specs.Sets.{core_place}
 use Rattle.ucd_facts.specs.declared.category.Category.{Category}

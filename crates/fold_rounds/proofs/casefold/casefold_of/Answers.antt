@@ -1,5 +1,6 @@
 use Rattle.std.proofs.Common.{◌≡◌, ℕ, [], ◌∷◌, Ok, refl, ap, sym, ◌∙◌}
-use Rattle.ucd_facts.specs.Facts.{Facts, Image}
+use Rattle.ucd_facts.specs.Facts.{Facts}
+use Rattle.ucd_facts.specs.declared.image.Image.{Image}
 use Rattle.ucd_model.specs.Forms.{nfkc}
 use Rattle.ucd_facts.specs.Predicates.{default_ignorable}
 use Rattle.ucd_facts.specs.Shown.{shown_facts}

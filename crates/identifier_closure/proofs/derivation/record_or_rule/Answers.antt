@@ -1,5 +1,6 @@
 use Rattle.std.proofs.Common.{◌≡◌, ℕ, [], ◌∷◌, ap, sym, ◌∙◌}
-use Rattle.ucd_facts.specs.Facts.{Facts, Plain}
+use Rattle.ucd_facts.specs.Facts.{Facts}
+use Rattle.ucd_facts.specs.declared.decomposition.Kind.TheVariants.{Plain}
 use Rattle.identifier_closure.specs.PlainProofs.{kind_forms, kind_rule}
 use Rattle.identifier_closure.proofs.FormLemmas.{told_of}
 use Rattle.identifier_closure.proofs.derivation.record_or_rule.Goals as goal
